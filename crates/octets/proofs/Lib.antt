@@ -1,0 +1,4 @@
+pub mod Meanings
+pub mod Known
+pub mod Pieces
+pub mod Groups

@@ -1,0 +1,52 @@
+-- What a call does to a device, which is seen as the octets that have passed through it and the count of its failures.
+use Rattle.std.specs.Prelude.{◌≡◌, ℕ, ◌+◌, ◌-◌, ◌<◌, ◌≤◌, ◌^◌, min, Bool, List, [], ◌++◌, length, take, drop, IsTrue}
+use Rattle.std.specs.Iterator.{Count, IsFinite, size}
+use Rattle.octets.specs.Octets.{IsOctets}
+
+-- ---- the count of failures
+
+-- the count after one more failure; it stays at its greatest value
+abbrev pub next_count : ℕ → ℕ
+next_count n = min (n + 1) (2 ^ 64 - 1)
+
+-- the count has risen, unless it stood at its greatest value
+abbrev pub Rose : ℕ → ℕ → Type 0
+Rose old new = old < 2 ^ 64 - 1 → old < new
+
+-- ---- how far it is to the end
+
+-- Where the end or a failure was at most so many octets away, it is now nearer by n octets.
+abbrev pub ComesNearer : Count → Count → ℕ → Type 0
+ComesNearer old new n = IsFinite old → IsFinite new × (size new + n ≤ size old)
+
+-- ---- lists that grow
+
+-- what the list has grown by
+abbrev pub appended : List ℕ → List ℕ → List ℕ
+appended old new = drop (length old) new
+
+-- the list has grown at its end, if at all
+abbrev pub Extends : List ℕ → List ℕ → Type 0
+Extends old new = new ≡ old ++ appended old new
+
+-- the list has grown by a beginning of the text
+abbrev pub AppendsPrefixOf : List ℕ → List ℕ → List ℕ → Type 0
+AppendsPrefixOf text old new = (length old ≤ length new) × (take (length new) (old ++ text) ≡ new)
+
+-- ---- what a call saw of an input
+
+-- the octets that its reads gave, and whether the end was found
+pub record Observed : Type 0 where
+  pub octets : List ℕ
+  pub ended : Bool
+
+abbrev pub observed : {D : Type 0} → (D → List ℕ) → (D → Bool) → D → D → Observed
+observed consumed is_at_end old new =
+    record { octets = appended (consumed old) (consumed new); ended = is_at_end new }
+
+-- The whole input may be this: the octets that were seen, and further ones only where no end was found.
+pub record IsPossibleInput (seen : Observed) (whole : List ℕ) : Type 0 where
+  pub rest : List ℕ
+  pub continues : whole ≡ seen.octets ++ rest
+  pub ends : IsTrue seen.ended → rest ≡ []
+  pub octets : IsOctets rest

@@ -1,0 +1,43 @@
+-- What a call answers, held against the answer that the definitions give for whole lists of octets.
+use Rattle.std.specs.Prelude.{◌≡◌, ℕ, Bool, true, false, if◌then◌else◌, Result, Ok, Err}
+use Rattle.octets.specs.declared.refusal.Refusal.{Refusal}
+use Rattle.octets.specs.declared.refusal.Refusal.TheVariants.{Memory, Read, Write}
+use Rattle.octets.specs.Devices.{next_count}
+
+-- A definition of several steps is a `do` block: the first refusal decides.
+infixl 10 ◌>>=◌
+abbrev pub ◌>>=◌ : {A B : Type 0} → Result A Refusal → (A → Result B Refusal) → Result B Refusal
+(Ok x) >>= f = f x
+(Err r) >>= f = Err r
+
+-- a step that goes on where the test holds
+abbrev pub needs : Bool → Refusal → Result (Unit {0}) Refusal
+needs test refusal = if test then Ok tt else Err refusal
+
+-- the cause is memory
+abbrev pub is_memory : Refusal → Bool
+is_memory Memory = true
+is_memory r = false
+
+-- the cause is memory or a device, and stands in no text
+abbrev pub is_external : Refusal → Bool
+is_external Memory = true
+is_external Read = true
+is_external Write = true
+is_external r = false
+
+-- A call without devices: its result, seen by view, is the answer, unless memory ran out.
+abbrev pub AgreesUnlessMemory : {X Y : Type 0} → (X → Y) → Result X Refusal → Result Y Refusal → Type 0
+AgreesUnlessMemory view (Ok x) answer = answer ≡ Ok (view x)
+AgreesUnlessMemory view (Err r) answer = is_memory r ≡ false → (answer ≡ Err r) × (is_external r ≡ false)
+
+-- A call over devices: it wrote the octets of the answer, or refused as the answer does, unless memory or a device failed.
+abbrev pub AgreesUnlessExternal : {W : Type 0} → Result W Refusal → W → Result (Unit {0}) Refusal → Type 0
+AgreesUnlessExternal answer wrote (Ok done) = answer ≡ Ok wrote
+AgreesUnlessExternal answer wrote (Err r) = is_external r ≡ false → answer ≡ Err r
+
+-- Why reading an input to its end gave up, by the count of its failures: memory, or the input failed.
+abbrev pub IsReadingFailure : ℕ → ℕ → Refusal → Type 0
+IsReadingFailure old new Memory = new ≡ old
+IsReadingFailure old new Read = new ≡ next_count old
+IsReadingFailure old new r = ⊥

@@ -1,0 +1,48 @@
+//! Base64url without padding (RFC 4648 section 5).
+ghost use Rattle.std.specs.Prelude.{◌≡◌, ◌≢◌, ◌++◌, List, ℕ, IfOk, IfErr, OnOk, OnErr, IsErrOf, string_bytes};
+ghost use Rattle.octets.specs.Base64url.{base64url, decoded};
+ghost use Rattle.octets.specs.Octets.{IsOctets};
+ghost use Rattle.octets.specs.Outcomes.{AgreesUnlessMemory};
+
+use crate::Refusal;
+use base64::DecodeAllocError;
+use base64::engine::general_purpose::URL_SAFE_NO_PAD as BASE64URL;
+use std::alloc::Global;
+
+/// The base64url text of the octets. It is refused for want of memory alone.
+#[tactic(auto, unfolding(crate::specs::Base64url::base64url))]
+pub fn b64_encode(alloc: Global, octets: &[u8]) -> Result<String, Refusal>
+    ensures text { IfOk result (λ text. string_bytes text ≡ base64url octets.now) }
+    ensures memory { IfErr result (λ e. e ≡ Refusal.Memory) }
+{
+    Ok(BASE64URL.encode(alloc, octets)?)
+}
+
+/// Adds the base64url text of the octets to the end of a text. Refused for want of memory alone, and
+/// then the text is as it was.
+#[tactic(auto, unfolding(crate::specs::Base64url::base64url))]
+pub fn b64_append(text: &mut String, octets: &[u8]) -> Result<(), Refusal>
+    ensures text { OnOk result (string_bytes text.new ≡ string_bytes text.old ++ base64url octets.now) }
+    ensures memory { IfErr result (λ e. e ≡ Refusal.Memory) }
+    ensures err { OnErr result (string_bytes text.new ≡ string_bytes text.old) }
+{
+    Ok(BASE64URL.encode_string(octets, text)?)
+}
+
+/// The octets whose base64url text it is. Each octet string has one text, so padding, white space,
+/// characters outside the alphabet and trailing bits that are not zero are refused: `Base64`.
+#[tactic(auto, unfolding(crate::specs::Base64url::base64url, crate::specs::Base64url::decoded))]
+pub fn b64_decode(alloc: Global, text: &[u8]) -> Result<Vec<u8>, Refusal>
+    ensures exact { AgreesUnlessMemory (λ octets. octets.items) result (decoded text.now) }
+    ensures meaning { IfOk result (λ octets. IsOctets octets.items
+        × (text.now ≡ base64url octets.items)) }
+    ensures no_meaning { IsErrOf result Refusal.Base64
+        → (octets : List ℕ) → IsOctets octets → text.now ≢ base64url octets }
+    ensures causes { IfErr result (λ e. e ≢ Refusal.Base64 → e ≡ Refusal.Memory) }
+{
+    match BASE64URL.decode(alloc, text) {
+        Ok(octets) => Ok(octets),
+        Err(DecodeAllocError::OutOfMemory) => Err(Refusal::Memory),
+        Err(DecodeAllocError::DecodeError(_)) => Err(Refusal::Base64),
+    }
+}

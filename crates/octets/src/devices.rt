@@ -1,0 +1,75 @@
+//! Where octets come from and where they go. Each device counts its failures, up to 2^64 - 1.
+ghost use Rattle.std.specs.Prelude.{◌≡◌, ℕ, ◌<◌, ◌≤◌, Bool, false, List, ◌++◌, length, take, IfOk, IfErr, OnOk, Ok, MatchResult, IsTrue};
+ghost use Rattle.std.specs.Iterator.{Count};
+ghost use Rattle.octets.specs.Devices.{next_count, ComesNearer};
+
+use crate::Fault;
+
+/// A source of octets.
+pub trait Input {
+    /// All octets that its reads have given so far.
+    ghost consumed: { Self → List ℕ };
+
+    /// A read has found the end.
+    ghost is_at_end: { Self → Bool };
+
+    /// At most so many octets come before its end or a failure, where there is a bound.
+    ghost remaining: { Self → Count };
+
+    /// How often it has failed.
+    ghost failures: { Self → ℕ };
+
+    /// Reads octets into the front of `buf`, and answers how many: 0 for a `buf` with room only at
+    /// the end. After a failure nothing is said of what `buf` holds.
+    fn read(&mut self, buf: &mut [u8]) -> Result<usize, Fault>
+        ensures octets { IfOk result (λ n. (n ≤ length buf.old)
+            × (consumed self.new ≡ consumed self.old ++ take n buf.new)) }
+        ensures end { result ≡ Ok 0 → 0 < length buf.old → IsTrue (is_at_end self.new) }
+        ensures stays_at_end { IsTrue (is_at_end self.old)
+            → IsTrue (is_at_end self.new) × (consumed self.new ≡ consumed self.old) }
+        ensures nearer { MatchResult result
+            (λ n. ComesNearer (remaining self.old) (remaining self.new) n)
+            (λ _. ComesNearer (remaining self.old) (remaining self.new) 0) }
+        ensures works { OnOk result (failures self.new ≡ failures self.old) }
+        ensures fails { IfErr result (λ e. (e ≡ Fault.Reading)
+            × (consumed self.new ≡ consumed self.old)
+            × (failures self.new ≡ next_count (failures self.old))) };
+}
+
+/// A place where octets go.
+pub trait Output {
+    /// All octets that its writes have taken so far.
+    ghost written: { Self → List ℕ };
+
+    /// All that it has taken was brought to where it belongs.
+    ghost is_finished: { Self → Bool };
+
+    /// How often it has failed.
+    ghost failures: { Self → ℕ };
+
+    /// Takes octets from the front of `octets`, and answers how many: at least one, where there is one.
+    fn write(&mut self, octets: &[u8]) -> Result<usize, Fault>
+        ensures octets { IfOk result (λ n. (n ≤ length octets.now)
+            × (written self.new ≡ written self.old ++ take n octets.now)) }
+        ensures some { result ≡ Ok 0 → length octets.now ≡ 0 }
+        ensures unfinished { 0 < length octets.now → is_finished self.new ≡ false }
+        ensures works { OnOk result (failures self.new ≡ failures self.old) }
+        ensures fails { IfErr result (λ e. (e ≡ Fault.Writing)
+            × (written self.new ≡ written self.old)
+            × (failures self.new ≡ next_count (failures self.old))) };
+
+    /// Brings all that was taken to where it belongs.
+    fn finish(&mut self) -> Result<(), Fault>
+        ensures same { written self.new ≡ written self.old }
+        ensures works { OnOk result (IsTrue (is_finished self.new)
+            × (failures self.new ≡ failures self.old)) }
+        ensures fails { IfErr result (λ e. (e ≡ Fault.Writing)
+            × (failures self.new ≡ next_count (failures self.old))) };
+}
+
+/// Counts one more failure.
+pub(crate) fn count_failure(failures: &mut u64)
+    ensures { failures.new ≡ next_count failures.old }
+{
+    *failures = failures.saturating_add(1);
+}

@@ -1,0 +1,180 @@
+//! Devices over memory.
+ghost use Rattle.std.specs.Prelude.{◌≡◌, ◌↔◌, ◌+◌, ◌<◌, ◌≤◌, [], ◌++◌, length, take, IfOk, IfErr, IsOk, IsErr, IsTrue, OnOk, Ok, MatchResult, true, false};
+ghost use Rattle.octets.specs.Devices.{next_count, ComesNearer};
+ghost use Rattle.octets.specs.Memory.{front_of, is_read, rest_of, failures_of, read_count, write_count};
+
+use crate::devices::count_failure;
+use crate::{Fault, Input, Output};
+use std::alloc::{AllocError, Global};
+use std::marker::Model;
+
+/// An input of octets in memory. It never fails.
+#[derive(Drop)]
+pub struct MemoryInput<'a> {
+    octets: &'a [u8],
+    position: usize,
+    step: usize,
+}
+
+impl<'a> Model for MemoryInput<'a> {
+    ghost use Rattle.std.specs.Prelude.{◌<◌, ◌≤◌, length};
+    ghost use Rattle.octets.specs.Memory.{Contents};
+
+    ghost Value = { Contents };
+
+    ghost view = { λ s. record { octets = s.octets.now; position = s.position; step = s.step } };
+
+    ghost invariant = { λ s. (s.position ≤ length s.octets.now) × (0 < s.step) };
+}
+
+impl<'a> MemoryInput<'a> {
+    /// Gives these octets, at most `step` of them at a read.
+    pub fn new(octets: &'a [u8], step: usize) -> MemoryInput<'a>
+        requires { 0 < step }
+        ensures { result ≡ record { octets = octets.entry.now; position = 0; step = step } }
+    {
+        MemoryInput {
+            octets,
+            position: 0,
+            step,
+        }
+    }
+}
+
+impl<'a> Input for MemoryInput<'a> {
+    ghost consumed = { front_of };
+
+    ghost is_at_end = { is_read };
+
+    ghost remaining = { rest_of };
+
+    ghost failures = { failures_of };
+
+    fn read(&mut self, buf: &mut [u8]) -> Result<usize, Fault>
+        ensures count { result ≡ Ok (read_count self.old (length buf.old)) }
+        ensures moves { self.new ≡ record self.old
+            { position = self.old.position + read_count self.old (length buf.old) } }
+
+        // What the trait says.
+        ensures octets { IfOk result (λ n. (n ≤ length buf.old)
+            × (front_of self.new ≡ front_of self.old ++ take n buf.new)) }
+        ensures end { result ≡ Ok 0 → 0 < length buf.old → IsTrue (is_read self.new) }
+        ensures stays_at_end { IsTrue (is_read self.old)
+            → IsTrue (is_read self.new) × (front_of self.new ≡ front_of self.old) }
+        ensures nearer { MatchResult result
+            (λ n. ComesNearer (rest_of self.old) (rest_of self.new) n)
+            (λ _. ComesNearer (rest_of self.old) (rest_of self.new) 0) }
+        ensures works { OnOk result (failures_of self.new ≡ failures_of self.old) }
+        ensures fails { IfErr result (λ e. (e ≡ Fault.Reading)
+            × (front_of self.new ≡ front_of self.old)
+            × (failures_of self.new ≡ next_count (failures_of self.old))) }
+    {
+        let rest = &self.octets[self.position..];
+        let n = rest.len().min(buf.len()).min(self.step);
+        buf[..n].copy_from_slice(&rest[..n]);
+        self.position += n;
+        Ok(n)
+    }
+}
+
+/// An output that keeps what is written, as far as the room goes that was taken when it was made.
+/// Past it a write fails.
+#[derive(Drop)]
+pub struct MemoryOutput {
+    octets: Vec<u8>,
+    room: usize,
+    unfinished: bool,
+    failures: u64,
+}
+
+impl Model for MemoryOutput {
+    ghost use Rattle.std.specs.Prelude.{◌≤◌, length, not};
+    ghost use Rattle.std.specs.Vec.{vec_capacity};
+    ghost use Rattle.octets.specs.Memory.{Store};
+
+    ghost Value = { Store };
+
+    ghost view = { λ s. record { octets = s.octets.items; room = s.room; is_finished = not s.unfinished; failures = s.failures } };
+
+    ghost invariant = { λ s. (length s.octets.items ≤ s.room) × (s.room ≤ vec_capacity s.octets) };
+}
+
+impl MemoryOutput {
+    /// An empty output with room for so many octets.
+    pub fn new(alloc: Global, room: usize) -> Result<MemoryOutput, AllocError>
+        ensures { IfOk result (λ out. out ≡ record { octets = []; room = room; is_finished = false; failures = 0 }) }
+    {
+        Ok(MemoryOutput {
+            octets: Vec::with_capacity(alloc, room)?,
+            room,
+            unfinished: true,
+            failures: 0,
+        })
+    }
+
+    /// What was written.
+    pub fn octets(&self) -> &[u8]
+        ensures { result.now ≡ self.now.octets }
+    {
+        self.octets.as_slice()
+    }
+
+    /// Whether what was written was finished.
+    pub fn is_finished(&self) -> bool
+        ensures { result ≡ self.now.is_finished }
+    {
+        !self.unfinished
+    }
+}
+
+impl Output for MemoryOutput {
+    ghost written = { λ s. s.octets };
+
+    ghost is_finished = { λ s. s.is_finished };
+
+    ghost failures = { λ s. s.failures };
+
+    fn write(&mut self, octets: &[u8]) -> Result<usize, Fault>
+        ensures count { IfOk result (λ n. n ≡ write_count self.old (length octets.now)) }
+        ensures full { IsErr result ↔ ((0 < length octets.now) × (write_count self.old (length octets.now) ≡ 0)) }
+        ensures same_room { self.new.room ≡ self.old.room }
+
+        // What the trait says.
+        ensures octets { IfOk result (λ n. (n ≤ length octets.now)
+            × (self.new.octets ≡ self.old.octets ++ take n octets.now)) }
+        ensures some { result ≡ Ok 0 → length octets.now ≡ 0 }
+        ensures unfinished { 0 < length octets.now → self.new.is_finished ≡ false }
+        ensures works { OnOk result (self.new.failures ≡ self.old.failures) }
+        ensures fails { IfErr result (λ e. (e ≡ Fault.Writing)
+            × (self.new.octets ≡ self.old.octets)
+            × (self.new.failures ≡ next_count self.old.failures)) }
+    {
+        if octets.is_empty() {
+            return Ok(0);
+        }
+        self.unfinished = true;
+        let n = octets.len().min(self.room - self.octets.len());
+        if n == 0 {
+            count_failure(&mut self.failures);
+            return Err(Fault::Writing);
+        }
+        if self.octets.extend_from_slice(&octets[..n]).is_err() {
+            unreachable!();
+        }
+        Ok(n)
+    }
+
+    fn finish(&mut self) -> Result<(), Fault>
+        ensures finished { self.new ≡ record self.old { is_finished = true } }
+        ensures never_fails { IsOk result }
+
+        // What the trait says.
+        ensures same { self.new.octets ≡ self.old.octets }
+        ensures works { OnOk result (IsTrue self.new.is_finished × (self.new.failures ≡ self.old.failures)) }
+        ensures fails { IfErr result (λ e. (e ≡ Fault.Writing)
+            × (self.new.failures ≡ next_count self.old.failures)) }
+    {
+        self.unfinished = false;
+        Ok(())
+    }
+}

@@ -1,0 +1,239 @@
+//! Devices over std's readers and writers. What passed through one is kept for clauses alone.
+ghost use Rattle.std.specs.Prelude.{◌≡◌, ◌+◌, ◌-◌, ◌^◌, ◌<◌, ◌≤◌, ℕ, List, [], ◌++◌, length, take, true, false, IfOk, IfErr, OnOk, Ok, MatchResult, IsTrue};
+ghost use Rattle.std.specs.Iterator.{at_most};
+ghost use Rattle.std.specs.Io.KnownBytes.{Consumes, Appends, Keeps, IsAtEnd, ReadConsumes, WriteAppends};
+ghost use Rattle.std.specs.Io.{ReadsAtMost, WritesAtMost};
+ghost use Rattle.octets.specs.Devices.{next_count, ComesNearer};
+
+use crate::devices::count_failure;
+use crate::transcript::Transcript;
+use crate::{Fault, Input, Output};
+use std::io::{ErrorKind, Read, Write};
+
+/// After so many octets a read fails.
+const MOST_OCTETS: u64 = 1 << 62;
+
+/// An input over a reader. A read that a signal interrupted is made again; one after 2^62 octets fails.
+#[derive(Drop)]
+pub struct ReaderInput<R> {
+    reader: R,
+    count: u64,
+    is_at_end: bool,
+    failures: u64,
+    transcript: Transcript,
+    ghost few: { count ≤ 2 ^ 62 },
+}
+
+impl<R: Read> ReaderInput<R> {
+    ghost use Rattle.octets.specs.Streams.{reader_of, consumed_of, is_at_end_of, remaining_of, read_failures_of};
+
+    /// Gives what the reader gives.
+    pub fn new(reader: R) -> ReaderInput<R>
+        ensures reader { reader_of result ≡ reader }
+        ensures consumed { consumed_of result ≡ [] }
+        ensures begins { is_at_end_of result ≡ false }
+        ensures remaining { remaining_of result ≡ at_most (2 ^ 62) }
+        ensures failures { read_failures_of result ≡ 0 }
+    {
+        ReaderInput {
+            reader,
+            count: 0,
+            is_at_end: false,
+            failures: 0,
+            transcript: Transcript::new(),
+        }
+    }
+}
+
+impl<R: Read> Input for ReaderInput<R> {
+    ghost use Rattle.octets.specs.Streams.{reader_of, consumed_of, is_at_end_of, remaining_of, read_failures_of};
+
+    ghost consumed = { consumed_of };
+
+    ghost is_at_end = { is_at_end_of };
+
+    ghost remaining = { remaining_of };
+
+    ghost failures = { read_failures_of };
+
+    fn read(&mut self, buf: &mut [u8]) -> Result<usize, Fault>
+        // Octets of the reader that are known are those that it gives, and its end is the reader's.
+        ensures source { MatchResult result
+            (λ n. Consumes (R.remaining (reader_of self.old)) (R.remaining (reader_of self.new)) (take n buf.new))
+            (λ _. Keeps (R.remaining (reader_of self.old)) (R.remaining (reader_of self.new))) }
+        ensures source_end { is_at_end_of self.old ≡ false → is_at_end_of self.new ≡ true
+            → IsAtEnd (R.remaining (reader_of self.new)) }
+
+        // What the trait says.
+        ensures octets { IfOk result (λ n. (n ≤ length buf.old)
+            × (consumed_of self.new ≡ consumed_of self.old ++ take n buf.new)) }
+        ensures end { result ≡ Ok 0 → 0 < length buf.old → IsTrue (is_at_end_of self.new) }
+        ensures stays_at_end { IsTrue (is_at_end_of self.old)
+            → IsTrue (is_at_end_of self.new) × (consumed_of self.new ≡ consumed_of self.old) }
+        ensures nearer { MatchResult result
+            (λ n. ComesNearer (remaining_of self.old) (remaining_of self.new) n)
+            (λ _. ComesNearer (remaining_of self.old) (remaining_of self.new) 0) }
+        ensures works { OnOk result (read_failures_of self.new ≡ read_failures_of self.old) }
+        ensures fails { IfErr result (λ e. (e ≡ Fault.Reading)
+            × (consumed_of self.new ≡ consumed_of self.old)
+            × (read_failures_of self.new ≡ next_count (read_failures_of self.old))) }
+    {
+        if self.is_at_end || buf.is_empty() {
+            return Ok(0);
+        }
+        let left = (MOST_OCTETS - self.count) as usize;
+        let room = buf.len().min(left);
+        let result = if room == 0 {
+            Err(Fault::Reading)
+        } else {
+            read_once(&mut self.reader, &mut buf[..room])
+        };
+        let Ok(n) = result else {
+            count_failure(&mut self.failures);
+            return Err(Fault::Reading);
+        };
+        self.transcript.append(&buf[..n]);
+        self.count += n as u64;
+        self.is_at_end = n == 0;
+        Ok(n)
+    }
+}
+
+/// One read, made again where a signal interrupted it.
+fn read_once<R: Read>(reader: &mut R, buf: &mut [u8]) -> Result<usize, Fault>
+    ensures count { IfOk result (λ n. n ≤ length buf.new) }
+    ensures source { ReadConsumes (R.remaining reader.old) (R.remaining reader.new) result buf.new }
+{
+    for _ in 0..u64::MAX {
+        match reader.read(buf) {
+            Ok(n) => return Ok(n),
+            Err(e) => {
+                if e.kind() != ErrorKind::Interrupted {
+                    break;
+                }
+            }
+        }
+    }
+    Err(Fault::Reading)
+}
+
+/// An output over a writer. A write that a signal interrupted is made again; one that takes nothing fails.
+#[derive(Drop)]
+pub struct WriterOutput<W> {
+    writer: W,
+    is_finished: bool,
+    failures: u64,
+    transcript: Transcript,
+}
+
+impl<W: Write> WriterOutput<W> {
+    ghost use Rattle.octets.specs.Streams.{writer_of, written_of, is_finished_of, write_failures_of};
+
+    /// Hands on to the writer what it takes.
+    pub fn new(writer: W) -> WriterOutput<W>
+        ensures writer { writer_of result ≡ writer }
+        ensures written { written_of result ≡ [] }
+        ensures unfinished { is_finished_of result ≡ false }
+        ensures failures { write_failures_of result ≡ 0 }
+    {
+        WriterOutput {
+            writer,
+            is_finished: false,
+            failures: 0,
+            transcript: Transcript::new(),
+        }
+    }
+}
+
+impl<W: Write> Output for WriterOutput<W> {
+    ghost use Rattle.octets.specs.Streams.{writer_of, written_of, is_finished_of, write_failures_of};
+
+    ghost written = { written_of };
+
+    ghost is_finished = { is_finished_of };
+
+    ghost failures = { write_failures_of };
+
+    fn write(&mut self, octets: &[u8]) -> Result<usize, Fault>
+        // A writer whose contents are known has them and then what was taken.
+        ensures sink { WriteAppends (W.contents (writer_of self.old)) (W.contents (writer_of self.new)) result octets.now }
+
+        // What the trait says.
+        ensures octets { IfOk result (λ n. (n ≤ length octets.now)
+            × (written_of self.new ≡ written_of self.old ++ take n octets.now)) }
+        ensures some { result ≡ Ok 0 → length octets.now ≡ 0 }
+        ensures unfinished { 0 < length octets.now → is_finished_of self.new ≡ false }
+        ensures works { OnOk result (write_failures_of self.new ≡ write_failures_of self.old) }
+        ensures fails { IfErr result (λ e. (e ≡ Fault.Writing)
+            × (written_of self.new ≡ written_of self.old)
+            × (write_failures_of self.new ≡ next_count (write_failures_of self.old))) }
+    {
+        if octets.is_empty() {
+            return Ok(0);
+        }
+        self.is_finished = false;
+        match write_once(&mut self.writer, octets) {
+            Ok(n) if n > 0 => {
+                self.transcript.append(&octets[..n]);
+                Ok(n)
+            }
+            _ => {
+                count_failure(&mut self.failures);
+                Err(Fault::Writing)
+            }
+        }
+    }
+
+    fn finish(&mut self) -> Result<(), Fault>
+        ensures sink { Keeps (W.contents (writer_of self.old)) (W.contents (writer_of self.new)) }
+
+        // What the trait says.
+        ensures same { written_of self.new ≡ written_of self.old }
+        ensures works { OnOk result (IsTrue (is_finished_of self.new)
+            × (write_failures_of self.new ≡ write_failures_of self.old)) }
+        ensures fails { IfErr result (λ e. (e ≡ Fault.Writing)
+            × (write_failures_of self.new ≡ next_count (write_failures_of self.old))) }
+    {
+        if flush(&mut self.writer).is_err() {
+            count_failure(&mut self.failures);
+            return Err(Fault::Writing);
+        }
+        self.is_finished = true;
+        Ok(())
+    }
+}
+
+/// One write, made again where a signal interrupted it.
+fn write_once<W: Write>(writer: &mut W, octets: &[u8]) -> Result<usize, Fault>
+    ensures count { IfOk result (λ n. n ≤ length octets.now) }
+    ensures sink { WriteAppends (W.contents writer.old) (W.contents writer.new) result octets.now }
+{
+    for _ in 0..u64::MAX {
+        match writer.write(octets) {
+            Ok(n) => return Ok(n),
+            Err(e) => {
+                if e.kind() != ErrorKind::Interrupted {
+                    break;
+                }
+            }
+        }
+    }
+    Err(Fault::Writing)
+}
+
+/// One flush, made again where a signal interrupted it.
+fn flush<W: Write>(writer: &mut W) -> Result<(), Fault>
+    ensures sink { Keeps (W.contents writer.old) (W.contents writer.new) }
+{
+    for _ in 0..u64::MAX {
+        match writer.flush() {
+            Ok(()) => return Ok(()),
+            Err(e) => {
+                if e.kind() != ErrorKind::Interrupted {
+                    break;
+                }
+            }
+        }
+    }
+    Err(Fault::Writing)
+}

@@ -1,0 +1,63 @@
+//! All of an input, and all of a text to an output.
+ghost use Rattle.std.specs.Prelude.{◌≡◌, ◌<◌, ◌++◌, length, take, IfOk, OnOk, OnErr, IfErr, IsTrue};
+ghost use Rattle.std.specs.Iterator.{IsFinite};
+ghost use Rattle.octets.specs.Devices.{next_count, Extends};
+ghost use Rattle.octets.specs.Outcomes.{IsReadingFailure};
+
+use crate::{Input, Output, Refusal};
+use std::alloc::Global;
+
+/// All that the input still gives, up to its end. Refused with `Read` where the input fails, and for
+/// want of memory.
+pub fn read_whole<I: Input>(alloc: Global, input: &mut I) -> Result<Vec<u8>, Refusal>
+    requires { IsFinite (I.remaining input.old) }
+    ensures whole { IfOk result (λ octets. (I.consumed input.new ≡ I.consumed input.old ++ octets.items)
+        × IsTrue (I.is_at_end input.new)) }
+    ensures works { OnOk result (I.failures input.new ≡ I.failures input.old) }
+    ensures fails { IfErr result (IsReadingFailure (I.failures input.old) (I.failures input.new)) }
+    ensures extends { Extends (I.consumed input.old) (I.consumed input.new) }
+{
+    let mut octets = Vec::new(alloc);
+    let mut buf = [0u8; 4096];
+    'reads: loop {
+        let n = input.read(&mut buf)?;
+        if n == 0 {
+            return Ok(octets);
+        }
+        octets.extend_from_slice(&buf[..n])?;
+    }
+}
+
+/// How many octets went out before an output failed.
+#[derive(Clone, Copy, Debug, PartialEq, Eq)]
+pub struct Partial {
+    pub written: usize,
+}
+
+impl From<Partial> for Refusal {
+    ghost use Rattle.octets.specs.declared.refusal.Refusal.TheVariants.{Write};
+
+    ghost from_gives = { λ _ refusal. refusal ≡ Write };
+
+    fn from(_: Partial) -> Refusal {
+        Refusal::Write
+    }
+}
+
+/// Writes all of the octets. `Partial` tells exactly how much went out.
+pub fn write_whole<O: Output>(out: &mut O, octets: &[u8]) -> Result<(), Partial>
+    ensures all { OnOk result (O.written out.new ≡ O.written out.old ++ octets.now) }
+    ensures part { IfErr result (λ e. (e.written < length octets.now)
+        × (O.written out.new ≡ O.written out.old ++ take e.written octets.now)) }
+    ensures works { OnOk result (O.failures out.new ≡ O.failures out.old) }
+    ensures fails { OnErr result (O.failures out.new ≡ next_count (O.failures out.old)) }
+{
+    let mut written = 0;
+    'writes: while written < octets.len() {
+        match out.write(&octets[written..]) {
+            Ok(n) => written += n,
+            Err(_) => return Err(Partial { written }),
+        }
+    }
+    Ok(())
+}

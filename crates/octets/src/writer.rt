@@ -1,0 +1,87 @@
+//! Base64url of octets that come in pieces.
+ghost use Rattle.std.specs.Prelude.{◌≡◌, ℕ, ◌+◌, ◌*◌, ◌/◌, ◌≤◌, List, [], ◌++◌, length, take};
+ghost use Rattle.octets.specs.Base64url.{base64url, whole_groups, part_group};
+
+use base64::engine::general_purpose::URL_SAFE_NO_PAD as BASE64URL;
+use std::marker::Model;
+
+/// A base64url text whose octets come in pieces. It holds at most two of them, and is seen as those
+/// that wait for a whole group of three. The clauses speak of all octets `fed` so far.
+#[derive(Drop)]
+pub struct B64Writer {
+    waiting: [u8; 2],
+    count: usize,
+}
+
+impl Model for B64Writer {
+    ghost use Rattle.std.specs.Prelude.{◌≤◌, List, ℕ, take};
+
+    ghost Value = { List ℕ };
+
+    ghost view = { λ w. take w.count w.waiting };
+
+    ghost invariant = { λ w. w.count ≤ 2 };
+}
+
+impl B64Writer {
+    /// No octet was fed yet.
+    pub fn start() -> B64Writer
+        ensures { result ≡ part_group [] }
+    {
+        B64Writer {
+            waiting: [0; 2],
+            count: 0,
+        }
+    }
+
+    /// Takes the next piece, of at most 4,112 octets. Writes the text of the groups that are whole now
+    /// to the front of `out`, and answers its length.
+    pub fn feed(&mut self, piece: &[u8], out: &mut [u8; 5488]) -> usize
+        requires { length piece.now ≤ 4112 }
+        ensures within { result ≤ 5488 }
+        ensures waits { (fed : List ℕ) → self.old ≡ part_group fed → self.new ≡ part_group (fed ++ piece.now) }
+        ensures text { (fed : List ℕ) → self.old ≡ part_group fed
+            → base64url (whole_groups (fed ++ piece.now)) ≡ base64url (whole_groups fed) ++ take result out.new }
+    {
+        let mut octets = [0u8; 4114];
+        let held = self.count;
+        join(&mut octets, &self.waiting[..held], piece);
+        let all = held + piece.len();
+        let whole = all / 3 * 3;
+        let written = encode_onto(&octets[..whole], out);
+        self.count = all - whole;
+        self.waiting[..all - whole].copy_from_slice(&octets[whole..all]);
+        written
+    }
+
+    /// Writes the text of the octets that wait to the front of `out`, and answers its length.
+    pub fn finish(self, out: &mut [u8; 4]) -> usize
+        ensures within { result ≤ 4 }
+        ensures text { (fed : List ℕ) → self ≡ part_group fed
+            → base64url fed ≡ base64url (whole_groups fed) ++ take result out.new }
+    {
+        encode_onto(&self.waiting[..self.count], out)
+    }
+}
+
+/// Copies both to the front, one after the other.
+fn join(octets: &mut [u8; 4114], front: &[u8], back: &[u8])
+    requires { length front.now + length back.now ≤ 4114 }
+    ensures { take (length front.now + length back.now) octets.new ≡ front.now ++ back.now }
+{
+    let n = front.len();
+    octets[..n].copy_from_slice(front);
+    octets[n..n + back.len()].copy_from_slice(back);
+}
+
+/// Writes the text of the octets to the front, and answers its length.
+fn encode_onto(octets: &[u8], out: &mut [u8]) -> usize
+    requires { (4 * length octets.now + 2) / 3 ≤ length out.old }
+    ensures len { result ≡ (4 * length octets.now + 2) / 3 }
+    ensures text { take result out.new ≡ base64url octets.now }
+{
+    let Ok(written) = BASE64URL.encode_slice(octets, out) else {
+        unreachable!()
+    };
+    written
+}

@@ -1,0 +1,4 @@
+pub mod HashFunction
+pub mod Sha2
+pub mod Hmac
+pub mod Running

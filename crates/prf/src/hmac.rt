@@ -1,0 +1,99 @@
+//! HMAC (RFC 2104).
+ghost use Rattle.std.specs.Prelude.{◌≡◌, ℕ, ◌≤◌, List, [], ◌++◌, length, take, drop, replicate};
+ghost use Rattle.prf.specs.Hmac.{hmac, key_block, xor_each};
+
+use crate::hash::Hash;
+
+const INNER_PAD: u8 = 0x36;
+
+const OUTER_PAD: u8 = 0x5c;
+
+/// A message authentication code whose text comes in pieces: the inner hash, of the key and the
+/// text so far, and the outer hash, of the key.
+#[derive(Drop)]
+pub struct Hmac<H: Hash> {
+    inner: H,
+    outer: H,
+}
+
+impl<H: Hash> Hmac<H> {
+    ghost use Rattle.prf.specs.Running.{IsFed};
+
+    /// The code of the empty text, under a key of any length. The standards ask for a key at least
+    /// as long as the digest.
+    pub fn new(key: &[u8]) -> Hmac<H>
+        ensures { IsFed H.function H.holds result key.now [] }
+    {
+        let mut block = [0u8; 128];
+        put_key::<H>(key, &mut block);
+        Hmac {
+            inner: padded_state(&block, INNER_PAD),
+            outer: padded_state(&block, OUTER_PAD),
+        }
+    }
+
+    /// Takes the next piece of the text.
+    pub fn update(&mut self, piece: &[u8])
+        ensures { (key text : List ℕ) → IsFed H.function H.holds self.old key text
+            → IsFed H.function H.holds self.new key (text ++ piece.now) }
+    {
+        self.inner.update(piece);
+    }
+
+    /// Writes the code of the text to the front of `out`, and answers its length, which is the
+    /// hash's.
+    pub fn finish(self, out: &mut [u8; 64]) -> usize
+        ensures code { (key text : List ℕ) → IsFed H.function H.holds self key text
+            → take result out.new ≡ hmac H.function key text }
+        ensures len { result ≡ H.function.output_len }
+    {
+        let Hmac { inner, mut outer } = self;
+        let len = inner.finish(out);
+        outer.update(&out[..len]);
+        outer.finish(out)
+    }
+}
+
+/// Writes the key, or its hash where it is longer than a block, to the front of zero octets.
+fn put_key<H: Hash>(key: &[u8], block: &mut [u8; 128])
+    requires { block.old ≡ replicate 128 0 }
+    ensures { take H.function.block_len block.new ≡ key_block H.function key.now }
+{
+    if key.len() > H::block_len() {
+        let mut state = H::start();
+        state.update(key);
+        let mut digest = [0u8; 64];
+        let len = state.finish(&mut digest);
+        put_front(&digest[..len], block);
+    } else {
+        put_front(key, block);
+    }
+}
+
+/// The state that has taken the key's block with each octet xor the pad's.
+fn padded_state<H: Hash>(block: &[u8; 128], pad: u8) -> H
+    ensures { H.holds result (xor_each pad (take H.function.block_len block.now)) }
+{
+    let mut padded = *block;
+    xor_with(&mut padded, pad);
+    let mut state = H::start();
+    state.update(&padded[..H::block_len()]);
+    state
+}
+
+/// Changes each octet to it xor the pad's.
+fn xor_with(block: &mut [u8; 128], pad: u8)
+    ensures { block.new ≡ xor_each pad block.old }
+{
+    for i in 0..128 {
+        block[i] ^= pad;
+    }
+}
+
+/// Puts the octets at the front of a block.
+fn put_front(octets: &[u8], block: &mut [u8; 128])
+    requires { length octets.now ≤ 128 }
+    ensures { block.new ≡ octets.now ++ drop (length octets.now) block.old }
+{
+    block[..octets.len()].copy_from_slice(octets);
+}

@@ -1,0 +1,20 @@
+//! HMAC over any hash function, and the SHA-2 hashes that it is used with.
+//!
+//! ```rust
+//! let mut mac = Hmac::<Sha256>::new(b"Jefe");
+//! mac.update(b"what do ya want ");
+//! mac.update(b"for nothing?");
+//! let mut out = [0u8; 64];
+//! let n = mac.finish(&mut out); // &out[..n] is the message authentication code, of 32 octets
+//! ```
+#![tactic(auto)]
+
+mod hash;
+mod hmac;
+
+pub use hash::Hash;
+pub use hmac::Hmac;
+pub use sha2::Sha256;
+
+#[cfg(test)]
+mod tests;
