@@ -1,24 +1,37 @@
 # The commands of this repository. A newcomer needs `make demo` and `make test`, on a machine with the kit.
 
-CRATES := $(shell sed -n 's/^\([a-z]*\):.*/\1/p' crates.txt)
+PREFIX ?= /usr/local
 
-.PHONY: demo test build faults bench install clean
+.PHONY: demo test build ports faults bench install clean
 
-# Runs the vectors of RFC 4648 and RFC 4231 over the library, with checks on and no proof.
+# Signs a document, verifies it, and shows what a changed token and a wrong key give.
 demo:
-	@for crate in octets prf; do echo "== $$crate"; (cd crates/$$crate && rt try --test) || exit 1; done
+	@scripts/demo
 
-# The gate: proves every crate from nothing, tries the must-fail edits, runs the tests.
+# The gate: proves every crate from nothing, tries the must-fail edits, runs the tests and the program.
 test:
 	rt ci
 
-# Proves the libraries and builds them.
+# Proves the program and builds it: crates/jose/out/jose.
 build:
-	@for crate in $(CRATES); do (cd crates/$$crate && rt lib) || exit 1; done
+	@scripts/build
 
-# Refuses each growth of the tests in turn, outside the gate.
+# Runs the built program over files.
+ports:
+	@scripts/ports
+
+# Refuses each growth of the tests' work in turn.
 faults:
-	scripts/faults
+	@scripts/faults
+
+# Measures the built program beside what the machine has.
+bench:
+	@scripts/bench
+
+# Installs the built program.
+install:
+	@test -x crates/jose/out/jose || { echo "make build first" >&2; exit 1; }
+	install -D -m 755 crates/jose/out/jose $(DESTDIR)$(PREFIX)/bin/jose
 
 clean:
 	rm -rf crates/*/out

@@ -2,3 +2,4 @@ pub mod Meanings
 pub mod Known
 pub mod Pieces
 pub mod Groups
+pub mod Characters

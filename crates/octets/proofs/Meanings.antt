@@ -38,6 +38,7 @@ texts_are_distinct x y hx hy e =
 
 pub decodes_exactly : DecodesExactly
 decodes_exactly = record {
+  round_trip = meaning_of_text;
   meaning = λ text x ht hx. (text_of_meaning text x ht, λ e. ap decoded e ∙ meaning_of_text x hx);
   refusal = refusal_is;
 }

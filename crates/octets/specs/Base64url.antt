@@ -1,5 +1,6 @@
 -- Base64url without padding (RFC 4648 section 5). A text is good where it is the encoding of some octets, which are its meaning.
-use Rattle.std.specs.Prelude.{◌≡◌, ◌↔◌, ℕ, ◌*◌, ◌/◌, List, length, take, drop, Result, Ok, Err}
+use Rattle.std.specs.Prelude.{◌≡◌, ◌↔◌, ℕ, ◌*◌, ◌/◌, ◌==◌, ◌&&◌, ◌||◌, nat_le, Bool, true, List, length, take, drop, Result, Ok, Err}
+use Rattle.std.specs.List.{AllByRecursion}
 use Rattle.base64.specs.declared.decode.DecodeError.{DecodeError}
 use Rattle.base64.specs.Engines.{url_safe_no_pad}
 use Rattle.base64.specs.GeneralPurpose.{encode_of, decode_of}
@@ -32,5 +33,15 @@ TextsAreDistinct = (x y : List ℕ) → IsOctets x → IsOctets y → base64url 
 
 -- a text means the octets that have it, and no other text has a meaning
 pub record DecodesExactly : Type 0 where
+  pub round_trip : (x : List ℕ) → IsOctets x → decoded (base64url x) ≡ Ok x
   pub meaning : (text x : List ℕ) → IsOctets text → IsOctets x → (decoded text ≡ Ok x) ↔ (text ≡ base64url x)
   pub refusal : (text : List ℕ) (r : Refusal) → decoded text ≡ Err r → r ≡ Base64
+
+-- a letter, a digit, `-` or `_`
+abbrev pub is_url_character : ℕ → Bool
+is_url_character c =
+    (nat_le 65 c && nat_le c 90) || (nat_le 97 c && nat_le c 122) || (nat_le 48 c && nat_le c 57) || (c == 45) || (c == 95)
+
+-- a text has such characters alone: no dot, no quote, no backslash and no line end
+abbrev pub HasUrlCharacters : Type 0
+HasUrlCharacters = (x : List ℕ) → IsOctets x → AllByRecursion (λ c. is_url_character c ≡ true) (base64url x)

@@ -5,6 +5,7 @@ use crate::{
 };
 use std::io;
 use std::io::{Read, Write};
+use std::process::Abort;
 use std::test::Fail;
 
 #[test]
@@ -222,39 +223,51 @@ fn what_fails_below_is_a_fault(rt: HostRuntime) {
     );
 }
 
-/// Each call that grows answers its own answer, or `Memory` and nothing else. With ample memory it is
-/// its own; `make faults` refuses each growth in turn.
-#[test]
-fn a_refused_growth_is_memory(rt: HostRuntime) {
+/// Each call that grows, with its answer. A growth may be refused: then the answer is `Memory`, and
+/// what was lent is as it was.
+fn grows<R: Abort + AllocGlobal>(rt: &R, may_be_refused: bool) {
     let alloc = rt.alloc();
     match b64_encode(alloc, b"foobar") {
         Ok(text) => assert_eq!(rt; text.as_str(), "Zm9vYmFy"),
-        Err(refusal) => assert_eq!(rt; refusal, Refusal::Memory),
+        Err(refusal) => assert!(rt; may_be_refused && refusal == Refusal::Memory),
     }
     match b64_decode(alloc, b"Zm9vYmFy") {
         Ok(octets) => assert_eq!(rt; octets.as_slice(), b"foobar".as_slice()),
-        Err(refusal) => assert_eq!(rt; refusal, Refusal::Memory),
+        Err(refusal) => assert!(rt; may_be_refused && refusal == Refusal::Memory),
     }
     let refusal = b64_decode(alloc, b"Zm9vYmF").err();
-    assert!(rt; refusal == Some(Refusal::Base64) || refusal == Some(Refusal::Memory));
+    assert!(rt;
+        refusal == Some(Refusal::Base64) || may_be_refused && refusal == Some(Refusal::Memory)
+    );
     let content = [7u8; 10_000];
     let mut input = MemoryInput::new(&content, 5000);
     match read_whole(alloc, &mut input) {
         Ok(octets) => assert_eq!(rt; octets.as_slice(), content.as_slice()),
-        Err(refusal) => assert_eq!(rt; refusal, Refusal::Memory),
+        Err(refusal) => assert!(rt; may_be_refused && refusal == Refusal::Memory),
     }
     if let Ok(mut text) = String::from_str(alloc, "foo") {
         match b64_append(&mut text, b"foobar") {
             Ok(()) => assert_eq!(rt; text.as_str(), "fooZm9vYmFy"),
             Err(refusal) => {
-                assert_eq!(rt; refusal, Refusal::Memory);
+                assert!(rt; may_be_refused && refusal == Refusal::Memory);
                 assert_eq!(rt; text.as_str(), "foo");
             }
         }
     }
-    if let Ok(out) = MemoryOutput::new(alloc, 10) {
-        assert_eq!(rt; out.octets(), b"".as_slice());
+    match MemoryOutput::new(alloc, 10) {
+        Ok(out) => assert_eq!(rt; out.octets(), b"".as_slice()),
+        Err(_) => assert!(rt; may_be_refused),
     }
+}
+
+#[test]
+fn a_refused_growth_0(rt: HostRuntime) {
+    grows(&rt, true);
+}
+
+#[test]
+fn ample_memory_gives_the_answers(rt: HostRuntime) {
+    grows(&rt, false);
 }
 
 #[test]

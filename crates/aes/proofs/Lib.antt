@@ -1,0 +1,13 @@
+pub mod Xor
+pub mod Polynomial
+pub mod Rows
+pub mod Below
+pub mod Products
+pub mod Inverses
+pub mod Boxes
+pub mod Squares
+pub mod Matrices
+pub mod Steps
+pub mod Rounds
+pub mod KeyWords
+pub mod Keys

@@ -1,0 +1,9 @@
+pub mod Polynomial
+pub mod Octet
+pub mod SBox
+pub mod State
+pub mod KeyExpansion
+pub mod Block
+pub mod Cipher
+pub mod InverseCipher
+pub mod Aes

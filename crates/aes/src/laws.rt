@@ -1,0 +1,19 @@
+//! Laws of the definitions in `specs/`: functions that do nothing, whose contracts are the laws.
+ghost use Rattle.std.specs.Prelude.{◌≡◌, ◌≢◌, ◌↔◌, ℕ, ◌<◌, List, slice_index};
+ghost use Rattle.aes.specs.Cipher.{IsDecryptedBlock};
+ghost use Rattle.aes.specs.Octet.{octet_product, octet_inverse};
+
+/// The inverse of an octet other than 0 is the one octet whose product with it is 1, and that of 0 is 0
+/// (FIPS 197, section 4.4).
+pub fn inverse_is_unique()
+    ensures unique { (x y : ℕ) → x < 256 → y < 256 → x ≢ 0
+        → (octet_product x y ≡ 1) ↔ (y ≡ octet_inverse x) }
+    ensures zero { octet_inverse 0 ≡ 0 }
+{}
+
+/// No two blocks are sent to one by a key of octets, so what decrypting gives is the one block that encrypting sends
+/// back (FIPS 197, section 5.3).
+pub fn decrypted_block_is_unique()
+    ensures { (nk : ℕ) (k c b d : List ℕ) → ((i : ℕ) → slice_index k i < 256)
+        → IsDecryptedBlock nk k c b → IsDecryptedBlock nk k c d → b ≡ d }
+{}

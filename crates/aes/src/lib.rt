@@ -1,0 +1,29 @@
+//! The block cipher AES (FIPS 197) under keys of 128, 192 and 256 bits.
+//!
+//! `Block` is what the modes of operation are written over: a cipher of blocks of sixteen octets, with the law that
+//! decrypting undoes encrypting. The three ciphers are made from their keys' octets. Nothing here takes memory, knows
+//! a mode or pads a text.
+//!
+//! ```rust
+//! use aes::{Aes128, Block};
+//!
+//! let cipher = Aes128::new(&key);
+//! let text = cipher.encrypt(&block);
+//! assert_eq!(rt; cipher.decrypt(&text), block);
+//! ```
+#![tactic(auto)]
+
+pub use aes::{Aes128, Aes192, Aes256};
+pub use block::Block;
+
+mod aes;
+mod block;
+mod cipher;
+mod inverse_state;
+mod key_expansion;
+pub mod laws;
+mod octet;
+mod s_box;
+mod state;
+#[cfg(test)]
+mod tests;

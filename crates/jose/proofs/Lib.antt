@@ -1,0 +1,13 @@
+pub mod Readings
+pub mod WholeNumbers
+pub mod Strings
+pub mod CompactTexts
+pub mod Floats
+pub mod Finding
+pub mod Lines
+pub mod Parses
+pub mod Settings
+pub mod Table
+pub mod Prefixes
+pub mod Agreement
+pub mod SigningPlans

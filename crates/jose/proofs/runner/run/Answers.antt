@@ -1,0 +1,47 @@
+use Rattle.std.proofs.Common.{◌&&◌, [], sym, append-nil}
+use Rattle.std.proofs.Math.Seq.{drop-length}
+use Rattle.octets.specs.Devices.{appended, observed}
+use Rattle.jose.specs.Invocations.{seen}
+use Rattle.jose.specs.Ports.{as_text, as_content}
+use Rattle.jose.specs.Plan.{accepted, planned, planned_beginning}
+use Rattle.jose.specs.Signing.{signing}
+use Rattle.jose.specs.Verifying.{verifying}
+use Rattle.jose.specs.Answer.{is_content_wanted}
+use Rattle.jose.proofs.Prefixes.{AppendsPrefixOf-none}
+use Rattle.jose.proofs.Agreement.{agrees_as_text, agrees_as_content, planned_map, planned_without_content, begun_as_text, begun_without_content, on_refusal}
+use Rattle.std.proofs.Common.{refl}
+use Rattle.jose.proofs.runner.run.Goals as goal
+
+pub returns-in-JwsSig-clause-answer : goal.returns-in-JwsSig-clause-answer
+returns-in-JwsSig-clause-answer g c inputs may =
+    let h = c.sign.ensures.answer inputs.text inputs.keys inputs.content may.text may.keys may.content in
+    rw (c.in-JwsSig.is, planned_map as_text (signing inputs.keys inputs.text) inputs.content)
+    (agrees_as_text (planned (signing inputs.keys inputs.text) inputs.content) _ _ _ (drop-length (g.O.Output.written c.args.outputs.now.content)) h)
+
+pub returns-in-JwsSig-clause-beginning : goal.returns-in-JwsSig-clause-beginning
+returns-in-JwsSig-clause-beginning g c =
+    let consumed = g.I.Input.consumed in
+    let at_end = g.I.Input.is_at_end in
+    let old = c.args.inputs.now in
+    let plan = signing (appended (consumed old.keys) (consumed c.sign.new.keys)) (appended (consumed old.text) (consumed c.sign.new.template)) in
+    let others = at_end c.sign.new.template && at_end c.sign.new.keys in
+    let content = observed consumed at_end old.content c.sign.new.content in
+    on_refusal c.sign.result c.sign.ensures.beginning
+    (λ h. rw (c.in-JwsSig.is, begun_as_text others plan content) (record { text = h; content = AppendsPrefixOf-none _ _ refl }))
+
+pub returns-in-JwsVer-clause-answer : goal.returns-in-JwsVer-clause-answer
+returns-in-JwsVer-clause-answer g c inputs may =
+    let a = verifying (is_content_wanted (seen c.args.invocation.now).options) inputs.keys inputs.text in
+    let h = c.verify.ensures.answer inputs.text inputs.keys may.text may.keys in
+    rw (c.in-JwsVer.is, planned_without_content as_content a [])
+    (agrees_as_content a _ _ _ (drop-length (g.O.Output.written c.args.outputs.now.text)) (rw (← c.has-wanted.ensures) h))
+
+pub returns-in-JwsVer-clause-beginning : goal.returns-in-JwsVer-clause-beginning
+returns-in-JwsVer-clause-beginning g c =
+    let consumed = g.I.Input.consumed in
+    let at_end = g.I.Input.is_at_end in
+    let old = c.args.inputs.now in
+    let a = verifying (is_content_wanted (seen c.args.invocation.now).options) (appended (consumed old.keys) (consumed c.verify.new.keys)) (appended (consumed old.text) (consumed c.verify.new.text)) in
+    let others = at_end c.verify.new.text && at_end c.verify.new.keys in
+    on_refusal c.verify.result (rw (← c.has-wanted.ensures) c.verify.ensures.beginning)
+    (λ h. rw (c.in-JwsVer.is, begun_without_content others a) (record { text = AppendsPrefixOf-none _ _ refl; content = h }))

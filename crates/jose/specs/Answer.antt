@@ -1,0 +1,109 @@
+-- The answer of each command: the octets of each output, or the first refusal, from whole inputs.
+use Rattle.std.specs.Prelude.{◌≡◌, ◌≢◌, ℕ, Bool, true, false, ◌&&◌, IsTrue, List, [], is_some, if◌then◌else◌, Result, Ok, Err}
+use Rattle.octets.specs.declared.refusal.Refusal.{Refusal}
+use Rattle.octets.specs.declared.refusal.Refusal.TheVariants.{Write}
+use Rattle.octets.specs.Devices.{Observed}
+use Rattle.octets.specs.Outcomes.{◌>>=◌, AgreesUnlessExternal}
+use Rattle.jose.specs.declared.command.Command.{Command}
+use Rattle.jose.specs.declared.command.Command.TheVariants.{JwsSig, JwsVer}
+use Rattle.jose.specs.declared.ports.Inputs.{Inputs}
+use Rattle.jose.specs.declared.ports.Outputs.{Outputs}
+use Rattle.jose.specs.Invocations.{SeenInvocation, Settings, value_at}
+use Rattle.jose.specs.Ports.{InputTexts, OutputTexts, nothing, as_text, as_content, SeenInputs, ArePossibleInputs}
+use Rattle.jose.specs.Plan.{Plan, plan_map, without_content, beginning_of}
+use Rattle.jose.specs.Signing.{signing}
+use Rattle.jose.specs.Verifying.{verifying}
+
+-- ---- the answer
+
+-- `-O` was given
+abbrev pub is_content_wanted : Settings → Bool
+is_content_wanted settings = is_some (value_at 79 settings)
+
+-- which of the inputs is the content, which may be read while its text is written
+abbrev pub content_of : {A : Type 0} → Command → A → A → A → A
+content_of JwsSig text content none = content
+content_of JwsVer text content none = none
+
+-- what the other inputs settle, or the first refusal
+abbrev pub plan_of : Command → Settings → InputTexts → Result (Plan OutputTexts) Refusal
+plan_of JwsSig settings inputs = do
+  plan ← signing inputs.keys inputs.text
+  Ok (plan_map as_text plan)
+plan_of JwsVer settings inputs = do
+  payload ← verifying (is_content_wanted settings) inputs.keys inputs.text
+  Ok (without_content (as_content payload))
+
+-- the octets of each output, or the first refusal
+abbrev pub answer : Command → Settings → InputTexts → Result OutputTexts Refusal
+answer command settings inputs = do
+  plan ← plan_of command settings inputs
+  plan.whole (content_of command inputs.text inputs.content [])
+
+-- Whatever the inputs go on to give, the run did as the answer says.
+abbrev pub Answers : SeenInvocation → SeenInputs → OutputTexts → Result (Unit {0}) Refusal → Type 0
+Answers invocation seen wrote result =
+    (inputs : InputTexts) → ArePossibleInputs seen inputs → AgreesUnlessExternal (answer invocation.command invocation.options inputs) wrote result
+
+-- ---- what stands after a refusal
+
+-- the inputs beside the content have given all that is taken of them
+abbrev pub others_read : Command → SeenInputs → Bool
+others_read JwsSig seen = seen.text.ended && seen.keys.ended
+others_read JwsVer seen = seen.text.ended && seen.keys.ended
+
+abbrev pub texts_so_far : SeenInputs → InputTexts
+texts_so_far seen = record { text = seen.text.octets; content = seen.content.octets; keys = seen.keys.octets; random = seen.random.octets }
+
+abbrev pub beginning_under : Result (Plan OutputTexts) Refusal → Observed → OutputTexts
+beginning_under (Ok plan) content = beginning_of plan content
+beginning_under (Err r) content = nothing
+
+-- the outputs hold a beginning of these texts: of none before the other inputs are read and accepted
+abbrev pub beginning : SeenInvocation → SeenInputs → OutputTexts
+beginning invocation seen =
+    if others_read invocation.command seen
+    then beginning_under (plan_of invocation.command invocation.options (texts_so_far seen)) (content_of invocation.command seen.text seen.content (record { octets = []; ended = true }))
+    else nothing
+
+-- nothing is written before all of it is accepted
+abbrev pub holds_back : Command → Bool
+holds_back JwsSig = false
+holds_back JwsVer = true
+
+-- A command that holds back has written something only where an output failed.
+abbrev pub HoldsBack : {D : Type 0} → (D → List ℕ) → SeenInvocation → Outputs D → Outputs D → Refusal → Type 0
+HoldsBack written invocation old new refusal =
+    IsTrue (holds_back invocation.command) → refusal ≢ Write → (written new.text ≡ written old.text) × (written new.content ≡ written old.content)
+
+-- ---- the devices that a command has options for
+
+abbrev pub has_content_input : Command → Bool
+has_content_input JwsSig = true
+has_content_input JwsVer = false
+
+abbrev pub has_random_input : Command → Bool
+has_random_input JwsSig = false
+has_random_input JwsVer = false
+
+abbrev pub has_text_output : Command → Bool
+has_text_output JwsSig = true
+has_text_output JwsVer = false
+
+abbrev pub has_content_output : Command → Settings → Bool
+has_content_output JwsSig settings = false
+has_content_output JwsVer settings = is_content_wanted settings
+
+-- each output that the command has was finished
+abbrev pub AreFinished : {D : Type 0} → (D → Bool) → SeenInvocation → Outputs D → Type 0
+AreFinished is_finished invocation outputs =
+    (IsTrue (has_text_output invocation.command) → IsTrue (is_finished outputs.text))
+    × (IsTrue (has_content_output invocation.command invocation.options) → IsTrue (is_finished outputs.content))
+
+-- the devices that it has no option for are as they were
+abbrev pub AreUntouched : {D E : Type 0} → SeenInvocation → Inputs D → Inputs D → Outputs E → Outputs E → Type 0
+AreUntouched invocation old_inputs new_inputs old_outputs new_outputs =
+    (has_content_input invocation.command ≡ false → new_inputs.content ≡ old_inputs.content)
+    × (has_random_input invocation.command ≡ false → new_inputs.random ≡ old_inputs.random)
+    × (has_text_output invocation.command ≡ false → new_outputs.text ≡ old_outputs.text)
+    × (has_content_output invocation.command invocation.options ≡ false → new_outputs.content ≡ old_outputs.content)

@@ -1,0 +1,64 @@
+-- The commands of the program, in one table: their words, and what each option takes and names.
+use Prim.Native.String.{String}
+use Rattle.std.specs.Prelude.{ℕ, ◌&&◌, Bool, List, [], ◌∷◌, Option, find, codes}
+use Rattle.std.specs.Str.{byte, bytes_eq}
+use Rattle.clap.specs.Words.{Text}
+use Rattle.jose.specs.declared.command.Command.{Command}
+use Rattle.jose.specs.declared.command.Command.TheVariants.{JwsSig, JwsVer}
+use Rattle.jose.specs.declared.command.Role.{Role}
+use Rattle.jose.specs.declared.command.Role.TheVariants.{Input, Output, Neither}
+
+-- what an option takes: nothing, a value that has to be given, a value, or a value with a default
+pub data Takes : Type 0 where
+  flag : Takes
+  required : Takes
+  optional : Takes
+  default : Text → Takes
+
+pub record OptionEntry : Type 0 where
+  pub letter : ℕ
+  pub name : Text
+  pub takes : Takes
+  pub role : Role
+
+pub record CommandEntry : Type 0 where
+  pub command : Command
+  pub noun : Text
+  pub verb : Text
+  pub options : List OptionEntry
+
+abbrev pub option : String → String → Takes → Role → OptionEntry
+option letter name takes role = record { letter = byte letter; name = codes name; takes = takes; role = role }
+
+abbrev pub entry : Command → String → String → List OptionEntry → CommandEntry
+entry command noun verb options = record { command = command; noun = codes noun; verb = codes verb; options = options }
+
+-- a default that is written in the table
+abbrev pub else_value : String → Takes
+else_value text = default (codes text)
+
+abbrev pub jws_sig_options : List OptionEntry
+jws_sig_options =
+    option "s" "template" (else_value "{}") Input ∷
+    option "I" "payload" (else_value "-") Input ∷
+    option "k" "keys" required Input ∷
+    option "o" "object" (else_value "-") Output ∷
+    option "c" "compact" flag Neither ∷ []
+
+abbrev pub jws_ver_options : List OptionEntry
+jws_ver_options =
+    option "i" "object" (else_value "-") Input ∷
+    option "k" "keys" required Input ∷
+    option "O" "payload" optional Output ∷ []
+
+unfoldable pub commands : List CommandEntry
+commands =
+    entry JwsSig "jws" "sig" jws_sig_options ∷
+    entry JwsVer "jws" "ver" jws_ver_options ∷ []
+
+abbrev pub has_words : Text → Text → CommandEntry → Bool
+has_words noun verb entry = bytes_eq entry.noun noun && bytes_eq entry.verb verb
+
+-- the command of the table that has these two words
+abbrev pub command_named : Text → Text → Option CommandEntry
+command_named noun verb = find (has_words noun verb) commands

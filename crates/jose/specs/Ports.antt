@@ -1,0 +1,92 @@
+-- The devices of a run, each by the option that names it, and what a run read from them and wrote to them.
+use Rattle.std.specs.Prelude.{◌≡◌, ◌⊎◌, ℕ, Bool, List, []}
+use Rattle.std.specs.Iterator.{Count, IsFinite}
+use Rattle.octets.specs.Devices.{Observed, observed, appended, AppendsPrefixOf, IsPossibleInput, Rose}
+use Rattle.jose.specs.declared.ports.Inputs.{Inputs}
+use Rattle.jose.specs.declared.ports.Outputs.{Outputs}
+
+-- ---- whole lists
+
+-- all octets of each input
+pub record InputTexts : Type 0 where
+  pub text : List ℕ
+  pub content : List ℕ
+  pub keys : List ℕ
+  pub random : List ℕ
+
+-- the octets for each output
+pub record OutputTexts : Type 0 where
+  pub text : List ℕ
+  pub content : List ℕ
+
+abbrev pub nothing : OutputTexts
+nothing = record { text = []; content = [] }
+
+-- the octets of `-o`
+abbrev pub as_text : List ℕ → OutputTexts
+as_text octets = record { text = octets; content = [] }
+
+-- the octets of `-O`
+abbrev pub as_content : List ℕ → OutputTexts
+as_content octets = record { text = []; content = octets }
+
+-- ---- what a run read
+
+pub record SeenInputs : Type 0 where
+  pub text : Observed
+  pub content : Observed
+  pub keys : Observed
+  pub random : Observed
+
+abbrev pub seen_inputs : {D : Type 0} → (D → List ℕ) → (D → Bool) → Inputs D → Inputs D → SeenInputs
+seen_inputs consumed is_at_end old new = record {
+  text = observed consumed is_at_end old.text new.text;
+  content = observed consumed is_at_end old.content new.content;
+  keys = observed consumed is_at_end old.keys new.keys;
+  random = observed consumed is_at_end old.random new.random;
+}
+
+-- the whole inputs may be these
+pub record ArePossibleInputs (seen : SeenInputs) (inputs : InputTexts) : Type 0 where
+  pub text : IsPossibleInput seen.text inputs.text
+  pub content : IsPossibleInput seen.content inputs.content
+  pub keys : IsPossibleInput seen.keys inputs.keys
+  pub random : IsPossibleInput seen.random inputs.random
+
+-- each input but the random one ends or fails after finitely many octets
+pub record AreFinite {D : Type 0} (remaining : D → Count) (inputs : Inputs D) : Type 0 where
+  pub text : IsFinite (remaining inputs.text)
+  pub content : IsFinite (remaining inputs.content)
+  pub keys : IsFinite (remaining inputs.keys)
+
+-- ---- what a run wrote
+
+abbrev pub written_texts : {D : Type 0} → (D → List ℕ) → Outputs D → Outputs D → OutputTexts
+written_texts written old new = record {
+  text = appended (written old.text) (written new.text);
+  content = appended (written old.content) (written new.content);
+}
+
+-- each output has grown by a beginning of its text
+pub record AppendPrefixesOf {D : Type 0} (written : D → List ℕ) (texts : OutputTexts) (old new : Outputs D) : Type 0 where
+  pub text : AppendsPrefixOf texts.text (written old.text) (written new.text)
+  pub content : AppendsPrefixOf texts.content (written old.content) (written new.content)
+
+-- ---- failures
+
+abbrev pub AnInputFailed : {D : Type 0} → (D → ℕ) → Inputs D → Inputs D → Type 0
+AnInputFailed failures old new =
+    Rose (failures old.text) (failures new.text) ⊎ (Rose (failures old.content) (failures new.content)
+    ⊎ (Rose (failures old.keys) (failures new.keys) ⊎ Rose (failures old.random) (failures new.random)))
+
+abbrev pub AnOutputFailed : {D : Type 0} → (D → ℕ) → Outputs D → Outputs D → Type 0
+AnOutputFailed failures old new = Rose (failures old.text) (failures new.text) ⊎ Rose (failures old.content) (failures new.content)
+
+-- no count of failures has changed
+pub record NoneFailed {D E : Type 0} (input_failures : D → ℕ) (old_inputs new_inputs : Inputs D) (output_failures : E → ℕ) (old_outputs new_outputs : Outputs E) : Type 0 where
+  pub text : input_failures new_inputs.text ≡ input_failures old_inputs.text
+  pub content : input_failures new_inputs.content ≡ input_failures old_inputs.content
+  pub keys : input_failures new_inputs.keys ≡ input_failures old_inputs.keys
+  pub random : input_failures new_inputs.random ≡ input_failures old_inputs.random
+  pub text_out : output_failures new_outputs.text ≡ output_failures old_outputs.text
+  pub content_out : output_failures new_outputs.content ≡ output_failures old_outputs.content

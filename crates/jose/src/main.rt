@@ -1,0 +1,58 @@
+//! The command `jose` for octet keys: signs and verifies small documents (RFC 7515).
+//!
+//! The words become an invocation (`words`, by the table in `command`), the invocation names devices
+//! (`files`), and `run` does what is asked from devices to devices. `report` tells a refusal.
+#![tactic(auto)]
+
+mod command;
+mod files;
+mod invocation;
+mod jws;
+mod keys;
+mod objects;
+mod ports;
+mod reading;
+mod reports;
+mod runner;
+mod tokens;
+mod words;
+mod writing;
+
+pub use command::Command;
+pub use invocation::{Invocation, Setting};
+use octets::{Refusal, WriterOutput};
+pub use ports::{Inputs, Outputs};
+pub use reports::report;
+pub use runner::run;
+use std::io;
+use std::process::ExitCode;
+use std::rt::{Env, Files};
+pub use words::parse;
+
+/// Reads the words, and does what they ask over files and the standard streams.
+fn perform(rt: &HostRuntime) -> Result<(), Refusal> {
+    let words = words_given(rt)?;
+    let invocation = parse(rt.alloc(), &words)?;
+    let mut inputs = files::inputs(rt, rt.stdin(), &invocation);
+    let mut outputs = files::outputs(rt, rt.stdout(), &invocation);
+    run(rt.alloc(), &invocation, &mut inputs, &mut outputs)
+}
+
+/// The program's arguments. Words that are not UTF-8 are no command.
+fn words_given(rt: &HostRuntime) -> Result<Vec<String>, Refusal> {
+    let args = match std::env::args(rt) {
+        Ok(args) => args,
+        Err(e) if e.kind() == io::ErrorKind::OutOfMemory => return Err(Refusal::Memory),
+        Err(_) => return Err(Refusal::Usage),
+    };
+    Ok(args.skip(1).collect(rt.alloc())?)
+}
+
+fn main(rt: HostRuntime) -> ExitCode {
+    let result = perform(&rt);
+    let mut errors = WriterOutput::new(rt.stderr());
+    ExitCode::from(report(result, &mut errors))
+}
+
+#[cfg(test)]
+mod tests;

@@ -1,0 +1,41 @@
+//! The program's last word: a status, and for a refusal one line.
+ghost use Rattle.std.specs.Prelude.{◌≡◌, ◌<◌, ◌-◌, ◌^◌, ◌++◌, OnOk, OnErr, IfErr, IsTrue};
+ghost use Rattle.octets.specs.Devices.{next_count, AppendsPrefixOf};
+ghost use Rattle.jose.specs.Reports.{status_of, report_line};
+
+use octets::{Output, Refusal, write_whole};
+
+/// The program's status: 0, and nothing is written, or after a refusal 1, and its line is written,
+/// as far as the output takes it.
+pub fn report<O: Output>(outcome: Result<(), Refusal>, out: &mut O) -> u8
+    ensures status { result ≡ status_of outcome }
+    ensures quiet { OnOk outcome (out.new ≡ out.old) }
+    ensures line { IfErr outcome (λ refusal.
+        AppendsPrefixOf (report_line refusal) (O.written out.old) (O.written out.new)) }
+    ensures whole { IfErr outcome (λ refusal. O.failures out.old < 2 ^ 64 - 1
+        → O.failures out.new ≡ O.failures out.old
+        → (O.written out.new ≡ O.written out.old ++ report_line refusal)
+        × IsTrue (O.is_finished out.new)) }
+{
+    match outcome {
+        Ok(()) => 0,
+        Err(refusal) => {
+            // Of an output that fails here nobody is left to be told.
+            let _ = write_line(out, refusal);
+            1
+        }
+    }
+}
+
+fn write_line<O: Output>(out: &mut O, refusal: Refusal) -> Result<(), Refusal>
+    ensures part { AppendsPrefixOf (report_line refusal) (O.written out.old) (O.written out.new) }
+    ensures whole { OnOk result ((O.written out.new ≡ O.written out.old ++ report_line refusal)
+        × IsTrue (O.is_finished out.new)) }
+    ensures fails { OnErr result (O.failures out.new ≡ next_count (O.failures out.old)) }
+{
+    write_whole(out, b"jose: ")?;
+    write_whole(out, refusal.text().as_bytes())?;
+    write_whole(out, b"\n")?;
+    out.finish()?;
+    Ok(())
+}

@@ -1,0 +1,59 @@
+//! The one entry point of all commands.
+ghost use Rattle.std.specs.Prelude.{OnOk, OnErr, IfErr, IsErrOf};
+ghost use Rattle.std.specs.Iterator.{IsFinite};
+ghost use Rattle.jose.specs.Invocations.{seen};
+ghost use Rattle.jose.specs.Ports.{seen_inputs, written_texts, AreFinite, AppendPrefixesOf, NoneFailed, AnInputFailed, AnOutputFailed};
+ghost use Rattle.jose.specs.Answer.{Answers, AreFinished, AreUntouched, HoldsBack, beginning};
+
+use crate::command::Command;
+use crate::invocation::Invocation;
+use crate::jws;
+use crate::ports::{Inputs, Outputs};
+use octets::{Input, Output, Refusal};
+use std::alloc::Global;
+
+/// Does what is asked.
+pub fn run<I: Input, O: Output>(
+    alloc: Global,
+    invocation: &Invocation,
+    inputs: &mut Inputs<I>,
+    outputs: &mut Outputs<O>,
+) -> Result<(), Refusal>
+    requires { AreFinite I.remaining inputs.old }
+
+    // The outputs, or the refusal, are those of the answer.
+    ensures answer { Answers (seen invocation.now) (seen_inputs I.consumed I.is_at_end inputs.old inputs.new) (written_texts O.written outputs.old outputs.new) result }
+
+    // After a refusal each output holds a stated beginning.
+    ensures beginning { OnErr result (AppendPrefixesOf O.written (beginning (seen invocation.now) (seen_inputs I.consumed I.is_at_end inputs.old inputs.new)) outputs.old outputs.new) }
+    ensures held_back { IfErr result (HoldsBack O.written (seen invocation.now) outputs.old outputs.new) }
+
+    // At the end all that was written is where it belongs.
+    ensures finished { OnOk result (AreFinished O.is_finished (seen invocation.now) outputs.new) }
+    ensures untouched { AreUntouched (seen invocation.now) inputs.old inputs.new outputs.old outputs.new }
+
+    // A device that failed in the call is told, and no other is.
+    ensures works { OnOk result (NoneFailed I.failures inputs.old inputs.new O.failures outputs.old outputs.new) }
+    ensures read { IsErrOf result Refusal.Read → AnInputFailed I.failures inputs.old inputs.new }
+    ensures write { IsErrOf result Refusal.Write → AnOutputFailed O.failures outputs.old outputs.new }
+{
+    match invocation.command {
+        Command::JwsSig => jws::sign(
+            alloc,
+            &mut inputs.text,
+            &mut inputs.keys,
+            &mut inputs.content,
+            &mut outputs.text,
+        ),
+        Command::JwsVer => {
+            let wanted = invocation.has('O');
+            jws::verify(
+                alloc,
+                &mut inputs.text,
+                &mut inputs.keys,
+                wanted,
+                &mut outputs.content,
+            )
+        }
+    }
+}

@@ -1,0 +1,8 @@
+//! Signing and verifying, as the standards' functions of keys and objects. It is given texts, and
+//! never sees a device or an option.
+mod sign;
+mod signature;
+mod verify;
+
+pub(crate) use sign::{compact, read_signer};
+pub(crate) use verify::verified;
