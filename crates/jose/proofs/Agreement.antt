@@ -7,7 +7,7 @@ use Rattle.octets.specs.declared.refusal.Refusal.TheVariants.{Write}
 use Rattle.octets.specs.Devices.{Observed, observed, appended, IsPossibleInput}
 use Rattle.octets.specs.Outcomes.{◌>>=◌, is_external, AgreesUnlessExternal}
 use Rattle.jose.specs.Ports.{OutputTexts, nothing, as_text, as_content}
-use Rattle.jose.specs.Plan.{Plan, plan_map, planned, begun, planned_beginning, beginning_of, without_content, accepted}
+use Rattle.jose.specs.Plan.{Plan, plan_map, planned, planned_beginning, beginning_of, without_content, accepted}
 use Rattle.jose.specs.Answer.{beginning_under}
 
 pub AgreesUnlessExternal-map : {W V : Type 0} (f : W → V) (a : Result W Refusal) (w : W) (v : V) (r : Result (Unit {0}) Refusal) → f w ≡ v
@@ -51,6 +51,9 @@ begun_as_text false (Ok p) seen = refl
 begun_as_text false (Err r) seen = refl
 begun_as_text true (Err r) seen = refl
 begun_as_text true (Ok p) seen = beginning_map as_text p seen.octets seen.ended
+
+pub begun_as_content : (plan : Plan (List ℕ)) (seen : Observed) → beginning_of (plan_map as_content plan) seen ≡ as_content (beginning_of plan seen)
+begun_as_content plan seen = beginning_map as_content plan seen.octets seen.ended
 
 pub begun_without_content : (others : Bool) (a : Result (List ℕ) Refusal)
     → cond others (beginning_under (a >>= λ p. Ok (without_content (as_content p))) (record { octets = []; ended = true })) nothing ≡ as_content (accepted a others)

@@ -5,12 +5,13 @@ use Rattle.octets.specs.declared.refusal.Refusal.TheVariants.{Write}
 use Rattle.octets.specs.Devices.{Observed}
 use Rattle.octets.specs.Outcomes.{◌>>=◌, AgreesUnlessExternal}
 use Rattle.jose.specs.declared.command.Command.{Command}
-use Rattle.jose.specs.declared.command.Command.TheVariants.{JwsSig, JwsVer}
+use Rattle.jose.specs.declared.command.Command.TheVariants.{B64Enc, B64Dec, JwsSig, JwsVer}
 use Rattle.jose.specs.declared.ports.Inputs.{Inputs}
 use Rattle.jose.specs.declared.ports.Outputs.{Outputs}
 use Rattle.jose.specs.Invocations.{SeenInvocation, Settings, value_at}
 use Rattle.jose.specs.Ports.{InputTexts, OutputTexts, nothing, as_text, as_content, SeenInputs, ArePossibleInputs}
 use Rattle.jose.specs.Plan.{Plan, plan_map, without_content, beginning_of}
+use Rattle.jose.specs.Encoding.{encoding, decoding}
 use Rattle.jose.specs.Signing.{signing}
 use Rattle.jose.specs.Verifying.{verifying}
 
@@ -22,11 +23,15 @@ is_content_wanted settings = is_some (value_at 79 settings)
 
 -- which of the inputs is the content, which may be read while its text is written
 abbrev pub content_of : {A : Type 0} → Command → A → A → A → A
+content_of B64Enc text content none = content
+content_of B64Dec text content none = text
 content_of JwsSig text content none = content
 content_of JwsVer text content none = none
 
 -- what the other inputs settle, or the first refusal
 abbrev pub plan_of : Command → Settings → InputTexts → Result (Plan OutputTexts) Refusal
+plan_of B64Enc settings inputs = Ok (plan_map as_text encoding)
+plan_of B64Dec settings inputs = Ok (plan_map as_content decoding)
 plan_of JwsSig settings inputs = do
   plan ← signing inputs.keys inputs.text
   Ok (plan_map as_text plan)
@@ -49,6 +54,8 @@ Answers invocation seen wrote result =
 
 -- the inputs beside the content have given all that is taken of them
 abbrev pub others_read : Command → SeenInputs → Bool
+others_read B64Enc seen = true
+others_read B64Dec seen = true
 others_read JwsSig seen = seen.text.ended && seen.keys.ended
 others_read JwsVer seen = seen.text.ended && seen.keys.ended
 
@@ -68,6 +75,8 @@ beginning invocation seen =
 
 -- nothing is written before all of it is accepted
 abbrev pub holds_back : Command → Bool
+holds_back B64Enc = false
+holds_back B64Dec = false
 holds_back JwsSig = false
 holds_back JwsVer = true
 
@@ -78,19 +87,36 @@ HoldsBack written invocation old new refusal =
 
 -- ---- the devices that a command has options for
 
+abbrev pub has_text_input : Command → Bool
+has_text_input B64Enc = false
+has_text_input B64Dec = true
+has_text_input JwsSig = true
+has_text_input JwsVer = true
+
+abbrev pub has_keys_input : Command → Bool
+has_keys_input B64Enc = false
+has_keys_input B64Dec = false
+has_keys_input JwsSig = true
+has_keys_input JwsVer = true
+
 abbrev pub has_content_input : Command → Bool
+has_content_input B64Enc = true
+has_content_input B64Dec = false
 has_content_input JwsSig = true
 has_content_input JwsVer = false
 
 abbrev pub has_random_input : Command → Bool
-has_random_input JwsSig = false
-has_random_input JwsVer = false
+has_random_input command = false
 
 abbrev pub has_text_output : Command → Bool
+has_text_output B64Enc = true
+has_text_output B64Dec = false
 has_text_output JwsSig = true
 has_text_output JwsVer = false
 
 abbrev pub has_content_output : Command → Settings → Bool
+has_content_output B64Enc settings = false
+has_content_output B64Dec settings = true
 has_content_output JwsSig settings = false
 has_content_output JwsVer settings = is_content_wanted settings
 
@@ -101,9 +127,10 @@ AreFinished is_finished invocation outputs =
     × (IsTrue (has_content_output invocation.command invocation.options) → IsTrue (is_finished outputs.content))
 
 -- the devices that it has no option for are as they were
-abbrev pub AreUntouched : {D E : Type 0} → SeenInvocation → Inputs D → Inputs D → Outputs E → Outputs E → Type 0
-AreUntouched invocation old_inputs new_inputs old_outputs new_outputs =
-    (has_content_input invocation.command ≡ false → new_inputs.content ≡ old_inputs.content)
-    × (has_random_input invocation.command ≡ false → new_inputs.random ≡ old_inputs.random)
-    × (has_text_output invocation.command ≡ false → new_outputs.text ≡ old_outputs.text)
-    × (has_content_output invocation.command invocation.options ≡ false → new_outputs.content ≡ old_outputs.content)
+pub record AreUntouched {D E : Type 0} (invocation : SeenInvocation) (old_inputs new_inputs : Inputs D) (old_outputs new_outputs : Outputs E) : Type 0 where
+  pub text : has_text_input invocation.command ≡ false → new_inputs.text ≡ old_inputs.text
+  pub content : has_content_input invocation.command ≡ false → new_inputs.content ≡ old_inputs.content
+  pub keys : has_keys_input invocation.command ≡ false → new_inputs.keys ≡ old_inputs.keys
+  pub random : has_random_input invocation.command ≡ false → new_inputs.random ≡ old_inputs.random
+  pub text_out : has_text_output invocation.command ≡ false → new_outputs.text ≡ old_outputs.text
+  pub content_out : has_content_output invocation.command invocation.options ≡ false → new_outputs.content ≡ old_outputs.content

@@ -4,7 +4,7 @@ use Rattle.std.specs.Prelude.{ℕ, ◌&&◌, Bool, List, [], ◌∷◌, Option, 
 use Rattle.std.specs.Str.{byte, bytes_eq}
 use Rattle.clap.specs.Words.{Text}
 use Rattle.jose.specs.declared.command.Command.{Command}
-use Rattle.jose.specs.declared.command.Command.TheVariants.{JwsSig, JwsVer}
+use Rattle.jose.specs.declared.command.Command.TheVariants.{B64Enc, B64Dec, JwsSig, JwsVer}
 use Rattle.jose.specs.declared.command.Role.{Role}
 use Rattle.jose.specs.declared.command.Role.TheVariants.{Input, Output, Neither}
 
@@ -53,6 +53,12 @@ jws_ver_options =
 
 unfoldable pub commands : List CommandEntry
 commands =
+    entry B64Enc "b64" "enc" (
+    option "I" "octets" (else_value "-") Input ∷
+    option "o" "text" (else_value "-") Output ∷ []) ∷
+    entry B64Dec "b64" "dec" (
+    option "i" "text" (else_value "-") Input ∷
+    option "O" "octets" (else_value "-") Output ∷ []) ∷
     entry JwsSig "jws" "sig" jws_sig_options ∷
     entry JwsVer "jws" "ver" jws_ver_options ∷ []
 

@@ -1,5 +1,5 @@
 -- JWS objects in compact form (RFC 7515 section 7.1).
-use Rattle.std.specs.Prelude.{◌≡◌, ℕ, ◌+◌, ◌-◌, ◌==◌, ◌||◌, Bool, false, not, List, ◌++◌, length, take, drop, slice_index, codes, string_bytes, is_none, position, if◌then◌else◌, Option, Some, None, Result, Ok, Err}
+use Rattle.std.specs.Prelude.{◌≡◌, ℕ, ◌+◌, ◌==◌, ◌||◌, Bool, false, not, List, ◌++◌, take, drop, codes, string_bytes, is_none, position, Option, Some, None, Result, Ok, Err}
 use Rattle.std.specs.List.{find}
 use Rattle.octets.specs.declared.refusal.Refusal.{Refusal}
 use Rattle.octets.specs.declared.refusal.Refusal.TheVariants.{Form}
@@ -9,6 +9,7 @@ use Rattle.octets.specs.Base64url.{base64url, decoded}
 use Rattle.jose.specs.declared.objects.compact.Compact.{Compact}
 use Rattle.jose.specs.declared.objects.jws.Jws.{Jws}
 use Rattle.jose.specs.Headers.{header_of, header_alg}
+use Rattle.jose.specs.LineEnds.{without_line_end}
 
 -- ---- what a text spells
 
@@ -66,13 +67,6 @@ compact_parts line = do
   Ok (record { protected = parts.0; payload_text = parts.1; header = header; payload = payload; signature = signature })
 
 -- ---- the object
-
--- a text without the LF or the CR LF that may end it
-unfoldable pub without_line_end : List ℕ → List ℕ
-without_line_end text =
-    if slice_index text (length text - 1) == 10
-    then (if slice_index text (length text - 2) == 13 then take (length text - 2) text else take (length text - 1) text)
-    else text
 
 -- white space of JSON (RFC 8259 section 2)
 abbrev pub is_json_space : ℕ → Bool

@@ -8,6 +8,7 @@ pub mod Json
 pub mod Algorithms
 pub mod Keys
 pub mod Headers
+pub mod LineEnds
 pub mod Jws
 pub mod Template
 pub mod Signatures
@@ -16,4 +17,5 @@ pub mod Signers
 pub mod Verifying
 pub mod Plan
 pub mod Ports
+pub mod Encoding
 pub mod Answer

@@ -1,5 +1,5 @@
 -- `jws sig` with one key, in compact form.
-use Rattle.std.specs.Prelude.{ℕ, ◌&&◌, List, Result, Ok, Err}
+use Rattle.std.specs.Prelude.{ℕ, ◌&&◌, List, Result, Ok}
 use Rattle.octets.specs.declared.refusal.Refusal.{Refusal}
 use Rattle.octets.specs.declared.refusal.Refusal.TheVariants.{KeyDoesNotFit}
 use Rattle.octets.specs.Outcomes.{◌>>=◌, needs}

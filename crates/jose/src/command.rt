@@ -8,6 +8,10 @@ ghost use Rattle.jose.specs.Reading.{app_for};
 /// What the program can be asked to do.
 #[derive(Clone, Copy, Debug, PartialEq, Eq)]
 pub enum Command {
+    /// `b64 enc`: the base64url text of octets.
+    B64Enc,
+    /// `b64 dec`: the octets of a base64url text.
+    B64Dec,
     /// `jws sig`: sign a payload.
     JwsSig,
     /// `jws ver`: verify an object.
@@ -57,7 +61,25 @@ pub(crate) struct CommandRow {
 }
 
 /// All commands.
-static COMMANDS: [CommandRow; 2] = [
+static COMMANDS: [CommandRow; 4] = [
+    CommandRow {
+        command: Command::B64Enc,
+        noun: "b64",
+        verb: "enc",
+        options: &[
+            OptionRow('I', "octets", Kind::Default("-"), Role::Input),
+            OptionRow('o', "text", Kind::Default("-"), Role::Output),
+        ],
+    },
+    CommandRow {
+        command: Command::B64Dec,
+        noun: "b64",
+        verb: "dec",
+        options: &[
+            OptionRow('i', "text", Kind::Default("-"), Role::Input),
+            OptionRow('O', "octets", Kind::Default("-"), Role::Output),
+        ],
+    },
     CommandRow {
         command: Command::JwsSig,
         noun: "jws",

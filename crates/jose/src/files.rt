@@ -1,6 +1,7 @@
 //! Files, the standard streams and the words themselves, as readers and writers. A file is opened at
 //! its first read; an output file is opened, and cut to nothing, just before its first octet is
 //! written, or when it is finished with none.
+use crate::command::Command;
 use crate::invocation::Invocation;
 use crate::ports::{Inputs, Outputs};
 use octets::{ReaderInput, WriterOutput};
@@ -102,15 +103,17 @@ impl<'a, R: Files> Write for Sink<'a, R> {
     }
 }
 
-/// The inputs that the options name. JSON may stand in the words for `-i`, `-s` and `-k`.
+/// The inputs that the options name. JSON may stand in the words for `-i`, `-s` and `-k`, but for the
+/// text of `b64 dec`.
 pub(crate) fn inputs<'a, R: Files>(
     files: &'a R,
     standard: Stdin,
     invocation: &'a Invocation,
 ) -> Inputs<ReaderInput<Source<'a, R>>> {
     let text = invocation.value('i').or(invocation.value('s'));
+    let may_be_json = invocation.command != Command::B64Dec;
     Inputs {
-        text: ReaderInput::new(source_of(files, standard, text, true)),
+        text: ReaderInput::new(source_of(files, standard, text, may_be_json)),
         content: ReaderInput::new(source_of(files, standard, invocation.value('I'), false)),
         keys: ReaderInput::new(source_of(files, standard, invocation.value('k'), true)),
         random: ReaderInput::new(source_of(files, standard, invocation.value('R'), false)),

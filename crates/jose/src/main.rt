@@ -1,14 +1,17 @@
-//! The command `jose` for octet keys: signs and verifies small documents (RFC 7515).
+//! The command `jose` for octet keys: signs and verifies small documents (RFC 7515), and writes and reads
+//! base64url (RFC 4648 section 5).
 //!
 //! The words become an invocation (`words`, by the table in `command`), the invocation names devices
 //! (`files`), and `run` does what is asked from devices to devices. `report` tells a refusal.
 #![tactic(auto)]
 
+mod b64;
 mod command;
 mod files;
 mod invocation;
 mod jws;
 mod keys;
+mod line_ends;
 mod objects;
 mod ports;
 mod reading;

@@ -7,8 +7,8 @@ ghost use Rattle.jose.specs.Answer.{Answers, AreFinished, AreUntouched, HoldsBac
 
 use crate::command::Command;
 use crate::invocation::Invocation;
-use crate::jws;
 use crate::ports::{Inputs, Outputs};
+use crate::{b64, jws};
 use octets::{Input, Output, Refusal};
 use std::alloc::Global;
 
@@ -38,6 +38,8 @@ pub fn run<I: Input, O: Output>(
     ensures write { IsErrOf result Refusal.Write → AnOutputFailed O.failures outputs.old outputs.new }
 {
     match invocation.command {
+        Command::B64Enc => b64::encode(alloc, &mut inputs.content, &mut outputs.text),
+        Command::B64Dec => b64::decode(alloc, &mut inputs.text, &mut outputs.content),
         Command::JwsSig => jws::sign(
             alloc,
             &mut inputs.text,

@@ -1,7 +1,9 @@
 //! The commands over memory: worked examples of the standards, and what is refused with which cause.
 use crate::{Inputs, Outputs, parse, report, run};
-use octets::{MemoryInput, MemoryOutput, Refusal};
+use octets::{MemoryInput, MemoryOutput, ReaderInput, Refusal};
 use std::alloc::{AllocError, Global};
+use std::io;
+use std::io::Read;
 use std::process::Abort;
 use std::test::Fail;
 
@@ -362,6 +364,183 @@ fn a_payload_is_signed_by_its_template(rt: HostRuntime) -> Result<(), Fail> {
         signs(&rt, &given, answer)?;
     }
     Ok(())
+}
+
+/// The octets become this text, with many octets at a read and with one.
+fn encodes<R: Abort + AllocGlobal>(
+    rt: &R,
+    octets: &'static str,
+    encoded: &str,
+) -> Result<(), Fail> {
+    let given = Given {
+        text: "",
+        content: octets,
+        keys: "",
+    };
+    for step in [4096, 1] {
+        let Done {
+            result,
+            text: out,
+            content,
+        } = outcome(rt.alloc(), &["b64", "enc"], &given, step)?;
+        assert_eq!(rt; result, Ok(()), "at {encoded}");
+        assert_eq!(rt; out.octets(), encoded.as_bytes(), "at {encoded}");
+        assert!(rt; out.is_finished(), "at {encoded}");
+        assert_eq!(rt; content.octets(), b"".as_slice(), "at {encoded}");
+    }
+    Ok(())
+}
+
+/// The text becomes these octets, or is refused and nothing is written; also with one octet a read.
+fn decodes<R: Abort + AllocGlobal>(
+    rt: &R,
+    text: &'static str,
+    answer: Result<&[u8], Refusal>,
+) -> Result<(), Fail> {
+    let given = Given {
+        text: "",
+        content: text,
+        keys: "",
+    };
+    for step in [4096, 1] {
+        let Done {
+            result,
+            text: out,
+            content,
+        } = outcome(rt.alloc(), &["b64", "dec"], &given, step)?;
+        assert_eq!(rt; result, answer.map(|_| ()), "at {text}");
+        assert_eq!(rt;
+            content.octets(),
+            answer.unwrap_or(b"".as_slice()),
+            "at {text}"
+        );
+        assert_eq!(rt; content.is_finished(), answer.is_ok(), "at {text}");
+        assert_eq!(rt; out.octets(), b"".as_slice(), "at {text}");
+    }
+    Ok(())
+}
+
+#[test]
+fn octets_become_base64url(rt: HostRuntime) -> Result<(), Fail> {
+    for (octets, text) in [
+        ("", ""),
+        ("\0", "AA"),
+        ("\0\0", "AAA"),
+        ("\0\0\0", "AAAA"),
+        ("\u{7f}\u{ff}", "f8O_"),
+        ("foobar\n", "Zm9vYmFyCg"),
+    ] {
+        encodes(&rt, octets, text)?;
+    }
+    Ok(())
+}
+
+#[test]
+fn base64url_becomes_octets(rt: HostRuntime) -> Result<(), Fail> {
+    decodes(&rt, "-_8", Ok(b"\xfb\xff".as_slice()))?;
+    for text in ["AA", "AA\n", "AA\r\n"] {
+        decodes(&rt, text, Ok(b"\0".as_slice()))?;
+    }
+    for text in ["", "\n", "\r\n"] {
+        decodes(&rt, text, Ok(b"".as_slice()))?;
+    }
+    for text in [
+        "AB",
+        "A",
+        "AA==",
+        "-_9",
+        "+/8",
+        "AA\n\n",
+        "AA\r",
+        "\nAA",
+        "AA \n",
+        "AAAA!",
+        "AAAA\nAAAA",
+        "AA=",
+    ] {
+        decodes(&rt, text, Err(Refusal::Base64))?;
+    }
+    Ok(())
+}
+
+#[test]
+fn an_output_without_room_holds_a_beginning(rt: HostRuntime) -> Result<(), Fail> {
+    let words = owned(rt.alloc(), &["b64", "enc"])?;
+    if let Ok(invocation) = parse(rt.alloc(), &words) {
+        let mut inputs = Inputs {
+            text: MemoryInput::new(b"", 1),
+            content: MemoryInput::new(b"abc", 2),
+            keys: MemoryInput::new(b"", 1),
+            random: MemoryInput::new(b"", 1),
+        };
+        let mut outputs = Outputs {
+            text: MemoryOutput::new(rt.alloc(), 3)?,
+            content: MemoryOutput::new(rt.alloc(), 0)?,
+        };
+        let result = run(rt.alloc(), &invocation, &mut inputs, &mut outputs);
+        assert_eq!(rt; result, Err(Refusal::Write));
+        assert_eq!(rt; outputs.text.octets(), b"YWJ".as_slice());
+    }
+    Ok(())
+}
+
+/// A reader that gives three octets and then fails.
+#[derive(Drop)]
+struct Breaking {
+    gave: bool,
+}
+
+impl Read for Breaking {
+    fn read(&mut self, buf: &mut [u8]) -> io::Result<usize> {
+        if self.gave || buf.len() < 3 {
+            return Err(io::Error::from(io::ErrorKind::Other));
+        }
+        self.gave = true;
+        buf[..3].copy_from_slice(b"abc");
+        Ok(3)
+    }
+}
+
+#[test]
+fn an_input_that_fails_leaves_a_beginning(rt: HostRuntime) -> Result<(), Fail> {
+    let words = owned(rt.alloc(), &["b64", "enc"])?;
+    if let Ok(invocation) = parse(rt.alloc(), &words) {
+        let mut inputs = Inputs {
+            text: ReaderInput::new(Breaking { gave: true }),
+            content: ReaderInput::new(Breaking { gave: false }),
+            keys: ReaderInput::new(Breaking { gave: true }),
+            random: ReaderInput::new(Breaking { gave: true }),
+        };
+        let mut outputs = Outputs {
+            text: MemoryOutput::new(rt.alloc(), 100)?,
+            content: MemoryOutput::new(rt.alloc(), 0)?,
+        };
+        let result = run(rt.alloc(), &invocation, &mut inputs, &mut outputs);
+        assert_eq!(rt; result, Err(Refusal::Read));
+        assert!(rt; b"YWJj".starts_with(outputs.text.octets()));
+        assert!(rt; !outputs.text.is_finished());
+    }
+    Ok(())
+}
+
+/// What the program shows first: a document, its token, the token changed, and another key.
+#[test]
+fn a_document_is_signed_and_verified(rt: HostRuntime) -> Result<(), Fail> {
+    let document = "service: web\nreplicas: 3\nimage: registry.example/web:17\n";
+    let token =
+        "eyJhbGciOiJIUzI1NiJ9.c2VydmljZTogd2ViCnJlcGxpY2FzOiAzCmltYWdlOiByZWdpc3RyeS5leGFtcGxlL3dlYjoxNwo.YAvS56FysWyMBCUnPYbT6wRgsVScp2OWvKB2q-f8yiQ";
+    let changed =
+        "eyJhbGciOiJIUzI1NiJ9.d2VydmljZTogd2ViCnJlcGxpY2FzOiAzCmltYWdlOiByZWdpc3RyeS5leGFtcGxlL3dlYjoxNwo.YAvS56FysWyMBCUnPYbT6wRgsVScp2OWvKB2q-f8yiQ";
+    let given = Given {
+        text: TEMPLATE,
+        content: document,
+        keys: KEY,
+    };
+    signs(&rt, &given, Ok(token))?;
+    verifies(&rt, token, KEY, Ok(document))?;
+    verifies(&rt, changed, KEY, Err(Refusal::NotOpened))?;
+    let other = "{\"kty\":\"oct\",\"k\":\"AAECAwQFBgcICQoLDA0ODxAREhMUFRYXGBkaGxwdHh8\"}";
+    verifies(&rt, token, other, Err(Refusal::NotOpened))
 }
 
 #[test]

@@ -1,5 +1,5 @@
 -- Known octets of a reader or a writer that were kept, and then taken from or added to.
-use Rattle.std.proofs.Common.{◌≡◌, ℕ, List, ◌++◌, Option, Some, None, ap, ◌∙◌, sym}
+use Rattle.std.proofs.Common.{ℕ, List, ◌++◌, Option, Some, None, ap, ◌∙◌, sym}
 use Rattle.std.specs.Io.KnownBytes.{Keeps, Consumes, Appends}
 
 pub Keeps-Consumes : (a b c : Option (List ℕ)) (bs : List ℕ) → Keeps a b → Consumes b c bs → Consumes a c bs

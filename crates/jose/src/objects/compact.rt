@@ -1,8 +1,10 @@
 //! The parts of a compact text (RFC 7515 section 7.1). It sees base64url texts and octets, and no JSON.
 ghost use Rattle.std.specs.Prelude.{◌≡◌, IfOk, IfErr, position};
 ghost use Rattle.octets.specs.Outcomes.{AgreesUnlessMemory};
-ghost use Rattle.jose.specs.Jws.{compact_view, compact_parts, three_parts, split_at_dot as parts_at_dot, is_dot, without_line_end as text_without_line_end, CompactParts, AreOctets, SpellsCompact};
+ghost use Rattle.jose.specs.LineEnds.{without_line_end};
+ghost use Rattle.jose.specs.Jws.{compact_view, compact_parts, three_parts, split_at_dot as parts_at_dot, is_dot, CompactParts, AreOctets, SpellsCompact};
 
+use crate::line_ends::without_line_end;
 use octets::{Refusal, b64_decode, laws, needs};
 use std::alloc::Global;
 
@@ -25,13 +27,13 @@ pub(crate) struct Compact<'t> {
 /// where they are not three, and then with `Base64` where one is no base64url text.
 pub(crate) fn read_compact(alloc: Global, text: &[u8]) -> Result<Compact<'_>, Refusal>
     ensures exact { AgreesUnlessMemory compact_view result
-        (compact_parts (text_without_line_end text.now)) }
+        (compact_parts (without_line_end text.now)) }
     ensures spells { IfOk result (λ compact. AreOctets (compact_view compact)
-        × SpellsCompact (text_without_line_end text.now) (compact_view compact)) }
+        × SpellsCompact (without_line_end text.now) (compact_view compact)) }
 
     // A text that spells some object is read.
     ensures complete { IfErr result (λ e. (parts : CompactParts) → AreOctets parts
-        → SpellsCompact (text_without_line_end text.now) parts → e ≡ Refusal.Memory) }
+        → SpellsCompact (without_line_end text.now) parts → e ≡ Refusal.Memory) }
 {
     laws::base64url_decodes_exactly();
     laws::base64url_has_url_characters();
@@ -87,20 +89,4 @@ fn first_dot(text: &[u8]) -> Option<usize>
     ensures { result ≡ position is_dot text.now }
 {
     text.iter().position(|c| *c == b'.')
-}
-
-/// The text without the LF or the CR LF that may end it.
-#[tactic(auto, unfolding(crate::specs::Jws::without_line_end))]
-fn without_line_end(text: &[u8]) -> &[u8]
-    ensures { result.now ≡ text_without_line_end text.now }
-{
-    let n = text.len();
-    if n == 0 || text[n - 1] != b'\n' {
-        return text;
-    }
-    if n > 1 && text[n - 2] == b'\r' {
-        &text[..n - 2]
-    } else {
-        &text[..n - 1]
-    }
 }

@@ -2,7 +2,8 @@
 ghost use Rattle.std.specs.Prelude.{◌≡◌, ℕ, List, IfOk, not};
 ghost use Rattle.std.specs.List.{find};
 ghost use Rattle.octets.specs.Outcomes.{AgreesUnlessMemory};
-ghost use Rattle.jose.specs.Jws.{jws_view, signed_object, is_json_form as is_json_form_text, is_json_space as is_json_space_octet, parts_of, without_line_end, SpellsCompact};
+ghost use Rattle.jose.specs.Jws.{jws_view, signed_object, is_json_form as is_json_form_text, is_json_space as is_json_space_octet, parts_of, SpellsCompact};
+ghost use Rattle.jose.specs.LineEnds.{without_line_end};
 
 use crate::objects::compact::{Compact, read_compact};
 use crate::objects::header::{read_alg, read_header};

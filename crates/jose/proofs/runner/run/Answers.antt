@@ -1,16 +1,36 @@
-use Rattle.std.proofs.Common.{◌&&◌, [], sym, append-nil}
+use Rattle.std.proofs.Common.{◌&&◌, [], Ok, true, refl}
 use Rattle.std.proofs.Math.Seq.{drop-length}
 use Rattle.octets.specs.Devices.{appended, observed}
 use Rattle.jose.specs.Invocations.{seen}
 use Rattle.jose.specs.Ports.{as_text, as_content}
-use Rattle.jose.specs.Plan.{accepted, planned, planned_beginning}
+use Rattle.jose.specs.Plan.{planned}
+use Rattle.jose.specs.Encoding.{encoding, decoding}
 use Rattle.jose.specs.Signing.{signing}
 use Rattle.jose.specs.Verifying.{verifying}
 use Rattle.jose.specs.Answer.{is_content_wanted}
 use Rattle.jose.proofs.Prefixes.{AppendsPrefixOf-none}
-use Rattle.jose.proofs.Agreement.{agrees_as_text, agrees_as_content, planned_map, planned_without_content, begun_as_text, begun_without_content, on_refusal}
-use Rattle.std.proofs.Common.{refl}
+use Rattle.jose.proofs.Agreement.{agrees_as_text, agrees_as_content, planned_map, planned_without_content, begun_as_text, begun_as_content, begun_without_content, on_refusal}
 use Rattle.jose.proofs.runner.run.Goals as goal
+
+pub returns-in-B64Enc-clause-answer : goal.returns-in-B64Enc-clause-answer
+returns-in-B64Enc-clause-answer g c inputs may =
+    rw c.in-B64Enc.is (agrees_as_text _ _ _ _ (drop-length (g.O.Output.written c.args.outputs.now.content)) (c.encode.ensures.answer inputs.content may.content))
+
+pub returns-in-B64Enc-clause-beginning : goal.returns-in-B64Enc-clause-beginning
+returns-in-B64Enc-clause-beginning g c =
+    let content = observed g.I.Input.consumed g.I.Input.is_at_end c.args.inputs.now.content c.encode.new.content in
+    on_refusal c.encode.result c.encode.ensures.beginning
+    (λ h. rw (c.in-B64Enc.is, begun_as_text true (Ok encoding) content) (record { text = h; content = AppendsPrefixOf-none _ _ refl }))
+
+pub returns-in-B64Dec-clause-answer : goal.returns-in-B64Dec-clause-answer
+returns-in-B64Dec-clause-answer g c inputs may =
+    rw c.in-B64Dec.is (agrees_as_content _ _ _ _ (drop-length (g.O.Output.written c.args.outputs.now.text)) (c.decode.ensures.answer inputs.text may.text))
+
+pub returns-in-B64Dec-clause-beginning : goal.returns-in-B64Dec-clause-beginning
+returns-in-B64Dec-clause-beginning g c =
+    let text = observed g.I.Input.consumed g.I.Input.is_at_end c.args.inputs.now.text c.decode.new.text in
+    on_refusal c.decode.result c.decode.ensures.beginning
+    (λ h. rw (c.in-B64Dec.is, begun_as_content decoding text) (record { text = AppendsPrefixOf-none _ _ refl; content = h }))
 
 pub returns-in-JwsSig-clause-answer : goal.returns-in-JwsSig-clause-answer
 returns-in-JwsSig-clause-answer g c inputs may =

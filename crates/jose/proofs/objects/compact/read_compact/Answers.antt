@@ -1,4 +1,3 @@
-use Rattle.std.proofs.Common.{ap}
 use Rattle.jose.proofs.CompactTexts.{complete}
 use Rattle.jose.proofs.objects.compact.read_compact.Goals as goal
 

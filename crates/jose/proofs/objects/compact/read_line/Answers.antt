@@ -1,4 +1,3 @@
-use Rattle.jose.specs.Jws.{compact_view}
 use Rattle.jose.proofs.CompactTexts.{spelled_by}
 use Rattle.jose.proofs.objects.compact.read_line.Goals as goal
 
