@@ -398,8 +398,8 @@ fn decodes<R: Abort + AllocGlobal>(
     answer: Result<&[u8], Refusal>,
 ) -> Result<(), Fail> {
     let given = Given {
-        text: "",
-        content: text,
+        text,
+        content: "",
         keys: "",
     };
     for step in [4096, 1] {
