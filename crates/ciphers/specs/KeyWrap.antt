@@ -1,0 +1,47 @@
+-- AES key wrap (RFC 3394, section 2.2), over any function e of blocks.
+use Rattle.std.specs.Prelude.{◌≡◌, ℕ, zero, suc, ◌*◌, ◌/◌, ◌%◌, ◌<◌, ◌≤◌, ◌==◌, if◌then◌else◌, bit_xor, List, ◌++◌, length, take, drop, map, replicate}
+use Rattle.std.specs.Int.{w64, from_be_bytes, to_be_bytes}
+use Rattle.std.specs.List.{range_with_len, concat}
+use Rattle.octets.specs.Octets.{IsOctets}
+
+-- the initial value (section 2.2.3.1)
+abbrev pub initial_value : List ℕ
+initial_value = replicate 8 0xa6
+
+-- the number t added to eight octets: the sum of the bits of both
+unfoldable pub add_count : ℕ → List ℕ → List ℕ
+add_count t a = to_be_bytes w64 (bit_xor (from_be_bytes w64 a) t)
+
+-- part i of eight octets, from 0
+abbrev pub part : List ℕ → ℕ → List ℕ
+part p i = take 8 (drop (8 * i) p)
+
+-- The table (section 2.2.1): A(t) in column 0, and R(t, i) in column i, from 1 to the number n of parts. Step t + 1 is
+-- that of A and of the register after t modulo n.
+unfoldable pub table : (List ℕ → List ℕ) → List ℕ → ℕ → ℕ → List ℕ
+table e p zero zero = initial_value
+table e p zero (suc i) = part p i
+table e p (suc t) zero = add_count (suc t) (take 8 (e (table e p t 0 ++ table e p t (suc (t % (length p / 8))))))
+table e p (suc t) (suc i) =
+    if i == t % (length p / 8) then drop 8 (e (table e p t 0 ++ table e p t (suc i))) else table e p t (suc i)
+
+-- Wrap(K, P) for P of n parts: A(6 n), R(6 n, 1) .. R(6 n, n)
+unfoldable pub wrapped : (List ℕ → List ℕ) → List ℕ → List ℕ
+wrapped e p = concat (map (table e p (6 * (length p / 8))) (range_with_len 0 (suc (length p / 8))))
+
+-- what can be wrapped (section 2): octets, in two parts or more
+pub record IsKeyData (p : List ℕ) : Type 0 where
+  pub octets : IsOctets p
+  pub parts : length p % 8 ≡ 0
+  pub two : 16 ≤ length p
+
+-- p is the unwrapping of c
+pub record IsUnwrapping (e : List ℕ → List ℕ) (c p : List ℕ) : Type 0 where
+  pub key_data : IsKeyData p
+  pub wraps : wrapped e p ≡ c
+
+-- a and r are row t of the table
+pub record IsRow (e : List ℕ → List ℕ) (p : List ℕ) (t : ℕ) (a r : List ℕ) : Type 0 where
+  pub long : length r ≡ length p
+  pub check : a ≡ table e p t 0
+  pub registers : (i : ℕ) → i < length p / 8 → part r i ≡ table e p t (suc i)

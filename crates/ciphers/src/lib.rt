@@ -1,0 +1,20 @@
+//! The algorithms that a token names (RFC 7518), over the ciphers of `aes`.
+//!
+//! `wrap` and `unwrap` carry a content encryption key under a key encryption key (RFC 3394).
+//!
+//! ```rust
+//! let kek = Aes128::new(&key);
+//! let mut wrapped = [0; 40];
+//! wrap(&kek, &cek, &mut wrapped);
+//! let mut unwrapped = [0; 32];
+//! assert_eq!(rt; unwrap(&kek, &wrapped, &mut unwrapped), Some(()));
+//! ```
+#![tactic(auto)]
+
+mod key_wrap;
+pub mod laws;
+
+pub use key_wrap::{unwrap, wrap};
+
+#[cfg(test)]
+mod tests;
