@@ -1,5 +1,6 @@
 -- The cipher of a key's words.
-use Rattle.std.proofs.Common.{◌≡◌, ℕ, ◌+◌, ◌<◌, List, slice_index, refl, sym, ap, ◌∙◌}
+use Rattle.std.proofs.Common.{◌≡◌, ℕ, ◌+◌, ◌<◌, List, slice_index, refl, sym, ap, subst, ◌∙◌}
+use Rattle.std.proofs.Math.Path.{fun_ext}
 use Rattle.aes.specs.KeyExpansion.{key_expansion}
 use Rattle.aes.specs.Block.{IsBlock, IsCipher}
 use Rattle.aes.specs.Cipher.{IsDecryptedBlock, cipher, encrypted_block}
@@ -19,6 +20,11 @@ module _ (nk : ℕ) (k w : List ℕ) (words : w ≡ key_expansion nk k) where
   decrypts small c h =
       let law = makes_cipher small in
       record { is_block = law.gives_block_back c h; is_sent_to = sym (encrypts (inverse_cipher (nk + 6) w c)) ∙ law.mirror c h }
+
+pub encrypted_block_is_cipher : (nk : ℕ) (k : List ℕ) → ((i : ℕ) → slice_index k i < 256) → IsCipher (encrypted_block nk k) (inverse_cipher (nk + 6) (key_expansion nk k))
+encrypted_block_is_cipher nk k small =
+    subst (λ e. IsCipher e (inverse_cipher (nk + 6) (key_expansion nk k))) (fun_ext (encrypts nk k (key_expansion nk k) refl))
+    (makes_cipher nk k (key_expansion nk k) refl small)
 
 -- two blocks that the key sends to one
 pub one_block : (nk : ℕ) (k c b d : List ℕ) → ((i : ℕ) → slice_index k i < 256) → IsDecryptedBlock nk k c b → IsDecryptedBlock nk k c d → b ≡ d

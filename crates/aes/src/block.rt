@@ -3,7 +3,7 @@ ghost use Rattle.std.specs.Prelude.{◌≡◌, ℕ, List};
 ghost use Rattle.aes.specs.Block.{IsCipher};
 
 /// A cipher of blocks of sixteen octets, under a key of its own (FIPS 197, sections 5.1 and 5.3).
-pub trait Block {
+pub trait Block: Drop {
     /// What the key sends a block to.
     ghost encrypted: { Self → List ℕ → List ℕ };
 

@@ -1,6 +1,9 @@
 //! Laws of the definitions in `specs/`: functions that do nothing, whose contracts are the laws.
-ghost use Rattle.std.specs.Prelude.{◌≡◌, ◌≢◌, ◌↔◌, ℕ, ◌<◌, List, slice_index};
-ghost use Rattle.aes.specs.Cipher.{IsDecryptedBlock};
+ghost use Rattle.std.specs.Prelude.{◌≡◌, ◌≢◌, ◌↔◌, ℕ, ◌+◌, ◌<◌, List, slice_index};
+ghost use Rattle.aes.specs.Block.{IsCipher};
+ghost use Rattle.aes.specs.Cipher.{IsDecryptedBlock, encrypted_block};
+ghost use Rattle.aes.specs.InverseCipher.{inverse_cipher};
+ghost use Rattle.aes.specs.KeyExpansion.{key_expansion};
 ghost use Rattle.aes.specs.Octet.{octet_product, octet_inverse};
 
 /// The inverse of an octet other than 0 is the one octet whose product with it is 1, and that of 0 is 0
@@ -16,4 +19,11 @@ pub fn inverse_is_unique()
 pub fn decrypted_block_is_unique()
     ensures { (nk : ℕ) (k c b d : List ℕ) → ((i : ℕ) → slice_index k i < 256)
         → IsDecryptedBlock nk k c b → IsDecryptedBlock nk k c d → b ≡ d }
+{}
+
+/// Under a key of octets the cipher sends blocks to blocks, and its inverse undoes it (FIPS 197, section 5.3): what
+/// holds for any cipher holds for AES.
+pub fn encrypted_block_is_cipher()
+    ensures { (nk : ℕ) (k : List ℕ) → ((i : ℕ) → slice_index k i < 256)
+        → IsCipher (encrypted_block nk k) (inverse_cipher (nk + 6) (key_expansion nk k)) }
 {}

@@ -2,3 +2,6 @@ pub mod Halves
 pub mod Parts
 pub mod Table
 pub mod Unwrapping
+pub mod Openings
+pub mod Sealers
+pub mod Unique

@@ -1,1 +1,3 @@
 pub mod KeyWrap
+pub mod Sealing
+pub mod Running

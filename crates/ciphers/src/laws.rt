@@ -2,6 +2,12 @@
 ghost use Rattle.std.specs.Prelude.{◌≡◌, ℕ, ◌≤◌, List, length};
 ghost use Rattle.aes.specs.Block.{IsCipher};
 ghost use Rattle.ciphers.specs.KeyWrap.{IsUnwrapping};
+ghost use Rattle.ciphers.specs.Sealing.{IsOpening};
+ghost use Rattle.ciphers.specs.declared.content_alg.ContentAlg.{ContentAlg};
+ghost use Rattle.octets.specs.Octets.{IsOctets};
+
+use aes::laws::encrypted_block_is_cipher;
+use modes::laws::cbc_plaintext_is_unique;
 
 /// No two texts are wrapped to one of at most 72 octets, so what `unwrap` gives is what was wrapped (RFC 3394,
 /// section 2.2).
@@ -9,3 +15,12 @@ pub fn unwrapping_is_unique()
     ensures { (e d : List ℕ → List ℕ) (c p q : List ℕ) → IsCipher e d → length c ≤ 72
         → IsUnwrapping e c p → IsUnwrapping e c q → p ≡ q }
 {}
+
+/// At most one plaintext opens a ciphertext and its tag, so what `ContentAlg::open` gives is what was sealed.
+pub fn opening_is_unique()
+    ensures { (alg : ContentAlg) (cek iv aad c tag p q : List ℕ) → IsOctets cek → IsOctets iv
+        → IsOpening alg cek iv aad c tag p → IsOpening alg cek iv aad c tag q → p ≡ q }
+{
+    encrypted_block_is_cipher();
+    cbc_plaintext_is_unique();
+}

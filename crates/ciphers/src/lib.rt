@@ -11,10 +11,18 @@
 //! ```
 #![tactic(auto)]
 
+mod authentication;
+mod cbc_hmac;
+mod content_alg;
 mod key_wrap;
 pub mod laws;
+mod sealer;
 
+pub use content_alg::ContentAlg;
 pub use key_wrap::{unwrap, wrap};
+pub use sealer::{ContentSealer, Sealer};
 
 #[cfg(test)]
-mod tests;
+mod content_alg_tests;
+#[cfg(test)]
+mod key_wrap_tests;

@@ -19,3 +19,4 @@ pub mod Plan
 pub mod Ports
 pub mod Encoding
 pub mod Answer
+pub mod Files

@@ -1,6 +1,14 @@
 //! Files, the standard streams and the words themselves, as readers and writers. A file is opened at
 //! its first read; an output file is opened, and cut to nothing, just before its first octet is
 //! written, or when it is finished with none.
+ghost use Rattle.std.specs.Prelude.{◌≡◌, ℕ, ◌++◌, List, length, take, drop, min, option_map, OnOk};
+ghost use Rattle.std.specs.Result.{result_unwrap_or};
+ghost use Rattle.std.specs.Io.{ReadsAtMost, WritesAtMost};
+ghost use Rattle.std.specs.Io.KnownBytes.{Keeps, ReadConsumes, WriteAppends};
+ghost use Rattle.jose.specs.Invocations.{seen};
+ghost use Rattle.jose.specs.Files.{words, origin_of, origin_named, after_read, source_remaining, IsOpenSource, IsUnopenedSource, AreNewInputs};
+ghost use Rattle.jose.specs.Files.{nowhere, destination_of, destination_named, sink_contents, IsOpenSink, IsUnopenedSink, AreNewOutputs};
+
 use crate::command::Command;
 use crate::invocation::Invocation;
 use crate::ports::{Inputs, Outputs};
@@ -24,7 +32,22 @@ pub(crate) enum Source<'a, R: Files> {
 }
 
 impl<'a, R: Files> Read for Source<'a, R> {
-    fn read(&mut self, buf: &mut [u8]) -> io::Result<usize> {
+    ghost remaining = { source_remaining R.File.remaining };
+
+    fn read(&mut self, buf: &mut [u8]) -> io::Result<usize>
+        // Words are given from their front, as many as the buffer takes.
+        ensures words { (octets : List ℕ) → origin_of self.old ≡ words octets
+            → (result ≡ Ok (min (length octets) (length buf.old)))
+            × (buf.new ≡ take (length buf.old) octets ++ drop (length octets) buf.old) }
+        ensures source { origin_of self.new
+            ≡ after_read (result_unwrap_or result 0) (origin_of self.old) }
+        ensures opened { OnOk result (IsOpenSource self.new) }
+
+        // What the trait says.
+        ensures bound { ReadsAtMost result buf.new }
+        ensures bytes { ReadConsumes (source_remaining R.File.remaining self.old)
+            (source_remaining R.File.remaining self.new) result buf.new }
+    {
         match self {
             Source::Words(octets) => octets.read(buf),
             Source::Standard(stdin) => stdin.read(buf),
@@ -48,7 +71,7 @@ impl<'a, R: Files> Read for Source<'a, R> {
 /// Where the octets of an output go.
 #[derive(Drop)]
 pub(crate) enum Sink<'a, R: Files> {
-    /// There is no such option, and nothing is written.
+    /// There is no such option. All that is written is taken, and nothing is kept.
     Nowhere,
     Standard(Stdout),
     File {
@@ -58,47 +81,63 @@ pub(crate) enum Sink<'a, R: Files> {
     },
 }
 
-impl<'a, R: Files> Sink<'a, R> {
-    /// Opens the file where it is not open yet.
-    fn open(&mut self) -> io::Result<()> {
-        if let Sink::File {
-            files,
-            path,
-            opened,
-        } = self
-        {
-            if opened.is_none() {
-                *opened = Some(File::create(*files, *path)?);
-            }
-        }
-        Ok(())
-    }
-}
-
 impl<'a, R: Files> Write for Sink<'a, R> {
-    fn write(&mut self, octets: &[u8]) -> io::Result<usize> {
-        self.open()?;
+    ghost contents = { sink_contents R.File.contents };
+
+    fn write(&mut self, octets: &[u8]) -> io::Result<usize>
+        ensures nowhere { destination_of self.old ≡ nowhere → result ≡ Ok (length octets.now) }
+        ensures sink { destination_of self.new ≡ destination_of self.old }
+        ensures opened { OnOk result (IsOpenSink self.new) }
+
+        // What the trait says.
+        ensures bound { WritesAtMost result octets.now }
+        ensures bytes { WriteAppends (sink_contents R.File.contents self.old)
+            (sink_contents R.File.contents self.new) result octets.now }
+    {
         match self {
+            Sink::Nowhere => Ok(octets.len()),
             Sink::Standard(stdout) => stdout.write(octets),
             Sink::File {
-                files: _,
-                path: _,
-                opened: Some(file),
-            } => file.write(octets),
-            _ => Ok(0),
+                files,
+                path,
+                opened,
+            } => {
+                if opened.is_none() {
+                    *opened = Some(File::create(*files, *path)?);
+                }
+                match opened {
+                    Some(file) => file.write(octets),
+                    None => unreachable!(),
+                }
+            }
         }
     }
 
-    fn flush(&mut self) -> io::Result<()> {
-        self.open()?;
+    fn flush(&mut self) -> io::Result<()>
+        ensures nowhere { destination_of self.old ≡ nowhere → result ≡ Ok tt }
+        ensures sink { destination_of self.new ≡ destination_of self.old }
+        ensures opened { OnOk result (IsOpenSink self.new) }
+
+        // What the trait says.
+        ensures bytes { Keeps (sink_contents R.File.contents self.old)
+            (sink_contents R.File.contents self.new) }
+    {
         match self {
+            Sink::Nowhere => Ok(()),
             Sink::Standard(stdout) => stdout.flush(),
             Sink::File {
-                files: _,
-                path: _,
-                opened: Some(file),
-            } => file.flush(),
-            _ => Ok(()),
+                files,
+                path,
+                opened,
+            } => {
+                if opened.is_none() {
+                    *opened = Some(File::create(*files, *path)?);
+                }
+                match opened {
+                    Some(file) => file.flush(),
+                    None => unreachable!(),
+                }
+            }
         }
     }
 }
@@ -109,7 +148,9 @@ pub(crate) fn inputs<'a, R: Files>(
     files: &'a R,
     standard: Stdin,
     invocation: &'a Invocation,
-) -> Inputs<ReaderInput<Source<'a, R>>> {
+) -> Inputs<ReaderInput<Source<'a, R>>>
+    ensures { AreNewInputs (seen invocation.now) result }
+{
     let text = invocation.value('i').or(invocation.value('s'));
     let may_be_json = invocation.command != Command::B64Dec;
     Inputs {
@@ -125,7 +166,11 @@ fn source_of<'a, R: Files>(
     standard: Stdin,
     value: Option<&'a str>,
     may_be_json: bool,
-) -> Source<'a, R> {
+) -> Source<'a, R>
+    ensures named { origin_of result
+        ≡ origin_named may_be_json (option_map (λ text. text.now) value.entry) }
+    ensures unopened { IsUnopenedSource result }
+{
     match value {
         None => Source::Words(&[]),
         Some("-") => Source::Standard(standard),
@@ -143,14 +188,20 @@ pub(crate) fn outputs<'a, R: Files>(
     files: &'a R,
     standard: Stdout,
     invocation: &'a Invocation,
-) -> Outputs<WriterOutput<Sink<'a, R>>> {
+) -> Outputs<WriterOutput<Sink<'a, R>>>
+    ensures { AreNewOutputs (seen invocation.now) result }
+{
     Outputs {
         text: WriterOutput::new(sink_of(files, standard, invocation.value('o'))),
         content: WriterOutput::new(sink_of(files, standard, invocation.value('O'))),
     }
 }
 
-fn sink_of<'a, R: Files>(files: &'a R, standard: Stdout, value: Option<&'a str>) -> Sink<'a, R> {
+fn sink_of<'a, R: Files>(files: &'a R, standard: Stdout, value: Option<&'a str>) -> Sink<'a, R>
+    ensures named { destination_of result
+        ≡ destination_named (option_map (λ text. text.now) value.entry) }
+    ensures unopened { IsUnopenedSink result }
+{
     match value {
         None => Sink::Nowhere,
         Some("-") => Sink::Standard(standard),

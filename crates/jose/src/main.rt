@@ -5,6 +5,8 @@
 //! (`files`), and `run` does what is asked from devices to devices. `report` tells a refusal.
 #![tactic(auto)]
 
+ghost use Rattle.std.specs.Prelude.{◌≡◌, ◌⊎◌, IfErr};
+
 mod b64;
 mod command;
 mod files;
@@ -42,7 +44,9 @@ fn perform(rt: &HostRuntime) -> Result<(), Refusal> {
 }
 
 /// The program's arguments. Words that are not UTF-8 are no command.
-fn words_given(rt: &HostRuntime) -> Result<Vec<String>, Refusal> {
+fn words_given(rt: &HostRuntime) -> Result<Vec<String>, Refusal>
+    ensures { IfErr result (λ e. (e ≡ Refusal.Usage) ⊎ (e ≡ Refusal.Memory)) }
+{
     let args = match std::env::args(rt) {
         Ok(args) => args,
         Err(e) if e.kind() == io::ErrorKind::OutOfMemory => return Err(Refusal::Memory),

@@ -31,6 +31,7 @@ fn write_line<O: Output>(out: &mut O, refusal: Refusal) -> Result<(), Refusal>
     ensures part { AppendsPrefixOf (report_line refusal) (O.written out.old) (O.written out.new) }
     ensures whole { OnOk result ((O.written out.new ≡ O.written out.old ++ report_line refusal)
         × IsTrue (O.is_finished out.new)) }
+    ensures refusal { IfErr result (λ e. e ≡ Refusal.Write) }
     ensures fails { OnErr result (O.failures out.new ≡ next_count (O.failures out.old)) }
 {
     write_whole(out, b"jose: ")?;

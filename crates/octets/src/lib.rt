@@ -9,6 +9,7 @@
 
 mod base64url;
 mod devices;
+mod lanes;
 pub mod laws;
 mod memory;
 mod refusal;
@@ -19,6 +20,7 @@ mod writer;
 
 pub use base64url::{b64_append, b64_decode, b64_encode};
 pub use devices::{Input, Output};
+pub use lanes::{same_octets, xor_into};
 pub use memory::{MemoryInput, MemoryOutput};
 pub use refusal::{Fault, Refusal, needs};
 pub use streams::{ReaderInput, WriterOutput};

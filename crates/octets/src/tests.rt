@@ -1,7 +1,8 @@
 //! Outside vectors, and each device at work.
 use crate::{
     B64Writer, Fault, Input, MemoryInput, MemoryOutput, Output, Partial, ReaderInput, Refusal,
-    WriterOutput, b64_append, b64_decode, b64_encode, read_whole, write_whole,
+    WriterOutput, b64_append, b64_decode, b64_encode, read_whole, same_octets, write_whole,
+    xor_into,
 };
 use std::io;
 use std::io::{Read, Write};
@@ -277,4 +278,17 @@ fn all_of_a_text_goes_out_or_partial_tells_how_much(rt: HostRuntime) -> Result<(
     assert_eq!(rt; write_whole(&mut out, b"defg"), Err(Partial { written: 2 }));
     assert_eq!(rt; out.octets(), b"abcde".as_slice());
     Ok(())
+}
+
+#[test]
+fn octet_strings_are_added_and_compared(rt: HostRuntime) {
+    let mut octets = *b"\x00\x0f\xff";
+    xor_into(&mut octets, b"\xf0\xff\xff");
+    assert_eq!(rt; octets, *b"\xf0\xf0\x00");
+    xor_into(&mut octets[..0], b"");
+    assert_eq!(rt; same_octets(&octets, b"\xf0\xf0\x00"), true);
+    assert_eq!(rt; same_octets(&octets, b"\xf1\xf0\x00"), false);
+    assert_eq!(rt; same_octets(&octets, b"\xf0\xf0\x01"), false);
+    assert_eq!(rt; same_octets(&octets, b"\xf0\xf0"), false);
+    assert_eq!(rt; same_octets(b"", b""), true);
 }

@@ -1,10 +1,6 @@
 //! Hash functions that take their message in pieces.
 ghost use Rattle.std.specs.Prelude.{◌≡◌, ◌≤◌, ℕ, List, [], ◌++◌, length, take};
 ghost use Rattle.prf.specs.HashFunction.{HashFunction, HasLengths};
-ghost use Rattle.prf.specs.Sha2.{sha256_function, sha256_has_lengths};
-ghost use Rattle.sha2.specs.Hashers.{Holds256};
-
-use sha2::{Digest, Sha256};
 
 /// A hash function, as the state that has taken a message so far.
 pub trait Hash: Drop {
@@ -41,37 +37,8 @@ pub trait Hash: Drop {
     ghost has_lengths: { HasLengths function };
 }
 
-/// SHA-256 (FIPS 180-4 section 6.2).
-impl Hash for Sha256 {
-    ghost function = { sha256_function };
-
-    ghost holds = { λ state message. Holds256 state message };
-
-    fn block_len() -> usize {
-        64
-    }
-
-    fn output_len() -> usize {
-        32
-    }
-
-    fn start() -> Sha256 {
-        Sha256::new()
-    }
-
-    fn update(&mut self, piece: &[u8]) {
-        Digest::update(self, piece);
-    }
-
-    fn finish(self, out: &mut [u8; 64]) -> usize {
-        put_front(&self.finalize(), out)
-    }
-
-    ghost has_lengths = { sha256_has_lengths };
-}
-
 /// Writes the digest to the front of `out`, and answers its length.
-fn put_front(digest: &[u8], out: &mut [u8; 64]) -> usize
+pub(crate) fn put_front(digest: &[u8], out: &mut [u8; 64]) -> usize
     requires { length digest.now ≤ 64 }
     ensures digest { take result out.new ≡ digest.now }
     ensures len { result ≡ length digest.now }

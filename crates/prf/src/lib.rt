@@ -11,10 +11,13 @@
 
 mod hash;
 mod hmac;
+mod sha256;
+mod sha384;
+mod sha512;
 
 pub use hash::Hash;
 pub use hmac::Hmac;
-pub use sha2::Sha256;
+pub use sha2::{Sha256, Sha384, Sha512};
 
 #[cfg(test)]
 mod tests;

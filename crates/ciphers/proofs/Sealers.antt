@@ -1,0 +1,46 @@
+-- A running sealing, from what it was fed to what it gives.
+use Rattle.std.proofs.Common.{◌≡◌, ℕ, ◌+◌, ◌*◌, ◌/◌, ◌≤◌, List, ◌++◌, length, take, sym, ap, subst, ◌∙◌, arith, length-append}
+use Rattle.std.proofs.lemmas.List.{take_at, take-take, length-take-le}
+use Rattle.aes.specs.declared.aes.Aes128.{Aes128}
+use Rattle.aes.specs.declared.aes.Aes192.{Aes192}
+use Rattle.aes.specs.declared.aes.Aes256.{Aes256}
+use Rattle.ciphers.specs.declared.cbc_hmac.CbcHmac.{CbcHmac}
+use Rattle.ciphers.specs.declared.sealer.ContentSealer.{ContentSealer}
+use Rattle.ciphers.specs.declared.sealer.ContentSealer.TheVariants.{A128CbcHs256, A192CbcHs384, A256CbcHs512}
+use Rattle.ciphers.specs.Running.{on_sealer}
+use Rattle.ciphers.specs.Sealing.{Sealing, KeepsPace, cbc_hmac}
+use Rattle.prf.specs.Sha2.{Sha256, Sha384, Sha512}
+use Rattle.modes.specs.Cbc.{cbc_blocks}
+use Rattle.prf.specs.HashFunction.{HashFunction}
+
+-- the blocks that are whole after a further piece
+pub whole_after : (e : List ℕ → List ℕ) (iv p piece out : List ℕ) (n : ℕ)
+    → cbc_blocks e iv (p ++ piece) ≡ cbc_blocks e iv p ++ take n out → n ≤ length out
+    → 16 * (length p / 16) + n ≡ 16 * (length (p ++ piece) / 16) → length (cbc_blocks e iv p) ≡ 16 * (length p / 16)
+    → length (cbc_blocks e iv (p ++ piece)) ≡ 16 * (length (p ++ piece) / 16)
+whole_after e iv p piece out n text l count whole =
+    ap length text ∙ length-append (cbc_blocks e iv p) (take n out) ∙ omega (arith, whole, count, length-take-le n out l)
+
+pub pace_of_whole : (f : HashFunction) (s : Sealing) (e : List ℕ → List ℕ) (mac_key iv aad p : List ℕ)
+    → s ≡ cbc_hmac e f mac_key iv aad → length (cbc_blocks e iv p) ≡ 16 * (length p / 16) → KeepsPace s p
+pace_of_whole f s e mac_key iv aad p is whole =
+    subst (λ t. KeepsPace t p) (sym is) (record { within = omega (arith, whole); nearly = omega (arith, whole) })
+
+-- the first half of what stands at the front
+pub first_half : (copy out rest code : List ℕ) (len l : ℕ) → len ≡ l → copy ≡ take (len / 2) out → take len out ≡ code → len ≤ length out
+    → take (len / 2) (copy ++ rest) ≡ take (l / 2) code
+first_half copy out rest code len l same is_copy is_code h =
+    take_at copy rest (len / 2) (ap length is_copy ∙ length-take-le (len / 2) out (omega (arith, h)))
+    ∙ is_copy ∙ sym (take-take (len / 2) len out (omega arith)) ∙ ap (take (len / 2)) is_code ∙ ap (λ m. take (m / 2) code) same
+
+-- ---- the sealing of an algorithm
+
+module _ (x : ContentSealer) (f : CbcHmac Aes128 Sha256 → Type 0) (g : CbcHmac Aes192 Sha384 → Type 0) (h : CbcHmac Aes256 Sha512 → Type 0) (k : on_sealer x f g h) where
+  pub at_a128 : (y : CbcHmac Aes128 Sha256) → x ≡ A128CbcHs256 y → f y
+  at_a128 y is = subst (λ z. on_sealer z f g h) is k
+
+  pub at_a192 : (y : CbcHmac Aes192 Sha384) → x ≡ A192CbcHs384 y → g y
+  at_a192 y is = subst (λ z. on_sealer z f g h) is k
+
+  pub at_a256 : (y : CbcHmac Aes256 Sha512) → x ≡ A256CbcHs512 y → h y
+  at_a256 y is = subst (λ z. on_sealer z f g h) is k

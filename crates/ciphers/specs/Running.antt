@@ -1,0 +1,44 @@
+-- What a running sealing was started with, and what it was fed.
+use Rattle.std.specs.Prelude.{◌≡◌, ℕ, ◌*◌, ◌/◌, List, ◌++◌, length}
+use Rattle.ciphers.specs.declared.authentication.Authentication.{Authentication}
+use Rattle.aes.specs.declared.aes.Aes128.{Aes128}
+use Rattle.aes.specs.declared.aes.Aes192.{Aes192}
+use Rattle.aes.specs.declared.aes.Aes256.{Aes256}
+use Rattle.ciphers.specs.declared.cbc_hmac.CbcHmac.{CbcHmac}
+use Rattle.ciphers.specs.declared.sealer.ContentSealer.{ContentSealer}
+use Rattle.ciphers.specs.declared.sealer.ContentSealer.TheVariants.{A128CbcHs256, A192CbcHs384, A256CbcHs512}
+use Rattle.prf.specs.Sha2.{Sha256, Sha384, Sha512}
+use Rattle.ciphers.specs.Sealing.{Sealing, KeepsPace, bit_length, cbc_hmac}
+use Rattle.modes.specs.Cbc.{cbc_blocks}
+use Rattle.modes.specs.Running as modes
+use Rattle.prf.specs.HashFunction.{HashFunction}
+use Rattle.prf.specs.Running as prf
+
+-- it was started with these, and has taken this ciphertext
+pub record IsAuthenticating {H : Type 0} (f : HashFunction) (holds : H → List ℕ → Type 0) (s : Authentication H) (mac_key iv aad c : List ℕ) : Type 0 where
+  pub mac : prf.IsFed f holds s.mac mac_key ((aad ++ iv) ++ c)
+  pub bits : s.aad_bits ≡ bit_length aad
+
+-- it was started for this sealing, and has taken p
+pub record IsSealing {B H : Type 0} (encrypted : B → List ℕ → List ℕ) (f : HashFunction) (holds : H → List ℕ → Type 0) (s : CbcHmac B H) (sealing : Sealing) (p : List ℕ) : Type 0 where
+  pub e : List ℕ → List ℕ
+  pub mac_key : List ℕ
+  pub iv : List ℕ
+  pub aad : List ℕ
+  pub is_sealing : sealing ≡ cbc_hmac e f mac_key iv aad
+  pub cbc : modes.IsFed encrypted s.cbc e iv p
+  pub authentication : IsAuthenticating f holds s.authentication mac_key iv aad (cbc_blocks e iv p)
+  pub whole : length (cbc_blocks e iv p) ≡ 16 * (length p / 16)
+  pub pace : KeepsPace sealing p
+
+-- what is said of the one sealing that there is
+abbrev pub on_sealer : ContentSealer → (CbcHmac Aes128 Sha256 → Type 0) → (CbcHmac Aes192 Sha384 → Type 0) → (CbcHmac Aes256 Sha512 → Type 0) → Type 0
+on_sealer (A128CbcHs256 x) f g h = f x
+on_sealer (A192CbcHs384 x) f g h = g x
+on_sealer (A256CbcHs512 x) f g h = h x
+
+pub on_each_sealer : {P : Type 0} (x : ContentSealer) {f : CbcHmac Aes128 Sha256 → Type 0} {g : CbcHmac Aes192 Sha384 → Type 0} {h : CbcHmac Aes256 Sha512 → Type 0}
+    → ((y : CbcHmac Aes128 Sha256) → f y → P) → ((y : CbcHmac Aes192 Sha384) → g y → P) → ((y : CbcHmac Aes256 Sha512) → h y → P) → on_sealer x f g h → P
+on_each_sealer (A128CbcHs256 x) a b c k = a x k
+on_each_sealer (A192CbcHs384 x) a b c k = b x k
+on_each_sealer (A256CbcHs512 x) a b c k = c x k

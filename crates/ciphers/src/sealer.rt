@@ -1,0 +1,76 @@
+//! Running sealings of content (RFC 7516, section 5.1, step 15).
+ghost use Rattle.std.specs.Prelude.{◌≡◌, ◌↔◌, ℕ, ◌≤◌, List, ◌++◌, length, take, IfOk, IfErr, IsErr, OnOk, OnErr};
+ghost use Rattle.ciphers.specs.Sealing.{Sealing, IsTooLong, KeepsPace};
+
+use crate::cbc_hmac::CbcHmac;
+use aes::{Aes128, Aes192, Aes256, Block};
+use octets::Refusal;
+use prf::{Hash, Sha256, Sha384, Sha512};
+
+/// A sealing whose plaintext comes in pieces.
+pub trait Sealer: Drop {
+    /// It was started for this sealing, and has taken this plaintext so far.
+    ghost is_sealing: { Self → Sealing → List ℕ → Type 0 };
+
+    /// Takes the next piece, of at most 4,096 octets. Writes what of the ciphertext is fixed now to the front of `out`,
+    /// and answers its length; `Limit`, and nothing is taken, where the plaintext would be too long.
+    fn feed(&mut self, piece: &[u8], out: &mut [u8; 4112]) -> Result<usize, Refusal>
+        requires { length piece.now ≤ 4096 }
+        ensures within { IfOk result (λ n. n ≤ 4112) }
+        ensures fed { (s : Sealing) (p : List ℕ) → is_sealing self.old s p
+            → OnOk result (is_sealing self.new s (p ++ piece.now)) }
+        ensures text { (s : Sealing) (p : List ℕ) → is_sealing self.old s p
+            → IfOk result (λ n. s.fixed (p ++ piece.now) ≡ s.fixed p ++ take n out.new) }
+        ensures limit { (s : Sealing) (p : List ℕ) → is_sealing self.old s p
+            → IsErr result ↔ IsTooLong s (p ++ piece.now) }
+        ensures refusal { IfErr result (λ refusal. refusal ≡ Refusal.Limit) }
+        ensures unchanged { OnErr result (self.new ≡ self.old) };
+
+    /// Writes what is left of the ciphertext to the front of `last`, and the tag to that of `tag`, and answers both
+    /// lengths.
+    fn finish(self, last: &mut [u8; 16], tag: &mut [u8; 32]) -> (usize, usize)
+        ensures within { (result.0 ≤ 16) × (result.1 ≤ 32) }
+        ensures ciphertext { (s : Sealing) (p : List ℕ) → is_sealing self s p
+            → (s.sealed p).ciphertext ≡ s.fixed p ++ take result.0 last.new }
+        ensures tag { (s : Sealing) (p : List ℕ) → is_sealing self s p
+            → (s.sealed p).tag ≡ take result.1 tag.new };
+
+    /// What was written is as long as what was taken, but for at most sixteen octets.
+    ghost keeps_pace: { (x : Self) (s : Sealing) (p : List ℕ) → is_sealing x s p → KeepsPace s p };
+}
+
+/// A sealing under any of the content encryption algorithms.
+#[derive(Drop)]
+pub enum ContentSealer {
+    A128CbcHs256(CbcHmac<Aes128, Sha256>),
+    A192CbcHs384(CbcHmac<Aes192, Sha384>),
+    A256CbcHs512(CbcHmac<Aes256, Sha512>),
+}
+
+impl Sealer for ContentSealer {
+    ghost use Rattle.ciphers.specs.Running.{IsSealing, on_sealer, on_each_sealer};
+
+    ghost is_sealing = { λ x s p. on_sealer x
+        (λ y. IsSealing ⟦<Aes128 as Block>⟧.encrypted ⟦<Sha256 as Hash>⟧.function ⟦<Sha256 as Hash>⟧.holds y s p)
+        (λ y. IsSealing ⟦<Aes192 as Block>⟧.encrypted ⟦<Sha384 as Hash>⟧.function ⟦<Sha384 as Hash>⟧.holds y s p)
+        (λ y. IsSealing ⟦<Aes256 as Block>⟧.encrypted ⟦<Sha512 as Hash>⟧.function ⟦<Sha512 as Hash>⟧.holds y s p) };
+
+    fn feed(&mut self, piece: &[u8], out: &mut [u8; 4112]) -> Result<usize, Refusal> {
+        Ok(match self {
+            ContentSealer::A128CbcHs256(sealer) => sealer.feed(piece, out),
+            ContentSealer::A192CbcHs384(sealer) => sealer.feed(piece, out),
+            ContentSealer::A256CbcHs512(sealer) => sealer.feed(piece, out),
+        })
+    }
+
+    fn finish(self, last: &mut [u8; 16], tag: &mut [u8; 32]) -> (usize, usize) {
+        let tag_len = match self {
+            ContentSealer::A128CbcHs256(sealer) => sealer.finish(last, tag),
+            ContentSealer::A192CbcHs384(sealer) => sealer.finish(last, tag),
+            ContentSealer::A256CbcHs512(sealer) => sealer.finish(last, tag),
+        };
+        (16, tag_len)
+    }
+
+    ghost keeps_pace = { λ x s p. on_each_sealer x (λ y r. r.pace) (λ y r. r.pace) (λ y r. r.pace) };
+}

@@ -1,0 +1,130 @@
+-- Sources and sinks as clauses see them, which of them the value of an option means, and the devices of a run.
+use Rattle.std.specs.Prelude.{◌≡◌, ℕ, ◌^◌, ◌&&◌, ◌==◌, Bool, true, false, List, [], drop, Option, None, Some, IsSome, IsNone, codes, slice_index, if◌then◌else◌, ⊤}
+use Rattle.std.specs.Option.{option_and_then, option_or}
+use Rattle.std.specs.Iterator.{at_most}
+use Rattle.std.specs.Str.{byte, bytes_eq}
+use Rattle.clap.specs.Words.{Text}
+use Rattle.octets.specs.declared.streams.ReaderInput.{ReaderInput}
+use Rattle.octets.specs.declared.streams.WriterOutput.{WriterOutput}
+use Rattle.octets.specs.Streams.{reader_of, consumed_of, is_at_end_of, remaining_of, read_failures_of, writer_of, written_of, is_finished_of, write_failures_of}
+use Rattle.jose.specs.declared.command.Command.{Command}
+use Rattle.jose.specs.declared.command.Command.TheVariants.{B64Dec}
+use Rattle.jose.specs.declared.files.Source.{Source}
+use Rattle.jose.specs.declared.files.Source.TheVariants as source
+use Rattle.jose.specs.declared.files.Sink.{Sink}
+use Rattle.jose.specs.declared.files.Sink.TheVariants as sink
+use Rattle.jose.specs.declared.ports.Inputs.{Inputs}
+use Rattle.jose.specs.declared.ports.Outputs.{Outputs}
+use Rattle.jose.specs.Invocations.{SeenInvocation, value_at}
+
+-- ---- sources
+
+-- octets of the words, standard input, or the file of this name
+pub data Origin : Type 0 where
+  words : List ℕ → Origin
+  standard_input : Origin
+  input_file : Text → Origin
+
+abbrev pub origin_of : {R F D : Type 0} → Source R F D → Origin
+origin_of (source.Words octets) = words octets.now
+origin_of (source.Standard stdin) = standard_input
+origin_of (source.File files path opened) = input_file path.now
+
+-- after a read of n octets: words lose them, and the others stay what they are
+abbrev pub after_read : ℕ → Origin → Origin
+after_read n (words octets) = words (drop n octets)
+after_read n origin = origin
+
+-- what the source still gives, where it is known: words, and an open file whose octets are known
+abbrev pub source_remaining : {R F D : Type 0} → (F → Option (List ℕ)) → Source R F D → Option (List ℕ)
+source_remaining remaining (source.Words octets) = Some octets.now
+source_remaining remaining (source.Standard stdin) = None
+source_remaining remaining (source.File files path opened) = option_and_then remaining opened
+
+-- where the source is a file, it is open
+abbrev pub IsOpenSource : {R F D : Type 0} → Source R F D → Type 0
+IsOpenSource (source.File files path opened) = IsSome opened
+IsOpenSource other = ⊤
+
+-- where the source is a file, it is not open yet
+abbrev pub IsUnopenedSource : {R F D : Type 0} → Source R F D → Type 0
+IsUnopenedSource (source.File files path opened) = IsNone opened
+IsUnopenedSource other = ⊤
+
+-- What an option's value means: no value no octets, `-` standard input, a text that begins with `{` itself
+-- where JSON may stand in the words, and each other text the file of this name.
+abbrev pub origin_named : Bool → Option Text → Origin
+origin_named may_be_json None = words []
+origin_named may_be_json (Some text) =
+    if bytes_eq text (codes "-") then standard_input
+    else if may_be_json && (slice_index text 0 == byte "{") then words text
+    else input_file text
+
+-- the text of `b64 dec` is never JSON
+abbrev pub text_may_be_json : Command → Bool
+text_may_be_json B64Dec = false
+text_may_be_json other = true
+
+-- ---- sinks
+
+-- nowhere, standard output, or the file of this name
+pub data Destination : Type 0 where
+  nowhere : Destination
+  standard_output : Destination
+  output_file : Text → Destination
+
+abbrev pub destination_of : {R F D : Type 0} → Sink R F D → Destination
+destination_of sink.Nowhere = nowhere
+destination_of (sink.Standard stdout) = standard_output
+destination_of (sink.File files path opened) = output_file path.now
+
+-- what the sink holds, where it is known: an open file whose octets are known
+abbrev pub sink_contents : {R F D : Type 0} → (F → Option (List ℕ)) → Sink R F D → Option (List ℕ)
+sink_contents contents (sink.File files path opened) = option_and_then contents opened
+sink_contents contents other = None
+
+-- where the sink is a file, it is open
+abbrev pub IsOpenSink : {R F D : Type 0} → Sink R F D → Type 0
+IsOpenSink (sink.File files path opened) = IsSome opened
+IsOpenSink other = ⊤
+
+-- where the sink is a file, it is not open yet
+abbrev pub IsUnopenedSink : {R F D : Type 0} → Sink R F D → Type 0
+IsUnopenedSink (sink.File files path opened) = IsNone opened
+IsUnopenedSink other = ⊤
+
+-- no value means nowhere, `-` standard output, and each other text the file of this name
+abbrev pub destination_named : Option Text → Destination
+destination_named None = nowhere
+destination_named (Some text) = if bytes_eq text (codes "-") then standard_output else output_file text
+
+-- ---- the devices of a run
+
+-- an input over the source that this is, of which nothing was read
+pub record IsNewInput {R F D : Type 0} (origin : Origin) (device : ReaderInput (Source R F D)) : Type 0 where
+  pub source : origin_of (reader_of device) ≡ origin
+  pub unopened : IsUnopenedSource (reader_of device)
+  pub consumed : consumed_of device ≡ []
+  pub begins : is_at_end_of device ≡ false
+  pub remaining : remaining_of device ≡ at_most (2 ^ 62)
+  pub failures : read_failures_of device ≡ 0
+
+-- an output over the sink that this is, to which nothing was written
+pub record IsNewOutput {R F D : Type 0} (destination : Destination) (device : WriterOutput (Sink R F D)) : Type 0 where
+  pub sink : destination_of (writer_of device) ≡ destination
+  pub unopened : IsUnopenedSink (writer_of device)
+  pub written : written_of device ≡ []
+  pub unfinished : is_finished_of device ≡ false
+  pub failures : write_failures_of device ≡ 0
+
+-- each input is the one that its option names, and the text that of `-i` or else `-s`
+pub record AreNewInputs {R F D : Type 0} (invocation : SeenInvocation) (inputs : Inputs (ReaderInput (Source R F D))) : Type 0 where
+  pub text : IsNewInput (origin_named (text_may_be_json invocation.command) (option_or (value_at (byte "i") invocation.options) (value_at (byte "s") invocation.options))) inputs.text
+  pub content : IsNewInput (origin_named false (value_at (byte "I") invocation.options)) inputs.content
+  pub keys : IsNewInput (origin_named true (value_at (byte "k") invocation.options)) inputs.keys
+  pub random : IsNewInput (origin_named false (value_at (byte "R") invocation.options)) inputs.random
+
+-- each output is the one that its option names
+pub record AreNewOutputs {R F D : Type 0} (invocation : SeenInvocation) (outputs : Outputs (WriterOutput (Sink R F D))) : Type 0 where
+  pub text : IsNewOutput (destination_named (value_at (byte "o") invocation.options)) outputs.text
+  pub content : IsNewOutput (destination_named (value_at (byte "O") invocation.options)) outputs.content

@@ -1,0 +1,6 @@
+pub mod Blocks
+pub mod Sums
+pub mod Chaining
+pub mod Fed
+pub mod Padding
+pub mod Opening

@@ -1,0 +1,4 @@
+pub mod Cbc
+pub mod Opening
+pub mod Running
+pub mod Toy

@@ -1,0 +1,74 @@
+//! The opening of CBC with padding, in place.
+ghost use Rattle.std.specs.Prelude.{◌≡◌, ◌≢◌, ◌+◌, ◌*◌, ◌%◌, ◌≤◌, ℕ, List, length, take, IfSome, IfNone};
+ghost use Rattle.modes.specs.Cbc.{cbc};
+ghost use Rattle.modes.specs.Opening.{opened_block, opened_blocks, IsPadded};
+ghost use Rattle.octets.specs.Octets.{IsOctets};
+
+use aes::Block;
+use octets::xor_into;
+
+/// Opens the ciphertext in `buf` to the plaintext at its front, and answers that one's length. Answers `None`, and leaves
+/// `buf` as it was, where no plaintext has this ciphertext (RFC 5652, section 6.3).
+pub fn cbc_open<B: Block>(cipher: &B, iv: &[u8; 16], buf: &mut [u8]) -> Option<usize>
+    ensures opened { IfSome result (λ n. (n ≤ length buf.old)
+        × (cbc (B.encrypted cipher.now) iv.now (take n buf.new) ≡ buf.old)) }
+    ensures nothing { IfNone result ((p : List ℕ) → IsOctets p
+        → cbc (B.encrypted cipher.now) iv.now p ≢ buf.old) }
+    ensures unchanged { IfNone result (buf.new ≡ buf.old) }
+{
+    let blocks = buf.len() / 16;
+    if blocks == 0 || buf.len() % 16 != 0 {
+        return None;
+    }
+    let last = open_block(cipher, iv, buf, blocks - 1);
+    let Some(padding) = padding_of(&last) else {
+        return None;
+    };
+    open_blocks(cipher, iv, buf);
+    Some(buf.len() - padding)
+}
+
+/// How many octets the padding has that the block ends in, where it ends in one.
+fn padding_of(last: &[u8; 16]) -> Option<usize>
+    ensures padding { IfSome result (λ n. IsPadded last.now n) }
+    ensures nothing { IfNone result ((n : ℕ) → IsPadded last.now n → ⊥) }
+{
+    let value = last[15];
+    if value == 0 || value > 16 {
+        return None;
+    }
+    let n = value as usize;
+    for i in 16 - n..16 {
+        if last[i] != value {
+            return None;
+        }
+    }
+    Some(n)
+}
+
+/// Block i of the padded plaintext.
+fn open_block<B: Block>(cipher: &B, iv: &[u8; 16], buf: &[u8], i: usize) -> [u8; 16]
+    requires { 16 * i + 16 ≤ length buf.now }
+    ensures { result ≡ opened_block (B.decrypted cipher.now) iv.now buf.now i }
+{
+    let mut block = [0; 16];
+    block.copy_from_slice(&buf[16 * i..16 * i + 16]);
+    let mut opened = cipher.decrypt(&block);
+    if i == 0 {
+        xor_into(&mut opened, iv);
+    } else {
+        xor_into(&mut opened, &buf[16 * (i - 1)..16 * (i - 1) + 16]);
+    }
+    opened
+}
+
+/// All blocks of the padded plaintext, from the last to the first, each in the place of its ciphertext.
+fn open_blocks<B: Block>(cipher: &B, iv: &[u8; 16], buf: &mut [u8])
+    requires { length buf.old % 16 ≡ 0 }
+    ensures { buf.new ≡ opened_blocks (B.decrypted cipher.now) iv.now buf.old }
+{
+    for i in (0..buf.len() / 16).rev() {
+        let block = open_block(cipher, iv, buf, i);
+        buf[16 * i..16 * i + 16].copy_from_slice(&block);
+    }
+}

@@ -1,0 +1,11 @@
+//! Laws of the definitions in `specs/`: functions that do nothing, whose contracts are the laws.
+ghost use Rattle.std.specs.Prelude.{◌≡◌, ℕ, List};
+ghost use Rattle.aes.specs.Block.{IsBlock, IsCipher};
+ghost use Rattle.modes.specs.Cbc.{cbc};
+ghost use Rattle.octets.specs.Octets.{IsOctets};
+
+/// No two plaintexts have one ciphertext, so what `cbc_open` gives is what was encrypted.
+pub fn cbc_plaintext_is_unique()
+    ensures { (e d : List ℕ → List ℕ) (iv p q : List ℕ) → IsCipher e d → IsBlock iv
+        → IsOctets p → IsOctets q → cbc e iv p ≡ cbc e iv q → p ≡ q }
+{}

@@ -1,0 +1,215 @@
+//! CBC: a toy cipher, the vectors of SP 800-38A, appendix F.2, and texts that are cut.
+ghost use Rattle.std.specs.Prelude.{◌≡◌, ◌<◌};
+ghost use Rattle.aes.specs.Block.{IsCipher};
+ghost use Rattle.modes.specs.Toy.{turned};
+
+use crate::{Cbc, cbc_open};
+use aes::{Aes128, Aes192, Aes256, Block};
+use std::process::Abort;
+
+// A cipher of no worth: octet i of a block's text is octet i + 1 modulo 16 of the block, plus 1.
+#[derive(Drop)]
+struct Toy {
+    ghost is_cipher: { IsCipher (turned 1) (turned 15) },
+}
+
+impl Toy {
+    fn new() -> Toy {
+        Toy {}
+    }
+}
+
+impl Block for Toy {
+    ghost encrypted = { λ k. turned 1 };
+
+    ghost decrypted = { λ k. turned 15 };
+
+    fn encrypt(&self, b: &[u8; 16]) -> [u8; 16] {
+        turn(b, 1)
+    }
+
+    fn decrypt(&self, b: &[u8; 16]) -> [u8; 16] {
+        turn(b, 15)
+    }
+
+    ghost is_cipher = { λ k. k.is_cipher };
+}
+
+// Each octet is the one n places further on, plus 1.
+fn turn(b: &[u8; 16], n: usize) -> [u8; 16]
+    requires { n < 16 }
+    ensures { result ≡ turned n b.now }
+{
+    let mut out = [0; 16];
+    for i in 0..16_usize {
+        out[i] = b[(i + n) % 16] ^ 1;
+    }
+    out
+}
+
+const ZERO: [u8; 16] = [0; 16];
+
+const IV: [u8; 16] = [0, 1, 2, 3, 4, 5, 6, 7, 8, 9, 10, 11, 12, 13, 14, 15];
+
+const TEXT: [u8; 64] = [
+    0x6b, 0xc1, 0xbe, 0xe2, 0x2e, 0x40, 0x9f, 0x96, 0xe9, 0x3d, 0x7e, 0x11, 0x73, 0x93, 0x17, 0x2a,
+    0xae, 0x2d, 0x8a, 0x57, 0x1e, 0x03, 0xac, 0x9c, 0x9e, 0xb7, 0x6f, 0xac, 0x45, 0xaf, 0x8e, 0x51,
+    0x30, 0xc8, 0x1c, 0x46, 0xa3, 0x5c, 0xe4, 0x11, 0xe5, 0xfb, 0xc1, 0x19, 0x1a, 0x0a, 0x52, 0xef,
+    0xf6, 0x9f, 0x24, 0x45, 0xdf, 0x4f, 0x9b, 0x17, 0xad, 0x2b, 0x41, 0x7b, 0xe6, 0x6c, 0x37, 0x10,
+];
+
+// A ciphertext as it grows.
+#[derive(Drop)]
+struct Ciphertext {
+    octets: [u8; 96],
+    length: usize,
+}
+
+impl Ciphertext {
+    fn push(&mut self, rt: &impl Abort, octets: &[u8]) {
+        assert!(rt; octets.len() <= 96 && self.length <= 96 - octets.len());
+        self.octets[self.length..self.length + octets.len()].copy_from_slice(octets);
+        self.length += octets.len();
+    }
+}
+
+// The ciphertext of the text, of which the first piece ends at the cut, and each further one has so many octets.
+fn encrypt<B: Block>(
+    rt: &impl Abort,
+    cipher: B,
+    iv: &[u8; 16],
+    text: &[u8],
+    cut: usize,
+    step: usize,
+) -> Ciphertext {
+    let mut all = Ciphertext {
+        octets: [0; 96],
+        length: 0,
+    };
+    let mut out = [0; 4112];
+    let mut cbc = Cbc::start(cipher, iv);
+    assert!(rt; text.len() <= 4096 && cut <= text.len() && step > 0);
+    let n = cbc.feed(&text[..cut], &mut out);
+    all.push(rt, &out[..n]);
+    for piece in text[cut..].chunks(step) {
+        assert!(rt; piece.len() <= 4096);
+        let n = cbc.feed(piece, &mut out);
+        all.push(rt, &out[..n]);
+    }
+    let mut last = [0; 16];
+    cbc.finish(&mut last);
+    all.push(rt, &last);
+    all
+}
+
+#[test]
+fn a_toy_cipher_encrypts(rt: HostRuntime) {
+    let text = encrypt(&rt, Toy::new(), &ZERO, &[], 0, 16);
+    assert_eq!(rt; text.length, 16);
+    assert_eq!(rt; text.octets[..16], [0x11; 16][..]);
+    let text = encrypt(&rt, Toy::new(), &ZERO, &[0; 16], 0, 16);
+    assert_eq!(rt; text.length, 32);
+    assert_eq!(rt; text.octets[..16], [0x01; 16][..]);
+    assert_eq!(rt; text.octets[16..32], [0x10; 16][..]);
+}
+
+#[test]
+fn a_toy_cipher_opens_what_is_padded(rt: HostRuntime) {
+    let mut other = [2; 16];
+    other[14] = 3;
+    for (text, length) in [
+        ([0x11; 16], Some(0)),
+        ([0x00; 16], Some(15)),
+        ([0x01; 16], None),
+        (other, None),
+    ] {
+        let mut buf = text;
+        assert_eq!(rt; cbc_open(&Toy::new(), &ZERO, &mut buf), length);
+        if length == Some(15) {
+            assert_eq!(rt; buf[..15], [1; 15][..]);
+        }
+        if length == None {
+            assert_eq!(rt; buf, text);
+        }
+    }
+}
+
+#[test]
+fn a_part_of_a_block_is_no_ciphertext(rt: HostRuntime) {
+    let mut buf = [0xee; 17];
+    assert_eq!(rt; cbc_open(&Toy::new(), &ZERO, &mut buf), None);
+    assert_eq!(rt; buf, [0xee; 17]);
+    assert_eq!(rt; cbc_open(&Toy::new(), &ZERO, &mut buf[..0]), None);
+}
+
+// The text of SP 800-38A encrypts to these octets and a block of padding, which open to it.
+fn expect_both_ways<B: Block>(rt: &impl Abort, sealing: B, opening: &B, octets: &[u8; 64]) {
+    let text = encrypt(rt, sealing, &IV, &TEXT, 0, 64);
+    assert_eq!(rt; text.length, 80);
+    assert_eq!(rt; text.octets[..64], octets[..]);
+    let mut buf = [0; 80];
+    buf.copy_from_slice(&text.octets[..80]);
+    assert_eq!(rt; cbc_open(opening, &IV, &mut buf), Some(64));
+    assert_eq!(rt; buf[..64], TEXT[..]);
+}
+
+#[test]
+fn sp800_38a_appendix_f2(rt: HostRuntime) {
+    let key = [
+        0x2b, 0x7e, 0x15, 0x16, 0x28, 0xae, 0xd2, 0xa6, 0xab, 0xf7, 0x15, 0x88, 0x09, 0xcf, 0x4f,
+        0x3c,
+    ];
+    let text = [
+        0x76, 0x49, 0xab, 0xac, 0x81, 0x19, 0xb2, 0x46, 0xce, 0xe9, 0x8e, 0x9b, 0x12, 0xe9, 0x19,
+        0x7d, 0x50, 0x86, 0xcb, 0x9b, 0x50, 0x72, 0x19, 0xee, 0x95, 0xdb, 0x11, 0x3a, 0x91, 0x76,
+        0x78, 0xb2, 0x73, 0xbe, 0xd6, 0xb8, 0xe3, 0xc1, 0x74, 0x3b, 0x71, 0x16, 0xe6, 0x9e, 0x22,
+        0x22, 0x95, 0x16, 0x3f, 0xf1, 0xca, 0xa1, 0x68, 0x1f, 0xac, 0x09, 0x12, 0x0e, 0xca, 0x30,
+        0x75, 0x86, 0xe1, 0xa7,
+    ];
+    expect_both_ways(&rt, Aes128::new(&key), &Aes128::new(&key), &text);
+    let key = [
+        0x8e, 0x73, 0xb0, 0xf7, 0xda, 0x0e, 0x64, 0x52, 0xc8, 0x10, 0xf3, 0x2b, 0x80, 0x90, 0x79,
+        0xe5, 0x62, 0xf8, 0xea, 0xd2, 0x52, 0x2c, 0x6b, 0x7b,
+    ];
+    let text = [
+        0x4f, 0x02, 0x1d, 0xb2, 0x43, 0xbc, 0x63, 0x3d, 0x71, 0x78, 0x18, 0x3a, 0x9f, 0xa0, 0x71,
+        0xe8, 0xb4, 0xd9, 0xad, 0xa9, 0xad, 0x7d, 0xed, 0xf4, 0xe5, 0xe7, 0x38, 0x76, 0x3f, 0x69,
+        0x14, 0x5a, 0x57, 0x1b, 0x24, 0x20, 0x12, 0xfb, 0x7a, 0xe0, 0x7f, 0xa9, 0xba, 0xac, 0x3d,
+        0xf1, 0x02, 0xe0, 0x08, 0xb0, 0xe2, 0x79, 0x88, 0x59, 0x88, 0x81, 0xd9, 0x20, 0xa9, 0xe6,
+        0x4f, 0x56, 0x15, 0xcd,
+    ];
+    expect_both_ways(&rt, Aes192::new(&key), &Aes192::new(&key), &text);
+    let key = [
+        0x60, 0x3d, 0xeb, 0x10, 0x15, 0xca, 0x71, 0xbe, 0x2b, 0x73, 0xae, 0xf0, 0x85, 0x7d, 0x77,
+        0x81, 0x1f, 0x35, 0x2c, 0x07, 0x3b, 0x61, 0x08, 0xd7, 0x2d, 0x98, 0x10, 0xa3, 0x09, 0x14,
+        0xdf, 0xf4,
+    ];
+    let text = [
+        0xf5, 0x8c, 0x4c, 0x04, 0xd6, 0xe5, 0xf1, 0xba, 0x77, 0x9e, 0xab, 0xfb, 0x5f, 0x7b, 0xfb,
+        0xd6, 0x9c, 0xfc, 0x4e, 0x96, 0x7e, 0xdb, 0x80, 0x8d, 0x67, 0x9f, 0x77, 0x7b, 0xc6, 0x70,
+        0x2c, 0x7d, 0x39, 0xf2, 0x33, 0x69, 0xa9, 0xd9, 0xba, 0xcf, 0xa5, 0x30, 0xe2, 0x63, 0x04,
+        0x23, 0x14, 0x61, 0xb2, 0xeb, 0x05, 0xe2, 0xc3, 0x9b, 0xe9, 0xfc, 0xda, 0x6c, 0x19, 0x07,
+        0x8c, 0x6a, 0x9d, 0x1b,
+    ];
+    expect_both_ways(&rt, Aes256::new(&key), &Aes256::new(&key), &text);
+}
+
+#[test]
+fn padding_fills_a_block_or_is_one(rt: HostRuntime) {
+    for (length, expected) in [(0, 16), (15, 16), (16, 32), (17, 32)] {
+        let text = encrypt(&rt, Toy::new(), &IV, &TEXT[..length], 0, 64);
+        assert_eq!(rt; text.length, expected);
+    }
+}
+
+#[test]
+fn a_cut_changes_nothing(rt: HostRuntime) {
+    let whole = encrypt(&rt, Toy::new(), &IV, &TEXT[..50], 50, 1);
+    assert_eq!(rt; whole.length, 64);
+    let text = encrypt(&rt, Toy::new(), &IV, &TEXT[..50], 0, 1);
+    assert_eq!(rt; text.octets, whole.octets);
+    for cut in 0..51_usize {
+        let text = encrypt(&rt, Toy::new(), &IV, &TEXT[..50], cut, 50);
+        assert_eq!(rt; text.octets, whole.octets, "cut at {cut}");
+    }
+}
