@@ -5,8 +5,6 @@
 //! (`files`), and `run` does what is asked from devices to devices. `report` tells a refusal.
 #![tactic(auto)]
 
-ghost use Rattle.std.specs.Prelude.{◌≡◌, ◌⊎◌, IfErr};
-
 mod b64;
 mod command;
 mod files;
@@ -34,25 +32,19 @@ use std::process::ExitCode;
 use std::rt::{Env, Files};
 pub use words::parse;
 
-/// Reads the words, and does what they ask over files and the standard streams.
+/// Reads the words, and does what they ask over files and the standard streams. Words that are not
+/// UTF-8 are no command.
 fn perform(rt: &HostRuntime) -> Result<(), Refusal> {
-    let words = words_given(rt)?;
-    let invocation = parse(rt.alloc(), &words)?;
-    let mut inputs = files::inputs(rt, rt.stdin(), &invocation);
-    let mut outputs = files::outputs(rt, rt.stdout(), &invocation);
-    run(rt.alloc(), &invocation, &mut inputs, &mut outputs)
-}
-
-/// The program's arguments. Words that are not UTF-8 are no command.
-fn words_given(rt: &HostRuntime) -> Result<Vec<String>, Refusal>
-    ensures { IfErr result (λ e. (e ≡ Refusal.Usage) ⊎ (e ≡ Refusal.Memory)) }
-{
     let args = match std::env::args(rt) {
         Ok(args) => args,
         Err(e) if e.kind() == io::ErrorKind::OutOfMemory => return Err(Refusal::Memory),
         Err(_) => return Err(Refusal::Usage),
     };
-    Ok(args.skip(1).collect(rt.alloc())?)
+    let words: Vec<String> = args.skip(1).collect(rt.alloc())?;
+    let invocation = parse(rt.alloc(), &words)?;
+    let mut inputs = files::inputs(rt, rt.stdin(), &invocation);
+    let mut outputs = files::outputs(rt, rt.stdout(), &invocation);
+    run(rt.alloc(), &invocation, &mut inputs, &mut outputs)
 }
 
 fn main(rt: HostRuntime) -> ExitCode {
