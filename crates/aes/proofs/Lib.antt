@@ -2,6 +2,7 @@ pub mod Xor
 pub mod Polynomial
 pub mod Rows
 pub mod Below
+pub mod Linear
 pub mod Products
 pub mod Inverses
 pub mod Boxes

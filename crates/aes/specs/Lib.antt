@@ -1,4 +1,5 @@
 pub mod Polynomial
+pub mod PolynomialLaws
 pub mod Octet
 pub mod SBox
 pub mod State

@@ -5,6 +5,7 @@ ghost use Rattle.aes.specs.Cipher.{IsDecryptedBlock, encrypted_block};
 ghost use Rattle.aes.specs.InverseCipher.{inverse_cipher};
 ghost use Rattle.aes.specs.KeyExpansion.{key_expansion};
 ghost use Rattle.aes.specs.Octet.{octet_product, octet_inverse};
+ghost use Rattle.aes.specs.PolynomialLaws.{PolynomialLaws};
 
 /// The inverse of an octet other than 0 is the one octet whose product with it is 1, and that of 0 is 0
 /// (FIPS 197, section 4.4).
@@ -26,4 +27,9 @@ pub fn decrypted_block_is_unique()
 pub fn encrypted_block_is_cipher()
     ensures { (nk : ℕ) (k : List ℕ) → ((i : ℕ) → slice_index k i < 256)
         → IsCipher (encrypted_block nk k) (inverse_cipher (nk + 6) (key_expansion nk k)) }
+{}
+
+/// What holds of sums, products and remainders of polynomials over two elements.
+pub fn polynomial_laws()
+    ensures { PolynomialLaws }
 {}

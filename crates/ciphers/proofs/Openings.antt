@@ -1,15 +1,20 @@
 -- The algorithms' sealings, by the ciphers that were made.
-use Rattle.std.proofs.Common.{◌≡◌, ◌≢◌, ℕ, ◌/◌, ◌≤◌, List, length, take, drop, sym, ap, ap₂, subst, ◌∙◌, arith, Option, Some, None, IfSome, IfNone}
+use Rattle.std.proofs.Common.{◌<◌, ◌≡◌, ◌≢◌, ℕ, ◌/◌, ◌≤◌, List, length, take, drop, [], refl, sym, ap, ap₂, subst, ◌∙◌, arith, ⊎_elim, Option, Some, None, IfSome, IfNone}
 use Rattle.std.proofs.Math.Path.{fun_ext}
+use Rattle.std.proofs.lemmas.Bool.{cases_lt}
 use Rattle.std.proofs.lemmas.List.{places}
 use Rattle.octets.specs.Octets.{IsOctets}
 use Rattle.aes.specs.Cipher.{encrypted_block}
 use Rattle.ciphers.specs.declared.content_alg.ContentAlg.{ContentAlg}
-use Rattle.ciphers.specs.declared.content_alg.ContentAlg.TheVariants.{A128CbcHs256, A192CbcHs384, A256CbcHs512}
-use Rattle.ciphers.specs.Sealing.{Sealing, cbc_tag, cbc_hmac, cek_len, iv_len, sealing, IsOpening}
+use Rattle.ciphers.specs.declared.content_alg.ContentAlg.TheVariants.{A128CbcHs256, A192CbcHs384, A256CbcHs512, A128Gcm, A192Gcm, A256Gcm}
+use Rattle.ciphers.specs.Sealing.{Sealing, IsTooLong, KeepsPace, cbc_tag, cbc_hmac, gcm, cek_len, iv_len, sealing, IsOpening}
 use Rattle.ciphers.specs.declared.cbc_hmac.CbcHmac.{CbcHmac}
-use Rattle.ciphers.specs.Running.{IsSealing}
+use Rattle.ciphers.specs.Running.{IsSealing, IsGcmSealing}
 use Rattle.modes.specs.Cbc.{cbc}
+use Rattle.modes.specs.Ctr.{ctr}
+use Rattle.modes.specs.Gcm.{gcm_text, gcm_tag, longest, IsGcmOpening}
+use Rattle.modes.specs.Running as modes
+use Rattle.modes.specs.declared.gcm.Gcm.{Gcm}
 use Rattle.prf.specs.HashFunction.{HashFunction}
 use Rattle.prf.specs.Sha2.{sha256_function, sha384_function, sha512_function}
 
@@ -52,6 +57,7 @@ module _ (alg : ContentAlg) (cek iv aad c tag : List ℕ) (e : List ℕ → List
     cek_fits = cek_fits;
     iv_fits = iv_fits;
     octets = octets;
+    short = subst (λ s. IsTooLong s p → ⊥) (sym is) (λ long. long);
     ciphertext = ap (λ s. (s.sealed p).ciphertext) is ∙ text;
     is_tag = ap (λ s. (s.sealed p).tag) is ∙ ap (cbc_tag f mac_key iv' aad) text ∙ sym right;
   }
@@ -72,6 +78,74 @@ module _ (alg : ContentAlg) (cek iv aad c tag : List ℕ) (e : List ℕ → List
   stays None none = no_opening none
   stays (Some n) none = tt
 
+-- ---- AES-GCM
+
+gcm_of : (nk : ℕ) (e : List ℕ → List ℕ) (key iv iv' aad k : List ℕ)
+    → ((b : List ℕ) → e b ≡ encrypted_block nk key b) → key ≡ k → iv' ≡ iv → gcm (encrypted_block nk k) iv aad ≡ gcm e iv' aad
+gcm_of nk e key iv iv' aad k same is_key is_iv =
+    ap₂ (λ x y. gcm x y aad) (sym (fun_ext same ∙ ap (encrypted_block nk) is_key)) (sym is_iv)
+
+module _ (alg : ContentAlg) (cek iv aad key iv' : List ℕ) (e : List ℕ → List ℕ) (is_key : key ≡ cek) (is_iv : iv' ≡ iv) where
+  pub a128_gcm : alg ≡ A128Gcm → ((b : List ℕ) → e b ≡ encrypted_block 4 key b) → sealing alg cek iv aad ≡ gcm e iv' aad
+  unfolding sealing
+  a128_gcm is same = ap (λ x. sealing x cek iv aad) is ∙ gcm_of 4 e key iv iv' aad cek same is_key is_iv
+
+  pub a192_gcm : alg ≡ A192Gcm → ((b : List ℕ) → e b ≡ encrypted_block 6 key b) → sealing alg cek iv aad ≡ gcm e iv' aad
+  unfolding sealing
+  a192_gcm is same = ap (λ x. sealing x cek iv aad) is ∙ gcm_of 6 e key iv iv' aad cek same is_key is_iv
+
+  pub a256_gcm : alg ≡ A256Gcm → ((b : List ℕ) → e b ≡ encrypted_block 8 key b) → sealing alg cek iv aad ≡ gcm e iv' aad
+  unfolding sealing
+  a256_gcm is same = ap (λ x. sealing x cek iv aad) is ∙ gcm_of 8 e key iv iv' aad cek same is_key is_iv
+
+module _ (alg : ContentAlg) (cek iv aad c tag : List ℕ) (e : List ℕ → List ℕ) (iv' : List ℕ)
+    (is : sealing alg cek iv aad ≡ gcm e iv' aad) (cek_fits : length cek ≡ cek_len alg) (iv_fits : length iv ≡ iv_len alg) where
+  opening_of_gcm : (p : List ℕ) → IsGcmOpening e iv' aad c tag p → IsOpening alg cek iv aad c tag p
+  opening_of_gcm p o = record {
+    cek_fits = cek_fits;
+    iv_fits = iv_fits;
+    octets = o.octets;
+    short = subst (λ s. IsTooLong s p → ⊥) (sym is) (λ (long : longest < length p). absurd (omega (arith, long, o.short)));
+    ciphertext = ap (λ s. (s.sealed p).ciphertext) is ∙ o.text;
+    is_tag = ap (λ s. (s.sealed p).tag) is ∙ ap (gcm_tag e iv' aad) o.text ∙ o.is_tag;
+  }
+
+  gcm_of_opening : (p : List ℕ) → IsOpening alg cek iv aad c tag p → IsGcmOpening e iv' aad c tag p
+  gcm_of_opening p o =
+      let text : gcm_text e iv' p ≡ c = sym (ap (λ s. (s.sealed p).ciphertext) is) ∙ o.ciphertext in
+      let not_long : longest < length p → ⊥ = subst (λ s. IsTooLong s p → ⊥) is o.short in
+      record {
+        octets = o.octets;
+        short = ⊎_elim (λ long. absurd (not_long long)) (λ h. h) (cases_lt longest (length p));
+        text = text;
+        is_tag = sym (ap (gcm_tag e iv' aad) text) ∙ sym (ap (λ s. (s.sealed p).tag) is) ∙ o.is_tag;
+      }
+
+  pub opens_gcm : (o : Option ℕ) (buf : List ℕ) → IfSome o (λ n. n ≤ length c × IsGcmOpening e iv' aad c tag (take n buf))
+      → IfSome o (λ n. n ≤ length c × IsOpening alg cek iv aad c tag (take n buf))
+  opens_gcm None buf h = tt
+  opens_gcm (Some n) buf h = (h.0, opening_of_gcm (take n buf) h.1)
+
+  pub stays_gcm : (o : Option ℕ) → IfNone o ((p : List ℕ) → IsGcmOpening e iv' aad c tag p → ⊥)
+      → IfNone o ((p : List ℕ) → IsOpening alg cek iv aad c tag p → ⊥)
+  stays_gcm None none = λ p o. none p (gcm_of_opening p o)
+  stays_gcm (Some n) none = tt
+
+-- ---- what was started
+
 pub sealing_is : {B H : Type 0} {encrypted : B → List ℕ → List ℕ} {f : HashFunction} {holds : H → List ℕ → Type 0} {x : CbcHmac B H} {s t : Sealing} {p : List ℕ}
     → t ≡ s → IsSealing encrypted f holds x s p → IsSealing encrypted f holds x t p
 sealing_is {encrypted = encrypted} {f = f} {holds = holds} {x = x} {p = p} same r = subst (λ u. IsSealing encrypted f holds x u p) (sym same) r
+
+pub gcm_begins : {B : Type 0} (encrypted : B → List ℕ → List ℕ) (x : Gcm B) (s : Sealing) (e : List ℕ → List ℕ) (iv aad : List ℕ)
+    → s ≡ gcm e iv aad → modes.IsProtecting encrypted x e iv aad [] → IsGcmSealing encrypted x s []
+unfolding gcm_text ctr
+gcm_begins encrypted x s e iv aad is k = record {
+  e = e;
+  iv = iv;
+  aad = aad;
+  is_sealing = is;
+  gcm = k;
+  whole = refl;
+  pace = subst (λ t. KeepsPace t []) (sym is) (record { within = omega arith; nearly = omega arith });
+}

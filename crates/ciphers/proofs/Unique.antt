@@ -6,14 +6,16 @@ use Rattle.aes.specs.Cipher.{encrypted_block}
 use Rattle.aes.specs.InverseCipher.{inverse_cipher}
 use Rattle.aes.specs.KeyExpansion.{key_expansion}
 use Rattle.ciphers.specs.declared.content_alg.ContentAlg.{ContentAlg}
-use Rattle.ciphers.specs.declared.content_alg.ContentAlg.TheVariants.{A128CbcHs256, A192CbcHs384, A256CbcHs512}
+use Rattle.ciphers.specs.declared.content_alg.ContentAlg.TheVariants.{A128CbcHs256, A192CbcHs384, A256CbcHs512, A128Gcm, A192Gcm, A256Gcm}
 use Rattle.ciphers.specs.Sealing.{sealing, IsOpening}
 use Rattle.modes.specs.Cbc.{cbc}
+use Rattle.modes.specs.Gcm.{gcm_text}
 use Rattle.octets.specs.Octets.{IsOctets}
 
 module _
     (cipher : (nk : ℕ) (k : List ℕ) → ((i : ℕ) → slice_index k i < 256) → IsCipher (encrypted_block nk k) (inverse_cipher (nk + 6) (key_expansion nk k)))
-    (one : (e d : List ℕ → List ℕ) (iv p q : List ℕ) → IsCipher e d → IsBlock iv → IsOctets p → IsOctets q → cbc e iv p ≡ cbc e iv q → p ≡ q) where
+    (one : (e d : List ℕ → List ℕ) (iv p q : List ℕ) → IsCipher e d → IsBlock iv → IsOctets p → IsOctets q → cbc e iv p ≡ cbc e iv q → p ≡ q)
+    (one_gcm : (e : List ℕ → List ℕ) (iv p q : List ℕ) → gcm_text e iv p ≡ gcm_text e iv q → p ≡ q) where
   half : (n : ℕ) (cek : List ℕ) → IsOctets cek → IsOctets (drop n cek)
   half n cek o i = subst (λ v. v < 256) (sym (get_or-drop n cek i 0)) (o (n + i))
 
@@ -28,3 +30,6 @@ module _
   one_opening A128CbcHs256 cek iv aad c tag p q key start a b = under 4 16 cek iv p q c key start a.iv_fits a.octets b.octets a.ciphertext b.ciphertext
   one_opening A192CbcHs384 cek iv aad c tag p q key start a b = under 6 24 cek iv p q c key start a.iv_fits a.octets b.octets a.ciphertext b.ciphertext
   one_opening A256CbcHs512 cek iv aad c tag p q key start a b = under 8 32 cek iv p q c key start a.iv_fits a.octets b.octets a.ciphertext b.ciphertext
+  one_opening A128Gcm cek iv aad c tag p q key start a b = one_gcm (encrypted_block 4 cek) iv p q (a.ciphertext ∙ sym b.ciphertext)
+  one_opening A192Gcm cek iv aad c tag p q key start a b = one_gcm (encrypted_block 6 cek) iv p q (a.ciphertext ∙ sym b.ciphertext)
+  one_opening A256Gcm cek iv aad c tag p q key start a b = one_gcm (encrypted_block 8 cek) iv p q (a.ciphertext ∙ sym b.ciphertext)

@@ -6,10 +6,13 @@ use Rattle.aes.specs.declared.aes.Aes192.{Aes192}
 use Rattle.aes.specs.declared.aes.Aes256.{Aes256}
 use Rattle.ciphers.specs.declared.cbc_hmac.CbcHmac.{CbcHmac}
 use Rattle.ciphers.specs.declared.sealer.ContentSealer.{ContentSealer}
-use Rattle.ciphers.specs.declared.sealer.ContentSealer.TheVariants.{A128CbcHs256, A192CbcHs384, A256CbcHs512}
+use Rattle.ciphers.specs.declared.sealer.ContentSealer.TheVariants.{A128CbcHs256, A192CbcHs384, A256CbcHs512, A128Gcm, A192Gcm, A256Gcm}
 use Rattle.prf.specs.Sha2.{Sha256, Sha384, Sha512}
-use Rattle.ciphers.specs.Sealing.{Sealing, KeepsPace, bit_length, cbc_hmac}
+use Rattle.ciphers.specs.Sealing.{Sealing, KeepsPace, cbc_hmac, gcm}
+use Rattle.modes.specs.Gcm.{bit_length}
 use Rattle.modes.specs.Cbc.{cbc_blocks}
+use Rattle.modes.specs.Gcm.{gcm_text}
+use Rattle.modes.specs.declared.gcm.Gcm.{Gcm}
 use Rattle.modes.specs.Running as modes
 use Rattle.prf.specs.HashFunction.{HashFunction}
 use Rattle.prf.specs.Running as prf
@@ -31,14 +34,34 @@ pub record IsSealing {B H : Type 0} (encrypted : B → List ℕ → List ℕ) (f
   pub whole : length (cbc_blocks e iv p) ≡ 16 * (length p / 16)
   pub pace : KeepsPace sealing p
 
--- what is said of the one sealing that there is
-abbrev pub on_sealer : ContentSealer → (CbcHmac Aes128 Sha256 → Type 0) → (CbcHmac Aes192 Sha384 → Type 0) → (CbcHmac Aes256 Sha512 → Type 0) → Type 0
-on_sealer (A128CbcHs256 x) f g h = f x
-on_sealer (A192CbcHs384 x) f g h = g x
-on_sealer (A256CbcHs512 x) f g h = h x
+pub record IsGcmSealing {B : Type 0} (encrypted : B → List ℕ → List ℕ) (s : Gcm B) (sealing : Sealing) (p : List ℕ) : Type 0 where
+  pub e : List ℕ → List ℕ
+  pub iv : List ℕ
+  pub aad : List ℕ
+  pub is_sealing : sealing ≡ gcm e iv aad
+  pub gcm : modes.IsProtecting encrypted s e iv aad p
+  pub whole : length (gcm_text e iv p) ≡ length p
+  pub pace : KeepsPace sealing p
 
-pub on_each_sealer : {P : Type 0} (x : ContentSealer) {f : CbcHmac Aes128 Sha256 → Type 0} {g : CbcHmac Aes192 Sha384 → Type 0} {h : CbcHmac Aes256 Sha512 → Type 0}
-    → ((y : CbcHmac Aes128 Sha256) → f y → P) → ((y : CbcHmac Aes192 Sha384) → g y → P) → ((y : CbcHmac Aes256 Sha512) → h y → P) → on_sealer x f g h → P
-on_each_sealer (A128CbcHs256 x) a b c k = a x k
-on_each_sealer (A192CbcHs384 x) a b c k = b x k
-on_each_sealer (A256CbcHs512 x) a b c k = c x k
+-- what is said of the one sealing that there is
+abbrev pub on_sealer : ContentSealer → (CbcHmac Aes128 Sha256 → Type 0) → (CbcHmac Aes192 Sha384 → Type 0) → (CbcHmac Aes256 Sha512 → Type 0)
+    → (Gcm Aes128 → Type 0) → (Gcm Aes192 → Type 0) → (Gcm Aes256 → Type 0) → Type 0
+on_sealer (A128CbcHs256 x) a b c d e f = a x
+on_sealer (A192CbcHs384 x) a b c d e f = b x
+on_sealer (A256CbcHs512 x) a b c d e f = c x
+on_sealer (A128Gcm x) a b c d e f = d x
+on_sealer (A192Gcm x) a b c d e f = e x
+on_sealer (A256Gcm x) a b c d e f = f x
+
+pub on_each_sealer : {P : Type 0} (x : ContentSealer)
+    {a : CbcHmac Aes128 Sha256 → Type 0} {b : CbcHmac Aes192 Sha384 → Type 0} {c : CbcHmac Aes256 Sha512 → Type 0}
+    {d : Gcm Aes128 → Type 0} {e : Gcm Aes192 → Type 0} {f : Gcm Aes256 → Type 0}
+    → ((y : CbcHmac Aes128 Sha256) → a y → P) → ((y : CbcHmac Aes192 Sha384) → b y → P) → ((y : CbcHmac Aes256 Sha512) → c y → P)
+    → ((y : Gcm Aes128) → d y → P) → ((y : Gcm Aes192) → e y → P) → ((y : Gcm Aes256) → f y → P)
+    → on_sealer x a b c d e f → P
+on_each_sealer (A128CbcHs256 x) a b c d e f k = a x k
+on_each_sealer (A192CbcHs384 x) a b c d e f k = b x k
+on_each_sealer (A256CbcHs512 x) a b c d e f k = c x k
+on_each_sealer (A128Gcm x) a b c d e f k = d x k
+on_each_sealer (A192Gcm x) a b c d e f k = e x k
+on_each_sealer (A256Gcm x) a b c d e f k = f x k

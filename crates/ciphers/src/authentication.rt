@@ -1,6 +1,7 @@
 //! The authentication of AES-CBC with HMAC (RFC 7518, section 5.2.2.1).
 ghost use Rattle.std.specs.Prelude.{◌≡◌, ℕ, ◌/◌, ◌≤◌, List, [], ◌++◌, length, take};
-ghost use Rattle.ciphers.specs.Sealing.{bit_length, cbc_tag};
+ghost use Rattle.ciphers.specs.Sealing.{cbc_tag};
+ghost use Rattle.modes.specs.Gcm.{bit_length};
 
 use prf::{Hash, Hmac};
 

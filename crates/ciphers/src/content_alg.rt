@@ -5,6 +5,7 @@ ghost use Rattle.ciphers.specs.Sealing.{cek_len, iv_len, sealing, IsOpening};
 use crate::cbc_hmac::{CbcHmac, open};
 use crate::sealer::{ContentSealer, Sealer};
 use aes::{Aes128, Aes192, Aes256};
+use modes::{Gcm, gcm_open};
 use prf::{Sha256, Sha384, Sha512};
 
 /// A content encryption algorithm.
@@ -16,6 +17,12 @@ pub enum ContentAlg {
     A192CbcHs384,
     /// AES-256 in CBC with HMAC SHA-512: `A256CBC-HS512`.
     A256CbcHs512,
+    /// AES-128 in Galois/Counter mode: `A128GCM`.
+    A128Gcm,
+    /// AES-192 in Galois/Counter mode: `A192GCM`.
+    A192Gcm,
+    /// AES-256 in Galois/Counter mode: `A256GCM`.
+    A256Gcm,
 }
 
 impl ContentAlg {
@@ -27,6 +34,9 @@ impl ContentAlg {
             ContentAlg::A128CbcHs256 => 32,
             ContentAlg::A192CbcHs384 => 48,
             ContentAlg::A256CbcHs512 => 64,
+            ContentAlg::A128Gcm => 16,
+            ContentAlg::A192Gcm => 24,
+            ContentAlg::A256Gcm => 32,
         }
     }
 
@@ -36,6 +46,7 @@ impl ContentAlg {
     {
         match self {
             ContentAlg::A128CbcHs256 | ContentAlg::A192CbcHs384 | ContentAlg::A256CbcHs512 => 16,
+            ContentAlg::A128Gcm | ContentAlg::A192Gcm | ContentAlg::A256Gcm => 12,
         }
     }
 
@@ -46,20 +57,33 @@ impl ContentAlg {
         requires iv_fits { length iv.now ≡ iv_len self }
         ensures { ⟦<ContentSealer as Sealer>⟧.is_sealing result (sealing self cek.now iv.now aad.now) [] }
     {
-        let iv = array(iv);
-        let (mac_key, key) = halves(cek);
         match self {
             ContentAlg::A128CbcHs256 => {
+                let (mac_key, key) = halves(cek);
                 let cipher = Aes128::new(&array(key));
-                ContentSealer::A128CbcHs256(CbcHmac::start(cipher, mac_key, &iv, aad))
+                ContentSealer::A128CbcHs256(CbcHmac::start(cipher, mac_key, &array(iv), aad))
             }
             ContentAlg::A192CbcHs384 => {
+                let (mac_key, key) = halves(cek);
                 let cipher = Aes192::new(&array(key));
-                ContentSealer::A192CbcHs384(CbcHmac::start(cipher, mac_key, &iv, aad))
+                ContentSealer::A192CbcHs384(CbcHmac::start(cipher, mac_key, &array(iv), aad))
             }
             ContentAlg::A256CbcHs512 => {
+                let (mac_key, key) = halves(cek);
                 let cipher = Aes256::new(&array(key));
-                ContentSealer::A256CbcHs512(CbcHmac::start(cipher, mac_key, &iv, aad))
+                ContentSealer::A256CbcHs512(CbcHmac::start(cipher, mac_key, &array(iv), aad))
+            }
+            ContentAlg::A128Gcm => {
+                let cipher = Aes128::new(&array(cek));
+                ContentSealer::A128Gcm(Gcm::start(cipher, &array(iv), aad))
+            }
+            ContentAlg::A192Gcm => {
+                let cipher = Aes192::new(&array(cek));
+                ContentSealer::A192Gcm(Gcm::start(cipher, &array(iv), aad))
+            }
+            ContentAlg::A256Gcm => {
+                let cipher = Aes256::new(&array(cek));
+                ContentSealer::A256Gcm(Gcm::start(cipher, &array(iv), aad))
             }
         }
     }
@@ -83,21 +107,25 @@ impl ContentAlg {
         if cek.len() != self.cek_len() || iv.len() != self.iv_len() {
             return None;
         }
-        let iv = array(iv);
-        let (mac_key, key) = halves(cek);
         match self {
             ContentAlg::A128CbcHs256 => {
+                let (mac_key, key) = halves(cek);
                 let cipher = Aes128::new(&array(key));
-                open::<Aes128, Sha256>(&cipher, mac_key, &iv, aad, buf, tag)
+                open::<Aes128, Sha256>(&cipher, mac_key, &array(iv), aad, buf, tag)
             }
             ContentAlg::A192CbcHs384 => {
+                let (mac_key, key) = halves(cek);
                 let cipher = Aes192::new(&array(key));
-                open::<Aes192, Sha384>(&cipher, mac_key, &iv, aad, buf, tag)
+                open::<Aes192, Sha384>(&cipher, mac_key, &array(iv), aad, buf, tag)
             }
             ContentAlg::A256CbcHs512 => {
+                let (mac_key, key) = halves(cek);
                 let cipher = Aes256::new(&array(key));
-                open::<Aes256, Sha512>(&cipher, mac_key, &iv, aad, buf, tag)
+                open::<Aes256, Sha512>(&cipher, mac_key, &array(iv), aad, buf, tag)
             }
+            ContentAlg::A128Gcm => gcm_open(&Aes128::new(&array(cek)), &array(iv), aad, buf, tag),
+            ContentAlg::A192Gcm => gcm_open(&Aes192::new(&array(cek)), &array(iv), aad, buf, tag),
+            ContentAlg::A256Gcm => gcm_open(&Aes256::new(&array(cek)), &array(iv), aad, buf, tag),
         }
     }
 }

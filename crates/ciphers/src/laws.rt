@@ -7,7 +7,7 @@ ghost use Rattle.ciphers.specs.declared.content_alg.ContentAlg.{ContentAlg};
 ghost use Rattle.octets.specs.Octets.{IsOctets};
 
 use aes::laws::encrypted_block_is_cipher;
-use modes::laws::cbc_plaintext_is_unique;
+use modes::laws::{cbc_plaintext_is_unique, gcm_plaintext_is_unique};
 
 /// No two texts are wrapped to one of at most 72 octets, so what `unwrap` gives is what was wrapped (RFC 3394,
 /// section 2.2).
@@ -23,4 +23,5 @@ pub fn opening_is_unique()
 {
     encrypted_block_is_cipher();
     cbc_plaintext_is_unique();
+    gcm_plaintext_is_unique();
 }

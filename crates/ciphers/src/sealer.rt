@@ -1,9 +1,11 @@
 //! Running sealings of content (RFC 7516, section 5.1, step 15).
 ghost use Rattle.std.specs.Prelude.{◌≡◌, ◌↔◌, ℕ, ◌≤◌, List, ◌++◌, length, take, IfOk, IfErr, IsErr, OnOk, OnErr};
+ghost use Rattle.ciphers.specs.Running.{IsGcmSealing};
 ghost use Rattle.ciphers.specs.Sealing.{Sealing, IsTooLong, KeepsPace};
 
 use crate::cbc_hmac::CbcHmac;
 use aes::{Aes128, Aes192, Aes256, Block};
+use modes::Gcm;
 use octets::Refusal;
 use prf::{Hash, Sha256, Sha384, Sha512};
 
@@ -45,6 +47,9 @@ pub enum ContentSealer {
     A128CbcHs256(CbcHmac<Aes128, Sha256>),
     A192CbcHs384(CbcHmac<Aes192, Sha384>),
     A256CbcHs512(CbcHmac<Aes256, Sha512>),
+    A128Gcm(Gcm<Aes128>),
+    A192Gcm(Gcm<Aes192>),
+    A256Gcm(Gcm<Aes256>),
 }
 
 impl Sealer for ContentSealer {
@@ -53,24 +58,44 @@ impl Sealer for ContentSealer {
     ghost is_sealing = { λ x s p. on_sealer x
         (λ y. IsSealing ⟦<Aes128 as Block>⟧.encrypted ⟦<Sha256 as Hash>⟧.function ⟦<Sha256 as Hash>⟧.holds y s p)
         (λ y. IsSealing ⟦<Aes192 as Block>⟧.encrypted ⟦<Sha384 as Hash>⟧.function ⟦<Sha384 as Hash>⟧.holds y s p)
-        (λ y. IsSealing ⟦<Aes256 as Block>⟧.encrypted ⟦<Sha512 as Hash>⟧.function ⟦<Sha512 as Hash>⟧.holds y s p) };
+        (λ y. IsSealing ⟦<Aes256 as Block>⟧.encrypted ⟦<Sha512 as Hash>⟧.function ⟦<Sha512 as Hash>⟧.holds y s p)
+        (λ y. IsGcmSealing ⟦<Aes128 as Block>⟧.encrypted y s p)
+        (λ y. IsGcmSealing ⟦<Aes192 as Block>⟧.encrypted y s p)
+        (λ y. IsGcmSealing ⟦<Aes256 as Block>⟧.encrypted y s p) };
 
     fn feed(&mut self, piece: &[u8], out: &mut [u8; 4112]) -> Result<usize, Refusal> {
-        Ok(match self {
-            ContentSealer::A128CbcHs256(sealer) => sealer.feed(piece, out),
-            ContentSealer::A192CbcHs384(sealer) => sealer.feed(piece, out),
-            ContentSealer::A256CbcHs512(sealer) => sealer.feed(piece, out),
-        })
+        match self {
+            ContentSealer::A128CbcHs256(sealer) => Ok(sealer.feed(piece, out)),
+            ContentSealer::A192CbcHs384(sealer) => Ok(sealer.feed(piece, out)),
+            ContentSealer::A256CbcHs512(sealer) => Ok(sealer.feed(piece, out)),
+            ContentSealer::A128Gcm(sealer) => sealer.feed(piece, out),
+            ContentSealer::A192Gcm(sealer) => sealer.feed(piece, out),
+            ContentSealer::A256Gcm(sealer) => sealer.feed(piece, out),
+        }
     }
 
     fn finish(self, last: &mut [u8; 16], tag: &mut [u8; 32]) -> (usize, usize) {
-        let tag_len = match self {
-            ContentSealer::A128CbcHs256(sealer) => sealer.finish(last, tag),
-            ContentSealer::A192CbcHs384(sealer) => sealer.finish(last, tag),
-            ContentSealer::A256CbcHs512(sealer) => sealer.finish(last, tag),
-        };
-        (16, tag_len)
+        match self {
+            ContentSealer::A128CbcHs256(sealer) => (16, sealer.finish(last, tag)),
+            ContentSealer::A192CbcHs384(sealer) => (16, sealer.finish(last, tag)),
+            ContentSealer::A256CbcHs512(sealer) => (16, sealer.finish(last, tag)),
+            ContentSealer::A128Gcm(sealer) => (0, finish_gcm(sealer, tag)),
+            ContentSealer::A192Gcm(sealer) => (0, finish_gcm(sealer, tag)),
+            ContentSealer::A256Gcm(sealer) => (0, finish_gcm(sealer, tag)),
+        }
     }
 
-    ghost keeps_pace = { λ x s p. on_each_sealer x (λ y r. r.pace) (λ y r. r.pace) (λ y r. r.pace) };
+    ghost keeps_pace = { λ x s p. on_each_sealer x (λ y r. r.pace) (λ y r. r.pace) (λ y r. r.pace) (λ y r. r.pace) (λ y r. r.pace) (λ y r. r.pace) };
+}
+
+/// Writes the tag to the front of `tag`, and answers its length.
+fn finish_gcm<B: Block>(sealer: Gcm<B>, tag: &mut [u8; 32]) -> usize
+    ensures within { result ≤ 32 }
+    ensures ciphertext { (s : Sealing) (p : List ℕ) → IsGcmSealing B.encrypted sealer s p
+        → (s.sealed p).ciphertext ≡ s.fixed p }
+    ensures tag { (s : Sealing) (p : List ℕ) → IsGcmSealing B.encrypted sealer s p
+        → (s.sealed p).tag ≡ take result tag.new }
+{
+    tag[..16].copy_from_slice(&sealer.finish());
+    16
 }

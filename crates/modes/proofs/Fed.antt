@@ -1,7 +1,8 @@
 -- A text that was fed, and what comes by the next piece.
-use Rattle.std.proofs.Common.{◌≡◌, ℕ, ◌+◌, ◌-◌, ◌*◌, ◌/◌, ◌%◌, ◌<◌, List, [], ◌++◌, length, take, drop, replicate, sym, ap, ap₂, ◌∙◌, arith, length-append, length-take, length-drop, append-nil, append_assoc}
-use Rattle.std.proofs.lemmas.List.{drop_at, take_all, take-append-drop, length-replicate, drop-replicate}
+use Rattle.std.proofs.Common.{◌≡◌, ℕ, ◌+◌, ◌-◌, ◌*◌, ◌/◌, ◌%◌, ◌<◌, List, [], ◌++◌, length, drop, replicate, sym, ap, ap₂, ◌∙◌, arith, length-append, length-drop, append-nil}
+use Rattle.std.proofs.lemmas.List.{length-replicate, drop-replicate}
 use Rattle.modes.specs.Cbc.{pad, chained, cbc_blocks, cbc}
+use Rattle.modes.proofs.Pieces.{whole_of, length-whole, whole_and_rest, waits_short, longer, together, full, blocks, left, joined, sixteen, length-blocks, filled_whole, left_short}
 use Rattle.modes.proofs.Chaining.{none_alone, chained_front, chained_back, blocks_behind}
 
 -- ---- a text p, of which w waits, and a piece x, by which the whole blocks t come and v waits
@@ -12,53 +13,30 @@ module _ (e : List ℕ → List ℕ) (iv p previous w : List ℕ) (is : previous
   n = length p / 16
 
   abbrev m : List ℕ
-  m = take (16 * n) p
+  m = whole_of p
 
   front : length m ≡ 16 * n
-  front = omega (arith, length-take (16 * n) p)
+  front = length-whole p w waits
 
   text : m ++ w ≡ p
-  text = ap (λ s. m ++ s) waits ∙ take-append-drop (16 * n) p
-
-  short_before : length w < 16
-  short_before = omega (arith, ap length waits, length-drop (16 * n) p)
+  text = whole_and_rest p w waits
 
   goes_on : previous ≡ chained e iv m n
   goes_on = is ∙ ap (λ s. chained e iv s n) (sym text) ∙ chained_front e iv m n front w n (omega arith)
-
-  longer : p ++ x ≡ m ++ (t ++ v)
-  longer = ap (λ s. s ++ x) (sym text) ∙ append_assoc m w x ∙ ap (λ s. m ++ s) same
-
-  long : length (p ++ x) ≡ 16 * (n + k) + length v
-  long = ap length longer ∙ omega (arith, length-append m (t ++ v), length-append t v, front, whole)
-
-  pub fed_count : length v ≡ length (p ++ x) % 16
-  fed_count = omega (arith, long, short)
-
-  together : length (p ++ x) / 16 ≡ n + k
-  together = omega (arith, long, short)
-
-  pub fed_len : 16 * (length p / 16) + 16 * k ≡ 16 * (length (p ++ x) / 16)
-  fed_len = omega (arith, together)
 
   pub fed_previous : chained e previous t k ≡ chained e iv (p ++ x) (length (p ++ x) / 16)
   fed_previous =
       ap (λ s. chained e s t k) goes_on
       ∙ sym (chained_front e (chained e iv m n) t k whole v k (omega arith))
       ∙ sym (chained_back e iv m n front (t ++ v) k)
-      ∙ ap₂ (chained e iv) (sym longer) (sym together)
-
-  pub fed_waiting : v ≡ drop (16 * (length (p ++ x) / 16)) (p ++ x)
-  fed_waiting =
-      sym (drop_at (m ++ t) v (16 * (length (p ++ x) / 16)) (omega (arith, length-append m t, front, whole, together)))
-      ∙ ap (drop (16 * (length (p ++ x) / 16))) (append_assoc m t v ∙ sym longer)
+      ∙ ap₂ (chained e iv) (sym (longer p w waits x t v k same whole short)) (sym (together p w waits x t v k same whole short))
 
   pub fed_text : cbc_blocks e iv (p ++ x) ≡ cbc_blocks e iv p ++ cbc_blocks e previous t
   fed_text =
-      ap (cbc_blocks e iv) longer
+      ap (cbc_blocks e iv) (longer p w waits x t v k same whole short)
       ∙ blocks_behind e iv m n front (t ++ v)
       ∙ ap₂ (λ a b. a ++ b)
-      (sym (ap (cbc_blocks e iv) (sym text) ∙ blocks_behind e iv m n front w ∙ ap (λ s. cbc_blocks e iv m ++ s) (none_alone e _ w short_before) ∙ append-nil (cbc_blocks e iv m)))
+      (sym (ap (cbc_blocks e iv) (sym text) ∙ blocks_behind e iv m n front w ∙ ap (λ s. cbc_blocks e iv m ++ s) (none_alone e _ w (waits_short p w waits)) ∙ append-nil (cbc_blocks e iv m)))
       (ap (λ s. cbc_blocks e s (t ++ v)) (sym goes_on)
       ∙ blocks_behind e previous t k whole v
       ∙ ap (λ s. cbc_blocks e previous t ++ s) (none_alone e _ v short)
@@ -68,53 +46,22 @@ module _ (e : List ℕ → List ℕ) (iv p previous w : List ℕ) (is : previous
 
 module _ (e : List ℕ → List ℕ) (iv p previous w : List ℕ) (is : previous ≡ chained e iv p (length p / 16)) (waits : w ≡ drop (16 * (length p / 16)) p)
     (front rest : List ℕ) (fills : length w + length front ≡ 16) where
-  -- the block that is full, the whole blocks, and what waits then
-  abbrev pub full : List ℕ
-  full = w ++ front
+  abbrev full_block : List ℕ
+  full_block = full w front rest fills
 
-  abbrev pub blocks : List ℕ
-  blocks = take (length rest / 16 * 16) rest
+  abbrev whole_blocks : List ℕ
+  whole_blocks = blocks w front rest fills
 
-  abbrev pub left : List ℕ
-  left = take (length rest - length rest / 16 * 16) (drop (length rest / 16 * 16) rest)
-
-  left_is : left ≡ drop (length rest / 16 * 16) rest
-  left_is = take_all (length rest - length rest / 16 * 16) (drop (length rest / 16 * 16) rest) (omega (arith, length-drop (length rest / 16 * 16) rest))
-
-  joined : w ++ (front ++ rest) ≡ (full ++ blocks) ++ left
-  joined =
-      sym (append_assoc w front rest)
-      ∙ ap (λ s. full ++ s) (sym (take-append-drop (length rest / 16 * 16) rest) ∙ ap (λ s. blocks ++ s) (sym left_is))
-      ∙ sym (append_assoc full blocks left)
-
-  sixteen : length full ≡ 16 * 1
-  sixteen = length-append w front ∙ omega (arith, fills)
-
-  size : length blocks ≡ 16 * (length rest / 16)
-  size = length-take (length rest / 16 * 16) rest ∙ omega arith
-
-  filled_whole : length (full ++ blocks) ≡ 16 * (1 + length rest / 16)
-  filled_whole = length-append full blocks ∙ omega (arith, sixteen, size)
-
-  filled_short : length left < 16
-  filled_short = omega (arith, ap length left_is, length-drop (length rest / 16 * 16) rest)
-
-  pub filled_previous : chained e (chained e previous full 1) blocks (length blocks / 16) ≡ chained e iv (p ++ (front ++ rest)) (length (p ++ (front ++ rest)) / 16)
+  pub filled_previous : chained e (chained e previous full_block 1) whole_blocks (length whole_blocks / 16) ≡ chained e iv (p ++ (front ++ rest)) (length (p ++ (front ++ rest)) / 16)
   filled_previous =
-      ap (chained e (chained e previous full 1) blocks) (let z : length blocks / 16 ≡ length rest / 16 = omega (arith, size) in z)
-      ∙ sym (chained_back e previous full 1 sixteen blocks (length rest / 16))
-      ∙ fed_previous e iv p previous w is waits (front ++ rest) (full ++ blocks) left (1 + length rest / 16) joined filled_whole filled_short
+      ap (chained e (chained e previous full_block 1) whole_blocks) (let z : length whole_blocks / 16 ≡ length rest / 16 = omega (arith, length-blocks w front rest fills) in z)
+      ∙ sym (chained_back e previous full_block 1 (sixteen w front rest fills) whole_blocks (length rest / 16))
+      ∙ fed_previous e iv p previous w is waits (front ++ rest) (full_block ++ whole_blocks) (left w front rest fills) (1 + length rest / 16) (joined w front rest fills) (filled_whole w front rest fills) (left_short w front rest fills)
 
-  pub filled_waiting : left ≡ drop (16 * (length (p ++ (front ++ rest)) / 16)) (p ++ (front ++ rest))
-  filled_waiting = fed_waiting e iv p previous w is waits (front ++ rest) (full ++ blocks) left (1 + length rest / 16) joined filled_whole filled_short
-
-  pub filled_count : length left ≡ length (p ++ (front ++ rest)) % 16
-  filled_count = fed_count e iv p previous w is waits (front ++ rest) (full ++ blocks) left (1 + length rest / 16) joined filled_whole filled_short
-
-  pub filled_text : cbc_blocks e iv (p ++ (front ++ rest)) ≡ cbc_blocks e iv p ++ (cbc_blocks e previous full ++ cbc_blocks e (chained e previous full 1) blocks)
+  pub filled_text : cbc_blocks e iv (p ++ (front ++ rest)) ≡ cbc_blocks e iv p ++ (cbc_blocks e previous full_block ++ cbc_blocks e (chained e previous full_block 1) whole_blocks)
   filled_text =
-      fed_text e iv p previous w is waits (front ++ rest) (full ++ blocks) left (1 + length rest / 16) joined filled_whole filled_short
-      ∙ ap (λ s. cbc_blocks e iv p ++ s) (blocks_behind e previous full 1 sixteen blocks)
+      fed_text e iv p previous w is waits (front ++ rest) (full_block ++ whole_blocks) (left w front rest fills) (1 + length rest / 16) (joined w front rest fills) (filled_whole w front rest fills) (left_short w front rest fills)
+      ∙ ap (λ s. cbc_blocks e iv p ++ s) (blocks_behind e previous full_block 1 (sixteen w front rest fills) whole_blocks)
 
 -- ---- the end
 

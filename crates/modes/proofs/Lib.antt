@@ -1,6 +1,12 @@
 pub mod Blocks
 pub mod Sums
 pub mod Chaining
+pub mod Pieces
 pub mod Fed
 pub mod Padding
 pub mod Opening
+pub mod Counting
+pub mod Fronts
+pub mod BlockProduct
+pub mod Numbers
+pub mod Protecting

@@ -1,21 +1,28 @@
 //! Modes of operation over any block cipher.
 //!
-//! `Cbc` encrypts a text that comes in pieces (SP 800-38A, with padding), and `cbc_open` opens one in place. Nothing
-//! here takes memory, knows a key or compares a tag.
+//! `Cbc`, `Ctr32` and `Gcm` encrypt a text that comes in pieces (SP 800-38A, SP 800-38D), `Ghash` sums blocks, and
+//! `cbc_open` and `gcm_open` open a ciphertext in place. Nothing here takes memory or knows a key's octets.
 //!
 //! ```rust
-//! let mut cbc = Cbc::start(Aes128::new(&key), &iv);
-//! let n = cbc.feed(piece, &mut out); // &out[..n] is the text of the blocks that are whole now
-//! cbc.finish(&mut last);
+//! let mut gcm = Gcm::start(Aes128::new(&key), &iv, &aad);
+//! let n = gcm.feed(piece, &mut out)?; // &out[..n] is the piece's ciphertext
+//! let tag = gcm.finish();
+//! assert_eq!(rt; gcm_open(&cipher, &iv, &aad, &mut buf, &tag), Some(buf.len()));
 //! ```
 #![tactic(auto)]
 
 mod cbc;
 mod cbc_opening;
+mod ctr;
+mod gcm;
+mod ghash;
 pub mod laws;
 
 pub use cbc::Cbc;
 pub use cbc_opening::cbc_open;
+pub use ctr::Ctr32;
+pub use gcm::{Gcm, gcm_open};
+pub use ghash::Ghash;
 
 #[cfg(test)]
 mod tests;

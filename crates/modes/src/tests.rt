@@ -1,9 +1,9 @@
-//! CBC: a toy cipher, the vectors of SP 800-38A, appendix F.2, and texts that are cut.
+//! CBC, counter mode and GHASH: a toy cipher, the vectors of SP 800-38A, products, and texts that are cut.
 ghost use Rattle.std.specs.Prelude.{◌≡◌, ◌<◌};
 ghost use Rattle.aes.specs.Block.{IsCipher};
 ghost use Rattle.modes.specs.Toy.{turned};
 
-use crate::{Cbc, cbc_open};
+use crate::{Cbc, Ctr32, Ghash, cbc_open};
 use aes::{Aes128, Aes192, Aes256, Block};
 use std::process::Abort;
 
@@ -211,5 +211,103 @@ fn a_cut_changes_nothing(rt: HostRuntime) {
     for cut in 0..51_usize {
         let text = encrypt(&rt, Toy::new(), &IV, &TEXT[..50], cut, 50);
         assert_eq!(rt; text.octets, whole.octets, "cut at {cut}");
+    }
+}
+
+// The sum of the text, of which the first piece ends at the cut.
+fn hash(rt: &impl Abort, h: u128, text: &[u8], cut: usize) -> [u8; 16] {
+    assert!(rt; cut <= text.len());
+    let mut ghash = Ghash::start(&h.to_be_bytes());
+    ghash.feed(&text[..cut]);
+    ghash.feed(&text[cut..]);
+    ghash.finish()
+}
+
+#[test]
+fn sums_of_blocks(rt: HostRuntime) {
+    let top = 1_u128 << 120;
+    let h = 0x66e94bd4ef8a2c3b884cfa59ca342b2e;
+    let x = 0x0388dace60b6a392f328c2b971b2fe78;
+    let y = 0x5e2ec746917062882c85b0685353deb7;
+    for (h, first, second, expected) in [
+        (0x80 * top, Some(x), y, x ^ y),
+        (0x40 * top, None, 0x80 * top, 0x40 * top),
+        (0x40 * top, None, 1, 0xe1 * top),
+        (h, Some(x), 0x80, 0xf38cbb1ad69223dcc3457ae5b6b0f885),
+    ] {
+        let mut ghash = Ghash::start(&h.to_be_bytes());
+        if let Some(block) = first {
+            ghash.feed(&block.to_be_bytes());
+        }
+        ghash.feed(&second.to_be_bytes());
+        assert_eq!(rt; u128::from_be_bytes(ghash.finish()), expected);
+    }
+    let mut filled = [0; 64];
+    filled[..50].copy_from_slice(&TEXT[..50]);
+    let whole = hash(&rt, h, &filled, 64);
+    for cut in 0..51_usize {
+        assert_eq!(rt; hash(&rt, h, &TEXT[..50], cut), whole, "cut at {cut}");
+    }
+    let mut ghash = Ghash::start(&h.to_be_bytes());
+    ghash.feed(&TEXT[..50]);
+    ghash.pad();
+    ghash.feed(&[]);
+    assert_eq!(rt; ghash.finish(), whole);
+}
+
+#[test]
+fn the_counter_is_of_four_octets(rt: HostRuntime) {
+    let first = [0, 1, 2, 3, 4, 5, 6, 7, 8, 9, 10, 11, 0xff, 0xff, 0xff, 0xff];
+    let mut ctr = Ctr32::start(Toy::new(), &first);
+    let mut out = [0; 4112];
+    assert_eq!(rt; ctr.feed(&[0; 32], &mut out), 32);
+    ctr.finish();
+    let expected = [
+        0, 3, 2, 5, 4, 7, 6, 9, 8, 11, 10, 0xfe, 0xfe, 0xfe, 0xfe, 1, 0, 3, 2, 5, 4, 7, 6, 9, 8,
+        11, 10, 1, 1, 1, 1, 1,
+    ];
+    assert_eq!(rt; front(&out), expected);
+}
+
+fn front(octets: &[u8; 4112]) -> [u8; 32] {
+    let mut front = [0; 32];
+    front.copy_from_slice(&octets[..32]);
+    front
+}
+
+// The text in counter mode, of which the first piece ends at the cut.
+fn count(rt: &impl Abort, text: &[u8], cut: usize) -> [u8; 64] {
+    assert!(rt; text.len() <= 64 && cut <= text.len());
+    let key = [
+        0x2b, 0x7e, 0x15, 0x16, 0x28, 0xae, 0xd2, 0xa6, 0xab, 0xf7, 0x15, 0x88, 0x09, 0xcf, 0x4f,
+        0x3c,
+    ];
+    let first = [
+        0xf0, 0xf1, 0xf2, 0xf3, 0xf4, 0xf5, 0xf6, 0xf7, 0xf8, 0xf9, 0xfa, 0xfb, 0xfc, 0xfd, 0xfe,
+        0xff,
+    ];
+    let mut ctr = Ctr32::start(Aes128::new(&key), &first);
+    let mut result = [0; 64];
+    let mut out = [0; 4112];
+    let n = ctr.feed(&text[..cut], &mut out);
+    result[..n].copy_from_slice(&out[..n]);
+    let m = ctr.feed(&text[cut..], &mut out);
+    result[n..n + m].copy_from_slice(&out[..m]);
+    result
+}
+
+#[test]
+fn sp800_38a_appendix_f5_1(rt: HostRuntime) {
+    let text = [
+        0x87, 0x4d, 0x61, 0x91, 0xb6, 0x20, 0xe3, 0x26, 0x1b, 0xef, 0x68, 0x64, 0x99, 0x0d, 0xb6,
+        0xce, 0x98, 0x06, 0xf6, 0x6b, 0x79, 0x70, 0xfd, 0xff, 0x86, 0x17, 0x18, 0x7b, 0xb9, 0xff,
+        0xfd, 0xff, 0x5a, 0xe4, 0xdf, 0x3e, 0xdb, 0xd5, 0xd3, 0x5e, 0x5b, 0x4f, 0x09, 0x02, 0x0d,
+        0xb0, 0x3e, 0xab, 0x1e, 0x03, 0x1d, 0xda, 0x2f, 0xbe, 0x03, 0xd1, 0x79, 0x21, 0x70, 0xa0,
+        0xf3, 0x00, 0x9c, 0xee,
+    ];
+    assert_eq!(rt; count(&rt, &TEXT, 0), text);
+    let whole = count(&rt, &TEXT[..50], 50);
+    for cut in 0..51_usize {
+        assert_eq!(rt; count(&rt, &TEXT[..50], cut), whole);
     }
 }

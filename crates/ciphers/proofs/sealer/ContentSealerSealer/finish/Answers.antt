@@ -5,15 +5,15 @@ use Rattle.ciphers.proofs.sealer.ContentSealerSealer.finish.Goals as goal
 
 pub returns-in-A128CbcHs256-clause-ciphertext : goal.returns-in-A128CbcHs256-clause-ciphertext
 returns-in-A128CbcHs256-clause-ciphertext c s p k =
-    c.finish-tag_len.ensures.ciphertext s p (at_a128 _ _ _ _ k c.in-A128CbcHs256.sealer c.in-A128CbcHs256.is)
-    ∙ ap (λ x. s.fixed p ++ x) (sym (take_all 16 c.finish-tag_len.new.last (omega (arith, c.finish-tag_len.array_long))))
+    c.finish.ensures.ciphertext s p (at_a128 _ _ _ _ _ _ _ k c.in-A128CbcHs256.sealer c.in-A128CbcHs256.is)
+    ∙ ap (λ x. s.fixed p ++ x) (sym (take_all 16 c.finish.new.last (omega (arith, c.finish.array_long))))
 
 pub returns-in-A192CbcHs384-clause-ciphertext : goal.returns-in-A192CbcHs384-clause-ciphertext
 returns-in-A192CbcHs384-clause-ciphertext c s p k =
-    c.finish-tag_len-in-A192CbcHs384.ensures.ciphertext s p (at_a192 _ _ _ _ k c.in-A192CbcHs384.sealer c.in-A192CbcHs384.is)
-    ∙ ap (λ x. s.fixed p ++ x) (sym (take_all 16 c.finish-tag_len-in-A192CbcHs384.new.last (omega (arith, c.finish-tag_len-in-A192CbcHs384.array_long))))
+    c.finish-in-A192CbcHs384.ensures.ciphertext s p (at_a192 _ _ _ _ _ _ _ k c.in-A192CbcHs384.sealer c.in-A192CbcHs384.is)
+    ∙ ap (λ x. s.fixed p ++ x) (sym (take_all 16 c.finish-in-A192CbcHs384.new.last (omega (arith, c.finish-in-A192CbcHs384.array_long))))
 
 pub returns-in-A256CbcHs512-clause-ciphertext : goal.returns-in-A256CbcHs512-clause-ciphertext
 returns-in-A256CbcHs512-clause-ciphertext c s p k =
-    c.finish-tag_len-in-A256CbcHs512.ensures.ciphertext s p (at_a256 _ _ _ _ k c.in-A256CbcHs512.sealer c.in-A256CbcHs512.is)
-    ∙ ap (λ x. s.fixed p ++ x) (sym (take_all 16 c.finish-tag_len-in-A256CbcHs512.new.last (omega (arith, c.finish-tag_len-in-A256CbcHs512.array_long))))
+    c.finish-in-A256CbcHs512.ensures.ciphertext s p (at_a256 _ _ _ _ _ _ _ k c.in-A256CbcHs512.sealer c.in-A256CbcHs512.is)
+    ∙ ap (λ x. s.fixed p ++ x) (sym (take_all 16 c.finish-in-A256CbcHs512.new.last (omega (arith, c.finish-in-A256CbcHs512.array_long))))

@@ -3,7 +3,8 @@ use Rattle.std.proofs.lemmas.List.{take_at}
 use Rattle.modes.specs.Cbc.{chained, cbc_blocks}
 use Rattle.modes.specs.Running.{IsFed}
 use Rattle.modes.proofs.Chaining.{none_alone}
-use Rattle.modes.proofs.Fed.{fed_count, fed_previous, fed_waiting, fed_text, filled_previous, filled_waiting, filled_count, filled_text}
+use Rattle.modes.proofs.Fed.{fed_previous, fed_text, filled_previous, filled_text}
+use Rattle.modes.proofs.Pieces.{fed_count, fed_waiting, filled_count, filled_waiting}
 use Rattle.modes.proofs.cbc.Cbc.feed.Goals as goal
 
 front_of : (x y z : List ℕ) (n : ℕ) → length x + length y ≡ n → take n (x ++ (y ++ z)) ≡ x ++ y
@@ -20,8 +21,8 @@ returns-then-piece-space-clause-fed g c e iv p f =
     record {
       cipher = ap g.B.Block.encrypted c.keep.ensures.cipher ∙ f.cipher;
       previous = c.keep.ensures.previous ∙ fed_previous e iv p s.previous w f.previous f.waiting x [] (w ++ x) 0 refl refl short;
-      waiting = c.keep.ensures.waiting ∙ fed_waiting e iv p s.previous w f.previous f.waiting x [] (w ++ x) 0 refl refl short;
-      counted = c.keep.ensures.count ∙ omega (arith, length-append w x, long) ∙ fed_count e iv p s.previous w f.previous f.waiting x [] (w ++ x) 0 refl refl short;
+      waiting = c.keep.ensures.waiting ∙ fed_waiting p w f.waiting x [] (w ++ x) 0 refl refl short;
+      counted = c.keep.ensures.count ∙ omega (arith, length-append w x, long) ∙ fed_count p w f.waiting x [] (w ++ x) 0 refl refl short;
     }
 
 pub returns-then-piece-space-clause-text : goal.returns-then-piece-space-clause-text
@@ -56,12 +57,12 @@ returns-clause-fed g c e iv p f =
       waiting =
           c.keep-2.ensures.waiting
           ∙ ap (λ n. take n c.complete.new.self.waiting ++ left) c.complete.ensures.count
-          ∙ filled_waiting e iv p s.previous w f.previous f.waiting front rest fills;
+          ∙ filled_waiting p w f.waiting front rest fills;
       counted =
           c.keep-2.ensures.count
           ∙ ap (λ n. n + length left) c.complete.ensures.count
           ∙ omega arith
-          ∙ filled_count e iv p s.previous w f.previous f.waiting front rest fills;
+          ∙ filled_count p w f.waiting front rest fills;
     }
 
 pub returns-clause-text : goal.returns-clause-text
