@@ -8,7 +8,7 @@ use Rattle.octets.specs.declared.refusal.Refusal.{Refusal}
 use Rattle.octets.specs.declared.refusal.Refusal.TheVariants.{Form, Memory}
 use Rattle.octets.specs.Base64url.{base64url, is_url_character, DecodesExactly, HasUrlCharacters}
 use Rattle.octets.specs.Outcomes.{◌>>=◌, needs, is_memory, AgreesUnlessMemory}
-use Rattle.jose.specs.declared.objects.compact.Compact.{Compact}
+use Rattle.jose.specs.declared.forms.compact.Compact.{Compact}
 use Rattle.jose.specs.Jws.{is_dot, parts_at, split_at_dot, three_parts, compact_parts, compact_view, CompactParts, AreOctets, SpellsCompact}
 
 -- ---- texts without a dot

@@ -1,8 +1,5 @@
-pub mod Readings
-pub mod WholeNumbers
-pub mod Strings
+pub mod Keys
 pub mod CompactTexts
-pub mod Floats
 pub mod Finding
 pub mod Lines
 pub mod Parses
@@ -11,3 +8,5 @@ pub mod Table
 pub mod Prefixes
 pub mod Agreement
 pub mod SigningPlans
+pub mod HeaderMembers
+pub mod Draws

@@ -1,16 +1,19 @@
 -- The answer of each command: the octets of each output, or the first refusal, from whole inputs.
-use Rattle.std.specs.Prelude.{◌≡◌, ◌≢◌, ℕ, Bool, true, false, ◌&&◌, IsTrue, List, [], is_some, if◌then◌else◌, Result, Ok, Err}
+use Rattle.std.specs.Prelude.{◌≡◌, ◌≢◌, ◌≤◌, ℕ, Bool, true, false, ◌&&◌, IsTrue, List, [], length, is_some, if◌then◌else◌, Result, Ok, Err}
+use Rattle.std.specs.Option.{ok_or}
 use Rattle.octets.specs.declared.refusal.Refusal.{Refusal}
-use Rattle.octets.specs.declared.refusal.Refusal.TheVariants.{Write}
+use Rattle.octets.specs.declared.refusal.Refusal.TheVariants.{Usage, Write}
 use Rattle.octets.specs.Devices.{Observed}
 use Rattle.octets.specs.Outcomes.{◌>>=◌, AgreesUnlessExternal}
+use Rattle.keys.specs.Generating.{generated}
 use Rattle.jose.specs.declared.command.Command.{Command}
-use Rattle.jose.specs.declared.command.Command.TheVariants.{B64Enc, B64Dec, JwsSig, JwsVer}
+use Rattle.jose.specs.declared.command.Command.TheVariants.{JwkGen, JwkThp, B64Enc, B64Dec, JwsSig, JwsVer}
 use Rattle.jose.specs.declared.ports.Inputs.{Inputs}
 use Rattle.jose.specs.declared.ports.Outputs.{Outputs}
-use Rattle.jose.specs.Invocations.{SeenInvocation, Settings, value_at}
+use Rattle.jose.specs.Invocations.{SeenInvocation, Settings, value_at, hash_asked}
 use Rattle.jose.specs.Ports.{InputTexts, OutputTexts, nothing, as_text, as_content, SeenInputs, ArePossibleInputs}
 use Rattle.jose.specs.Plan.{Plan, plan_map, without_content, beginning_of}
+use Rattle.jose.specs.Jwk.{drawn_len, thumbprints}
 use Rattle.jose.specs.Encoding.{encoding, decoding}
 use Rattle.jose.specs.Signing.{signing}
 use Rattle.jose.specs.Verifying.{verifying}
@@ -23,6 +26,8 @@ is_content_wanted settings = is_some (value_at 79 settings)
 
 -- which of the inputs is the content, which may be read while its text is written
 abbrev pub content_of : {A : Type 0} → Command → A → A → A → A
+content_of JwkGen text content none = none
+content_of JwkThp text content none = none
 content_of B64Enc text content none = content
 content_of B64Dec text content none = text
 content_of JwsSig text content none = content
@@ -30,6 +35,13 @@ content_of JwsVer text content none = none
 
 -- what the other inputs settle, or the first refusal
 abbrev pub plan_of : Command → Settings → InputTexts → Result (Plan OutputTexts) Refusal
+plan_of JwkGen settings inputs = do
+  text ← generated inputs.text inputs.random
+  Ok (without_content (as_text text))
+plan_of JwkThp settings inputs = do
+  hash ← ok_or (hash_asked settings) Usage
+  text ← thumbprints hash inputs.text
+  Ok (without_content (as_text text))
 plan_of B64Enc settings inputs = Ok (plan_map as_text encoding)
 plan_of B64Dec settings inputs = Ok (plan_map as_content decoding)
 plan_of JwsSig settings inputs = do
@@ -50,10 +62,28 @@ abbrev pub Answers : SeenInvocation → SeenInputs → OutputTexts → Result (U
 Answers invocation seen wrote result =
     (inputs : InputTexts) → ArePossibleInputs seen inputs → AgreesUnlessExternal (answer invocation.command invocation.options inputs) wrote result
 
+-- ---- what is drawn
+
+-- how many octets of the random input the answer takes
+abbrev pub random_len : Command → InputTexts → ℕ
+random_len JwkGen inputs = drawn_len inputs.text
+random_len other inputs = 0
+
+-- exactly these were read
+abbrev pub DrawsAll : SeenInvocation → SeenInputs → Type 0
+DrawsAll invocation seen = (inputs : InputTexts) → ArePossibleInputs seen inputs → length seen.random.octets ≡ random_len invocation.command inputs
+
+-- no others were read
+abbrev pub DrawsNoMore : SeenInvocation → SeenInputs → Type 0
+DrawsNoMore invocation seen = (inputs : InputTexts) → ArePossibleInputs seen inputs → length seen.random.octets ≤ random_len invocation.command inputs
+
 -- ---- what stands after a refusal
 
--- the inputs beside the content have given all that is taken of them
+-- The inputs beside the content have given all that is taken of them. Of a random input the octets so far decide:
+-- where they are too few for a key, nothing is made of them.
 abbrev pub others_read : Command → SeenInputs → Bool
+others_read JwkGen seen = seen.text.ended
+others_read JwkThp seen = seen.text.ended
 others_read B64Enc seen = true
 others_read B64Dec seen = true
 others_read JwsSig seen = seen.text.ended && seen.keys.ended
@@ -75,6 +105,8 @@ beginning invocation seen =
 
 -- nothing is written before all of it is accepted
 abbrev pub holds_back : Command → Bool
+holds_back JwkGen = true
+holds_back JwkThp = true
 holds_back B64Enc = false
 holds_back B64Dec = false
 holds_back JwsSig = false
@@ -88,33 +120,44 @@ HoldsBack written invocation old new refusal =
 -- ---- the devices that a command has options for
 
 abbrev pub has_text_input : Command → Bool
+has_text_input JwkGen = true
+has_text_input JwkThp = true
 has_text_input B64Enc = false
 has_text_input B64Dec = true
 has_text_input JwsSig = true
 has_text_input JwsVer = true
 
 abbrev pub has_keys_input : Command → Bool
+has_keys_input JwkGen = false
+has_keys_input JwkThp = false
 has_keys_input B64Enc = false
 has_keys_input B64Dec = false
 has_keys_input JwsSig = true
 has_keys_input JwsVer = true
 
 abbrev pub has_content_input : Command → Bool
+has_content_input JwkGen = false
+has_content_input JwkThp = false
 has_content_input B64Enc = true
 has_content_input B64Dec = false
 has_content_input JwsSig = true
 has_content_input JwsVer = false
 
 abbrev pub has_random_input : Command → Bool
-has_random_input command = false
+has_random_input JwkGen = true
+has_random_input other = false
 
 abbrev pub has_text_output : Command → Bool
+has_text_output JwkGen = true
+has_text_output JwkThp = true
 has_text_output B64Enc = true
 has_text_output B64Dec = false
 has_text_output JwsSig = true
 has_text_output JwsVer = false
 
 abbrev pub has_content_output : Command → Settings → Bool
+has_content_output JwkGen settings = false
+has_content_output JwkThp settings = false
 has_content_output B64Enc settings = false
 has_content_output B64Dec settings = true
 has_content_output JwsSig settings = false

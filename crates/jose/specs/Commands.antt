@@ -4,7 +4,7 @@ use Rattle.std.specs.Prelude.{ℕ, ◌&&◌, Bool, List, [], ◌∷◌, Option, 
 use Rattle.std.specs.Str.{byte, bytes_eq}
 use Rattle.clap.specs.Words.{Text}
 use Rattle.jose.specs.declared.command.Command.{Command}
-use Rattle.jose.specs.declared.command.Command.TheVariants.{B64Enc, B64Dec, JwsSig, JwsVer}
+use Rattle.jose.specs.declared.command.Command.TheVariants.{JwkGen, JwkThp, B64Enc, B64Dec, JwsSig, JwsVer}
 use Rattle.jose.specs.declared.command.Role.{Role}
 use Rattle.jose.specs.declared.command.Role.TheVariants.{Input, Output, Neither}
 
@@ -37,6 +37,18 @@ entry command noun verb options = record { command = command; noun = codes noun;
 abbrev pub else_value : String → Takes
 else_value text = default (codes text)
 
+abbrev pub jwk_gen_options : List OptionEntry
+jwk_gen_options =
+    option "i" "template" required Input ∷
+    option "o" "key" (else_value "-") Output ∷
+    option "R" "random" optional Input ∷ []
+
+abbrev pub jwk_thp_options : List OptionEntry
+jwk_thp_options =
+    option "i" "keys" (else_value "-") Input ∷
+    option "a" "hash" (else_value "S256") Neither ∷
+    option "o" "thumbprints" (else_value "-") Output ∷ []
+
 abbrev pub jws_sig_options : List OptionEntry
 jws_sig_options =
     option "s" "template" (else_value "{}") Input ∷
@@ -53,6 +65,8 @@ jws_ver_options =
 
 unfoldable pub commands : List CommandEntry
 commands =
+    entry JwkGen "jwk" "gen" jwk_gen_options ∷
+    entry JwkThp "jwk" "thp" jwk_thp_options ∷
     entry B64Enc "b64" "enc" (
     option "I" "octets" (else_value "-") Input ∷
     option "o" "text" (else_value "-") Output ∷ []) ∷

@@ -8,7 +8,7 @@ use Rattle.octets.specs.declared.streams.ReaderInput.{ReaderInput}
 use Rattle.octets.specs.declared.streams.WriterOutput.{WriterOutput}
 use Rattle.octets.specs.Streams.{reader_of, consumed_of, is_at_end_of, remaining_of, read_failures_of, writer_of, written_of, is_finished_of, write_failures_of}
 use Rattle.jose.specs.declared.command.Command.{Command}
-use Rattle.jose.specs.declared.command.Command.TheVariants.{B64Dec}
+use Rattle.jose.specs.declared.command.Command.TheVariants.{JwkGen, B64Dec}
 use Rattle.jose.specs.declared.files.Source.{Source}
 use Rattle.jose.specs.declared.files.Source.TheVariants as source
 use Rattle.jose.specs.declared.files.Sink.{Sink}
@@ -65,6 +65,11 @@ abbrev pub text_may_be_json : Command → Bool
 text_may_be_json B64Dec = false
 text_may_be_json other = true
 
+-- the file of random octets where `-R` names none
+abbrev pub random_default : Command → Option Text
+random_default JwkGen = Some (codes "/dev/urandom")
+random_default other = None
+
 -- ---- sinks
 
 -- nowhere, standard output, or the file of this name
@@ -117,12 +122,12 @@ pub record IsNewOutput {R F D : Type 0} (destination : Destination) (device : Wr
   pub unfinished : is_finished_of device ≡ false
   pub failures : write_failures_of device ≡ 0
 
--- each input is the one that its option names, and the text that of `-i` or else `-s`
+-- each input is the one that its option names, the text that of `-i` or else `-s`, and the random one that of `-R` or else `/dev/urandom`
 pub record AreNewInputs {R F D : Type 0} (invocation : SeenInvocation) (inputs : Inputs (ReaderInput (Source R F D))) : Type 0 where
   pub text : IsNewInput (origin_named (text_may_be_json invocation.command) (option_or (value_at (byte "i") invocation.options) (value_at (byte "s") invocation.options))) inputs.text
   pub content : IsNewInput (origin_named false (value_at (byte "I") invocation.options)) inputs.content
   pub keys : IsNewInput (origin_named true (value_at (byte "k") invocation.options)) inputs.keys
-  pub random : IsNewInput (origin_named false (value_at (byte "R") invocation.options)) inputs.random
+  pub random : IsNewInput (origin_named false (option_or (value_at (byte "R") invocation.options) (random_default invocation.command))) inputs.random
 
 -- each output is the one that its option names
 pub record AreNewOutputs {R F D : Type 0} (invocation : SeenInvocation) (outputs : Outputs (WriterOutput (Sink R F D))) : Type 0 where

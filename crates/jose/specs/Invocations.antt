@@ -1,6 +1,10 @@
 -- An invocation as contracts see it.
-use Rattle.std.specs.Prelude.{ℕ, ◌==◌, List, map, find, Option, option_map, string_bytes}
+use Rattle.std.specs.Prelude.{ℕ, ◌==◌, List, [], ◌∷◌, map, find, codes, Option, option_map, string_bytes}
+use Rattle.std.specs.Option.{option_and_then}
+use Rattle.std.specs.Str.{byte, bytes_eq}
 use Rattle.clap.specs.Words.{Text}
+use Rattle.prf.specs.declared.digests.HashAlg.{HashAlg}
+use Rattle.prf.specs.declared.digests.HashAlg.TheVariants.{S224, S256, S384, S512}
 use Rattle.jose.specs.declared.command.Command.{Command}
 use Rattle.jose.specs.declared.invocation.Setting.{Setting}
 use Rattle.jose.specs.declared.invocation.Invocation.{Invocation}
@@ -22,3 +26,21 @@ seen invocation = record { command = invocation.command; options = settings_seen
 -- the value of the option with this letter
 abbrev pub value_at : ℕ → Settings → Option Text
 value_at letter settings = option_map (λ setting. setting.1) (find (λ setting. setting.0 == letter) settings)
+
+-- ---- the hash that `-a` names
+
+abbrev pub hash_name : HashAlg → Text
+hash_name S224 = codes "S224"
+hash_name S256 = codes "S256"
+hash_name S384 = codes "S384"
+hash_name S512 = codes "S512"
+
+abbrev pub hash_algs : List HashAlg
+hash_algs = S224 ∷ S256 ∷ S384 ∷ S512 ∷ []
+
+-- the hash of this name
+unfoldable pub hash_named : Text → Option HashAlg
+hash_named name = find (λ hash. bytes_eq name (hash_name hash)) hash_algs
+
+abbrev pub hash_asked : Settings → Option HashAlg
+hash_asked settings = option_and_then hash_named (value_at (byte "a") settings)

@@ -1,14 +1,17 @@
 -- JWS objects in compact form (RFC 7515 section 7.1).
 use Rattle.std.specs.Prelude.{◌≡◌, ℕ, ◌+◌, ◌==◌, ◌||◌, Bool, false, not, List, ◌++◌, take, drop, codes, string_bytes, is_none, position, Option, Some, None, Result, Ok, Err}
 use Rattle.std.specs.List.{find}
+use Rattle.std.specs.Option.{ok_or}
+use Rattle.serde_json.specs.Data.{Members, no_members}
+use Rattle.serde_json.specs.Find.{get_member}
 use Rattle.octets.specs.declared.refusal.Refusal.{Refusal}
-use Rattle.octets.specs.declared.refusal.Refusal.TheVariants.{Form}
+use Rattle.octets.specs.declared.refusal.Refusal.TheVariants.{Form, Header, Unsupported}
 use Rattle.octets.specs.Outcomes.{◌>>=◌, needs}
 use Rattle.octets.specs.Octets.{IsOctets}
 use Rattle.octets.specs.Base64url.{base64url, decoded}
-use Rattle.jose.specs.declared.objects.compact.Compact.{Compact}
-use Rattle.jose.specs.declared.objects.jws.Jws.{Jws}
-use Rattle.jose.specs.Headers.{header_of, header_alg}
+use Rattle.jose.specs.declared.forms.compact.Compact.{Compact}
+use Rattle.jose.specs.declared.forms.jws.Jws.{Jws}
+use Rattle.objects.specs.Headers.{protected_members, joint_header, string_parameter}
 use Rattle.jose.specs.LineEnds.{without_line_end}
 
 -- ---- what a text spells
@@ -88,13 +91,22 @@ pub record SignedObject : Type 0 where
   pub signature : List ℕ
   pub alg : List ℕ
 
+-- the `alg` of a header that is all protected, and has no `crit` (RFC 7515 sections 4.1.1 and 4.1.11)
+unfoldable pub header_alg : Members → Result (List ℕ) Refusal
+header_alg protected = do
+  header ← joint_header protected no_members no_members
+  found ← string_parameter (codes "alg") header
+  alg ← ok_or found Header
+  plain ← needs (is_none (get_member (codes "crit") header)) Unsupported
+  Ok alg
+
 -- the object that a compact text is
 unfoldable pub signed_object : List ℕ → Result SignedObject Refusal
 signed_object text = do
   compact ← needs (not (is_json_form text)) Form
   parts ← compact_parts (without_line_end text)
-  header ← header_of parts.header
-  alg ← header_alg header
+  protected ← protected_members parts.header
+  alg ← header_alg protected
   Ok (record { protected = parts.protected; payload_text = parts.payload_text; payload = parts.payload; signature = parts.signature; alg = alg })
 
 -- ---- what values of the code hold

@@ -1,14 +1,20 @@
 -- `jws sig` with one key, in compact form.
-use Rattle.std.specs.Prelude.{ℕ, ◌&&◌, List, Result, Ok}
+use Rattle.std.specs.Prelude.{ℕ, ◌&&◌, true, List, [], ◌∷◌, length, nat_le, if◌then◌else◌, Option, Some, None, Result, Ok, Err}
+use Rattle.std.specs.Option.{ok_or}
 use Rattle.octets.specs.declared.refusal.Refusal.{Refusal}
-use Rattle.octets.specs.declared.refusal.Refusal.TheVariants.{KeyDoesNotFit}
+use Rattle.octets.specs.declared.refusal.Refusal.TheVariants.{NoAlgorithm, KeyDoesNotFit, Limit}
 use Rattle.octets.specs.Outcomes.{◌>>=◌, needs}
 use Rattle.octets.specs.Base64url.{base64url, whole_groups}
-use Rattle.jose.specs.declared.keys.algorithm.SignatureAlg.{SignatureAlg}
-use Rattle.jose.specs.declared.keys.key.Operation.TheVariants.{Sign}
-use Rattle.jose.specs.Keys.{octet_key, allows, fits}
-use Rattle.jose.specs.Template.{signature_template}
-use Rattle.jose.specs.Signatures.{signing_input, signature_of}
+use Rattle.keys.specs.declared.algorithm.Algorithm.TheVariants.{Signature}
+use Rattle.keys.specs.declared.algorithm.SignatureAlg.{SignatureAlg}
+use Rattle.keys.specs.declared.algorithm.SignatureAlg.TheVariants.{Hs256, Hs384, Hs512}
+use Rattle.keys.specs.declared.key.Operation.TheVariants.{Sign}
+use Rattle.keys.specs.Algorithms.{signature_alg_of}
+use Rattle.keys.specs.Json.{json_value}
+use Rattle.keys.specs.Keys.{OctetKey, allows, fits}
+use Rattle.keys.specs.KeySets.{key_set}
+use Rattle.jose.specs.Template.{SignatureTemplate, template_of, compact_header}
+use Rattle.jose.specs.Signatures.{signing_input, signature_of, supported}
 use Rattle.jose.specs.Jws.{CompactParts, compact_text}
 use Rattle.jose.specs.Plan.{Plan}
 
@@ -18,13 +24,52 @@ pub record Signer : Type 0 where
   pub key : List ℕ
   pub header : List ℕ
 
--- the signer of a key text and a template, or the first refusal
-unfoldable pub signer_of : List ℕ → List ℕ → Result Signer Refusal
-signer_of keys template = do
-  key ← octet_key keys
-  chosen ← signature_template template
-  fit ← needs (allows key Sign && fits key chosen.alg) KeyDoesNotFit
-  Ok (record { alg = chosen.alg; key = key.octets; header = chosen.protected })
+-- ---- the algorithm of a key
+
+-- the one with the longest hash that a key of n octets is long enough for
+abbrev pub alg_by_length : ℕ → Option SignatureAlg
+alg_by_length n =
+    if nat_le 64 n then Some Hs512
+    else if nat_le 48 n then Some Hs384
+    else if nat_le 32 n then Some Hs256
+    else None
+
+-- the one that its `alg` names, or the one that its length implies
+abbrev pub alg_of_key : Option (List ℕ) → ℕ → Result SignatureAlg Refusal
+alg_of_key None n = ok_or (alg_by_length n) NoAlgorithm
+alg_of_key (Some name) n = ok_or (signature_alg_of name) KeyDoesNotFit
+
+-- that of the template, or that of the key
+abbrev pub chosen_alg : Option SignatureAlg → OctetKey → Result SignatureAlg Refusal
+chosen_alg (Some alg) key = Ok alg
+chosen_alg None key = alg_of_key key.alg (length key.octets)
+
+-- ---- the signer
+
+-- so far one key signs
+abbrev pub only_key : List OctetKey → Result OctetKey Refusal
+only_key [] = Err Limit
+only_key (key ∷ []) = Ok key
+only_key (key ∷ (other ∷ keys)) = Err Limit
+
+-- the signer that a key makes by a template
+unfoldable pub signer_by : OctetKey → SignatureTemplate → Result Signer Refusal
+signer_by key template = do
+  chosen ← chosen_alg template.alg key
+  alg ← supported (Some chosen)
+  fit ← needs (allows key Sign && fits key (Signature alg)) KeyDoesNotFit
+  header ← compact_header template alg
+  Ok (record { alg = alg; key = key.octets; header = header })
+
+-- the signer of keys and a template's text, or the first refusal
+unfoldable pub signer_of : List OctetKey → List ℕ → Result Signer Refusal
+signer_of keys text = do
+  value ← json_value text
+  template ← template_of value
+  key ← only_key keys
+  signer_by key template
+
+-- ---- the object
 
 -- the object of a payload: its signature is that of the texts of its header and its payload
 abbrev pub signed : Signer → List ℕ → CompactParts
@@ -45,5 +90,6 @@ plan_by signer = record {
 
 abbrev pub signing : List ℕ → List ℕ → Result (Plan (List ℕ)) Refusal
 signing keys template = do
-  signer ← signer_of keys template
+  set ← key_set keys true
+  signer ← signer_of set template
   Ok (plan_by signer)

@@ -1,37 +1,43 @@
--- `jws ver` with one key.
-use Rattle.std.specs.Prelude.{ℕ, ◌&&◌, Bool, List, [], if◌then◌else◌, Option, Some, None, Result, Ok, Err}
+-- `jws ver` with any key of a set.
+use Rattle.std.specs.Prelude.{ℕ, ◌&&◌, Bool, false, List, [], if◌then◌else◌, Result, Ok}
+use Rattle.std.specs.List.{list_any}
 use Rattle.std.specs.Str.{bytes_eq}
 use Rattle.octets.specs.declared.refusal.Refusal.{Refusal}
-use Rattle.octets.specs.declared.refusal.Refusal.TheVariants.{Unsupported, KeyDoesNotFit, NotOpened}
+use Rattle.octets.specs.declared.refusal.Refusal.TheVariants.{KeyDoesNotFit, NotOpened}
 use Rattle.octets.specs.Outcomes.{◌>>=◌, needs}
-use Rattle.jose.specs.declared.keys.algorithm.SignatureAlg.{SignatureAlg}
-use Rattle.jose.specs.declared.keys.key.Operation.TheVariants.{Verify}
-use Rattle.jose.specs.Algorithms.{signature_alg_of}
-use Rattle.jose.specs.Keys.{OctetKey, octet_key, allows, fits}
+use Rattle.keys.specs.declared.algorithm.Algorithm.TheVariants.{Signature}
+use Rattle.keys.specs.declared.algorithm.SignatureAlg.{SignatureAlg}
+use Rattle.keys.specs.declared.key.Operation.TheVariants.{Verify}
+use Rattle.keys.specs.Algorithms.{signature_alg_of}
+use Rattle.keys.specs.Keys.{OctetKey, allows, fits}
+use Rattle.keys.specs.KeySets.{key_set}
 use Rattle.jose.specs.Jws.{SignedObject, signed_object}
-use Rattle.jose.specs.Signatures.{signature_of}
+use Rattle.jose.specs.Signatures.{signature_of, supported}
 
--- an algorithm that is not supported has no pair
-abbrev pub supported : Option SignatureAlg → Result SignatureAlg Refusal
-supported None = Err Unsupported
-supported (Some alg) = Ok alg
+-- the key may verify, and fits
+abbrev pub is_candidate : SignatureAlg → OctetKey → Bool
+is_candidate alg key = allows key Verify && fits key (Signature alg)
 
 -- the signature is that of the received texts of the protected header and the payload
-abbrev pub is_signed : OctetKey → SignatureAlg → SignedObject → Bool
-is_signed key alg jws = bytes_eq jws.signature (signature_of alg key.octets jws.protected jws.payload_text)
+abbrev pub is_signed : SignatureAlg → SignedObject → OctetKey → Bool
+is_signed alg jws key = bytes_eq jws.signature (signature_of alg key.octets jws.protected jws.payload_text)
 
--- the payload of an object that verifies with the key, or the first refusal
-unfoldable pub verified_payload : List ℕ → List ℕ → Result (List ℕ) Refusal
-verified_payload keys text = do
-  key ← octet_key keys
-  jws ← signed_object text
+-- the key is a candidate, and it signed the object
+abbrev pub verifies : SignatureAlg → SignedObject → OctetKey → Bool
+verifies alg jws key = is_candidate alg key && is_signed alg jws key
+
+-- the payload of an object that verifies with some key, or the first refusal
+unfoldable pub verified_payload : List OctetKey → SignedObject → Result (List ℕ) Refusal
+verified_payload keys jws = do
   alg ← supported (signature_alg_of jws.alg)
-  fit ← needs (allows key Verify && fits key alg) KeyDoesNotFit
-  signed ← needs (is_signed key alg jws) NotOpened
+  candidates ← needs (list_any (is_candidate alg) keys) KeyDoesNotFit
+  verified ← needs (list_any (verifies alg jws) keys) NotOpened
   Ok jws.payload
 
 -- what is written: the payload, where it is asked for
 abbrev pub verifying : Bool → List ℕ → List ℕ → Result (List ℕ) Refusal
 verifying wanted keys text = do
-  payload ← verified_payload keys text
+  set ← key_set keys false
+  jws ← signed_object text
+  payload ← verified_payload set jws
   Ok (if wanted then payload else [])

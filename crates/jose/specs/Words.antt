@@ -7,11 +7,11 @@ use Rattle.octets.specs.declared.refusal.Refusal.{Refusal}
 use Rattle.octets.specs.declared.refusal.Refusal.TheVariants.{Usage}
 use Rattle.octets.specs.Outcomes.{◌>>=◌, needs}
 use Rattle.jose.specs.declared.command.Command.{Command}
-use Rattle.jose.specs.declared.command.Command.TheVariants.{JwsSig}
+use Rattle.jose.specs.declared.command.Command.TheVariants.{JwkThp, JwsSig}
 use Rattle.jose.specs.declared.command.Role.{Role}
 use Rattle.jose.specs.declared.command.Role.TheVariants.{Input, Output, Neither}
 use Rattle.jose.specs.Commands.{OptionEntry, command_named}
-use Rattle.jose.specs.Invocations.{SeenInvocation, Settings, value_at}
+use Rattle.jose.specs.Invocations.{SeenInvocation, Settings, value_at, hash_asked}
 use Rattle.jose.specs.Reading.{settings_read}
 
 -- ---- standard input and output
@@ -34,8 +34,9 @@ standard_count role options settings = count_by (names_standard role settings) o
 
 -- ---- the words
 
--- of `jws sig` only the compact form is served
+-- of `jwk thp` the four hashes are served, and of `jws sig` only the compact form
 abbrev pub is_served : Command → Settings → Bool
+is_served JwkThp settings = is_some (hash_asked settings)
 is_served JwsSig settings = is_some (value_at (byte "c") settings)
 is_served command settings = true
 

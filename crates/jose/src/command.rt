@@ -8,6 +8,10 @@ ghost use Rattle.jose.specs.Reading.{app_for};
 /// What the program can be asked to do.
 #[derive(Clone, Copy, Debug, PartialEq, Eq)]
 pub enum Command {
+    /// `jwk gen`: make a key.
+    JwkGen,
+    /// `jwk thp`: the thumbprints of keys.
+    JwkThp,
     /// `b64 enc`: the base64url text of octets.
     B64Enc,
     /// `b64 dec`: the octets of a base64url text.
@@ -61,7 +65,27 @@ pub(crate) struct CommandRow {
 }
 
 /// All commands.
-static COMMANDS: [CommandRow; 4] = [
+static COMMANDS: [CommandRow; 6] = [
+    CommandRow {
+        command: Command::JwkGen,
+        noun: "jwk",
+        verb: "gen",
+        options: &[
+            OptionRow('i', "template", Kind::Required, Role::Input),
+            OptionRow('o', "key", Kind::Default("-"), Role::Output),
+            OptionRow('R', "random", Kind::Optional, Role::Input),
+        ],
+    },
+    CommandRow {
+        command: Command::JwkThp,
+        noun: "jwk",
+        verb: "thp",
+        options: &[
+            OptionRow('i', "keys", Kind::Default("-"), Role::Input),
+            OptionRow('a', "hash", Kind::Default("S256"), Role::Neither),
+            OptionRow('o', "thumbprints", Kind::Default("-"), Role::Output),
+        ],
+    },
     CommandRow {
         command: Command::B64Enc,
         noun: "b64",

@@ -6,7 +6,7 @@ ghost use Rattle.std.specs.Result.{result_unwrap_or};
 ghost use Rattle.std.specs.Io.{ReadsAtMost, WritesAtMost};
 ghost use Rattle.std.specs.Io.KnownBytes.{Keeps, ReadConsumes, WriteAppends};
 ghost use Rattle.jose.specs.Invocations.{seen};
-ghost use Rattle.jose.specs.Files.{words, origin_of, origin_named, after_read, source_remaining, IsOpenSource, IsUnopenedSource, AreNewInputs};
+ghost use Rattle.jose.specs.Files.{words, origin_of, origin_named, random_default, after_read, source_remaining, IsOpenSource, IsUnopenedSource, AreNewInputs};
 ghost use Rattle.jose.specs.Files.{nowhere, destination_of, destination_named, sink_contents, IsOpenSink, IsUnopenedSink, AreNewOutputs};
 
 use crate::command::Command;
@@ -143,7 +143,7 @@ impl<'a, R: Files> Write for Sink<'a, R> {
 }
 
 /// The inputs that the options name. JSON may stand in the words for `-i`, `-s` and `-k`, but for the
-/// text of `b64 dec`.
+/// text of `b64 dec`. Where `-R` may be given and is not, random octets are those of the system.
 pub(crate) fn inputs<'a, R: Files>(
     files: &'a R,
     standard: Stdin,
@@ -153,11 +153,22 @@ pub(crate) fn inputs<'a, R: Files>(
 {
     let text = invocation.value('i').or(invocation.value('s'));
     let may_be_json = invocation.command != Command::B64Dec;
+    let random = invocation.value('R').or(random_default(invocation.command));
     Inputs {
         text: ReaderInput::new(source_of(files, standard, text, may_be_json)),
         content: ReaderInput::new(source_of(files, standard, invocation.value('I'), false)),
         keys: ReaderInput::new(source_of(files, standard, invocation.value('k'), true)),
-        random: ReaderInput::new(source_of(files, standard, invocation.value('R'), false)),
+        random: ReaderInput::new(source_of(files, standard, random, false)),
+    }
+}
+
+/// The file of random octets where `-R` names none.
+fn random_default(command: Command) -> Option<&'static str>
+    ensures { option_map (λ path. path.now) result ≡ random_default command }
+{
+    match command {
+        Command::JwkGen => Some("/dev/urandom"),
+        _ => None,
     }
 }
 

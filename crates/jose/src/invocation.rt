@@ -1,5 +1,9 @@
 //! What the program was asked to do: a command, and the options that were given or have a default.
+ghost use Rattle.std.specs.Prelude.{◌≡◌, ◌==◌, find, is_some, option_map};
+ghost use Rattle.jose.specs.Invocations.{seen, value_at, hash_asked, hash_named};
+
 use crate::Command;
+use prf::HashAlg;
 
 /// An option's letter, and its value. A flag that was given has the value `true`.
 #[derive(Drop)]
@@ -16,9 +20,6 @@ pub struct Invocation {
 }
 
 impl Invocation {
-    ghost use Rattle.std.specs.Prelude.{◌≡◌, ◌==◌, find, is_some, option_map};
-    ghost use Rattle.jose.specs.Invocations.{seen, value_at};
-
     /// The value of the option, where it was given or has a default.
     #[tactic(auto, using(crate::proofs::Settings::value_found))]
     pub fn value(&self, letter: char) -> Option<&str>
@@ -34,10 +35,31 @@ impl Invocation {
         self.value(letter).is_some()
     }
 
+    /// The hash that `-a` names, where it names one.
+    pub fn hash(&self) -> Option<HashAlg>
+        ensures { result ≡ hash_asked (seen self.now).options }
+    {
+        hash_named(self.value('a')?)
+    }
+
     fn setting(&self, letter: char) -> Option<&Setting>
         ensures { option_map (λ s. s.now) result
             ≡ find (λ setting. setting.letter == letter) self.now.options.items }
     {
         self.options.iter().find(|setting| setting.letter == letter)
+    }
+}
+
+/// The hash of this name: S224, S256, S384 or S512.
+#[tactic(auto, unfolding(crate::specs::Invocations::hash_named))]
+fn hash_named(name: &str) -> Option<HashAlg>
+    ensures { result ≡ hash_named name.now }
+{
+    match name {
+        "S224" => Some(HashAlg::S224),
+        "S256" => Some(HashAlg::S256),
+        "S384" => Some(HashAlg::S384),
+        "S512" => Some(HashAlg::S512),
+        _ => None,
     }
 }

@@ -7,8 +7,10 @@ ghost use Rattle.jose.specs.Plan.{accepted, planned, planned_beginning};
 ghost use Rattle.jose.specs.Signing.{signing};
 ghost use Rattle.jose.specs.Verifying.{verifying};
 
+use crate::forms::read_jws;
 use crate::tokens::{compact, read_signer, verified};
 use crate::writing::emit;
+use keys::KeySet;
 use octets::{Input, Output, Refusal, read_whole};
 use std::alloc::Global;
 
@@ -41,13 +43,14 @@ pub(crate) fn sign<I: Input, O: Output>(
 {
     let template = read_whole(alloc, template)?;
     let keys = read_whole(alloc, keys)?;
-    let signer = read_signer(alloc, &keys, &template)?;
+    let set = KeySet::read(alloc, &keys, true)?;
+    let signer = read_signer(alloc, &set, &template)?;
     let payload = read_whole(alloc, content)?;
     let text = compact(alloc, &signer, &payload)?;
     emit(out, text.as_bytes())
 }
 
-/// Verifies the text with the key, and writes the payload where it is wanted.
+/// Verifies the text with the keys, and writes the payload where it is wanted.
 pub(crate) fn verify<I: Input, O: Output>(
     alloc: Global,
     text: &mut I,
@@ -76,6 +79,8 @@ pub(crate) fn verify<I: Input, O: Output>(
 {
     let text = read_whole(alloc, text)?;
     let keys = read_whole(alloc, keys)?;
-    let payload = verified(alloc, &keys, &text)?;
+    let set = KeySet::read(alloc, &keys, false)?;
+    let jws = read_jws(alloc, &text)?;
+    let payload = verified(&set, jws)?;
     if wanted { emit(out, &payload) } else { Ok(()) }
 }

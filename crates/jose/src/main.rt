@@ -1,5 +1,5 @@
-//! The command `jose` for octet keys: signs and verifies small documents (RFC 7515), and writes and reads
-//! base64url (RFC 4648 section 5).
+//! The command `jose` for octet keys: makes keys (RFC 7517) and writes their thumbprints (RFC 7638), signs
+//! and verifies small documents (RFC 7515), and writes and reads base64url (RFC 4648 section 5).
 //!
 //! The words become an invocation (`words`, by the table in `command`), the invocation names devices
 //! (`files`), and `run` does what is asked from devices to devices. `report` tells a refusal.
@@ -8,11 +8,11 @@
 mod b64;
 mod command;
 mod files;
+mod forms;
 mod invocation;
+mod jwk;
 mod jws;
-mod keys;
 mod line_ends;
-mod objects;
 mod ports;
 mod reading;
 mod reports;
@@ -53,5 +53,7 @@ fn main(rt: HostRuntime) -> ExitCode {
     ExitCode::from(report(result, &mut errors))
 }
 
+#[cfg(test)]
+mod jwk_tests;
 #[cfg(test)]
 mod tests;

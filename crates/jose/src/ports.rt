@@ -9,7 +9,7 @@ pub struct Inputs<I> {
     pub content: I,
     /// `-k`.
     pub keys: I,
-    /// `-R`.
+    /// `-R`, or `/dev/urandom`.
     pub random: I,
 }
 

@@ -32,18 +32,19 @@ const VERIFY: [&str; 6] = ["jws", "ver", "-k", "keys", "-O", "payload"];
 
 /// What the inputs hold.
 #[derive(Clone, Copy)]
-struct Given {
-    text: &'static str,
-    content: &'static str,
-    keys: &'static str,
+pub(crate) struct Given {
+    pub(crate) text: &'static str,
+    pub(crate) content: &'static str,
+    pub(crate) keys: &'static str,
+    pub(crate) random: &'static str,
 }
 
 /// What a call of the program did.
 #[derive(Drop)]
-struct Done {
-    result: Result<(), Refusal>,
-    text: MemoryOutput,
-    content: MemoryOutput,
+pub(crate) struct Done {
+    pub(crate) result: Result<(), Refusal>,
+    pub(crate) text: MemoryOutput,
+    pub(crate) content: MemoryOutput,
 }
 
 fn owned(alloc: Global, words: &[&str]) -> Result<Vec<String>, AllocError> {
@@ -55,7 +56,12 @@ fn owned(alloc: Global, words: &[&str]) -> Result<Vec<String>, AllocError> {
 }
 
 /// Reads the words and does what they ask, over inputs that give so many octets at a read.
-fn outcome(alloc: Global, words: &[&str], given: &Given, step: usize) -> Result<Done, AllocError> {
+pub(crate) fn outcome(
+    alloc: Global,
+    words: &[&str],
+    given: &Given,
+    step: usize,
+) -> Result<Done, AllocError> {
     let mut outputs = Outputs {
         text: MemoryOutput::new(alloc, 4096)?,
         content: MemoryOutput::new(alloc, 4096)?,
@@ -68,7 +74,7 @@ fn outcome(alloc: Global, words: &[&str], given: &Given, step: usize) -> Result<
                 text: MemoryInput::new(given.text.as_bytes(), step),
                 content: MemoryInput::new(given.content.as_bytes(), step),
                 keys: MemoryInput::new(given.keys.as_bytes(), step),
-                random: MemoryInput::new(b"", step),
+                random: MemoryInput::new(given.random.as_bytes(), step),
             };
             run(alloc, &invocation, &mut inputs, &mut outputs)
         }
@@ -93,6 +99,7 @@ fn verifies<R: Abort + AllocGlobal>(
         text,
         content: "",
         keys,
+        random: "",
     };
     for step in [4096, 1] {
         let Done {
@@ -262,6 +269,27 @@ fn the_key_decides_after_the_token_is_read(rt: HostRuntime) -> Result<(), Fail> 
             "{\"kty\":\"oct\",\"k\":\"AAECAwQFBgcICQoLDA0ODxAREhMUFRYXGBkaGxwdHh8\",\"key_ops\":[]}",
             Err(Refusal::KeyDoesNotFit),
         ),
+        // Some key of a set, and objects that are no keys.
+        (
+            "{\"keys\":[{\"kty\":\"oct\",\"k\":\"AAECAwQFBgcICQoLDA0ODxAREhMUFRYXGBkaGxwdHh8\"},{\"kty\":\"oct\",\"k\":\"AyM1SysPpbyDfgZld3umj1qzKObwVMkoqQ-EstJQLr_T-1qS0gZH75aKtMN3Yj0iPS4hcgUuTwjAzZr1Z9CAow\"}]}",
+            Ok("abc"),
+        ),
+        (
+            "{\"keys\":[{\"kty\":\"EC\"},{\"kty\":\"oct\",\"k\":\"AyM1SysPpbyDfgZld3umj1qzKObwVMkoqQ-EstJQLr_T-1qS0gZH75aKtMN3Yj0iPS4hcgUuTwjAzZr1Z9CAow\"},{\"kty\":\"oct\",\"k\":\"AAECAwQFBgcICQoLDA0ODxAREhMUFRYXGBkaGxwdHh8\"}]}",
+            Ok("abc"),
+        ),
+        (
+            "{\"keys\":[{\"kty\":\"oct\",\"k\":\"AAECAwQFBgcICQoLDA0ODxAREhMUFRYXGBkaGxwdHh8\"},{\"kty\":\"oct\",\"k\":\"AQIDBAUGBwgJCgsMDQ4PEBESExQVFhcYGRobHB0eHyA\"}]}",
+            Err(Refusal::NotOpened),
+        ),
+        (
+            "{\"keys\":[{\"kty\":\"oct\",\"k\":\"AA\"},{\"kty\":\"oct\",\"k\":\"AyM1SysPpbyDfgZld3umj1qzKObwVMkoqQ-EstJQLr_T-1qS0gZH75aKtMN3Yj0iPS4hcgUuTwjAzZr1Z9CAow\",\"use\":\"enc\"}]}",
+            Err(Refusal::KeyDoesNotFit),
+        ),
+        (
+            "{\"keys\":[{\"kty\":\"oct\",\"k\":\"AAECAwQFBgcICQoLDA0ODxAREhMUFRYXGBkaGxwdHh8\"},{\"kty\":\"oct\",\"k\":\"AyM1SysPpbyDfgZld3umj1qzKObwVMkoqQ-EstJQLr_T-1qS0gZH75aKtMN3Yj0iPS4hcgUuTwjAzZr1Z9CAow\",\"use\":\"enc\"}]}",
+            Err(Refusal::NotOpened),
+        ),
         // Not a key.
         ("", Err(Refusal::Json)),
         (
@@ -269,8 +297,10 @@ fn the_key_decides_after_the_token_is_read(rt: HostRuntime) -> Result<(), Fail> 
             Err(Refusal::Number),
         ),
         ("[]", Err(Refusal::Key)),
+        ("{\"keys\":[]}", Err(Refusal::Key)),
+        ("{\"keys\":[1]}", Err(Refusal::Key)),
         (
-            "{\"keys\":[{\"kty\":\"oct\",\"k\":\"AA\"}]}",
+            "{\"keys\":[{\"kty\":\"EC\"},{\"kty\":\"oct\",\"k\":\"A\"}]}",
             Err(Refusal::Key),
         ),
         ("{\"kty\":\"oct\",\"k\":\"\"}", Err(Refusal::Key)),
@@ -334,6 +364,97 @@ fn a_payload_is_signed_by_its_template(rt: HostRuntime) -> Result<(), Fail> {
             "{\"kty\":\"oct\",\"k\":\"AAECAwQFBgcICQoLDA0ODxAREhMUFRYXGBkaGxwdHh8\",\"key_ops\":[\"verify\"]}",
             Err(Refusal::KeyDoesNotFit),
         ),
+        // Without an `alg` in the template, that of the key decides, and then its length.
+        (
+            "{}",
+            "{\"kty\":\"oct\",\"k\":\"AAECAwQFBgcICQoLDA0ODxAREhMUFRYXGBkaGxwdHh8\"}",
+            Ok("eyJhbGciOiJIUzI1NiJ9.YWJj.8-sUlaJJTTOyeAYgv-kHNN9tT55A-tUCHOYatGHTJa0"),
+        ),
+        (
+            "{\"protected\":{\"typ\":\"JWT\",\"a\":1}}",
+            "{\"kty\":\"oct\",\"k\":\"AAECAwQFBgcICQoLDA0ODxAREhMUFRYXGBkaGxwdHh8\"}",
+            Ok(
+                "eyJhIjoxLCJhbGciOiJIUzI1NiIsInR5cCI6IkpXVCJ9.YWJj.hFUSevT2bg29wVD98IwHSQ74GvrRhUOgvq4k49t1dcE",
+            ),
+        ),
+        (
+            "{\"protected\":{}}",
+            "{\"kty\":\"oct\",\"k\":\"AyM1SysPpbyDfgZld3umj1qzKObwVMkoqQ-EstJQLr_T-1qS0gZH75aKtMN3Yj0iPS4hcgUuTwjAzZr1Z9CAow\",\"alg\":\"HS256\"}",
+            Ok(ABC),
+        ),
+        ("{}", KEY, Err(Refusal::Unsupported)),
+        (
+            "{}",
+            "{\"kty\":\"oct\",\"k\":\"AAECAwQFBgcICQoLDA0ODxAREhMUFRYXGBkaGxwdHg\"}",
+            Err(Refusal::NoAlgorithm),
+        ),
+        (
+            "{}",
+            "{\"kty\":\"oct\",\"k\":\"AyM1SysPpbyDfgZld3umj1qzKObwVMkoqQ-EstJQLr_T-1qS0gZH75aKtMN3Yj0iPS4hcgUuTwjAzZr1Z9CAow\",\"alg\":\"A128KW\"}",
+            Err(Refusal::KeyDoesNotFit),
+        ),
+        (
+            "{}",
+            "{\"kty\":\"oct\",\"k\":\"AyM1SysPpbyDfgZld3umj1qzKObwVMkoqQ-EstJQLr_T-1qS0gZH75aKtMN3Yj0iPS4hcgUuTwjAzZr1Z9CAow\",\"alg\":\"HS384\"}",
+            Err(Refusal::Unsupported),
+        ),
+        // A header beside the protected one.
+        (
+            "{\"protected\":{\"alg\":\"HS256\"},\"header\":{}}",
+            KEY,
+            Ok(ABC),
+        ),
+        (
+            "{\"protected\":{\"alg\":\"HS256\"},\"header\":{\"kid\":\"1\"}}",
+            KEY,
+            Err(Refusal::NotCompact),
+        ),
+        (
+            "{\"header\":{\"alg\":\"HS256\"}}",
+            KEY,
+            Err(Refusal::NotCompact),
+        ),
+        (
+            "{\"protected\":{\"alg\":\"HS256\"},\"header\":{\"alg\":\"HS256\"}}",
+            KEY,
+            Err(Refusal::Header),
+        ),
+        ("{\"header\":{\"alg\":256}}", KEY, Err(Refusal::Header)),
+        ("{\"header\":{\"crit\":[]}}", KEY, Err(Refusal::Unsupported)),
+        // Headers of 64 and of 65 objects and lists in one another.
+        (
+            "{\"protected\":{\"alg\":\"HS256\",\"x\":[[[[[[[[[[[[[[[[[[[[[[[[[[[[[[[[[[[[[[[[[[[[[[[[[[[[[[[[[[[[[[[]]]]]]]]]]]]]]]]]]]]]]]]]]]]]]]]]]]]]]]]]]]]]]]]]]]]]]]]]]]]]]]}}",
+            KEY,
+            Ok(
+                "eyJhbGciOiJIUzI1NiIsIngiOltbW1tbW1tbW1tbW1tbW1tbW1tbW1tbW1tbW1tbW1tbW1tbW1tbW1tbW1tbW1tbW1tbW1tbW1tbW1tbW1tbW11dXV1dXV1dXV1dXV1dXV1dXV1dXV1dXV1dXV1dXV1dXV1dXV1dXV1dXV1dXV1dXV1dXV1dXV1dXV1dXV1dXX0.YWJj.GymtFiHrliYw_FsNPMDT-ORyWMOQzHO4C_Ksg8rkaH8",
+            ),
+        ),
+        (
+            "{\"protected\":{\"alg\":\"HS256\",\"x\":[[[[[[[[[[[[[[[[[[[[[[[[[[[[[[[[[[[[[[[[[[[[[[[[[[[[[[[[[[[[[[[[]]]]]]]]]]]]]]]]]]]]]]]]]]]]]]]]]]]]]]]]]]]]]]]]]]]]]]]]]]]]]]]]}}",
+            KEY,
+            Err(Refusal::Limit),
+        ),
+        (
+            "{\"protected\":{\"alg\":\"HS256\"},\"header\":{\"x\":[[[[[[[[[[[[[[[[[[[[[[[[[[[[[[[[[[[[[[[[[[[[[[[[[[[[[[[[[[[[[[[[]]]]]]]]]]]]]]]]]]]]]]]]]]]]]]]]]]]]]]]]]]]]]]]]]]]]]]]]]]]]]]]]}}",
+            KEY,
+            Err(Refusal::Limit),
+        ),
+        // Sets: one key signs, and all are good.
+        (
+            TEMPLATE,
+            "{\"keys\":[{\"kty\":\"oct\",\"k\":\"AyM1SysPpbyDfgZld3umj1qzKObwVMkoqQ-EstJQLr_T-1qS0gZH75aKtMN3Yj0iPS4hcgUuTwjAzZr1Z9CAow\"}]}",
+            Ok(ABC),
+        ),
+        (
+            TEMPLATE,
+            "{\"keys\":[{\"kty\":\"oct\",\"k\":\"AyM1SysPpbyDfgZld3umj1qzKObwVMkoqQ-EstJQLr_T-1qS0gZH75aKtMN3Yj0iPS4hcgUuTwjAzZr1Z9CAow\"},{\"kty\":\"oct\",\"k\":\"AyM1SysPpbyDfgZld3umj1qzKObwVMkoqQ-EstJQLr_T-1qS0gZH75aKtMN3Yj0iPS4hcgUuTwjAzZr1Z9CAow\"}]}",
+            Err(Refusal::Limit),
+        ),
+        (
+            TEMPLATE,
+            "{\"keys\":[{\"kty\":\"oct\",\"k\":\"AyM1SysPpbyDfgZld3umj1qzKObwVMkoqQ-EstJQLr_T-1qS0gZH75aKtMN3Yj0iPS4hcgUuTwjAzZr1Z9CAow\"},{\"kty\":\"EC\"}]}",
+            Err(Refusal::Key),
+        ),
         // Keys before templates, templates before what a key allows.
         ("", "[]", Err(Refusal::Key)),
         ("", KEY, Err(Refusal::Json)),
@@ -360,6 +481,7 @@ fn a_payload_is_signed_by_its_template(rt: HostRuntime) -> Result<(), Fail> {
             text: template,
             content: "abc",
             keys,
+            random: "",
         };
         signs(&rt, &given, answer)?;
     }
@@ -376,6 +498,7 @@ fn encodes<R: Abort + AllocGlobal>(
         text: "",
         content: octets,
         keys: "",
+        random: "",
     };
     for step in [4096, 1] {
         let Done {
@@ -401,6 +524,7 @@ fn decodes<R: Abort + AllocGlobal>(
         text,
         content: "",
         keys: "",
+        random: "",
     };
     for step in [4096, 1] {
         let Done {
@@ -535,6 +659,7 @@ fn a_document_is_signed_and_verified(rt: HostRuntime) -> Result<(), Fail> {
         text: TEMPLATE,
         content: document,
         keys: KEY,
+        random: "",
     };
     signs(&rt, &given, Ok(token))?;
     verifies(&rt, token, KEY, Ok(document))?;
@@ -549,6 +674,7 @@ fn words_that_are_no_command_are_told(rt: HostRuntime) -> Result<(), Fail> {
         text: "",
         content: "",
         keys: "",
+        random: "",
     };
     let unknown = outcome(rt.alloc(), &["jwk", "pub"], &nothing, 1)?.result;
     let both_standard = outcome(rt.alloc(), &["jws", "sig", "-c", "-k", "-"], &nothing, 1)?.result;
@@ -563,9 +689,9 @@ fn words_that_are_no_command_are_told(rt: HostRuntime) -> Result<(), Fail> {
     Ok(())
 }
 
-/// Signs and verifies after so many growths of its own. Each growth may be refused: then the answer is
-/// `Memory`, and nothing was written.
-fn signs_and_verifies<R: Abort + AllocGlobal>(rt: &R, before: usize, may_be_refused: bool) {
+/// Signs, verifies, makes a key and names keys, after so many growths of its own. Each growth may be
+/// refused: then the answer is `Memory`, and nothing was written.
+fn works<R: Abort + AllocGlobal>(rt: &R, before: usize, may_be_refused: bool) {
     for _ in 0..before {
         drop(Vec::<u8>::with_capacity(rt.alloc(), 1));
     }
@@ -573,16 +699,46 @@ fn signs_and_verifies<R: Abort + AllocGlobal>(rt: &R, before: usize, may_be_refu
         text: TEMPLATE,
         content: "abc",
         keys: KEY,
+        random: "",
     };
     let verifying = Given {
         text: ABC,
         content: "",
         keys: KEY,
+        random: "",
     };
     let signed = outcome(rt.alloc(), &SIGN, &signing, 4096);
     answers(rt, signed, ABC, "", may_be_refused);
     let verified = outcome(rt.alloc(), &VERIFY, &verifying, 4096);
     answers(rt, verified, "", "abc", may_be_refused);
+    makes_and_names(rt, may_be_refused);
+}
+
+fn makes_and_names<R: Abort + AllocGlobal>(rt: &R, may_be_refused: bool) {
+    let making = Given {
+        text: "{\"alg\":\"A128KW\"}",
+        content: "",
+        keys: "",
+        random: "0123456789abcdef",
+    };
+    let key =
+        "{\"alg\":\"A128KW\",\"k\":\"MDEyMzQ1Njc4OWFiY2RlZg\",\"key_ops\":[\"wrapKey\",\"unwrapKey\"],\"kty\":\"oct\"}";
+    let naming = Given {
+        text: "{\"keys\":[{\"kty\":\"oct\",\"k\":\"MDEyMzQ1Njc4OWFiY2RlZg\"},{\"kty\":\"EC\"}]}",
+        content: "",
+        keys: "",
+        random: "",
+    };
+    let made = outcome(rt.alloc(), &["jwk", "gen", "-i", "t"], &making, 4096);
+    answers(rt, made, key, "", may_be_refused);
+    let named = outcome(rt.alloc(), &["jwk", "thp"], &naming, 4096);
+    answers(
+        rt,
+        named,
+        "v1ILoKSndMgSbgGCnD1FaJtavl1L3pU4wgD_Xg_R6QQ",
+        "",
+        may_be_refused,
+    );
 }
 
 fn answers<R: Abort>(
@@ -608,45 +764,45 @@ fn answers<R: Abort>(
 
 #[test]
 fn a_refused_growth_0(rt: HostRuntime) {
-    signs_and_verifies(&rt, 0, true);
+    works(&rt, 0, true);
 }
 
 #[test]
 fn a_refused_growth_1(rt: HostRuntime) {
-    signs_and_verifies(&rt, 1, true);
+    works(&rt, 1, true);
 }
 
 #[test]
 fn a_refused_growth_2(rt: HostRuntime) {
-    signs_and_verifies(&rt, 2, true);
+    works(&rt, 2, true);
 }
 
 #[test]
 fn a_refused_growth_3(rt: HostRuntime) {
-    signs_and_verifies(&rt, 3, true);
+    works(&rt, 3, true);
 }
 
 #[test]
 fn a_refused_growth_4(rt: HostRuntime) {
-    signs_and_verifies(&rt, 4, true);
+    works(&rt, 4, true);
 }
 
 #[test]
 fn a_refused_growth_5(rt: HostRuntime) {
-    signs_and_verifies(&rt, 5, true);
+    works(&rt, 5, true);
 }
 
 #[test]
 fn a_refused_growth_6(rt: HostRuntime) {
-    signs_and_verifies(&rt, 6, true);
+    works(&rt, 6, true);
 }
 
 #[test]
 fn a_refused_growth_7(rt: HostRuntime) {
-    signs_and_verifies(&rt, 7, true);
+    works(&rt, 7, true);
 }
 
 #[test]
 fn ample_memory_gives_the_answers(rt: HostRuntime) {
-    signs_and_verifies(&rt, 7, false);
+    works(&rt, 7, false);
 }

@@ -1,5 +1,5 @@
 -- Lists that are read or written piece by piece.
-use Rattle.std.proofs.Common.{◌≡◌, ℕ, ◌+◌, ◌≤◌, List, ◌++◌, length, take, drop, refl, sym, ◌∙◌, ap, arith, append_assoc, length-append}
+use Rattle.std.proofs.Common.{◌≡◌, ℕ, ◌+◌, ◌-◌, ◌≤◌, List, ◌++◌, length, take, drop, refl, sym, ◌∙◌, ap, arith, append_assoc, length-append, length-drop}
 use Rattle.std.proofs.Math.Seq.{take-add, take-append-add, take-append_seam, take-length}
 use Rattle.std.proofs.lemmas.List.{take-append-le, length-take-le}
 use Rattle.std.proofs.lemmas.Slice.{put_mid-paste}
@@ -26,3 +26,10 @@ take-filled f k n xs ys in_range len le =
     ∙ ap (λ q. take (f + n) (take f xs ++ q ++ drop (f + k) xs)) whole
     ∙ take-append-le (f + n) (take f xs ++ ys) (drop (f + k) xs) (omega (arith, length-append (take f xs) ys, front))
     ∙ ap (λ m. take (m + n) (take f xs ++ ys)) (sym front) ∙ take-append-add (take f xs) ys n
+
+-- as many cells as before
+pub length-filled : (f k : ℕ) (xs ys : List ℕ) → f ≤ length xs → k ≡ length xs - f → length ys ≡ k → length (put_mid f k xs ys) ≡ length xs
+length-filled f k xs ys in_range rest len =
+    ap length (put_mid-paste f k xs ys ys k refl refl (sym len))
+    ∙ length-append (take f xs ++ take k ys) (drop (f + k) xs)
+    ∙ omega (arith, length-append (take f xs) (take k ys), length-take-le f xs in_range, length-take-le k ys (omega arith), length-drop (f + k) xs)

@@ -1,8 +1,8 @@
 -- What a call answers, held against the answer that the definitions give for whole lists of octets.
-use Rattle.std.specs.Prelude.{◌≡◌, ℕ, Bool, true, false, if◌then◌else◌, Result, Ok, Err}
+use Rattle.std.specs.Prelude.{◌≡◌, ℕ, ◌<◌, Bool, true, false, if◌then◌else◌, length, Result, Ok, Err, IsTrue}
 use Rattle.octets.specs.declared.refusal.Refusal.{Refusal}
-use Rattle.octets.specs.declared.refusal.Refusal.TheVariants.{Memory, Read, Write}
-use Rattle.octets.specs.Devices.{next_count}
+use Rattle.octets.specs.declared.refusal.Refusal.TheVariants.{Memory, Read, Write, Random}
+use Rattle.octets.specs.Devices.{next_count, Observed}
 
 -- A definition of several steps is a `do` block: the first refusal decides.
 infixl 10 ◌>>=◌
@@ -36,8 +36,19 @@ abbrev pub AgreesUnlessExternal : {W : Type 0} → Result W Refusal → W → Re
 AgreesUnlessExternal answer wrote (Ok done) = answer ≡ Ok wrote
 AgreesUnlessExternal answer wrote (Err r) = is_external r ≡ false → answer ≡ Err r
 
+-- A call over devices that answers a value: its result, seen by view, is the answer, unless memory or a device failed.
+abbrev pub GivesUnlessExternal : {X Y : Type 0} → (X → Y) → Result X Refusal → Result Y Refusal → Type 0
+GivesUnlessExternal view (Ok x) answer = answer ≡ Ok (view x)
+GivesUnlessExternal view (Err r) answer = is_external r ≡ false → answer ≡ Err r
+
 -- Why reading an input to its end gave up, by the count of its failures: memory, or the input failed.
 abbrev pub IsReadingFailure : ℕ → ℕ → Refusal → Type 0
 IsReadingFailure old new Memory = new ≡ old
 IsReadingFailure old new Read = new ≡ next_count old
 IsReadingFailure old new r = ⊥
+
+-- Why drawing so many octets gave up, by what it saw and by the count of failures: the input ended with too few, or it failed.
+abbrev pub IsDrawingFailure : ℕ → Observed → ℕ → ℕ → Refusal → Type 0
+IsDrawingFailure wanted seen old new Random = (length seen.octets < wanted) × IsTrue seen.ended × (new ≡ old)
+IsDrawingFailure wanted seen old new Read = new ≡ next_count old
+IsDrawingFailure wanted seen old new r = ⊥

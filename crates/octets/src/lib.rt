@@ -24,7 +24,7 @@ pub use lanes::{same_octets, xor_into};
 pub use memory::{MemoryInput, MemoryOutput};
 pub use refusal::{Fault, Refusal, needs};
 pub use streams::{ReaderInput, WriterOutput};
-pub use whole::{Partial, read_whole, write_whole};
+pub use whole::{Partial, draw, read_whole, write_whole};
 pub use writer::B64Writer;
 
 #[cfg(test)]

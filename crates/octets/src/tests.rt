@@ -1,7 +1,7 @@
 //! Outside vectors, and each device at work.
 use crate::{
     B64Writer, Fault, Input, MemoryInput, MemoryOutput, Output, Partial, ReaderInput, Refusal,
-    WriterOutput, b64_append, b64_decode, b64_encode, read_whole, same_octets, write_whole,
+    WriterOutput, b64_append, b64_decode, b64_encode, draw, read_whole, same_octets, write_whole,
     xor_into,
 };
 use std::io;
@@ -278,6 +278,36 @@ fn all_of_a_text_goes_out_or_partial_tells_how_much(rt: HostRuntime) -> Result<(
     assert_eq!(rt; write_whole(&mut out, b"defg"), Err(Partial { written: 2 }));
     assert_eq!(rt; out.octets(), b"abcde".as_slice());
     Ok(())
+}
+
+#[test]
+fn draws_are_filled_or_refused(rt: HostRuntime) {
+    for (octets, len, step, result, filled) in [
+        ("abcde", 4, 1, Ok(()), "abcd\0"),
+        ("abcde", 4, 3, Ok(()), "abcd\0"),
+        ("abcde", 5, 9, Ok(()), "abcde"),
+        ("abcde", 5, 2, Ok(()), "abcde"),
+        ("abc", 4, 2, Err(Refusal::Random), "abc\0\0"),
+        ("", 1, 1, Err(Refusal::Random), "\0\0\0\0\0"),
+        ("", 0, 1, Ok(()), "\0\0\0\0\0"),
+    ] {
+        let mut random = MemoryInput::new(octets.as_bytes(), step);
+        let mut out = [0u8; 5];
+        assert_eq!(rt;
+            draw(&mut random, &mut out[..len]),
+            result,
+            "{len} of {octets}"
+        );
+        assert_eq!(rt; out.as_slice(), filled.as_bytes());
+    }
+    let mut octets = [0u8; 2];
+    assert_eq!(rt;
+        draw(&mut ReaderInput::new(Broken), &mut octets),
+        Err(Refusal::Read)
+    );
+    let mut random = MemoryInput::new(b"abc", 1);
+    assert_eq!(rt; draw(&mut random, &mut octets), Ok(()));
+    assert_eq!(rt; next_four(&mut random), (Ok(1), *b"c\0\0\0"));
 }
 
 #[test]

@@ -1,8 +1,8 @@
-//! All of an input, and all of a text to an output.
-ghost use Rattle.std.specs.Prelude.{◌≡◌, ◌<◌, ◌++◌, length, take, IfOk, OnOk, OnErr, IfErr, IsTrue};
+//! All of an input or exactly so many octets of it, and all of a text to an output.
+ghost use Rattle.std.specs.Prelude.{◌≡◌, ◌<◌, ◌≤◌, ◌++◌, length, take, IfOk, OnOk, OnErr, IfErr, IsTrue};
 ghost use Rattle.std.specs.Iterator.{IsFinite};
-ghost use Rattle.octets.specs.Devices.{next_count, Extends};
-ghost use Rattle.octets.specs.Outcomes.{IsReadingFailure};
+ghost use Rattle.octets.specs.Devices.{next_count, appended, observed, Extends};
+ghost use Rattle.octets.specs.Outcomes.{IsReadingFailure, IsDrawingFailure};
 
 use crate::{Input, Output, Refusal};
 use std::alloc::Global;
@@ -26,6 +26,29 @@ pub fn read_whole<I: Input>(alloc: Global, input: &mut I) -> Result<Vec<u8>, Ref
         }
         octets.extend_from_slice(&buf[..n])?;
     }
+}
+
+/// Fills `out` from the random input, and takes exactly so many octets from it. Refused with `Read`
+/// where the input fails, and with `Random` where it ends first.
+pub fn draw<I: Input>(random: &mut I, out: &mut [u8]) -> Result<(), Refusal>
+    ensures octets { OnOk result (I.consumed random.new ≡ I.consumed random.old ++ out.new) }
+    ensures works { OnOk result (I.failures random.new ≡ I.failures random.old) }
+    ensures fails { IfErr result (IsDrawingFailure (length out.old)
+        (observed I.consumed I.is_at_end random.old random.new)
+        (I.failures random.old) (I.failures random.new)) }
+    ensures extends { Extends (I.consumed random.old) (I.consumed random.new) }
+    ensures at_most { length (appended (I.consumed random.old) (I.consumed random.new)) ≤ length out.old }
+    ensures untouched { length out.old ≡ 0 → random.new ≡ random.old }
+{
+    let mut filled = 0;
+    'draws: while filled < out.len() {
+        let n = random.read(&mut out[filled..])?;
+        if n == 0 {
+            return Err(Refusal::Random);
+        }
+        filled += n;
+    }
+    Ok(())
 }
 
 /// How many octets went out before an output failed.

@@ -9,12 +9,14 @@
 //! ```
 #![tactic(auto)]
 
+mod digests;
 mod hash;
 mod hmac;
 mod sha256;
 mod sha384;
 mod sha512;
 
+pub use digests::{HashAlg, digest};
 pub use hash::Hash;
 pub use hmac::Hmac;
 pub use sha2::{Sha256, Sha384, Sha512};

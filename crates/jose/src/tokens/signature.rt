@@ -1,10 +1,12 @@
 //! The signature of a payload under a protected header (RFC 7515 section 5.1).
 ghost use Rattle.std.specs.Prelude.{◌≡◌, ◌∷◌, ◌++◌};
 ghost use Rattle.prf.specs.Hmac.{hmac};
-ghost use Rattle.jose.specs.Algorithms.{signature_row};
+ghost use Rattle.octets.specs.Outcomes.{AgreesUnlessMemory};
+ghost use Rattle.jose.specs.Signatures.{signature_hash, supported};
 
-use crate::keys::SignatureAlg;
-use prf::{Hash, Hmac, Sha256};
+use keys::SignatureAlg;
+use octets::Refusal;
+use prf::{Hash, Hmac, Sha256, Sha384, Sha512};
 use std::marker::Model;
 
 /// A whole HMAC. It is seen as its octets.
@@ -27,10 +29,12 @@ impl Model for Signature {
 impl Signature {
     /// The signature of the texts of the protected header and of the payload, with a dot between.
     pub(crate) fn new(alg: SignatureAlg, key: &[u8], protected: &[u8], payload: &[u8]) -> Signature
-        ensures { result ≡ hmac (signature_row alg).hash key.now (protected.now ++ (46 ∷ payload.now)) }
+        ensures { result ≡ hmac (signature_hash alg) key.now (protected.now ++ (46 ∷ payload.now)) }
     {
         match alg {
             SignatureAlg::Hs256 => mac::<Sha256>(key, protected, payload),
+            SignatureAlg::Hs384 => mac::<Sha384>(key, protected, payload),
+            SignatureAlg::Hs512 => mac::<Sha512>(key, protected, payload),
         }
     }
 
@@ -51,4 +55,14 @@ fn mac<H: Hash>(key: &[u8], protected: &[u8], payload: &[u8]) -> Signature
     let mut octets = [0u8; 64];
     let len = mac.finish(&mut octets);
     Signature { octets, len }
+}
+
+/// The algorithm, where it is one and it is supported: so far HS256 alone. Else `Unsupported`.
+pub(crate) fn supported(alg: Option<SignatureAlg>) -> Result<SignatureAlg, Refusal>
+    ensures { AgreesUnlessMemory (λ alg. alg) result (supported alg) }
+{
+    match alg {
+        Some(SignatureAlg::Hs256) => Ok(SignatureAlg::Hs256),
+        _ => Err(Refusal::Unsupported),
+    }
 }

@@ -1,9 +1,13 @@
-use Rattle.std.proofs.Common.{◌&&◌, [], Ok, true, refl}
+use Rattle.std.proofs.Common.{◌≡◌, ◌&&◌, [], Ok, true, refl, rules}
 use Rattle.std.proofs.Math.Seq.{drop-length}
+use Rattle.std.specs.Option.{ok_or}
+use Rattle.octets.specs.declared.refusal.Refusal.TheVariants.{Usage}
 use Rattle.octets.specs.Devices.{appended, observed}
-use Rattle.jose.specs.Invocations.{seen}
+use Rattle.keys.specs.Generating.{generated}
+use Rattle.jose.specs.Invocations.{seen, hash_asked}
 use Rattle.jose.specs.Ports.{as_text, as_content}
 use Rattle.jose.specs.Plan.{planned}
+use Rattle.jose.specs.Jwk.{thumbprints}
 use Rattle.jose.specs.Encoding.{encoding, decoding}
 use Rattle.jose.specs.Signing.{signing}
 use Rattle.jose.specs.Verifying.{verifying}
@@ -11,6 +15,22 @@ use Rattle.jose.specs.Answer.{is_content_wanted}
 use Rattle.jose.proofs.Prefixes.{AppendsPrefixOf-none}
 use Rattle.jose.proofs.Agreement.{agrees_as_text, agrees_as_content, planned_map, planned_without_content, begun_as_text, begun_as_content, begun_without_content, on_refusal}
 use Rattle.jose.proofs.runner.run.Goals as goal
+
+pub returns-in-JwkGen-clause-answer : goal.returns-in-JwkGen-clause-answer
+returns-in-JwkGen-clause-answer g c inputs may =
+    let a = generated inputs.text inputs.random in
+    let h = c.generate.ensures.answer inputs.text inputs.random may.text may.random in
+    rw (c.in-JwkGen.is, planned_without_content as_text a [])
+    (agrees_as_text a _ _ _ (drop-length (g.O.Output.written c.args.outputs.now.content)) h)
+
+pub returns-in_ok-hash-in-JwkThp-clause-answer : goal.returns-in_ok-hash-in-JwkThp-clause-answer
+returns-in_ok-hash-in-JwkThp-clause-answer g c inputs may =
+    let hash = c.in_ok-hash-in-JwkThp.hash in
+    let asked : ok_or (hash_asked (seen c.args.invocation.now).options) Usage ≡ Ok hash = search rules in
+    let a = thumbprints hash inputs.text in
+    let h = c.thumbprints.ensures.answer inputs.text may.text in
+    rw (c.in-JwkThp.is, asked, planned_without_content as_text a [])
+    (agrees_as_text a _ _ _ (drop-length (g.O.Output.written c.args.outputs.now.content)) h)
 
 pub returns-in-B64Enc-clause-answer : goal.returns-in-B64Enc-clause-answer
 returns-in-B64Enc-clause-answer g c inputs may =

@@ -1,9 +1,0 @@
-//! Headers, signed objects and templates. It is given their texts, and never sees a key's octets.
-
-mod compact;
-mod header;
-mod jws;
-mod template;
-
-pub(crate) use jws::{Jws, read_jws};
-pub(crate) use template::{Template, read_template};

@@ -1,0 +1,11 @@
+pub mod Readings
+pub mod WholeNumbers
+pub mod Floats
+pub mod Strings
+pub mod KeyLists
+pub mod Depths
+pub mod KeyRows
+pub mod KeyMembers
+pub mod MadeFloats
+pub mod KeyLens
+pub mod Generated

@@ -1,0 +1,68 @@
+-- Keys and sets of keys (RFC 7517 section 5).
+use Rattle.std.specs.Prelude.{ℕ, suc, ◌&&◌, ◌==◌, not, Bool, true, false, List, [], ◌∷◌, length, map, codes, nat_le, if◌then◌else◌, Option, Some, None, Result, Ok, Err}
+use Rattle.serde_json.specs.Data.{Data, Items, no_items, item}
+use Rattle.serde_json.specs.Find.{get, as_array}
+use Rattle.octets.specs.declared.refusal.Refusal.{Refusal}
+use Rattle.octets.specs.declared.refusal.Refusal.TheVariants.{Key, Limit}
+use Rattle.octets.specs.Outcomes.{◌>>=◌, needs}
+use Rattle.keys.specs.declared.set.KeySet as code
+use Rattle.keys.specs.Json.{json_value, is_object}
+use Rattle.keys.specs.Keys.{OctetKey, key_view, octet_key}
+
+-- what a `KeySet` of the code holds
+abbrev pub key_set_view : code.KeySet → List OctetKey
+key_set_view set = map key_view set.keys.items
+
+-- ---- the objects of a key text
+
+abbrev pub are_objects : Items → Bool
+are_objects no_items = true
+are_objects (item value values) = is_object value && are_objects values
+
+abbrev pub items_count : Items → ℕ
+items_count no_items = 0
+items_count (item value values) = suc (items_count values)
+
+abbrev pub object_list : Option Items → Result Items Refusal
+object_list None = Err Key
+object_list (Some values) = if are_objects values then Ok values else Err Key
+
+-- those of the member `keys`, or the value itself where it has no such member
+abbrev pub objects_at : Data → Option Data → Result Items Refusal
+objects_at value None = Ok (item value no_items)
+objects_at value (Some values) = object_list (as_array values)
+
+unfoldable pub key_objects : Data → Result Items Refusal
+key_objects value = if is_object value then objects_at value (get (codes "keys") value) else Err Key
+
+-- ---- the keys
+
+abbrev pub before : OctetKey → Result (List OctetKey) Refusal → Result (List OctetKey) Refusal
+before key (Ok keys) = Ok (key ∷ keys)
+before key (Err refusal) = Err refusal
+
+-- a bad key is refused where that is asked for, and otherwise passed over
+abbrev pub unless_bad : Bool → Result OctetKey Refusal → Result (List OctetKey) Refusal → Result (List OctetKey) Refusal
+unless_bad strict (Ok key) keys = before key keys
+unless_bad true (Err refusal) keys = Err refusal
+unless_bad false (Err refusal) keys = keys
+
+-- the good octet keys of the objects, in order
+abbrev pub octet_keys : Bool → Items → Result (List OctetKey) Refusal
+octet_keys strict no_items = Ok []
+octet_keys strict (item value values) = unless_bad strict (octet_key value) (octet_keys strict values)
+
+-- the good octet keys of a value, of which there is one at least; with `strict` all its objects are good
+unfoldable pub value_keys : Data → Bool → Result (List OctetKey) Refusal
+value_keys value strict = do
+  objects ← key_objects value
+  few ← needs (nat_le (items_count objects) 64) Limit
+  keys ← octet_keys strict objects
+  some ← needs (not (length keys == 0)) Key
+  Ok keys
+
+-- the keys of a text
+unfoldable pub key_set : List ℕ → Bool → Result (List OctetKey) Refusal
+key_set text strict = do
+  value ← json_value text
+  value_keys value strict

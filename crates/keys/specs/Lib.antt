@@ -1,0 +1,7 @@
+pub mod Json
+pub mod Algorithms
+pub mod Keys
+pub mod KeySets
+pub mod Thumbprints
+pub mod Generating
+pub mod KeyPlans

@@ -1,0 +1,226 @@
+//! Octet keys (RFC 7517 section 4, RFC 7518 section 6.4). It is given a key's JSON value, and sees no
+//! header and no content.
+ghost use Rattle.std.specs.Prelude.{◌≡◌, IfOk, option_map, map, string_bytes};
+ghost use Rattle.std.specs.List.{list_any};
+ghost use Rattle.std.specs.Str.{bytes_eq};
+ghost use Rattle.serde_json.specs.View.{view};
+ghost use Rattle.octets.specs.Outcomes.{AgreesUnlessMemory};
+ghost use Rattle.octets.specs.Base64url.{decoded};
+ghost use Rattle.keys.specs.Keys.{key_view, octet_key, key_octets, constrained_key, or_key, operation_names, operation_use, allows, fits, is_among, is_absent_or_text, is_absent_or_among, is_absent_or_meets};
+ghost use Rattle.keys.specs.Algorithms.{key_names};
+
+use crate::algorithm::{Algorithm, ManagementAlg};
+use crate::json::{optional_string_member, optional_strings_member, string_member};
+use octets::{Refusal, b64_decode, needs};
+use serde_json::Value;
+use std::alloc::{AllocError, Global};
+
+/// What a key may be used for (RFC 7517 section 4.3).
+#[derive(Clone, Copy, Debug, PartialEq, Eq)]
+pub enum Operation {
+    Sign,
+    Verify,
+    /// Encrypt content with the key itself.
+    Encrypt,
+    /// Decrypt content with the key itself.
+    Decrypt,
+    /// Wrap a content encryption key.
+    WrapKey,
+    /// Unwrap a content encryption key.
+    UnwrapKey,
+    /// Wrap with a key that is derived from this one.
+    WrapByPassword,
+    /// Unwrap with a key that is derived from this one.
+    UnwrapByPassword,
+}
+
+impl Operation {
+    /// The names in `key_ops` that allow it.
+    fn names(self) -> &'static [&'static str]
+        ensures { map (λ name. name.now) result.now ≡ operation_names self }
+    {
+        match self {
+            Operation::Sign => &["sign"],
+            Operation::Verify => &["verify"],
+            Operation::Encrypt => &["encrypt"],
+            Operation::Decrypt => &["decrypt"],
+            Operation::WrapKey => &["wrapKey"],
+            Operation::UnwrapKey => &["unwrapKey"],
+            Operation::WrapByPassword => &["wrapKey", "deriveKey", "deriveBits"],
+            Operation::UnwrapByPassword => &["unwrapKey", "deriveKey", "deriveBits"],
+        }
+    }
+
+    /// The `use` that goes with it (RFC 7517 section 4.2).
+    fn key_use(self) -> &'static str
+        ensures { result.now ≡ operation_use self }
+    {
+        match self {
+            Operation::Sign | Operation::Verify => "sig",
+            _ => "enc",
+        }
+    }
+}
+
+/// A good octet key, of 1 to 4,096 octets.
+#[derive(Drop)]
+pub struct Key {
+    octets: Vec<u8>,
+    alg: Option<String>,
+    key_use: Option<String>,
+    key_ops: Option<Vec<String>>,
+}
+
+impl Key {
+    /// The key's octets: `k`.
+    pub fn octets(&self) -> &[u8]
+        ensures { result.now ≡ (key_view self.now).octets }
+    {
+        &self.octets
+    }
+
+    /// The key's `alg`, where it is there (RFC 7517 section 4.4).
+    pub fn alg(&self) -> Option<&str>
+        ensures { option_map (λ name. name.now) result ≡ (key_view self.now).alg }
+    {
+        match &self.alg {
+            None => None,
+            Some(alg) => Some(alg.as_str()),
+        }
+    }
+
+    /// The key's `use` and `key_ops` allow the operation. Each of them allows all where it is absent.
+    #[tactic(auto, unfolding(crate::specs::Keys::allows))]
+    pub fn allows(&self, operation: Operation) -> bool
+        ensures { result ≡ allows (key_view self.now) operation }
+    {
+        is_absent_or_text(&self.key_use, operation.key_use())
+            && is_absent_or_meets(&self.key_ops, operation.names())
+    }
+
+    /// The key has a length that the algorithm takes, and its `alg` names no other. For direct
+    /// encryption `alg` may name the content encryption algorithm instead.
+    #[tactic(auto, unfolding(crate::specs::Keys::fits))]
+    pub fn fits(&self, algorithm: Algorithm) -> bool
+        ensures { result ≡ fits (key_view self.now) algorithm }
+    {
+        is_absent_or_names(self.alg(), algorithm) && algorithm.takes_key_of(self.octets.len())
+    }
+}
+
+/// The key that an object is. Refused with `Key` where it is no good octet key: `kty` is "oct", `k`
+/// is the base64url text of 1 to 4,096 octets, and where they are there `alg`, `use` and `kid` are
+/// strings and `key_ops` is a list of strings. Other members are ignored.
+#[tactic(auto, unfolding(crate::specs::Keys::octet_key))]
+pub(crate) fn read_key(alloc: Global, value: &Value) -> Result<Key, Refusal>
+    ensures { AgreesUnlessMemory key_view result (octet_key (view value.now)) }
+{
+    let kty = string_member(value, "kty", Refusal::Key)?;
+    needs(kty == "oct", Refusal::Key)?;
+    let octets = read_key_octets(alloc, value)?;
+    read_constraints(alloc, octets, value)
+}
+
+/// The octets of the member `k`.
+#[tactic(auto, unfolding(crate::specs::Keys::key_octets))]
+fn read_key_octets(alloc: Global, value: &Value) -> Result<Vec<u8>, Refusal>
+    ensures { AgreesUnlessMemory (λ octets. octets.items) result (key_octets (view value.now)) }
+{
+    let text = string_member(value, "k", Refusal::Key)?;
+    let octets = decode_key(alloc, text.as_bytes())?;
+    needs(1 <= octets.len() && octets.len() <= 4096, Refusal::Key)?;
+    Ok(octets)
+}
+
+/// The octets of a base64url text, which is a bad key where it is a bad text.
+fn decode_key(alloc: Global, text: &[u8]) -> Result<Vec<u8>, Refusal>
+    ensures { AgreesUnlessMemory (λ octets. octets.items) result (or_key (decoded text.now)) }
+{
+    match b64_decode(alloc, text) {
+        Err(Refusal::Base64) => Err(Refusal::Key),
+        result => result,
+    }
+}
+
+/// The key with these octets, and what its other members say of its use.
+#[tactic(auto, unfolding(crate::specs::Keys::constrained_key))]
+fn read_constraints(alloc: Global, octets: Vec<u8>, value: &Value) -> Result<Key, Refusal>
+    ensures { AgreesUnlessMemory key_view result (constrained_key octets.items (view value.now)) }
+{
+    let alg = optional_string_member(value, "alg", Refusal::Key)?;
+    let key_use = optional_string_member(value, "use", Refusal::Key)?;
+    let _kid = optional_string_member(value, "kid", Refusal::Key)?;
+    let key_ops = optional_strings_member(alloc, value, "key_ops", Refusal::Key)?;
+    Ok(Key {
+        octets,
+        alg: owned(alloc, alg)?,
+        key_use: owned(alloc, key_use)?,
+        key_ops,
+    })
+}
+
+/// A copy of the text.
+fn owned(alloc: Global, text: Option<&str>) -> Result<Option<String>, AllocError>
+    ensures { IfOk result (λ copy. option_map string_bytes copy ≡ option_map (λ t. t.now) text.entry) }
+{
+    match text {
+        None => Ok(None),
+        Some(text) => Ok(Some(String::from_str(alloc, text)?)),
+    }
+}
+
+/// The `alg` is not there, or it is a name that the algorithm lets a key have.
+fn is_absent_or_names(found: Option<&str>, algorithm: Algorithm) -> bool
+    ensures { result ≡ is_absent_or_among (option_map (λ t. t.now) found.entry) (key_names algorithm) }
+{
+    match found {
+        None => true,
+        Some(name) => match algorithm {
+            Algorithm::Signature(alg) => alg.name() == name,
+            Algorithm::Encryption(ManagementAlg::Dir, enc) => "dir" == name || enc.name() == name,
+            Algorithm::Encryption(alg, _) => alg.name() == name,
+        },
+    }
+}
+
+/// The member is not there, or it is this text.
+fn is_absent_or_text(found: &Option<String>, text: &str) -> bool
+    ensures { result ≡ is_absent_or_text (option_map string_bytes found.now) text.now }
+{
+    match found {
+        None => true,
+        Some(found) => found.as_str() == text,
+    }
+}
+
+/// The member is not there, or one of these names is in its list.
+#[tactic(auto, using(crate::proofs::Strings::any_text))]
+fn is_absent_or_meets(found: &Option<Vec<String>>, names: &[&str]) -> bool
+    ensures { result ≡ is_absent_or_meets (option_map (λ texts. map string_bytes texts.items) found.now) (map (λ n. n.now) names.now) }
+{
+    match found {
+        None => true,
+        Some(texts) => meets(texts, names),
+    }
+}
+
+/// One of these names is in the list.
+fn meets(texts: &Vec<String>, names: &[&str]) -> bool
+    ensures { result ≡ list_any (λ text. is_among (map (λ n. n.now) names.now) (string_bytes text)) texts.now.items }
+{
+    texts.iter().any(|text| is_among(names, text.as_str()))
+}
+
+/// The text is one of these names.
+#[tactic(auto, using(crate::proofs::Strings::any_name))]
+pub(crate) fn is_among(names: &[&str], text: &str) -> bool
+    ensures { result ≡ is_among (map (λ n. n.now) names.now) text.now }
+{
+    any_name(names, text)
+}
+
+fn any_name(names: &[&str], text: &str) -> bool
+    ensures { result ≡ list_any (λ n. bytes_eq n.now text.now) names.now }
+{
+    names.iter().any(|name| *name == text)
+}

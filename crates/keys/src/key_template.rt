@@ -1,0 +1,75 @@
+//! Templates of keys: what they may hold, and what they ask for. It is given a template's JSON value.
+ghost use Rattle.std.specs.Prelude.{◌≡◌, codes, option_map, None, Err};
+ghost use Rattle.serde_json.specs.Data.{Members, object};
+ghost use Rattle.serde_json.specs.Find.{get, as_object};
+ghost use Rattle.serde_json.specs.View.{view};
+ghost use Rattle.octets.specs.Outcomes.{AgreesUnlessMemory};
+ghost use Rattle.keys.specs.Generating.{key_template, is_oct_if_there, len_if_there, is_within_limit};
+ghost use Rattle.keys.specs.KeyPlans.{asked_view};
+
+use crate::json::{is_object, optional_string_member, optional_strings_member};
+use octets::{Refusal, needs};
+use serde_json::Value;
+use std::alloc::Global;
+
+/// What a template asks for.
+#[derive(Clone, Copy)]
+pub(crate) struct Asked<'v> {
+    pub(crate) alg: Option<&'v str>,
+    pub(crate) bytes: Option<usize>,
+}
+
+/// What a template asks for. It is refused with `Key` where it is no object, where it is a key or a
+/// set of keys, and where a member is not typed as that of a key.
+#[tactic(auto, unfolding(crate::specs::Generating::key_template))]
+pub(crate) fn read_template<'v>(alloc: Global, value: &'v Value) -> Result<Asked<'v>, Refusal>
+    ensures object { (members : Members) → view value.now ≡ object members
+        → AgreesUnlessMemory asked_view result (key_template (object members) members) }
+    ensures other { as_object (view value.now) ≡ None → result ≡ Err Refusal.Key }
+{
+    needs(is_object(value), Refusal::Key)?;
+    let is_fresh = value.get("k").is_none() && value.get("keys").is_none();
+    needs(is_fresh, Refusal::Key)?;
+    let kty = optional_string_member(value, "kty", Refusal::Key)?;
+    needs(is_oct_if_there(kty), Refusal::Key)?;
+    let alg = optional_string_member(value, "alg", Refusal::Key)?;
+    let _key_use = optional_string_member(value, "use", Refusal::Key)?;
+    let _kid = optional_string_member(value, "kid", Refusal::Key)?;
+    let _key_ops = optional_strings_member(alloc, value, "key_ops", Refusal::Key)?;
+    let bytes = len_if_there(value)?;
+    Ok(Asked { alg, bytes })
+}
+
+/// The type of key, where it is there, is an octet key.
+fn is_oct_if_there(kty: Option<&str>) -> bool
+    ensures { result ≡ is_oct_if_there (option_map (λ t. t.now) kty.entry) }
+{
+    match kty {
+        None => true,
+        Some(kty) => kty == "oct",
+    }
+}
+
+/// The member `bytes`, which is a whole number from 1 where it is there.
+fn len_if_there(value: &Value) -> Result<Option<usize>, Refusal>
+    ensures { AgreesUnlessMemory (λ len. len) result
+        (len_if_there (get (codes "bytes") (view value.now))) }
+{
+    match value.get("bytes") {
+        None => Ok(None),
+        Some(bytes) => match bytes.as_u64() {
+            Some(n) if n >= 1 => Ok(Some(n as usize)),
+            _ => Err(Refusal::Key),
+        },
+    }
+}
+
+/// A template asks for 4,096 octets at most.
+pub(crate) fn is_within_limit(bytes: Option<usize>) -> bool
+    ensures { result ≡ is_within_limit bytes }
+{
+    match bytes {
+        None => true,
+        Some(n) => n <= 4096,
+    }
+}

@@ -1,0 +1,107 @@
+//! Keys and sets of keys (RFC 7517 section 5). It is given a key text.
+ghost use Rattle.std.specs.Prelude.{◌≡◌, map};
+ghost use Rattle.serde_json.specs.Find.{as_array};
+ghost use Rattle.serde_json.specs.View.{view, items_view};
+ghost use Rattle.octets.specs.Outcomes.{AgreesUnlessMemory};
+ghost use Rattle.keys.specs.Keys.{key_view};
+ghost use Rattle.keys.specs.KeySets.{key_set_view, key_set, value_keys, key_objects, object_list, octet_keys, are_objects};
+
+use crate::json::{is_object, read_json};
+use crate::key::{Key, read_key};
+use octets::{Refusal, needs};
+use serde_json::Value;
+use std::alloc::Global;
+use std::slice;
+
+/// The good octet keys of a text, in order. There is one at least.
+#[derive(Drop)]
+pub struct KeySet {
+    keys: Vec<Key>,
+}
+
+impl KeySet {
+    /// The keys of a JSON text: one key, or a set with its member `keys`. Refused, in this order, with
+    /// `Json` and `Number`; with `Key` where the text is no object, or its `keys` no list of objects;
+    /// with `Limit` where these are more than 64; and with `Key` where one is no good octet key and
+    /// `strict` asks for all of them to be, or none is.
+    #[tactic(auto, unfolding(crate::specs::KeySets::key_set))]
+    pub fn read(alloc: Global, text: &[u8], strict: bool) -> Result<KeySet, Refusal>
+        ensures { AgreesUnlessMemory key_set_view result (key_set text.now strict) }
+    {
+        let value = read_json(alloc, text)?;
+        let keys = value_keys(alloc, &value, strict)?;
+        Ok(KeySet { keys })
+    }
+
+    /// The keys, in the order of the text.
+    pub fn keys(&self) -> &[Key]
+        ensures { map key_view result.now ≡ key_set_view self.now }
+    {
+        &self.keys
+    }
+}
+
+/// The good octet keys of the value. There is one at least.
+#[tactic(auto, unfolding(crate::specs::KeySets::value_keys), using(crate::proofs::KeyLists::items_counted, crate::proofs::KeyLists::keys_counted))]
+fn value_keys(alloc: Global, value: &Value, strict: bool) -> Result<Vec<Key>, Refusal>
+    ensures { AgreesUnlessMemory (λ keys. map key_view keys.items) result (value_keys (view value.now) strict) }
+{
+    let objects = key_objects(value)?;
+    needs(objects.len() <= 64, Refusal::Limit)?;
+    let keys = read_keys(alloc, objects, strict)?;
+    needs(!keys.is_empty(), Refusal::Key)?;
+    Ok(keys)
+}
+
+/// The objects of the text: those of its member `keys`, or the value itself where it has none.
+#[tactic(auto, unfolding(crate::specs::KeySets::key_objects))]
+fn key_objects(value: &Value) -> Result<&[Value], Refusal>
+    ensures { AgreesUnlessMemory (λ values. items_view values.now) result (key_objects (view value.now)) }
+{
+    needs(is_object(value), Refusal::Key)?;
+    match value.get("keys") {
+        None => Ok(slice::from_ref(value)),
+        Some(values) => object_list(values),
+    }
+}
+
+/// The items of a list of objects.
+fn object_list(values: &Value) -> Result<&[Value], Refusal>
+    ensures { AgreesUnlessMemory (λ values. items_view values.now) result (object_list (as_array (view values.now))) }
+{
+    match values.as_array() {
+        None => Err(Refusal::Key),
+        Some(values) => {
+            needs(are_objects(values), Refusal::Key)?;
+            Ok(values)
+        }
+    }
+}
+
+/// Each value is an object.
+fn are_objects(values: &[Value]) -> bool
+    ensures { result ≡ are_objects (items_view values.now) }
+{
+    for value in values {
+        if !is_object(value) {
+            return false;
+        }
+    }
+    true
+}
+
+/// The keys that the objects are. A bad one is refused where that is asked for, and otherwise passed over.
+fn read_keys(alloc: Global, objects: &[Value], strict: bool) -> Result<Vec<Key>, Refusal>
+    ensures { AgreesUnlessMemory (λ keys. map key_view keys.items) result (octet_keys strict (items_view objects.now)) }
+{
+    let mut keys = Vec::new(alloc);
+    for value in objects {
+        match read_key(alloc, value) {
+            Ok(key) => keys.push(key)?,
+            Err(Refusal::Memory) => return Err(Refusal::Memory),
+            Err(_) if !strict => {}
+            Err(refusal) => return Err(refusal),
+        }
+    }
+    Ok(keys)
+}

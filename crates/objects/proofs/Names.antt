@@ -1,0 +1,90 @@
+-- The members of several parts, name by name.
+use Rattle.std.proofs.Common.{◌≡◌, ℕ, List, Bool, true, false, not, Option, Some, None, option_map, is_some, Ordering, Less, Equal, Greater, nat_cmp, is_eq, true≢false, refl, sym, ap, ◌∙◌}
+use Rattle.std.proofs.lemmas.Map.Text.{is_eq-slice_cmp}
+use Rattle.std.proofs.lemmas.Slice.Eq.{bytes_eq-Decides}
+use Rattle.std.specs.Cmp.Lexicographic.{slice_cmp}
+use Rattle.std.specs.Option.{option_or}
+use Rattle.std.specs.Ordering.{match_ordering}
+use Rattle.std.specs.Prelude.{◌||◌}
+use Rattle.serde_json.specs.Data.{Data, Members, no_members, member, put}
+use Rattle.serde_json.specs.Find.{get_member}
+use Rattle.serde_json.proofs.Views.{get_member-put, get_member-put_other}
+use Rattle.objects.specs.Headers.{overlap, union, are_disjoint, all_members, HasAllMembers}
+
+-- ---- names that are one, and names that differ
+
+one_name : (k l : List ℕ) → slice_cmp nat_cmp k l ≡ Equal → k ≡ l
+one_name k l is = (bytes_eq-Decides k l).0 (sym (is_eq-slice_cmp k l) ∙ ap is_eq is)
+
+two_names : (o : Ordering) (k l : List ℕ) → slice_cmp nat_cmp k l ≡ o → is_eq o ≡ false → k ≡ l → ⊥
+two_names o k l is other same = true≢false (sym ((bytes_eq-Decides k l).1 same) ∙ sym (is_eq-slice_cmp k l) ∙ ap is_eq is ∙ other)
+
+-- ---- the member of a union
+
+found_at : (o : Ordering) (k l : List ℕ) (d : Data) (rest all other : Members) → slice_cmp nat_cmp k l ≡ o → get_member k all ≡ option_or (get_member k rest) (get_member k other)
+    → get_member k (put l d all) ≡ option_or (match_ordering o (get_member k rest) (Some d) (get_member k rest)) (get_member k other)
+found_at Less k l d rest all other is later = get_member-put_other k l d all (two_names Less k l is refl) ∙ later
+found_at Equal k l d rest all other is later = rw (one_name k l is) (get_member-put l d all)
+found_at Greater k l d rest all other is later = get_member-put_other k l d all (two_names Greater k l is refl) ∙ later
+
+-- it is that of the first part, or else that of the other
+pub get_member-union : (name : List ℕ) (part other : Members) → get_member name (union part other) ≡ option_or (get_member name part) (get_member name other)
+get_member-union name no_members other = refl
+get_member-union name (member l d rest) other = found_at (slice_cmp nat_cmp name l) name l d rest (union rest other) other refl (get_member-union name rest other)
+
+pub get_member-all_members : (name : List ℕ) (protected unprotected own : Members)
+    → get_member name (all_members protected unprotected own) ≡ option_or (get_member name protected) (option_or (get_member name unprotected) (get_member name own))
+get_member-all_members name protected unprotected own =
+    get_member-union name protected (union unprotected own) ∙ ap (option_or (get_member name protected)) (get_member-union name unprotected own)
+
+-- the first that is found, seen as its value
+pub seen_first : {A : Type 0} (seen : A → Data) (first second third : Option A)
+    → option_map seen (option_or (option_or first second) third) ≡ option_or (option_map seen first) (option_or (option_map seen second) (option_map seen third))
+seen_first seen None None third = refl
+seen_first seen None (Some x) third = refl
+seen_first seen (Some x) second third = refl
+
+-- ---- parts with no name in common
+
+neither : (a b : Bool) → (a || b) ≡ false → (a ≡ false) × (b ≡ false)
+neither true b h = cc h
+neither false b h = (refl, h)
+
+is_false : (b : Bool) → not b ≡ true → b ≡ false
+is_false true h = cc h
+is_false false h = refl
+
+is_none : (o : Option Data) → is_some o ≡ false → o ≡ None
+is_none None h = refl
+is_none (Some d) h = cc h
+
+absent_at : (o : Ordering) (name l : List ℕ) (d e : Data) (rest other : Members) → slice_cmp nat_cmp name l ≡ o → (is_some (get_member l other) || overlap rest other) ≡ false
+    → (overlap rest other ≡ false → get_member name rest ≡ Some d → get_member name other ≡ None)
+    → match_ordering o (get_member name rest) (Some e) (get_member name rest) ≡ Some d → get_member name other ≡ None
+absent_at Less name l d e rest other is apart later here = later (neither _ _ apart).1 here
+absent_at Equal name l d e rest other is apart later here = rw (one_name name l is) (is_none _ (neither _ _ apart).0)
+absent_at Greater name l d e rest other is apart later here = later (neither _ _ apart).1 here
+
+-- a name of a part is not in the other
+absent_in_other : (name : List ℕ) (d : Data) (part other : Members) → overlap part other ≡ false → get_member name part ≡ Some d → get_member name other ≡ None
+absent_in_other name d no_members other apart here = cc here
+absent_in_other name d (member l e rest) other apart here =
+    absent_at (slice_cmp nat_cmp name l) name l d e rest other refl apart (absent_in_other name d rest other) here
+
+absent_by : (found : Option Data) (name : List ℕ) (d : Data) (part other : Members) → get_member name part ≡ found → overlap part other ≡ false → get_member name other ≡ Some d → get_member name part ≡ None
+absent_by None name d part other is apart here = is
+absent_by (Some e) name d part other is apart here = let absent = absent_in_other name e part other apart is in cc (absent, here)
+
+absent_in_part : (name : List ℕ) (d : Data) (part other : Members) → overlap part other ≡ false → get_member name other ≡ Some d → get_member name part ≡ None
+absent_in_part name d part other = absent_by (get_member name part) name d part other refl
+
+pub has_all_members : (protected unprotected own : Members) → are_disjoint protected unprotected own ≡ true → HasAllMembers protected unprotected own
+has_all_members protected unprotected own disjoint =
+    let first = neither (overlap protected unprotected) _ (is_false _ disjoint) in
+    let others = neither (overlap protected own) (overlap unprotected own) first.1 in
+    record {
+      of_protected = λ name d here. rw (get_member-all_members name protected unprotected own, here) refl;
+      of_unprotected = λ name d here. rw (get_member-all_members name protected unprotected own, absent_in_part name d protected unprotected first.0 here, here) refl;
+      of_own = λ name d here. rw (get_member-all_members name protected unprotected own, absent_in_part name d protected own others.0 here, absent_in_part name d unprotected own others.1 here, here) refl;
+      no_others = λ name a b c. rw (get_member-all_members name protected unprotected own, a, b, c) refl;
+    }

@@ -1,0 +1,93 @@
+-- JOSE headers (RFC 7515 section 4, RFC 7516 section 4): their members, and the parameters that this profile reads.
+use Rattle.std.specs.Prelude.{◌≡◌, ℕ, ◌||◌, Bool, true, false, not, List, length, nat_le, is_some, if◌then◌else◌, Option, Some, None, option_and_then, Result, Ok, Err}
+use Rattle.serde_json.specs.Data.{Data, Members, no_members, member, put}
+use Rattle.serde_json.specs.Find.{get_member, as_str, as_number, as_u64, as_object}
+use Rattle.octets.specs.declared.refusal.Refusal.{Refusal}
+use Rattle.octets.specs.declared.refusal.Refusal.TheVariants.{Header}
+use Rattle.octets.specs.Outcomes.{◌>>=◌, needs}
+use Rattle.octets.specs.Base64url.{decoded}
+use Rattle.keys.specs.Json.{json_value}
+
+-- ---- the protected header
+
+abbrev pub object_members : Option Members → Result Members Refusal
+object_members None = Err Header
+object_members (Some members) = Ok members
+
+-- the members of the object that octets are as JSON
+unfoldable pub members_of_json : List ℕ → Result Members Refusal
+members_of_json octets = do
+  value ← json_value octets
+  object_members (as_object value)
+
+-- the members of a protected header; no octets are a header with no members
+unfoldable pub protected_members : List ℕ → Result Members Refusal
+protected_members octets = if nat_le (length octets) 0 then Ok no_members else members_of_json octets
+
+-- ---- the joint header
+
+-- some name stands in both
+abbrev pub overlap : Members → Members → Bool
+overlap no_members other = false
+overlap (member name value rest) other = is_some (get_member name other) || overlap rest other
+
+-- the members of both; those of the first stand in place of others with their names
+abbrev pub union : Members → Members → Members
+union no_members other = other
+union (member name value rest) other = put name value (union rest other)
+
+-- the three parts have no name in common
+abbrev pub are_disjoint : Members → Members → Members → Bool
+are_disjoint protected unprotected own = not (overlap protected unprotected || (overlap protected own || overlap unprotected own))
+
+abbrev pub all_members : Members → Members → Members → Members
+all_members protected unprotected own = union protected (union unprotected own)
+
+-- The joint header: the members of all parts, where no name stands in two of them.
+unfoldable pub joint_header : Members → Members → Members → Result Members Refusal
+joint_header protected unprotected own = do
+  apart ← needs (are_disjoint protected unprotected own) Header
+  Ok (all_members protected unprotected own)
+
+-- Where no name stands in two parts, the joint header has the members of each part, and no others.
+pub record HasAllMembers (protected unprotected own : Members) : Type 0 where
+  pub of_protected : (name : List ℕ) (value : Data) → get_member name protected ≡ Some value → get_member name (all_members protected unprotected own) ≡ Some value
+  pub of_unprotected : (name : List ℕ) (value : Data) → get_member name unprotected ≡ Some value → get_member name (all_members protected unprotected own) ≡ Some value
+  pub of_own : (name : List ℕ) (value : Data) → get_member name own ≡ Some value → get_member name (all_members protected unprotected own) ≡ Some value
+  pub no_others : (name : List ℕ) → get_member name protected ≡ None → get_member name unprotected ≡ None → get_member name own ≡ None → get_member name (all_members protected unprotected own) ≡ None
+
+abbrev pub JointHeaderHasAllMembers : Type 0
+JointHeaderHasAllMembers = (protected unprotected own : Members) → are_disjoint protected unprotected own ≡ true → HasAllMembers protected unprotected own
+
+-- ---- parameters
+
+abbrev pub required : {X : Type 0} → Option X → Result (Option X) Refusal
+required None = Err Header
+required (Some x) = Ok (Some x)
+
+-- what is there must be read
+abbrev pub if_there : {X : Type 0} → (Data → Option X) → Option Data → Result (Option X) Refusal
+if_there read None = Ok None
+if_there read (Some value) = required (read value)
+
+-- `alg` and `enc` (RFC 7516 sections 4.1.1 and 4.1.2): strings
+unfoldable pub string_parameter : List ℕ → Members → Result (Option (List ℕ)) Refusal
+string_parameter name header = if_there as_str (get_member name header)
+
+-- `p2c` (RFC 7518 section 4.8.1.2): a whole number
+unfoldable pub number_parameter : List ℕ → Members → Result (Option ℕ) Refusal
+number_parameter name header = if_there (λ value. option_and_then as_u64 (as_number value)) (get_member name header)
+
+-- `p2s` (RFC 7518 section 4.8.1.1): the base64url text of at least 8 octets
+abbrev pub salt : Result (List ℕ) Refusal → Result (Option (List ℕ)) Refusal
+salt (Ok octets) = if nat_le 8 (length octets) then Ok (Some octets) else Err Header
+salt (Err refusal) = Err Header
+
+abbrev pub salt_if_there : Option (List ℕ) → Result (Option (List ℕ)) Refusal
+salt_if_there None = Ok None
+salt_if_there (Some text) = salt (decoded text)
+
+unfoldable pub salt_parameter : List ℕ → Members → Result (Option (List ℕ)) Refusal
+salt_parameter name header = do
+  text ← string_parameter name header
+  salt_if_there text

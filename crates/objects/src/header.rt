@@ -1,0 +1,182 @@
+//! JOSE headers (RFC 7515 section 4, RFC 7516 section 4). It sees their members alone.
+ghost use Rattle.std.specs.Prelude.{◌≡◌, IfErr, Some, codes, is_some, option_map};
+ghost use Rattle.octets.specs.Base64url.{decoded};
+ghost use Rattle.octets.specs.Outcomes.{AgreesUnlessMemory};
+ghost use Rattle.serde_json.specs.Find.{get_member};
+ghost use Rattle.serde_json.specs.View.{view, members_view};
+ghost use Rattle.objects.specs.Headers.{members_of_json, protected_members, overlap as overlap_of, joint_header, string_parameter, number_parameter, salt, salt_parameter};
+ghost use Rattle.objects.specs.JointHeaders.{header_view, part_view};
+
+use keys::read_json;
+use octets::{Refusal, b64_decode, needs};
+use serde_json::{Map, Value};
+use std::alloc::Global;
+
+/// The joint header of a signature or a recipient: the members of its parts, no two of which have a
+/// name in common.
+#[derive(Clone, Copy)]
+pub struct Header<'m> {
+    protected: Option<&'m Map<String, Value>>,
+    unprotected: Option<&'m Map<String, Value>>,
+    own: Option<&'m Map<String, Value>>,
+}
+
+/// The members of a protected header's octets (RFC 7515 section 4.1). No octets stand for a header
+/// with no members. Refused with `Json`, `Number`, and then with `Header` where it is no object.
+#[tactic(auto, unfolding(crate::specs::Headers::protected_members))]
+pub fn read_protected(alloc: Global, octets: &[u8]) -> Result<Map<String, Value>, Refusal>
+    ensures { AgreesUnlessMemory (λ members. members_view members.entries) result
+        (protected_members octets.now) }
+{
+    if octets.is_empty() {
+        Ok(Map::new(alloc))
+    } else {
+        read_members(alloc, octets)
+    }
+}
+
+/// The members of the object that the octets are as JSON.
+#[tactic(auto, unfolding(crate::specs::Headers::members_of_json))]
+fn read_members(alloc: Global, octets: &[u8]) -> Result<Map<String, Value>, Refusal>
+    ensures { AgreesUnlessMemory (λ members. members_view members.entries) result
+        (members_of_json octets.now) }
+{
+    match read_json(alloc, octets)? {
+        Value::Object(members) => Ok(members),
+        _ => Err(Refusal::Header),
+    }
+}
+
+impl<'m> Header<'m> {
+    /// The joint header of these parts: the protected header, that of all recipients, and the one of
+    /// the signature or the recipient itself. An absent part has no members. Refused with `Header`
+    /// where a name stands in two parts.
+    #[tactic(auto, unfolding(crate::specs::Headers::joint_header))]
+    pub fn joint(
+        protected: Option<&'m Map<String, Value>>,
+        unprotected: Option<&'m Map<String, Value>>,
+        own: Option<&'m Map<String, Value>>,
+    ) -> Result<Header<'m>, Refusal>
+        ensures exact { AgreesUnlessMemory header_view result
+            (joint_header (part_view protected.entry) (part_view unprotected.entry) (part_view own.entry)) }
+        ensures refusal { IfErr result (λ e. e ≡ Refusal.Header) }
+    {
+        let overlap = parts_overlap(protected, unprotected)
+            || parts_overlap(protected, own)
+            || parts_overlap(unprotected, own);
+        needs(!overlap, Refusal::Header)?;
+        Ok(Header {
+            protected,
+            unprotected,
+            own,
+        })
+    }
+
+    /// The member of this name.
+    pub fn get(&self, name: &str) -> Option<&'m Value>
+        ensures { option_map (λ v. view v.now) result ≡ get_member name.now (header_view self.now) }
+    {
+        part_member(self.protected, name)
+            .or(part_member(self.unprotected, name))
+            .or(part_member(self.own, name))
+    }
+
+    /// The header has a member of this name, whatever it holds.
+    pub fn has(&self, name: &str) -> bool
+        ensures { result ≡ is_some (get_member name.now (header_view self.now)) }
+    {
+        self.get(name).is_some()
+    }
+
+    /// `alg`, where it is there (RFC 7515 section 4.1.1). Refused with `Header` where it is no string.
+    pub fn alg(&self) -> Result<Option<&'m str>, Refusal>
+        ensures exact { AgreesUnlessMemory (option_map (λ s. s.now)) result
+            (string_parameter (codes "alg") (header_view self.now)) }
+        ensures refusal { IfErr result (λ e. e ≡ Refusal.Header) }
+    {
+        self.string("alg")
+    }
+
+    /// `enc`, where it is there (RFC 7516 section 4.1.2). Refused with `Header` where it is no string.
+    pub fn enc(&self) -> Result<Option<&'m str>, Refusal>
+        ensures exact { AgreesUnlessMemory (option_map (λ s. s.now)) result
+            (string_parameter (codes "enc") (header_view self.now)) }
+        ensures refusal { IfErr result (λ e. e ≡ Refusal.Header) }
+    {
+        self.string("enc")
+    }
+
+    /// `p2s`, the salt input, where it is there (RFC 7518 section 4.8.1.1). Refused with `Header` where
+    /// it is not the base64url text of at least 8 octets.
+    #[tactic(auto, unfolding(crate::specs::Headers::salt_parameter))]
+    pub fn p2s(&self, alloc: Global) -> Result<Option<Vec<u8>>, Refusal>
+        ensures { AgreesUnlessMemory (option_map (λ octets. octets.items)) result
+            (salt_parameter (codes "p2s") (header_view self.now)) }
+    {
+        match self.string("p2s")? {
+            None => Ok(None),
+            Some(text) => Ok(Some(read_salt(alloc, text.as_bytes())?)),
+        }
+    }
+
+    /// `p2c`, the count of iterations, where it is there (RFC 7518 section 4.8.1.2). Refused with
+    /// `Header` where it is no whole number from 0.
+    #[tactic(auto, unfolding(crate::specs::Headers::number_parameter))]
+    pub fn p2c(&self) -> Result<Option<u64>, Refusal>
+        ensures exact { AgreesUnlessMemory (λ count. count) result
+            (number_parameter (codes "p2c") (header_view self.now)) }
+        ensures refusal { IfErr result (λ e. e ≡ Refusal.Header) }
+    {
+        match self.get("p2c") {
+            None => Ok(None),
+            Some(value) => Ok(Some(value.as_u64().ok_or(Refusal::Header)?)),
+        }
+    }
+
+    /// The text of this member, where it is there. Refused with `Header` where it is no string.
+    #[tactic(auto, unfolding(crate::specs::Headers::string_parameter))]
+    fn string(&self, name: &str) -> Result<Option<&'m str>, Refusal>
+        ensures exact { AgreesUnlessMemory (option_map (λ s. s.now)) result
+            (string_parameter name.now (header_view self.now)) }
+        ensures refusal { IfErr result (λ e. e ≡ Refusal.Header) }
+    {
+        match self.get(name) {
+            None => Ok(None),
+            Some(value) => Ok(Some(value.as_str().ok_or(Refusal::Header)?)),
+        }
+    }
+}
+
+/// The member of this name in a part.
+fn part_member<'m>(part: Option<&'m Map<String, Value>>, name: &str) -> Option<&'m Value>
+    ensures { option_map (λ v. view v.now) result ≡ get_member name.now (part_view part.entry) }
+{
+    part?.get(name)
+}
+
+/// Some name stands in both parts.
+fn parts_overlap(part: Option<&Map<String, Value>>, other: Option<&Map<String, Value>>) -> bool
+    ensures { result ≡ overlap_of (part_view part.entry) (part_view other.entry) }
+{
+    let Some(members) = part else {
+        return false;
+    };
+    for (name, _) in members.iter() {
+        if part_member(other, name.as_str()).is_some() {
+            return true;
+        }
+    }
+    false
+}
+
+/// The octets of a salt's text, of which there are at least 8.
+fn read_salt(alloc: Global, text: &[u8]) -> Result<Vec<u8>, Refusal>
+    ensures { AgreesUnlessMemory (λ octets. Some octets.items) result (salt (decoded text.now)) }
+{
+    let octets = match b64_decode(alloc, text) {
+        Err(Refusal::Base64) => return Err(Refusal::Header),
+        result => result?,
+    };
+    needs(octets.len() >= 8, Refusal::Header)?;
+    Ok(octets)
+}

@@ -1,0 +1,19 @@
+-- The digests of whole messages (FIPS 180-4).
+use Rattle.std.specs.Prelude.{ℕ, List}
+use Rattle.sha2.specs.Sha256.{sha224, sha256}
+use Rattle.sha2.specs.Sha512.{sha384, sha512}
+use Rattle.prf.specs.declared.digests.HashAlg.{HashAlg}
+use Rattle.prf.specs.declared.digests.HashAlg.TheVariants.{S224, S256, S384, S512}
+
+abbrev pub digest_of : HashAlg → List ℕ → List ℕ
+digest_of S224 message = sha224 message
+digest_of S256 message = sha256 message
+digest_of S384 message = sha384 message
+digest_of S512 message = sha512 message
+
+-- the length of a digest in octets
+abbrev pub digest_len : HashAlg → ℕ
+digest_len S224 = 28
+digest_len S256 = 32
+digest_len S384 = 48
+digest_len S512 = 64
