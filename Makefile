@@ -2,7 +2,7 @@
 
 PREFIX ?= /usr/local
 
-.PHONY: demo test build ports faults bench install clean
+.PHONY: demo test edits build ports faults bench install clean
 
 # Signs a document, verifies it, and shows what a changed token and a wrong key give.
 demo:
@@ -11,6 +11,10 @@ demo:
 # The gate: proves every crate from nothing, tries the must-fail edits, runs the tests and the program.
 test:
 	rt ci
+
+# Tries the wrong bodies that stand outside the gate, of the crates in CRATES or of all: the prover must refuse each.
+edits:
+	@scripts/edits $(CRATES)
 
 # Proves the program and builds it: crates/jose/out/jose.
 build:

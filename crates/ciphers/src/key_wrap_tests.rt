@@ -37,14 +37,34 @@ fn expect_both_ways<B: Block>(rt: &impl Abort, kek: &B, key_data: &[u8], text: &
     requires size { (16 ≤ length key_data.now) × (length key_data.now ≤ 64) }
     requires longer { length text.now ≡ length key_data.now + 8 }
 {
-    let mut wrapped = [0; 72];
-    let out = &mut wrapped[..text.len()];
-    wrap(kek, key_data, out);
-    assert_eq!(rt; &*out, text);
-    let mut unwrapped = [0; 64];
-    let out = &mut unwrapped[..key_data.len()];
-    assert_eq!(rt; unwrap(kek, text, out), Some(()));
+    let mut buf = [0; 72];
+    let wrapped = &mut buf[..text.len()];
+    wrap(kek, key_data, wrapped);
+    assert_eq!(rt; &*wrapped, text);
+    expect_unwraps(rt, kek, text, key_data);
+}
+
+// The text unwraps to the key data.
+fn expect_unwraps<B: Block>(rt: &impl Abort, kek: &B, text: &[u8], key_data: &[u8])
+    requires parts { length key_data.now % 8 ≡ 0 }
+    requires size { (16 ≤ length key_data.now) × (length key_data.now ≤ 64) }
+    requires longer { length text.now ≡ length key_data.now + 8 }
+{
+    let mut buf = [0; 64];
+    let out = &mut buf[..key_data.len()];
+    assert!(rt; unwrap(kek, text, out).is_some());
     assert_eq!(rt; &*out, key_data);
+}
+
+// What the key data wraps to unwraps to it.
+fn expect_comes_back<B: Block>(rt: &impl Abort, kek: &B, key_data: &[u8])
+    requires parts { length key_data.now % 8 ≡ 0 }
+    requires size { (16 ≤ length key_data.now) × (length key_data.now ≤ 64) }
+{
+    let mut buf = [0; 72];
+    let wrapped = &mut buf[..key_data.len() + 8];
+    wrap(kek, key_data, wrapped);
+    expect_unwraps(rt, kek, wrapped, key_data);
 }
 
 #[test]
@@ -103,12 +123,7 @@ fn expect_round_trips<B: Block>(rt: &impl Abort, kek: &B) {
         key_data[i as usize] = 255 - i;
     }
     for parts in 2..9_usize {
-        let n = 8 * parts;
-        let mut wrapped = [0; 72];
-        wrap(kek, &key_data[..n], &mut wrapped[..n + 8]);
-        let mut out = [0; 64];
-        assert_eq!(rt; unwrap(kek, &wrapped[..n + 8], &mut out[..n]), Some(()));
-        assert_eq!(rt; out[..n], key_data[..n]);
+        expect_comes_back(rt, kek, &key_data[..8 * parts]);
     }
 }
 

@@ -1,5 +1,5 @@
 //! `jwk gen` and `jwk thp` over memory: what they write, and what is refused with which cause.
-use crate::tests::{Done, Given, outcome};
+use crate::tests::{Given, expect, text_or_refusal};
 use octets::Refusal;
 use std::process::Abort;
 use std::test::Fail;
@@ -22,7 +22,7 @@ const NAMES: &str =
 const MANY: &str =
     "{\"keys\":[{},{},{},{},{},{},{},{},{},{},{},{},{},{},{},{},{},{},{},{},{},{},{},{},{},{},{},{},{},{},{},{},{},{},{},{},{},{},{},{},{},{},{},{},{},{},{},{},{},{},{},{},{},{},{},{},{},{},{},{},{},{},{},{},{}]}";
 
-/// The words write this text of these inputs, or are refused and nothing is written; also with one octet a read.
+/// The words write this text of these inputs, or are refused and nothing is written.
 fn writes<R: Abort + AllocGlobal>(
     rt: &R,
     words: &[&str],
@@ -36,18 +36,7 @@ fn writes<R: Abort + AllocGlobal>(
         keys: "",
         random,
     };
-    for step in [4096, 1] {
-        let Done {
-            result,
-            text: out,
-            content,
-        } = outcome(rt.alloc(), words, &given, step)?;
-        assert_eq!(rt; result, answer.map(|_| ()), "at {text}");
-        assert_eq!(rt; out.octets(), answer.unwrap_or("").as_bytes(), "at {text}");
-        assert_eq!(rt; out.is_finished(), answer.is_ok(), "at {text}");
-        assert_eq!(rt; content.octets(), b"".as_slice(), "at {text}");
-    }
-    Ok(())
+    expect(rt, words, &given, text_or_refusal(answer))
 }
 
 #[test]

@@ -88,7 +88,63 @@ pub(crate) fn outcome(
     })
 }
 
-/// Verifying answers this payload, or this refusal and writes nothing; also with one octet a read.
+/// What a call of the program has to do.
+#[derive(Clone, Copy)]
+pub(crate) enum Answer<'a> {
+    /// Write this to `-o`, and nothing to `-O`.
+    Text(&'a str),
+    /// Write this to `-O`, and nothing to `-o`.
+    Content(&'a [u8]),
+    /// Write nothing, and say this.
+    Refusal(Refusal),
+}
+
+/// The words answer so, over inputs that give many octets at a read, and one.
+pub(crate) fn expect<R: Abort + AllocGlobal>(
+    rt: &R,
+    words: &[&str],
+    given: &Given,
+    answer: Answer<'_>,
+) -> Result<(), Fail> {
+    for step in [4096, 1] {
+        let done = outcome(rt.alloc(), words, given, step)?;
+        expect_done(rt, &done, given.text, answer);
+    }
+    Ok(())
+}
+
+fn expect_done<R: Abort>(rt: &R, done: &Done, at: &str, answer: Answer<'_>) {
+    match answer {
+        Answer::Text(text) => {
+            assert_eq!(rt; done.result, Ok(()), "at {at}");
+            expect_written(rt, &done.text, text.as_bytes(), true, at);
+            expect_written(rt, &done.content, b"", false, at);
+        }
+        Answer::Content(content) => {
+            assert_eq!(rt; done.result, Ok(()), "at {at}");
+            expect_written(rt, &done.text, b"", false, at);
+            expect_written(rt, &done.content, content, true, at);
+        }
+        Answer::Refusal(refusal) => {
+            assert_eq!(rt; done.result, Err(refusal), "at {at}");
+            expect_written(rt, &done.text, b"", false, at);
+            expect_written(rt, &done.content, b"", false, at);
+        }
+    }
+}
+
+fn expect_written<R: Abort>(
+    rt: &R,
+    output: &MemoryOutput,
+    octets: &[u8],
+    is_finished: bool,
+    at: &str,
+) {
+    assert_eq!(rt; output.octets(), octets, "at {at}");
+    assert_eq!(rt; output.is_finished(), is_finished, "at {at}");
+}
+
+/// Verifying answers this payload, or this refusal and writes nothing.
 fn verifies<R: Abort + AllocGlobal>(
     rt: &R,
     text: &'static str,
@@ -101,22 +157,11 @@ fn verifies<R: Abort + AllocGlobal>(
         keys,
         random: "",
     };
-    for step in [4096, 1] {
-        let Done {
-            result,
-            text: out,
-            content,
-        } = outcome(rt.alloc(), &VERIFY, &given, step)?;
-        assert_eq!(rt; result, answer.map(|_| ()), "at {text}");
-        assert_eq!(rt;
-            content.octets(),
-            answer.unwrap_or("").as_bytes(),
-            "at {text}"
-        );
-        assert_eq!(rt; content.is_finished(), answer.is_ok(), "at {text}");
-        assert_eq!(rt; out.octets(), b"".as_slice(), "at {text}");
-    }
-    Ok(())
+    let answer = match answer {
+        Ok(payload) => Answer::Content(payload.as_bytes()),
+        Err(refusal) => Answer::Refusal(refusal),
+    };
+    expect(rt, &VERIFY, &given, answer)
 }
 
 #[test]
@@ -313,29 +358,12 @@ fn the_key_decides_after_the_token_is_read(rt: HostRuntime) -> Result<(), Fail> 
     verifies(&rt, "", "[]", Err(Refusal::Key))
 }
 
-/// Signing answers this text, or this refusal and writes nothing; also with one octet a read.
-fn signs<R: Abort + AllocGlobal>(
-    rt: &R,
-    given: &Given,
-    answer: Result<&str, Refusal>,
-) -> Result<(), Fail> {
-    for step in [4096, 1] {
-        let Done {
-            result,
-            text,
-            content,
-        } = outcome(rt.alloc(), &SIGN, given, step)?;
-        assert_eq!(rt; result, answer.map(|_| ()), "at {}", given.text);
-        assert_eq!(rt;
-            text.octets(),
-            answer.unwrap_or("").as_bytes(),
-            "at {}",
-            given.text
-        );
-        assert_eq!(rt; text.is_finished(), answer.is_ok(), "at {}", given.text);
-        assert_eq!(rt; content.octets(), b"".as_slice());
+/// This text, or this refusal and nothing written.
+pub(crate) fn text_or_refusal(answer: Result<&str, Refusal>) -> Answer<'_> {
+    match answer {
+        Ok(text) => Answer::Text(text),
+        Err(refusal) => Answer::Refusal(refusal),
     }
-    Ok(())
 }
 
 #[test]
@@ -483,42 +511,16 @@ fn a_payload_is_signed_by_its_template(rt: HostRuntime) -> Result<(), Fail> {
             keys,
             random: "",
         };
-        signs(&rt, &given, answer)?;
+        expect(&rt, &SIGN, &given, text_or_refusal(answer))?;
     }
     Ok(())
 }
 
-/// The octets become this text, with many octets at a read and with one.
-fn encodes<R: Abort + AllocGlobal>(
-    rt: &R,
-    octets: &'static str,
-    encoded: &str,
-) -> Result<(), Fail> {
-    let given = Given {
-        text: "",
-        content: octets,
-        keys: "",
-        random: "",
-    };
-    for step in [4096, 1] {
-        let Done {
-            result,
-            text: out,
-            content,
-        } = outcome(rt.alloc(), &["b64", "enc"], &given, step)?;
-        assert_eq!(rt; result, Ok(()), "at {encoded}");
-        assert_eq!(rt; out.octets(), encoded.as_bytes(), "at {encoded}");
-        assert!(rt; out.is_finished(), "at {encoded}");
-        assert_eq!(rt; content.octets(), b"".as_slice(), "at {encoded}");
-    }
-    Ok(())
-}
-
-/// The text becomes these octets, or is refused and nothing is written; also with one octet a read.
+/// The text becomes these octets, or is refused and nothing is written.
 fn decodes<R: Abort + AllocGlobal>(
     rt: &R,
     text: &'static str,
-    answer: Result<&[u8], Refusal>,
+    answer: Answer<'_>,
 ) -> Result<(), Fail> {
     let given = Given {
         text,
@@ -526,22 +528,7 @@ fn decodes<R: Abort + AllocGlobal>(
         keys: "",
         random: "",
     };
-    for step in [4096, 1] {
-        let Done {
-            result,
-            text: out,
-            content,
-        } = outcome(rt.alloc(), &["b64", "dec"], &given, step)?;
-        assert_eq!(rt; result, answer.map(|_| ()), "at {text}");
-        assert_eq!(rt;
-            content.octets(),
-            answer.unwrap_or(b"".as_slice()),
-            "at {text}"
-        );
-        assert_eq!(rt; content.is_finished(), answer.is_ok(), "at {text}");
-        assert_eq!(rt; out.octets(), b"".as_slice(), "at {text}");
-    }
-    Ok(())
+    expect(rt, &["b64", "dec"], &given, answer)
 }
 
 #[test]
@@ -554,19 +541,25 @@ fn octets_become_base64url(rt: HostRuntime) -> Result<(), Fail> {
         ("\u{7f}\u{ff}", "f8O_"),
         ("foobar\n", "Zm9vYmFyCg"),
     ] {
-        encodes(&rt, octets, text)?;
+        let given = Given {
+            text: "",
+            content: octets,
+            keys: "",
+            random: "",
+        };
+        expect(&rt, &["b64", "enc"], &given, Answer::Text(text))?;
     }
     Ok(())
 }
 
 #[test]
 fn base64url_becomes_octets(rt: HostRuntime) -> Result<(), Fail> {
-    decodes(&rt, "-_8", Ok(b"\xfb\xff".as_slice()))?;
+    decodes(&rt, "-_8", Answer::Content(b"\xfb\xff"))?;
     for text in ["AA", "AA\n", "AA\r\n"] {
-        decodes(&rt, text, Ok(b"\0".as_slice()))?;
+        decodes(&rt, text, Answer::Content(b"\0"))?;
     }
     for text in ["", "\n", "\r\n"] {
-        decodes(&rt, text, Ok(b"".as_slice()))?;
+        decodes(&rt, text, Answer::Content(b""))?;
     }
     for text in [
         "AB",
@@ -582,7 +575,7 @@ fn base64url_becomes_octets(rt: HostRuntime) -> Result<(), Fail> {
         "AAAA\nAAAA",
         "AA=",
     ] {
-        decodes(&rt, text, Err(Refusal::Base64))?;
+        decodes(&rt, text, Answer::Refusal(Refusal::Base64))?;
     }
     Ok(())
 }
@@ -661,7 +654,7 @@ fn a_document_is_signed_and_verified(rt: HostRuntime) -> Result<(), Fail> {
         keys: KEY,
         random: "",
     };
-    signs(&rt, &given, Ok(token))?;
+    expect(&rt, &SIGN, &given, Answer::Text(token))?;
     verifies(&rt, token, KEY, Ok(document))?;
     verifies(&rt, changed, KEY, Err(Refusal::NotOpened))?;
     let other = "{\"kty\":\"oct\",\"k\":\"AAECAwQFBgcICQoLDA0ODxAREhMUFRYXGBkaGxwdHh8\"}";
