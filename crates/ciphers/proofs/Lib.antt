@@ -3,5 +3,6 @@ pub mod Parts
 pub mod Table
 pub mod Unwrapping
 pub mod Openings
+pub mod Deliveries
 pub mod Sealers
 pub mod Unique

@@ -139,7 +139,7 @@ fn halves(cek: &[u8]) -> (&[u8], &[u8])
 }
 
 /// The octets as an array of their length.
-fn array<const N: usize>(octets: &[u8]) -> [u8; N]
+pub(crate) fn array<const N: usize>(octets: &[u8]) -> [u8; N]
     requires { length octets.now ≡ N }
     ensures { result ≡ octets.now }
 {

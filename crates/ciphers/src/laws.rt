@@ -1,13 +1,16 @@
 //! Laws of the definitions in `specs/`: functions that do nothing, whose contracts are the laws.
 ghost use Rattle.std.specs.Prelude.{◌≡◌, ℕ, ◌≤◌, List, length};
 ghost use Rattle.aes.specs.Block.{IsCipher};
+ghost use Rattle.ciphers.specs.Delivery.{IsDelivered};
 ghost use Rattle.ciphers.specs.KeyWrap.{IsUnwrapping};
 ghost use Rattle.ciphers.specs.Sealing.{IsOpening};
 ghost use Rattle.ciphers.specs.declared.content_alg.ContentAlg.{ContentAlg};
+ghost use Rattle.ciphers.specs.declared.key_alg.KeyAlg.{KeyAlg};
 ghost use Rattle.octets.specs.Octets.{IsOctets};
 
 use aes::laws::encrypted_block_is_cipher;
 use modes::laws::{cbc_plaintext_is_unique, gcm_plaintext_is_unique};
+use prf::laws::derived_key_is_octets;
 
 /// No two texts are wrapped to one of at most 72 octets, so what `unwrap` gives is what was wrapped (RFC 3394,
 /// section 2.2).
@@ -15,6 +18,17 @@ pub fn unwrapping_is_unique()
     ensures { (e d : List ℕ → List ℕ) (c p q : List ℕ) → IsCipher e d → length c ≤ 72
         → IsUnwrapping e c p → IsUnwrapping e c q → p ≡ q }
 {}
+
+/// A recipient's key, its header parameters and an encrypted key deliver at most one content encryption key, so what
+/// `KeyAlg::unwrap_cek` gives is what was delivered (RFC 7516, section 5.2).
+pub fn delivery_is_unique()
+    ensures { (alg : KeyAlg) (enc : ContentAlg) (key p2s : List ℕ) (p2c : ℕ) (encrypted cek other : List ℕ)
+        → IsOctets key → IsDelivered alg enc key p2s p2c encrypted cek
+        → IsDelivered alg enc key p2s p2c encrypted other → cek ≡ other }
+{
+    encrypted_block_is_cipher();
+    derived_key_is_octets();
+}
 
 /// At most one plaintext opens a ciphertext and its tag, so what `ContentAlg::open` gives is what was sealed.
 pub fn opening_is_unique()

@@ -1,6 +1,7 @@
 //! The algorithms that a token names (RFC 7518), over the ciphers of `aes`.
 //!
-//! `wrap` and `unwrap` carry a content encryption key under a key encryption key (RFC 3394).
+//! `KeyAlg` delivers a content encryption key to a recipient, by its key or under it. `wrap` and `unwrap` carry one
+//! under a key encryption key (RFC 3394).
 //!
 //! ```rust
 //! let kek = Aes128::new(&key);
@@ -13,16 +14,23 @@
 
 mod authentication;
 mod cbc_hmac;
+mod cek;
 mod content_alg;
+mod kek;
+mod key_alg;
 mod key_wrap;
 pub mod laws;
 mod sealer;
 
+pub use cek::Cek;
 pub use content_alg::ContentAlg;
+pub use key_alg::{KeyAlg, KeyParameters};
 pub use key_wrap::{unwrap, wrap};
 pub use sealer::{ContentSealer, Sealer};
 
 #[cfg(test)]
 mod content_alg_tests;
+#[cfg(test)]
+mod key_alg_tests;
 #[cfg(test)]
 mod key_wrap_tests;

@@ -1,12 +1,7 @@
-pub mod Keys
-pub mod CompactTexts
 pub mod Finding
 pub mod Lines
 pub mod Parses
 pub mod Settings
 pub mod Table
-pub mod Prefixes
 pub mod Agreement
-pub mod SigningPlans
-pub mod HeaderMembers
 pub mod Draws

@@ -5,6 +5,7 @@ use Rattle.octets.specs.declared.refusal.Refusal.{Refusal}
 use Rattle.octets.specs.declared.refusal.Refusal.TheVariants.{Usage, Write}
 use Rattle.octets.specs.Devices.{Observed}
 use Rattle.octets.specs.Outcomes.{◌>>=◌, AgreesUnlessExternal}
+use Rattle.octets.specs.Plan.{Plan, plan_map, without_content, beginning_of}
 use Rattle.keys.specs.Generating.{generated}
 use Rattle.jose.specs.declared.command.Command.{Command}
 use Rattle.jose.specs.declared.command.Command.TheVariants.{JwkGen, JwkThp, B64Enc, B64Dec, JwsSig, JwsVer}
@@ -12,11 +13,9 @@ use Rattle.jose.specs.declared.ports.Inputs.{Inputs}
 use Rattle.jose.specs.declared.ports.Outputs.{Outputs}
 use Rattle.jose.specs.Invocations.{SeenInvocation, Settings, value_at, hash_asked}
 use Rattle.jose.specs.Ports.{InputTexts, OutputTexts, nothing, as_text, as_content, SeenInputs, ArePossibleInputs}
-use Rattle.jose.specs.Plan.{Plan, plan_map, without_content, beginning_of}
 use Rattle.jose.specs.Jwk.{drawn_len, thumbprints}
 use Rattle.jose.specs.Encoding.{encoding, decoding}
-use Rattle.jose.specs.Signing.{signing}
-use Rattle.jose.specs.Verifying.{verifying}
+use Rattle.jose.specs.Jws.{signing, verifying}
 
 -- ---- the answer
 

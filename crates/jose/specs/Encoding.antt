@@ -2,8 +2,8 @@
 use Rattle.std.specs.Prelude.{ℕ, List, [], ◌∷◌, ◌++◌, Result, Ok, Err}
 use Rattle.octets.specs.declared.refusal.Refusal.{Refusal}
 use Rattle.octets.specs.Base64url.{base64url, decoded, whole_groups}
-use Rattle.jose.specs.Plan.{Plan}
-use Rattle.jose.specs.LineEnds.{without_line_end}
+use Rattle.octets.specs.LineEnds.{without_line_end}
+use Rattle.octets.specs.Plan.{Plan}
 
 -- the text of the content; each group of three octets fixes four characters
 abbrev pub encoding : Plan (List ℕ)

@@ -4,14 +4,7 @@ pub mod Invocations
 pub mod Reading
 pub mod Words
 pub mod Reports
-pub mod LineEnds
 pub mod Jws
-pub mod Signatures
-pub mod Template
-pub mod Signing
-pub mod Signers
-pub mod Verifying
-pub mod Plan
 pub mod Ports
 pub mod Jwk
 pub mod Encoding

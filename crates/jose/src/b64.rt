@@ -3,12 +3,10 @@ ghost use Rattle.std.specs.Prelude.{◌≡◌, ℕ, List, OnOk, OnErr, IsErrOf, 
 ghost use Rattle.std.specs.Iterator.{IsFinite};
 ghost use Rattle.octets.specs.Devices.{appended, observed, IsPossibleInput, AppendsPrefixOf, Rose};
 ghost use Rattle.octets.specs.Outcomes.{AgreesUnlessExternal};
-ghost use Rattle.jose.specs.Plan.{beginning_of};
+ghost use Rattle.octets.specs.Plan.{beginning_of};
 ghost use Rattle.jose.specs.Encoding.{encoding, decoding};
 
-use crate::line_ends::without_line_end;
-use crate::writing::emit;
-use octets::{Input, Output, Refusal, b64_decode, b64_encode, read_whole};
+use octets::{Input, Output, Refusal, b64_decode, b64_encode, emit, read_whole, without_line_end};
 use std::alloc::Global;
 
 /// Writes the base64url text of the content.

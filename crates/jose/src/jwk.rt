@@ -3,14 +3,13 @@ ghost use Rattle.std.specs.Prelude.{◌≡◌, ◌≢◌, ◌≤◌, ◌⊎◌, 
 ghost use Rattle.std.specs.Iterator.{IsFinite};
 ghost use Rattle.octets.specs.Devices.{appended, observed, IsPossibleInput, AppendsPrefixOf, Rose};
 ghost use Rattle.octets.specs.Outcomes.{AgreesUnlessExternal, AgreesUnlessMemory};
+ghost use Rattle.octets.specs.Plan.{accepted};
 ghost use Rattle.keys.specs.Generating.{generated};
 ghost use Rattle.keys.specs.Keys.{key_view};
-ghost use Rattle.jose.specs.Plan.{accepted};
 ghost use Rattle.jose.specs.Jwk.{drawn_len, thumbprints, thumbprint_lines};
 
-use crate::writing::emit;
 use keys::{Key, KeySet, thumbprint};
-use octets::{Input, Output, Refusal, read_whole};
+use octets::{Input, Output, Refusal, emit, read_whole};
 use prf::HashAlg;
 use std::alloc::Global;
 

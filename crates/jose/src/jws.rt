@@ -3,16 +3,14 @@ ghost use Rattle.std.specs.Prelude.{◌≡◌, ◌≢◌, false, ◌⊎◌, ◌&
 ghost use Rattle.std.specs.Iterator.{IsFinite};
 ghost use Rattle.octets.specs.Devices.{appended, observed, IsPossibleInput, AppendsPrefixOf, Rose};
 ghost use Rattle.octets.specs.Outcomes.{AgreesUnlessExternal};
-ghost use Rattle.jose.specs.Plan.{accepted, planned, planned_beginning};
-ghost use Rattle.jose.specs.Signing.{signing};
-ghost use Rattle.jose.specs.Verifying.{verifying};
+ghost use Rattle.octets.specs.Plan.{accepted, planned, planned_beginning};
+ghost use Rattle.jose.specs.Jws.{signing, verifying};
 
-use crate::forms::read_jws;
-use crate::tokens::{compact, read_signer, verified};
-use crate::writing::emit;
 use keys::KeySet;
+use objects::Jws;
 use octets::{Input, Output, Refusal, read_whole};
 use std::alloc::Global;
+use tokens::{jws_sign, jws_verify};
 
 /// Signs the content with the key, as the template asks, and writes the compact text.
 pub(crate) fn sign<I: Input, O: Output>(
@@ -44,10 +42,7 @@ pub(crate) fn sign<I: Input, O: Output>(
     let template = read_whole(alloc, template)?;
     let keys = read_whole(alloc, keys)?;
     let set = KeySet::read(alloc, &keys, true)?;
-    let signer = read_signer(alloc, &set, &template)?;
-    let payload = read_whole(alloc, content)?;
-    let text = compact(alloc, &signer, &payload)?;
-    emit(out, text.as_bytes())
+    jws_sign(alloc, &set, &template, content, out)
 }
 
 /// Verifies the text with the keys, and writes the payload where it is wanted.
@@ -80,7 +75,6 @@ pub(crate) fn verify<I: Input, O: Output>(
     let text = read_whole(alloc, text)?;
     let keys = read_whole(alloc, keys)?;
     let set = KeySet::read(alloc, &keys, false)?;
-    let jws = read_jws(alloc, &text)?;
-    let payload = verified(&set, jws)?;
-    if wanted { emit(out, &payload) } else { Ok(()) }
+    let jws = Jws::read(alloc, &text)?;
+    jws_verify(&set, &jws, wanted, out)
 }

@@ -8,18 +8,14 @@
 mod b64;
 mod command;
 mod files;
-mod forms;
 mod invocation;
 mod jwk;
 mod jws;
-mod line_ends;
 mod ports;
 mod reading;
 mod reports;
 mod runner;
-mod tokens;
 mod words;
-mod writing;
 
 pub use command::Command;
 pub use invocation::{Invocation, Setting};

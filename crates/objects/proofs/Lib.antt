@@ -1,1 +1,4 @@
 pub mod Names
+pub mod CompactTexts
+pub mod HeaderMembers
+pub mod Recipients

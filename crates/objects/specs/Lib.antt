@@ -1,2 +1,5 @@
 pub mod Headers
 pub mod JointHeaders
+pub mod Jws
+pub mod Jwe
+pub mod Recipients

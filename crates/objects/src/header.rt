@@ -148,7 +148,7 @@ impl<'m> Header<'m> {
 }
 
 /// The member of this name in a part.
-fn part_member<'m>(part: Option<&'m Map<String, Value>>, name: &str) -> Option<&'m Value>
+pub(crate) fn part_member<'m>(part: Option<&'m Map<String, Value>>, name: &str) -> Option<&'m Value>
     ensures { option_map (λ v. view v.now) result ≡ get_member name.now (part_view part.entry) }
 {
     part?.get(name)

@@ -1,17 +1,33 @@
-//! JOSE headers (RFC 7515 section 4, RFC 7516 section 4). It may be given headers as JSON texts and
-//! maps, and never sees a key's octets.
+//! JOSE headers (RFC 7515 section 4, RFC 7516 section 4), and signed objects in compact form (RFC 7515
+//! section 7.1). It may be given objects' texts, headers as JSON texts and maps, and never sees a key's
+//! octets.
 //!
 //! ```rust
 //! let protected = read_protected(alloc, b"{\"alg\":\"HS256\"}")?;
 //! let header = Header::joint(Some(&protected), None, None)?;
 //! let alg = header.alg()?; // Some("HS256")
+//!
+//! let jws = Jws::read(alloc, b"eyJhbGciOiJIUzI1NiJ9.YWJj.sxvq")?;
+//! let payload = jws.payload(); // abc, not verified yet
 //! ```
 #![tactic(auto)]
 
+mod compact;
 mod header;
+mod jwe;
+mod jwe_texts;
+mod jws;
 pub mod laws;
+mod recipient;
 
 pub use header::{Header, read_protected};
+pub use jwe::{Jwe, JweParts};
+pub use jws::Jws;
+pub use recipient::{Recipient, RecipientParts};
 
+#[cfg(test)]
+mod jwe_tests;
+#[cfg(test)]
+mod jws_tests;
 #[cfg(test)]
 mod tests;

@@ -3,3 +3,5 @@ pub mod Known
 pub mod Pieces
 pub mod Groups
 pub mod Characters
+pub mod Prefixes
+pub mod Agreement

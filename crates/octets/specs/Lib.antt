@@ -5,3 +5,5 @@ pub mod Base64url
 pub mod Outcomes
 pub mod Memory
 pub mod Streams
+pub mod LineEnds
+pub mod Plan

@@ -1,4 +1,4 @@
-//! Octet devices, base64url and the refusals of all commands.
+//! Octet devices, base64url, line ends and the refusals of all commands.
 //!
 //! ```rust
 //! let text = b64_encode(alloc, b"hello")?;
@@ -11,6 +11,7 @@ mod base64url;
 mod devices;
 mod lanes;
 pub mod laws;
+mod line_ends;
 mod memory;
 mod refusal;
 mod streams;
@@ -21,10 +22,11 @@ mod writer;
 pub use base64url::{b64_append, b64_decode, b64_encode};
 pub use devices::{Input, Output};
 pub use lanes::{same_octets, xor_into};
+pub use line_ends::without_line_end;
 pub use memory::{MemoryInput, MemoryOutput};
 pub use refusal::{Fault, Refusal, needs};
 pub use streams::{ReaderInput, WriterOutput};
-pub use whole::{Partial, draw, read_whole, write_whole};
+pub use whole::{Partial, draw, emit, read_whole, write_whole};
 pub use writer::B64Writer;
 
 #[cfg(test)]

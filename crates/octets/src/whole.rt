@@ -1,7 +1,7 @@
 //! All of an input or exactly so many octets of it, and all of a text to an output.
 ghost use Rattle.std.specs.Prelude.{◌≡◌, ◌<◌, ◌≤◌, ◌++◌, length, take, IfOk, OnOk, OnErr, IfErr, IsTrue};
 ghost use Rattle.std.specs.Iterator.{IsFinite};
-ghost use Rattle.octets.specs.Devices.{next_count, appended, observed, Extends};
+ghost use Rattle.octets.specs.Devices.{next_count, appended, observed, AppendsPrefixOf, Extends, Rose};
 ghost use Rattle.octets.specs.Outcomes.{IsReadingFailure, IsDrawingFailure};
 
 use crate::{Input, Output, Refusal};
@@ -83,4 +83,17 @@ pub fn write_whole<O: Output>(out: &mut O, octets: &[u8]) -> Result<(), Partial>
         }
     }
     Ok(())
+}
+
+/// Writes all of the octets and finishes. Where the output fails a beginning of them stands.
+pub fn emit<O: Output>(out: &mut O, octets: &[u8]) -> Result<(), Refusal>
+    ensures all { OnOk result (O.written out.new ≡ O.written out.old ++ octets.now) }
+    ensures finished { OnOk result (IsTrue (O.is_finished out.new)) }
+    ensures works { OnOk result (O.failures out.new ≡ O.failures out.old) }
+    ensures part { OnErr result (AppendsPrefixOf octets.now (O.written out.old) (O.written out.new)) }
+    ensures cause { OnErr result (result ≡ Err Refusal.Write) }
+    ensures fails { OnErr result (Rose (O.failures out.old) (O.failures out.new)) }
+{
+    write_whole(out, octets)?;
+    Ok(out.finish()?)
 }

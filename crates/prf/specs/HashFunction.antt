@@ -1,5 +1,6 @@
 -- A hash function on whole messages (RFC 2104 section 2).
-use Rattle.std.specs.Prelude.{◌≡◌, ℕ, ◌≤◌, List, length}
+use Rattle.std.specs.Prelude.{◌≡◌, ℕ, ◌<◌, ◌≤◌, List, length}
+use Rattle.octets.specs.Octets.{IsOctets}
 
 -- its block length B and its output length L in octets, and the digest of each message
 pub record HashFunction : Type 0 where
@@ -7,9 +8,12 @@ pub record HashFunction : Type 0 where
   pub output_len : ℕ
   pub digest : List ℕ → List ℕ
 
--- Each digest has the output length, which is at most 64 and at most the block length, which is at most 128.
-pub record HasLengths (f : HashFunction) : Type 0 where
+-- Each digest is octets. It has the output length, which is not 0, at most 64 and at most the block length, which is at
+-- most 128.
+pub record IsHashFunction (f : HashFunction) : Type 0 where
+  pub octets : (message : List ℕ) → IsOctets (f.digest message)
   pub digests : (message : List ℕ) → length (f.digest message) ≡ f.output_len
+  pub some_output : 0 < f.output_len
   pub output_fits : f.output_len ≤ 64
   pub output_fits_block : f.output_len ≤ f.block_len
   pub block_fits : f.block_len ≤ 128

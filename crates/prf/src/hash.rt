@@ -1,6 +1,6 @@
 //! Hash functions that take their message in pieces.
 ghost use Rattle.std.specs.Prelude.{◌≡◌, ◌≤◌, ℕ, List, [], ◌++◌, length, take};
-ghost use Rattle.prf.specs.HashFunction.{HashFunction, HasLengths};
+ghost use Rattle.prf.specs.HashFunction.{HashFunction, IsHashFunction};
 
 /// A hash function, as the state that has taken a message so far.
 pub trait Hash: Drop {
@@ -27,14 +27,18 @@ pub trait Hash: Drop {
         ensures { (message : List ℕ) → holds self.old message
             → holds self.new (message ++ piece.now) };
 
+    /// A copy of the state.
+    fn fork(&self) -> Self
+        ensures { (message : List ℕ) → holds self.now message → holds result message };
+
     /// Writes the digest of the message to the front of `out`, and answers its length.
     fn finish(self, out: &mut [u8; 64]) -> usize
         ensures digest { (message : List ℕ) → holds self message
             → take result out.new ≡ function.digest message }
         ensures len { result ≡ function.output_len };
 
-    /// Each digest has its length. It fits a block, and both fit their buffers.
-    ghost has_lengths: { HasLengths function };
+    /// Each digest is octets and has its length. It fits a block, and both fit their buffers.
+    ghost is_hash_function: { IsHashFunction function };
 }
 
 /// Writes the digest to the front of `out`, and answers its length.

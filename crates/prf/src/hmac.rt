@@ -40,6 +40,17 @@ impl<H: Hash> Hmac<H> {
         self.inner.update(piece);
     }
 
+    /// A copy of the state, which spares a second text under the key the work on that one.
+    pub fn fork(&self) -> Hmac<H>
+        ensures { (key text : List ℕ) → IsFed H.function H.holds self.now key text
+            → IsFed H.function H.holds result key text }
+    {
+        Hmac {
+            inner: self.inner.fork(),
+            outer: self.outer.fork(),
+        }
+    }
+
     /// Writes the code of the text to the front of `out`, and answers its length, which is the
     /// hash's.
     pub fn finish(self, out: &mut [u8; 64]) -> usize

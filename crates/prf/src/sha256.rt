@@ -1,5 +1,5 @@
 //! SHA-256, by the kit's `sha2`.
-ghost use Rattle.prf.specs.Sha2.{sha256_function, sha256_has_lengths};
+ghost use Rattle.prf.specs.Sha2.{sha256_function, sha256_is_hash_function};
 ghost use Rattle.sha2.specs.Hashers.{Holds256};
 
 use crate::hash::{Hash, put_front};
@@ -27,9 +27,13 @@ impl Hash for Sha256 {
         Digest::update(self, piece);
     }
 
+    fn fork(&self) -> Sha256 {
+        self.clone().unwrap()
+    }
+
     fn finish(self, out: &mut [u8; 64]) -> usize {
         put_front(&self.finalize(), out)
     }
 
-    ghost has_lengths = { sha256_has_lengths };
+    ghost is_hash_function = { sha256_is_hash_function };
 }

@@ -1,5 +1,5 @@
 //! SHA-384, by the kit's `sha2`.
-ghost use Rattle.prf.specs.Sha2.{sha384_function, sha384_has_lengths};
+ghost use Rattle.prf.specs.Sha2.{sha384_function, sha384_is_hash_function};
 ghost use Rattle.sha2.specs.Hashers.{Holds384};
 
 use crate::hash::{Hash, put_front};
@@ -27,9 +27,13 @@ impl Hash for Sha384 {
         Digest::update(self, piece);
     }
 
+    fn fork(&self) -> Sha384 {
+        self.clone().unwrap()
+    }
+
     fn finish(self, out: &mut [u8; 64]) -> usize {
         put_front(&self.finalize(), out)
     }
 
-    ghost has_lengths = { sha384_has_lengths };
+    ghost is_hash_function = { sha384_is_hash_function };
 }

@@ -3,17 +3,17 @@ use Rattle.std.proofs.Math.Seq.{drop-length}
 use Rattle.std.specs.Option.{ok_or}
 use Rattle.octets.specs.declared.refusal.Refusal.TheVariants.{Usage}
 use Rattle.octets.specs.Devices.{appended, observed}
+use Rattle.octets.specs.Plan.{planned}
+use Rattle.octets.proofs.Agreement.{planned_map, planned_without_content, on_refusal}
+use Rattle.octets.proofs.Prefixes.{AppendsPrefixOf-none}
 use Rattle.keys.specs.Generating.{generated}
 use Rattle.jose.specs.Invocations.{seen, hash_asked}
 use Rattle.jose.specs.Ports.{as_text, as_content}
-use Rattle.jose.specs.Plan.{planned}
 use Rattle.jose.specs.Jwk.{thumbprints}
 use Rattle.jose.specs.Encoding.{encoding, decoding}
-use Rattle.jose.specs.Signing.{signing}
-use Rattle.jose.specs.Verifying.{verifying}
+use Rattle.jose.specs.Jws.{signing, verifying}
 use Rattle.jose.specs.Answer.{is_content_wanted}
-use Rattle.jose.proofs.Prefixes.{AppendsPrefixOf-none}
-use Rattle.jose.proofs.Agreement.{agrees_as_text, agrees_as_content, planned_map, planned_without_content, begun_as_text, begun_as_content, begun_without_content, on_refusal}
+use Rattle.jose.proofs.Agreement.{agrees_as_text, agrees_as_content, begun_as_text, begun_as_content, begun_without_content}
 use Rattle.jose.proofs.runner.run.Goals as goal
 
 pub returns-in-JwkGen-clause-answer : goal.returns-in-JwkGen-clause-answer

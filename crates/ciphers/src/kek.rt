@@ -1,0 +1,40 @@
+//! AES under a key encryption key, of any of its three lengths.
+ghost use Rattle.std.specs.Prelude.{ℕ, List};
+
+use aes::{Aes128, Aes192, Aes256, Block};
+
+/// The cipher of a key wrap.
+#[derive(Drop)]
+pub(crate) enum Kek {
+    A128(Aes128),
+    A192(Aes192),
+    A256(Aes256),
+}
+
+impl Block for Kek {
+    ghost use Rattle.ciphers.specs.Kek.{on_kek, on_each_kek};
+
+    ghost encrypted = { λ kek. on_kek kek ⟦<Aes128 as Block>⟧.encrypted ⟦<Aes192 as Block>⟧.encrypted
+        ⟦<Aes256 as Block>⟧.encrypted };
+
+    ghost decrypted = { λ kek. on_kek kek ⟦<Aes128 as Block>⟧.decrypted ⟦<Aes192 as Block>⟧.decrypted
+        ⟦<Aes256 as Block>⟧.decrypted };
+
+    fn encrypt(&self, b: &[u8; 16]) -> [u8; 16] {
+        match self {
+            Kek::A128(cipher) => cipher.encrypt(b),
+            Kek::A192(cipher) => cipher.encrypt(b),
+            Kek::A256(cipher) => cipher.encrypt(b),
+        }
+    }
+
+    fn decrypt(&self, b: &[u8; 16]) -> [u8; 16] {
+        match self {
+            Kek::A128(cipher) => cipher.decrypt(b),
+            Kek::A192(cipher) => cipher.decrypt(b),
+            Kek::A256(cipher) => cipher.decrypt(b),
+        }
+    }
+
+    ghost is_cipher = { on_each_kek (λ k. k.is_cipher) (λ k. k.is_cipher) (λ k. k.is_cipher) };
+}

@@ -1,0 +1,229 @@
+//! Encrypted objects (RFC 7516). It is given an object's text or its members, and sees no key.
+ghost use Rattle.std.specs.Prelude.{◌≡◌, map};
+ghost use Rattle.std.specs.List.{list_all};
+ghost use Rattle.std.specs.Str.{bytes_eq};
+ghost use Rattle.serde_json.specs.View.{members_view};
+ghost use Rattle.octets.specs.Outcomes.{AgreesUnlessMemory};
+ghost use Rattle.objects.specs.Jwe.{jwe_of, object_of_texts as object_of_jwe_texts, encrypted_object as encrypted_object_of, recipients_of, recipients_of_one_enc, have_one_enc as have_one_enc_of, is_plain as is_plain_header, are_plain as are_plain_parts};
+ghost use Rattle.objects.specs.Recipients.{jwe_view, parts_view, texts_view, recipient_view, recipient_parts_view};
+
+use crate::header::read_protected;
+use crate::jwe_texts::{JweTexts, compact_texts, flattened_texts, read_parts};
+use crate::jws::is_json_form;
+use crate::recipient::{Recipient, RecipientParts, is_plain, read_recipient};
+use keys::read_json;
+use octets::{Refusal, b64_decode, needs, without_line_end};
+use serde_json::{Map, Value};
+use std::alloc::Global;
+
+/// The members of an encrypted object. An absent one is empty.
+#[derive(Drop)]
+pub struct JweParts {
+    /// The text of the protected header.
+    pub protected: String,
+    /// The shared unprotected header.
+    pub unprotected: Map<String, Value>,
+    /// The initialization vector.
+    pub iv: Vec<u8>,
+    /// The additional data beside the protected header.
+    pub aad: Vec<u8>,
+    pub ciphertext: Vec<u8>,
+    /// The authentication tag.
+    pub tag: Vec<u8>,
+    pub recipients: Vec<RecipientParts>,
+}
+
+/// An encrypted object.
+#[derive(Drop)]
+pub struct Jwe {
+    protected: String,
+    protected_members: Map<String, Value>,
+    unprotected: Map<String, Value>,
+    iv: Vec<u8>,
+    aad: Vec<u8>,
+    ciphertext: Vec<u8>,
+    tag: Vec<u8>,
+    recipients: Vec<Recipient>,
+}
+
+impl Jwe {
+    /// The object of a text in compact form, with an LF or a CR LF at its end or without, or in flattened JSON form
+    /// (RFC 7516 section 7). Its causes of refusal, each over the whole text before the next: `Json` and `Number` of a
+    /// JSON text; `Form`; `Base64`; then, of the protected header, `Json`, `Number`, and `Header` where it is no
+    /// object; `Header` where the joint header is none, or what it says of the algorithms is wrong; and `Unsupported`
+    /// where it has a `crit` or a `zip`. Whether the algorithms are supported is not asked.
+    #[tactic(auto, unfolding(crate::specs::Jwe::jwe_of, crate::specs::Jwe::jwe_texts))]
+    pub fn read(alloc: Global, text: &[u8]) -> Result<Jwe, Refusal>
+        ensures { AgreesUnlessMemory jwe_view result (jwe_of text.now) }
+    {
+        if is_json_form(text) {
+            let value = read_json(alloc, text)?;
+            let texts = flattened_texts(&value)?;
+            object_of_texts(alloc, texts)
+        } else {
+            let texts = compact_texts(without_line_end(text))?;
+            object_of_texts(alloc, texts)
+        }
+    }
+
+    /// The text of the protected header, as it was received. The additional data begin with it (RFC 7516 section 5.1).
+    pub fn protected(&self) -> &str
+        ensures { result.now ≡ (jwe_view self.now).protected }
+    {
+        &self.protected
+    }
+
+    /// The shared unprotected header.
+    pub fn unprotected(&self) -> &Map<String, Value>
+        ensures { members_view result.now.entries ≡ (jwe_view self.now).unprotected }
+    {
+        &self.unprotected
+    }
+
+    /// The initialization vector.
+    pub fn iv(&self) -> &[u8]
+        ensures { result.now ≡ (jwe_view self.now).iv }
+    {
+        &self.iv
+    }
+
+    /// The additional data beside the protected header.
+    pub fn aad(&self) -> &[u8]
+        ensures { result.now ≡ (jwe_view self.now).aad }
+    {
+        &self.aad
+    }
+
+    pub fn ciphertext(&self) -> &[u8]
+        ensures { result.now ≡ (jwe_view self.now).ciphertext }
+    {
+        &self.ciphertext
+    }
+
+    /// The authentication tag.
+    pub fn tag(&self) -> &[u8]
+        ensures { result.now ≡ (jwe_view self.now).tag }
+    {
+        &self.tag
+    }
+
+    /// The recipients, in order.
+    pub fn recipients(&self) -> &[Recipient]
+        ensures { map recipient_view result.now ≡ (jwe_view self.now).recipients }
+    {
+        &self.recipients
+    }
+}
+
+/// The object whose members have these texts.
+#[tactic(auto, unfolding(crate::specs::Jwe::object_of_texts))]
+fn object_of_texts(alloc: Global, texts: JweTexts<'_>) -> Result<Jwe, Refusal>
+    ensures { AgreesUnlessMemory jwe_view result (object_of_jwe_texts (texts_view texts.entry)) }
+{
+    let protected = b64_decode(alloc, texts.protected())?;
+    let parts = read_parts(alloc, texts, &protected)?;
+    encrypted_object(alloc, &protected, parts)
+}
+
+/// The object with these members and these octets of its protected header.
+#[tactic(auto, unfolding(crate::specs::Jwe::encrypted_object))]
+fn encrypted_object(alloc: Global, octets: &[u8], parts: JweParts) -> Result<Jwe, Refusal>
+    ensures { AgreesUnlessMemory jwe_view result (encrypted_object_of octets.now (parts_view parts)) }
+{
+    let JweParts {
+        protected,
+        unprotected,
+        iv,
+        aad,
+        ciphertext,
+        tag,
+        recipients,
+    } = parts;
+    let protected_members = read_protected(alloc, octets)?;
+    let plain = are_plain(&protected_members, &unprotected, &recipients);
+    let recipients = recipients_of_one_enc(alloc, &protected_members, &unprotected, recipients)?;
+    needs(plain, Refusal::Unsupported)?;
+    Ok(Jwe {
+        protected,
+        protected_members,
+        unprotected,
+        iv,
+        aad,
+        ciphertext,
+        tag,
+        recipients,
+    })
+}
+
+/// No part of a header has a member that is refused.
+#[tactic(auto, using(crate::proofs::Recipients::all_plain))]
+fn are_plain(
+    protected: &Map<String, Value>,
+    unprotected: &Map<String, Value>,
+    recipients: &[RecipientParts],
+) -> bool
+    ensures { result ≡ are_plain_parts (members_view protected.now.entries) (members_view unprotected.now.entries) (map recipient_parts_view recipients.now) }
+{
+    is_plain(protected) && is_plain(unprotected) && have_plain_headers(recipients)
+}
+
+/// No recipient's own header has such a member.
+fn have_plain_headers(recipients: &[RecipientParts]) -> bool
+    ensures { result ≡ list_all (λ r. is_plain_header (recipient_parts_view r).header) recipients.now }
+{
+    recipients
+        .iter()
+        .all(|recipient| is_plain(&recipient.header))
+}
+
+/// The recipients, whose `enc` is the same for all.
+#[tactic(auto, unfolding(crate::specs::Jwe::recipients_of_one_enc))]
+fn recipients_of_one_enc(
+    alloc: Global,
+    protected: &Map<String, Value>,
+    unprotected: &Map<String, Value>,
+    parts: Vec<RecipientParts>,
+) -> Result<Vec<Recipient>, Refusal>
+    ensures { AgreesUnlessMemory (λ recipients. map recipient_view recipients.items) result
+        (recipients_of_one_enc (members_view protected.now.entries) (members_view unprotected.now.entries) (map recipient_parts_view parts.items)) }
+{
+    let recipients = read_recipients(alloc, protected, unprotected, parts)?;
+    needs(have_one_enc(&recipients), Refusal::Header)?;
+    Ok(recipients)
+}
+
+/// The recipients, in order, by the other parts of their joint headers.
+#[tactic(auto, using(crate::proofs::Recipients::with_none_done, crate::proofs::Recipients::with_one_more, crate::proofs::Recipients::with_one_refused))]
+fn read_recipients(
+    alloc: Global,
+    protected: &Map<String, Value>,
+    unprotected: &Map<String, Value>,
+    parts: Vec<RecipientParts>,
+) -> Result<Vec<Recipient>, Refusal>
+    ensures { AgreesUnlessMemory (λ recipients. map recipient_view recipients.items) result
+        (recipients_of (members_view protected.now.entries) (members_view unprotected.now.entries) (map recipient_parts_view parts.items)) }
+{
+    let mut recipients = Vec::new(alloc);
+    for recipient in parts {
+        recipients.push(read_recipient(alloc, protected, unprotected, recipient)?)?;
+    }
+    Ok(recipients)
+}
+
+/// `enc` is the same for all.
+#[tactic(auto, using(crate::proofs::Recipients::one_enc))]
+fn have_one_enc(recipients: &[Recipient]) -> bool
+    ensures { result ≡ have_one_enc_of (map recipient_view recipients.now) }
+{
+    match recipients {
+        [] => true,
+        [first, ..] => have_enc(recipients, first.enc()),
+    }
+}
+
+/// All have this `enc`.
+fn have_enc(recipients: &[Recipient], enc: &str) -> bool
+    ensures { result ≡ list_all (λ r. bytes_eq (recipient_view r).enc enc.now) recipients.now }
+{
+    recipients.iter().all(|recipient| recipient.enc() == enc)
+}

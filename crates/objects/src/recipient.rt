@@ -1,0 +1,177 @@
+//! The recipients of an encrypted object (RFC 7516). It sees their headers, and no key.
+ghost use Rattle.std.specs.Prelude.{◌≡◌, is_some, option_map, string_bytes};
+ghost use Rattle.serde_json.specs.Find.{get_member};
+ghost use Rattle.std.specs.Option.{ok_or};
+ghost use Rattle.serde_json.specs.View.{members_view};
+ghost use Rattle.octets.specs.Outcomes.{AgreesUnlessMemory};
+ghost use Rattle.objects.specs.Jwe.{recipient_of, parameters_of, password_parameters, is_password_based as is_password_based_name, is_plain as is_plain_header};
+ghost use Rattle.objects.specs.JointHeaders.{header_view};
+ghost use Rattle.objects.specs.Recipients.{recipient_view, recipient_parts_view, parameters_view};
+
+use crate::Header;
+use crate::header::part_member;
+use keys::ManagementAlg;
+use octets::{Refusal, needs};
+use serde_json::{Map, Value};
+use std::alloc::Global;
+
+/// What an object holds of a recipient. An absent member is empty.
+#[derive(Drop)]
+pub struct RecipientParts {
+    /// The recipient's own header, beside the protected and the unprotected one.
+    pub header: Map<String, Value>,
+    /// The encrypted key, of no octets where the content encryption key is agreed on.
+    pub encrypted_key: Vec<u8>,
+}
+
+/// A recipient: its members, and what its joint header says of the algorithms.
+#[derive(Drop)]
+pub struct Recipient {
+    header: Map<String, Value>,
+    encrypted_key: Vec<u8>,
+    alg: String,
+    enc: String,
+    parameters: Parameters,
+}
+
+/// The parameters of an algorithm that derives a key from a password (RFC 7518 section 4.8.1). They are empty and 0
+/// for any other.
+#[derive(Drop)]
+struct Parameters {
+    p2s: Vec<u8>,
+    p2c: u64,
+}
+
+/// The recipient, by the other parts of its joint header. Refused with `Header` where a name stands in two parts;
+/// where `alg` or `enc` is absent or no string; and, where the algorithm derives a key from a password, where `p2s`
+/// is not the base64url text of at least 8 octets, or `p2c` no whole number from 1.
+#[tactic(auto, unfolding(crate::specs::Jwe::recipient_of, crate::specs::Jwe::recipient_by, crate::specs::Jwe::string_there))]
+pub(crate) fn read_recipient(
+    alloc: Global,
+    protected: &Map<String, Value>,
+    unprotected: &Map<String, Value>,
+    parts: RecipientParts,
+) -> Result<Recipient, Refusal>
+    ensures { AgreesUnlessMemory recipient_view result (recipient_of (members_view protected.now.entries)
+        (members_view unprotected.now.entries) (recipient_parts_view parts)) }
+{
+    let header = Header::joint(Some(protected), Some(unprotected), Some(&parts.header))?;
+    let alg = string_there(alloc, header.alg()?)?;
+    let enc = string_there(alloc, header.enc()?)?;
+    let parameters = read_parameters(alloc, &alg, header)?;
+    let RecipientParts {
+        header,
+        encrypted_key,
+    } = parts;
+    Ok(Recipient {
+        header,
+        encrypted_key,
+        alg,
+        enc,
+        parameters,
+    })
+}
+
+impl Recipient {
+    /// Its own header, of the members that no other recipient has.
+    pub fn header(&self) -> &Map<String, Value>
+        ensures { members_view result.now.entries ≡ (recipient_view self.now).header }
+    {
+        &self.header
+    }
+
+    /// Its encrypted key.
+    pub fn encrypted_key(&self) -> &[u8]
+        ensures { result.now ≡ (recipient_view self.now).encrypted_key }
+    {
+        &self.encrypted_key
+    }
+
+    /// The name of the algorithm of key management (RFC 7516 section 4.1.1).
+    pub fn alg(&self) -> &str
+        ensures { result.now ≡ (recipient_view self.now).alg }
+    {
+        &self.alg
+    }
+
+    /// The name of the algorithm of content encryption (RFC 7516 section 4.1.2).
+    pub fn enc(&self) -> &str
+        ensures { result.now ≡ (recipient_view self.now).enc }
+    {
+        &self.enc
+    }
+
+    /// The salt input p2s, of no octets where the algorithm reads none.
+    pub fn p2s(&self) -> &[u8]
+        ensures { result.now ≡ (recipient_view self.now).p2s }
+    {
+        &self.parameters.p2s
+    }
+
+    /// The count p2c, which is 0 where the algorithm reads none.
+    pub fn p2c(&self) -> u64
+        ensures { result ≡ (recipient_view self.now).p2c }
+    {
+        self.parameters.p2c
+    }
+}
+
+/// The text of a parameter that must be there.
+fn string_there(alloc: Global, found: Option<&str>) -> Result<String, Refusal>
+    ensures { AgreesUnlessMemory string_bytes result (ok_or (option_map (λ text. text.now) found.entry) Refusal.Header) }
+{
+    Ok(String::from_str(alloc, found.ok_or(Refusal::Header)?)?)
+}
+
+/// The parameters that the algorithm of this name reads.
+fn read_parameters(alloc: Global, alg: &str, header: Header<'_>) -> Result<Parameters, Refusal>
+    ensures { AgreesUnlessMemory parameters_view result (parameters_of alg.now (header_view header.entry)) }
+{
+    if is_password_based(ManagementAlg::named(alg)) {
+        password_parameters(alloc, header)
+    } else {
+        Ok(Parameters {
+            p2s: Vec::new(alloc),
+            p2c: 0,
+        })
+    }
+}
+
+#[tactic(auto, unfolding(crate::specs::Jwe::password_parameters))]
+fn password_parameters(alloc: Global, header: Header<'_>) -> Result<Parameters, Refusal>
+    ensures { AgreesUnlessMemory parameters_view result (password_parameters (header_view header.entry)) }
+{
+    let p2s = header.p2s(alloc)?.ok_or(Refusal::Header)?;
+    let p2c = header.p2c()?.ok_or(Refusal::Header)?;
+    needs(p2c >= 1, Refusal::Header)?;
+    Ok(Parameters { p2s, p2c })
+}
+
+/// The algorithm derives a key from a password (RFC 7518 section 4.8).
+fn is_password_based(alg: Option<ManagementAlg>) -> bool
+    ensures { result ≡ is_password_based_name alg }
+{
+    match alg {
+        Some(
+            ManagementAlg::Pbes2Hs256A128Kw
+            | ManagementAlg::Pbes2Hs384A192Kw
+            | ManagementAlg::Pbes2Hs512A256Kw,
+        ) => true,
+        _ => false,
+    }
+}
+
+/// The header has neither a `crit` nor a `zip`, whatever they hold: no extension is known (RFC 7515 section 4.1.11),
+/// and no content is compressed (RFC 7516 section 4.1.3).
+pub(crate) fn is_plain(header: &Map<String, Value>) -> bool
+    ensures { result ≡ is_plain_header (members_view header.now.entries) }
+{
+    !has_member(header, "crit") && !has_member(header, "zip")
+}
+
+/// The header has a member of this name.
+fn has_member(header: &Map<String, Value>, name: &str) -> bool
+    ensures { result ≡ is_some (get_member name.now (members_view header.now.entries)) }
+{
+    part_member(Some(header), name).is_some()
+}

@@ -1,0 +1,38 @@
+-- A map's entries beside the members that they stand for.
+use Rattle.std.proofs.Common.{◌≡◌, List, [], ◌∷◌, length, ◌==◌, String, string_bytes, Global, true, false, Result, Ok, Err, IfOk, sym, ap, ◌∙◌, refl}
+use Rattle.std.proofs.Math.Dec.{eqb-suc-zero}
+use Rattle.std.specs.BTreeMap.{BTreeMap}
+use Rattle.std.specs.List.{AllZip}
+use Rattle.serde_json.specs.Data.{object}
+use Rattle.serde_json.specs.View.{view, members_view}
+use Rattle.serde_json.specs.Written.{compact_text, has_float, members_have_float}
+use Rattle.serde_json.proofs.Views.{Entry, view-Object}
+use Rattle.serde_json.specs.declared.value.Value.{Value, Object}
+use Rattle.tokens.specs.Template.{is_empty, header_text}
+
+pub empty_members : (entries : List Entry) → is_empty (members_view entries) ≡ (length entries == 0)
+empty_members [] = refl
+empty_members (entry ∷ entries) = sym (eqb-suc-zero (length entries))
+
+-- a copy stands for the same members
+pub copied_members : (entries copies : List Entry) → AllZip (λ (p q : Entry). (string_bytes q.0 ≡ string_bytes p.0) × (view q.1 ≡ view p.1)) entries copies → members_view copies ≡ members_view entries
+copied_members [] [] h = refl
+copied_members [] (copy ∷ copies) h = absurd h
+copied_members (entry ∷ entries) [] h = absurd h
+copied_members (entry ∷ entries) (copy ∷ copies) h = rw (h.0.0, h.0.1, copied_members entries copies h.1) refl
+
+-- the members of a header that has some are its text
+pub text_of_some : (entries : List Entry) → (length entries == 0) ≡ false → header_text (members_view entries) ≡ compact_text (object (members_view entries))
+text_of_some [] h = cc h
+text_of_some (entry ∷ entries) h = refl
+
+pub text_of_none : (entries : List Entry) → (length entries == 0) ≡ true → header_text (members_view entries) ≡ []
+text_of_none [] h = refl
+text_of_none (entry ∷ entries) h = let no : false ≡ true = sym (eqb-suc-zero (length entries)) ∙ h in cc no
+
+-- what is written of a header that has some members
+pub written_text : {E : Type 0} (m : BTreeMap (String Global) Value) (result : Result (String Global) E) → members_have_float (members_view m.entries) ≡ false → (length m.entries == 0) ≡ false
+    → IfOk result (λ text. has_float (view (Object m)) ≡ false → string_bytes text ≡ compact_text (view (Object m)))
+    → IfOk result (λ text. string_bytes text ≡ header_text (members_view m.entries))
+written_text m (Ok text) none some is = is (ap has_float (view-Object m) ∙ none) ∙ ap compact_text (view-Object m) ∙ sym (text_of_some m.entries some)
+written_text m (Err e) none some is = tt
