@@ -1,5 +1,6 @@
 pub mod Xor
 pub mod Polynomial
+pub mod Remainders
 pub mod Rows
 pub mod Below
 pub mod Linear

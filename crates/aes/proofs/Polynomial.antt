@@ -16,7 +16,7 @@ polynomial_remainder-xor d m (suc k) p q =
     ∙ polynomial_remainder-xor d m k (bit_xor p (bit_at p (d + k) * (m * 2 ^ k))) (bit_xor q (bit_at q (d + k) * (m * 2 ^ k)))
 
 -- a step at a coefficient that is 0
-no_step : (p b m : ℕ) → b ≡ zero → bit_xor p (b * m) ≡ p
+pub no_step : (p b m : ℕ) → b ≡ zero → bit_xor p (b * m) ≡ p
 no_step p b m z = ap (λ x. bit_xor p (x * m)) z ∙ ap (bit_xor p) (zero-mul m) ∙ xor_zero_r p
 
 -- a polynomial of degree below d is its own remainder

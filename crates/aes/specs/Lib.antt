@@ -1,5 +1,6 @@
 pub mod Polynomial
 pub mod PolynomialLaws
+pub mod Remainder
 pub mod Octet
 pub mod SBox
 pub mod State

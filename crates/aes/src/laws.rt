@@ -1,11 +1,13 @@
 //! Laws of the definitions in `specs/`: functions that do nothing, whose contracts are the laws.
-ghost use Rattle.std.specs.Prelude.{◌≡◌, ◌≢◌, ◌↔◌, ℕ, ◌+◌, ◌<◌, List, slice_index};
+ghost use Rattle.std.specs.Prelude.{◌≡◌, ◌≢◌, ◌↔◌, ℕ, ◌+◌, ◌^◌, ◌<◌, List, slice_index};
 ghost use Rattle.aes.specs.Block.{IsCipher};
 ghost use Rattle.aes.specs.Cipher.{IsDecryptedBlock, encrypted_block};
 ghost use Rattle.aes.specs.InverseCipher.{inverse_cipher};
 ghost use Rattle.aes.specs.KeyExpansion.{key_expansion};
 ghost use Rattle.aes.specs.Octet.{octet_product, octet_inverse};
+ghost use Rattle.aes.specs.Polynomial.{polynomial_remainder};
 ghost use Rattle.aes.specs.PolynomialLaws.{PolynomialLaws};
+ghost use Rattle.aes.specs.Remainder.{IsOfDegree, IsRemainder};
 
 /// The inverse of an octet other than 0 is the one octet whose product with it is 1, and that of 0 is 0
 /// (FIPS 197, section 4.4).
@@ -27,6 +29,14 @@ pub fn decrypted_block_is_unique()
 pub fn encrypted_block_is_cipher()
     ensures { (nk : ℕ) (k : List ℕ) → ((i : ℕ) → slice_index k i < 256)
         → IsCipher (encrypted_block nk k) (inverse_cipher (nk + 6) (key_expansion nk k)) }
+{}
+
+/// A remainder has a lower degree than the modulus and differs from the dividend by a multiple of it, and no other
+/// polynomial does.
+pub fn remainder_is_unique()
+    ensures remainder { (d m k p : ℕ) → IsOfDegree d m → p < 2 ^ (d + k)
+        → IsRemainder d m p (polynomial_remainder d m k p) }
+    ensures unique { (d m p r s : ℕ) → IsOfDegree d m → IsRemainder d m p r → IsRemainder d m p s → r ≡ s }
 {}
 
 /// What holds of sums, products and remainders of polynomials over two elements.

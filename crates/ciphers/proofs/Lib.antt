@@ -1,5 +1,4 @@
 pub mod Halves
-pub mod Parts
 pub mod Table
 pub mod Unwrapping
 pub mod Openings

@@ -9,11 +9,11 @@ use Rattle.ciphers.specs.declared.content_alg.ContentAlg.{ContentAlg}
 use Rattle.ciphers.specs.declared.content_alg.ContentAlg.TheVariants.{A128CbcHs256, A192CbcHs384, A256CbcHs512, A128Gcm, A192Gcm, A256Gcm}
 use Rattle.ciphers.specs.Sealing.{Sealing, IsTooLong, KeepsPace, cbc_tag, cbc_hmac, gcm, cek_len, iv_len, sealing, IsOpening}
 use Rattle.ciphers.specs.declared.cbc_hmac.CbcHmac.{CbcHmac}
-use Rattle.ciphers.specs.Running.{IsSealing, IsGcmSealing}
+use Rattle.ciphers.specs.Views.{HoldsCbcHmac, HoldsGcmSealing}
 use Rattle.modes.specs.Cbc.{cbc}
 use Rattle.modes.specs.Ctr.{ctr}
-use Rattle.modes.specs.Gcm.{gcm_text, gcm_tag, longest, IsGcmOpening}
-use Rattle.modes.specs.Running as modes
+use Rattle.modes.specs.Gcm.{gcm_ciphertext, gcm_tag, longest, IsGcmOpening}
+use Rattle.modes.specs.Views as modes
 use Rattle.modes.specs.declared.gcm.Gcm.{Gcm}
 use Rattle.prf.specs.HashFunction.{HashFunction}
 use Rattle.prf.specs.Sha2.{sha256_function, sha384_function, sha512_function}
@@ -106,18 +106,18 @@ module _ (alg : ContentAlg) (cek iv aad c tag : List ℕ) (e : List ℕ → List
     iv_fits = iv_fits;
     octets = o.octets;
     short = subst (λ s. IsTooLong s p → ⊥) (sym is) (λ (long : longest < length p). absurd (omega (arith, long, o.short)));
-    ciphertext = ap (λ s. (s.sealed p).ciphertext) is ∙ o.text;
-    is_tag = ap (λ s. (s.sealed p).tag) is ∙ ap (gcm_tag e iv' aad) o.text ∙ o.is_tag;
+    ciphertext = ap (λ s. (s.sealed p).ciphertext) is ∙ o.is_ciphertext;
+    is_tag = ap (λ s. (s.sealed p).tag) is ∙ ap (gcm_tag e iv' aad) o.is_ciphertext ∙ o.is_tag;
   }
 
   gcm_of_opening : (p : List ℕ) → IsOpening alg cek iv aad c tag p → IsGcmOpening e iv' aad c tag p
   gcm_of_opening p o =
-      let text : gcm_text e iv' p ≡ c = sym (ap (λ s. (s.sealed p).ciphertext) is) ∙ o.ciphertext in
+      let text : gcm_ciphertext e iv' p ≡ c = sym (ap (λ s. (s.sealed p).ciphertext) is) ∙ o.ciphertext in
       let not_long : longest < length p → ⊥ = subst (λ s. IsTooLong s p → ⊥) is o.short in
       record {
         octets = o.octets;
         short = ⊎_elim (λ long. absurd (not_long long)) (λ h. h) (cases_lt longest (length p));
-        text = text;
+        is_ciphertext = text;
         is_tag = sym (ap (gcm_tag e iv' aad) text) ∙ sym (ap (λ s. (s.sealed p).tag) is) ∙ o.is_tag;
       }
 
@@ -134,12 +134,12 @@ module _ (alg : ContentAlg) (cek iv aad c tag : List ℕ) (e : List ℕ → List
 -- ---- what was started
 
 pub sealing_is : {B H : Type 0} {encrypted : B → List ℕ → List ℕ} {f : HashFunction} {holds : H → List ℕ → Type 0} {x : CbcHmac B H} {s t : Sealing} {p : List ℕ}
-    → t ≡ s → IsSealing encrypted f holds x s p → IsSealing encrypted f holds x t p
-sealing_is {encrypted = encrypted} {f = f} {holds = holds} {x = x} {p = p} same r = subst (λ u. IsSealing encrypted f holds x u p) (sym same) r
+    → t ≡ s → HoldsCbcHmac encrypted f holds x s p → HoldsCbcHmac encrypted f holds x t p
+sealing_is {encrypted = encrypted} {f = f} {holds = holds} {x = x} {p = p} same r = subst (λ u. HoldsCbcHmac encrypted f holds x u p) (sym same) r
 
 pub gcm_begins : {B : Type 0} (encrypted : B → List ℕ → List ℕ) (x : Gcm B) (s : Sealing) (e : List ℕ → List ℕ) (iv aad : List ℕ)
-    → s ≡ gcm e iv aad → modes.IsProtecting encrypted x e iv aad [] → IsGcmSealing encrypted x s []
-unfolding gcm_text ctr
+    → s ≡ gcm e iv aad → modes.HoldsGcm encrypted x e iv aad [] → HoldsGcmSealing encrypted x s []
+unfolding gcm_ciphertext ctr
 gcm_begins encrypted x s e iv aad is k = record {
   e = e;
   iv = iv;

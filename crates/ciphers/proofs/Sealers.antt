@@ -7,12 +7,12 @@ use Rattle.aes.specs.declared.aes.Aes256.{Aes256}
 use Rattle.ciphers.specs.declared.cbc_hmac.CbcHmac.{CbcHmac}
 use Rattle.ciphers.specs.declared.sealer.ContentSealer.{ContentSealer}
 use Rattle.ciphers.specs.declared.sealer.ContentSealer.TheVariants.{A128CbcHs256, A192CbcHs384, A256CbcHs512, A128Gcm, A192Gcm, A256Gcm}
-use Rattle.ciphers.specs.Running.{IsGcmSealing, on_sealer}
+use Rattle.ciphers.specs.Views.{HoldsGcmSealing, on_sealer}
 use Rattle.ciphers.specs.Sealing.{Sealing, KeepsPace, cbc_hmac}
 use Rattle.prf.specs.Sha2.{Sha256, Sha384, Sha512}
 use Rattle.modes.specs.Cbc.{cbc_blocks}
-use Rattle.modes.specs.Gcm.{gcm_text}
-use Rattle.modes.specs.Running as modes
+use Rattle.modes.specs.Gcm.{gcm_ciphertext}
+use Rattle.modes.specs.Views as modes
 use Rattle.modes.specs.declared.gcm.Gcm.{Gcm}
 use Rattle.octets.specs.declared.refusal.Refusal.{Refusal}
 use Rattle.prf.specs.HashFunction.{HashFunction}
@@ -38,14 +38,14 @@ first_half copy out rest code len l same is_copy is_code h =
     ∙ is_copy ∙ sym (take-take (len / 2) len out (omega arith)) ∙ ap (take (len / 2)) is_code ∙ ap (λ m. take (m / 2) code) same
 
 -- a piece that GCM took, where it took it
-pub gcm_fed : {B : Type 0} (encrypted : B → List ℕ → List ℕ) (x y : Gcm B) (s : Sealing) (p piece out : List ℕ) (r : Result ℕ Refusal) (k : IsGcmSealing encrypted x s p)
+pub gcm_fed : {B : Type 0} (encrypted : B → List ℕ → List ℕ) (x y : Gcm B) (s : Sealing) (p piece out : List ℕ) (r : Result ℕ Refusal) (k : HoldsGcmSealing encrypted x s p)
     → length piece ≤ length out
-    → IfOk r (λ n. n ≡ length piece) → OnOk r (modes.IsProtecting encrypted y k.e k.iv k.aad (p ++ piece))
-    → IfOk r (λ n. gcm_text k.e k.iv (p ++ piece) ≡ gcm_text k.e k.iv p ++ take n out)
-    → OnOk r (IsGcmSealing encrypted y s (p ++ piece))
+    → IfOk r (λ n. n ≡ length piece) → OnOk r (modes.HoldsGcm encrypted y k.e k.iv k.aad (p ++ piece))
+    → IfOk r (λ n. gcm_ciphertext k.e k.iv (p ++ piece) ≡ gcm_ciphertext k.e k.iv p ++ take n out)
+    → OnOk r (HoldsGcmSealing encrypted y s (p ++ piece))
 gcm_fed encrypted x y s p piece out (Ok n) k room len fed text =
-    let longer : length (gcm_text k.e k.iv (p ++ piece)) ≡ length (p ++ piece) =
-    ap length text ∙ length-append (gcm_text k.e k.iv p) (take n out)
+    let longer : length (gcm_ciphertext k.e k.iv (p ++ piece)) ≡ length (p ++ piece) =
+    ap length text ∙ length-append (gcm_ciphertext k.e k.iv p) (take n out)
     ∙ omega (arith, k.whole, len, length-append p piece, length-take-le n out (subst (λ m. m ≤ length out) (sym len) room)) in
     record {
       e = k.e;

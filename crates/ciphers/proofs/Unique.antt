@@ -9,13 +9,13 @@ use Rattle.ciphers.specs.declared.content_alg.ContentAlg.{ContentAlg}
 use Rattle.ciphers.specs.declared.content_alg.ContentAlg.TheVariants.{A128CbcHs256, A192CbcHs384, A256CbcHs512, A128Gcm, A192Gcm, A256Gcm}
 use Rattle.ciphers.specs.Sealing.{sealing, IsOpening}
 use Rattle.modes.specs.Cbc.{cbc}
-use Rattle.modes.specs.Gcm.{gcm_text}
+use Rattle.modes.specs.Gcm.{gcm_ciphertext}
 use Rattle.octets.specs.Octets.{IsOctets}
 
 module _
     (cipher : (nk : ℕ) (k : List ℕ) → ((i : ℕ) → slice_index k i < 256) → IsCipher (encrypted_block nk k) (inverse_cipher (nk + 6) (key_expansion nk k)))
     (one : (e d : List ℕ → List ℕ) (iv p q : List ℕ) → IsCipher e d → IsBlock iv → IsOctets p → IsOctets q → cbc e iv p ≡ cbc e iv q → p ≡ q)
-    (one_gcm : (e : List ℕ → List ℕ) (iv p q : List ℕ) → gcm_text e iv p ≡ gcm_text e iv q → p ≡ q) where
+    (one_gcm : (e : List ℕ → List ℕ) (iv p q : List ℕ) → gcm_ciphertext e iv p ≡ gcm_ciphertext e iv q → p ≡ q) where
   half : (n : ℕ) (cek : List ℕ) → IsOctets cek → IsOctets (drop n cek)
   half n cek o i = subst (λ v. v < 256) (sym (get_or-drop n cek i 0)) (o (n + i))
 

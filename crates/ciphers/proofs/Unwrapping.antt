@@ -1,7 +1,8 @@
 -- There is at most one unwrapping: two tables with the same last row have the same first one.
 use Rattle.std.proofs.Common.{◌≡◌, ℕ, zero, suc, ◌+◌, ◌*◌, ◌/◌, ◌%◌, ◌^◌, ◌<◌, ◌≤◌, List, ◌++◌, length, take, drop, sym, ap, subst, ◌∙◌, arith, refl, take-append-drop, length-take, length-drop}
 use Rattle.aes.specs.Block.{IsCipher}
-use Rattle.ciphers.specs.KeyWrap.{add_count, part, IsKeyData, IsUnwrapping, IsRow}
+use Rattle.ciphers.specs.KeyWrap.{xor_count, part, IsKeyData, IsUnwrapping}
+use Rattle.ciphers.specs.Views.{IsRow}
 use Rattle.ciphers.proofs.Table.{length-wrapped, row_of_wrapped, first_row_is, previous_row}
 use borrow.Rule.Slice.PartMut.{put_mid}
 
@@ -19,7 +20,7 @@ module _ (e d : List ℕ → List ℕ) (law : IsCipher e d) where
   down p q x y (suc t) a r few row other =
       let i = t % (length p / 8) in
       let turn : i ≡ t % (length q / 8) = ap (λ n. t % (n / 8)) (sym row.long ∙ other.long) in
-      let b = d (add_count (suc t) a ++ part r i) in
+      let b = d (xor_count (suc t) a ++ part r i) in
       down p q x y t (take 8 b) (put_mid (8 * i) 8 r (drop 8 b)) (omega arith)
       (previous_row e p t i refl x.two d law few x.octets a r (take 8 b) (drop 8 b) row refl refl)
       (previous_row e q t i turn y.two d law few y.octets a r (take 8 b) (drop 8 b) other refl refl)

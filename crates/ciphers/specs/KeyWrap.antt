@@ -8,9 +8,9 @@ use Rattle.octets.specs.Octets.{IsOctets}
 abbrev pub initial_value : List ℕ
 initial_value = replicate 8 0xa6
 
--- the number t added to eight octets: the sum of the bits of both
-unfoldable pub add_count : ℕ → List ℕ → List ℕ
-add_count t a = to_be_bytes w64 (bit_xor (from_be_bytes w64 a) t)
+-- A ^ t, of eight octets a and the number t
+unfoldable pub xor_count : ℕ → List ℕ → List ℕ
+xor_count t a = to_be_bytes w64 (bit_xor (from_be_bytes w64 a) t)
 
 -- part i of eight octets, from 0
 abbrev pub part : List ℕ → ℕ → List ℕ
@@ -21,7 +21,7 @@ part p i = take 8 (drop (8 * i) p)
 unfoldable pub table : (List ℕ → List ℕ) → List ℕ → ℕ → ℕ → List ℕ
 table e p zero zero = initial_value
 table e p zero (suc i) = part p i
-table e p (suc t) zero = add_count (suc t) (take 8 (e (table e p t 0 ++ table e p t (suc (t % (length p / 8))))))
+table e p (suc t) zero = xor_count (suc t) (take 8 (e (table e p t 0 ++ table e p t (suc (t % (length p / 8))))))
 table e p (suc t) (suc i) =
     if i == t % (length p / 8) then drop 8 (e (table e p t 0 ++ table e p t (suc i))) else table e p t (suc i)
 
@@ -39,9 +39,3 @@ pub record IsKeyData (p : List ℕ) : Type 0 where
 pub record IsUnwrapping (e : List ℕ → List ℕ) (c p : List ℕ) : Type 0 where
   pub key_data : IsKeyData p
   pub wraps : wrapped e p ≡ c
-
--- a and r are row t of the table
-pub record IsRow (e : List ℕ → List ℕ) (p : List ℕ) (t : ℕ) (a r : List ℕ) : Type 0 where
-  pub long : length r ≡ length p
-  pub check : a ≡ table e p t 0
-  pub registers : (i : ℕ) → i < length p / 8 → part r i ≡ table e p t (suc i)

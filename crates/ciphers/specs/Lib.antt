@@ -1,5 +1,4 @@
 pub mod KeyWrap
 pub mod Delivery
-pub mod Kek
 pub mod Sealing
-pub mod Running
+pub mod Views

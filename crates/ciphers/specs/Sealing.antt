@@ -5,7 +5,7 @@ use Rattle.aes.specs.Cipher.{encrypted_block}
 use Rattle.ciphers.specs.declared.content_alg.ContentAlg.{ContentAlg}
 use Rattle.ciphers.specs.declared.content_alg.ContentAlg.TheVariants.{A128CbcHs256, A192CbcHs384, A256CbcHs512, A128Gcm, A192Gcm, A256Gcm}
 use Rattle.modes.specs.Cbc.{cbc, cbc_blocks}
-use Rattle.modes.specs.Gcm.{bit_length, gcm_text, gcm_tag, longest}
+use Rattle.modes.specs.Gcm.{bit_length, gcm_ciphertext, gcm_tag, longest}
 use Rattle.octets.specs.Octets.{IsOctets}
 use Rattle.prf.specs.HashFunction.{HashFunction}
 use Rattle.prf.specs.Hmac.{hmac}
@@ -49,8 +49,8 @@ cbc_hmac e f mac_key iv aad = record {
 
 abbrev pub gcm : (List ℕ → List ℕ) → List ℕ → List ℕ → Sealing
 gcm e iv aad = record {
-  sealed = λ p. record { ciphertext = gcm_text e iv p; tag = gcm_tag e iv aad (gcm_text e iv p) };
-  fixed = gcm_text e iv;
+  sealed = λ p. record { ciphertext = gcm_ciphertext e iv p; tag = gcm_tag e iv aad (gcm_ciphertext e iv p) };
+  fixed = gcm_ciphertext e iv;
   longest = Some longest;
 }
 

@@ -13,11 +13,11 @@ pub(crate) struct Authentication<H: Hash> {
 }
 
 impl<H: Hash> Authentication<H> {
-    ghost use Rattle.ciphers.specs.Running.{IsAuthenticating};
+    ghost use Rattle.ciphers.specs.Views.{HoldsAuthentication};
 
     /// No octet of the ciphertext was fed yet.
     pub(crate) fn start(mac_key: &[u8], iv: &[u8], aad: &[u8]) -> Authentication<H>
-        ensures { IsAuthenticating H.function H.holds result mac_key.now iv.now aad.now [] }
+        ensures { HoldsAuthentication H.function H.holds result mac_key.now iv.now aad.now [] }
     {
         let mut mac = Hmac::new(mac_key);
         mac.update(aad);
@@ -30,8 +30,8 @@ impl<H: Hash> Authentication<H> {
 
     /// Takes the next piece of the ciphertext.
     pub(crate) fn update(&mut self, piece: &[u8])
-        ensures { (mac_key iv aad c : List ℕ) → IsAuthenticating H.function H.holds self.old mac_key iv aad c
-            → IsAuthenticating H.function H.holds self.new mac_key iv aad (c ++ piece.now) }
+        ensures { (mac_key iv aad c : List ℕ) → HoldsAuthentication H.function H.holds self.old mac_key iv aad c
+            → HoldsAuthentication H.function H.holds self.new mac_key iv aad (c ++ piece.now) }
     {
         self.mac.update(piece);
     }
@@ -39,7 +39,7 @@ impl<H: Hash> Authentication<H> {
     /// Writes the tag to the front of `tag`, and answers its length.
     pub(crate) fn finish(self, tag: &mut [u8; 32]) -> usize
         ensures within { result ≤ 32 }
-        ensures tag { (mac_key iv aad c : List ℕ) → IsAuthenticating H.function H.holds self mac_key iv aad c
+        ensures tag { (mac_key iv aad c : List ℕ) → HoldsAuthentication H.function H.holds self mac_key iv aad c
             → take result tag.new ≡ cbc_tag H.function mac_key iv aad c }
     {
         let Authentication { mut mac, aad_bits } = self;

@@ -18,11 +18,11 @@ pub struct CbcHmac<B: Block, H: Hash> {
 }
 
 impl<B: Block, H: Hash> CbcHmac<B, H> {
-    ghost use Rattle.ciphers.specs.Running.{IsSealing};
+    ghost use Rattle.ciphers.specs.Views.{HoldsCbcHmac};
 
     /// No octet of the plaintext was fed yet.
     pub(crate) fn start(cipher: B, mac_key: &[u8], iv: &[u8; 16], aad: &[u8]) -> CbcHmac<B, H>
-        ensures { IsSealing B.encrypted H.function H.holds result (cbc_hmac (B.encrypted cipher) H.function mac_key.now iv.now aad.now) [] }
+        ensures { HoldsCbcHmac B.encrypted H.function H.holds result (cbc_hmac (B.encrypted cipher) H.function mac_key.now iv.now aad.now) [] }
     {
         CbcHmac {
             cbc: Cbc::start(cipher, iv),
@@ -34,9 +34,9 @@ impl<B: Block, H: Hash> CbcHmac<B, H> {
     pub(crate) fn feed(&mut self, piece: &[u8], out: &mut [u8; 4112]) -> usize
         requires { length piece.now ≤ 4096 }
         ensures within { result ≤ 4112 }
-        ensures fed { (s : Sealing) (p : List ℕ) → IsSealing B.encrypted H.function H.holds self.old s p
-            → IsSealing B.encrypted H.function H.holds self.new s (p ++ piece.now) }
-        ensures text { (s : Sealing) (p : List ℕ) → IsSealing B.encrypted H.function H.holds self.old s p
+        ensures fed { (s : Sealing) (p : List ℕ) → HoldsCbcHmac B.encrypted H.function H.holds self.old s p
+            → HoldsCbcHmac B.encrypted H.function H.holds self.new s (p ++ piece.now) }
+        ensures text { (s : Sealing) (p : List ℕ) → HoldsCbcHmac B.encrypted H.function H.holds self.old s p
             → s.fixed (p ++ piece.now) ≡ s.fixed p ++ take result out.new }
     {
         let written = self.cbc.feed(piece, out);
@@ -47,9 +47,9 @@ impl<B: Block, H: Hash> CbcHmac<B, H> {
     /// Writes the last block of the ciphertext, and the tag, whose length it answers.
     pub(crate) fn finish(self, last: &mut [u8; 16], tag: &mut [u8; 32]) -> usize
         ensures within { result ≤ 32 }
-        ensures ciphertext { (s : Sealing) (p : List ℕ) → IsSealing B.encrypted H.function H.holds self s p
+        ensures ciphertext { (s : Sealing) (p : List ℕ) → HoldsCbcHmac B.encrypted H.function H.holds self s p
             → (s.sealed p).ciphertext ≡ s.fixed p ++ last.new }
-        ensures tag { (s : Sealing) (p : List ℕ) → IsSealing B.encrypted H.function H.holds self s p
+        ensures tag { (s : Sealing) (p : List ℕ) → HoldsCbcHmac B.encrypted H.function H.holds self s p
             → (s.sealed p).tag ≡ take result tag.new }
     {
         let CbcHmac {

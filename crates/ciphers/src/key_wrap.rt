@@ -1,6 +1,7 @@
 //! AES key wrap (RFC 3394), over any block cipher. The registers R[1] to R[n] stand in one slice, eight octets each.
 ghost use Rattle.std.specs.Prelude.{◌≡◌, ℕ, ◌+◌, ◌*◌, ◌/◌, ◌%◌, ◌≤◌, List, ◌++◌, length, take, drop, IfNone, OnSome};
-ghost use Rattle.ciphers.specs.KeyWrap.{add_count, wrapped, IsRow, IsUnwrapping};
+ghost use Rattle.ciphers.specs.KeyWrap.{xor_count, wrapped, IsUnwrapping};
+ghost use Rattle.ciphers.specs.Views.{IsRow};
 ghost use Rattle.octets.specs.Octets.{IsOctets};
 
 use aes::Block;
@@ -8,9 +9,9 @@ use aes::Block;
 /// What `wrap` puts before the registers, and `unwrap` looks for (section 2.2.3.1).
 const INITIAL_VALUE: [u8; 8] = [0xa6; 8];
 
-/// A ^ t, where t stands in eight octets.
-fn add_count(t: u64, a: &[u8; 8]) -> [u8; 8]
-    ensures { result ≡ add_count t a.now }
+/// A ^ t, with t as eight octets (section 2.2.1).
+fn xor_count(t: u64, a: &[u8; 8]) -> [u8; 8]
+    ensures { result ≡ xor_count t a.now }
 {
     (u64::from_be_bytes(*a) ^ t).to_be_bytes()
 }
@@ -29,22 +30,22 @@ fn join(a: &[u8; 8], r: &[u8]) -> [u8; 16]
 /// Step t of wrapping, on A and the register whose turn it is (section 2.2.1).
 fn step<B: Block>(kek: &B, t: u64, a: &mut [u8; 8], r: &mut [u8])
     requires { length r.old ≡ 8 }
-    ensures check { a.new ≡ add_count t (take 8 (B.encrypted kek.now (a.old ++ r.old))) }
+    ensures check { a.new ≡ xor_count t (take 8 (B.encrypted kek.now (a.old ++ r.old))) }
     ensures register { r.new ≡ drop 8 (B.encrypted kek.now (a.old ++ r.old)) }
 {
     let b = kek.encrypt(&join(a, r));
     a.copy_from_slice(&b[..8]);
-    *a = add_count(t, a);
+    *a = xor_count(t, a);
     r.copy_from_slice(&b[8..]);
 }
 
 /// Step t of unwrapping, on A and the register whose turn it is (section 2.2.2).
 fn step_back<B: Block>(kek: &B, t: u64, a: &mut [u8; 8], r: &mut [u8])
     requires { length r.old ≡ 8 }
-    ensures check { a.new ≡ take 8 (B.decrypted kek.now (add_count t a.old ++ r.old)) }
-    ensures register { r.new ≡ drop 8 (B.decrypted kek.now (add_count t a.old ++ r.old)) }
+    ensures check { a.new ≡ take 8 (B.decrypted kek.now (xor_count t a.old ++ r.old)) }
+    ensures register { r.new ≡ drop 8 (B.decrypted kek.now (xor_count t a.old ++ r.old)) }
 {
-    let b = kek.decrypt(&join(&add_count(t, a), r));
+    let b = kek.decrypt(&join(&xor_count(t, a), r));
     a.copy_from_slice(&b[..8]);
     r.copy_from_slice(&b[8..]);
 }

@@ -1,14 +1,23 @@
 //! The algorithms that a token names (RFC 7518), over the ciphers of `aes`.
 //!
-//! `KeyAlg` delivers a content encryption key to a recipient, by its key or under it. `wrap` and `unwrap` carry one
-//! under a key encryption key (RFC 3394).
+//! `ContentAlg` seals content that comes in pieces, and opens it in place. `KeyAlg` delivers a content encryption key to
+//! a recipient, by its key or under it. `wrap` and `unwrap` are AES key wrap (RFC 3394). Nothing here takes memory or
+//! reads a header.
 //!
 //! ```rust
-//! let kek = Aes128::new(&key);
-//! let mut wrapped = [0; 40];
-//! wrap(&kek, &cek, &mut wrapped);
-//! let mut unwrapped = [0; 32];
-//! assert_eq!(rt; unwrap(&kek, &wrapped, &mut unwrapped), Some(()));
+//! // A recipient's encrypted key, and content that is sealed in pieces.
+//! let (alg, enc) = (KeyAlg::A128Kw, ContentAlg::A128Gcm);
+//! let parameters = KeyParameters { p2s: b"", p2c: 0 };
+//! let len = alg.wrap_cek(&key, parameters, &cek, &mut encrypted_key); // &encrypted_key[..len]
+//! let mut sealer = enc.seal(cek.octets(), &iv, aad);
+//! let n = sealer.feed(piece, &mut out)?; // &out[..n] is what the piece adds to the ciphertext
+//! let (end, tag_len) = sealer.finish(&mut last, &mut tag); // &last[..end] is its end
+//! ```
+//!
+//! ```rust
+//! // The content again, in the place of its ciphertext.
+//! let cek = alg.unwrap_cek(enc, &key, parameters, encrypted_key)?;
+//! let n = enc.open(cek.octets(), &iv, aad, &mut buf, tag)?; // &buf[..n]
 //! ```
 #![tactic(auto)]
 
@@ -34,3 +43,7 @@ mod content_alg_tests;
 mod key_alg_tests;
 #[cfg(test)]
 mod key_wrap_tests;
+#[cfg(test)]
+mod long_tests;
+#[cfg(test)]
+mod table_tests;

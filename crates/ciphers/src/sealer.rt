@@ -1,6 +1,6 @@
 //! Running sealings of content (RFC 7516, section 5.1, step 15).
 ghost use Rattle.std.specs.Prelude.{◌≡◌, ◌↔◌, ℕ, ◌≤◌, List, ◌++◌, length, take, IfOk, IfErr, IsErr, OnOk, OnErr};
-ghost use Rattle.ciphers.specs.Running.{IsGcmSealing};
+ghost use Rattle.ciphers.specs.Views.{HoldsGcmSealing};
 ghost use Rattle.ciphers.specs.Sealing.{Sealing, IsTooLong, KeepsPace};
 
 use crate::cbc_hmac::CbcHmac;
@@ -26,7 +26,8 @@ pub trait Sealer: Drop {
         ensures limit { (s : Sealing) (p : List ℕ) → is_sealing self.old s p
             → IsErr result ↔ IsTooLong s (p ++ piece.now) }
         ensures refusal { IfErr result (λ refusal. refusal ≡ Refusal.Limit) }
-        ensures unchanged { OnErr result (self.new ≡ self.old) };
+        ensures unchanged { OnErr result (self.new ≡ self.old) }
+        ensures place { OnErr result (out.new ≡ out.old) };
 
     /// Writes what is left of the ciphertext to the front of `last`, and the tag to that of `tag`, and answers both
     /// lengths.
@@ -53,15 +54,15 @@ pub enum ContentSealer {
 }
 
 impl Sealer for ContentSealer {
-    ghost use Rattle.ciphers.specs.Running.{IsSealing, on_sealer, on_each_sealer};
+    ghost use Rattle.ciphers.specs.Views.{HoldsCbcHmac, on_sealer, on_each_sealer};
 
     ghost is_sealing = { λ x s p. on_sealer x
-        (λ y. IsSealing ⟦<Aes128 as Block>⟧.encrypted ⟦<Sha256 as Hash>⟧.function ⟦<Sha256 as Hash>⟧.holds y s p)
-        (λ y. IsSealing ⟦<Aes192 as Block>⟧.encrypted ⟦<Sha384 as Hash>⟧.function ⟦<Sha384 as Hash>⟧.holds y s p)
-        (λ y. IsSealing ⟦<Aes256 as Block>⟧.encrypted ⟦<Sha512 as Hash>⟧.function ⟦<Sha512 as Hash>⟧.holds y s p)
-        (λ y. IsGcmSealing ⟦<Aes128 as Block>⟧.encrypted y s p)
-        (λ y. IsGcmSealing ⟦<Aes192 as Block>⟧.encrypted y s p)
-        (λ y. IsGcmSealing ⟦<Aes256 as Block>⟧.encrypted y s p) };
+        (λ y. HoldsCbcHmac ⟦<Aes128 as Block>⟧.encrypted ⟦<Sha256 as Hash>⟧.function ⟦<Sha256 as Hash>⟧.holds y s p)
+        (λ y. HoldsCbcHmac ⟦<Aes192 as Block>⟧.encrypted ⟦<Sha384 as Hash>⟧.function ⟦<Sha384 as Hash>⟧.holds y s p)
+        (λ y. HoldsCbcHmac ⟦<Aes256 as Block>⟧.encrypted ⟦<Sha512 as Hash>⟧.function ⟦<Sha512 as Hash>⟧.holds y s p)
+        (λ y. HoldsGcmSealing ⟦<Aes128 as Block>⟧.encrypted y s p)
+        (λ y. HoldsGcmSealing ⟦<Aes192 as Block>⟧.encrypted y s p)
+        (λ y. HoldsGcmSealing ⟦<Aes256 as Block>⟧.encrypted y s p) };
 
     fn feed(&mut self, piece: &[u8], out: &mut [u8; 4112]) -> Result<usize, Refusal> {
         match self {
@@ -91,9 +92,9 @@ impl Sealer for ContentSealer {
 /// Writes the tag to the front of `tag`, and answers its length.
 fn finish_gcm<B: Block>(sealer: Gcm<B>, tag: &mut [u8; 32]) -> usize
     ensures within { result ≤ 32 }
-    ensures ciphertext { (s : Sealing) (p : List ℕ) → IsGcmSealing B.encrypted sealer s p
+    ensures ciphertext { (s : Sealing) (p : List ℕ) → HoldsGcmSealing B.encrypted sealer s p
         → (s.sealed p).ciphertext ≡ s.fixed p }
-    ensures tag { (s : Sealing) (p : List ℕ) → IsGcmSealing B.encrypted sealer s p
+    ensures tag { (s : Sealing) (p : List ℕ) → HoldsGcmSealing B.encrypted sealer s p
         → (s.sealed p).tag ≡ take result tag.new }
 {
     tag[..16].copy_from_slice(&sealer.finish());

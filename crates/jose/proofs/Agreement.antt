@@ -1,12 +1,16 @@
 -- What a command did on one output, seen on both.
-use Rattle.std.proofs.Common.{◌≡◌, ℕ, List, [], Bool, true, false, cond, Result, Ok, Err, refl, sym, ap}
+use Rattle.std.proofs.Common.{◌≡◌, ℕ, List, [], length, take, nat_le, Bool, true, false, cond, Result, Ok, Err, refl, sym, ap}
 use Rattle.std.specs.Result.{result_unwrap_or}
 use Rattle.octets.specs.declared.refusal.Refusal.{Refusal}
+use Rattle.octets.specs.declared.refusal.Refusal.TheVariants.{Random}
 use Rattle.octets.specs.Devices.{Observed}
-use Rattle.octets.specs.Outcomes.{◌>>=◌, AgreesUnlessExternal}
-use Rattle.octets.specs.Plan.{Plan, plan_map, planned_beginning, beginning_of, without_content, accepted}
+use Rattle.octets.specs.Outcomes.{◌>>=◌, needs, AgreesUnlessExternal}
+use Rattle.octets.specs.Plan.{Plan, Draft, plan_map, plan_from, placed, planned_beginning, beginning_of, without_content, accepted}
 use Rattle.octets.proofs.Agreement.{AgreesUnlessExternal-map}
+use Rattle.keys.specs.Generating.{MadeKey, made_key, key_text, gen_answer}
+use Rattle.keys.specs.Limits.{limits}
 use Rattle.jose.specs.Ports.{OutputTexts, nothing, as_text, as_content}
+use Rattle.jose.specs.Jwk.{making}
 use Rattle.jose.specs.Answer.{beginning_under}
 
 pub agrees_as_text : (a : Result (List ℕ) Refusal) (text other : List ℕ) (r : Result (Unit {0}) Refusal) → other ≡ [] → AgreesUnlessExternal a text r
@@ -16,6 +20,23 @@ agrees_as_text a text other r e h = AgreesUnlessExternal-map as_text a text (rec
 pub agrees_as_content : (a : Result (List ℕ) Refusal) (content other : List ℕ) (r : Result (Unit {0}) Refusal) → other ≡ [] → AgreesUnlessExternal a content r
     → AgreesUnlessExternal (a >>= λ x. Ok (as_content x)) (record { text = other; content = content }) r
 agrees_as_content a content other r e h = AgreesUnlessExternal-map as_content a content (record { text = other; content = content }) r (ap (λ q. record { text = q; content = content }) (sym e)) h
+
+-- the plan of a made key, put in its place: the answer that `Rattle.keys.specs.Generating` gives
+pub plan_of_making : {V : Type 0} (f : List ℕ → V) (template random : List ℕ)
+    → plan_from (placed f (making template)) random ≡ (gen_answer limits template random >>= λ x. Ok (without_content (f x)))
+unfolding gen_answer
+plan_of_making f template random = by_made (made_key limits template)
+  where
+    by_made : (made : Result MadeKey Refusal)
+        → plan_from (placed f (made >>= λ m. Ok (record { drawn = m.len; plan = λ octets. without_content (key_text m octets) }))) random
+        ≡ ((made >>= λ m. needs (nat_le m.len (length random)) Random >>= λ u. Ok (key_text m (take m.len random))) >>= λ x. Ok (without_content (f x)))
+    by_made (Err r) = refl
+    by_made (Ok m) = by_test (nat_le m.len (length random))
+      where
+        by_test : (enough : Bool) → (needs enough Random >>= λ u. Ok (without_content (f (key_text m (take m.len random)))))
+            ≡ ((needs enough Random >>= λ u. Ok (key_text m (take m.len random))) >>= λ x. Ok (without_content (f x)))
+        by_test true = refl
+        by_test false = refl
 
 -- what may stand, put in its place
 beginning_map : (f : List ℕ → OutputTexts) (p : Plan (List ℕ)) (octets : List ℕ) (ended : Bool)
@@ -27,19 +48,16 @@ beginning_map f p octets true = by_answer (p.whole octets)
     by_answer (Ok w) = refl
     by_answer (Err r) = refl
 
-pub begun_as_text : (others : Bool) (plan : Result (Plan (List ℕ)) Refusal) (seen : Observed)
-    → cond others (beginning_under (plan >>= λ p. Ok (plan_map as_text p)) seen) nothing ≡ as_text (planned_beginning others plan seen)
-begun_as_text false (Ok p) seen = refl
-begun_as_text false (Err r) seen = refl
-begun_as_text true (Err r) seen = refl
-begun_as_text true (Ok p) seen = beginning_map as_text p seen.octets seen.ended
+pub begun_by_plan : (f : List ℕ → OutputTexts) → f [] ≡ nothing → (others : Bool) (plan : Result (Plan (List ℕ)) Refusal) (seen : Observed)
+    → cond others (beginning_under (plan >>= λ p. Ok (plan_map f p)) seen) nothing ≡ f (planned_beginning others plan seen)
+begun_by_plan f none false (Ok p) seen = sym none
+begun_by_plan f none false (Err r) seen = sym none
+begun_by_plan f none true (Err r) seen = sym none
+begun_by_plan f none true (Ok p) seen = beginning_map f p seen.octets seen.ended
 
-pub begun_as_content : (plan : Plan (List ℕ)) (seen : Observed) → beginning_of (plan_map as_content plan) seen ≡ as_content (beginning_of plan seen)
-begun_as_content plan seen = beginning_map as_content plan seen.octets seen.ended
-
-pub begun_without_content : (others : Bool) (a : Result (List ℕ) Refusal)
-    → cond others (beginning_under (a >>= λ p. Ok (without_content (as_content p))) (record { octets = []; ended = true })) nothing ≡ as_content (accepted a others)
-begun_without_content true (Ok p) = refl
-begun_without_content true (Err r) = refl
-begun_without_content false (Ok p) = refl
-begun_without_content false (Err r) = refl
+pub begun_by_text : (f : List ℕ → OutputTexts) → f [] ≡ nothing → (others : Bool) (a : Result (List ℕ) Refusal)
+    → cond others (beginning_under (a >>= λ x. Ok (without_content (f x))) (record { octets = []; ended = true })) nothing ≡ f (accepted a others)
+begun_by_text f none true (Ok x) = refl
+begun_by_text f none true (Err r) = sym none
+begun_by_text f none false (Ok x) = sym none
+begun_by_text f none false (Err r) = sym none

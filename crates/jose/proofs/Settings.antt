@@ -3,7 +3,7 @@ use Rattle.std.proofs.Common.{◌≡◌, ℕ, ◌==◌, List, [], ◌++◌, Opti
 use Rattle.std.specs.List.{find}
 use Rattle.clap.specs.Words.{Text}
 use Rattle.jose.specs.declared.invocation.Setting.{Setting}
-use Rattle.jose.specs.Invocations.{settings_seen, value_at}
+use Rattle.jose.specs.Invocations.{settings_view, value_at}
 use Rattle.jose.specs.Reading.{setting_before}
 use Rattle.jose.proofs.Finding.{find-map, option_map-option_map}
 
@@ -12,7 +12,7 @@ abbrev pair_of : Setting → ℕ × Text
 pair_of setting = (setting.letter, string_bytes setting.value)
 
 pub value_found : (letter : ℕ) (settings : List Setting)
-    → value_at letter (settings_seen settings) ≡ option_map (λ setting. string_bytes setting.value) (find (λ setting. setting.letter == letter) settings)
+    → value_at letter (settings_view settings) ≡ option_map (λ setting. string_bytes setting.value) (find (λ setting. setting.letter == letter) settings)
 value_found letter settings =
     ap (option_map (λ (p : ℕ × Text). p.1)) (find-map (λ p. p.0 == letter) pair_of settings)
     ∙ sym (option_map-option_map pair_of (λ p. p.1) (find (λ setting. setting.letter == letter) settings))

@@ -1,178 +1,149 @@
 -- The answer of each command: the octets of each output, or the first refusal, from whole inputs.
-use Rattle.std.specs.Prelude.{◌≡◌, ◌≢◌, ◌≤◌, ℕ, Bool, true, false, ◌&&◌, IsTrue, List, [], length, is_some, if◌then◌else◌, Result, Ok, Err}
-use Rattle.std.specs.Option.{ok_or}
+use Rattle.std.specs.Prelude.{◌≡◌, ◌≢◌, ◌≤◌, ℕ, Bool, true, false, ◌&&◌, ◌||◌, IsTrue, List, [], length, is_some, if◌then◌else◌, Option, Some, None, Result, Ok, Err}
 use Rattle.octets.specs.declared.refusal.Refusal.{Refusal}
-use Rattle.octets.specs.declared.refusal.Refusal.TheVariants.{Usage, Write}
+use Rattle.octets.specs.declared.refusal.Refusal.TheVariants.{Write}
 use Rattle.octets.specs.Devices.{Observed}
-use Rattle.octets.specs.Outcomes.{◌>>=◌, AgreesUnlessExternal}
-use Rattle.octets.specs.Plan.{Plan, plan_map, without_content, beginning_of}
-use Rattle.keys.specs.Generating.{generated}
+use Rattle.octets.specs.Outcomes.{AgreesUnlessExternal}
+use Rattle.octets.specs.Plan.{Plan, Draft, drawn_of, plan_from, planned, beginning_of}
+use Rattle.clap.specs.Words.{Text}
 use Rattle.jose.specs.declared.command.Command.{Command}
-use Rattle.jose.specs.declared.command.Command.TheVariants.{JwkGen, JwkThp, B64Enc, B64Dec, JwsSig, JwsVer}
 use Rattle.jose.specs.declared.ports.Inputs.{Inputs}
 use Rattle.jose.specs.declared.ports.Outputs.{Outputs}
-use Rattle.jose.specs.Invocations.{SeenInvocation, Settings, value_at, hash_asked}
-use Rattle.jose.specs.Ports.{InputTexts, OutputTexts, nothing, as_text, as_content, SeenInputs, ArePossibleInputs}
-use Rattle.jose.specs.Jwk.{drawn_len, thumbprints}
-use Rattle.jose.specs.Encoding.{encoding, decoding}
-use Rattle.jose.specs.Jws.{signing, verifying}
+use Rattle.jose.specs.Invocations.{InvocationView, Settings, value_at}
+use Rattle.jose.specs.Commands.{Takes, flag, required, optional, default, OptionEntry, option_at, has_option}
+use Rattle.jose.specs.Ports.{InputTexts, OutputTexts, nothing, ObservedInputs, ArePossibleInputs}
+use Rattle.jose.specs.Meanings.{Content, none, the_text, the_content, meaning_of}
 
 -- ---- the answer
 
--- `-O` was given
-abbrev pub is_content_wanted : Settings → Bool
-is_content_wanted settings = is_some (value_at 79 settings)
+abbrev pub content_of : {A : Type 0} → Content → A → A → A → A
+content_of none text content nil = nil
+content_of the_text text content nil = text
+content_of the_content text content nil = content
 
--- which of the inputs is the content, which may be read while its text is written
-abbrev pub content_of : {A : Type 0} → Command → A → A → A → A
-content_of JwkGen text content none = none
-content_of JwkThp text content none = none
-content_of B64Enc text content none = content
-content_of B64Dec text content none = text
-content_of JwsSig text content none = content
-content_of JwsVer text content none = none
+-- what the settings, the text and the keys settle, or the first refusal
+abbrev pub draft_of : InvocationView → List ℕ → List ℕ → Result (Draft OutputTexts) Refusal
+draft_of invocation text keys = (meaning_of invocation.command).draft invocation.options text keys
 
--- what the other inputs settle, or the first refusal
-abbrev pub plan_of : Command → Settings → InputTexts → Result (Plan OutputTexts) Refusal
-plan_of JwkGen settings inputs = do
-  text ← generated inputs.text inputs.random
-  Ok (without_content (as_text text))
-plan_of JwkThp settings inputs = do
-  hash ← ok_or (hash_asked settings) Usage
-  text ← thumbprints hash inputs.text
-  Ok (without_content (as_text text))
-plan_of B64Enc settings inputs = Ok (plan_map as_text encoding)
-plan_of B64Dec settings inputs = Ok (plan_map as_content decoding)
-plan_of JwsSig settings inputs = do
-  plan ← signing inputs.keys inputs.text
-  Ok (plan_map as_text plan)
-plan_of JwsVer settings inputs = do
-  payload ← verifying (is_content_wanted settings) inputs.keys inputs.text
-  Ok (without_content (as_content payload))
-
--- the octets of each output, or the first refusal
-abbrev pub answer : Command → Settings → InputTexts → Result OutputTexts Refusal
-answer command settings inputs = do
-  plan ← plan_of command settings inputs
-  plan.whole (content_of command inputs.text inputs.content [])
+-- The octets of each output, or the first refusal: the draft's, then that of too few random octets, then the content's.
+abbrev pub answer : InvocationView → InputTexts → Result OutputTexts Refusal
+answer invocation inputs =
+    planned (plan_from (draft_of invocation inputs.text inputs.keys) inputs.random)
+    (content_of (meaning_of invocation.command).content inputs.text inputs.content [])
 
 -- Whatever the inputs go on to give, the run did as the answer says.
-abbrev pub Answers : SeenInvocation → SeenInputs → OutputTexts → Result (Unit {0}) Refusal → Type 0
+abbrev pub Answers : InvocationView → ObservedInputs → OutputTexts → Result (Unit {0}) Refusal → Type 0
 Answers invocation seen wrote result =
-    (inputs : InputTexts) → ArePossibleInputs seen inputs → AgreesUnlessExternal (answer invocation.command invocation.options inputs) wrote result
+    (inputs : InputTexts) → ArePossibleInputs seen inputs → AgreesUnlessExternal (answer invocation inputs) wrote result
 
--- ---- what is drawn
-
--- how many octets of the random input the answer takes
-abbrev pub random_len : Command → InputTexts → ℕ
-random_len JwkGen inputs = drawn_len inputs.text
-random_len other inputs = 0
-
--- exactly these were read
-abbrev pub DrawsAll : SeenInvocation → SeenInputs → Type 0
-DrawsAll invocation seen = (inputs : InputTexts) → ArePossibleInputs seen inputs → length seen.random.octets ≡ random_len invocation.command inputs
+-- exactly these octets of the random input were read
+abbrev pub DrawsAll : InvocationView → ObservedInputs → Type 0
+DrawsAll invocation seen =
+    (inputs : InputTexts) → ArePossibleInputs seen inputs → length seen.random.octets ≡ drawn_of (draft_of invocation inputs.text inputs.keys)
 
 -- no others were read
-abbrev pub DrawsNoMore : SeenInvocation → SeenInputs → Type 0
-DrawsNoMore invocation seen = (inputs : InputTexts) → ArePossibleInputs seen inputs → length seen.random.octets ≤ random_len invocation.command inputs
+abbrev pub DrawsNoMore : InvocationView → ObservedInputs → Type 0
+DrawsNoMore invocation seen =
+    (inputs : InputTexts) → ArePossibleInputs seen inputs → length seen.random.octets ≤ drawn_of (draft_of invocation inputs.text inputs.keys)
+
+-- ---- the devices that a command has options for
+
+abbrev pub has_text_input : Command → Bool
+has_text_input command = has_option "i" command || has_option "s" command
+
+abbrev pub has_keys_input : Command → Bool
+has_keys_input command = has_option "k" command
+
+abbrev pub has_content_input : Command → Bool
+has_content_input command = has_option "I" command
+
+abbrev pub has_random_input : Command → Bool
+has_random_input command = has_option "R" command
+
+-- An output that need not be named is there where it is.
+abbrev pub is_there : Takes → Option Text → Bool
+is_there flag value = true
+is_there required value = true
+is_there optional value = is_some value
+is_there (default text) value = true
+
+abbrev pub has_output : Option OptionEntry → Settings → Bool
+has_output None settings = false
+has_output (Some entry) settings = is_there entry.takes (value_at entry.letter settings)
+
+abbrev pub has_text_output : InvocationView → Bool
+has_text_output invocation = has_output (option_at "o" invocation.command) invocation.options
+
+abbrev pub has_content_output : InvocationView → Bool
+has_content_output invocation = has_output (option_at "O" invocation.command) invocation.options
 
 -- ---- what stands after a refusal
 
--- The inputs beside the content have given all that is taken of them. Of a random input the octets so far decide:
--- where they are too few for a key, nothing is made of them.
-abbrev pub others_read : Command → SeenInputs → Bool
-others_read JwkGen seen = seen.text.ended
-others_read JwkThp seen = seen.text.ended
-others_read B64Enc seen = true
-others_read B64Dec seen = true
-others_read JwsSig seen = seen.text.ended && seen.keys.ended
-others_read JwsVer seen = seen.text.ended && seen.keys.ended
+-- an input that the command has was read to its end
+abbrev pub was_read : Bool → Observed → Bool
+was_read true seen = seen.ended
+was_read false seen = true
 
-abbrev pub texts_so_far : SeenInputs → InputTexts
-texts_so_far seen = record { text = seen.text.octets; content = seen.content.octets; keys = seen.keys.octets; random = seen.random.octets }
+-- the text is there, and not the content
+abbrev pub has_template : Content → Bool → Bool
+has_template none has = has
+has_template the_text has = false
+has_template the_content has = has
+
+-- The inputs beside the content have given all that is taken of them. Of a random input the octets so far decide:
+-- where they are too few, nothing is made of them.
+abbrev pub others_read : Command → ObservedInputs → Bool
+others_read command seen = was_read (has_keys_input command) seen.keys && was_read (has_template (meaning_of command).content (has_text_input command)) seen.text
 
 abbrev pub beginning_under : Result (Plan OutputTexts) Refusal → Observed → OutputTexts
 beginning_under (Ok plan) content = beginning_of plan content
 beginning_under (Err r) content = nothing
 
 -- the outputs hold a beginning of these texts: of none before the other inputs are read and accepted
-abbrev pub beginning : SeenInvocation → SeenInputs → OutputTexts
+abbrev pub beginning : InvocationView → ObservedInputs → OutputTexts
 beginning invocation seen =
     if others_read invocation.command seen
-    then beginning_under (plan_of invocation.command invocation.options (texts_so_far seen)) (content_of invocation.command seen.text seen.content (record { octets = []; ended = true }))
+    then beginning_under (plan_from (draft_of invocation seen.text.octets seen.keys.octets) seen.random.octets)
+    (content_of (meaning_of invocation.command).content seen.text seen.content (record { octets = []; ended = true }))
     else nothing
 
--- nothing is written before all of it is accepted
-abbrev pub holds_back : Command → Bool
-holds_back JwkGen = true
-holds_back JwkThp = true
-holds_back B64Enc = false
-holds_back B64Dec = false
-holds_back JwsSig = false
-holds_back JwsVer = true
+-- A command that holds back has touched an output only where it failed.
+abbrev pub HoldsBack : {D : Type 0} → InvocationView → Outputs D → Outputs D → Refusal → Type 0
+HoldsBack invocation old new refusal =
+    IsTrue (meaning_of invocation.command).holds_back → refusal ≢ Write → (new.text ≡ old.text) × (new.content ≡ old.content)
 
--- A command that holds back has written something only where an output failed.
-abbrev pub HoldsBack : {D : Type 0} → (D → List ℕ) → SeenInvocation → Outputs D → Outputs D → Refusal → Type 0
-HoldsBack written invocation old new refusal =
-    IsTrue (holds_back invocation.command) → refusal ≢ Write → (written new.text ≡ written old.text) × (written new.content ≡ written old.content)
+-- An output on which nothing was written is as it was, unless one failed.
+abbrev pub AreUncut : {D : Type 0} → (D → List ℕ) → Outputs D → Outputs D → Refusal → Type 0
+AreUncut written old new refusal = refusal ≢ Write
+    → (written new.text ≡ written old.text → new.text ≡ old.text) × (written new.content ≡ written old.content → new.content ≡ old.content)
 
--- ---- the devices that a command has options for
+-- ---- the order of reading
 
-abbrev pub has_text_input : Command → Bool
-has_text_input JwkGen = true
-has_text_input JwkThp = true
-has_text_input B64Enc = false
-has_text_input B64Dec = true
-has_text_input JwsSig = true
-has_text_input JwsVer = true
+-- No input is touched before the one ahead of it was read to its end: the text, the keys, and then the random input
+-- and the content.
+pub record AreInOrder {D : Type 0} (invocation : InvocationView) (seen : ObservedInputs) (old new : Inputs D) : Type 0 where
+  pub keys : was_read (has_text_input invocation.command) seen.text ≡ false → new.keys ≡ old.keys
+  pub random : others_read invocation.command seen ≡ false → new.random ≡ old.random
+  pub content : others_read invocation.command seen ≡ false → new.content ≡ old.content
 
-abbrev pub has_keys_input : Command → Bool
-has_keys_input JwkGen = false
-has_keys_input JwkThp = false
-has_keys_input B64Enc = false
-has_keys_input B64Dec = false
-has_keys_input JwsSig = true
-has_keys_input JwsVer = true
+-- What the text and the keys refuse is refused before the random input and the content are touched.
+abbrev pub RefusesFirst : {D : Type 0} → InvocationView → ObservedInputs → Inputs D → Inputs D → Type 0
+RefusesFirst invocation seen old new =
+    (refusal : Refusal) → draft_of invocation seen.text.octets seen.keys.octets ≡ Err refusal → (new.random ≡ old.random) × (new.content ≡ old.content)
 
-abbrev pub has_content_input : Command → Bool
-has_content_input JwkGen = false
-has_content_input JwkThp = false
-has_content_input B64Enc = true
-has_content_input B64Dec = false
-has_content_input JwsSig = true
-has_content_input JwsVer = false
-
-abbrev pub has_random_input : Command → Bool
-has_random_input JwkGen = true
-has_random_input other = false
-
-abbrev pub has_text_output : Command → Bool
-has_text_output JwkGen = true
-has_text_output JwkThp = true
-has_text_output B64Enc = true
-has_text_output B64Dec = false
-has_text_output JwsSig = true
-has_text_output JwsVer = false
-
-abbrev pub has_content_output : Command → Settings → Bool
-has_content_output JwkGen settings = false
-has_content_output JwkThp settings = false
-has_content_output B64Enc settings = false
-has_content_output B64Dec settings = true
-has_content_output JwsSig settings = false
-has_content_output JwsVer settings = is_content_wanted settings
+-- ---- the end
 
 -- each output that the command has was finished
-abbrev pub AreFinished : {D : Type 0} → (D → Bool) → SeenInvocation → Outputs D → Type 0
+abbrev pub AreFinished : {D : Type 0} → (D → Bool) → InvocationView → Outputs D → Type 0
 AreFinished is_finished invocation outputs =
-    (IsTrue (has_text_output invocation.command) → IsTrue (is_finished outputs.text))
-    × (IsTrue (has_content_output invocation.command invocation.options) → IsTrue (is_finished outputs.content))
+    (IsTrue (has_text_output invocation) → IsTrue (is_finished outputs.text))
+    × (IsTrue (has_content_output invocation) → IsTrue (is_finished outputs.content))
 
 -- the devices that it has no option for are as they were
-pub record AreUntouched {D E : Type 0} (invocation : SeenInvocation) (old_inputs new_inputs : Inputs D) (old_outputs new_outputs : Outputs E) : Type 0 where
+pub record AreUntouched {D E : Type 0} (invocation : InvocationView) (old_inputs new_inputs : Inputs D) (old_outputs new_outputs : Outputs E) : Type 0 where
   pub text : has_text_input invocation.command ≡ false → new_inputs.text ≡ old_inputs.text
   pub content : has_content_input invocation.command ≡ false → new_inputs.content ≡ old_inputs.content
   pub keys : has_keys_input invocation.command ≡ false → new_inputs.keys ≡ old_inputs.keys
   pub random : has_random_input invocation.command ≡ false → new_inputs.random ≡ old_inputs.random
-  pub text_out : has_text_output invocation.command ≡ false → new_outputs.text ≡ old_outputs.text
-  pub content_out : has_content_output invocation.command invocation.options ≡ false → new_outputs.content ≡ old_outputs.content
+  pub text_out : has_text_output invocation ≡ false → new_outputs.text ≡ old_outputs.text
+  pub content_out : has_content_output invocation ≡ false → new_outputs.content ≡ old_outputs.content

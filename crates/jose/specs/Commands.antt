@@ -1,6 +1,6 @@
 -- The commands of the program, in one table: their words, and what each option takes and names.
 use Prim.Native.String.{String}
-use Rattle.std.specs.Prelude.{ℕ, ◌&&◌, Bool, List, [], ◌∷◌, Option, find, codes}
+use Rattle.std.specs.Prelude.{ℕ, ◌==◌, ◌&&◌, Bool, List, [], ◌∷◌, Option, is_some, find, codes}
 use Rattle.std.specs.Str.{byte, bytes_eq}
 use Rattle.clap.specs.Words.{Text}
 use Rattle.jose.specs.declared.command.Command.{Command}
@@ -30,9 +30,6 @@ pub record CommandEntry : Type 0 where
 abbrev pub option : String → String → Takes → Role → OptionEntry
 option letter name takes role = record { letter = byte letter; name = codes name; takes = takes; role = role }
 
-abbrev pub entry : Command → String → String → List OptionEntry → CommandEntry
-entry command noun verb options = record { command = command; noun = codes noun; verb = codes verb; options = options }
-
 -- a default that is written in the table
 abbrev pub else_value : String → Takes
 else_value text = default (codes text)
@@ -49,6 +46,16 @@ jwk_thp_options =
     option "a" "hash" (else_value "S256") Neither ∷
     option "o" "thumbprints" (else_value "-") Output ∷ []
 
+abbrev pub b64_enc_options : List OptionEntry
+b64_enc_options =
+    option "I" "octets" (else_value "-") Input ∷
+    option "o" "text" (else_value "-") Output ∷ []
+
+abbrev pub b64_dec_options : List OptionEntry
+b64_dec_options =
+    option "i" "text" (else_value "-") Input ∷
+    option "O" "octets" (else_value "-") Output ∷ []
+
 abbrev pub jws_sig_options : List OptionEntry
 jws_sig_options =
     option "s" "template" (else_value "{}") Input ∷
@@ -63,18 +70,32 @@ jws_ver_options =
     option "k" "keys" required Input ∷
     option "O" "payload" optional Output ∷ []
 
+abbrev pub options_of : Command → List OptionEntry
+options_of JwkGen = jwk_gen_options
+options_of JwkThp = jwk_thp_options
+options_of B64Enc = b64_enc_options
+options_of B64Dec = b64_dec_options
+options_of JwsSig = jws_sig_options
+options_of JwsVer = jws_ver_options
+
+abbrev pub entry : Command → String → String → CommandEntry
+entry command noun verb = record { command = command; noun = codes noun; verb = codes verb; options = options_of command }
+
 unfoldable pub commands : List CommandEntry
 commands =
-    entry JwkGen "jwk" "gen" jwk_gen_options ∷
-    entry JwkThp "jwk" "thp" jwk_thp_options ∷
-    entry B64Enc "b64" "enc" (
-    option "I" "octets" (else_value "-") Input ∷
-    option "o" "text" (else_value "-") Output ∷ []) ∷
-    entry B64Dec "b64" "dec" (
-    option "i" "text" (else_value "-") Input ∷
-    option "O" "octets" (else_value "-") Output ∷ []) ∷
-    entry JwsSig "jws" "sig" jws_sig_options ∷
-    entry JwsVer "jws" "ver" jws_ver_options ∷ []
+    entry JwkGen "jwk" "gen" ∷
+    entry JwkThp "jwk" "thp" ∷
+    entry B64Enc "b64" "enc" ∷
+    entry B64Dec "b64" "dec" ∷
+    entry JwsSig "jws" "sig" ∷
+    entry JwsVer "jws" "ver" ∷ []
+
+-- the option of a command with this letter
+abbrev pub option_at : String → Command → Option OptionEntry
+option_at letter command = find (λ entry. entry.letter == byte letter) (options_of command)
+
+abbrev pub has_option : String → Command → Bool
+has_option letter command = is_some (option_at letter command)
 
 abbrev pub has_words : Text → Text → CommandEntry → Bool
 has_words noun verb entry = bytes_eq entry.noun noun && bytes_eq entry.verb verb

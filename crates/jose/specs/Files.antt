@@ -6,16 +6,17 @@ use Rattle.std.specs.Str.{byte, bytes_eq}
 use Rattle.clap.specs.Words.{Text}
 use Rattle.octets.specs.declared.streams.ReaderInput.{ReaderInput}
 use Rattle.octets.specs.declared.streams.WriterOutput.{WriterOutput}
-use Rattle.octets.specs.Streams.{reader_of, consumed_of, is_at_end_of, remaining_of, read_failures_of, writer_of, written_of, is_finished_of, write_failures_of}
+use Rattle.octets.specs.Devices.{most_octets}
+use Rattle.octets.specs.Views.{reader_of, consumed_of, is_at_end_of, remaining_of, read_failures_of, writer_of, written_of, is_finished_of, write_failures_of}
 use Rattle.jose.specs.declared.command.Command.{Command}
-use Rattle.jose.specs.declared.command.Command.TheVariants.{JwkGen, B64Dec}
+use Rattle.jose.specs.declared.command.Command.TheVariants.{B64Dec}
 use Rattle.jose.specs.declared.files.Source.{Source}
 use Rattle.jose.specs.declared.files.Source.TheVariants as source
 use Rattle.jose.specs.declared.files.Sink.{Sink}
 use Rattle.jose.specs.declared.files.Sink.TheVariants as sink
 use Rattle.jose.specs.declared.ports.Inputs.{Inputs}
 use Rattle.jose.specs.declared.ports.Outputs.{Outputs}
-use Rattle.jose.specs.Invocations.{SeenInvocation, value_at}
+use Rattle.jose.specs.Invocations.{InvocationView, value_at}
 
 -- ---- sources
 
@@ -66,9 +67,8 @@ text_may_be_json B64Dec = false
 text_may_be_json other = true
 
 -- the file of random octets where `-R` names none
-abbrev pub random_default : Command → Option Text
-random_default JwkGen = Some (codes "/dev/urandom")
-random_default other = None
+abbrev pub system_random : Text
+system_random = codes "/dev/urandom"
 
 -- ---- sinks
 
@@ -111,7 +111,7 @@ pub record IsNewInput {R F D : Type 0} (origin : Origin) (device : ReaderInput (
   pub unopened : IsUnopenedSource (reader_of device)
   pub consumed : consumed_of device ≡ []
   pub begins : is_at_end_of device ≡ false
-  pub remaining : remaining_of device ≡ at_most (2 ^ 62)
+  pub remaining : remaining_of device ≡ at_most most_octets
   pub failures : read_failures_of device ≡ 0
 
 -- an output over the sink that this is, to which nothing was written
@@ -123,13 +123,13 @@ pub record IsNewOutput {R F D : Type 0} (destination : Destination) (device : Wr
   pub failures : write_failures_of device ≡ 0
 
 -- each input is the one that its option names, the text that of `-i` or else `-s`, and the random one that of `-R` or else `/dev/urandom`
-pub record AreNewInputs {R F D : Type 0} (invocation : SeenInvocation) (inputs : Inputs (ReaderInput (Source R F D))) : Type 0 where
+pub record AreNewInputs {R F D : Type 0} (invocation : InvocationView) (inputs : Inputs (ReaderInput (Source R F D))) : Type 0 where
   pub text : IsNewInput (origin_named (text_may_be_json invocation.command) (option_or (value_at (byte "i") invocation.options) (value_at (byte "s") invocation.options))) inputs.text
   pub content : IsNewInput (origin_named false (value_at (byte "I") invocation.options)) inputs.content
   pub keys : IsNewInput (origin_named true (value_at (byte "k") invocation.options)) inputs.keys
-  pub random : IsNewInput (origin_named false (option_or (value_at (byte "R") invocation.options) (random_default invocation.command))) inputs.random
+  pub random : IsNewInput (origin_named false (option_or (value_at (byte "R") invocation.options) (Some system_random))) inputs.random
 
 -- each output is the one that its option names
-pub record AreNewOutputs {R F D : Type 0} (invocation : SeenInvocation) (outputs : Outputs (WriterOutput (Sink R F D))) : Type 0 where
+pub record AreNewOutputs {R F D : Type 0} (invocation : InvocationView) (outputs : Outputs (WriterOutput (Sink R F D))) : Type 0 where
   pub text : IsNewOutput (destination_named (value_at (byte "o") invocation.options)) outputs.text
   pub content : IsNewOutput (destination_named (value_at (byte "O") invocation.options)) outputs.content

@@ -13,15 +13,15 @@ use Rattle.jose.specs.declared.invocation.Invocation.{Invocation}
 abbrev pub Settings : Type 0
 Settings = List (ℕ × Text)
 
-pub record SeenInvocation : Type 0 where
+pub record InvocationView : Type 0 where
   pub command : Command
   pub options : Settings
 
-abbrev pub settings_seen : List Setting → Settings
-settings_seen = map (λ setting. (setting.letter, string_bytes setting.value))
+abbrev pub settings_view : List Setting → Settings
+settings_view = map (λ setting. (setting.letter, string_bytes setting.value))
 
-abbrev pub seen : Invocation → SeenInvocation
-seen invocation = record { command = invocation.command; options = settings_seen invocation.options.items }
+abbrev pub invocation_view : Invocation → InvocationView
+invocation_view invocation = record { command = invocation.command; options = settings_view invocation.options.items }
 
 -- the value of the option with this letter
 abbrev pub value_at : ℕ → Settings → Option Text

@@ -7,6 +7,6 @@ pub mod Reports
 pub mod Jws
 pub mod Ports
 pub mod Jwk
-pub mod Encoding
+pub mod Meanings
 pub mod Answer
 pub mod Files

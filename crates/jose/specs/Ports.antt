@@ -1,7 +1,8 @@
 -- The devices of a run, each by the option that names it, and what a run read from them and wrote to them.
-use Rattle.std.specs.Prelude.{◌≡◌, ◌⊎◌, ℕ, Bool, List, []}
+use Rattle.std.specs.Prelude.{ℕ, Bool, List, [], ◌∷◌}
 use Rattle.std.specs.Iterator.{Count, IsFinite}
-use Rattle.octets.specs.Devices.{Observed, observed, appended, AppendsPrefixOf, IsPossibleInput, Rose}
+use Rattle.octets.specs.Devices.{Observed, observed, appended, AppendsPrefixOf, IsPossibleInput}
+use Rattle.octets.specs.Faults.{Counts, counts}
 use Rattle.jose.specs.declared.ports.Inputs.{Inputs}
 use Rattle.jose.specs.declared.ports.Outputs.{Outputs}
 
@@ -32,14 +33,14 @@ as_content octets = record { text = []; content = octets }
 
 -- ---- what a run read
 
-pub record SeenInputs : Type 0 where
+pub record ObservedInputs : Type 0 where
   pub text : Observed
   pub content : Observed
   pub keys : Observed
   pub random : Observed
 
-abbrev pub seen_inputs : {D : Type 0} → (D → List ℕ) → (D → Bool) → Inputs D → Inputs D → SeenInputs
-seen_inputs consumed is_at_end old new = record {
+abbrev pub observed_inputs : {D : Type 0} → (D → List ℕ) → (D → Bool) → Inputs D → Inputs D → ObservedInputs
+observed_inputs consumed is_at_end old new = record {
   text = observed consumed is_at_end old.text new.text;
   content = observed consumed is_at_end old.content new.content;
   keys = observed consumed is_at_end old.keys new.keys;
@@ -47,7 +48,7 @@ seen_inputs consumed is_at_end old new = record {
 }
 
 -- the whole inputs may be these
-pub record ArePossibleInputs (seen : SeenInputs) (inputs : InputTexts) : Type 0 where
+pub record ArePossibleInputs (seen : ObservedInputs) (inputs : InputTexts) : Type 0 where
   pub text : IsPossibleInput seen.text inputs.text
   pub content : IsPossibleInput seen.content inputs.content
   pub keys : IsPossibleInput seen.keys inputs.keys
@@ -74,19 +75,10 @@ pub record AppendPrefixesOf {D : Type 0} (written : D → List ℕ) (texts : Out
 
 -- ---- failures
 
-abbrev pub AnInputFailed : {D : Type 0} → (D → ℕ) → Inputs D → Inputs D → Type 0
-AnInputFailed failures old new =
-    Rose (failures old.text) (failures new.text) ⊎ (Rose (failures old.content) (failures new.content)
-    ⊎ (Rose (failures old.keys) (failures new.keys) ⊎ Rose (failures old.random) (failures new.random)))
+-- the counts of the inputs, and of the outputs
+abbrev pub input_counts : {D : Type 0} → (D → ℕ) → Inputs D → Inputs D → List Counts
+input_counts failures old new =
+    counts failures old.text new.text ∷ counts failures old.content new.content ∷ counts failures old.keys new.keys ∷ counts failures old.random new.random ∷ []
 
-abbrev pub AnOutputFailed : {D : Type 0} → (D → ℕ) → Outputs D → Outputs D → Type 0
-AnOutputFailed failures old new = Rose (failures old.text) (failures new.text) ⊎ Rose (failures old.content) (failures new.content)
-
--- no count of failures has changed
-pub record NoneFailed {D E : Type 0} (input_failures : D → ℕ) (old_inputs new_inputs : Inputs D) (output_failures : E → ℕ) (old_outputs new_outputs : Outputs E) : Type 0 where
-  pub text : input_failures new_inputs.text ≡ input_failures old_inputs.text
-  pub content : input_failures new_inputs.content ≡ input_failures old_inputs.content
-  pub keys : input_failures new_inputs.keys ≡ input_failures old_inputs.keys
-  pub random : input_failures new_inputs.random ≡ input_failures old_inputs.random
-  pub text_out : output_failures new_outputs.text ≡ output_failures old_outputs.text
-  pub content_out : output_failures new_outputs.content ≡ output_failures old_outputs.content
+abbrev pub output_counts : {D : Type 0} → (D → ℕ) → Outputs D → Outputs D → List Counts
+output_counts failures old new = counts failures old.text new.text ∷ counts failures old.content new.content ∷ []

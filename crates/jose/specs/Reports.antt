@@ -1,5 +1,6 @@
 -- What the program says last.
 use Rattle.std.specs.Prelude.{ℕ, List, [], ◌∷◌, ◌++◌, codes, Result, Ok, Err}
+use Rattle.std.specs.Str.{byte}
 use Rattle.octets.specs.declared.refusal.Refusal.{Refusal}
 use Rattle.octets.specs.Refusals.{refusal_text}
 
@@ -9,4 +10,4 @@ status_of (Err refusal) = 1
 
 -- the program's name, the refusal's number and name, and a line feed
 abbrev pub report_line : Refusal → List ℕ
-report_line refusal = codes "jose: " ++ refusal_text refusal ++ 10 ∷ []
+report_line refusal = codes "jose: " ++ refusal_text refusal ++ byte "\n" ∷ []

@@ -11,7 +11,7 @@ use Rattle.jose.specs.declared.command.Command.TheVariants.{JwkThp, JwsSig}
 use Rattle.jose.specs.declared.command.Role.{Role}
 use Rattle.jose.specs.declared.command.Role.TheVariants.{Input, Output, Neither}
 use Rattle.jose.specs.Commands.{OptionEntry, command_named}
-use Rattle.jose.specs.Invocations.{SeenInvocation, Settings, value_at, hash_asked}
+use Rattle.jose.specs.Invocations.{InvocationView, Settings, value_at, hash_asked}
 use Rattle.jose.specs.Reading.{settings_read}
 
 -- ---- standard input and output
@@ -42,7 +42,7 @@ is_served command settings = true
 
 -- Two words pick the command, and the others are its options. At most one input is standard input,
 -- and at most one output is standard output.
-unfoldable pub invocation_of : List Text → Result SeenInvocation Refusal
+unfoldable pub invocation_of : List Text → Result InvocationView Refusal
 invocation_of (noun ∷ (verb ∷ words)) = do
   entry ← ok_or (command_named noun verb) Usage
   settings ← settings_read entry.options words

@@ -1,12 +1,12 @@
 //! Files, the standard streams and the words themselves, as readers and writers. A file is opened at
 //! its first read; an output file is opened, and cut to nothing, just before its first octet is
 //! written, or when it is finished with none.
-ghost use Rattle.std.specs.Prelude.{◌≡◌, ℕ, ◌++◌, List, length, take, drop, min, option_map, OnOk};
+ghost use Rattle.std.specs.Prelude.{◌≡◌, ℕ, ◌<◌, ◌++◌, List, length, take, drop, min, option_map, OnOk, Ok};
 ghost use Rattle.std.specs.Result.{result_unwrap_or};
 ghost use Rattle.std.specs.Io.{ReadsAtMost, WritesAtMost};
 ghost use Rattle.std.specs.Io.KnownBytes.{Keeps, ReadConsumes, WriteAppends};
-ghost use Rattle.jose.specs.Invocations.{seen};
-ghost use Rattle.jose.specs.Files.{words, origin_of, origin_named, random_default, after_read, source_remaining, IsOpenSource, IsUnopenedSource, AreNewInputs};
+ghost use Rattle.jose.specs.Invocations.{invocation_view};
+ghost use Rattle.jose.specs.Files.{words, origin_of, origin_named, after_read, source_remaining, IsOpenSource, IsUnopenedSource, AreNewInputs};
 ghost use Rattle.jose.specs.Files.{nowhere, destination_of, destination_named, sink_contents, IsOpenSink, IsUnopenedSink, AreNewOutputs};
 
 use crate::command::Command;
@@ -17,6 +17,9 @@ use std::fs::File;
 use std::io;
 use std::io::{Read, Stdin, Stdout, Write};
 use std::rt::Files;
+
+/// The file of random octets where `-R` names none.
+const SYSTEM_RANDOM: &str = "/dev/urandom";
 
 /// Where the octets of an input come from.
 #[derive(Drop)]
@@ -41,13 +44,17 @@ impl<'a, R: Files> Read for Source<'a, R> {
             × (buf.new ≡ take (length buf.old) octets ++ drop (length octets) buf.old) }
         ensures source { origin_of self.new
             ≡ after_read (result_unwrap_or result 0) (origin_of self.old) }
-        ensures opened { OnOk result (IsOpenSource self.new) }
+        ensures opened { 0 < length buf.old → OnOk result (IsOpenSource self.new) }
+        ensures no_room { length buf.old ≡ 0 → (result ≡ Ok 0) × (self.new ≡ self.old) }
 
         // What the trait says.
         ensures bound { ReadsAtMost result buf.new }
         ensures bytes { ReadConsumes (source_remaining R.File.remaining self.old)
             (source_remaining R.File.remaining self.new) result buf.new }
     {
+        if buf.is_empty() {
+            return Ok(0);
+        }
         match self {
             Source::Words(octets) => octets.read(buf),
             Source::Standard(stdin) => stdin.read(buf),
@@ -87,13 +94,17 @@ impl<'a, R: Files> Write for Sink<'a, R> {
     fn write(&mut self, octets: &[u8]) -> io::Result<usize>
         ensures nowhere { destination_of self.old ≡ nowhere → result ≡ Ok (length octets.now) }
         ensures sink { destination_of self.new ≡ destination_of self.old }
-        ensures opened { OnOk result (IsOpenSink self.new) }
+        ensures opened { 0 < length octets.now → OnOk result (IsOpenSink self.new) }
+        ensures nothing { length octets.now ≡ 0 → (result ≡ Ok 0) × (self.new ≡ self.old) }
 
         // What the trait says.
         ensures bound { WritesAtMost result octets.now }
         ensures bytes { WriteAppends (sink_contents R.File.contents self.old)
             (sink_contents R.File.contents self.new) result octets.now }
     {
+        if octets.is_empty() {
+            return Ok(0);
+        }
         match self {
             Sink::Nowhere => Ok(octets.len()),
             Sink::Standard(stdout) => stdout.write(octets),
@@ -143,32 +154,22 @@ impl<'a, R: Files> Write for Sink<'a, R> {
 }
 
 /// The inputs that the options name. JSON may stand in the words for `-i`, `-s` and `-k`, but for the
-/// text of `b64 dec`. Where `-R` may be given and is not, random octets are those of the system.
+/// text of `b64 dec`. Where `-R` is not given random octets are those of the system.
 pub(crate) fn inputs<'a, R: Files>(
     files: &'a R,
     standard: Stdin,
     invocation: &'a Invocation,
 ) -> Inputs<ReaderInput<Source<'a, R>>>
-    ensures { AreNewInputs (seen invocation.now) result }
+    ensures { AreNewInputs (invocation_view invocation.now) result }
 {
     let text = invocation.value('i').or(invocation.value('s'));
     let may_be_json = invocation.command != Command::B64Dec;
-    let random = invocation.value('R').or(random_default(invocation.command));
+    let random = invocation.value('R').or(Some(SYSTEM_RANDOM));
     Inputs {
         text: ReaderInput::new(source_of(files, standard, text, may_be_json)),
         content: ReaderInput::new(source_of(files, standard, invocation.value('I'), false)),
         keys: ReaderInput::new(source_of(files, standard, invocation.value('k'), true)),
         random: ReaderInput::new(source_of(files, standard, random, false)),
-    }
-}
-
-/// The file of random octets where `-R` names none.
-fn random_default(command: Command) -> Option<&'static str>
-    ensures { option_map (λ path. path.now) result ≡ random_default command }
-{
-    match command {
-        Command::JwkGen => Some("/dev/urandom"),
-        _ => None,
     }
 }
 
@@ -200,7 +201,7 @@ pub(crate) fn outputs<'a, R: Files>(
     standard: Stdout,
     invocation: &'a Invocation,
 ) -> Outputs<WriterOutput<Sink<'a, R>>>
-    ensures { AreNewOutputs (seen invocation.now) result }
+    ensures { AreNewOutputs (invocation_view invocation.now) result }
 {
     Outputs {
         text: WriterOutput::new(sink_of(files, standard, invocation.value('o'))),

@@ -1,6 +1,6 @@
 //! What the program was asked to do: a command, and the options that were given or have a default.
 ghost use Rattle.std.specs.Prelude.{◌≡◌, ◌==◌, find, is_some, option_map};
-ghost use Rattle.jose.specs.Invocations.{seen, value_at, hash_asked, hash_named};
+ghost use Rattle.jose.specs.Invocations.{invocation_view, value_at, hash_asked, hash_named};
 
 use crate::Command;
 use prf::HashAlg;
@@ -23,21 +23,21 @@ impl Invocation {
     /// The value of the option, where it was given or has a default.
     #[tactic(auto, using(crate::proofs::Settings::value_found))]
     pub fn value(&self, letter: char) -> Option<&str>
-        ensures { option_map (λ s. s.now) result ≡ value_at letter (seen self.now).options }
+        ensures { option_map (λ s. s.now) result ≡ value_at letter (invocation_view self.now).options }
     {
         Some(self.setting(letter)?.value.as_str())
     }
 
     /// Whether the option was given or has a default.
     pub fn has(&self, letter: char) -> bool
-        ensures { result ≡ is_some (value_at letter (seen self.now).options) }
+        ensures { result ≡ is_some (value_at letter (invocation_view self.now).options) }
     {
         self.value(letter).is_some()
     }
 
     /// The hash that `-a` names, where it names one.
     pub fn hash(&self) -> Option<HashAlg>
-        ensures { result ≡ hash_asked (seen self.now).options }
+        ensures { result ≡ hash_asked (invocation_view self.now).options }
     {
         hash_named(self.value('a')?)
     }

@@ -26,13 +26,13 @@ const MANY: &str =
 fn writes<R: Abort + AllocGlobal>(
     rt: &R,
     words: &[&str],
-    text: &'static str,
-    random: &'static str,
+    text: &str,
+    random: &str,
     answer: Result<&str, Refusal>,
 ) -> Result<(), Fail> {
     let given = Given {
         text,
-        content: "",
+        content: b"",
         keys: "",
         random,
     };
@@ -54,9 +54,21 @@ fn a_key_is_made_by_its_template(rt: HostRuntime) -> Result<(), Fail> {
                 "{\"alg\":\"A128KW\",\"k\":\"AAECAwQFBgcICQoLDA0ODw\",\"kty\":\"oct\",\"use\":\"enc\"}",
             ),
         ),
+        // Octets that are not there, and no size.
         ("{\"bytes\":17}", Err(Refusal::Random)),
         ("{}", Err(Refusal::NoAlgorithm)),
+        ("{\"alg\":\"dir\"}", Err(Refusal::NoAlgorithm)),
+        // Sizes that do not fit, an unknown algorithm, and too many octets.
+        (
+            "{\"alg\":\"HS256\",\"bytes\":16}",
+            Err(Refusal::KeyDoesNotFit),
+        ),
+        ("{\"alg\":\"RS256\"}", Err(Refusal::Unsupported)),
+        ("{\"bytes\":4097}", Err(Refusal::Limit)),
+        // Templates that are none.
         ("{\"bytes\":0}", Err(Refusal::Key)),
+        ("{\"k\":\"AA\"}", Err(Refusal::Key)),
+        ("{\"kty\":\"EC\"}", Err(Refusal::Key)),
     ] {
         writes(&rt, &["jwk", "gen", "-i", "t"], template, random, answer)?;
     }

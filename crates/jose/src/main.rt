@@ -5,12 +5,10 @@
 //! (`files`), and `run` does what is asked from devices to devices. `report` tells a refusal.
 #![tactic(auto)]
 
-mod b64;
 mod command;
+mod commands;
 mod files;
 mod invocation;
-mod jwk;
-mod jws;
 mod ports;
 mod reading;
 mod reports;
@@ -51,5 +49,7 @@ fn main(rt: HostRuntime) -> ExitCode {
 
 #[cfg(test)]
 mod jwk_tests;
+#[cfg(test)]
+mod long_tests;
 #[cfg(test)]
 mod tests;

@@ -5,7 +5,7 @@ ghost use Rattle.clap.specs.Words.{app_of, rule_of, found_of, rows_of, kind_of, 
 ghost use Rattle.octets.specs.Outcomes.{AgreesUnlessMemory};
 ghost use Rattle.jose.specs.Rows.{option_entry, takes_of};
 ghost use Rattle.jose.specs.Reading.{rule_for, app_for, value_given, setting_before, settings_of, settings_read, IsRefusalFor};
-ghost use Rattle.jose.specs.Invocations.{settings_seen};
+ghost use Rattle.jose.specs.Invocations.{settings_view};
 
 use crate::Setting;
 use crate::command::{Kind, OptionRow};
@@ -21,7 +21,7 @@ pub(crate) fn read_options(
     words: &[String],
 ) -> Result<Vec<Setting>, Refusal>
     requires { is_simple_and_free (app_for (map option_entry options.now)) ≡ true }
-    ensures { AgreesUnlessMemory (λ settings. settings_seen settings.items) result
+    ensures { AgreesUnlessMemory (λ settings. settings_view settings.items) result
         (settings_read (map option_entry options.now) (map string_bytes words.now)) }
 {
     let command = command_of(alloc, options)?;
@@ -74,7 +74,7 @@ fn settings(
     options: &[OptionRow],
     matches: &ArgMatches<'_>,
 ) -> Result<Vec<Setting>, AllocError>
-    ensures { IfOk result (λ settings. settings_seen settings.items
+    ensures { IfOk result (λ settings. settings_view settings.items
         ≡ settings_of (map option_entry options.now) (rows_of (found_of matches.now))) }
 {
     let mut settings = Vec::new(alloc);
@@ -92,7 +92,7 @@ fn add_setting(
     value: Option<&str>,
     settings: &mut Vec<Setting>,
 ) -> Result<(), AllocError>
-    ensures { OnOk result (settings_seen settings.new.items ≡ settings_seen settings.old.items
+    ensures { OnOk result (settings_view settings.new.items ≡ settings_view settings.old.items
         ++ setting_before letter (option_map (λ s. s.now) value.entry) []) }
 {
     if let Some(text) = value {

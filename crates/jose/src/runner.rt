@@ -1,14 +1,15 @@
 //! The one entry point of all commands.
-ghost use Rattle.std.specs.Prelude.{OnOk, OnErr, IfErr, IsErrOf};
+ghost use Rattle.std.specs.Prelude.{OnOk, OnErr, IfErr};
 ghost use Rattle.std.specs.Iterator.{IsFinite};
-ghost use Rattle.jose.specs.Invocations.{seen};
-ghost use Rattle.jose.specs.Ports.{seen_inputs, written_texts, AreFinite, AppendPrefixesOf, NoneFailed, AnInputFailed, AnOutputFailed};
-ghost use Rattle.jose.specs.Answer.{Answers, DrawsAll, DrawsNoMore, AreFinished, AreUntouched, HoldsBack, beginning};
+ghost use Rattle.jose.specs.Invocations.{invocation_view};
+ghost use Rattle.octets.specs.Faults.{TellsFaults};
+ghost use Rattle.jose.specs.Ports.{observed_inputs, written_texts, AreFinite, AppendPrefixesOf, input_counts, output_counts};
+ghost use Rattle.jose.specs.Answer.{Answers, DrawsAll, DrawsNoMore, AreFinished, AreUntouched, AreUncut, AreInOrder, RefusesFirst, HoldsBack, beginning};
 
 use crate::command::Command;
+use crate::commands::{b64, jwk, jws};
 use crate::invocation::Invocation;
 use crate::ports::{Inputs, Outputs};
-use crate::{b64, jwk, jws};
 use octets::{Input, Output, Refusal};
 use std::alloc::Global;
 
@@ -23,24 +24,27 @@ pub fn run<I: Input, O: Output>(
     requires { AreFinite I.remaining inputs.old }
 
     // The outputs, or the refusal, are those of the answer.
-    ensures answer { Answers (seen invocation.now) (seen_inputs I.consumed I.is_at_end inputs.old inputs.new) (written_texts O.written outputs.old outputs.new) result }
+    ensures answer { Answers (invocation_view invocation.now) (observed_inputs I.consumed I.is_at_end inputs.old inputs.new) (written_texts O.written outputs.old outputs.new) result }
 
     // Of the random input exactly what the answer takes is read, and no more before a refusal.
-    ensures drawn { OnOk result (DrawsAll (seen invocation.now) (seen_inputs I.consumed I.is_at_end inputs.old inputs.new)) }
-    ensures at_most { DrawsNoMore (seen invocation.now) (seen_inputs I.consumed I.is_at_end inputs.old inputs.new) }
+    ensures drawn { OnOk result (DrawsAll (invocation_view invocation.now) (observed_inputs I.consumed I.is_at_end inputs.old inputs.new)) }
+    ensures at_most { DrawsNoMore (invocation_view invocation.now) (observed_inputs I.consumed I.is_at_end inputs.old inputs.new) }
 
     // After a refusal each output holds a stated beginning.
-    ensures beginning { OnErr result (AppendPrefixesOf O.written (beginning (seen invocation.now) (seen_inputs I.consumed I.is_at_end inputs.old inputs.new)) outputs.old outputs.new) }
-    ensures held_back { IfErr result (HoldsBack O.written (seen invocation.now) outputs.old outputs.new) }
+    ensures beginning { OnErr result (AppendPrefixesOf O.written (beginning (invocation_view invocation.now) (observed_inputs I.consumed I.is_at_end inputs.old inputs.new)) outputs.old outputs.new) }
+    ensures held_back { IfErr result (HoldsBack (invocation_view invocation.now) outputs.old outputs.new) }
+    ensures uncut { IfErr result (AreUncut O.written outputs.old outputs.new) }
+
+    // Inputs are read one after another, and what comes last only where all before it is accepted.
+    ensures in_order { AreInOrder (invocation_view invocation.now) (observed_inputs I.consumed I.is_at_end inputs.old inputs.new) inputs.old inputs.new }
+    ensures content_last { RefusesFirst (invocation_view invocation.now) (observed_inputs I.consumed I.is_at_end inputs.old inputs.new) inputs.old inputs.new }
 
     // At the end all that was written is where it belongs.
-    ensures finished { OnOk result (AreFinished O.is_finished (seen invocation.now) outputs.new) }
-    ensures untouched { AreUntouched (seen invocation.now) inputs.old inputs.new outputs.old outputs.new }
+    ensures finished { OnOk result (AreFinished O.is_finished (invocation_view invocation.now) outputs.new) }
+    ensures untouched { AreUntouched (invocation_view invocation.now) inputs.old inputs.new outputs.old outputs.new }
 
     // A device that failed in the call is told, and no other is.
-    ensures works { OnOk result (NoneFailed I.failures inputs.old inputs.new O.failures outputs.old outputs.new) }
-    ensures read { IsErrOf result Refusal.Read → AnInputFailed I.failures inputs.old inputs.new }
-    ensures write { IsErrOf result Refusal.Write → AnOutputFailed O.failures outputs.old outputs.new }
+    ensures faults { TellsFaults (input_counts I.failures inputs.old inputs.new) (output_counts O.failures outputs.old outputs.new) result }
 {
     match invocation.command {
         Command::JwkGen => jwk::generate(

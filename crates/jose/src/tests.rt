@@ -8,7 +8,7 @@ use std::process::Abort;
 use std::test::Fail;
 
 /// The key of RFC 7515 appendix A.1, of 64 octets.
-const KEY: &str =
+pub(crate) const KEY: &str =
     "{\"kty\":\"oct\",\"k\":\"AyM1SysPpbyDfgZld3umj1qzKObwVMkoqQ-EstJQLr_T-1qS0gZH75aKtMN3Yj0iPS4hcgUuTwjAzZr1Z9CAow\"}";
 
 /// The token of RFC 7515 appendix A.1.
@@ -30,13 +30,16 @@ const SIGN: [&str; 9] = [
 
 const VERIFY: [&str; 6] = ["jws", "ver", "-k", "keys", "-O", "payload"];
 
+/// How many octets each output takes.
+const ROOM: usize = 100_000;
+
 /// What the inputs hold.
 #[derive(Clone, Copy)]
-pub(crate) struct Given {
-    pub(crate) text: &'static str,
-    pub(crate) content: &'static str,
-    pub(crate) keys: &'static str,
-    pub(crate) random: &'static str,
+pub(crate) struct Given<'a> {
+    pub(crate) text: &'a str,
+    pub(crate) content: &'a [u8],
+    pub(crate) keys: &'a str,
+    pub(crate) random: &'a str,
 }
 
 /// What a call of the program did.
@@ -59,12 +62,12 @@ fn owned(alloc: Global, words: &[&str]) -> Result<Vec<String>, AllocError> {
 pub(crate) fn outcome(
     alloc: Global,
     words: &[&str],
-    given: &Given,
+    given: &Given<'_>,
     step: usize,
-) -> Result<Done, AllocError> {
+) -> Result<Done, Refusal> {
     let mut outputs = Outputs {
-        text: MemoryOutput::new(alloc, 4096)?,
-        content: MemoryOutput::new(alloc, 4096)?,
+        text: MemoryOutput::new(alloc, ROOM)?,
+        content: MemoryOutput::new(alloc, ROOM)?,
     };
     let words = owned(alloc, words)?;
     let result = match parse(alloc, &words) {
@@ -72,7 +75,7 @@ pub(crate) fn outcome(
             let step = step.max(1);
             let mut inputs = Inputs {
                 text: MemoryInput::new(given.text.as_bytes(), step),
-                content: MemoryInput::new(given.content.as_bytes(), step),
+                content: MemoryInput::new(given.content, step),
                 keys: MemoryInput::new(given.keys.as_bytes(), step),
                 random: MemoryInput::new(given.random.as_bytes(), step),
             };
@@ -103,7 +106,7 @@ pub(crate) enum Answer<'a> {
 pub(crate) fn expect<R: Abort + AllocGlobal>(
     rt: &R,
     words: &[&str],
-    given: &Given,
+    given: &Given<'_>,
     answer: Answer<'_>,
 ) -> Result<(), Fail> {
     for step in [4096, 1] {
@@ -147,13 +150,13 @@ fn expect_written<R: Abort>(
 /// Verifying answers this payload, or this refusal and writes nothing.
 fn verifies<R: Abort + AllocGlobal>(
     rt: &R,
-    text: &'static str,
-    keys: &'static str,
+    text: &str,
+    keys: &str,
     answer: Result<&str, Refusal>,
 ) -> Result<(), Fail> {
     let given = Given {
         text,
-        content: "",
+        content: b"",
         keys,
         random: "",
     };
@@ -507,7 +510,7 @@ fn a_payload_is_signed_by_its_template(rt: HostRuntime) -> Result<(), Fail> {
     ] {
         let given = Given {
             text: template,
-            content: "abc",
+            content: b"abc",
             keys,
             random: "",
         };
@@ -517,14 +520,10 @@ fn a_payload_is_signed_by_its_template(rt: HostRuntime) -> Result<(), Fail> {
 }
 
 /// The text becomes these octets, or is refused and nothing is written.
-fn decodes<R: Abort + AllocGlobal>(
-    rt: &R,
-    text: &'static str,
-    answer: Answer<'_>,
-) -> Result<(), Fail> {
+fn decodes<R: Abort + AllocGlobal>(rt: &R, text: &str, answer: Answer<'_>) -> Result<(), Fail> {
     let given = Given {
         text,
-        content: "",
+        content: b"",
         keys: "",
         random: "",
     };
@@ -534,12 +533,12 @@ fn decodes<R: Abort + AllocGlobal>(
 #[test]
 fn octets_become_base64url(rt: HostRuntime) -> Result<(), Fail> {
     for (octets, text) in [
-        ("", ""),
-        ("\0", "AA"),
-        ("\0\0", "AAA"),
-        ("\0\0\0", "AAAA"),
-        ("\u{7f}\u{ff}", "f8O_"),
-        ("foobar\n", "Zm9vYmFyCg"),
+        (b"".as_slice(), ""),
+        (b"\0", "AA"),
+        (b"\0\0", "AAA"),
+        (b"\0\0\0", "AAAA"),
+        (b"\xfb\xff", "-_8"),
+        (b"foobar\n", "Zm9vYmFyCg"),
     ] {
         let given = Given {
             text: "",
@@ -650,7 +649,7 @@ fn a_document_is_signed_and_verified(rt: HostRuntime) -> Result<(), Fail> {
         "eyJhbGciOiJIUzI1NiJ9.d2VydmljZTogd2ViCnJlcGxpY2FzOiAzCmltYWdlOiByZWdpc3RyeS5leGFtcGxlL3dlYjoxNwo.YAvS56FysWyMBCUnPYbT6wRgsVScp2OWvKB2q-f8yiQ";
     let given = Given {
         text: TEMPLATE,
-        content: document,
+        content: document.as_bytes(),
         keys: KEY,
         random: "",
     };
@@ -665,7 +664,7 @@ fn a_document_is_signed_and_verified(rt: HostRuntime) -> Result<(), Fail> {
 fn words_that_are_no_command_are_told(rt: HostRuntime) -> Result<(), Fail> {
     let nothing = Given {
         text: "",
-        content: "",
+        content: b"",
         keys: "",
         random: "",
     };
@@ -690,13 +689,13 @@ fn works<R: Abort + AllocGlobal>(rt: &R, before: usize, may_be_refused: bool) {
     }
     let signing = Given {
         text: TEMPLATE,
-        content: "abc",
+        content: b"abc",
         keys: KEY,
         random: "",
     };
     let verifying = Given {
         text: ABC,
-        content: "",
+        content: b"",
         keys: KEY,
         random: "",
     };
@@ -710,7 +709,7 @@ fn works<R: Abort + AllocGlobal>(rt: &R, before: usize, may_be_refused: bool) {
 fn makes_and_names<R: Abort + AllocGlobal>(rt: &R, may_be_refused: bool) {
     let making = Given {
         text: "{\"alg\":\"A128KW\"}",
-        content: "",
+        content: b"",
         keys: "",
         random: "0123456789abcdef",
     };
@@ -718,7 +717,7 @@ fn makes_and_names<R: Abort + AllocGlobal>(rt: &R, may_be_refused: bool) {
         "{\"alg\":\"A128KW\",\"k\":\"MDEyMzQ1Njc4OWFiY2RlZg\",\"key_ops\":[\"wrapKey\",\"unwrapKey\"],\"kty\":\"oct\"}";
     let naming = Given {
         text: "{\"keys\":[{\"kty\":\"oct\",\"k\":\"MDEyMzQ1Njc4OWFiY2RlZg\"},{\"kty\":\"EC\"}]}",
-        content: "",
+        content: b"",
         keys: "",
         random: "",
     };
@@ -736,7 +735,7 @@ fn makes_and_names<R: Abort + AllocGlobal>(rt: &R, may_be_refused: bool) {
 
 fn answers<R: Abort>(
     rt: &R,
-    done: Result<Done, AllocError>,
+    done: Result<Done, Refusal>,
     text: &str,
     content: &str,
     may_be_refused: bool,
@@ -751,7 +750,7 @@ fn answers<R: Abort>(
             assert_eq!(rt; done.text.octets(), text.as_bytes());
             assert_eq!(rt; done.content.octets(), content.as_bytes());
         }
-        Err(AllocError) => assert!(rt; may_be_refused),
+        Err(refusal) => assert!(rt; may_be_refused && refusal == Refusal::Memory),
     }
 }
 

@@ -2,7 +2,7 @@
 ghost use Rattle.std.specs.Prelude.{◌≡◌, map, string_bytes};
 ghost use Rattle.octets.specs.Outcomes.{AgreesUnlessMemory};
 ghost use Rattle.jose.specs.Rows.{option_entry};
-ghost use Rattle.jose.specs.Invocations.{seen};
+ghost use Rattle.jose.specs.Invocations.{invocation_view};
 ghost use Rattle.jose.specs.Words.{invocation_of, standard_count, names_standard, is_served as served};
 
 use crate::Invocation;
@@ -15,7 +15,7 @@ use std::alloc::Global;
 /// `clap` refuses the rest, and where two inputs or two outputs would be the same standard stream.
 #[tactic(auto, unfolding(crate::specs::Words::invocation_of))]
 pub fn parse(alloc: Global, words: &[String]) -> Result<Invocation, Refusal>
-    ensures { AgreesUnlessMemory seen result (invocation_of (map string_bytes words.now)) }
+    ensures { AgreesUnlessMemory invocation_view result (invocation_of (map string_bytes words.now)) }
 {
     let [noun, verb, rest @ ..] = words else {
         return Err(Refusal::Usage);
@@ -36,7 +36,7 @@ pub fn parse(alloc: Global, words: &[String]) -> Result<Invocation, Refusal>
 /// How many options of this role name the standard stream.
 fn count_standard(options: &[OptionRow], role: Role, invocation: &Invocation) -> usize
     ensures { result
-        ≡ standard_count role (map option_entry options.now) (seen invocation.now).options }
+        ≡ standard_count role (map option_entry options.now) (invocation_view invocation.now).options }
 {
     options
         .iter()
@@ -45,7 +45,7 @@ fn count_standard(options: &[OptionRow], role: Role, invocation: &Invocation) ->
 }
 
 fn is_standard(option: &OptionRow, role: Role, invocation: &Invocation) -> bool
-    ensures { result ≡ names_standard role (seen invocation.now).options (option_entry option.now) }
+    ensures { result ≡ names_standard role (invocation_view invocation.now).options (option_entry option.now) }
 {
     let OptionRow(letter, _, _, of) = *option;
     of == role && invocation.value(letter) == Some("-")
@@ -53,7 +53,7 @@ fn is_standard(option: &OptionRow, role: Role, invocation: &Invocation) -> bool
 
 /// Of `jwk thp` the four hashes are served, and of `jws sig` the compact form. Its form in JSON comes later.
 fn is_served(invocation: &Invocation) -> bool
-    ensures { result ≡ served invocation.now.command (seen invocation.now).options }
+    ensures { result ≡ served invocation.now.command (invocation_view invocation.now).options }
 {
     match invocation.command {
         Command::JwkThp => invocation.hash().is_some(),

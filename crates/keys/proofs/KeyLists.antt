@@ -5,7 +5,9 @@ use Rattle.serde_json.specs.View.{view, items_view}
 use Rattle.serde_json.specs.declared.value.Value.{Value}
 use Rattle.octets.specs.declared.refusal.Refusal.{Refusal}
 use Rattle.keys.specs.declared.key.Key.{Key}
-use Rattle.keys.specs.Keys.{OctetKey, key_view, octet_key}
+use Rattle.keys.specs.Keys.{OctetKey, octet_key}
+use Rattle.keys.specs.Views.{key_view}
+use Rattle.keys.specs.Limits.{limits}
 use Rattle.keys.specs.KeySets.{before, unless_bad, octet_keys, items_count}
 
 -- the keys so far stand before those that are left
@@ -15,30 +17,30 @@ after done (Err refusal) = Err refusal
 
 -- the keys so far, and those of the objects that are left
 abbrev pub keys_with : Bool → List Key → List Value → Result (List OctetKey) Refusal
-keys_with strict done left = after (map key_view done) (octet_keys strict (items_view left))
+keys_with strict done left = after (map key_view done) (octet_keys limits strict (items_view left))
 
 unchanged : (r : Result (List OctetKey) Refusal) → after [] r ≡ r
 unchanged (Ok keys) = refl
 unchanged (Err refusal) = refl
 
-pub keys_with-none : (strict : Bool) (left : List Value) → octet_keys strict (items_view left) ≡ keys_with strict [] left
-keys_with-none strict left = sym (unchanged (octet_keys strict (items_view left)))
+pub keys_with-none : (strict : Bool) (left : List Value) → octet_keys limits strict (items_view left) ≡ keys_with strict [] left
+keys_with-none strict left = sym (unchanged (octet_keys limits strict (items_view left)))
 
 one_more : (done : List OctetKey) (key : OctetKey) (r : Result (List OctetKey) Refusal) → after done (before key r) ≡ after (done ++ key ∷ []) r
 one_more done key (Ok keys) = ap Ok (sym (append_assoc done (key ∷ []) keys))
 one_more done key (Err refusal) = refl
 
-pub keys_with-good : (strict : Bool) (done : List Key) (key : Key) (value : Value) (left : List Value) → octet_key (view value) ≡ Ok (key_view key) → keys_with strict done (value ∷ left) ≡ keys_with strict (done ++ key ∷ []) left
+pub keys_with-good : (strict : Bool) (done : List Key) (key : Key) (value : Value) (left : List Value) → octet_key limits (view value) ≡ Ok (key_view key) → keys_with strict done (value ∷ left) ≡ keys_with strict (done ++ key ∷ []) left
 keys_with-good strict done key value left is =
-    ap (λ r. after (map key_view done) (unless_bad strict r (octet_keys strict (items_view left)))) is
-    ∙ one_more (map key_view done) (key_view key) (octet_keys strict (items_view left))
-    ∙ ap (λ front. after front (octet_keys strict (items_view left))) (sym (map-append key_view done (key ∷ [])))
+    ap (λ r. after (map key_view done) (unless_bad strict r (octet_keys limits strict (items_view left)))) is
+    ∙ one_more (map key_view done) (key_view key) (octet_keys limits strict (items_view left))
+    ∙ ap (λ front. after front (octet_keys limits strict (items_view left))) (sym (map-append key_view done (key ∷ [])))
 
-pub keys_with-passed : (done : List Key) (value : Value) (left : List Value) (refusal : Refusal) → octet_key (view value) ≡ Err refusal → keys_with false done (value ∷ left) ≡ keys_with false done left
-keys_with-passed done value left refusal is = ap (λ r. after (map key_view done) (unless_bad false r (octet_keys false (items_view left)))) is
+pub keys_with-passed : (done : List Key) (value : Value) (left : List Value) (refusal : Refusal) → octet_key limits (view value) ≡ Err refusal → keys_with false done (value ∷ left) ≡ keys_with false done left
+keys_with-passed done value left refusal is = ap (λ r. after (map key_view done) (unless_bad false r (octet_keys limits false (items_view left)))) is
 
-pub keys_with-refused : (done : List Key) (value : Value) (left : List Value) (refusal : Refusal) → octet_key (view value) ≡ Err refusal → keys_with true done (value ∷ left) ≡ Err refusal
-keys_with-refused done value left refusal is = ap (λ r. after (map key_view done) (unless_bad true r (octet_keys true (items_view left)))) is
+pub keys_with-refused : (done : List Key) (value : Value) (left : List Value) (refusal : Refusal) → octet_key limits (view value) ≡ Err refusal → keys_with true done (value ∷ left) ≡ Err refusal
+keys_with-refused done value left refusal is = ap (λ r. after (map key_view done) (unless_bad true r (octet_keys limits true (items_view left)))) is
 
 -- the items of a view are as many as the values
 pub items_counted : (values : List Value) → items_count (items_view values) ≡ length values

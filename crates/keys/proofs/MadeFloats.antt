@@ -8,7 +8,8 @@ use Rattle.serde_json.specs.Find.{get_member, as_object}
 use Rattle.serde_json.specs.Written.{has_float, items_have_float, members_have_float}
 use Rattle.octets.specs.declared.refusal.Refusal.TheVariants.{Key}
 use Rattle.keys.proofs.Floats.{neither, neither_of, no_float_put_in, no_float_members_of}
-use Rattle.keys.specs.Generating.{MadeKeyRow, without, string_items, with_operations, completed}
+use Rattle.keys.specs.declared.algorithm.NamedAlg.{NamedAlg}
+use Rattle.keys.specs.Generating.{without, string_items, key_ops_of, with_operations, completed}
 
 without_by : (o : Ordering) (l : List ℕ) (e : Data) (ms less : Members) → has_float e ≡ false → members_have_float ms ≡ false → members_have_float less ≡ false
     → members_have_float (match_ordering o (member l e less) ms (member l e less)) ≡ false
@@ -31,16 +32,16 @@ chosen true q x y h k = h
 chosen false true x y h k = h
 chosen false false x y h k = k
 
-no_float-with_operations : (found : Option MadeKeyRow) (ms : Members) → members_have_float ms ≡ false → members_have_float (with_operations found ms) ≡ false
+no_float-with_operations : (alg : Option NamedAlg) (ms : Members) → members_have_float ms ≡ false → members_have_float (with_operations alg ms) ≡ false
 no_float-with_operations None ms h = h
-no_float-with_operations (Some found) ms h =
+no_float-with_operations (Some alg) ms h =
     chosen (is_some (get_member (codes "key_ops") ms)) (is_some (get_member (codes "use") ms)) ms _ h
-    (no_float_put_in (codes "key_ops") (array (string_items found.key_ops)) ms (no_float-strings found.key_ops) h)
+    (no_float_put_in (codes "key_ops") (array (string_items (key_ops_of alg))) ms (no_float-strings (key_ops_of alg)) h)
 
-pub no_float-completed : (found : Option MadeKeyRow) (ms : Members) → members_have_float ms ≡ false → members_have_float (completed found ms) ≡ false
-no_float-completed found ms h =
+pub no_float-completed : (alg : Option NamedAlg) (ms : Members) → members_have_float ms ≡ false → members_have_float (completed alg ms) ≡ false
+no_float-completed alg ms h =
     let left = without (codes "bytes") ms in
-    no_float_put_in (codes "kty") (string (codes "oct")) (with_operations found left) refl (no_float-with_operations found left (no_float-without (codes "bytes") ms h))
+    no_float_put_in (codes "kty") (string (codes "oct")) (with_operations alg left) refl (no_float-with_operations alg left (no_float-without (codes "bytes") ms h))
 
 found_of : (found : Option Members) (ms : Members) → ok_or found Key ≡ Ok ms → found ≡ Some ms
 found_of None ms is = cc is

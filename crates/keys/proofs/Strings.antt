@@ -7,7 +7,7 @@ use Rattle.std.specs.Str.{bytes_eq}
 use Rattle.serde_json.specs.Find.{as_str}
 use Rattle.serde_json.specs.View.{view, items_view}
 use Rattle.serde_json.specs.declared.value.Value.{Value}
-use Rattle.keys.specs.Json.{strings_of}
+use Rattle.keys.specs.Members.{strings_of}
 
 -- the texts so far, and those of the values that are left
 abbrev pub texts_with : List (String Global) → List Value → Option (List (List ℕ))

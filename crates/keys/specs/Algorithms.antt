@@ -1,6 +1,7 @@
--- The algorithms (RFC 7518 section 3.1, 4.1 and 5.1), their names, and what they ask of a key.
-use Rattle.std.specs.Prelude.{ℕ, ◌==◌, Bool, true, List, [], ◌∷◌, codes, nat_le, Option}
+-- The algorithms (RFC 7518 sections 3.1, 4.1 and 5.1): their names, the lengths of their keys, and the operations that they serve.
+use Rattle.std.specs.Prelude.{ℕ, ◌==◌, Bool, true, List, [], ◌∷◌, codes, nat_le, Option, Some, None, option_map}
 use Rattle.std.specs.List.{find}
+use Rattle.std.specs.Option.{option_or}
 use Rattle.std.specs.Str.{bytes_eq}
 use Rattle.keys.specs.declared.algorithm.SignatureAlg.{SignatureAlg}
 use Rattle.keys.specs.declared.algorithm.SignatureAlg.TheVariants.{Hs256, Hs384, Hs512}
@@ -10,6 +11,12 @@ use Rattle.keys.specs.declared.algorithm.EncryptionAlg.{EncryptionAlg}
 use Rattle.keys.specs.declared.algorithm.EncryptionAlg.TheVariants.{A128CbcHs256, A192CbcHs384, A256CbcHs512, A128Gcm, A192Gcm, A256Gcm}
 use Rattle.keys.specs.declared.algorithm.Algorithm.{Algorithm}
 use Rattle.keys.specs.declared.algorithm.Algorithm.TheVariants.{Signature, Encryption}
+use Rattle.keys.specs.declared.algorithm.NamedAlg.{NamedAlg}
+use Rattle.keys.specs.declared.algorithm.NamedAlg.TheVariants as named
+use Rattle.keys.specs.declared.algorithm.KeyLen.{KeyLen}
+use Rattle.keys.specs.declared.algorithm.KeyLen.TheVariants.{AtLeast, Exactly, Any}
+use Rattle.keys.specs.declared.operation.Operation.{Operation}
+use Rattle.keys.specs.declared.operation.Operation.TheVariants.{Sign, Verify, Encrypt, Decrypt, WrapKey, UnwrapKey, WrapByPassword, UnwrapByPassword}
 
 -- ---- names
 
@@ -57,18 +64,25 @@ management_alg_of name = find (λ alg. bytes_eq name (management_name alg)) mana
 unfoldable pub encryption_alg_of : List ℕ → Option EncryptionAlg
 encryption_alg_of name = find (λ alg. bytes_eq name (encryption_name alg)) encryption_algs
 
--- ---- lengths of keys
+-- what the `alg` of a key names: an algorithm of signatures, of key management, or of content encryption
+unfoldable pub named_alg_of : List ℕ → Option NamedAlg
+named_alg_of name =
+    option_or (option_map named.Signature (signature_alg_of name)) (
+    option_or (option_map named.Management (management_alg_of name)) (
+    option_map named.Encryption (encryption_alg_of name)))
 
--- how long a key may be, in octets
-pub data KeyLen : Type 0 where
-  at_least : ℕ → KeyLen
-  exactly : ℕ → KeyLen
-  any_len : KeyLen
+-- ---- lengths of keys, in octets
 
 abbrev pub has_len : KeyLen → ℕ → Bool
-has_len (at_least n) len = nat_le n len
-has_len (exactly n) len = len == n
-has_len any_len len = true
+has_len (AtLeast n) len = nat_le n len
+has_len (Exactly n) len = len == n
+has_len Any len = true
+
+-- the length of a key where nothing else says it
+abbrev pub usual_len : KeyLen → Option ℕ
+usual_len (AtLeast n) = Some n
+usual_len (Exactly n) = Some n
+usual_len Any = None
 
 -- at least the length of the hash (RFC 7518 section 3.2)
 abbrev pub signature_key_len : SignatureAlg → ℕ
@@ -85,31 +99,47 @@ cek_len A128Gcm = 16
 cek_len A192Gcm = 24
 cek_len A256Gcm = 32
 
--- the key of the wrap (section 4.4); the content encryption key itself (section 4.5); a password (section 4.8)
-abbrev pub management_key_len : ManagementAlg → EncryptionAlg → KeyLen
-management_key_len Dir enc = exactly (cek_len enc)
-management_key_len A128Kw enc = exactly 16
-management_key_len A192Kw enc = exactly 24
-management_key_len A256Kw enc = exactly 32
-management_key_len Pbes2Hs256A128Kw enc = any_len
-management_key_len Pbes2Hs384A192Kw enc = any_len
-management_key_len Pbes2Hs512A256Kw enc = any_len
+-- the key of the wrap (section 4.4), or a password (section 4.8); that of direct encryption is as long as `enc` says
+abbrev pub management_key_len : ManagementAlg → KeyLen
+management_key_len Dir = Any
+management_key_len A128Kw = Exactly 16
+management_key_len A192Kw = Exactly 24
+management_key_len A256Kw = Exactly 32
+management_key_len Pbes2Hs256A128Kw = Any
+management_key_len Pbes2Hs384A192Kw = Any
+management_key_len Pbes2Hs512A256Kw = Any
 
+-- with `enc`, the key of direct encryption is the content encryption key (section 4.5)
 abbrev pub key_len : Algorithm → KeyLen
-key_len (Signature alg) = at_least (signature_key_len alg)
-key_len (Encryption alg enc) = management_key_len alg enc
+key_len (Signature alg) = AtLeast (signature_key_len alg)
+key_len (Encryption Dir enc) = Exactly (cek_len enc)
+key_len (Encryption alg enc) = management_key_len alg
+
+-- the key of an algorithm that is named alone
+abbrev pub named_key_len : NamedAlg → KeyLen
+named_key_len (named.Signature alg) = AtLeast (signature_key_len alg)
+named_key_len (named.Management alg) = management_key_len alg
+named_key_len (named.Encryption enc) = Exactly (cek_len enc)
 
 -- ---- the names that the `alg` of a key may have
 
-abbrev pub management_key_names : ManagementAlg → EncryptionAlg → List (List ℕ)
-management_key_names Dir enc = management_name Dir ∷ encryption_name enc ∷ []
-management_key_names A128Kw enc = management_name A128Kw ∷ []
-management_key_names A192Kw enc = management_name A192Kw ∷ []
-management_key_names A256Kw enc = management_name A256Kw ∷ []
-management_key_names Pbes2Hs256A128Kw enc = management_name Pbes2Hs256A128Kw ∷ []
-management_key_names Pbes2Hs384A192Kw enc = management_name Pbes2Hs384A192Kw ∷ []
-management_key_names Pbes2Hs512A256Kw enc = management_name Pbes2Hs512A256Kw ∷ []
-
 abbrev pub key_names : Algorithm → List (List ℕ)
 key_names (Signature alg) = signature_name alg ∷ []
-key_names (Encryption alg enc) = management_key_names alg enc
+key_names (Encryption Dir enc) = management_name Dir ∷ encryption_name enc ∷ []
+key_names (Encryption alg enc) = management_name alg ∷ []
+
+-- ---- operations: of a sender, and of a receiver
+
+abbrev pub management_operations : ManagementAlg → Operation × Operation
+management_operations Dir = (Encrypt, Decrypt)
+management_operations A128Kw = (WrapKey, UnwrapKey)
+management_operations A192Kw = (WrapKey, UnwrapKey)
+management_operations A256Kw = (WrapKey, UnwrapKey)
+management_operations Pbes2Hs256A128Kw = (WrapByPassword, UnwrapByPassword)
+management_operations Pbes2Hs384A192Kw = (WrapByPassword, UnwrapByPassword)
+management_operations Pbes2Hs512A256Kw = (WrapByPassword, UnwrapByPassword)
+
+abbrev pub operations : NamedAlg → Operation × Operation
+operations (named.Signature alg) = (Sign, Verify)
+operations (named.Management alg) = management_operations alg
+operations (named.Encryption enc) = (Encrypt, Decrypt)

@@ -1,15 +1,15 @@
--- JSON texts (RFC 8259) as `serde_json` reads them, and the members of objects.
-use Rattle.std.specs.Prelude.{◌≡◌, ℕ, ◌&&◌, ◌||◌, Bool, true, false, List, [], ◌∷◌, is_some, if◌then◌else◌, Option, Some, None, option_map, option_and_then, Result, Ok, Err}
-use Rattle.std.specs.List.{list_any}
+-- JSON texts (RFC 8259) as `serde_json` reads them.
+use Rattle.std.specs.Prelude.{◌≡◌, ℕ, ◌&&◌, ◌||◌, Bool, true, false, List, is_some, if◌then◌else◌, Some, Result, Ok, Err}
 use Rattle.std.specs.Option.{ok_or}
-use Rattle.std.specs.Str.{is_utf8, bytes_eq}
+use Rattle.std.specs.Str.{is_utf8}
 use Rattle.serde_json.specs.Data.{Num, Data, null, boolean, number, string, array, object, Items, no_items, item, Members, no_members, member, put}
-use Rattle.serde_json.specs.Find.{get, as_str, as_array, as_object, as_i64, as_u64}
+use Rattle.serde_json.specs.Find.{get, as_object, as_i64, as_u64}
 use Rattle.serde_json.specs.Read.{read}
 use Rattle.serde_json.specs.Written.{has_float, members_have_float}
 use Rattle.octets.specs.declared.refusal.Refusal.{Refusal}
 use Rattle.octets.specs.declared.refusal.Refusal.TheVariants.{Json, Number}
 use Rattle.octets.specs.Outcomes.{◌>>=◌, needs}
+use Rattle.keys.specs.Texts.{is_among}
 
 -- ---- reading
 
@@ -46,48 +46,15 @@ json_value octets = do
   whole ← needs (numbers_are_whole value) Number
   Ok value
 
--- ---- members
+-- ---- objects
 
 abbrev pub is_object : Data → Bool
 is_object value = is_some (as_object value)
 
--- the text of a member that must be there and be a string
-unfoldable pub string_member : Refusal → List ℕ → Data → Result (List ℕ) Refusal
-string_member refusal name value = ok_or (option_and_then as_str (get name value)) refusal
-
-abbrev pub some_string : Refusal → Option (List ℕ) → Result (Option (List ℕ)) Refusal
-some_string refusal None = Err refusal
-some_string refusal (Some text) = Ok (Some text)
-
-abbrev pub string_if_there : Refusal → Option Data → Result (Option (List ℕ)) Refusal
-string_if_there refusal None = Ok None
-string_if_there refusal (Some value) = some_string refusal (as_str value)
-
--- the text of a member that may be absent, and is a string where it is there
-unfoldable pub optional_string_member : Refusal → List ℕ → Data → Result (Option (List ℕ)) Refusal
-optional_string_member refusal name value = string_if_there refusal (get name value)
-
--- the texts of items that are all strings
-abbrev pub strings_of : Items → Option (List (List ℕ))
-strings_of no_items = Some []
-strings_of (item d ds) = option_and_then (λ text. option_map (λ texts. text ∷ texts) (strings_of ds)) (as_str d)
-
-abbrev pub some_strings : Refusal → Option (List (List ℕ)) → Result (Option (List (List ℕ))) Refusal
-some_strings refusal None = Err refusal
-some_strings refusal (Some texts) = Ok (Some texts)
-
-abbrev pub strings_if_there : Refusal → Option Data → Result (Option (List (List ℕ))) Refusal
-strings_if_there refusal None = Ok None
-strings_if_there refusal (Some value) = some_strings refusal (option_and_then strings_of (as_array value))
-
--- the texts of a member that may be absent, and is a list of strings where it is there
-unfoldable pub optional_strings_member : Refusal → List ℕ → Data → Result (Option (List (List ℕ))) Refusal
-optional_strings_member refusal name value = strings_if_there refusal (get name value)
-
 -- each member has one of these names
 abbrev pub members_have_only : List (List ℕ) → Members → Bool
 members_have_only names no_members = true
-members_have_only names (member name value rest) = list_any (λ n. bytes_eq n name) names && members_have_only names rest
+members_have_only names (member name value rest) = is_among names name && members_have_only names rest
 
 abbrev pub has_only : List (List ℕ) → Data → Bool
 has_only names null = true

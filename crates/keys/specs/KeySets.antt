@@ -1,17 +1,13 @@
 -- Keys and sets of keys (RFC 7517 section 5).
-use Rattle.std.specs.Prelude.{ℕ, suc, ◌&&◌, ◌==◌, not, Bool, true, false, List, [], ◌∷◌, length, map, codes, nat_le, if◌then◌else◌, Option, Some, None, Result, Ok, Err}
+use Rattle.std.specs.Prelude.{ℕ, suc, ◌&&◌, ◌==◌, not, Bool, true, false, List, [], ◌∷◌, length, codes, nat_le, if◌then◌else◌, Option, Some, None, Result, Ok, Err}
 use Rattle.serde_json.specs.Data.{Data, Items, no_items, item}
 use Rattle.serde_json.specs.Find.{get, as_array}
 use Rattle.octets.specs.declared.refusal.Refusal.{Refusal}
 use Rattle.octets.specs.declared.refusal.Refusal.TheVariants.{Key, Limit}
 use Rattle.octets.specs.Outcomes.{◌>>=◌, needs}
-use Rattle.keys.specs.declared.set.KeySet as code
 use Rattle.keys.specs.Json.{json_value, is_object}
-use Rattle.keys.specs.Keys.{OctetKey, key_view, octet_key}
-
--- what a `KeySet` of the code holds
-abbrev pub key_set_view : code.KeySet → List OctetKey
-key_set_view set = map key_view set.keys.items
+use Rattle.keys.specs.Limits.{Limits}
+use Rattle.keys.specs.Keys.{OctetKey, octet_key}
 
 -- ---- the objects of a key text
 
@@ -48,21 +44,21 @@ unless_bad true (Err refusal) keys = Err refusal
 unless_bad false (Err refusal) keys = keys
 
 -- the good octet keys of the objects, in order
-abbrev pub octet_keys : Bool → Items → Result (List OctetKey) Refusal
-octet_keys strict no_items = Ok []
-octet_keys strict (item value values) = unless_bad strict (octet_key value) (octet_keys strict values)
+abbrev pub octet_keys : Limits → Bool → Items → Result (List OctetKey) Refusal
+octet_keys limits strict no_items = Ok []
+octet_keys limits strict (item value values) = unless_bad strict (octet_key limits value) (octet_keys limits strict values)
 
 -- the good octet keys of a value, of which there is one at least; with `strict` all its objects are good
-unfoldable pub value_keys : Data → Bool → Result (List OctetKey) Refusal
-value_keys value strict = do
+unfoldable pub value_keys : Limits → Data → Bool → Result (List OctetKey) Refusal
+value_keys limits value strict = do
   objects ← key_objects value
-  few ← needs (nat_le (items_count objects) 64) Limit
-  keys ← octet_keys strict objects
+  few ← needs (nat_le (items_count objects) limits.keys) Limit
+  keys ← octet_keys limits strict objects
   some ← needs (not (length keys == 0)) Key
   Ok keys
 
 -- the keys of a text
-unfoldable pub key_set : List ℕ → Bool → Result (List OctetKey) Refusal
-key_set text strict = do
+unfoldable pub key_set : Limits → List ℕ → Bool → Result (List OctetKey) Refusal
+key_set limits text strict = do
   value ← json_value text
-  value_keys value strict
+  value_keys limits value strict

@@ -1,5 +1,5 @@
 -- Octet keys (RFC 7517 section 4, RFC 7518 section 6.4), what they allow and which algorithms they fit.
-use Rattle.std.specs.Prelude.{ℕ, ◌&&◌, Bool, true, List, [], ◌∷◌, length, map, codes, string_bytes, nat_le, Option, Some, None, option_map, Result, Ok, Err}
+use Rattle.std.specs.Prelude.{ℕ, ◌&&◌, Bool, true, List, length, codes, nat_le, Option, Some, None, Result, Ok, Err}
 use Rattle.std.specs.List.{list_any}
 use Rattle.std.specs.Str.{bytes_eq}
 use Rattle.serde_json.specs.Data.{Data}
@@ -8,11 +8,12 @@ use Rattle.octets.specs.declared.refusal.Refusal.TheVariants.{Key}
 use Rattle.octets.specs.Outcomes.{◌>>=◌, needs}
 use Rattle.octets.specs.Base64url.{decoded}
 use Rattle.keys.specs.declared.algorithm.Algorithm.{Algorithm}
-use Rattle.keys.specs.declared.key.Key as code
-use Rattle.keys.specs.declared.key.Operation.{Operation}
-use Rattle.keys.specs.declared.key.Operation.TheVariants.{Sign, Verify, Encrypt, Decrypt, WrapKey, UnwrapKey, WrapByPassword, UnwrapByPassword}
-use Rattle.keys.specs.Json.{string_member, optional_string_member, optional_strings_member}
+use Rattle.keys.specs.declared.operation.Operation.{Operation}
+use Rattle.keys.specs.Limits.{Limits}
+use Rattle.keys.specs.Members.{string_member, optional_string_member, optional_strings_member}
+use Rattle.keys.specs.Texts.{is_among}
 use Rattle.keys.specs.Algorithms.{key_names, key_len, has_len}
+use Rattle.keys.specs.Operations.{operation_names, operation_use}
 
 -- what is kept of a key: its octets, and its `alg`, `use` and `key_ops` where they are there
 pub record OctetKey : Type 0 where
@@ -20,15 +21,6 @@ pub record OctetKey : Type 0 where
   pub alg : Option (List ℕ)
   pub key_use : Option (List ℕ)
   pub key_ops : Option (List (List ℕ))
-
--- what a `Key` of the code holds
-abbrev pub key_view : code.Key → OctetKey
-key_view key = record {
-  octets = key.octets.items;
-  alg = option_map string_bytes key.alg;
-  key_use = option_map string_bytes key.key_use;
-  key_ops = option_map (λ names. map string_bytes names.items) key.key_ops;
-}
 
 -- ---- reading
 
@@ -38,56 +30,31 @@ or_key (Ok octets) = Ok octets
 or_key (Err refusal) = Err Key
 
 -- the octets of the member `k`
-unfoldable pub key_octets : Data → Result (List ℕ) Refusal
-key_octets value = do
-  text ← string_member Key (codes "k") value
+unfoldable pub key_octets : Limits → Data → Result (List ℕ) Refusal
+key_octets limits value = do
+  text ← string_member (codes "k") value
   octets ← or_key (decoded text)
-  in_range ← needs (nat_le 1 (length octets) && nat_le (length octets) 4096) Key
+  in_range ← needs (nat_le 1 (length octets) && nat_le (length octets) limits.key_octets) Key
   Ok octets
 
 -- the key with these octets
 unfoldable pub constrained_key : List ℕ → Data → Result OctetKey Refusal
 constrained_key octets value = do
-  alg ← optional_string_member Key (codes "alg") value
-  key_use ← optional_string_member Key (codes "use") value
-  kid ← optional_string_member Key (codes "kid") value
-  key_ops ← optional_strings_member Key (codes "key_ops") value
+  alg ← optional_string_member (codes "alg") value
+  key_use ← optional_string_member (codes "use") value
+  kid ← optional_string_member (codes "kid") value
+  key_ops ← optional_strings_member (codes "key_ops") value
   Ok (record { octets = octets; alg = alg; key_use = key_use; key_ops = key_ops })
 
 -- the octet key that an object is
-unfoldable pub octet_key : Data → Result OctetKey Refusal
-octet_key value = do
-  kty ← string_member Key (codes "kty") value
+unfoldable pub octet_key : Limits → Data → Result OctetKey Refusal
+octet_key limits value = do
+  kty ← string_member (codes "kty") value
   oct ← needs (bytes_eq kty (codes "oct")) Key
-  octets ← key_octets value
+  octets ← key_octets limits value
   constrained_key octets value
 
 -- ---- operations
-
--- the names in `key_ops` that allow the operation (RFC 7517 section 4.3); a key that is derived from a password may be named by the derivation
-abbrev pub operation_names : Operation → List (List ℕ)
-operation_names Sign = codes "sign" ∷ []
-operation_names Verify = codes "verify" ∷ []
-operation_names Encrypt = codes "encrypt" ∷ []
-operation_names Decrypt = codes "decrypt" ∷ []
-operation_names WrapKey = codes "wrapKey" ∷ []
-operation_names UnwrapKey = codes "unwrapKey" ∷ []
-operation_names WrapByPassword = codes "wrapKey" ∷ codes "deriveKey" ∷ codes "deriveBits" ∷ []
-operation_names UnwrapByPassword = codes "unwrapKey" ∷ codes "deriveKey" ∷ codes "deriveBits" ∷ []
-
--- the `use` that goes with the operation (RFC 7517 section 4.2)
-abbrev pub operation_use : Operation → List ℕ
-operation_use Sign = codes "sig"
-operation_use Verify = codes "sig"
-operation_use Encrypt = codes "enc"
-operation_use Decrypt = codes "enc"
-operation_use WrapKey = codes "enc"
-operation_use UnwrapKey = codes "enc"
-operation_use WrapByPassword = codes "enc"
-operation_use UnwrapByPassword = codes "enc"
-
-abbrev pub is_among : List (List ℕ) → List ℕ → Bool
-is_among names text = list_any (λ name. bytes_eq name text) names
 
 abbrev pub is_absent_or_text : Option (List ℕ) → List ℕ → Bool
 is_absent_or_text None text = true

@@ -1,7 +1,12 @@
+pub mod Limits
+pub mod Texts
 pub mod Json
+pub mod JsonTexts
+pub mod Members
+pub mod Operations
 pub mod Algorithms
 pub mod Keys
 pub mod KeySets
 pub mod Thumbprints
 pub mod Generating
-pub mod KeyPlans
+pub mod Views

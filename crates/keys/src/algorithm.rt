@@ -1,6 +1,8 @@
-//! The names of the algorithms, and what they ask of a key. It sees no key and no JSON.
+//! The algorithms: their names, the lengths of their keys, and the operations that they serve. It sees no key and no JSON.
 ghost use Rattle.std.specs.Prelude.{◌≡◌, Some};
-ghost use Rattle.keys.specs.Algorithms.{signature_name, signature_alg_of, management_name, management_alg_of, encryption_name, encryption_alg_of, cek_len, signature_key_len, key_len, has_len};
+ghost use Rattle.keys.specs.Algorithms.{signature_name, signature_alg_of, management_name, management_alg_of, encryption_name, encryption_alg_of, named_alg_of, cek_len, signature_key_len, management_key_len, key_len, named_key_len, has_len, usual_len, management_operations, operations};
+
+use crate::operation::Operation;
 
 /// An algorithm of signatures (RFC 7518 section 3.1): a value of `alg` in a JWS.
 #[derive(Clone, Copy, Debug, PartialEq, Eq)]
@@ -54,6 +56,22 @@ pub enum EncryptionAlg {
 pub enum Algorithm {
     Signature(SignatureAlg),
     Encryption(ManagementAlg, EncryptionAlg),
+}
+
+/// What the `alg` of a key may name (RFC 7517 section 4.4).
+#[derive(Clone, Copy)]
+pub(crate) enum NamedAlg {
+    Signature(SignatureAlg),
+    Management(ManagementAlg),
+    Encryption(EncryptionAlg),
+}
+
+/// How long a key is, in octets.
+#[derive(Clone, Copy)]
+pub(crate) enum KeyLen {
+    AtLeast(usize),
+    Exactly(usize),
+    Any,
 }
 
 impl SignatureAlg {
@@ -129,6 +147,38 @@ impl ManagementAlg {
             ManagementAlg::Pbes2Hs512A256Kw => "PBES2-HS512+A256KW",
         }
     }
+
+    /// How long its keys are, where no algorithm of content encryption says it.
+    pub(crate) fn key_len(self) -> KeyLen
+        ensures { result ≡ management_key_len self }
+    {
+        match self {
+            ManagementAlg::A128Kw => KeyLen::Exactly(16),
+            ManagementAlg::A192Kw => KeyLen::Exactly(24),
+            ManagementAlg::A256Kw => KeyLen::Exactly(32),
+            ManagementAlg::Dir
+            | ManagementAlg::Pbes2Hs256A128Kw
+            | ManagementAlg::Pbes2Hs384A192Kw
+            | ManagementAlg::Pbes2Hs512A256Kw => KeyLen::Any,
+        }
+    }
+
+    /// The operations of a sender and a receiver.
+    fn operations(self) -> (Operation, Operation)
+        ensures { result ≡ management_operations self }
+    {
+        match self {
+            ManagementAlg::Dir => (Operation::Encrypt, Operation::Decrypt),
+            ManagementAlg::A128Kw | ManagementAlg::A192Kw | ManagementAlg::A256Kw => {
+                (Operation::WrapKey, Operation::UnwrapKey)
+            }
+            ManagementAlg::Pbes2Hs256A128Kw
+            | ManagementAlg::Pbes2Hs384A192Kw
+            | ManagementAlg::Pbes2Hs512A256Kw => {
+                (Operation::WrapByPassword, Operation::UnwrapByPassword)
+            }
+        }
+    }
 }
 
 impl EncryptionAlg {
@@ -179,21 +229,78 @@ impl EncryptionAlg {
 }
 
 impl Algorithm {
-    /// A key of so many octets is long enough, and not too long where the length is fixed.
-    pub(crate) fn takes_key_of(self, len: usize) -> bool
-        ensures { result ≡ has_len (key_len self) len }
+    /// How long its keys are.
+    pub(crate) fn key_len(self) -> KeyLen
+        ensures { result ≡ key_len self }
     {
         match self {
-            Algorithm::Signature(alg) => len >= alg.key_len(),
-            Algorithm::Encryption(alg, enc) => match alg {
-                ManagementAlg::Dir => len == enc.cek_len(),
-                ManagementAlg::A128Kw => len == 16,
-                ManagementAlg::A192Kw => len == 24,
-                ManagementAlg::A256Kw => len == 32,
-                ManagementAlg::Pbes2Hs256A128Kw
-                | ManagementAlg::Pbes2Hs384A192Kw
-                | ManagementAlg::Pbes2Hs512A256Kw => true,
-            },
+            Algorithm::Signature(alg) => KeyLen::AtLeast(alg.key_len()),
+            Algorithm::Encryption(ManagementAlg::Dir, enc) => KeyLen::Exactly(enc.cek_len()),
+            Algorithm::Encryption(alg, _) => alg.key_len(),
+        }
+    }
+}
+
+impl NamedAlg {
+    /// The algorithm of this name.
+    #[tactic(auto, unfolding(crate::specs::Algorithms::named_alg_of))]
+    pub(crate) fn named(name: &str) -> Option<NamedAlg>
+        ensures { result ≡ named_alg_of name.now }
+    {
+        if let Some(alg) = SignatureAlg::named(name) {
+            return Some(NamedAlg::Signature(alg));
+        }
+        if let Some(alg) = ManagementAlg::named(name) {
+            return Some(NamedAlg::Management(alg));
+        }
+        match EncryptionAlg::named(name) {
+            None => None,
+            Some(alg) => Some(NamedAlg::Encryption(alg)),
+        }
+    }
+
+    /// How long its keys are.
+    pub(crate) fn key_len(self) -> KeyLen
+        ensures { result ≡ named_key_len self }
+    {
+        match self {
+            NamedAlg::Signature(alg) => KeyLen::AtLeast(alg.key_len()),
+            NamedAlg::Management(alg) => alg.key_len(),
+            NamedAlg::Encryption(enc) => KeyLen::Exactly(enc.cek_len()),
+        }
+    }
+
+    /// The operations of a sender and a receiver.
+    pub(crate) fn operations(self) -> (Operation, Operation)
+        ensures { result ≡ operations self }
+    {
+        match self {
+            NamedAlg::Signature(_) => (Operation::Sign, Operation::Verify),
+            NamedAlg::Management(alg) => alg.operations(),
+            NamedAlg::Encryption(_) => (Operation::Encrypt, Operation::Decrypt),
+        }
+    }
+}
+
+impl KeyLen {
+    /// A key may have so many octets.
+    pub(crate) fn allows(self, len: usize) -> bool
+        ensures { result ≡ has_len self len }
+    {
+        match self {
+            KeyLen::AtLeast(n) => len >= n,
+            KeyLen::Exactly(n) => len == n,
+            KeyLen::Any => true,
+        }
+    }
+
+    /// The length of a key where nothing else says it.
+    pub(crate) fn usual(self) -> Option<usize>
+        ensures { result ≡ usual_len self }
+    {
+        match self {
+            KeyLen::AtLeast(n) | KeyLen::Exactly(n) => Some(n),
+            KeyLen::Any => None,
         }
     }
 }

@@ -1,5 +1,5 @@
 //! Making keys (RFC 7517 section 4, and this profile's own rules). It is given a template and a random input.
-ghost use Rattle.std.specs.Prelude.{◌≡◌, ◌≢◌, ◌≤◌, ℕ, List, false, length, map, nat_le, IfErr, IfOk, IsErrOf, OnOk, Ok, Err, Some, is_some, option_map, string_bytes};
+ghost use Rattle.std.specs.Prelude.{◌≡◌, ◌≢◌, ◌≤◌, ℕ, List, false, length, map, nat_le, IfErr, IfOk, IsErrOf, OnOk, Ok, Err, Some, is_some, string_bytes};
 ghost use Rattle.std.specs.Option.{ok_or};
 ghost use Rattle.serde_json.specs.Data.{object, depth};
 ghost use Rattle.serde_json.specs.Find.{get_member, as_object};
@@ -8,18 +8,17 @@ ghost use Rattle.serde_json.specs.Written.{members_have_float};
 ghost use Rattle.octets.specs.declared.refusal.Refusal.{Refusal};
 ghost use Rattle.octets.specs.Devices.{appended, observed, IsPossibleInput, Rose};
 ghost use Rattle.octets.specs.Outcomes.{AgreesUnlessMemory, GivesUnlessExternal};
-ghost use Rattle.keys.specs.Generating.{string_items, with_operations, completed, key_text, made_key, generated, MadeKey};
-ghost use Rattle.keys.specs.KeyPlans.{row_view, plan_view};
+ghost use Rattle.keys.specs.Generating.{string_items, key_ops_of, with_operations, completed, key_text, made_key, gen_answer, MadeKey};
+ghost use Rattle.keys.specs.Limits.{limits};
+ghost use Rattle.keys.specs.Views.{plan_view};
 
-use crate::json::{object_nests_at_most, read_json};
-use crate::key_rows::{AlgRow, fitting_len, row_if_there};
-use crate::key_template::{is_within_limit, read_template};
+use crate::algorithm::NamedAlg;
+use crate::json_values::{object_nests_at_most, read_json};
+use crate::key_template::{alg_if_there, fitting_len, is_within_limit, read_template};
+use crate::limits::{MOST_DEPTH, MOST_KEY_OCTETS};
 use octets::{Input, Refusal, b64_encode, draw, needs};
 use serde_json::{Map, Value};
 use std::alloc::{AllocError, Global};
-
-/// The most octets that a key has.
-const MOST_OCTETS: usize = 4096;
 
 /// A key to be made: its length, and its members beside `k`.
 #[derive(Drop)]
@@ -37,27 +36,27 @@ struct KeyPlan {
 /// octets of `k` are read.
 ///
 /// Refused, in this order, with `Json`; `Number`; `Key` where the template is bad; `Limit` where
-/// `bytes` is above 4,096; `Unsupported` where `alg` has no table row; `NoAlgorithm` where nothing
+/// `bytes` is above 4,096; `Unsupported` where `alg` names no algorithm; `NoAlgorithm` where nothing
 /// says the length; `KeyDoesNotFit` where `bytes` does not fit the `alg`; `Limit` where the key nests
 /// more than 64 deep; and then with `Read` where the random input fails, and `Random` where it ends
 /// too early.
 pub fn generate<R: Input>(alloc: Global, template: &[u8], random: &mut R) -> Result<String, Refusal>
     ensures answer { (octets : List ℕ)
         → IsPossibleInput (observed R.consumed R.is_at_end random.old random.new) octets
-        → GivesUnlessExternal string_bytes result (generated template.now octets) }
+        → GivesUnlessExternal string_bytes result (gen_answer limits template.now octets) }
 
     // Exactly the key's octets are read, and none for a refused template.
-    ensures drawn { OnOk result ((made : MadeKey) → made_key template.now ≡ Ok made
+    ensures drawn { OnOk result ((made : MadeKey) → made_key limits template.now ≡ Ok made
         → length (appended (R.consumed random.old) (R.consumed random.new)) ≡ made.len) }
-    ensures at_most { (made : MadeKey) → made_key template.now ≡ Ok made
+    ensures at_most { (made : MadeKey) → made_key limits template.now ≡ Ok made
         → length (appended (R.consumed random.old) (R.consumed random.new)) ≤ made.len }
-    ensures untouched { (refusal : Refusal) → made_key template.now ≡ Err refusal → random.new ≡ random.old }
+    ensures untouched { (refusal : Refusal) → made_key limits template.now ≡ Err refusal → random.new ≡ random.old }
     ensures works { OnOk result (R.failures random.new ≡ R.failures random.old) }
     ensures no_write { IfErr result (λ refusal. refusal ≢ Refusal.Write) }
     ensures read { IsErrOf result Refusal.Read → Rose (R.failures random.old) (R.failures random.new) }
 {
     let plan = plan_key(alloc, template)?;
-    let mut buf = [0u8; MOST_OCTETS];
+    let mut buf = [0u8; MOST_KEY_OCTETS];
     let octets = &mut buf[..plan.len];
     draw(random, octets)?;
     key_text(alloc, plan, octets)
@@ -66,16 +65,16 @@ pub fn generate<R: Input>(alloc: Global, template: &[u8], random: &mut R) -> Res
 /// What the template's text makes.
 #[tactic(auto, unfolding(crate::specs::Generating::made_key, crate::specs::Generating::made_of))]
 fn plan_key(alloc: Global, template: &[u8]) -> Result<KeyPlan, Refusal>
-    ensures exact { AgreesUnlessMemory plan_view result (made_key template.now) }
-    ensures within_limit { IfOk result (λ plan. plan.len ≤ 4096) }
+    ensures exact { AgreesUnlessMemory plan_view result (made_key limits template.now) }
+    ensures within_limit { IfOk result (λ plan. plan.len ≤ limits.key_octets) }
     ensures no_float { IfOk result (λ plan. members_have_float (members_view plan.members.entries) ≡ false) }
 {
     let value = read_json(alloc, template)?;
     let asked = read_template(alloc, &value)?;
     needs(is_within_limit(asked.bytes), Refusal::Limit)?;
-    let row = row_if_there(asked.alg)?;
-    let len = fitting_len(row, asked.bytes)?;
-    let members = completed(alloc, into_members(value)?, row)?;
+    let alg = alg_if_there(asked.alg)?;
+    let len = fitting_len(alg, asked.bytes)?;
+    let members = completed(alloc, into_members(value)?, alg)?;
     needs(is_shallow(&members), Refusal::Limit)?;
     Ok(KeyPlan { len, members })
 }
@@ -96,14 +95,13 @@ fn into_members(value: Value) -> Result<Map<String, Value>, Refusal>
 fn completed(
     alloc: Global,
     mut members: Map<String, Value>,
-    row: Option<&AlgRow>,
+    alg: Option<NamedAlg>,
 ) -> Result<Map<String, Value>, AllocError>
-    ensures { IfOk result (λ made. members_view made.entries
-        ≡ completed (option_map (λ row. row_view row.now) row.entry) (members_view members.entries)) }
+    ensures { IfOk result (λ made. members_view made.entries ≡ completed alg (members_view members.entries)) }
 {
     drop(members.remove("bytes"));
-    if let Some(row) = row {
-        add_operations(alloc, &mut members, row)?;
+    if let Some(alg) = alg {
+        add_operations(alloc, &mut members, alg)?;
     }
     serde_json::put(
         &mut members,
@@ -114,20 +112,28 @@ fn completed(
     Ok(members)
 }
 
-/// Adds the `key_ops` of the row, where there is neither this member nor `use`.
+/// Adds the `key_ops` of the algorithm, where there is neither this member nor `use`.
 fn add_operations(
     alloc: Global,
     members: &mut Map<String, Value>,
-    row: &AlgRow,
+    alg: NamedAlg,
 ) -> Result<(), AllocError>
     ensures { OnOk result (members_view members.new.entries
-        ≡ with_operations (Some (row_view row.now)) (members_view members.old.entries)) }
+        ≡ with_operations (Some alg) (members_view members.old.entries)) }
 {
     if has_member(members, "key_ops") || has_member(members, "use") {
         return Ok(());
     }
-    let key_ops = string_list(alloc, row.key_ops)?;
+    let key_ops = key_ops_of(alloc, alg)?;
     serde_json::put(members, alloc, "key_ops", Value::Array(key_ops))
+}
+
+/// The names of the algorithm's operations, as JSON strings.
+fn key_ops_of(alloc: Global, alg: NamedAlg) -> Result<Vec<Value>, AllocError>
+    ensures { IfOk result (λ values. items_view values.items ≡ string_items (key_ops_of alg)) }
+{
+    let (first, second) = alg.operations();
+    string_list(alloc, &[first.name(), second.name()])
 }
 
 fn has_member(members: &Map<String, Value>, name: &str) -> bool
@@ -147,11 +153,11 @@ fn string_list(alloc: Global, texts: &[&str]) -> Result<Vec<Value>, AllocError>
     Ok(values)
 }
 
-/// An object of these members nests at most 64 deep.
+/// An object of these members nests no deeper than a key may.
 fn is_shallow(members: &Map<String, Value>) -> bool
-    ensures { result ≡ nat_le (depth (object (members_view members.now.entries))) 64 }
+    ensures { result ≡ nat_le (depth (object (members_view members.now.entries))) limits.depth }
 {
-    object_nests_at_most(members, 64)
+    object_nests_at_most(members, MOST_DEPTH)
 }
 
 /// The JSON text of the key with these octets.

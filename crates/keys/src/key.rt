@@ -2,65 +2,23 @@
 //! header and no content.
 ghost use Rattle.std.specs.Prelude.{◌≡◌, IfOk, option_map, map, string_bytes};
 ghost use Rattle.std.specs.List.{list_any};
-ghost use Rattle.std.specs.Str.{bytes_eq};
 ghost use Rattle.serde_json.specs.View.{view};
 ghost use Rattle.octets.specs.Outcomes.{AgreesUnlessMemory};
 ghost use Rattle.octets.specs.Base64url.{decoded};
-ghost use Rattle.keys.specs.Keys.{key_view, octet_key, key_octets, constrained_key, or_key, operation_names, operation_use, allows, fits, is_among, is_absent_or_text, is_absent_or_among, is_absent_or_meets};
+ghost use Rattle.keys.specs.Keys.{octet_key, key_octets, constrained_key, or_key, allows, fits, is_absent_or_text, is_absent_or_among, is_absent_or_meets};
 ghost use Rattle.keys.specs.Algorithms.{key_names};
+ghost use Rattle.keys.specs.Limits.{limits};
+ghost use Rattle.keys.specs.Operations.{operation_names};
+ghost use Rattle.keys.specs.Texts.{is_among};
+ghost use Rattle.keys.specs.Views.{key_view};
 
 use crate::algorithm::{Algorithm, ManagementAlg};
-use crate::json::{optional_string_member, optional_strings_member, string_member};
+use crate::limits::MOST_KEY_OCTETS;
+use crate::members::{optional_string_member, optional_strings_member, string_member};
+use crate::operation::Operation;
 use octets::{Refusal, b64_decode, needs};
 use serde_json::Value;
 use std::alloc::{AllocError, Global};
-
-/// What a key may be used for (RFC 7517 section 4.3).
-#[derive(Clone, Copy, Debug, PartialEq, Eq)]
-pub enum Operation {
-    Sign,
-    Verify,
-    /// Encrypt content with the key itself.
-    Encrypt,
-    /// Decrypt content with the key itself.
-    Decrypt,
-    /// Wrap a content encryption key.
-    WrapKey,
-    /// Unwrap a content encryption key.
-    UnwrapKey,
-    /// Wrap with a key that is derived from this one.
-    WrapByPassword,
-    /// Unwrap with a key that is derived from this one.
-    UnwrapByPassword,
-}
-
-impl Operation {
-    /// The names in `key_ops` that allow it.
-    fn names(self) -> &'static [&'static str]
-        ensures { map (λ name. name.now) result.now ≡ operation_names self }
-    {
-        match self {
-            Operation::Sign => &["sign"],
-            Operation::Verify => &["verify"],
-            Operation::Encrypt => &["encrypt"],
-            Operation::Decrypt => &["decrypt"],
-            Operation::WrapKey => &["wrapKey"],
-            Operation::UnwrapKey => &["unwrapKey"],
-            Operation::WrapByPassword => &["wrapKey", "deriveKey", "deriveBits"],
-            Operation::UnwrapByPassword => &["unwrapKey", "deriveKey", "deriveBits"],
-        }
-    }
-
-    /// The `use` that goes with it (RFC 7517 section 4.2).
-    fn key_use(self) -> &'static str
-        ensures { result.now ≡ operation_use self }
-    {
-        match self {
-            Operation::Sign | Operation::Verify => "sig",
-            _ => "enc",
-        }
-    }
-}
 
 /// A good octet key, of 1 to 4,096 octets.
 #[derive(Drop)]
@@ -95,7 +53,7 @@ impl Key {
         ensures { result ≡ allows (key_view self.now) operation }
     {
         is_absent_or_text(&self.key_use, operation.key_use())
-            && is_absent_or_meets(&self.key_ops, operation.names())
+            && is_absent_or_allows(&self.key_ops, operation)
     }
 
     /// The key has a length that the algorithm takes, and its `alg` names no other. For direct
@@ -104,7 +62,7 @@ impl Key {
     pub fn fits(&self, algorithm: Algorithm) -> bool
         ensures { result ≡ fits (key_view self.now) algorithm }
     {
-        is_absent_or_names(self.alg(), algorithm) && algorithm.takes_key_of(self.octets.len())
+        is_absent_or_names(self.alg(), algorithm) && algorithm.key_len().allows(self.octets.len())
     }
 }
 
@@ -113,9 +71,9 @@ impl Key {
 /// strings and `key_ops` is a list of strings. Other members are ignored.
 #[tactic(auto, unfolding(crate::specs::Keys::octet_key))]
 pub(crate) fn read_key(alloc: Global, value: &Value) -> Result<Key, Refusal>
-    ensures { AgreesUnlessMemory key_view result (octet_key (view value.now)) }
+    ensures { AgreesUnlessMemory key_view result (octet_key limits (view value.now)) }
 {
-    let kty = string_member(value, "kty", Refusal::Key)?;
+    let kty = string_member(value, "kty")?;
     needs(kty == "oct", Refusal::Key)?;
     let octets = read_key_octets(alloc, value)?;
     read_constraints(alloc, octets, value)
@@ -124,11 +82,14 @@ pub(crate) fn read_key(alloc: Global, value: &Value) -> Result<Key, Refusal>
 /// The octets of the member `k`.
 #[tactic(auto, unfolding(crate::specs::Keys::key_octets))]
 fn read_key_octets(alloc: Global, value: &Value) -> Result<Vec<u8>, Refusal>
-    ensures { AgreesUnlessMemory (λ octets. octets.items) result (key_octets (view value.now)) }
+    ensures { AgreesUnlessMemory (λ octets. octets.items) result (key_octets limits (view value.now)) }
 {
-    let text = string_member(value, "k", Refusal::Key)?;
+    let text = string_member(value, "k")?;
     let octets = decode_key(alloc, text.as_bytes())?;
-    needs(1 <= octets.len() && octets.len() <= 4096, Refusal::Key)?;
+    needs(
+        1 <= octets.len() && octets.len() <= MOST_KEY_OCTETS,
+        Refusal::Key,
+    )?;
     Ok(octets)
 }
 
@@ -147,10 +108,10 @@ fn decode_key(alloc: Global, text: &[u8]) -> Result<Vec<u8>, Refusal>
 fn read_constraints(alloc: Global, octets: Vec<u8>, value: &Value) -> Result<Key, Refusal>
     ensures { AgreesUnlessMemory key_view result (constrained_key octets.items (view value.now)) }
 {
-    let alg = optional_string_member(value, "alg", Refusal::Key)?;
-    let key_use = optional_string_member(value, "use", Refusal::Key)?;
-    let _kid = optional_string_member(value, "kid", Refusal::Key)?;
-    let key_ops = optional_strings_member(alloc, value, "key_ops", Refusal::Key)?;
+    let alg = optional_string_member(value, "alg")?;
+    let key_use = optional_string_member(value, "use")?;
+    let _kid = optional_string_member(value, "kid")?;
+    let key_ops = optional_strings_member(alloc, value, "key_ops")?;
     Ok(Key {
         octets,
         alg: owned(alloc, alg)?,
@@ -177,7 +138,9 @@ fn is_absent_or_names(found: Option<&str>, algorithm: Algorithm) -> bool
         None => true,
         Some(name) => match algorithm {
             Algorithm::Signature(alg) => alg.name() == name,
-            Algorithm::Encryption(ManagementAlg::Dir, enc) => "dir" == name || enc.name() == name,
+            Algorithm::Encryption(ManagementAlg::Dir, enc) => {
+                ManagementAlg::Dir.name() == name || enc.name() == name
+            }
             Algorithm::Encryption(alg, _) => alg.name() == name,
         },
     }
@@ -193,34 +156,22 @@ fn is_absent_or_text(found: &Option<String>, text: &str) -> bool
     }
 }
 
-/// The member is not there, or one of these names is in its list.
+/// The member is not there, or a name in its list allows the operation.
 #[tactic(auto, using(crate::proofs::Strings::any_text))]
-fn is_absent_or_meets(found: &Option<Vec<String>>, names: &[&str]) -> bool
-    ensures { result ≡ is_absent_or_meets (option_map (λ texts. map string_bytes texts.items) found.now) (map (λ n. n.now) names.now) }
+fn is_absent_or_allows(found: &Option<Vec<String>>, operation: Operation) -> bool
+    ensures { result ≡ is_absent_or_meets (option_map (λ texts. map string_bytes texts.items) found.now) (operation_names operation) }
 {
     match found {
         None => true,
-        Some(texts) => meets(texts, names),
+        Some(names) => allow(names, operation),
     }
 }
 
-/// One of these names is in the list.
-fn meets(texts: &Vec<String>, names: &[&str]) -> bool
-    ensures { result ≡ list_any (λ text. is_among (map (λ n. n.now) names.now) (string_bytes text)) texts.now.items }
+/// One of the names allows the operation.
+fn allow(names: &Vec<String>, operation: Operation) -> bool
+    ensures { result ≡ list_any (λ name. is_among (operation_names operation) (string_bytes name)) names.now.items }
 {
-    texts.iter().any(|text| is_among(names, text.as_str()))
-}
-
-/// The text is one of these names.
-#[tactic(auto, using(crate::proofs::Strings::any_name))]
-pub(crate) fn is_among(names: &[&str], text: &str) -> bool
-    ensures { result ≡ is_among (map (λ n. n.now) names.now) text.now }
-{
-    any_name(names, text)
-}
-
-fn any_name(names: &[&str], text: &str) -> bool
-    ensures { result ≡ list_any (λ n. bytes_eq n.now text.now) names.now }
-{
-    names.iter().any(|name| *name == text)
+    names
+        .iter()
+        .any(|name| operation.is_allowed_by(name.as_str()))
 }

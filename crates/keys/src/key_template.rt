@@ -1,13 +1,17 @@
-//! Templates of keys: what they may hold, and what they ask for. It is given a template's JSON value.
+//! Templates of keys: what they may hold, what they ask for, and how long the key is. It is given a template's JSON value.
 ghost use Rattle.std.specs.Prelude.{◌≡◌, codes, option_map, None, Err};
 ghost use Rattle.serde_json.specs.Data.{Members, object};
 ghost use Rattle.serde_json.specs.Find.{get, as_object};
 ghost use Rattle.serde_json.specs.View.{view};
 ghost use Rattle.octets.specs.Outcomes.{AgreesUnlessMemory};
-ghost use Rattle.keys.specs.Generating.{key_template, is_oct_if_there, len_if_there, is_within_limit};
-ghost use Rattle.keys.specs.KeyPlans.{asked_view};
+ghost use Rattle.keys.specs.Generating.{key_template, is_oct_if_there, len_if_there, is_within_limit, alg_if_there, fitting_len};
+ghost use Rattle.keys.specs.Limits.{limits};
+ghost use Rattle.keys.specs.Views.{asked_view};
 
-use crate::json::{is_object, optional_string_member, optional_strings_member};
+use crate::algorithm::NamedAlg;
+use crate::json_values::is_object;
+use crate::limits::MOST_KEY_OCTETS;
+use crate::members::{optional_string_member, optional_strings_member};
 use octets::{Refusal, needs};
 use serde_json::Value;
 use std::alloc::Global;
@@ -30,12 +34,12 @@ pub(crate) fn read_template<'v>(alloc: Global, value: &'v Value) -> Result<Asked
     needs(is_object(value), Refusal::Key)?;
     let is_fresh = value.get("k").is_none() && value.get("keys").is_none();
     needs(is_fresh, Refusal::Key)?;
-    let kty = optional_string_member(value, "kty", Refusal::Key)?;
+    let kty = optional_string_member(value, "kty")?;
     needs(is_oct_if_there(kty), Refusal::Key)?;
-    let alg = optional_string_member(value, "alg", Refusal::Key)?;
-    let _key_use = optional_string_member(value, "use", Refusal::Key)?;
-    let _kid = optional_string_member(value, "kid", Refusal::Key)?;
-    let _key_ops = optional_strings_member(alloc, value, "key_ops", Refusal::Key)?;
+    let alg = optional_string_member(value, "alg")?;
+    let _key_use = optional_string_member(value, "use")?;
+    let _kid = optional_string_member(value, "kid")?;
+    let _key_ops = optional_strings_member(alloc, value, "key_ops")?;
     let bytes = len_if_there(value)?;
     Ok(Asked { alg, bytes })
 }
@@ -64,12 +68,43 @@ fn len_if_there(value: &Value) -> Result<Option<usize>, Refusal>
     }
 }
 
-/// A template asks for 4,096 octets at most.
+/// A template asks for no more octets than a key may have.
 pub(crate) fn is_within_limit(bytes: Option<usize>) -> bool
-    ensures { result ≡ is_within_limit bytes }
+    ensures { result ≡ is_within_limit limits bytes }
 {
     match bytes {
         None => true,
-        Some(n) => n <= 4096,
+        Some(n) => n <= MOST_KEY_OCTETS,
     }
+}
+
+/// The algorithm that `alg` names, where it is there. Refused with `Unsupported` where it names none.
+pub(crate) fn alg_if_there(alg: Option<&str>) -> Result<Option<NamedAlg>, Refusal>
+    ensures { AgreesUnlessMemory (λ alg. alg) result (alg_if_there (option_map (λ name. name.now) alg.entry)) }
+{
+    match alg {
+        None => Ok(None),
+        Some(name) => match NamedAlg::named(name) {
+            None => Err(Refusal::Unsupported),
+            Some(alg) => Ok(Some(alg)),
+        },
+    }
+}
+
+/// The length that is asked for, or the usual one of the algorithm. Refused with `NoAlgorithm` where there
+/// is neither, and with `KeyDoesNotFit` where the algorithm takes no such length.
+#[tactic(auto, unfolding(crate::specs::Generating::fitting_len))]
+pub(crate) fn fitting_len(alg: Option<NamedAlg>, asked: Option<usize>) -> Result<usize, Refusal>
+    ensures { AgreesUnlessMemory (λ len. len) result (fitting_len alg asked) }
+{
+    let usual = alg.and_then(|alg| alg.key_len().usual());
+    let Some(len) = asked.or(usual) else {
+        return Err(Refusal::NoAlgorithm);
+    };
+    let takes = match alg {
+        None => true,
+        Some(alg) => alg.key_len().allows(len),
+    };
+    needs(takes, Refusal::KeyDoesNotFit)?;
+    Ok(len)
 }

@@ -12,24 +12,28 @@
 
 mod algorithm;
 mod generating;
-mod json;
+mod json_values;
 mod key;
-mod key_rows;
 mod key_template;
 pub mod laws;
+mod limits;
+mod members;
+mod operation;
 mod set;
+mod texts;
 mod thumbprints;
 
 pub use algorithm::{Algorithm, EncryptionAlg, ManagementAlg, SignatureAlg};
 pub use generating::generate;
-pub use json::{
-    has_only, is_object, nests_at_most, object_nests_at_most, optional_string_member,
-    optional_strings_member, read_json, string_member,
-};
-pub use key::{Key, Operation};
+pub use json_values::{has_only, is_object, nests_at_most, object_nests_at_most, read_json};
+pub use key::Key;
+pub use limits::{MOST_DEPTH, MOST_KEY_OCTETS, MOST_KEYS};
+pub use operation::Operation;
 pub use set::KeySet;
 pub use thumbprints::thumbprint;
 
+#[cfg(test)]
+mod algorithm_tests;
 #[cfg(test)]
 mod generating_tests;
 #[cfg(test)]

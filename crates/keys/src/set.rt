@@ -1,22 +1,38 @@
 //! Keys and sets of keys (RFC 7517 section 5). It is given a key text.
-ghost use Rattle.std.specs.Prelude.{◌≡◌, map};
+ghost use Rattle.std.specs.Prelude.{◌≡◌, ◌≤◌, IfOk, length, map};
 ghost use Rattle.serde_json.specs.Find.{as_array};
 ghost use Rattle.serde_json.specs.View.{view, items_view};
 ghost use Rattle.octets.specs.Outcomes.{AgreesUnlessMemory};
-ghost use Rattle.keys.specs.Keys.{key_view};
-ghost use Rattle.keys.specs.KeySets.{key_set_view, key_set, value_keys, key_objects, object_list, octet_keys, are_objects};
+ghost use Rattle.keys.specs.KeySets.{key_set, value_keys, key_objects, object_list, octet_keys, are_objects};
+ghost use Rattle.keys.specs.Limits.{limits};
+ghost use Rattle.keys.specs.Views.{key_view};
 
-use crate::json::{is_object, read_json};
+use crate::json_values::{is_object, read_json};
 use crate::key::{Key, read_key};
+use crate::limits::MOST_KEYS;
 use octets::{Refusal, needs};
 use serde_json::Value;
 use std::alloc::Global;
+use std::marker::Model;
 use std::slice;
 
 /// The good octet keys of a text, in order. There is one at least.
 #[derive(Drop)]
 pub struct KeySet {
     keys: Vec<Key>,
+}
+
+impl Model for KeySet {
+    ghost use Rattle.std.specs.Prelude.{◌≤◌, List, length, map};
+    ghost use Rattle.keys.specs.Keys.{OctetKey};
+    ghost use Rattle.keys.specs.Limits.{limits};
+    ghost use Rattle.keys.specs.Views.{key_view};
+
+    ghost Value = { List OctetKey };
+
+    ghost view = { λ set. map key_view set.keys.items };
+
+    ghost invariant = { λ set. (1 ≤ length set.keys.items) × (length set.keys.items ≤ limits.keys) };
 }
 
 impl KeySet {
@@ -26,7 +42,7 @@ impl KeySet {
     /// `strict` asks for all of them to be, or none is.
     #[tactic(auto, unfolding(crate::specs::KeySets::key_set))]
     pub fn read(alloc: Global, text: &[u8], strict: bool) -> Result<KeySet, Refusal>
-        ensures { AgreesUnlessMemory key_set_view result (key_set text.now strict) }
+        ensures { AgreesUnlessMemory (λ set. set) result (key_set limits text.now strict) }
     {
         let value = read_json(alloc, text)?;
         let keys = value_keys(alloc, &value, strict)?;
@@ -35,7 +51,7 @@ impl KeySet {
 
     /// The keys, in the order of the text.
     pub fn keys(&self) -> &[Key]
-        ensures { map key_view result.now ≡ key_set_view self.now }
+        ensures { map key_view result.now ≡ self.now }
     {
         &self.keys
     }
@@ -44,10 +60,11 @@ impl KeySet {
 /// The good octet keys of the value. There is one at least.
 #[tactic(auto, unfolding(crate::specs::KeySets::value_keys), using(crate::proofs::KeyLists::items_counted, crate::proofs::KeyLists::keys_counted))]
 fn value_keys(alloc: Global, value: &Value, strict: bool) -> Result<Vec<Key>, Refusal>
-    ensures { AgreesUnlessMemory (λ keys. map key_view keys.items) result (value_keys (view value.now) strict) }
+    ensures exact { AgreesUnlessMemory (λ keys. map key_view keys.items) result (value_keys limits (view value.now) strict) }
+    ensures count { IfOk result (λ keys. (1 ≤ length keys.items) × (length keys.items ≤ limits.keys)) }
 {
     let objects = key_objects(value)?;
-    needs(objects.len() <= 64, Refusal::Limit)?;
+    needs(objects.len() <= MOST_KEYS, Refusal::Limit)?;
     let keys = read_keys(alloc, objects, strict)?;
     needs(!keys.is_empty(), Refusal::Key)?;
     Ok(keys)
@@ -92,7 +109,8 @@ fn are_objects(values: &[Value]) -> bool
 
 /// The keys that the objects are. A bad one is refused where that is asked for, and otherwise passed over.
 fn read_keys(alloc: Global, objects: &[Value], strict: bool) -> Result<Vec<Key>, Refusal>
-    ensures { AgreesUnlessMemory (λ keys. map key_view keys.items) result (octet_keys strict (items_view objects.now)) }
+    ensures exact { AgreesUnlessMemory (λ keys. map key_view keys.items) result (octet_keys limits strict (items_view objects.now)) }
+    ensures count { IfOk result (λ keys. length keys.items ≤ length objects.now) }
 {
     let mut keys = Vec::new(alloc);
     for value in objects {

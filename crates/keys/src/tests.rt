@@ -1,10 +1,8 @@
 //! Texts that are read and texts that are refused, as tables.
-use crate::{
-    Algorithm, EncryptionAlg, KeySet, ManagementAlg, Operation, SignatureAlg, nests_at_most,
-    read_json, thumbprint,
-};
-use octets::{Refusal, b64_append};
+use crate::{KeySet, nests_at_most, read_json, thumbprint};
+use octets::Refusal;
 use prf::HashAlg;
+use serde_json::Value;
 use std::alloc::Global;
 use std::process::Abort;
 use std::test::Fail;
@@ -220,132 +218,24 @@ fn a_key_has_at_most_4096_octets(rt: HostRuntime) {
     assert_eq!(rt; long_key(rt.alloc(), 1365, "AAA").err(), Some(Refusal::Key));
 }
 
-/// A key of so many zero octets, with these members beside.
-fn key_of(alloc: Global, len: usize, members: &str) -> Result<KeySet, Refusal> {
-    let mut text = String::from_str(alloc, "{\"kty\":\"oct\",\"k\":\"")?;
-    b64_append(&mut text, &[0u8; 64][..len.min(64)])?;
-    text.push('"')?;
-    text.push_str(members)?;
-    text.push('}')?;
-    KeySet::read(alloc, text.as_bytes(), true)
-}
-
 #[test]
-fn use_and_key_ops_allow(rt: HostRuntime) -> Result<(), Fail> {
-    for (members, operation, allowed) in [
-        ("", Operation::Sign, true),
-        (",\"use\":\"sig\"", Operation::Verify, true),
-        (",\"use\":\"sig\"", Operation::WrapKey, false),
-        (",\"use\":\"enc\"", Operation::Sign, false),
-        (",\"use\":\"enc\"", Operation::Decrypt, true),
-        (",\"use\":\"enc\"", Operation::UnwrapByPassword, true),
-        (",\"use\":\"SIG\"", Operation::Sign, false),
-        (",\"use\":\"SIG\"", Operation::Encrypt, false),
-        (",\"key_ops\":[]", Operation::Sign, false),
-        (",\"key_ops\":[\"sign\"]", Operation::Sign, true),
-        (",\"key_ops\":[\"sign\"]", Operation::Verify, false),
-        (
-            ",\"key_ops\":[\"decrypt\",\"verify\"]",
-            Operation::Verify,
-            true,
-        ),
-        (
-            ",\"key_ops\":[\"decrypt\",\"verify\"]",
-            Operation::Decrypt,
-            true,
-        ),
-        (
-            ",\"key_ops\":[\"decrypt\",\"verify\"]",
-            Operation::UnwrapKey,
-            false,
-        ),
-        (
-            ",\"key_ops\":[\"wrapKey\"]",
-            Operation::WrapByPassword,
-            true,
-        ),
-        (
-            ",\"key_ops\":[\"wrapKey\"]",
-            Operation::UnwrapByPassword,
-            false,
-        ),
-        (
-            ",\"key_ops\":[\"deriveKey\"]",
-            Operation::WrapByPassword,
-            true,
-        ),
-        (
-            ",\"key_ops\":[\"deriveBits\"]",
-            Operation::UnwrapByPassword,
-            true,
-        ),
-        (",\"key_ops\":[\"deriveKey\"]", Operation::WrapKey, false),
-        (
-            ",\"key_ops\":[\"verify\",\"sign\"],\"use\":\"enc\"",
-            Operation::Sign,
-            false,
-        ),
-    ] {
-        let set = key_of(rt.alloc(), 1, members)?;
-        for key in set.keys() {
-            assert_eq!(rt;
-                key.allows(operation),
-                allowed,
-                "at {members} {operation:?}"
-            );
-        }
+fn a_text_may_be_long(rt: HostRuntime) -> Result<(), Fail> {
+    let mut note = String::new(rt.alloc());
+    for _ in 0..1100 {
+        note.push_str("a text of sixty-four characters, which is written over and over ")?;
+    }
+    let text = format!(in rt.alloc();
+        "{{\"keys\":[{{\"note\":\"{note}\"}},{{\"kty\":\"oct\",\"k\":\"AQ\",\"note\":\"{note}\"}}],\"note\":\"{note}\"}}"
+    )?;
+    let value = read_json(rt.alloc(), text.as_bytes())?;
+    let read = value.get("note").and_then(Value::as_str);
+    assert_eq!(rt; (text.len() > 196608, read), (true, Some(note.as_str())));
+    let set = KeySet::read(rt.alloc(), text.as_bytes(), false)?;
+    assert_eq!(rt; set.keys().len(), 1);
+    for key in set.keys() {
+        assert_eq!(rt; key.octets(), b"\x01".as_slice());
     }
     Ok(())
-}
-
-#[test]
-fn an_algorithm_fits_by_name_and_length(rt: HostRuntime) -> Result<(), Fail> {
-    let wrap = Algorithm::Encryption(ManagementAlg::A192Kw, EncryptionAlg::A128Gcm);
-    let direct = Algorithm::Encryption(ManagementAlg::Dir, EncryptionAlg::A192CbcHs384);
-    let password = Algorithm::Encryption(ManagementAlg::Pbes2Hs512A256Kw, EncryptionAlg::A256Gcm);
-    let sign = Algorithm::Signature(SignatureAlg::Hs384);
-    for (len, members, algorithm, fits) in [
-        (48, "", sign, true),
-        (47, "", sign, false),
-        (64, ",\"alg\":\"HS384\"", sign, true),
-        (64, ",\"alg\":\"HS512\"", sign, false),
-        (24, "", wrap, true),
-        (23, "", wrap, false),
-        (25, "", wrap, false),
-        (24, ",\"alg\":\"A192KW\"", wrap, true),
-        (24, ",\"alg\":\"A128GCM\"", wrap, false),
-        (48, "", direct, true),
-        (32, "", direct, false),
-        (48, ",\"alg\":\"dir\"", direct, true),
-        (48, ",\"alg\":\"A192CBC-HS384\"", direct, true),
-        (48, ",\"alg\":\"A192GCM\"", direct, false),
-        (1, "", password, true),
-        (64, ",\"alg\":\"PBES2-HS512+A256KW\"", password, true),
-        (64, ",\"alg\":\"A256KW\"", password, false),
-    ] {
-        let set = key_of(rt.alloc(), len, members)?;
-        for key in set.keys() {
-            assert_eq!(rt;
-                key.fits(algorithm),
-                fits,
-                "at {len} {members} {algorithm:?}"
-            );
-        }
-    }
-    Ok(())
-}
-
-#[test]
-fn algorithms_have_their_names(rt: HostRuntime) {
-    assert_eq!(rt; SignatureAlg::named("HS512"), Some(SignatureAlg::Hs512));
-    assert_eq!(rt; SignatureAlg::named("hs256"), None);
-    assert_eq!(rt; ManagementAlg::named("dir"), Some(ManagementAlg::Dir));
-    assert_eq!(rt; ManagementAlg::named("A256GCM"), None);
-    assert_eq!(rt;
-        EncryptionAlg::named("A256GCM"),
-        Some(EncryptionAlg::A256Gcm)
-    );
-    assert_eq!(rt; EncryptionAlg::named(""), None);
 }
 
 #[test]

@@ -4,7 +4,8 @@ use Rattle.std.specs.List.{between, range_with_len, concat}
 use Rattle.std.proofs.lemmas.List.{length-take-le}
 use Rattle.octets.specs.Octets.{xor_octets}
 use Rattle.modes.specs.Cbc.{block, chained, cbc_blocks}
-use Rattle.modes.proofs.Blocks.{block_is, block_front, block_back, blocks_joined, joined-add, joined-same}
+use Rattle.octets.proofs.Chunks.{chunk_is, chunk_front, chunk_back, chunks_joined}
+use Rattle.modes.proofs.Blocks.{joined-add, joined-same}
 use Rattle.modes.proofs.Sums.{xor_turned}
 
 pub blocks_are : (e : List ℕ → List ℕ) (iv p : List ℕ) (n : ℕ) → length p / 16 ≡ n → cbc_blocks e iv p ≡ concat (map (chained e iv p) (range_with_len 1 n))
@@ -17,7 +18,7 @@ none_alone e iv w h = blocks_are e iv w 0 (omega arith)
 -- a list is the ciphertext where each of its blocks is
 pub blocks_from : (e : List ℕ → List ℕ) (iv p c : List ℕ) (n : ℕ) → length p / 16 ≡ n → length c ≡ 16 * n → ((i : ℕ) → i < n → block c i ≡ chained e iv p (suc i)) → c ≡ cbc_blocks e iv p
 blocks_from e iv p c n h k same =
-    sym (blocks_are e iv p n h ∙ blocks_joined (chained e iv p) n 1 c k (λ i l. same i l ∙ ap (chained e iv p) (let z : suc i ≡ 1 + i = omega arith in z)))
+    sym (blocks_are e iv p n h ∙ chunks_joined 16 (chained e iv p) n 1 c k (λ i l. same i l ∙ ap (chained e iv p) (let z : suc i ≡ 1 + i = omega arith in z)))
 
 -- one block more, as the code adds it
 pub chained_more : (e : List ℕ → List ℕ) (iv p previous : List ℕ) (i : ℕ) → previous ≡ chained e iv p i → length previous ≡ 16 → 16 * i + 16 ≤ length p
@@ -25,7 +26,7 @@ pub chained_more : (e : List ℕ → List ℕ) (iv p previous : List ℕ) (i : �
 unfolding chained
 chained_more e iv p previous i is long room =
     let sixteen : length (block p i) ≡ 16 = length-take-le 16 (drop (16 * i) p) (omega (arith, length-drop (16 * i) p)) in
-    ap e (ap (xor_octets previous) (block_is p i) ∙ xor_turned previous (block p i) (long ∙ sym sixteen) ∙ ap (xor_octets (block p i)) is)
+    ap e (ap (xor_octets previous) (chunk_is 16 p i) ∙ xor_turned previous (block p i) (long ∙ sym sixteen) ∙ ap (xor_octets (block p i)) is)
 
 -- ---- behind whole blocks it goes on from the last of their ciphertext
 
@@ -33,14 +34,14 @@ module _ (e : List ℕ → List ℕ) (iv m : List ℕ) (n : ℕ) (whole : length
   pub chained_front : (i : ℕ) → i ≤ n → chained e iv (m ++ q) i ≡ chained e iv m i
   unfolding chained
   chained_front zero h = refl
-  chained_front (suc i) h = ap e (ap₂ xor_octets (block_front m q i (omega (arith, whole))) (chained_front i (omega arith)))
+  chained_front (suc i) h = ap e (ap₂ xor_octets (chunk_front 16 m q i (omega (arith, whole))) (chained_front i (omega arith)))
 
   pub chained_back : (i : ℕ) → chained e iv (m ++ q) (n + i) ≡ chained e (chained e iv m n) q i
   unfolding chained
   chained_back zero = ap (chained e iv (m ++ q)) (let z : n + 0 ≡ n = omega arith in z) ∙ chained_front n (omega arith)
   chained_back (suc i) =
       ap (chained e iv (m ++ q)) (let z : n + suc i ≡ suc (n + i) = omega arith in z)
-      ∙ ap e (ap₂ xor_octets (block_back m q n i whole) (chained_back i))
+      ∙ ap e (ap₂ xor_octets (chunk_back 16 m q n i whole) (chained_back i))
 
   pub blocks_behind : cbc_blocks e iv (m ++ q) ≡ cbc_blocks e iv m ++ cbc_blocks e (chained e iv m n) q
   blocks_behind =

@@ -8,7 +8,7 @@ use Rattle.std.proofs.lemmas.List.FromFn.{length-map-range_with_len, get_or-map-
 use Rattle.std.proofs.lemmas.Nat.{be_bytes_4, from_be_bytes-to_be_bytes_4}
 use Rattle.octets.specs.Octets.{IsOctets, xor_octets}
 use Rattle.modes.specs.Ctr.{counter_block, stream_octet, ctr}
-use Rattle.modes.specs.Running.{IsStreaming, IsReady}
+use Rattle.modes.specs.Views.{HoldsKeyStream, HoldsKeyStreamBlock}
 use Rattle.modes.specs.declared.ctr.KeyStream.{KeyStream}
 use borrow.Rule.Slice.PartMut.{put_mid}
 
@@ -105,7 +105,7 @@ counted_up u four y n sixteen is_four is_n is_y =
 -- ---- one step of the code, from a text p to p ++ q
 
 module _ (e : List ℕ → List ℕ) (f p : List ℕ) where
-  pub ready_as_is : (s : KeyStream) → s.used < 16 → IsStreaming s e f p → IsReady s e f p
+  pub ready_as_is : (s : KeyStream) → s.used < 16 → HoldsKeyStream s e f p → HoldsKeyStreamBlock s e f p
   ready_as_is s l k =
       let some : 0 < length p % 16 = ⊎_elim (λ h. h) (λ h. absurd (omega (arith, l, k.all_used (omega (arith, h))))) (cases_lt 0 (length p % 16)) in
       record {
@@ -115,8 +115,8 @@ module _ (e : List ℕ → List ℕ) (f p : List ℕ) where
         block = k.block some;
       }
 
-  pub ready_anew : (s t : KeyStream) → s.used ≡ 16 → IsStreaming s e f p
-      → t.block ≡ e s.counter → t.used ≡ 0 → t.counter ≡ counter_block s.counter 1 → IsReady t e f p
+  pub ready_anew : (s t : KeyStream) → s.used ≡ 16 → HoldsKeyStream s e f p
+      → t.block ≡ e s.counter → t.used ≡ 0 → t.counter ≡ counter_block s.counter 1 → HoldsKeyStreamBlock t e f p
   ready_anew s t full k block used counter =
       let none : length p % 16 ≡ 0 = ⊎_elim (λ h. absurd (omega (arith, full, k.used h))) (λ h. omega (arith, h)) (cases_lt 0 (length p % 16)) in
       let at : s.counter ≡ counter_block f (length p / 16) = k.counter ∙ ap (counter_block f) (let n : (length p + 15) / 16 ≡ length p / 16 = omega (arith, none) in n) in
@@ -127,8 +127,8 @@ module _ (e : List ℕ → List ℕ) (f p : List ℕ) where
         block = block ∙ ap e at;
       }
 
-  pub counts_on : (s t : KeyStream) (q : List ℕ) → IsReady s e f p → 0 < length q → s.used + length q ≤ 16
-      → t.block ≡ s.block → t.counter ≡ s.counter → t.used ≡ s.used + length q → IsStreaming t e f (p ++ q)
+  pub counts_on : (s t : KeyStream) (q : List ℕ) → HoldsKeyStreamBlock s e f p → 0 < length q → s.used + length q ≤ 16
+      → t.block ≡ s.block → t.counter ≡ s.counter → t.used ≡ s.used + length q → HoldsKeyStream t e f (p ++ q)
   counts_on s t q k some room block counter used =
       let long = length-append p q in
       record {

@@ -1,8 +1,8 @@
 -- A text that was fed, and what comes by the next piece.
-use Rattle.std.proofs.Common.{◌≡◌, ℕ, ◌+◌, ◌-◌, ◌*◌, ◌/◌, ◌%◌, ◌<◌, List, [], ◌++◌, length, drop, replicate, sym, ap, ap₂, ◌∙◌, arith, length-append, length-drop, append-nil}
-use Rattle.std.proofs.lemmas.List.{length-replicate, drop-replicate}
+use Rattle.std.proofs.Common.{◌≡◌, ℕ, ◌+◌, ◌-◌, ◌*◌, ◌/◌, ◌%◌, ◌<◌, List, [], ◌++◌, length, take, drop, replicate, sym, ap, ap₂, ◌∙◌, arith, length-append, append-nil}
+use Rattle.std.proofs.lemmas.List.{length-replicate, take-replicate}
 use Rattle.modes.specs.Cbc.{pad, chained, cbc_blocks, cbc}
-use Rattle.modes.proofs.Pieces.{whole_of, length-whole, whole_and_rest, waits_short, longer, together, full, blocks, left, joined, sixteen, length-blocks, filled_whole, left_short}
+use Rattle.modes.proofs.Pieces.{whole_of, length-whole, whole_and_rest, length-waits, waits_short, longer, together, full, blocks, left, joined, sixteen, length-blocks, filled_whole, left_short}
 use Rattle.modes.proofs.Chaining.{none_alone, chained_front, chained_back, blocks_behind}
 
 -- ---- a text p, of which w waits, and a piece x, by which the whole blocks t come and v waits
@@ -66,14 +66,18 @@ module _ (e : List ℕ → List ℕ) (iv p previous w : List ℕ) (is : previous
 -- ---- the end
 
 module _ (e : List ℕ → List ℕ) (iv p previous w : List ℕ) (is : previous ≡ chained e iv p (length p / 16)) (waits : w ≡ drop (16 * (length p / 16)) p)
-    (count : ℕ) (counted : count ≡ length p % 16) where
-  padding : drop count (replicate 16 (16 - count)) ≡ replicate (16 - length p % 16) (16 - length p % 16)
-  padding = drop-replicate count 16 (16 - count) ∙ ap (λ n. replicate (16 - n) (16 - n)) counted
+    (n : ℕ) (fills : length w + n ≡ 16) where
+  -- as many octets as are missing
+  missing : n ≡ 16 - length p % 16
+  missing = omega (arith, fills, length-waits p w waits)
 
-  pub finished : cbc e iv p ≡ cbc_blocks e iv p ++ cbc_blocks e previous (w ++ drop count (replicate 16 (16 - count)))
+  padding : take n (replicate 16 n) ≡ replicate (16 - length p % 16) (16 - length p % 16)
+  padding = take-replicate n 16 n (omega (arith, fills)) ∙ ap (λ k. replicate k k) missing
+
+  pub finished : cbc e iv p ≡ cbc_blocks e iv p ++ cbc_blocks e previous (w ++ take n (replicate 16 n))
   unfolding cbc pad
   finished =
       let x = replicate (16 - length p % 16) (16 - length p % 16) in
-      let one : length (w ++ x) ≡ 16 * 1 = length-append w x ∙ omega (arith, ap length waits, length-drop (16 * (length p / 16)) p, length-replicate (16 - length p % 16) (16 - length p % 16)) in
+      let one : length (w ++ x) ≡ 16 * 1 = length-append w x ∙ omega (arith, length-waits p w waits, length-replicate (16 - length p % 16) (16 - length p % 16)) in
       fed_text e iv p previous w is waits x (w ++ x) [] 1 (sym (append-nil (w ++ x))) one (omega arith)
       ∙ ap (λ s. cbc_blocks e iv p ++ cbc_blocks e previous (w ++ s)) (sym padding)

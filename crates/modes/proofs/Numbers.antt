@@ -4,7 +4,7 @@ use Rattle.std.specs.Int.{w128, from_be_bytes}
 use Rattle.std.specs.List.{range_with_len}
 use Rattle.modes.specs.Cbc.{block}
 use Rattle.modes.specs.Ghash.{numbers}
-use Rattle.modes.proofs.Blocks.{block_front, block_back}
+use Rattle.octets.proofs.Chunks.{chunk_front, chunk_back}
 use Rattle.modes.proofs.Pieces.{whole_of, length-whole, whole_and_rest, waits_short, longer, left, joined, sixteen, filled_whole, left_short}
 
 -- block i as a number; and the first n of them
@@ -44,10 +44,10 @@ numbers_behind m q n whole =
     numbers_are (m ++ q) (n + k) (omega (arith, length-append m q, whole))
     ∙ add (number (m ++ q)) n k 0
     ∙ ap₂ (λ s t. s ++ t)
-    (same (number (m ++ q)) (number m) n 0 0 (λ i l. ap (from_be_bytes w128) (block_front m q (0 + i) (omega (arith, whole)))) ∙ sym (numbers_are m n (omega (arith, whole))))
+    (same (number (m ++ q)) (number m) n 0 0 (λ i l. ap (from_be_bytes w128) (chunk_front 16 m q (0 + i) (omega (arith, whole)))) ∙ sym (numbers_are m n (omega (arith, whole))))
     (same (number (m ++ q)) (number q) k (0 + n) 0 (λ i l.
     ap (number (m ++ q)) (let e : 0 + n + i ≡ n + i = omega arith in e)
-    ∙ ap (from_be_bytes w128) (block_back m q n i whole)
+    ∙ ap (from_be_bytes w128) (chunk_back 16 m q n i whole)
     ∙ ap (number q) (let e : i ≡ 0 + i = omega arith in e))
     ∙ sym (numbers_are q k refl))
 

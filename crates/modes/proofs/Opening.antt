@@ -5,7 +5,8 @@ use Rattle.aes.specs.Block.{IsBlock, IsCipher}
 use Rattle.octets.specs.Octets.{xor_octets, IsOctets}
 use Rattle.modes.specs.Cbc.{block, pad, chained, cbc_blocks, cbc}
 use Rattle.modes.specs.Opening.{before, opened_block, opened_blocks, IsPadded}
-use Rattle.modes.proofs.Blocks.{block_is_block, same_blocks, length-joined, block-joined}
+use Rattle.octets.proofs.Chunks.{same_chunks, length-joined, chunk-joined}
+use Rattle.modes.proofs.Blocks.{block_is_block}
 use Rattle.modes.proofs.Chaining.{blocks_are, blocks_from}
 use Rattle.modes.proofs.Sums.{length-xor, xor_is_block, xor_twice}
 use Rattle.modes.proofs.Padding.{length-pad, pad_octets, pad_ends, pad_is_unique, unpadded}
@@ -36,13 +37,13 @@ module _ (e d : List ℕ → List ℕ) (law : IsCipher e d) (iv : List ℕ) (sta
     cbc_blocks_is = blocks_are e iv q n (omega (arith, whole))
 
     length-c : length c ≡ 16 * n
-    length-c = length-joined (chained e iv q) n 1 sixteen
+    length-c = length-joined 16 (chained e iv q) n 1 sixteen
 
     pub length-cbc_blocks : length (cbc_blocks e iv q) ≡ 16 * n
     length-cbc_blocks = ap length cbc_blocks_is ∙ length-c
 
     block_of_c : (i : ℕ) → i < n → block c i ≡ chained e iv q (suc i)
-    block_of_c i l = block-joined (chained e iv q) n 1 i sixteen l ∙ ap (chained e iv q) (let z : 1 + i ≡ suc i = omega arith in z)
+    block_of_c i l = chunk-joined 16 (chained e iv q) n 1 i sixteen l ∙ ap (chained e iv q) (let z : 1 + i ≡ suc i = omega arith in z)
 
     before_c : (i : ℕ) → i < n → before iv c i ≡ chained e iv q i
     unfolding before chained
@@ -88,12 +89,12 @@ module _ (e d : List ℕ → List ℕ) (law : IsCipher e d) (iv : List ℕ) (sta
     opened_are = ap (λ k. concat (map (opened_block d iv c) (range_with_len 0 k))) (let z : length c / 16 ≡ n = omega (arith, whole) in z)
 
     pub length-opened : length (opened_blocks d iv c) ≡ 16 * n
-    length-opened = ap length opened_are ∙ length-joined (opened_block d iv c) n 0 (λ i l. opened_sixteen (0 + i) (omega arith))
+    length-opened = ap length opened_are ∙ length-joined 16 (opened_block d iv c) n 0 (λ i l. opened_sixteen (0 + i) (omega arith))
 
     pub block_of_opened : (i : ℕ) → i < n → block (opened_blocks d iv c) i ≡ opened_block d iv c i
     block_of_opened i l =
         ap (λ s. block s i) opened_are
-        ∙ block-joined (opened_block d iv c) n 0 i (λ i l. opened_sixteen (0 + i) (omega arith)) l
+        ∙ chunk-joined 16 (opened_block d iv c) n 0 i (λ i l. opened_sixteen (0 + i) (omega arith)) l
         ∙ ap (opened_block d iv c) (let z : 0 + i ≡ i = omega arith in z)
 
   -- ---- with padding
@@ -117,7 +118,7 @@ module _ (e d : List ℕ → List ℕ) (law : IsCipher e d) (iv : List ℕ) (sta
   pub one_plaintext : (p q : List ℕ) → IsOctets p → IsOctets q → cbc e iv p ≡ cbc e iv q → p ≡ q
   one_plaintext p q x y same =
       let count : length p / 16 ≡ length q / 16 = omega (arith, ap length same, length-cbc p x, length-cbc q y) in
-      pad_is_unique p q (same_blocks (suc (length p / 16)) (pad p) (pad q) (length-pad p) (length-pad q ∙ ap (λ k. 16 * suc k) (sym count))
+      pad_is_unique p q (same_chunks 16 (suc (length p / 16)) (pad p) (pad q) (length-pad p) (length-pad q ∙ ap (λ k. 16 * suc k) (sym count))
       (λ i l. sym (opened_cbc p x i l) ∙ ap (λ s. opened_block d iv s i) same ∙ opened_cbc q y i (subst (λ k. i < suc k) count l)))
 
   -- a ciphertext whose last block opens to one that ends in padding is that of the rest

@@ -15,8 +15,11 @@ module _ (p w : List ℕ) (waits : w ≡ drop (16 * (length p / 16)) p) where
   pub whole_and_rest : whole_of p ++ w ≡ p
   whole_and_rest = ap (λ s. whole_of p ++ s) waits ∙ take-append-drop (16 * (length p / 16)) p
 
+  pub length-waits : length w ≡ length p % 16
+  length-waits = omega (arith, ap length waits, length-drop (16 * (length p / 16)) p)
+
   pub waits_short : length w < 16
-  waits_short = omega (arith, ap length waits, length-drop (16 * (length p / 16)) p)
+  waits_short = omega (arith, length-waits)
 
   module _ (x t v : List ℕ) (k : ℕ) (same : w ++ x ≡ t ++ v) (whole : length t ≡ 16 * k) (short : length v < 16) where
     pub longer : p ++ x ≡ whole_of p ++ (t ++ v)
@@ -24,9 +27,6 @@ module _ (p w : List ℕ) (waits : w ≡ drop (16 * (length p / 16)) p) where
 
     long : length (p ++ x) ≡ 16 * (length p / 16 + k) + length v
     long = ap length longer ∙ omega (arith, length-append (whole_of p) (t ++ v), length-append t v, length-whole, whole)
-
-    pub fed_count : length v ≡ length (p ++ x) % 16
-    fed_count = omega (arith, long, short)
 
     pub together : length (p ++ x) / 16 ≡ length p / 16 + k
     together = omega (arith, long, short)
@@ -73,6 +73,3 @@ module _ (w front rest : List ℕ) (fills : length w + length front ≡ 16) wher
 module _ (p w : List ℕ) (waits : w ≡ drop (16 * (length p / 16)) p) (front rest : List ℕ) (fills : length w + length front ≡ 16) where
   pub filled_waiting : left w front rest fills ≡ drop (16 * (length (p ++ (front ++ rest)) / 16)) (p ++ (front ++ rest))
   filled_waiting = fed_waiting p w waits (front ++ rest) (full w front rest fills ++ blocks w front rest fills) (left w front rest fills) (1 + length rest / 16) (joined w front rest fills) (filled_whole w front rest fills) (left_short w front rest fills)
-
-  pub filled_count : length (left w front rest fills) ≡ length (p ++ (front ++ rest)) % 16
-  filled_count = fed_count p w waits (front ++ rest) (full w front rest fills ++ blocks w front rest fills) (left w front rest fills) (1 + length rest / 16) (joined w front rest fills) (filled_whole w front rest fills) (left_short w front rest fills)

@@ -5,7 +5,7 @@ use Rattle.std.proofs.lemmas.List.{take_at, drop_at, length-replicate}
 use Rattle.std.proofs.lemmas.Grind.{common_steps}
 use Rattle.octets.specs.Octets.{xor_octets}
 use Rattle.modes.specs.Ctr.{counter_block, stream_octet, ctr}
-use Rattle.modes.specs.Gcm.{first_counter, bit_length, gcm_text, gcm_tag}
+use Rattle.modes.specs.Gcm.{pre_counter_block, bit_length, gcm_ciphertext, gcm_tag}
 use Rattle.modes.specs.Ghash.{zero_filled, ghash}
 use Rattle.modes.proofs.Counting.{length-ctr, octet-ctr}
 
@@ -27,18 +27,18 @@ pub ctr-none : (e : List ℕ → List ℕ) (f : List ℕ) → ctr e f [] ≡ []
 unfolding ctr
 ctr-none e f = refl
 
-pub one_plaintext : (e : List ℕ → List ℕ) (iv p q : List ℕ) → gcm_text e iv p ≡ gcm_text e iv q → p ≡ q
-unfolding gcm_text
+pub one_plaintext : (e : List ℕ → List ℕ) (iv p q : List ℕ) → gcm_ciphertext e iv p ≡ gcm_ciphertext e iv q → p ≡ q
+unfolding gcm_ciphertext
 one_plaintext e iv p q same =
-    let f = counter_block (first_counter iv) 1 in
+    let f = counter_block (pre_counter_block iv) 1 in
     sym (ctr-ctr e f p) ∙ ap (ctr e f) same ∙ ctr-ctr e f q
 
-pub length-gcm_text : (e : List ℕ → List ℕ) (iv p : List ℕ) → length (gcm_text e iv p) ≡ length p
-unfolding gcm_text
-length-gcm_text e iv p = length-ctr e (counter_block (first_counter iv) 1) [] [] p
+pub length-gcm_ciphertext : (e : List ℕ → List ℕ) (iv p : List ℕ) → length (gcm_ciphertext e iv p) ≡ length p
+unfolding gcm_ciphertext
+length-gcm_ciphertext e iv p = length-ctr e (counter_block (pre_counter_block iv) 1) [] [] p
 
 -- the counter block after J0
-pub second_counter : (iv : List ℕ) → length iv ≡ 12 → counter_block (first_counter iv) 1 ≡ iv ++ 0 ∷ 0 ∷ 0 ∷ 2 ∷ []
+pub second_counter : (iv : List ℕ) → length iv ≡ 12 → counter_block (pre_counter_block iv) 1 ≡ iv ++ 0 ∷ 0 ∷ 0 ∷ 2 ∷ []
 unfolding counter_block
 second_counter iv twelve =
     let one = 0 ∷ 0 ∷ 0 ∷ 1 ∷ [] in
@@ -72,7 +72,7 @@ lengths_behind x a b eight other =
 -- the tag of what was hashed
 pub tag_is : (e : List ℕ → List ℕ) (iv aad c a b mask result : List ℕ)
     → result ≡ xor_octets (ghash (e (replicate 16 0)) ((zero_filled (zero_filled aad ++ c) ++ a) ++ b)) mask
-    → a ≡ bit_length aad → b ≡ bit_length c → mask ≡ e (first_counter iv) → result ≡ gcm_tag e iv aad c
+    → a ≡ bit_length aad → b ≡ bit_length c → mask ≡ e (pre_counter_block iv) → result ≡ gcm_tag e iv aad c
 unfolding gcm_tag
 tag_is e iv aad c a b mask result is is_a is_b is_mask =
     is

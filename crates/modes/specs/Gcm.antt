@@ -5,24 +5,31 @@ use Rattle.octets.specs.Octets.{IsOctets, xor_octets}
 use Rattle.modes.specs.Ctr.{counter_block, ctr}
 use Rattle.modes.specs.Ghash.{zero_filled, ghash}
 
--- J0, of the IV and the number 1
-abbrev pub first_counter : List ℕ → List ℕ
-first_counter iv = iv ++ 0 ∷ 0 ∷ 0 ∷ 1 ∷ []
+-- step 1, H: e of the zero block
+abbrev pub hash_subkey : (List ℕ → List ℕ) → List ℕ
+hash_subkey e = e (replicate 16 0)
+
+-- step 2, J0: the IV and the number 1
+abbrev pub pre_counter_block : List ℕ → List ℕ
+pre_counter_block iv = iv ++ 0 ∷ 0 ∷ 0 ∷ 1 ∷ []
+
+-- step 3, C: counter mode from the counter block after J0
+unfoldable pub gcm_ciphertext : (List ℕ → List ℕ) → List ℕ → List ℕ → List ℕ
+gcm_ciphertext e iv p = ctr e (counter_block (pre_counter_block iv) 1) p
 
 -- the number of bits of x, modulo 2 ^ 64, as eight octets
 abbrev pub bit_length : List ℕ → List ℕ
 bit_length x = to_be_bytes w64 (length x * 8 % 2 ^ 64)
 
--- C: counter mode from the counter block after J0
-unfoldable pub gcm_text : (List ℕ → List ℕ) → List ℕ → List ℕ → List ℕ
-gcm_text e iv p = ctr e (counter_block (first_counter iv) 1) p
+-- steps 4 and 5, S: GHASH under H of A and C, each filled with zero octets, and of the lengths of both
+abbrev pub gcm_hash : (List ℕ → List ℕ) → List ℕ → List ℕ → List ℕ
+gcm_hash e aad c = ghash (hash_subkey e) (((zero_filled aad ++ zero_filled c) ++ bit_length aad) ++ bit_length c)
 
--- T: the sum of e of J0 and GHASH under e of the zero block
+-- step 6, T: the sum of S and e of J0
 unfoldable pub gcm_tag : (List ℕ → List ℕ) → List ℕ → List ℕ → List ℕ → List ℕ
-gcm_tag e iv aad c =
-    xor_octets (ghash (e (replicate 16 0)) (((zero_filled aad ++ zero_filled c) ++ bit_length aad) ++ bit_length c)) (e (first_counter iv))
+gcm_tag e iv aad c = xor_octets (gcm_hash e aad c) (e (pre_counter_block iv))
 
--- the longest plaintext (section 5.2.1.1)
+-- the length of the longest plaintext (section 5.2.1.1)
 abbrev pub longest : ℕ
 longest = 2 ^ 36 - 32
 
@@ -30,5 +37,5 @@ longest = 2 ^ 36 - 32
 pub record IsGcmOpening (e : List ℕ → List ℕ) (iv aad c tag p : List ℕ) : Type 0 where
   pub octets : IsOctets p
   pub short : length p ≤ longest
-  pub text : gcm_text e iv p ≡ c
+  pub is_ciphertext : gcm_ciphertext e iv p ≡ c
   pub is_tag : gcm_tag e iv aad c ≡ tag

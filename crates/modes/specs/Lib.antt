@@ -3,5 +3,5 @@ pub mod Ctr
 pub mod Ghash
 pub mod Gcm
 pub mod Opening
-pub mod Running
+pub mod Views
 pub mod Toy

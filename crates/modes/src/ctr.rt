@@ -13,11 +13,11 @@ pub struct Ctr32<B> {
 }
 
 impl<B: Block> Ctr32<B> {
-    ghost use Rattle.modes.specs.Running.{IsCounting};
+    ghost use Rattle.modes.specs.Views.{HoldsCtr};
 
     /// No octet was fed yet.
     pub fn start(cipher: B, first: &[u8; 16]) -> Ctr32<B>
-        ensures { IsCounting B.encrypted result (B.encrypted cipher) first.now [] }
+        ensures { HoldsCtr B.encrypted result (B.encrypted cipher) first.now [] }
     {
         Ctr32 {
             cipher,
@@ -30,9 +30,9 @@ impl<B: Block> Ctr32<B> {
     pub fn feed(&mut self, piece: &[u8], out: &mut [u8; 4112]) -> usize
         requires { length piece.now ≤ 4096 }
         ensures len { result ≡ length piece.now }
-        ensures fed { (e : List ℕ → List ℕ) (f p : List ℕ) → IsCounting B.encrypted self.old e f p
-            → IsCounting B.encrypted self.new e f (p ++ piece.now) }
-        ensures text { (e : List ℕ → List ℕ) (f p : List ℕ) → IsCounting B.encrypted self.old e f p
+        ensures fed { (e : List ℕ → List ℕ) (f p : List ℕ) → HoldsCtr B.encrypted self.old e f p
+            → HoldsCtr B.encrypted self.new e f (p ++ piece.now) }
+        ensures text { (e : List ℕ → List ℕ) (f p : List ℕ) → HoldsCtr B.encrypted self.old e f p
             → ctr e f (p ++ piece.now) ≡ ctr e f p ++ take result out.new }
     {
         let part = &mut out[..piece.len()];
@@ -55,11 +55,11 @@ pub(crate) struct KeyStream {
 }
 
 impl KeyStream {
-    ghost use Rattle.modes.specs.Running.{IsStreaming, IsReady};
+    ghost use Rattle.modes.specs.Views.{HoldsKeyStream, HoldsKeyStreamBlock};
 
     /// Behind no text.
     pub(crate) fn start(first: &[u8; 16]) -> KeyStream
-        ensures { (e : List ℕ → List ℕ) → IsStreaming result e first.now [] }
+        ensures { (e : List ℕ → List ℕ) → HoldsKeyStream result e first.now [] }
     {
         let mut counter = [0; 16];
         counter.copy_from_slice(first);
@@ -72,9 +72,9 @@ impl KeyStream {
 
     /// Adds the next octets of the stream to these, in their place.
     pub(crate) fn apply<B: Block>(&mut self, cipher: &B, octets: &mut [u8])
-        ensures fed { (f p : List ℕ) → IsStreaming self.old (B.encrypted cipher.now) f p
-            → IsStreaming self.new (B.encrypted cipher.now) f (p ++ octets.old) }
-        ensures text { (f p : List ℕ) → IsStreaming self.old (B.encrypted cipher.now) f p
+        ensures fed { (f p : List ℕ) → HoldsKeyStream self.old (B.encrypted cipher.now) f p
+            → HoldsKeyStream self.new (B.encrypted cipher.now) f (p ++ octets.old) }
+        ensures text { (f p : List ℕ) → HoldsKeyStream self.old (B.encrypted cipher.now) f p
             → ctr (B.encrypted cipher.now) f (p ++ octets.old) ≡ ctr (B.encrypted cipher.now) f p ++ octets.new }
     {
         let mut at = 0;
@@ -88,9 +88,9 @@ impl KeyStream {
         requires { 0 < length octets.old }
         ensures some { (0 < result) × (result ≤ length octets.old) }
         ensures rest { drop result octets.new ≡ drop result octets.old }
-        ensures fed { (f p : List ℕ) → IsStreaming self.old (B.encrypted cipher.now) f p
-            → IsStreaming self.new (B.encrypted cipher.now) f (p ++ take result octets.old) }
-        ensures text { (f p : List ℕ) → IsStreaming self.old (B.encrypted cipher.now) f p
+        ensures fed { (f p : List ℕ) → HoldsKeyStream self.old (B.encrypted cipher.now) f p
+            → HoldsKeyStream self.new (B.encrypted cipher.now) f (p ++ take result octets.old) }
+        ensures text { (f p : List ℕ) → HoldsKeyStream self.old (B.encrypted cipher.now) f p
             → ctr (B.encrypted cipher.now) f (p ++ take result octets.old)
             ≡ ctr (B.encrypted cipher.now) f p ++ take result octets.new }
     {
@@ -104,8 +104,8 @@ impl KeyStream {
     /// Sees that an octet of the block is left.
     fn prepare<B: Block>(&mut self, cipher: &B)
         ensures left { self.new.used < 16 }
-        ensures ready { (f p : List ℕ) → IsStreaming self.old (B.encrypted cipher.now) f p
-            → IsReady self.new (B.encrypted cipher.now) f p }
+        ensures ready { (f p : List ℕ) → HoldsKeyStream self.old (B.encrypted cipher.now) f p
+            → HoldsKeyStreamBlock self.new (B.encrypted cipher.now) f p }
     {
         if self.used == 16 {
             self.block = cipher.encrypt(&self.counter);

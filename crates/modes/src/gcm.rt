@@ -1,8 +1,9 @@
-//! GCM, of a text that comes in pieces, and its opening in place (SP 800-38D, sections 7.1 and 7.2).
-ghost use Rattle.std.specs.Prelude.{◌≡◌, ◌↔◌, ℕ, ◌*◌, ◌%◌, ◌^◌, ◌<◌, ◌≤◌, List, [], ◌∷◌, ◌++◌, length, take, replicate, IfOk, IfErr, IsErr, OnOk, OnErr, IfSome, IfNone};
-ghost use Rattle.modes.specs.Gcm.{first_counter, gcm_text, gcm_tag, longest, IsGcmOpening};
+//! GCM, of a text that comes in pieces, and its opening in place (SP 800-38D, sections 7.1 and 7.2). The steps are those
+//! of section 7.1: H and J0, the ciphertext from the counter block after J0, S, and the tag.
+ghost use Rattle.std.specs.Prelude.{◌≡◌, ◌↔◌, ℕ, ◌*◌, ◌%◌, ◌^◌, ◌<◌, ◌≤◌, List, [], ◌∷◌, ◌++◌, length, take, IfOk, IfErr, IsErr, OnOk, OnErr, IfSome, IfNone};
+ghost use Rattle.modes.specs.Gcm.{hash_subkey, pre_counter_block, gcm_ciphertext, gcm_tag, longest, IsGcmOpening};
 ghost use Rattle.modes.specs.Ghash.{zero_filled, ghash};
-ghost use Rattle.modes.specs.Running.{IsHashing, IsProtecting};
+ghost use Rattle.modes.specs.Views.{HoldsGhash, HoldsGcm};
 ghost use Rattle.octets.specs.Octets.{xor_octets};
 ghost use Rattle.std.specs.Int.{w64, to_be_bytes};
 
@@ -17,9 +18,9 @@ const LONGEST: u64 = (1 << 36) - 32;
 /// An encryption whose plaintext comes in pieces.
 #[derive(Drop)]
 pub struct Gcm<B> {
-    text: Ctr32<B>,
+    ctr: Ctr32<B>,
     hash: Ghash,
-    mask: [u8; 16],
+    tag_mask: [u8; 16],
     aad_bits: [u8; 8],
     len: u64,
 }
@@ -27,15 +28,15 @@ pub struct Gcm<B> {
 impl<B: Block> Gcm<B> {
     /// No octet of the plaintext was fed yet.
     pub fn start(cipher: B, iv: &[u8; 12], aad: &[u8]) -> Gcm<B>
-        ensures { IsProtecting B.encrypted result (B.encrypted cipher) iv.now aad.now [] }
+        ensures { HoldsGcm B.encrypted result (B.encrypted cipher) iv.now aad.now [] }
     {
-        let hash = hash_of(&cipher, aad);
-        let mask = mask_of(&cipher, iv);
+        let hash = aad_hash(&cipher, aad);
+        let tag_mask = tag_mask(&cipher, iv);
         Gcm {
-            text: Ctr32::start(cipher, &counter(iv, 2)),
+            ctr: Ctr32::start(cipher, &counter_block(iv, 2)),
             hash,
-            mask,
-            aad_bits: bits_of(aad.len() as u64),
+            tag_mask,
+            aad_bits: bit_length(aad.len() as u64),
             len: 0,
         }
     }
@@ -45,20 +46,21 @@ impl<B: Block> Gcm<B> {
     pub fn feed(&mut self, piece: &[u8], out: &mut [u8; 4112]) -> Result<usize, Refusal>
         requires { length piece.now ≤ 4096 }
         ensures len { IfOk result (λ n. n ≡ length piece.now) }
-        ensures fed { (e : List ℕ → List ℕ) (iv aad p : List ℕ) → IsProtecting B.encrypted self.old e iv aad p
-            → OnOk result (IsProtecting B.encrypted self.new e iv aad (p ++ piece.now)) }
-        ensures text { (e : List ℕ → List ℕ) (iv aad p : List ℕ) → IsProtecting B.encrypted self.old e iv aad p
-            → IfOk result (λ n. gcm_text e iv (p ++ piece.now) ≡ gcm_text e iv p ++ take n out.new) }
-        ensures limit { (e : List ℕ → List ℕ) (iv aad p : List ℕ) → IsProtecting B.encrypted self.old e iv aad p
+        ensures fed { (e : List ℕ → List ℕ) (iv aad p : List ℕ) → HoldsGcm B.encrypted self.old e iv aad p
+            → OnOk result (HoldsGcm B.encrypted self.new e iv aad (p ++ piece.now)) }
+        ensures text { (e : List ℕ → List ℕ) (iv aad p : List ℕ) → HoldsGcm B.encrypted self.old e iv aad p
+            → IfOk result (λ n. gcm_ciphertext e iv (p ++ piece.now) ≡ gcm_ciphertext e iv p ++ take n out.new) }
+        ensures limit { (e : List ℕ → List ℕ) (iv aad p : List ℕ) → HoldsGcm B.encrypted self.old e iv aad p
             → IsErr result ↔ (longest < length (p ++ piece.now)) }
         ensures refusal { IfErr result (λ refusal. refusal ≡ Refusal.Limit) }
         ensures unchanged { OnErr result (self.new ≡ self.old) }
+        ensures place { OnErr result (out.new ≡ out.old) }
     {
         let len = self.len.saturating_add(piece.len() as u64);
         if len > LONGEST {
             return Err(Refusal::Limit);
         }
-        let n = self.text.feed(piece, out);
+        let n = self.ctr.feed(piece, out);
         self.hash.feed(&out[..n]);
         self.len = len;
         Ok(n)
@@ -66,17 +68,17 @@ impl<B: Block> Gcm<B> {
 
     /// The tag.
     pub fn finish(self) -> [u8; 16]
-        ensures { (e : List ℕ → List ℕ) (iv aad p : List ℕ) → IsProtecting B.encrypted self e iv aad p
-            → result ≡ gcm_tag e iv aad (gcm_text e iv p) }
+        ensures { (e : List ℕ → List ℕ) (iv aad p : List ℕ) → HoldsGcm B.encrypted self e iv aad p
+            → result ≡ gcm_tag e iv aad (gcm_ciphertext e iv p) }
     {
         let Gcm {
-            text: _,
+            ctr: _,
             hash,
-            mask,
+            tag_mask,
             aad_bits,
             len,
         } = self;
-        tag_of(hash, &aad_bits, &bits_of(len), &mask)
+        tag_of(hash, &aad_bits, &bit_length(len), &tag_mask)
     }
 }
 
@@ -97,24 +99,24 @@ pub fn gcm_open<B: Block>(
     if buf.len() as u64 > LONGEST {
         return None;
     }
-    let mut hash = hash_of(cipher, aad);
+    let mut hash = aad_hash(cipher, aad);
     hash.feed(buf);
-    let mask = mask_of(cipher, iv);
+    let tag_mask = tag_mask(cipher, iv);
     let expected = tag_of(
         hash,
-        &bits_of(aad.len() as u64),
-        &bits_of(buf.len() as u64),
-        &mask,
+        &bit_length(aad.len() as u64),
+        &bit_length(buf.len() as u64),
+        &tag_mask,
     );
     if !same_octets(&expected, tag) {
         return None;
     }
-    KeyStream::start(&counter(iv, 2)).apply(cipher, buf);
+    KeyStream::start(&counter_block(iv, 2)).apply(cipher, buf);
     Some(buf.len())
 }
 
-/// The counter block of the IV and this number.
-fn counter(iv: &[u8; 12], number: u8) -> [u8; 16]
+/// The counter block of the IV and this number: J0 has 1, and the ciphertext is made from 2 on (step 2).
+fn counter_block(iv: &[u8; 12], number: u8) -> [u8; 16]
     ensures { result ≡ iv.now ++ 0 ∷ 0 ∷ 0 ∷ number ∷ [] }
 {
     let mut block = [0; 16];
@@ -124,15 +126,15 @@ fn counter(iv: &[u8; 12], number: u8) -> [u8; 16]
 }
 
 /// The number of bits of so many octets, in eight octets.
-fn bits_of(len: u64) -> [u8; 8]
+fn bit_length(len: u64) -> [u8; 8]
     ensures { result ≡ to_be_bytes w64 (len * 8 % 2 ^ 64) }
 {
     len.wrapping_mul(8).to_be_bytes()
 }
 
-/// The hash of the additional data.
-fn hash_of<B: Block>(cipher: &B, aad: &[u8]) -> Ghash
-    ensures { IsHashing result (B.encrypted cipher.now (replicate 16 0)) (zero_filled aad.now) }
+/// The hash under H of the additional data (steps 1 and 5).
+fn aad_hash<B: Block>(cipher: &B, aad: &[u8]) -> Ghash
+    ensures { HoldsGhash result (hash_subkey (B.encrypted cipher.now)) (zero_filled aad.now) }
 {
     let mut hash = Ghash::start(&cipher.encrypt(&[0; 16]));
     hash.feed(aad);
@@ -140,22 +142,27 @@ fn hash_of<B: Block>(cipher: &B, aad: &[u8]) -> Ghash
     hash
 }
 
-/// What the hash is added to: the cipher of the first counter block.
-fn mask_of<B: Block>(cipher: &B, iv: &[u8; 12]) -> [u8; 16]
-    ensures { result ≡ B.encrypted cipher.now (first_counter iv.now) }
+/// The cipher of J0, to which S is added (step 6).
+fn tag_mask<B: Block>(cipher: &B, iv: &[u8; 12]) -> [u8; 16]
+    ensures { result ≡ B.encrypted cipher.now (pre_counter_block iv.now) }
 {
-    cipher.encrypt(&counter(iv, 1))
+    cipher.encrypt(&counter_block(iv, 1))
 }
 
-/// The tag: the hash of what was hashed so far with both lengths behind it, and the mask.
-fn tag_of(mut text: Ghash, aad_bits: &[u8; 8], text_bits: &[u8; 8], mask: &[u8; 16]) -> [u8; 16]
-    ensures { (h x : List ℕ) → IsHashing text h x
-        → result ≡ xor_octets (ghash h ((zero_filled x ++ aad_bits.now) ++ text_bits.now)) mask.now }
+/// The tag: S, which is the hash so far with both lengths behind it, and the mask (steps 5 and 6).
+fn tag_of(
+    mut hash: Ghash,
+    aad_bits: &[u8; 8],
+    ciphertext_bits: &[u8; 8],
+    tag_mask: &[u8; 16],
+) -> [u8; 16]
+    ensures { (h x : List ℕ) → HoldsGhash hash h x
+        → result ≡ xor_octets (ghash h ((zero_filled x ++ aad_bits.now) ++ ciphertext_bits.now)) tag_mask.now }
 {
-    text.pad();
-    text.feed(aad_bits);
-    text.feed(text_bits);
-    let mut tag = text.finish();
-    xor_into(&mut tag, mask);
+    hash.pad();
+    hash.feed(aad_bits);
+    hash.feed(ciphertext_bits);
+    let mut tag = hash.finish();
+    xor_into(&mut tag, tag_mask);
     tag
 }

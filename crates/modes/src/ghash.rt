@@ -2,93 +2,65 @@
 ghost use Rattle.std.specs.Prelude.{◌≡◌, ℕ, ◌+◌, ◌%◌, ◌<◌, List, [], ◌∷◌, ◌++◌, length, take};
 ghost use Rattle.modes.specs.Ghash.{block_product, shifted, ghash_number, numbers, zero_filled, ghash};
 
+use crate::partial_block::PartialBlock;
 use aes::laws::polynomial_laws;
 
-/// A sum whose blocks come in pieces. It holds fewer than sixteen octets of them.
+/// A sum whose blocks come in pieces.
 #[derive(Drop)]
 pub struct Ghash {
     h: u128,
     sum: u128,
-    waiting: [u8; 16],
-    count: usize,
-    ghost count_in: { count < 16 },
+    waiting: PartialBlock,
 }
 
 impl Ghash {
-    ghost use Rattle.modes.specs.Running.{IsHashing};
+    ghost use Rattle.modes.specs.Views.{HoldsGhash};
 
     /// No octet was fed yet.
     pub fn start(h: &[u8; 16]) -> Ghash
-        ensures { IsHashing result h.now [] }
+        ensures { HoldsGhash result h.now [] }
     {
         Ghash {
             h: u128::from_be_bytes(*h),
             sum: 0,
-            waiting: [0; 16],
-            count: 0,
+            waiting: PartialBlock::new(),
         }
     }
 
     /// Takes the next piece.
     pub fn feed(&mut self, octets: &[u8])
-        ensures { (h x : List ℕ) → IsHashing self.old h x → IsHashing self.new h (x ++ octets.now) }
+        ensures { (h x : List ℕ) → HoldsGhash self.old h x → HoldsGhash self.new h (x ++ octets.now) }
     {
-        let space = 16 - self.count;
+        let space = self.waiting.space();
         if octets.len() < space {
-            self.keep(octets);
+            self.waiting.push(octets);
             return;
         }
         let (front, rest) = octets.split_at(space);
         let whole = rest.len() / 16 * 16;
-        self.complete(front);
+        let block = self.waiting.complete(front);
+        self.sum = add_blocks(self.sum, self.h, &block);
         self.sum = add_blocks(self.sum, self.h, &rest[..whole]);
-        self.keep(&rest[whole..]);
+        self.waiting.push(&rest[whole..]);
     }
 
     /// Fills the block that waits with zero octets.
     pub fn pad(&mut self)
-        ensures { (h x : List ℕ) → IsHashing self.old h x → IsHashing self.new h (zero_filled x) }
+        ensures { (h x : List ℕ) → HoldsGhash self.old h x → HoldsGhash self.new h (zero_filled x) }
     {
-        if self.count > 0 {
+        let space = self.waiting.space();
+        if space < 16 {
             let zeros = [0; 16];
-            self.feed(&zeros[self.count..]);
+            self.feed(&zeros[..space]);
         }
     }
 
     /// The sum of the blocks, the last of which is filled with zero octets.
     pub fn finish(mut self) -> [u8; 16]
-        ensures { (h x : List ℕ) → IsHashing self h x → result ≡ ghash h (zero_filled x) }
+        ensures { (h x : List ℕ) → HoldsGhash self h x → result ≡ ghash h (zero_filled x) }
     {
         self.pad();
         self.sum.to_be_bytes()
-    }
-
-    /// Puts the octets behind those that wait. No block is whole by them.
-    fn keep(&mut self, octets: &[u8])
-        requires { self.old.count + length octets.now < 16 }
-        ensures h { self.new.h ≡ self.old.h }
-        ensures sum { self.new.sum ≡ self.old.sum }
-        ensures count { self.new.count ≡ self.old.count + length octets.now }
-        ensures waiting { take self.new.count self.new.waiting
-            ≡ take self.old.count self.old.waiting ++ octets.now }
-    {
-        let end = self.count + octets.len();
-        self.waiting[self.count..end].copy_from_slice(octets);
-        self.count = end;
-    }
-
-    /// Fills the block that waits up to its end, and adds it.
-    fn complete(&mut self, octets: &[u8])
-        requires { self.old.count + length octets.now ≡ 16 }
-        ensures h { self.new.h ≡ self.old.h }
-        ensures count { self.new.count ≡ 0 }
-        ensures sum { (xs : List ℕ) → self.old.sum ≡ ghash_number self.old.h xs
-            → self.new.sum
-            ≡ ghash_number self.old.h (xs ++ numbers (take self.old.count self.old.waiting ++ octets.now)) }
-    {
-        self.waiting[self.count..].copy_from_slice(octets);
-        self.count = 0;
-        self.sum = add_blocks(self.sum, self.h, &self.waiting);
     }
 }
 

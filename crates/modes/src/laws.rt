@@ -2,7 +2,7 @@
 ghost use Rattle.std.specs.Prelude.{◌≡◌, ℕ, List};
 ghost use Rattle.aes.specs.Block.{IsBlock, IsCipher};
 ghost use Rattle.modes.specs.Cbc.{cbc};
-ghost use Rattle.modes.specs.Gcm.{gcm_text};
+ghost use Rattle.modes.specs.Gcm.{gcm_ciphertext};
 ghost use Rattle.octets.specs.Octets.{IsOctets};
 
 /// No two plaintexts have one ciphertext, so what `cbc_open` gives is what was encrypted.
@@ -13,5 +13,5 @@ pub fn cbc_plaintext_is_unique()
 
 /// No two plaintexts have one ciphertext, so what `gcm_open` gives is what was encrypted.
 pub fn gcm_plaintext_is_unique()
-    ensures { (e : List ℕ → List ℕ) (iv p q : List ℕ) → gcm_text e iv p ≡ gcm_text e iv q → p ≡ q }
+    ensures { (e : List ℕ → List ℕ) (iv p q : List ℕ) → gcm_ciphertext e iv p ≡ gcm_ciphertext e iv q → p ≡ q }
 {}

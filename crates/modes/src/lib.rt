@@ -17,6 +17,7 @@ mod ctr;
 mod gcm;
 mod ghash;
 pub mod laws;
+mod partial_block;
 
 pub use cbc::Cbc;
 pub use cbc_opening::cbc_open;
@@ -24,5 +25,9 @@ pub use ctr::Ctr32;
 pub use gcm::{Gcm, gcm_open};
 pub use ghash::Ghash;
 
+#[cfg(test)]
+mod gcm_tests;
+#[cfg(test)]
+mod long_tests;
 #[cfg(test)]
 mod tests;

@@ -9,12 +9,12 @@ use std::process::Abort;
 
 // A cipher of no worth: octet i of a block's text is octet i + 1 modulo 16 of the block, plus 1.
 #[derive(Drop)]
-struct Toy {
+pub(crate) struct Toy {
     ghost is_cipher: { IsCipher (turned 1) (turned 15) },
 }
 
 impl Toy {
-    fn new() -> Toy {
+    pub(crate) fn new() -> Toy {
         Toy {}
     }
 }

@@ -9,7 +9,8 @@ use Rattle.octets.specs.declared.refusal.Refusal.TheVariants.{Form, Memory}
 use Rattle.octets.specs.Base64url.{base64url, is_url_character, DecodesExactly, HasUrlCharacters}
 use Rattle.octets.specs.Outcomes.{◌>>=◌, needs, is_memory, AgreesUnlessMemory}
 use Rattle.objects.specs.declared.compact.Compact.{Compact}
-use Rattle.objects.specs.Jws.{is_dot, parts_at, split_at_dot, three_parts, compact_parts, compact_view, CompactParts, AreOctets, SpellsCompact}
+use Rattle.objects.specs.Jws.{is_dot, parts_at, split_at_dot, three_parts, compact_parts, CompactParts, AreOctets, SpellsCompact}
+use Rattle.objects.specs.Views.{compact_view}
 
 -- ---- texts without a dot
 

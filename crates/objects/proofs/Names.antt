@@ -32,10 +32,10 @@ pub get_member-union : (name : List ℕ) (part other : Members) → get_member n
 get_member-union name no_members other = refl
 get_member-union name (member l d rest) other = found_at (slice_cmp nat_cmp name l) name l d rest (union rest other) other refl (get_member-union name rest other)
 
-pub get_member-all_members : (name : List ℕ) (protected unprotected own : Members)
-    → get_member name (all_members protected unprotected own) ≡ option_or (get_member name protected) (option_or (get_member name unprotected) (get_member name own))
-get_member-all_members name protected unprotected own =
-    get_member-union name protected (union unprotected own) ∙ ap (option_or (get_member name protected)) (get_member-union name unprotected own)
+pub get_member-all_members : (name : List ℕ) (protected unprotected per_recipient : Members)
+    → get_member name (all_members protected unprotected per_recipient) ≡ option_or (get_member name protected) (option_or (get_member name unprotected) (get_member name per_recipient))
+get_member-all_members name protected unprotected per_recipient =
+    get_member-union name protected (union unprotected per_recipient) ∙ ap (option_or (get_member name protected)) (get_member-union name unprotected per_recipient)
 
 -- the first that is found, seen as its value
 pub seen_first : {A : Type 0} (seen : A → Data) (first second third : Option A)
@@ -78,13 +78,13 @@ absent_by (Some e) name d part other is apart here = let absent = absent_in_othe
 absent_in_part : (name : List ℕ) (d : Data) (part other : Members) → overlap part other ≡ false → get_member name other ≡ Some d → get_member name part ≡ None
 absent_in_part name d part other = absent_by (get_member name part) name d part other refl
 
-pub has_all_members : (protected unprotected own : Members) → are_disjoint protected unprotected own ≡ true → HasAllMembers protected unprotected own
-has_all_members protected unprotected own disjoint =
+pub has_all_members : (protected unprotected per_recipient : Members) → are_disjoint protected unprotected per_recipient ≡ true → HasAllMembers protected unprotected per_recipient
+has_all_members protected unprotected per_recipient disjoint =
     let first = neither (overlap protected unprotected) _ (is_false _ disjoint) in
-    let others = neither (overlap protected own) (overlap unprotected own) first.1 in
+    let others = neither (overlap protected per_recipient) (overlap unprotected per_recipient) first.1 in
     record {
-      of_protected = λ name d here. rw (get_member-all_members name protected unprotected own, here) refl;
-      of_unprotected = λ name d here. rw (get_member-all_members name protected unprotected own, absent_in_part name d protected unprotected first.0 here, here) refl;
-      of_own = λ name d here. rw (get_member-all_members name protected unprotected own, absent_in_part name d protected own others.0 here, absent_in_part name d unprotected own others.1 here, here) refl;
-      no_others = λ name a b c. rw (get_member-all_members name protected unprotected own, a, b, c) refl;
+      of_protected = λ name d here. rw (get_member-all_members name protected unprotected per_recipient, here) refl;
+      of_unprotected = λ name d here. rw (get_member-all_members name protected unprotected per_recipient, absent_in_part name d protected unprotected first.0 here, here) refl;
+      of_per_recipient = λ name d here. rw (get_member-all_members name protected unprotected per_recipient, absent_in_part name d protected per_recipient others.0 here, absent_in_part name d unprotected per_recipient others.1 here, here) refl;
+      no_others = λ name a b c. rw (get_member-all_members name protected unprotected per_recipient, a, b, c) refl;
     }

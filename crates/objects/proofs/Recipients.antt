@@ -7,7 +7,7 @@ use Rattle.serde_json.specs.Data.{Members}
 use Rattle.octets.specs.declared.refusal.Refusal.{Refusal}
 use Rattle.octets.specs.Outcomes.{◌>>=◌}
 use Rattle.objects.specs.Jwe.{RecipientParts, Recipient, recipient_of, recipients_of, have_enc, have_one_enc, is_plain}
-use Rattle.objects.specs.Recipients.{recipient_view, recipient_parts_view}
+use Rattle.objects.specs.Views.{recipient_view, recipient_parts_view}
 use Rattle.objects.specs.declared.recipient.Recipient.{Recipient as Code}
 use Rattle.objects.specs.declared.recipient.RecipientParts.{RecipientParts as Parts}
 

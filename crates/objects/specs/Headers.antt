@@ -36,28 +36,29 @@ abbrev pub union : Members → Members → Members
 union no_members other = other
 union (member name value rest) other = put name value (union rest other)
 
--- the three parts have no name in common
+-- the three parts have no name in common: protected, shared by all recipients, and of one recipient or signature
 abbrev pub are_disjoint : Members → Members → Members → Bool
-are_disjoint protected unprotected own = not (overlap protected unprotected || (overlap protected own || overlap unprotected own))
+are_disjoint protected unprotected per_recipient = not (overlap protected unprotected || (overlap protected per_recipient || overlap unprotected per_recipient))
 
 abbrev pub all_members : Members → Members → Members → Members
-all_members protected unprotected own = union protected (union unprotected own)
+all_members protected unprotected per_recipient = union protected (union unprotected per_recipient)
 
--- The joint header: the members of all parts, where no name stands in two of them.
+-- The JOSE Header of a recipient or a signature is the union of the parts: of the protected header, of the shared unprotected header,
+-- and of the unprotected header of this one recipient (RFC 7516 section 4) or signature (RFC 7515 section 4). No name stands in two of them.
 unfoldable pub joint_header : Members → Members → Members → Result Members Refusal
-joint_header protected unprotected own = do
-  apart ← needs (are_disjoint protected unprotected own) Header
-  Ok (all_members protected unprotected own)
+joint_header protected unprotected per_recipient = do
+  apart ← needs (are_disjoint protected unprotected per_recipient) Header
+  Ok (all_members protected unprotected per_recipient)
 
 -- Where no name stands in two parts, the joint header has the members of each part, and no others.
-pub record HasAllMembers (protected unprotected own : Members) : Type 0 where
-  pub of_protected : (name : List ℕ) (value : Data) → get_member name protected ≡ Some value → get_member name (all_members protected unprotected own) ≡ Some value
-  pub of_unprotected : (name : List ℕ) (value : Data) → get_member name unprotected ≡ Some value → get_member name (all_members protected unprotected own) ≡ Some value
-  pub of_own : (name : List ℕ) (value : Data) → get_member name own ≡ Some value → get_member name (all_members protected unprotected own) ≡ Some value
-  pub no_others : (name : List ℕ) → get_member name protected ≡ None → get_member name unprotected ≡ None → get_member name own ≡ None → get_member name (all_members protected unprotected own) ≡ None
+pub record HasAllMembers (protected unprotected per_recipient : Members) : Type 0 where
+  pub of_protected : (name : List ℕ) (value : Data) → get_member name protected ≡ Some value → get_member name (all_members protected unprotected per_recipient) ≡ Some value
+  pub of_unprotected : (name : List ℕ) (value : Data) → get_member name unprotected ≡ Some value → get_member name (all_members protected unprotected per_recipient) ≡ Some value
+  pub of_per_recipient : (name : List ℕ) (value : Data) → get_member name per_recipient ≡ Some value → get_member name (all_members protected unprotected per_recipient) ≡ Some value
+  pub no_others : (name : List ℕ) → get_member name protected ≡ None → get_member name unprotected ≡ None → get_member name per_recipient ≡ None → get_member name (all_members protected unprotected per_recipient) ≡ None
 
 abbrev pub JointHeaderHasAllMembers : Type 0
-JointHeaderHasAllMembers = (protected unprotected own : Members) → are_disjoint protected unprotected own ≡ true → HasAllMembers protected unprotected own
+JointHeaderHasAllMembers = (protected unprotected per_recipient : Members) → are_disjoint protected unprotected per_recipient ≡ true → HasAllMembers protected unprotected per_recipient
 
 -- ---- parameters
 

@@ -1,10 +1,10 @@
 -- JWE objects (RFC 7516): their compact texts (section 7.1) and their flattened JSON texts (section 7.2.2).
-use Rattle.std.specs.Prelude.{ℕ, ◌&&◌, ◌==◌, Bool, true, false, not, List, [], ◌∷◌, ◌++◌, length, map, codes, nat_le, is_none, if◌then◌else◌, Option, Some, None, Result, Ok, Err}
+use Rattle.std.specs.Prelude.{ℕ, ◌&&◌, ◌==◌, Bool, true, false, not, List, [], ◌∷◌, ◌++◌, length, map, codes, nat_le, is_none, if◌then◌else◌, Option, Some, None, option_and_then, Result, Ok, Err}
 use Rattle.std.specs.List.{list_all}
 use Rattle.std.specs.Option.{ok_or}
 use Rattle.std.specs.Str.{bytes_eq}
 use Rattle.serde_json.specs.Data.{Data, Members, no_members, member, string, object, put}
-use Rattle.serde_json.specs.Find.{get, get_member, as_object}
+use Rattle.serde_json.specs.Find.{get, get_member, as_str, as_object}
 use Rattle.serde_json.specs.Written.{compact_text}
 use Rattle.octets.specs.declared.refusal.Refusal.{Refusal}
 use Rattle.octets.specs.declared.refusal.Refusal.TheVariants.{Form, Header, Unsupported, NotCompact}
@@ -14,13 +14,13 @@ use Rattle.octets.specs.LineEnds.{without_line_end}
 use Rattle.keys.specs.declared.algorithm.ManagementAlg.{ManagementAlg}
 use Rattle.keys.specs.declared.algorithm.ManagementAlg.TheVariants.{Dir, A128Kw, A192Kw, A256Kw, Pbes2Hs256A128Kw, Pbes2Hs384A192Kw, Pbes2Hs512A256Kw}
 use Rattle.keys.specs.Algorithms.{management_alg_of}
-use Rattle.keys.specs.Json.{json_value, string_member, optional_string_member}
+use Rattle.keys.specs.Json.{json_value}
 use Rattle.objects.specs.Headers.{protected_members, joint_header, string_parameter, number_parameter, salt_parameter}
 use Rattle.objects.specs.Jws.{is_json_form, split_at_dot, three_parts}
 
 -- ---- the members of an object
 
--- a recipient's own header, and its encrypted key
+-- the per-recipient unprotected header, and the encrypted key
 pub record RecipientParts : Type 0 where
   pub header : Members
   pub encrypted_key : List ℕ
@@ -58,15 +58,17 @@ pub record JweTexts : Type 0 where
   pub recipient : RecipientTexts
   pub content : ContentTexts
 
-abbrev pub text_or_none : Option (List ℕ) → List ℕ
-text_or_none None = []
-text_or_none (Some text) = text
+abbrev pub text_if_there : Option Data → Result (List ℕ) Refusal
+text_if_there None = Ok []
+text_if_there (Some value) = ok_or (as_str value) Form
 
 -- a string, and the empty text where it is absent
 unfoldable pub text_at : List ℕ → Data → Result (List ℕ) Refusal
-text_at name value = do
-  text ← optional_string_member Form name value
-  Ok (text_or_none text)
+text_at name value = text_if_there (get name value)
+
+-- a string that must be there
+unfoldable pub required_text : List ℕ → Data → Result (List ℕ) Refusal
+required_text name value = ok_or (option_and_then as_str (get name value)) Form
 
 abbrev pub some_members : Option Members → Result Members Refusal
 some_members None = Err Form
@@ -97,7 +99,7 @@ recipient_texts value = do
 unfoldable pub content_texts : Data → Result ContentTexts Refusal
 content_texts value = do
   iv ← text_at (codes "iv") value
-  ciphertext ← string_member Form (codes "ciphertext") value
+  ciphertext ← required_text (codes "ciphertext") value
   tag ← text_at (codes "tag") value
   Ok (record { iv = iv; ciphertext = ciphertext; tag = tag })
 
@@ -147,7 +149,7 @@ parts_of_texts texts = do
 
 -- ---- the object
 
--- A recipient: its own header, its encrypted key, and what its joint header says. Where it reads no p2s and p2c, they are empty and 0.
+-- A recipient: its per-recipient unprotected header, its encrypted key, and what its joint header says. Where it reads no p2s and p2c, they are empty and 0.
 pub record Recipient : Type 0 where
   pub header : Members
   pub encrypted_key : List ℕ
@@ -314,7 +316,7 @@ abbrev pub has_members : Members → Bool
 has_members no_members = false
 has_members (member k d rest) = true
 
--- all of the object stands in a compact text: its one recipient has no header of its own, and there is nothing that is shared but not protected
+-- all of the object stands in a compact text: its one recipient has no per-recipient header, and there is nothing that is shared but not protected
 abbrev pub is_compact : EncryptedObject → List Recipient → Bool
 is_compact o [] = false
 is_compact o (r ∷ []) = not (has_members o.unprotected) && (not (has_members r.header) && (length o.aad == 0))

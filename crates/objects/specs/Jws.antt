@@ -1,7 +1,8 @@
 -- JWS objects in compact form (RFC 7515 section 7.1).
-use Rattle.std.specs.Prelude.{◌≡◌, ℕ, ◌+◌, ◌==◌, ◌||◌, Bool, false, not, List, ◌++◌, take, drop, codes, string_bytes, is_none, position, Option, Some, None, Result, Ok, Err}
+use Rattle.std.specs.Prelude.{◌≡◌, ℕ, ◌+◌, ◌==◌, ◌||◌, Bool, false, not, List, ◌++◌, take, drop, codes, is_none, position, Option, Some, None, Result, Ok, Err}
 use Rattle.std.specs.List.{find}
 use Rattle.std.specs.Option.{ok_or}
+use Rattle.std.specs.Str.{byte}
 use Rattle.serde_json.specs.Data.{Members, no_members}
 use Rattle.serde_json.specs.Find.{get_member}
 use Rattle.octets.specs.declared.refusal.Refusal.{Refusal}
@@ -10,8 +11,6 @@ use Rattle.octets.specs.Outcomes.{◌>>=◌, needs}
 use Rattle.octets.specs.Octets.{IsOctets}
 use Rattle.octets.specs.Base64url.{base64url, decoded}
 use Rattle.octets.specs.LineEnds.{without_line_end}
-use Rattle.objects.specs.declared.compact.Compact.{Compact}
-use Rattle.objects.specs.declared.jws.Jws.{Jws}
 use Rattle.objects.specs.Headers.{protected_members, joint_header, string_parameter}
 
 -- ---- what a text spells
@@ -42,7 +41,7 @@ pub record SpellsCompact (line : List ℕ) (parts : CompactParts) : Type 0 where
 -- ---- reading the parts
 
 abbrev pub is_dot : ℕ → Bool
-is_dot c = c == 46
+is_dot c = c == byte "."
 
 abbrev pub parts_at : List ℕ → Option ℕ → Result (List ℕ × List ℕ) Refusal
 parts_at text None = Err Form
@@ -73,11 +72,11 @@ compact_parts line = do
 
 -- white space of JSON (RFC 8259 section 2)
 abbrev pub is_json_space : ℕ → Bool
-is_json_space c = c == 32 || c == 9 || c == 10 || c == 13
+is_json_space c = c == byte " " || c == byte "\t" || c == byte "\n" || c == byte "\r"
 
 abbrev pub is_brace : Option ℕ → Bool
 is_brace None = false
-is_brace (Some c) = c == 123
+is_brace (Some c) = c == byte "{"
 
 -- the text is in JSON form: but for white space it begins with a brace
 unfoldable pub is_json_form : List ℕ → Bool
@@ -108,14 +107,6 @@ signed_object text = do
   protected ← protected_members parts.header
   alg ← header_alg protected
   Ok (record { protected = parts.protected; payload_text = parts.payload_text; payload = parts.payload; signature = parts.signature; alg = alg })
-
--- ---- what values of the code hold
-
-abbrev pub compact_view : Compact → CompactParts
-compact_view c = record { protected = c.protected.now; payload_text = c.payload_text.now; header = c.header.items; payload = c.payload.items; signature = c.signature.items }
-
-abbrev pub jws_view : Jws → SignedObject
-jws_view j = record { protected = j.protected.now; payload_text = j.payload_text.now; payload = j.payload.items; signature = j.signature.items; alg = string_bytes j.alg }
 
 -- the parts of which the object was made, with the octets of its header
 abbrev pub parts_of : SignedObject → List ℕ → CompactParts

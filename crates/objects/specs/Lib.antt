@@ -1,5 +1,4 @@
 pub mod Headers
-pub mod JointHeaders
 pub mod Jws
 pub mod Jwe
-pub mod Recipients
+pub mod Views

@@ -2,7 +2,8 @@
 ghost use Rattle.std.specs.Prelude.{◌≡◌, IfOk, IfErr, position};
 ghost use Rattle.octets.specs.LineEnds.{without_line_end};
 ghost use Rattle.octets.specs.Outcomes.{AgreesUnlessMemory};
-ghost use Rattle.objects.specs.Jws.{compact_view, compact_parts, three_parts, split_at_dot as parts_at_dot, is_dot, CompactParts, AreOctets, SpellsCompact};
+ghost use Rattle.objects.specs.Jws.{compact_parts, three_parts, split_at_dot as parts_at_dot, is_dot, CompactParts, AreOctets, SpellsCompact};
+ghost use Rattle.objects.specs.Views.{compact_view};
 
 use octets::{Refusal, b64_decode, laws, needs, without_line_end};
 use std::alloc::Global;

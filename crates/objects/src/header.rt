@@ -5,20 +5,21 @@ ghost use Rattle.octets.specs.Outcomes.{AgreesUnlessMemory};
 ghost use Rattle.serde_json.specs.Find.{get_member};
 ghost use Rattle.serde_json.specs.View.{view, members_view};
 ghost use Rattle.objects.specs.Headers.{members_of_json, protected_members, overlap as overlap_of, joint_header, string_parameter, number_parameter, salt, salt_parameter};
-ghost use Rattle.objects.specs.JointHeaders.{header_view, part_view};
+ghost use Rattle.objects.specs.Views.{header_view, part_view};
 
 use keys::read_json;
 use octets::{Refusal, b64_decode, needs};
 use serde_json::{Map, Value};
 use std::alloc::Global;
 
-/// The joint header of a signature or a recipient: the members of its parts, no two of which have a
-/// name in common.
+/// The JOSE Header of a signature or a recipient (RFC 7515 section 4, RFC 7516 section 4): the union of the
+/// members of its parts, no two of which have a name in common. `per_recipient` is the part that is not
+/// protected and belongs to this one recipient, or to this one signature; its member in JSON form is `header`.
 #[derive(Clone, Copy)]
 pub struct Header<'m> {
     protected: Option<&'m Map<String, Value>>,
     unprotected: Option<&'m Map<String, Value>>,
-    own: Option<&'m Map<String, Value>>,
+    per_recipient: Option<&'m Map<String, Value>>,
 }
 
 /// The members of a protected header's octets (RFC 7515 section 4.1). No octets stand for a header
@@ -48,27 +49,27 @@ fn read_members(alloc: Global, octets: &[u8]) -> Result<Map<String, Value>, Refu
 }
 
 impl<'m> Header<'m> {
-    /// The joint header of these parts: the protected header, that of all recipients, and the one of
-    /// the signature or the recipient itself. An absent part has no members. Refused with `Header`
-    /// where a name stands in two parts.
+    /// The JOSE Header that is the union of these parts: the protected header, the shared unprotected
+    /// header, and the unprotected header of one recipient or signature. An absent part has no members.
+    /// Refused with `Header` where a name stands in two parts.
     #[tactic(auto, unfolding(crate::specs::Headers::joint_header))]
     pub fn joint(
         protected: Option<&'m Map<String, Value>>,
         unprotected: Option<&'m Map<String, Value>>,
-        own: Option<&'m Map<String, Value>>,
+        per_recipient: Option<&'m Map<String, Value>>,
     ) -> Result<Header<'m>, Refusal>
         ensures exact { AgreesUnlessMemory header_view result
-            (joint_header (part_view protected.entry) (part_view unprotected.entry) (part_view own.entry)) }
+            (joint_header (part_view protected.entry) (part_view unprotected.entry) (part_view per_recipient.entry)) }
         ensures refusal { IfErr result (λ e. e ≡ Refusal.Header) }
     {
         let overlap = parts_overlap(protected, unprotected)
-            || parts_overlap(protected, own)
-            || parts_overlap(unprotected, own);
+            || parts_overlap(protected, per_recipient)
+            || parts_overlap(unprotected, per_recipient);
         needs(!overlap, Refusal::Header)?;
         Ok(Header {
             protected,
             unprotected,
-            own,
+            per_recipient,
         })
     }
 
@@ -78,7 +79,7 @@ impl<'m> Header<'m> {
     {
         part_member(self.protected, name)
             .or(part_member(self.unprotected, name))
-            .or(part_member(self.own, name))
+            .or(part_member(self.per_recipient, name))
     }
 
     /// The header has a member of this name, whatever it holds.

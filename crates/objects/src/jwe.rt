@@ -5,7 +5,7 @@ ghost use Rattle.std.specs.Str.{bytes_eq};
 ghost use Rattle.serde_json.specs.View.{members_view};
 ghost use Rattle.octets.specs.Outcomes.{AgreesUnlessMemory};
 ghost use Rattle.objects.specs.Jwe.{jwe_of, object_of_texts as object_of_jwe_texts, encrypted_object as encrypted_object_of, recipients_of, recipients_of_one_enc, have_one_enc as have_one_enc_of, is_plain as is_plain_header, are_plain as are_plain_parts};
-ghost use Rattle.objects.specs.Recipients.{jwe_view, parts_view, texts_view, recipient_view, recipient_parts_view};
+ghost use Rattle.objects.specs.Views.{jwe_view, parts_view, texts_view, recipient_view, recipient_parts_view};
 
 use crate::header::read_protected;
 use crate::jwe_texts::{JweTexts, compact_texts, flattened_texts, read_parts};
@@ -167,7 +167,7 @@ fn are_plain(
     is_plain(protected) && is_plain(unprotected) && have_plain_headers(recipients)
 }
 
-/// No recipient's own header has such a member.
+/// No per-recipient header has such a member.
 fn have_plain_headers(recipients: &[RecipientParts]) -> bool
     ensures { result ≡ list_all (λ r. is_plain_header (recipient_parts_view r).header) recipients.now }
 {

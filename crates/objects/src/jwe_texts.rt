@@ -5,14 +5,13 @@ ghost use Rattle.serde_json.specs.View.{view, members_view};
 ghost use Rattle.serde_json.specs.Written.{has_float, members_have_float};
 ghost use Rattle.octets.specs.Base64url.{base64url};
 ghost use Rattle.octets.specs.Outcomes.{AgreesUnlessMemory};
-ghost use Rattle.objects.specs.JointHeaders.{part_view};
-ghost use Rattle.objects.specs.Jwe.{text_at, members_at, shared_texts, recipient_texts, content_texts, flattened_texts, compact_texts, parts_of_texts};
-ghost use Rattle.objects.specs.Recipients.{shared_view, recipient_texts_view, content_view, texts_view, parts_view};
+ghost use Rattle.objects.specs.Views.{part_view, shared_view, recipient_texts_view, content_view, texts_view, parts_view};
+ghost use Rattle.objects.specs.Jwe.{text_at, required_text, members_at, shared_texts, recipient_texts, content_texts, flattened_texts, compact_texts, parts_of_texts};
 
 use crate::compact::{split_at_dot, three_parts_of};
 use crate::jwe::JweParts;
 use crate::recipient::RecipientParts;
-use keys::{laws, optional_string_member, string_member};
+use keys::laws;
 use octets::{Refusal, b64_decode, b64_encode, needs};
 use serde_json::{Map, Value};
 use std::alloc::Global;
@@ -103,11 +102,11 @@ fn content_texts(value: &Value) -> Result<ContentTexts<'_>, Refusal>
     ensures { AgreesUnlessMemory content_view result (content_texts (view value.now)) }
 {
     let iv = text_at(value, "iv")?;
-    let ciphertext = string_member(value, "ciphertext", Refusal::Form)?;
+    let ciphertext = required_text(value, "ciphertext")?;
     let tag = text_at(value, "tag")?;
     Ok(ContentTexts {
         iv,
-        ciphertext: ciphertext.as_bytes(),
+        ciphertext,
         tag,
     })
 }
@@ -117,8 +116,22 @@ fn content_texts(value: &Value) -> Result<ContentTexts<'_>, Refusal>
 fn text_at<'v>(value: &'v Value, name: &str) -> Result<&'v [u8], Refusal>
     ensures { AgreesUnlessMemory (λ text. text.now) result (text_at name.now (view value.now)) }
 {
-    match optional_string_member(value, name, Refusal::Form)? {
+    match value.get(name) {
         None => Ok(b""),
+        Some(found) => match found.as_str() {
+            None => Err(Refusal::Form),
+            Some(text) => Ok(text.as_bytes()),
+        },
+    }
+}
+
+/// The text of a member that must be there and be a string.
+#[tactic(auto, unfolding(crate::specs::Jwe::required_text))]
+fn required_text<'v>(value: &'v Value, name: &str) -> Result<&'v [u8], Refusal>
+    ensures { AgreesUnlessMemory (λ text. text.now) result (required_text name.now (view value.now)) }
+{
+    match value.get(name).and_then(Value::as_str) {
+        None => Err(Refusal::Form),
         Some(text) => Ok(text.as_bytes()),
     }
 }

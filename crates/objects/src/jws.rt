@@ -4,7 +4,8 @@ ghost use Rattle.std.specs.List.{find};
 ghost use Rattle.serde_json.specs.View.{members_view};
 ghost use Rattle.octets.specs.LineEnds.{without_line_end};
 ghost use Rattle.octets.specs.Outcomes.{AgreesUnlessMemory};
-ghost use Rattle.objects.specs.Jws.{jws_view, signed_object, header_alg, is_json_form as is_json_form_text, is_json_space as is_json_space_octet, parts_of, SpellsCompact};
+ghost use Rattle.objects.specs.Jws.{signed_object, header_alg, is_json_form as is_json_form_text, is_json_space as is_json_space_octet, parts_of, SpellsCompact};
+ghost use Rattle.objects.specs.Views.{jws_view};
 
 use crate::compact::{Compact, read_compact};
 use crate::{Header, read_protected};

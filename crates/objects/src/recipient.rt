@@ -5,8 +5,7 @@ ghost use Rattle.std.specs.Option.{ok_or};
 ghost use Rattle.serde_json.specs.View.{members_view};
 ghost use Rattle.octets.specs.Outcomes.{AgreesUnlessMemory};
 ghost use Rattle.objects.specs.Jwe.{recipient_of, parameters_of, password_parameters, is_password_based as is_password_based_name, is_plain as is_plain_header};
-ghost use Rattle.objects.specs.JointHeaders.{header_view};
-ghost use Rattle.objects.specs.Recipients.{recipient_view, recipient_parts_view, parameters_view};
+ghost use Rattle.objects.specs.Views.{header_view, recipient_view, recipient_parts_view, parameters_view};
 
 use crate::Header;
 use crate::header::part_member;
@@ -18,7 +17,7 @@ use std::alloc::Global;
 /// What an object holds of a recipient. An absent member is empty.
 #[derive(Drop)]
 pub struct RecipientParts {
-    /// The recipient's own header, beside the protected and the unprotected one.
+    /// The per-recipient unprotected header (RFC 7516 section 7.2.1): the member `header`.
     pub header: Map<String, Value>,
     /// The encrypted key, of no octets where the content encryption key is agreed on.
     pub encrypted_key: Vec<u8>,
@@ -73,7 +72,7 @@ pub(crate) fn read_recipient(
 }
 
 impl Recipient {
-    /// Its own header, of the members that no other recipient has.
+    /// Its per-recipient unprotected header (RFC 7516 section 7.2.1): the member `header`.
     pub fn header(&self) -> &Map<String, Value>
         ensures { members_view result.now.entries ≡ (recipient_view self.now).header }
     {

@@ -34,7 +34,7 @@ fn protected_headers_are_objects(rt: HostRuntime) {
 
 #[test]
 fn no_name_stands_in_two_parts(rt: HostRuntime) {
-    for (protected, unprotected, own, refusal) in [
+    for (protected, unprotected, per_recipient, refusal) in [
         ("{\"alg\":1}", "{\"enc\":1}", "{\"kid\":1}", None),
         ("{\"alg\":1}", "{\"Alg\":1}", "{\"al\":1}", None),
         ("{\"alg\":1}", "{\"alg\":1}", "{}", Some(Refusal::Header)),
@@ -53,8 +53,8 @@ fn no_name_stands_in_two_parts(rt: HostRuntime) {
     ] {
         let protected = read(&rt, protected);
         let unprotected = read(&rt, unprotected);
-        let own = read(&rt, own);
-        let header = Header::joint(Some(&protected), Some(&unprotected), Some(&own));
+        let per_recipient = read(&rt, per_recipient);
+        let header = Header::joint(Some(&protected), Some(&unprotected), Some(&per_recipient));
         assert_eq!(rt; header.err(), refusal);
     }
 }
@@ -127,8 +127,8 @@ fn rfc7517_appendix_c2(rt: HostRuntime) {
         "{\"alg\":\"PBES2-HS256+A128KW\",\"p2s\":\"2WCTcJZ1Rvd_CJuJripQ1w\"}",
     );
     let unprotected = read(&rt, "{\"p2c\":4096,\"cty\":\"jwk+json\"}");
-    let own = read(&rt, "{\"enc\":\"A128CBC-HS256\"}");
-    let header = Header::joint(Some(&protected), Some(&unprotected), Some(&own));
+    let per_recipient = read(&rt, "{\"enc\":\"A128CBC-HS256\"}");
+    let header = Header::joint(Some(&protected), Some(&unprotected), Some(&per_recipient));
     let header = header.expect(&rt, "a joint header");
     assert_eq!(rt; header.alg(), Ok(Some("PBES2-HS256+A128KW")));
     assert_eq!(rt; header.enc(), Ok(Some("A128CBC-HS256")));

@@ -1,28 +1,68 @@
 -- What a call did on an output, held against its answer.
-use Rattle.std.proofs.Common.{◌≡◌, List, ◌++◌, ℕ, Bool, true, Result, Ok, Err, OnOk, OnErr, IsTrue, refl, ◌∙◌, ap, append-nil}
+use Rattle.std.proofs.Common.{◌≡◌, List, ◌++◌, ℕ, length, take, nat_le, Bool, true, false, Result, Ok, Err, OnOk, OnErr, IsTrue, refl, ◌∙◌, ap, append-nil}
 use Rattle.std.proofs.Math.Seq.{drop-append_seam}
+use lib.Dec.{leb-zero}
 use Rattle.octets.specs.declared.refusal.Refusal.{Refusal}
-use Rattle.octets.specs.declared.refusal.Refusal.TheVariants.{Write}
+use Rattle.octets.specs.declared.refusal.Refusal.TheVariants.{Write, Random}
 use Rattle.octets.specs.Devices.{observed, appended, IsPossibleInput}
-use Rattle.octets.specs.Outcomes.{◌>>=◌, is_external, AgreesUnlessExternal}
-use Rattle.octets.specs.Plan.{Plan, plan_map, planned, without_content}
+use Rattle.octets.specs.Outcomes.{◌>>=◌, needs, is_external, AgreesUnlessExternal}
+use Rattle.octets.specs.Plan.{Plan, Draft, plan_map, plan_from, placed, by_plan, by_text, without_random, planned, without_content}
 
 pub AgreesUnlessExternal-map : {W V : Type 0} (f : W → V) (a : Result W Refusal) (w : W) (v : V) (r : Result (Unit {0}) Refusal) → f w ≡ v
     → AgreesUnlessExternal a w r → AgreesUnlessExternal (a >>= λ x. Ok (f x)) v r
 AgreesUnlessExternal-map f a w v (Ok done) e h = ap (λ q. q >>= λ x. Ok (f x)) h ∙ ap Ok e
 AgreesUnlessExternal-map f a w v (Err r) e h = λ inside. ap (λ q. q >>= λ x. Ok (f x)) (h inside)
 
+-- ---- drafts
+
+-- the plan of a draft, put in its place
+pub plan_from-placed : {W V : Type 0} (f : W → V) (draft : Result (Draft W) Refusal) (random : List ℕ)
+    → plan_from (placed f draft) random ≡ (plan_from draft random >>= λ p. Ok (plan_map f p))
+plan_from-placed f (Err r) random = refl
+plan_from-placed f (Ok d) random = by_test (nat_le d.drawn (length random))
+  where
+    by_test : (enough : Bool) → (needs enough Random >>= λ u. Ok (plan_map f (d.plan (take d.drawn random)))) ≡ ((needs enough Random >>= λ u. Ok (d.plan (take d.drawn random))) >>= λ p. Ok (plan_map f p))
+    by_test true = refl
+    by_test false = refl
+
+-- where nothing is drawn any random input will do
+enough : {W : Type 0} (plan : Plan W) (random : List ℕ) → plan_from (Ok (without_random plan)) random ≡ Ok plan
+enough plan random = ap (λ test. needs test Random >>= λ u. Ok plan) (leb-zero (length random))
+
+plan_from-by_plan : {W : Type 0} (plan : Result (Plan W) Refusal) (random : List ℕ) → plan_from (by_plan plan) random ≡ plan
+plan_from-by_plan (Ok p) random = enough p random
+plan_from-by_plan (Err r) random = refl
+
+plan_from-by_text : {W : Type 0} (a : Result W Refusal) (random : List ℕ) → plan_from (by_text a) random ≡ (a >>= λ x. Ok (without_content x))
+plan_from-by_text (Ok x) random = enough (without_content x) random
+plan_from-by_text (Err r) random = refl
+
+-- the plan of each form of draft, put in its place
+pub plan_of_plan : {V : Type 0} (f : List ℕ → V) (plan : Result (Plan (List ℕ)) Refusal) (random : List ℕ)
+    → plan_from (placed f (by_plan plan)) random ≡ (plan >>= λ p. Ok (plan_map f p))
+plan_of_plan f plan random = plan_from-placed f (by_plan plan) random ∙ ap (λ r. r >>= λ p. Ok (plan_map f p)) (plan_from-by_plan plan random)
+
+pub plan_of_text : {V : Type 0} (f : List ℕ → V) (a : Result (List ℕ) Refusal) (random : List ℕ)
+    → plan_from (placed f (by_text a)) random ≡ (a >>= λ x. Ok (without_content (f x)))
+plan_of_text f a random = plan_from-placed f (by_text a) random ∙ ap (λ r. r >>= λ p. Ok (plan_map f p)) (plan_from-by_text a random) ∙ mapped a
+  where
+    mapped : (a : Result (List ℕ) Refusal) → ((a >>= λ x. Ok (without_content x)) >>= λ p. Ok (plan_map f p)) ≡ (a >>= λ x. Ok (without_content (f x)))
+    mapped (Ok x) = refl
+    mapped (Err r) = refl
+
+-- ---- answers
+
 -- an answer by a plan, put in its place
 pub planned_map : {W V : Type 0} (f : W → V) (plan : Result (Plan W) Refusal) (content : List ℕ)
-    → ((plan >>= λ p. Ok (plan_map f p)) >>= λ p. p.whole content) ≡ (planned plan content >>= λ w. Ok (f w))
+    → planned (plan >>= λ p. Ok (plan_map f p)) content ≡ (planned plan content >>= λ w. Ok (f w))
 planned_map f (Ok p) content = refl
 planned_map f (Err r) content = refl
 
 -- an answer without a content
-pub planned_without_content : {W : Type 0} (f : List ℕ → W) (a : Result (List ℕ) Refusal) (none : List ℕ)
-    → ((a >>= λ p. Ok (without_content (f p))) >>= λ plan. plan.whole none) ≡ (a >>= λ x. Ok (f x))
-planned_without_content f (Ok p) none = refl
-planned_without_content f (Err r) none = refl
+pub planned_without_content : {W : Type 0} (f : List ℕ → W) (a : Result (List ℕ) Refusal) (nil : List ℕ)
+    → planned (a >>= λ x. Ok (without_content (f x))) nil ≡ (a >>= λ x. Ok (f x))
+planned_without_content f (Ok x) nil = refl
+planned_without_content f (Err r) nil = refl
 
 -- a fact at a refusal, by another
 pub on_refusal : {P Q : Type 0} (r : Result (Unit {0}) Refusal) → OnErr r P → (P → Q) → OnErr r Q

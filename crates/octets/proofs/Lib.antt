@@ -1,7 +1,9 @@
 pub mod Meanings
-pub mod Known
 pub mod Pieces
 pub mod Groups
 pub mod Characters
+pub mod Decoded
+pub mod Growing
 pub mod Prefixes
 pub mod Agreement
+pub mod Chunks

@@ -1,6 +1,7 @@
 -- Base64url without padding (RFC 4648 section 5). A text is good where it is the encoding of some octets, which are its meaning.
-use Rattle.std.specs.Prelude.{◌≡◌, ◌↔◌, ℕ, ◌*◌, ◌/◌, ◌==◌, ◌&&◌, ◌||◌, nat_le, Bool, true, List, length, take, drop, Result, Ok, Err}
-use Rattle.std.specs.List.{AllByRecursion}
+use Rattle.std.specs.Prelude.{◌≡◌, ◌↔◌, ℕ, ◌+◌, ◌-◌, ◌*◌, ◌/◌, ◌%◌, ◌^◌, ◌==◌, ◌&&◌, ◌||◌, nat_le, Bool, true, List, length, map, take, drop, slice_index, codes, Result, Ok, Err}
+use Rattle.std.specs.List.{AllByRecursion, range_with_len}
+use Rattle.std.specs.Str.{byte}
 use Rattle.base64.specs.declared.decode.DecodeError.{DecodeError}
 use Rattle.base64.specs.Engines.{url_safe_no_pad}
 use Rattle.base64.specs.GeneralPurpose.{encode_of, decode_of}
@@ -37,10 +38,24 @@ pub record DecodesExactly : Type 0 where
   pub meaning : (text x : List ℕ) → IsOctets text → IsOctets x → (decoded text ≡ Ok x) ↔ (text ≡ base64url x)
   pub refusal : (text : List ℕ) (r : Refusal) → decoded text ≡ Err r → r ≡ Base64
 
+-- the characters of the values 0 to 63 in order (table 2)
+abbrev pub url_alphabet : List ℕ
+url_alphabet = codes "ABCDEFGHIJKLMNOPQRSTUVWXYZabcdefghijklmnopqrstuvwxyz0123456789-_"
+
+-- the six bits from bit 6 * i on, as a number; zero bits follow the last octet
+abbrev pub six_bits : List ℕ → ℕ → ℕ
+six_bits octets i = (slice_index octets (6 * i / 8) * 256 + slice_index octets (6 * i / 8 + 1)) / 2 ^ (10 - 6 * i % 8) % 64
+
+-- a text has the character of each six bits of the octets, in order
+abbrev pub SpellsSixBits : Type 0
+SpellsSixBits = (x : List ℕ) → IsOctets x
+    → base64url x ≡ map (λ i. slice_index url_alphabet (six_bits x i)) (range_with_len 0 ((8 * length x + 5) / 6))
+
 -- a letter, a digit, `-` or `_`
 abbrev pub is_url_character : ℕ → Bool
 is_url_character c =
-    (nat_le 65 c && nat_le c 90) || (nat_le 97 c && nat_le c 122) || (nat_le 48 c && nat_le c 57) || (c == 45) || (c == 95)
+    (nat_le (byte "A") c && nat_le c (byte "Z")) || (nat_le (byte "a") c && nat_le c (byte "z"))
+    || (nat_le (byte "0") c && nat_le c (byte "9")) || (c == byte "-") || (c == byte "_")
 
 -- a text has such characters alone: no dot, no quote, no backslash and no line end
 abbrev pub HasUrlCharacters : Type 0

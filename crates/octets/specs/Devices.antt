@@ -19,6 +19,10 @@ Rose old new = old < 2 ^ 64 - 1 → old < new
 abbrev pub ComesNearer : Count → Count → ℕ → Type 0
 ComesNearer old new n = IsFinite old → IsFinite new × (size new + n ≤ size old)
 
+-- a device over a reader fails after so many octets
+abbrev pub most_octets : ℕ
+most_octets = 2 ^ 62
+
 -- ---- lists that grow
 
 -- what the list has grown by

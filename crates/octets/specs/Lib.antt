@@ -3,7 +3,8 @@ pub mod Refusals
 pub mod Devices
 pub mod Base64url
 pub mod Outcomes
-pub mod Memory
-pub mod Streams
+pub mod Views
 pub mod LineEnds
 pub mod Plan
+pub mod Faults
+pub mod Encoding

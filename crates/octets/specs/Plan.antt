@@ -1,9 +1,13 @@
 -- What a call is to write, once all but its content is read and accepted.
-use Rattle.std.specs.Prelude.{ℕ, Bool, List, [], if◌then◌else◌, Result, Ok, Err}
+use Rattle.std.specs.Prelude.{◌≡◌, ℕ, Bool, List, [], ◌++◌, length, take, nat_le, if◌then◌else◌, Result, Ok, Err}
 use Rattle.std.specs.Result.{result_unwrap_or}
 use Rattle.octets.specs.declared.refusal.Refusal.{Refusal}
+use Rattle.octets.specs.declared.refusal.Refusal.TheVariants.{Random}
+use Rattle.octets.specs.Octets.{IsOctets}
 use Rattle.octets.specs.Devices.{Observed}
-use Rattle.octets.specs.Outcomes.{◌>>=◌}
+use Rattle.octets.specs.Outcomes.{◌>>=◌, needs}
+
+-- ---- by the content
 
 -- what is written, W, by the content
 pub record Plan (W : Type 0) : Type 0 where
@@ -11,6 +15,16 @@ pub record Plan (W : Type 0) : Type 0 where
   pub whole : List ℕ → Result W Refusal
   -- what a beginning of it fixes
   pub fixed : List ℕ → W
+
+-- the list begins with the other
+pub record Begins (front all : List ℕ) : Type 0 where
+  pub rest : List ℕ
+  pub continues : all ≡ front ++ rest
+
+-- What a beginning fixes goes on as more is read, and begins what all of the content becomes.
+pub record Grows (plan : Plan (List ℕ)) : Type 0 where
+  pub more : (p q : List ℕ) → Begins (plan.fixed p) (plan.fixed (p ++ q))
+  pub whole : (p q w : List ℕ) → IsOctets (p ++ q) → plan.whole (p ++ q) ≡ Ok w → Begins (plan.fixed p) w
 
 -- What may stand written where so much of the content was read: of the whole text, where the end was found and it is accepted.
 abbrev pub beginning_of : {W : Type 0} → Plan W → Observed → W
@@ -27,6 +41,45 @@ plan_map f plan = record {
 -- a call without a content
 abbrev pub without_content : {W : Type 0} → W → Plan W
 without_content texts = record { whole = λ content. Ok texts; fixed = λ front. texts }
+
+-- ---- by octets of the random input, and then by the content
+
+-- What templates and keys settle: how many octets of the random input are drawn, and the plan by these.
+pub record Draft (W : Type 0) : Type 0 where
+  pub drawn : ℕ
+  pub plan : List ℕ → Plan W
+
+abbrev pub without_random : {W : Type 0} → Plan W → Draft W
+without_random plan = record { drawn = 0; plan = λ octets. plan }
+
+-- the same, with what is written put in its place
+abbrev pub draft_map : {W V : Type 0} → (W → V) → Draft W → Draft V
+draft_map f draft = record { drawn = draft.drawn; plan = λ octets. plan_map f (draft.plan octets) }
+
+abbrev pub placed : {W V : Type 0} → (W → V) → Result (Draft W) Refusal → Result (Draft V) Refusal
+placed f draft = draft >>= λ d. Ok (draft_map f d)
+
+-- how many are drawn: none where there is a refusal
+abbrev pub drawn_of : {W : Type 0} → Result (Draft W) Refusal → ℕ
+drawn_of (Ok draft) = draft.drawn
+drawn_of (Err r) = 0
+
+-- the plan by the first octets of a random input
+abbrev pub plan_from : {W : Type 0} → Result (Draft W) Refusal → List ℕ → Result (Plan W) Refusal
+plan_from draft random = do
+  d ← draft
+  enough ← needs (nat_le d.drawn (length random)) Random
+  Ok (d.plan (take d.drawn random))
+
+-- a plan that draws nothing
+abbrev pub by_plan : {W : Type 0} → Result (Plan W) Refusal → Result (Draft W) Refusal
+by_plan plan = plan >>= λ p. Ok (without_random p)
+
+-- what is written as a whole, and draws nothing
+abbrev pub by_text : {W : Type 0} → Result W Refusal → Result (Draft W) Refusal
+by_text answer = answer >>= λ text. Ok (without_random (without_content text))
+
+-- ---- answers
 
 -- the answer of a plan, once its content is whole
 abbrev pub planned : {W : Type 0} → Result (Plan W) Refusal → List ℕ → Result W Refusal

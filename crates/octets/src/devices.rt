@@ -20,10 +20,11 @@ pub trait Input {
     ghost failures: { Self → ℕ };
 
     /// Reads octets into the front of `buf`, and answers how many: 0 for a `buf` with room only at
-    /// the end. After a failure nothing is said of what `buf` holds.
+    /// the end. After a failure nothing is said of what `buf` holds. A read without room does nothing.
     fn read(&mut self, buf: &mut [u8]) -> Result<usize, Fault>
         ensures octets { IfOk result (λ n. (n ≤ length buf.old)
             × (consumed self.new ≡ consumed self.old ++ take n buf.new)) }
+        ensures no_room { length buf.old ≡ 0 → (result ≡ Ok 0) × (self.new ≡ self.old) }
         ensures end { result ≡ Ok 0 → 0 < length buf.old → IsTrue (is_at_end self.new) }
         ensures stays_at_end { IsTrue (is_at_end self.old)
             → IsTrue (is_at_end self.new) × (consumed self.new ≡ consumed self.old) }
@@ -48,10 +49,12 @@ pub trait Output {
     ghost failures: { Self → ℕ };
 
     /// Takes octets from the front of `octets`, and answers how many: at least one, where there is one.
+    /// A write of nothing does nothing.
     fn write(&mut self, octets: &[u8]) -> Result<usize, Fault>
         ensures octets { IfOk result (λ n. (n ≤ length octets.now)
             × (written self.new ≡ written self.old ++ take n octets.now)) }
         ensures some { result ≡ Ok 0 → length octets.now ≡ 0 }
+        ensures nothing { length octets.now ≡ 0 → (result ≡ Ok 0) × (self.new ≡ self.old) }
         ensures unfinished { 0 < length octets.now → is_finished self.new ≡ false }
         ensures works { OnOk result (failures self.new ≡ failures self.old) }
         ensures fails { IfErr result (λ e. (e ≡ Fault.Writing)

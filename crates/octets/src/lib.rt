@@ -1,9 +1,17 @@
 //! Octet devices, base64url, line ends and the refusals of all commands.
 //!
+//! Octets come from an `Input` and go to an `Output`: over memory, or over std's readers and writers.
+//! What fails is told by a `Refusal`.
+//!
 //! ```rust
-//! let text = b64_encode(alloc, b"hello")?;
-//! assert_eq!(rt; text.as_str(), "aGVsbG8");
-//! assert_eq!(rt; b64_decode(alloc, b"aGVsbG9")?.as_slice(), b"hello".as_slice()); // Err(Refusal::Base64)
+//! let mut input = MemoryInput::new(b"hello", 2);
+//! let octets = read_to_end(alloc, &mut input)?;
+//! let text = b64_encode(alloc, &octets)?;
+//! let mut out = MemoryOutput::new(alloc, 16)?;
+//! emit(&mut out, text.as_bytes())?;
+//! assert_eq!(rt; out.octets(), b"aGVsbG8".as_slice());
+//! // Its last bits are not zero, so it is the text of no octets.
+//! assert_eq!(rt; b64_decode(alloc, b"aGVsbG9").err(), Some(Refusal::Base64));
 //! ```
 #![tactic(auto)]
 
@@ -26,7 +34,7 @@ pub use line_ends::without_line_end;
 pub use memory::{MemoryInput, MemoryOutput};
 pub use refusal::{Fault, Refusal, needs};
 pub use streams::{ReaderInput, WriterOutput};
-pub use whole::{Partial, draw, emit, read_whole, write_whole};
+pub use whole::{Partial, draw, emit, read_to_end, write_whole};
 pub use writer::B64Writer;
 
 #[cfg(test)]

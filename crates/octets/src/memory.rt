@@ -1,11 +1,11 @@
 //! Devices over memory.
 ghost use Rattle.std.specs.Prelude.{◌≡◌, ◌↔◌, ◌+◌, ◌<◌, ◌≤◌, [], ◌++◌, length, take, IfOk, IfErr, IsOk, IsErr, IsTrue, OnOk, Ok, MatchResult, true, false};
 ghost use Rattle.octets.specs.Devices.{next_count, ComesNearer};
-ghost use Rattle.octets.specs.Memory.{front_of, is_read, rest_of, failures_of, read_count, write_count};
+ghost use Rattle.octets.specs.Views.{front_of, is_read, rest_of, failures_of, read_count, write_count};
 
 use crate::devices::count_failure;
-use crate::{Fault, Input, Output};
-use std::alloc::{AllocError, Global};
+use crate::{Fault, Input, Output, Refusal};
+use std::alloc::Global;
 use std::marker::Model;
 
 /// An input of octets in memory. It never fails.
@@ -18,7 +18,7 @@ pub struct MemoryInput<'a> {
 
 impl<'a> Model for MemoryInput<'a> {
     ghost use Rattle.std.specs.Prelude.{◌<◌, ◌≤◌, length};
-    ghost use Rattle.octets.specs.Memory.{Contents};
+    ghost use Rattle.octets.specs.Views.{Contents};
 
     ghost Value = { Contents };
 
@@ -58,6 +58,7 @@ impl<'a> Input for MemoryInput<'a> {
         // What the trait says.
         ensures octets { IfOk result (λ n. (n ≤ length buf.old)
             × (front_of self.new ≡ front_of self.old ++ take n buf.new)) }
+        ensures no_room { length buf.old ≡ 0 → (result ≡ Ok 0) × (self.new ≡ self.old) }
         ensures end { result ≡ Ok 0 → 0 < length buf.old → IsTrue (is_read self.new) }
         ensures stays_at_end { IsTrue (is_read self.old)
             → IsTrue (is_read self.new) × (front_of self.new ≡ front_of self.old) }
@@ -90,7 +91,7 @@ pub struct MemoryOutput {
 impl Model for MemoryOutput {
     ghost use Rattle.std.specs.Prelude.{◌≤◌, length, not};
     ghost use Rattle.std.specs.Vec.{vec_capacity};
-    ghost use Rattle.octets.specs.Memory.{Store};
+    ghost use Rattle.octets.specs.Views.{Store};
 
     ghost Value = { Store };
 
@@ -101,8 +102,9 @@ impl Model for MemoryOutput {
 
 impl MemoryOutput {
     /// An empty output with room for so many octets.
-    pub fn new(alloc: Global, room: usize) -> Result<MemoryOutput, AllocError>
-        ensures { IfOk result (λ out. out ≡ record { octets = []; room = room; is_finished = false; failures = 0 }) }
+    pub fn new(alloc: Global, room: usize) -> Result<MemoryOutput, Refusal>
+        ensures empty { IfOk result (λ out. out ≡ record { octets = []; room = room; is_finished = false; failures = 0 }) }
+        ensures memory { IfErr result (λ e. e ≡ Refusal.Memory) }
     {
         Ok(MemoryOutput {
             octets: Vec::with_capacity(alloc, room)?,
@@ -143,6 +145,7 @@ impl Output for MemoryOutput {
         ensures octets { IfOk result (λ n. (n ≤ length octets.now)
             × (self.new.octets ≡ self.old.octets ++ take n octets.now)) }
         ensures some { result ≡ Ok 0 → length octets.now ≡ 0 }
+        ensures nothing { length octets.now ≡ 0 → (result ≡ Ok 0) × (self.new ≡ self.old) }
         ensures unfinished { 0 < length octets.now → self.new.is_finished ≡ false }
         ensures works { OnOk result (self.new.failures ≡ self.old.failures) }
         ensures fails { IfErr result (λ e. (e ≡ Fault.Writing)

@@ -1,13 +1,15 @@
 //! Devices over std's readers and writers. What passed through one is kept for clauses alone.
-ghost use Rattle.std.specs.Prelude.{◌≡◌, ◌+◌, ◌-◌, ◌^◌, ◌<◌, ◌≤◌, ℕ, List, [], ◌++◌, length, take, true, false, IfOk, IfErr, OnOk, Ok, MatchResult, IsTrue};
+ghost use Rattle.std.specs.Prelude.{◌≡◌, ◌≢◌, ◌+◌, ◌-◌, ◌^◌, ◌<◌, ◌≤◌, ℕ, List, [], ◌++◌, length, take, true, false, IfOk, IfErr, OnOk, Ok, MatchResult, IsTrue};
 ghost use Rattle.std.specs.Iterator.{at_most};
 ghost use Rattle.std.specs.Io.KnownBytes.{Consumes, Appends, Keeps, IsAtEnd, ReadConsumes, WriteAppends};
 ghost use Rattle.std.specs.Io.{ReadsAtMost, WritesAtMost};
-ghost use Rattle.octets.specs.Devices.{next_count, ComesNearer};
+ghost use Rattle.std.specs.IoError.{error_kind};
+ghost use Rattle.octets.specs.Devices.{most_octets, next_count, ComesNearer};
 
 use crate::devices::count_failure;
 use crate::transcript::Transcript;
 use crate::{Fault, Input, Output};
+use std::io;
 use std::io::{ErrorKind, Read, Write};
 
 /// After so many octets a read fails.
@@ -21,18 +23,18 @@ pub struct ReaderInput<R> {
     is_at_end: bool,
     failures: u64,
     transcript: Transcript,
-    ghost few: { count ≤ 2 ^ 62 },
+    ghost few: { count ≤ most_octets },
 }
 
 impl<R: Read> ReaderInput<R> {
-    ghost use Rattle.octets.specs.Streams.{reader_of, consumed_of, is_at_end_of, remaining_of, read_failures_of};
+    ghost use Rattle.octets.specs.Views.{reader_of, consumed_of, is_at_end_of, remaining_of, read_failures_of};
 
     /// Gives what the reader gives.
     pub fn new(reader: R) -> ReaderInput<R>
         ensures reader { reader_of result ≡ reader }
         ensures consumed { consumed_of result ≡ [] }
         ensures begins { is_at_end_of result ≡ false }
-        ensures remaining { remaining_of result ≡ at_most (2 ^ 62) }
+        ensures remaining { remaining_of result ≡ at_most most_octets }
         ensures failures { read_failures_of result ≡ 0 }
     {
         ReaderInput {
@@ -46,7 +48,7 @@ impl<R: Read> ReaderInput<R> {
 }
 
 impl<R: Read> Input for ReaderInput<R> {
-    ghost use Rattle.octets.specs.Streams.{reader_of, consumed_of, is_at_end_of, remaining_of, read_failures_of};
+    ghost use Rattle.octets.specs.Views.{reader_of, consumed_of, is_at_end_of, remaining_of, read_failures_of};
 
     ghost consumed = { consumed_of };
 
@@ -67,6 +69,7 @@ impl<R: Read> Input for ReaderInput<R> {
         // What the trait says.
         ensures octets { IfOk result (λ n. (n ≤ length buf.old)
             × (consumed_of self.new ≡ consumed_of self.old ++ take n buf.new)) }
+        ensures no_room { length buf.old ≡ 0 → (result ≡ Ok 0) × (self.new ≡ self.old) }
         ensures end { result ≡ Ok 0 → 0 < length buf.old → IsTrue (is_at_end_of self.new) }
         ensures stays_at_end { IsTrue (is_at_end_of self.old)
             → IsTrue (is_at_end_of self.new) × (consumed_of self.new ≡ consumed_of self.old) }
@@ -83,12 +86,12 @@ impl<R: Read> Input for ReaderInput<R> {
         }
         let left = (MOST_OCTETS - self.count) as usize;
         let room = buf.len().min(left);
-        let result = if room == 0 {
-            Err(Fault::Reading)
+        let taken = if room == 0 {
+            None
         } else {
-            read_once(&mut self.reader, &mut buf[..room])
+            read_once(&mut self.reader, &mut buf[..room]).ok()
         };
-        let Ok(n) = result else {
+        let Some(n) = taken else {
             count_failure(&mut self.failures);
             return Err(Fault::Reading);
         };
@@ -100,21 +103,18 @@ impl<R: Read> Input for ReaderInput<R> {
 }
 
 /// One read, made again where a signal interrupted it.
-fn read_once<R: Read>(reader: &mut R, buf: &mut [u8]) -> Result<usize, Fault>
+fn read_once<R: Read>(reader: &mut R, buf: &mut [u8]) -> io::Result<usize>
     ensures count { IfOk result (λ n. n ≤ length buf.new) }
     ensures source { ReadConsumes (R.remaining reader.old) (R.remaining reader.new) result buf.new }
+    ensures retried { IfErr result (λ e. error_kind e ≢ ErrorKind.Interrupted) }
 {
-    for _ in 0..u64::MAX {
+    'reads: for _ in 0..u64::MAX {
         match reader.read(buf) {
-            Ok(n) => return Ok(n),
-            Err(e) => {
-                if e.kind() != ErrorKind::Interrupted {
-                    break;
-                }
-            }
+            Err(e) if e.kind() == ErrorKind::Interrupted => continue 'reads,
+            result => return result,
         }
     }
-    Err(Fault::Reading)
+    Err(io::Error::from(ErrorKind::Other))
 }
 
 /// An output over a writer. A write that a signal interrupted is made again; one that takes nothing fails.
@@ -127,7 +127,7 @@ pub struct WriterOutput<W> {
 }
 
 impl<W: Write> WriterOutput<W> {
-    ghost use Rattle.octets.specs.Streams.{writer_of, written_of, is_finished_of, write_failures_of};
+    ghost use Rattle.octets.specs.Views.{writer_of, written_of, is_finished_of, write_failures_of};
 
     /// Hands on to the writer what it takes.
     pub fn new(writer: W) -> WriterOutput<W>
@@ -146,7 +146,7 @@ impl<W: Write> WriterOutput<W> {
 }
 
 impl<W: Write> Output for WriterOutput<W> {
-    ghost use Rattle.octets.specs.Streams.{writer_of, written_of, is_finished_of, write_failures_of};
+    ghost use Rattle.octets.specs.Views.{writer_of, written_of, is_finished_of, write_failures_of};
 
     ghost written = { written_of };
 
@@ -162,6 +162,7 @@ impl<W: Write> Output for WriterOutput<W> {
         ensures octets { IfOk result (λ n. (n ≤ length octets.now)
             × (written_of self.new ≡ written_of self.old ++ take n octets.now)) }
         ensures some { result ≡ Ok 0 → length octets.now ≡ 0 }
+        ensures nothing { length octets.now ≡ 0 → (result ≡ Ok 0) × (self.new ≡ self.old) }
         ensures unfinished { 0 < length octets.now → is_finished_of self.new ≡ false }
         ensures works { OnOk result (write_failures_of self.new ≡ write_failures_of self.old) }
         ensures fails { IfErr result (λ e. (e ≡ Fault.Writing)
@@ -194,7 +195,7 @@ impl<W: Write> Output for WriterOutput<W> {
         ensures fails { IfErr result (λ e. (e ≡ Fault.Writing)
             × (write_failures_of self.new ≡ next_count (write_failures_of self.old))) }
     {
-        if flush(&mut self.writer).is_err() {
+        if flush_once(&mut self.writer).is_err() {
             count_failure(&mut self.failures);
             return Err(Fault::Writing);
         }
@@ -204,36 +205,30 @@ impl<W: Write> Output for WriterOutput<W> {
 }
 
 /// One write, made again where a signal interrupted it.
-fn write_once<W: Write>(writer: &mut W, octets: &[u8]) -> Result<usize, Fault>
+fn write_once<W: Write>(writer: &mut W, octets: &[u8]) -> io::Result<usize>
     ensures count { IfOk result (λ n. n ≤ length octets.now) }
     ensures sink { WriteAppends (W.contents writer.old) (W.contents writer.new) result octets.now }
+    ensures retried { IfErr result (λ e. error_kind e ≢ ErrorKind.Interrupted) }
 {
-    for _ in 0..u64::MAX {
+    'writes: for _ in 0..u64::MAX {
         match writer.write(octets) {
-            Ok(n) => return Ok(n),
-            Err(e) => {
-                if e.kind() != ErrorKind::Interrupted {
-                    break;
-                }
-            }
+            Err(e) if e.kind() == ErrorKind::Interrupted => continue 'writes,
+            result => return result,
         }
     }
-    Err(Fault::Writing)
+    Err(io::Error::from(ErrorKind::Other))
 }
 
 /// One flush, made again where a signal interrupted it.
-fn flush<W: Write>(writer: &mut W) -> Result<(), Fault>
+fn flush_once<W: Write>(writer: &mut W) -> io::Result<()>
     ensures sink { Keeps (W.contents writer.old) (W.contents writer.new) }
+    ensures retried { IfErr result (λ e. error_kind e ≢ ErrorKind.Interrupted) }
 {
-    for _ in 0..u64::MAX {
+    'flushes: for _ in 0..u64::MAX {
         match writer.flush() {
-            Ok(()) => return Ok(()),
-            Err(e) => {
-                if e.kind() != ErrorKind::Interrupted {
-                    break;
-                }
-            }
+            Err(e) if e.kind() == ErrorKind::Interrupted => continue 'flushes,
+            result => return result,
         }
     }
-    Err(Fault::Writing)
+    Err(io::Error::from(ErrorKind::Other))
 }

@@ -1,9 +1,10 @@
 //! Outside vectors, and each device at work.
 use crate::{
     B64Writer, Fault, Input, MemoryInput, MemoryOutput, Output, Partial, ReaderInput, Refusal,
-    WriterOutput, b64_append, b64_decode, b64_encode, draw, read_whole, same_octets, write_whole,
-    xor_into,
+    WriterOutput, b64_append, b64_decode, b64_encode, draw, emit, read_to_end, same_octets,
+    write_whole, xor_into,
 };
+use std::alloc::{AllocError, Global};
 use std::io;
 use std::io::{Read, Write};
 use std::process::Abort;
@@ -224,6 +225,171 @@ fn what_fails_below_is_a_fault(rt: HostRuntime) {
     );
 }
 
+/// A reader and a writer. Signals interrupt each of its calls three times, and then it gives or takes
+/// one octet.
+#[derive(Drop)]
+struct Slow<'a> {
+    gives: &'a [u8],
+    taken: Vec<u8>,
+    is_flushed: bool,
+    turn: u8,
+}
+
+impl<'a> Slow<'a> {
+    fn new(alloc: Global, gives: &'a [u8]) -> Slow<'a> {
+        Slow {
+            gives,
+            taken: Vec::new(alloc),
+            is_flushed: false,
+            turn: 0,
+        }
+    }
+
+    fn interrupt(&mut self) -> io::Result<()> {
+        self.turn = self.turn % 4 + 1;
+        if self.turn < 4 {
+            Err(io::Error::from(io::ErrorKind::Interrupted))
+        } else {
+            Ok(())
+        }
+    }
+}
+
+impl<'a> Read for Slow<'a> {
+    fn read(&mut self, buf: &mut [u8]) -> io::Result<usize> {
+        self.interrupt()?;
+        let n = self.gives.len().min(buf.len()).min(1);
+        buf[..n].copy_from_slice(&self.gives[..n]);
+        self.gives = &self.gives[n..];
+        Ok(n)
+    }
+}
+
+impl<'a> Write for Slow<'a> {
+    fn write(&mut self, octets: &[u8]) -> io::Result<usize> {
+        self.interrupt()?;
+        let n = octets.len().min(1);
+        self.taken.extend_from_slice(&octets[..n])?;
+        Ok(n)
+    }
+
+    fn flush(&mut self) -> io::Result<()> {
+        self.interrupt()?;
+        self.is_flushed = true;
+        Ok(())
+    }
+}
+
+/// So many times the same octets, and then others.
+fn repeated(
+    alloc: Global,
+    octets: &[u8],
+    times: usize,
+    last: &[u8],
+) -> Result<Vec<u8>, AllocError> {
+    let mut all = Vec::new(alloc);
+    for _ in 0..times {
+        all.extend_from_slice(octets)?;
+    }
+    all.extend_from_slice(last)?;
+    Ok(all)
+}
+
+#[test]
+fn an_interrupted_and_slow_device_is_no_fault(rt: HostRuntime) -> Result<(), Fail> {
+    let mut input = ReaderInput::new(Slow::new(rt.alloc(), b"abcdef"));
+    assert_eq!(rt; input.read(&mut []), Ok(0));
+    let mut octet = [0u8; 1];
+    assert_eq!(rt; input.read(&mut octet), Ok(1));
+    assert_eq!(rt; octet, *b"a");
+    assert_eq!(rt; next_four(&mut input), (Ok(1), *b"b\0\0\0"));
+    let mut octets = [0u8; 4];
+    assert_eq!(rt; draw(&mut input, &mut octets), Ok(()));
+    assert_eq!(rt; octets, *b"cdef");
+    assert_eq!(rt; input.read(&mut octets), Ok(0));
+
+    let hundred = repeated(rt.alloc(), b"foo", 33, b"f")?;
+    let many = repeated(rt.alloc(), b"foo", 33_333, b"f")?;
+    let mut writer = Slow::new(rt.alloc(), b"");
+    let mut out = WriterOutput::new(&mut writer);
+    assert_eq!(rt; out.write(b""), Ok(0));
+    assert_eq!(rt; out.write(b"f"), Ok(1));
+    assert_eq!(rt; out.write(b"oo"), Ok(1));
+    assert_eq!(rt; write_whole(&mut out, b"o"), Ok(()));
+    assert_eq!(rt; write_whole(&mut out, &hundred), Ok(()));
+    assert_eq!(rt; write_whole(&mut out, b"oo"), Ok(()));
+    assert_eq!(rt; write_whole(&mut out, &many), Ok(()));
+    assert_eq!(rt; out.finish(), Ok(()));
+    drop(out);
+    assert!(rt; writer.is_flushed);
+    let all = repeated(rt.alloc(), b"foo", 33_368, b"f")?;
+    assert_eq!(rt; writer.taken.as_slice(), all.as_slice());
+    Ok(())
+}
+
+/// 70,000 octets, and their text.
+#[test]
+fn long_octets_have_their_text(rt: HostRuntime) -> Result<(), Fail> {
+    let octets = repeated(rt.alloc(), b"foo", 23_333, b"f")?;
+    let text = repeated(rt.alloc(), b"Zm9v", 23_333, b"Zg")?;
+    let mut encoded = b64_encode(rt.alloc(), &octets)?;
+    assert_eq!(rt; encoded.as_bytes(), text.as_slice());
+    assert_eq!(rt;
+        b64_decode(rt.alloc(), &text)?.as_slice(),
+        octets.as_slice()
+    );
+    let mut writer = B64Writer::start();
+    let mut written = Vec::new(rt.alloc());
+    let mut out = [0u8; 5488];
+    let mut rest = octets.as_slice();
+    for _ in 0..18 {
+        let n = rest.len().min(4000);
+        let len = writer.feed(&rest[..n], &mut out);
+        written.extend_from_slice(&out[..len])?;
+        rest = &rest[n..];
+    }
+    let mut last = [0u8; 4];
+    let len = writer.finish(&mut last);
+    written.extend_from_slice(&last[..len])?;
+    assert_eq!(rt; written.as_slice(), text.as_slice());
+    b64_append(&mut encoded, &octets)?;
+    written.extend_from_slice(&text)?;
+    assert_eq!(rt; encoded.as_bytes(), written.as_slice());
+    Ok(())
+}
+
+#[test]
+fn long_octets_are_read_written_added_and_compared(rt: HostRuntime) -> Result<(), Fail> {
+    let octets = repeated(rt.alloc(), b"foo", 23_333, b"f")?;
+    for step in [1, 4096, 70_000usize] {
+        let mut input = MemoryInput::new(&octets, step);
+        assert_eq!(rt;
+            read_to_end(rt.alloc(), &mut input)?.as_slice(),
+            octets.as_slice()
+        );
+    }
+    let mut input = ReaderInput::new(Slow::new(rt.alloc(), &octets));
+    assert_eq!(rt;
+        read_to_end(rt.alloc(), &mut input)?.as_slice(),
+        octets.as_slice()
+    );
+    let mut out = MemoryOutput::new(rt.alloc(), 140_000)?;
+    assert_eq!(rt; write_whole(&mut out, &octets), Ok(()));
+    assert_eq!(rt; out.octets(), octets.as_slice());
+    assert_eq!(rt; emit(&mut out, &octets), Ok(()));
+    let twice = repeated(rt.alloc(), &octets, 2, b"")?;
+    assert_eq!(rt; out.octets(), twice.as_slice());
+    let mut other = repeated(rt.alloc(), b"oof", 23_333, b"o")?;
+    assert_eq!(rt; same_octets(&octets, &other), false);
+    let n = octets.len().min(other.len());
+    xor_into(&mut other[..n], &octets[..n]);
+    // 'o' ^ 'f' is 9.
+    let sum = repeated(rt.alloc(), b"\x09\x00\x09", 23_333, b"\x09")?;
+    assert_eq!(rt; other.as_slice(), sum.as_slice());
+    assert_eq!(rt; same_octets(&other, &sum), true);
+    Ok(())
+}
+
 /// Each call that grows, with its answer. A growth may be refused: then the answer is `Memory`, and
 /// what was lent is as it was.
 fn grows<R: Abort + AllocGlobal>(rt: &R, may_be_refused: bool) {
@@ -242,7 +408,7 @@ fn grows<R: Abort + AllocGlobal>(rt: &R, may_be_refused: bool) {
     );
     let content = [7u8; 10_000];
     let mut input = MemoryInput::new(&content, 5000);
-    match read_whole(alloc, &mut input) {
+    match read_to_end(alloc, &mut input) {
         Ok(octets) => assert_eq!(rt; octets.as_slice(), content.as_slice()),
         Err(refusal) => assert!(rt; may_be_refused && refusal == Refusal::Memory),
     }
@@ -257,7 +423,7 @@ fn grows<R: Abort + AllocGlobal>(rt: &R, may_be_refused: bool) {
     }
     match MemoryOutput::new(alloc, 10) {
         Ok(out) => assert_eq!(rt; out.octets(), b"".as_slice()),
-        Err(_) => assert!(rt; may_be_refused),
+        Err(refusal) => assert!(rt; may_be_refused && refusal == Refusal::Memory),
     }
 }
 

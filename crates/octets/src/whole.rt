@@ -7,9 +7,12 @@ ghost use Rattle.octets.specs.Outcomes.{IsReadingFailure, IsDrawingFailure};
 use crate::{Input, Output, Refusal};
 use std::alloc::Global;
 
+/// The most octets that one read of a whole input asks for.
+const LONGEST_READ: usize = 4096;
+
 /// All that the input still gives, up to its end. Refused with `Read` where the input fails, and for
 /// want of memory.
-pub fn read_whole<I: Input>(alloc: Global, input: &mut I) -> Result<Vec<u8>, Refusal>
+pub fn read_to_end<I: Input>(alloc: Global, input: &mut I) -> Result<Vec<u8>, Refusal>
     requires { IsFinite (I.remaining input.old) }
     ensures whole { IfOk result (λ octets. (I.consumed input.new ≡ I.consumed input.old ++ octets.items)
         × IsTrue (I.is_at_end input.new)) }
@@ -18,7 +21,7 @@ pub fn read_whole<I: Input>(alloc: Global, input: &mut I) -> Result<Vec<u8>, Ref
     ensures extends { Extends (I.consumed input.old) (I.consumed input.new) }
 {
     let mut octets = Vec::new(alloc);
-    let mut buf = [0u8; 4096];
+    let mut buf = [0u8; LONGEST_READ];
     'reads: loop {
         let n = input.read(&mut buf)?;
         if n == 0 {
@@ -67,13 +70,14 @@ impl From<Partial> for Refusal {
     }
 }
 
-/// Writes all of the octets. `Partial` tells exactly how much went out.
+/// Writes all of the octets. `Partial` tells exactly how much went out. Writing nothing does nothing.
 pub fn write_whole<O: Output>(out: &mut O, octets: &[u8]) -> Result<(), Partial>
     ensures all { OnOk result (O.written out.new ≡ O.written out.old ++ octets.now) }
     ensures part { IfErr result (λ e. (e.written < length octets.now)
         × (O.written out.new ≡ O.written out.old ++ take e.written octets.now)) }
     ensures works { OnOk result (O.failures out.new ≡ O.failures out.old) }
     ensures fails { OnErr result (O.failures out.new ≡ next_count (O.failures out.old)) }
+    ensures nothing { length octets.now ≡ 0 → out.new ≡ out.old }
 {
     let mut written = 0;
     'writes: while written < octets.len() {

@@ -4,4 +4,4 @@ pub mod Sha2
 pub mod Digests
 pub mod Hmac
 pub mod Pbkdf2
-pub mod Running
+pub mod Views

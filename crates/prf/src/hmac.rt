@@ -17,12 +17,12 @@ pub struct Hmac<H: Hash> {
 }
 
 impl<H: Hash> Hmac<H> {
-    ghost use Rattle.prf.specs.Running.{IsFed};
+    ghost use Rattle.prf.specs.Views.{HoldsHmac};
 
     /// The code of the empty text, under a key of any length. The standards ask for a key at least
     /// as long as the digest.
     pub fn new(key: &[u8]) -> Hmac<H>
-        ensures { IsFed H.function H.holds result key.now [] }
+        ensures { HoldsHmac H.function H.holds result key.now [] }
     {
         let mut block = [0u8; 128];
         put_key::<H>(key, &mut block);
@@ -34,16 +34,16 @@ impl<H: Hash> Hmac<H> {
 
     /// Takes the next piece of the text.
     pub fn update(&mut self, piece: &[u8])
-        ensures { (key text : List ℕ) → IsFed H.function H.holds self.old key text
-            → IsFed H.function H.holds self.new key (text ++ piece.now) }
+        ensures { (key text : List ℕ) → HoldsHmac H.function H.holds self.old key text
+            → HoldsHmac H.function H.holds self.new key (text ++ piece.now) }
     {
         self.inner.update(piece);
     }
 
     /// A copy of the state, which spares a second text under the key the work on that one.
     pub fn fork(&self) -> Hmac<H>
-        ensures { (key text : List ℕ) → IsFed H.function H.holds self.now key text
-            → IsFed H.function H.holds result key text }
+        ensures { (key text : List ℕ) → HoldsHmac H.function H.holds self.now key text
+            → HoldsHmac H.function H.holds result key text }
     {
         Hmac {
             inner: self.inner.fork(),
@@ -54,7 +54,7 @@ impl<H: Hash> Hmac<H> {
     /// Writes the code of the text to the front of `out`, and answers its length, which is the
     /// hash's.
     pub fn finish(self, out: &mut [u8; 64]) -> usize
-        ensures code { (key text : List ℕ) → IsFed H.function H.holds self key text
+        ensures code { (key text : List ℕ) → HoldsHmac H.function H.holds self key text
             → take result out.new ≡ hmac H.function key text }
         ensures len { result ≡ H.function.output_len }
     {

@@ -2,7 +2,7 @@
 ghost use Rattle.std.specs.Prelude.{◌≡◌, ℕ, ◌*◌, ◌<◌, ◌≤◌, List, [], ◌^◌, length, map};
 ghost use Rattle.std.specs.List.{concat};
 ghost use Rattle.prf.specs.Pbkdf2.{block_count, derived_block, pbkdf2};
-ghost use Rattle.prf.specs.Running.{IsFed};
+ghost use Rattle.prf.specs.Views.{HoldsHmac};
 
 use crate::hash::Hash;
 use crate::hmac::Hmac;
@@ -32,7 +32,7 @@ pub fn pbkdf2<H: Hash>(password: &[u8], salt: [&[u8]; 2], count: u32, out: &mut 
 fn derive_block<H: Hash>(keyed: &Hmac<H>, salt: [&[u8]; 2], count: u32, i: u32, block: &mut [u8])
     requires iterated { 1 ≤ count }
     requires fits { length block.old ≡ H.function.output_len }
-    ensures { (password : List ℕ) → IsFed H.function H.holds keyed.now password []
+    ensures { (password : List ℕ) → HoldsHmac H.function H.holds keyed.now password []
         → block.new ≡ derived_block H.function password (concat (map (λ part. part.now) salt.entry)) count i }
 {
     let [first_part, second_part] = salt;

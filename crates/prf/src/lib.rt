@@ -28,4 +28,6 @@ pub use key_derivation::pbkdf2;
 pub use sha2::{Sha256, Sha384, Sha512};
 
 #[cfg(test)]
+mod long_tests;
+#[cfg(test)]
 mod tests;

@@ -3,7 +3,8 @@ use Rattle.std.proofs.Common.{◌≡◌, Bool, List, [], ◌∷◌, map, refl, a
 use Rattle.std.specs.List.{list_any}
 use Rattle.std.specs.Prelude.{◌||◌}
 use Rattle.keys.specs.declared.key.Key.{Key}
-use Rattle.keys.specs.Keys.{OctetKey, key_view}
+use Rattle.keys.specs.Keys.{OctetKey}
+use Rattle.keys.specs.Views.{key_view}
 
 -- whether some key is as asked
 pub any_key : (asked : OctetKey → Bool) (keys : List Key) → list_any asked (map key_view keys) ≡ list_any (λ key. asked (key_view key)) keys

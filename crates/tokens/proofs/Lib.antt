@@ -1,3 +1,5 @@
 pub mod Keys
 pub mod SigningPlans
 pub mod HeaderMembers
+pub mod Growing
+pub mod RoundTrip

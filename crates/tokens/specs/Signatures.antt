@@ -1,5 +1,6 @@
 -- Signatures (RFC 7515 section 5.1, RFC 7518 section 3.2), and which algorithms make them.
 use Rattle.std.specs.Prelude.{ℕ, Bool, true, false, List, ◌∷◌, ◌++◌, if◌then◌else◌, Option, Some, None, Result, Ok, Err}
+use Rattle.std.specs.Str.{byte}
 use Rattle.octets.specs.declared.refusal.Refusal.{Refusal}
 use Rattle.octets.specs.declared.refusal.Refusal.TheVariants.{Unsupported}
 use Rattle.prf.specs.HashFunction.{HashFunction}
@@ -16,7 +17,7 @@ signature_hash Hs512 = sha512_function
 
 -- the text of the protected header, a dot, and the base64url text of the payload
 abbrev pub signing_input : List ℕ → List ℕ → List ℕ
-signing_input protected payload_text = protected ++ (46 ∷ payload_text)
+signing_input protected payload_text = protected ++ (byte "." ∷ payload_text)
 
 -- the whole HMAC of the signing input
 unfoldable pub signature_of : SignatureAlg → List ℕ → List ℕ → List ℕ → List ℕ

@@ -1,6 +1,6 @@
 -- What a `Signer` of the code holds.
 use Rattle.std.specs.Prelude.{string_bytes}
-use Rattle.keys.specs.Keys.{key_view}
+use Rattle.keys.specs.Views.{key_view}
 use Rattle.tokens.specs.declared.sign.Signer.{Signer as Code}
 use Rattle.tokens.specs.Signing.{Signer}
 

@@ -5,11 +5,11 @@ use Rattle.octets.specs.declared.refusal.Refusal.{Refusal}
 use Rattle.octets.specs.declared.refusal.Refusal.TheVariants.{NoAlgorithm, KeyDoesNotFit, Limit}
 use Rattle.octets.specs.Outcomes.{◌>>=◌, needs}
 use Rattle.octets.specs.Base64url.{base64url, whole_groups}
-use Rattle.octets.specs.Plan.{Plan}
+use Rattle.octets.specs.Plan.{Plan, Grows}
 use Rattle.keys.specs.declared.algorithm.Algorithm.TheVariants.{Signature}
 use Rattle.keys.specs.declared.algorithm.SignatureAlg.{SignatureAlg}
 use Rattle.keys.specs.declared.algorithm.SignatureAlg.TheVariants.{Hs256, Hs384, Hs512}
-use Rattle.keys.specs.declared.key.Operation.TheVariants.{Sign}
+use Rattle.keys.specs.declared.operation.Operation.TheVariants.{Sign}
 use Rattle.keys.specs.Algorithms.{signature_alg_of}
 use Rattle.keys.specs.Json.{json_value}
 use Rattle.keys.specs.Keys.{OctetKey, allows, fits}
@@ -92,3 +92,7 @@ unfoldable pub signing_by : List OctetKey → List ℕ → Result (Plan (List �
 signing_by set template = do
   signer ← signer_of set template
   Ok (plan_by signer)
+
+-- the plan of every signer goes on as its payload does
+abbrev pub SigningGrows : Type 0
+SigningGrows = (signer : Signer) → Grows (plan_by signer)

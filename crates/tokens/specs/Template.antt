@@ -10,7 +10,7 @@ use Rattle.keys.specs.declared.algorithm.SignatureAlg.{SignatureAlg}
 use Rattle.keys.specs.Algorithms.{signature_name, signature_alg_of}
 use Rattle.keys.specs.Json.{is_object, has_only}
 use Rattle.objects.specs.Headers.{joint_header, string_parameter}
-use Rattle.objects.specs.JointHeaders.{part_view}
+use Rattle.objects.specs.Views.{part_view}
 use Rattle.tokens.specs.declared.template.Template.{Template}
 use Rattle.tokens.specs.Signatures.{supported}
 

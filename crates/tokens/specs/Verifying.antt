@@ -1,17 +1,20 @@
 -- Verifying with any key of a set (RFC 7515 section 5.2).
-use Rattle.std.specs.Prelude.{ℕ, ◌&&◌, Bool, List, [], if◌then◌else◌, Result, Ok}
+use Rattle.std.specs.Prelude.{◌≡◌, ℕ, ◌&&◌, Bool, true, List, [], ◌∷◌, if◌then◌else◌, Result, Ok}
 use Rattle.std.specs.List.{list_any}
 use Rattle.std.specs.Str.{bytes_eq}
 use Rattle.octets.specs.declared.refusal.Refusal.{Refusal}
 use Rattle.octets.specs.declared.refusal.Refusal.TheVariants.{KeyDoesNotFit, NotOpened}
 use Rattle.octets.specs.Outcomes.{◌>>=◌, needs}
+use Rattle.octets.specs.Octets.{IsOctets}
+use Rattle.octets.specs.Plan.{planned}
 use Rattle.keys.specs.declared.algorithm.Algorithm.TheVariants.{Signature}
 use Rattle.keys.specs.declared.algorithm.SignatureAlg.{SignatureAlg}
-use Rattle.keys.specs.declared.key.Operation.TheVariants.{Verify}
+use Rattle.keys.specs.declared.operation.Operation.TheVariants.{Verify}
 use Rattle.keys.specs.Algorithms.{signature_alg_of}
 use Rattle.keys.specs.Keys.{OctetKey, allows, fits}
-use Rattle.objects.specs.Jws.{SignedObject}
+use Rattle.objects.specs.Jws.{SignedObject, signed_object}
 use Rattle.tokens.specs.Signatures.{signature_of, supported}
+use Rattle.tokens.specs.Signing.{signing_by}
 
 -- the key may verify, and fits
 abbrev pub is_candidate : SignatureAlg → OctetKey → Bool
@@ -38,3 +41,11 @@ unfoldable pub verifying_by : Bool → List OctetKey → SignedObject → Result
 verifying_by wanted keys jws = do
   payload ← verified_payload keys jws
   Ok (if wanted then payload else [])
+
+-- ---- what is signed
+
+-- Where a key signs as the template asks and may verify, what is written verifies with it, and gives the payload.
+abbrev pub SignedVerifies : Type 0
+SignedVerifies = (key : OctetKey) (template payload text : List ℕ) → IsOctets payload → allows key Verify ≡ true
+    → planned (signing_by (key ∷ []) template) payload ≡ Ok text
+    → (signed_object text >>= λ jws. verifying_by true (key ∷ []) jws) ≡ Ok payload

@@ -10,6 +10,7 @@
 //! ```
 #![tactic(auto)]
 
+pub mod laws;
 mod sign;
 mod signature;
 mod template;

@@ -1,12 +1,13 @@
 //! Signing with one key, in compact form (RFC 7515 sections 5.1 and 7.1).
-ghost use Rattle.std.specs.Prelude.{◌≡◌, ℕ, List, false, IfOk, IfErr, IsErrOf, IsTrue, OnOk, OnErr, map, option_map, string_bytes};
+ghost use Rattle.std.specs.Prelude.{◌≡◌, ◌≢◌, ℕ, List, [], ◌∷◌, false, Err, IfOk, IfErr, IsTrue, OnOk, OnErr, map, option_map, string_bytes};
 ghost use Rattle.std.specs.Iterator.{IsFinite};
 ghost use Rattle.serde_json.specs.Written.{members_have_float};
-ghost use Rattle.octets.specs.Devices.{appended, observed, IsPossibleInput, AppendsPrefixOf, Rose};
+ghost use Rattle.octets.specs.Devices.{appended, observed, IsPossibleInput, AppendsPrefixOf};
+ghost use Rattle.octets.specs.Faults.{TellsFaults, counts};
 ghost use Rattle.octets.specs.Outcomes.{AgreesUnlessMemory, AgreesUnlessExternal};
 ghost use Rattle.octets.specs.Plan.{begun, planned};
-ghost use Rattle.keys.specs.Keys.{key_view};
-ghost use Rattle.keys.specs.KeySets.{key_set_view};
+ghost use Rattle.octets.specs.declared.refusal.Refusal.{Refusal};
+ghost use Rattle.keys.specs.Views.{key_view};
 ghost use Rattle.objects.specs.Jws.{compact_text};
 ghost use Rattle.tokens.specs.Template.{template_view};
 ghost use Rattle.tokens.specs.Signing.{signing_by, signer_of, signer_by, only_key, chosen_alg, alg_of_key, alg_by_length, signed};
@@ -15,7 +16,7 @@ ghost use Rattle.tokens.specs.Signers.{signer_view};
 use crate::signature::{Signature, supported};
 use crate::template::{Template, compact_header, read_template};
 use keys::{Algorithm, Key, KeySet, Operation, SignatureAlg, read_json};
-use octets::{Input, Output, Refusal, b64_append, b64_encode, emit, needs, read_whole};
+use octets::{Input, Output, Refusal, b64_append, b64_encode, emit, needs, read_to_end};
 use std::alloc::Global;
 
 /// Signs all that the content gives with the key (RFC 7515 section 5.1), as the template asks, and writes
@@ -43,18 +44,23 @@ pub fn jws_sign<I: Input, O: Output>(
     requires { IsFinite (I.remaining content.old) }
     ensures answer { (payload : List ℕ)
         → IsPossibleInput (observed I.consumed I.is_at_end content.old content.new) payload
-        → AgreesUnlessExternal (planned (signing_by (key_set_view keys.now) template.now) payload) (appended (O.written out.old) (O.written out.new)) result }
+        → AgreesUnlessExternal (planned (signing_by keys.now template.now) payload) (appended (O.written out.old) (O.written out.new)) result }
     ensures beginning { OnErr result (AppendsPrefixOf
-        (begun (signing_by (key_set_view keys.now) template.now) (observed I.consumed I.is_at_end content.old content.new))
+        (begun (signing_by keys.now template.now) (observed I.consumed I.is_at_end content.old content.new))
         (O.written out.old) (O.written out.new)) }
     ensures finished { OnOk result (IsTrue (O.is_finished out.new)) }
-    ensures works { OnOk result ((I.failures content.new ≡ I.failures content.old) × (O.failures out.new ≡ O.failures out.old)) }
-    ensures read { IsErrOf result Refusal.Read → Rose (I.failures content.old) (I.failures content.new) }
-    ensures write { IsErrOf result Refusal.Write → Rose (O.failures out.old) (O.failures out.new) }
+
+    // What the template and the keys refuse is refused before the content is touched; an output on which nothing was
+    // written is as it was, unless it failed.
+    ensures content_last { (refusal : Refusal) → signing_by keys.now template.now ≡ Err refusal
+        → content.new ≡ content.old }
+    ensures uncut { IfErr result (λ refusal. refusal ≢ Refusal.Write
+        → O.written out.new ≡ O.written out.old → out.new ≡ out.old) }
+    ensures faults { TellsFaults (counts I.failures content.old content.new ∷ []) (counts O.failures out.old out.new ∷ []) result }
 {
     let signer = read_signer(alloc, keys, template)?;
-    let payload = read_whole(alloc, content)?;
-    let text = compact(alloc, &signer, &payload)?;
+    let payload = read_to_end(alloc, content)?;
+    let text = sign_compact(alloc, &signer, &payload)?;
     emit(out, text.as_bytes())
 }
 
@@ -70,7 +76,7 @@ struct Signer<'k> {
 /// and `read_template`; with `Limit` where there are several keys; with those of `signer_by`.
 #[tactic(auto, unfolding(crate::specs::Signing::signer_of))]
 fn read_signer<'k>(alloc: Global, keys: &'k KeySet, template: &[u8]) -> Result<Signer<'k>, Refusal>
-    ensures { AgreesUnlessMemory signer_view result (signer_of (key_set_view keys.now) template.now) }
+    ensures { AgreesUnlessMemory signer_view result (signer_of keys.now template.now) }
 {
     let value = read_json(alloc, template)?;
     let template = read_template(&value)?;
@@ -141,7 +147,7 @@ fn alg_by_length(len: usize) -> Option<SignatureAlg>
 
 /// The compact text of the payload and its signature. The signing input is its beginning.
 #[tactic(auto, unfolding(crate::specs::Signatures::signature_of))]
-fn compact(alloc: Global, signer: &Signer<'_>, payload: &[u8]) -> Result<String, Refusal>
+fn sign_compact(alloc: Global, signer: &Signer<'_>, payload: &[u8]) -> Result<String, Refusal>
     ensures text { IfOk result (λ text. string_bytes text
         ≡ compact_text (signed (signer_view signer.now) payload.now)) }
     ensures memory { IfErr result (λ e. e ≡ Refusal.Memory) }
@@ -151,7 +157,7 @@ fn compact(alloc: Global, signer: &Signer<'_>, payload: &[u8]) -> Result<String,
     text.push('.')?;
     b64_append(&mut text, payload)?;
     let (protected, payload_text) = text.as_bytes().split_at(protected_len);
-    let signature = Signature::new(
+    let signature = Signature::compute(
         signer.alg,
         signer.key.octets(),
         protected,

@@ -1,8 +1,8 @@
 //! The signature of a payload under a protected header (RFC 7515 section 5.1).
-ghost use Rattle.std.specs.Prelude.{◌≡◌, ◌∷◌, ◌++◌};
+ghost use Rattle.std.specs.Prelude.{◌≡◌};
 ghost use Rattle.prf.specs.Hmac.{hmac};
 ghost use Rattle.octets.specs.Outcomes.{AgreesUnlessMemory};
-ghost use Rattle.tokens.specs.Signatures.{signature_hash, supported};
+ghost use Rattle.tokens.specs.Signatures.{signature_hash, signing_input, supported};
 
 use keys::SignatureAlg;
 use octets::Refusal;
@@ -28,8 +28,13 @@ impl Model for Signature {
 
 impl Signature {
     /// The signature of the texts of the protected header and of the payload, with a dot between.
-    pub(crate) fn new(alg: SignatureAlg, key: &[u8], protected: &[u8], payload: &[u8]) -> Signature
-        ensures { result ≡ hmac (signature_hash alg) key.now (protected.now ++ (46 ∷ payload.now)) }
+    pub(crate) fn compute(
+        alg: SignatureAlg,
+        key: &[u8],
+        protected: &[u8],
+        payload: &[u8],
+    ) -> Signature
+        ensures { result ≡ hmac (signature_hash alg) key.now (signing_input protected.now payload.now) }
     {
         match alg {
             SignatureAlg::Hs256 => mac::<Sha256>(key, protected, payload),
@@ -46,7 +51,7 @@ impl Signature {
 }
 
 fn mac<H: Hash>(key: &[u8], protected: &[u8], payload: &[u8]) -> Signature
-    ensures { result ≡ hmac H.function key.now (protected.now ++ (46 ∷ payload.now)) }
+    ensures { result ≡ hmac H.function key.now (signing_input protected.now payload.now) }
 {
     let mut mac = Hmac::<H>::new(key);
     mac.update(protected);

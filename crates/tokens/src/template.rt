@@ -3,7 +3,7 @@ ghost use Rattle.std.specs.Prelude.{◌≡◌, false, option_map, IfOk, string_b
 ghost use Rattle.serde_json.specs.View.{view, members_view};
 ghost use Rattle.serde_json.specs.Written.{has_float, members_have_float};
 ghost use Rattle.octets.specs.Outcomes.{AgreesUnlessMemory};
-ghost use Rattle.objects.specs.JointHeaders.{part_view};
+ghost use Rattle.objects.specs.Views.{part_view};
 ghost use Rattle.tokens.specs.Template.{template_view, template_of, template_headers, members_at, named_alg, supported_if_there, with_alg, header_text, compact_header, is_shallow, is_empty};
 
 use crate::signature::supported;

@@ -1,18 +1,18 @@
 //! Verifying with any key of a set (RFC 7515 section 5.2).
-ghost use Rattle.std.specs.Prelude.{◌≡◌, ◌≢◌, [], false, OnOk, OnErr, IfErr, IsErrOf, IsTrue};
+ghost use Rattle.std.specs.Prelude.{◌≡◌, ◌≢◌, [], ◌∷◌, false, OnOk, OnErr, IfErr, IsTrue};
 ghost use Rattle.std.specs.List.{list_any};
 ghost use Rattle.std.specs.Result.{result_unwrap_or};
-ghost use Rattle.octets.specs.Devices.{appended, AppendsPrefixOf, Rose};
+ghost use Rattle.octets.specs.Devices.{appended, AppendsPrefixOf};
+ghost use Rattle.octets.specs.Faults.{TellsFaults, counts};
 ghost use Rattle.octets.specs.Outcomes.{AgreesUnlessMemory, AgreesUnlessExternal};
-ghost use Rattle.keys.specs.Keys.{key_view};
-ghost use Rattle.keys.specs.KeySets.{key_set_view};
-ghost use Rattle.objects.specs.Jws.{jws_view};
+ghost use Rattle.keys.specs.Views.{key_view};
+ghost use Rattle.objects.specs.Views.{jws_view};
 ghost use Rattle.tokens.specs.Verifying.{verifying_by, verified_payload, is_candidate as is_candidate_key, is_signed as is_signed_by, verifies as verifies_by};
 
 use crate::signature::{Signature, supported};
 use keys::{Algorithm, Key, KeySet, Operation, SignatureAlg};
 use objects::Jws;
-use octets::{Output, Refusal, emit, needs};
+use octets::{Output, Refusal, emit, needs, same_octets};
 
 /// Verifies the object with the keys (RFC 7515 section 5.2), and writes its payload where it is wanted. Some
 /// key that may verify and fits must have signed the texts that were received.
@@ -27,19 +27,17 @@ pub fn jws_verify<O: Output>(
     wanted: bool,
     out: &mut O,
 ) -> Result<(), Refusal>
-    ensures answer { AgreesUnlessExternal (verifying_by wanted (key_set_view keys.now) (jws_view jws.now))
+    ensures answer { AgreesUnlessExternal (verifying_by wanted keys.now (jws_view jws.now))
         (appended (O.written out.old) (O.written out.new)) result }
 
-    // Nothing is written before it is accepted.
-    ensures held_back { IfErr result (λ refusal. refusal ≢ Refusal.Write → O.written out.new ≡ O.written out.old) }
+    // The output is not touched before all is accepted.
+    ensures held_back { IfErr result (λ refusal. refusal ≢ Refusal.Write → out.new ≡ out.old) }
     ensures beginning { OnErr result (AppendsPrefixOf
-        (result_unwrap_or (verifying_by wanted (key_set_view keys.now) (jws_view jws.now)) [])
+        (result_unwrap_or (verifying_by wanted keys.now (jws_view jws.now)) [])
         (O.written out.old) (O.written out.new)) }
     ensures finished { OnOk result (IsTrue wanted → IsTrue (O.is_finished out.new)) }
-    ensures works { OnOk result (O.failures out.new ≡ O.failures out.old) }
     ensures untouched { wanted ≡ false → out.new ≡ out.old }
-    ensures no_read { IfErr result (λ refusal. refusal ≢ Refusal.Read) }
-    ensures write { IsErrOf result Refusal.Write → Rose (O.failures out.old) (O.failures out.new) }
+    ensures faults { TellsFaults [] (counts O.failures out.old out.new ∷ []) result }
 {
     let payload = verified(keys, jws)?;
     if wanted { emit(out, payload) } else { Ok(()) }
@@ -50,7 +48,7 @@ pub fn jws_verify<O: Output>(
 /// `NotOpened` where none of those verifies.
 #[tactic(auto, unfolding(crate::specs::Verifying::verified_payload), using(crate::proofs::Keys::any_key))]
 fn verified<'j>(keys: &KeySet, jws: &'j Jws<'_>) -> Result<&'j [u8], Refusal>
-    ensures { AgreesUnlessMemory (λ payload. payload.now) result (verified_payload (key_set_view keys.now) (jws_view jws.now)) }
+    ensures { AgreesUnlessMemory (λ payload. payload.now) result (verified_payload keys.now (jws_view jws.now)) }
 {
     let alg = supported(SignatureAlg::named(jws.alg()))?;
     needs(has_candidate(keys.keys(), alg), Refusal::KeyDoesNotFit)?;
@@ -85,6 +83,6 @@ fn is_candidate(key: &Key, alg: SignatureAlg) -> bool
 fn is_signed(key: &Key, alg: SignatureAlg, jws: &Jws<'_>) -> bool
     ensures { result ≡ is_signed_by alg (jws_view jws.now) (key_view key.now) }
 {
-    let signature = Signature::new(alg, key.octets(), jws.protected(), jws.payload_text());
-    signature.octets() == jws.signature()
+    let signature = Signature::compute(alg, key.octets(), jws.protected(), jws.payload_text());
+    same_octets(signature.octets(), jws.signature())
 }

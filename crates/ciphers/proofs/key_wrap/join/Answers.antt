@@ -1,5 +1,5 @@
 use Rattle.std.proofs.Common.{ap₂, ◌∙◌, arith, ◌++◌, refl}
-use Rattle.ciphers.proofs.Parts.{written_behind}
+use Rattle.ciphers.proofs.Halves.{written_behind}
 use Rattle.ciphers.proofs.key_wrap.join.Goals as goal
 
 pub returns : goal.returns

@@ -7,4 +7,4 @@ pub returns-clause-register : goal.returns-clause-register
 returns-clause-register g c =
     c.copy_from_slice-2.ensures.after
     ∙ take_all 8 (drop 8 c.decrypt-b.result) (grind (arith, common_steps))
-    ∙ ap (drop 8) (c.decrypt-b.ensures ∙ ap (g.B.Block.decrypted c.args.kek.now) (c.join.ensures ∙ ap (λ a. a ++ c.args.r.now) c.add_count.ensures))
+    ∙ ap (drop 8) (c.decrypt-b.ensures ∙ ap (g.B.Block.decrypted c.args.kek.now) (c.join.ensures ∙ ap (λ a. a ++ c.args.r.now) c.xor_count.ensures))

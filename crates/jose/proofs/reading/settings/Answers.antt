@@ -4,7 +4,7 @@ use Rattle.clap.specs.Words.{Row, Text, found_of, first_of, rows_of}
 use Rattle.clap.proofs.WalkLemmas.{first_value-rows}
 use Rattle.jose.specs.Reading.{settings_of, setting_before, value_given}
 use Rattle.jose.specs.Rows.{option_entry, takes_of}
-use Rattle.jose.specs.Invocations.{settings_seen}
+use Rattle.jose.specs.Invocations.{settings_view}
 use Rattle.jose.specs.declared.command.Kind.TheVariants.{Flag}
 use Rattle.jose.specs.declared.command.Role.TheVariants.{Input}
 use Rattle.jose.specs.declared.command.OptionRow.{OptionRow}
@@ -33,5 +33,5 @@ loop-option-preserved c =
     let o = get_or options i no_option in
     let value = option_map (λ (s : Bor (List ℕ)). s.now) c.value_of-value.result in
     let given : value ≡ value_given (takes_of o.2) (first_of o.1.now (rows_of m)) = c.value_of-value.ensures ∙ ap (value_given (takes_of o.2)) (c.get_str.ensures ∙ first_value-rows m o.1.now) in
-    one_more (settings_seen c.loop-option.settings.items) (settings_seen c.add_setting.new.settings.items) (drop i options) (drop (i + 1) options) o (rows_of m) (settings_of (map option_entry options) (rows_of m)) value
+    one_more (settings_view c.loop-option.settings.items) (settings_view c.add_setting.new.settings.items) (drop i options) (drop (i + 1) options) o (rows_of m) (settings_of (map option_entry options) (rows_of m)) value
     (drop_more options i no_option (omega arith)) given c.in_ok-add_setting.ensures c.loop-option.invariant

@@ -4,76 +4,105 @@ use Rattle.std.specs.Option.{ok_or}
 use Rattle.octets.specs.declared.refusal.Refusal.TheVariants.{Usage}
 use Rattle.octets.specs.Devices.{appended, observed}
 use Rattle.octets.specs.Plan.{planned}
-use Rattle.octets.proofs.Agreement.{planned_map, planned_without_content, on_refusal}
+use Rattle.octets.specs.Encoding.{encoding, decoding}
+use Rattle.octets.proofs.Agreement.{planned_map, planned_without_content, plan_of_plan, plan_of_text, on_refusal}
 use Rattle.octets.proofs.Prefixes.{AppendsPrefixOf-none}
-use Rattle.keys.specs.Generating.{generated}
-use Rattle.jose.specs.Invocations.{seen, hash_asked}
+use Rattle.keys.specs.Generating.{gen_answer}
+use Rattle.keys.specs.Limits.{limits}
+use Rattle.jose.specs.Invocations.{invocation_view, hash_asked}
 use Rattle.jose.specs.Ports.{as_text, as_content}
-use Rattle.jose.specs.Jwk.{thumbprints}
-use Rattle.jose.specs.Encoding.{encoding, decoding}
-use Rattle.jose.specs.Jws.{signing, verifying}
-use Rattle.jose.specs.Answer.{is_content_wanted}
-use Rattle.jose.proofs.Agreement.{agrees_as_text, agrees_as_content, begun_as_text, begun_as_content, begun_without_content}
+use Rattle.jose.specs.Jwk.{thp_answer}
+use Rattle.jose.specs.Jws.{sig_answer, ver_answer}
+use Rattle.jose.specs.Meanings.{is_content_wanted}
+use Rattle.jose.proofs.Agreement.{agrees_as_text, agrees_as_content, plan_of_making, begun_by_plan, begun_by_text}
 use Rattle.jose.proofs.runner.run.Goals as goal
+
+-- ---- jwk gen
 
 pub returns-in-JwkGen-clause-answer : goal.returns-in-JwkGen-clause-answer
 returns-in-JwkGen-clause-answer g c inputs may =
-    let a = generated inputs.text inputs.random in
+    let a = gen_answer limits inputs.text inputs.random in
     let h = c.generate.ensures.answer inputs.text inputs.random may.text may.random in
-    rw (c.in-JwkGen.is, planned_without_content as_text a [])
+    rw (c.in-JwkGen.is, plan_of_making as_text inputs.text inputs.random, planned_without_content as_text a [])
     (agrees_as_text a _ _ _ (drop-length (g.O.Output.written c.args.outputs.now.content)) h)
+
+pub returns-in-JwkGen-clause-beginning : goal.returns-in-JwkGen-clause-beginning
+returns-in-JwkGen-clause-beginning g c =
+    let consumed = g.I.Input.consumed in
+    let old = c.args.inputs.now in
+    let template = appended (consumed old.text) (consumed c.generate.new.template) in
+    let random = appended (consumed old.random) (consumed c.generate.new.random) in
+    let others = g.I.Input.is_at_end c.generate.new.template in
+    on_refusal c.generate.result c.generate.ensures.beginning
+    (λ h. rw (c.in-JwkGen.is, plan_of_making as_text template random, begun_by_text as_text refl others (gen_answer limits template random)) (record { text = h; content = AppendsPrefixOf-none _ _ refl }))
+
+-- ---- jwk thp
 
 pub returns-in_ok-hash-in-JwkThp-clause-answer : goal.returns-in_ok-hash-in-JwkThp-clause-answer
 returns-in_ok-hash-in-JwkThp-clause-answer g c inputs may =
     let hash = c.in_ok-hash-in-JwkThp.hash in
-    let asked : ok_or (hash_asked (seen c.args.invocation.now).options) Usage ≡ Ok hash = search rules in
-    let a = thumbprints hash inputs.text in
+    let asked : ok_or (hash_asked (invocation_view c.args.invocation.now).options) Usage ≡ Ok hash = search rules in
+    let a = thp_answer hash inputs.text in
     let h = c.thumbprints.ensures.answer inputs.text may.text in
-    rw (c.in-JwkThp.is, asked, planned_without_content as_text a [])
+    rw (c.in-JwkThp.is, asked, plan_of_text as_text a inputs.random, planned_without_content as_text a [])
     (agrees_as_text a _ _ _ (drop-length (g.O.Output.written c.args.outputs.now.content)) h)
+
+-- ---- b64 enc
 
 pub returns-in-B64Enc-clause-answer : goal.returns-in-B64Enc-clause-answer
 returns-in-B64Enc-clause-answer g c inputs may =
-    rw c.in-B64Enc.is (agrees_as_text _ _ _ _ (drop-length (g.O.Output.written c.args.outputs.now.content)) (c.encode.ensures.answer inputs.content may.content))
+    rw (c.in-B64Enc.is, plan_of_plan as_text (Ok encoding) inputs.random)
+    (agrees_as_text _ _ _ _ (drop-length (g.O.Output.written c.args.outputs.now.content)) (c.encode.ensures.answer inputs.content may.content))
 
 pub returns-in-B64Enc-clause-beginning : goal.returns-in-B64Enc-clause-beginning
 returns-in-B64Enc-clause-beginning g c =
     let content = observed g.I.Input.consumed g.I.Input.is_at_end c.args.inputs.now.content c.encode.new.content in
+    let random = g.I.Input.consumed c.args.inputs.now.random in
     on_refusal c.encode.result c.encode.ensures.beginning
-    (λ h. rw (c.in-B64Enc.is, begun_as_text true (Ok encoding) content) (record { text = h; content = AppendsPrefixOf-none _ _ refl }))
+    (λ h. rw (c.in-B64Enc.is, plan_of_plan as_text (Ok encoding) (appended random random), begun_by_plan as_text refl true (Ok encoding) content) (record { text = h; content = AppendsPrefixOf-none _ _ refl }))
+
+-- ---- b64 dec
 
 pub returns-in-B64Dec-clause-answer : goal.returns-in-B64Dec-clause-answer
 returns-in-B64Dec-clause-answer g c inputs may =
-    rw c.in-B64Dec.is (agrees_as_content _ _ _ _ (drop-length (g.O.Output.written c.args.outputs.now.text)) (c.decode.ensures.answer inputs.text may.text))
+    rw (c.in-B64Dec.is, plan_of_plan as_content (Ok decoding) inputs.random)
+    (agrees_as_content _ _ _ _ (drop-length (g.O.Output.written c.args.outputs.now.text)) (c.decode.ensures.answer inputs.text may.text))
 
 pub returns-in-B64Dec-clause-beginning : goal.returns-in-B64Dec-clause-beginning
 returns-in-B64Dec-clause-beginning g c =
     let text = observed g.I.Input.consumed g.I.Input.is_at_end c.args.inputs.now.text c.decode.new.text in
+    let random = g.I.Input.consumed c.args.inputs.now.random in
     on_refusal c.decode.result c.decode.ensures.beginning
-    (λ h. rw (c.in-B64Dec.is, begun_as_content decoding text) (record { text = AppendsPrefixOf-none _ _ refl; content = h }))
+    (λ h. rw (c.in-B64Dec.is, plan_of_plan as_content (Ok decoding) (appended random random), begun_by_plan as_content refl true (Ok decoding) text) (record { text = AppendsPrefixOf-none _ _ refl; content = h }))
+
+-- ---- jws sig
 
 pub returns-in-JwsSig-clause-answer : goal.returns-in-JwsSig-clause-answer
 returns-in-JwsSig-clause-answer g c inputs may =
+    let plan = sig_answer inputs.keys inputs.text in
     let h = c.sign.ensures.answer inputs.text inputs.keys inputs.content may.text may.keys may.content in
-    rw (c.in-JwsSig.is, planned_map as_text (signing inputs.keys inputs.text) inputs.content)
-    (agrees_as_text (planned (signing inputs.keys inputs.text) inputs.content) _ _ _ (drop-length (g.O.Output.written c.args.outputs.now.content)) h)
+    rw (c.in-JwsSig.is, plan_of_plan as_text plan inputs.random, planned_map as_text plan inputs.content)
+    (agrees_as_text (planned plan inputs.content) _ _ _ (drop-length (g.O.Output.written c.args.outputs.now.content)) h)
 
 pub returns-in-JwsSig-clause-beginning : goal.returns-in-JwsSig-clause-beginning
 returns-in-JwsSig-clause-beginning g c =
     let consumed = g.I.Input.consumed in
     let at_end = g.I.Input.is_at_end in
     let old = c.args.inputs.now in
-    let plan = signing (appended (consumed old.keys) (consumed c.sign.new.keys)) (appended (consumed old.text) (consumed c.sign.new.template)) in
-    let others = at_end c.sign.new.template && at_end c.sign.new.keys in
+    let random = consumed old.random in
+    let plan = sig_answer (appended (consumed old.keys) (consumed c.sign.new.keys)) (appended (consumed old.text) (consumed c.sign.new.template)) in
+    let others = at_end c.sign.new.keys && at_end c.sign.new.template in
     let content = observed consumed at_end old.content c.sign.new.content in
     on_refusal c.sign.result c.sign.ensures.beginning
-    (λ h. rw (c.in-JwsSig.is, begun_as_text others plan content) (record { text = h; content = AppendsPrefixOf-none _ _ refl }))
+    (λ h. rw (c.in-JwsSig.is, plan_of_plan as_text plan (appended random random), begun_by_plan as_text refl others plan content) (record { text = h; content = AppendsPrefixOf-none _ _ refl }))
+
+-- ---- jws ver
 
 pub returns-in-JwsVer-clause-answer : goal.returns-in-JwsVer-clause-answer
 returns-in-JwsVer-clause-answer g c inputs may =
-    let a = verifying (is_content_wanted (seen c.args.invocation.now).options) inputs.keys inputs.text in
+    let a = ver_answer (is_content_wanted (invocation_view c.args.invocation.now).options) inputs.keys inputs.text in
     let h = c.verify.ensures.answer inputs.text inputs.keys may.text may.keys in
-    rw (c.in-JwsVer.is, planned_without_content as_content a [])
+    rw (c.in-JwsVer.is, plan_of_text as_content a inputs.random, planned_without_content as_content a [])
     (agrees_as_content a _ _ _ (drop-length (g.O.Output.written c.args.outputs.now.text)) (rw (← c.has-wanted.ensures) h))
 
 pub returns-in-JwsVer-clause-beginning : goal.returns-in-JwsVer-clause-beginning
@@ -81,7 +110,8 @@ returns-in-JwsVer-clause-beginning g c =
     let consumed = g.I.Input.consumed in
     let at_end = g.I.Input.is_at_end in
     let old = c.args.inputs.now in
-    let a = verifying (is_content_wanted (seen c.args.invocation.now).options) (appended (consumed old.keys) (consumed c.verify.new.keys)) (appended (consumed old.text) (consumed c.verify.new.text)) in
-    let others = at_end c.verify.new.text && at_end c.verify.new.keys in
+    let random = consumed old.random in
+    let a = ver_answer (is_content_wanted (invocation_view c.args.invocation.now).options) (appended (consumed old.keys) (consumed c.verify.new.keys)) (appended (consumed old.text) (consumed c.verify.new.text)) in
+    let others = at_end c.verify.new.keys && at_end c.verify.new.text in
     on_refusal c.verify.result (rw (← c.has-wanted.ensures) c.verify.ensures.beginning)
-    (λ h. rw (c.in-JwsVer.is, begun_without_content others a) (record { text = AppendsPrefixOf-none _ _ refl; content = h }))
+    (λ h. rw (c.in-JwsVer.is, plan_of_text as_content a (appended random random), begun_by_text as_content refl others a) (record { text = AppendsPrefixOf-none _ _ refl; content = h }))

@@ -1,8 +1,8 @@
 use Rattle.std.proofs.Common.{◌≡◌, ◌∙◌, Err, ap, length, drop, arith, refl, rules}
 use Rattle.std.proofs.lemmas.Grind.{common_steps}
 use Rattle.std.proofs.lemmas.List.{drop_at}
-use Rattle.keys.specs.KeyPlans.{plan_view}
-use Rattle.keys.proofs.Generated.{template_refused, draw_refused, text_made}
+use Rattle.keys.specs.Views.{plan_view}
+use Rattle.keys.proofs.GenAnswer.{template_refused, draw_refused, text_made}
 use Rattle.keys.proofs.generating.generate.Goals as goal
 
 pub returns-in_err-plan-clause-answer : goal.returns-in_err-plan-clause-answer

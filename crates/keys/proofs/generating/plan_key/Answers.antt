@@ -1,7 +1,6 @@
-use Rattle.std.proofs.Common.{ap, sym, ◌∙◌, option_map}
+use Rattle.std.proofs.Common.{ap, sym, ◌∙◌}
 use Rattle.serde_json.specs.View.{view, members_view}
 use Rattle.serde_json.specs.Written.{members_have_float}
-use Rattle.keys.specs.KeyPlans.{row_view}
 use Rattle.keys.proofs.KeyLens.{len_within_limit}
 use Rattle.keys.proofs.MadeFloats.{no_float-completed, no_float-members}
 use Rattle.keys.proofs.WholeNumbers.{test_holds}
@@ -9,10 +8,10 @@ use Rattle.keys.proofs.generating.plan_key.Goals as goal
 
 pub returns-clause-within_limit : goal.returns-clause-within_limit
 returns-clause-within_limit c =
-    len_within_limit _ _ _ _ c.in_ok-row.ensures (sym c.is_within_limit.ensures ∙ test_holds _ _ _ (sym c.needs.ensures ∙ c.in_ok-needs.was)) c.in_ok-len.ensures
+    len_within_limit c.in_ok-alg.alg c.in_ok-asked.asked.bytes c.in_ok-len.len (sym c.is_within_limit.ensures ∙ test_holds _ _ _ (sym c.needs.ensures ∙ c.in_ok-needs.was)) c.in_ok-len.ensures
 
 pub returns-clause-no_float : goal.returns-clause-no_float
 returns-clause-no_float c =
     let members = members_view c.in_ok-into_members.field-0.entries in
     ap members_have_float c.in_ok-members.ensures
-    ∙ no_float-completed (option_map (λ row. row_view row.now) c.in_ok-row.row) members (no_float-members (view c.in_ok-value.value) members c.in_ok-into_members.ensures c.in_ok-value.ensures.no_float)
+    ∙ no_float-completed c.in_ok-alg.alg members (no_float-members (view c.in_ok-value.value) members c.in_ok-into_members.ensures c.in_ok-value.ensures.no_float)

@@ -1,6 +1,6 @@
-use Rattle.std.proofs.Common.{rules, ◌≡◌, suc, ◌+◌, ◌*◌, ◌/◌, ◌≤◌, length, refl, ap, ◌∙◌, arith}
+use Rattle.std.proofs.Common.{rules, ◌≡◌, suc, ◌+◌, ◌-◌, ◌*◌, ◌/◌, ◌≤◌, length, refl, ap, ◌∙◌, arith}
 use Rattle.modes.specs.Cbc.{chained}
-use Rattle.modes.proofs.Blocks.{block_more}
+use Rattle.octets.proofs.Chunks.{chunk_more}
 use Rattle.modes.proofs.Chaining.{blocks_from, chained_more}
 use Rattle.modes.proofs.cbc.encrypt_blocks.Goals as goal
 
@@ -19,10 +19,11 @@ loop-i-preserved g c =
     let next : c.encrypt.result ≡ f (suc i) =
     c.encrypt.ensures ∙ ap e c.xor_into.ensures ∙ chained_more e c.args.previous.now p c.loop-i.previous i c.loop-i.invariant.last long (omega arith) in
     let room : 16 * i + 16 ≤ length c.loop-i.out = omega (arith, c.loop-i.auto.out) in
+    let one_block : 16 * i + 16 - 16 * i ≡ 16 = omega arith in
     let sixteen : length x ≡ 16 = c.copy_from_slice.auto.self ∙ omega arith in
     record {
       last = next ∙ ap f (let z : suc i ≡ i + 1 = omega arith in z);
-      text = λ j l. block_more c.loop-i.out x i room sixteen (λ k. f (suc k)) (c.copy_from_slice.ensures.after ∙ next) j (λ ne. c.loop-i.invariant.text j (omega (arith, ne, l)));
+      text = λ j l. chunk_more 16 c.loop-i.out x i (16 * i + 16 - 16 * i) one_block room sixteen (λ k. f (suc k)) (c.copy_from_slice.ensures.after ∙ next) j (λ ne. c.loop-i.invariant.text j (omega (arith, ne, l)));
     }
 
 pub returns-clause-text : goal.returns-clause-text

@@ -2,7 +2,7 @@ use Rattle.std.proofs.Common.{◌≡◌, ℕ, zero, suc, ◌-◌, List, refl, ap
 use Rattle.octets.specs.Octets.{xor_octets}
 use Rattle.modes.specs.Cbc.{block}
 use Rattle.modes.specs.Opening.{before, opened_block}
-use Rattle.modes.proofs.Blocks.{block_is}
+use Rattle.octets.proofs.Chunks.{chunk_is}
 use Rattle.modes.proofs.cbc_opening.open_block.Goals as goal
 
 first : (d : List ℕ → List ℕ) (iv c : List ℕ) (i : ℕ) → i ≡ 0 → xor_octets (d (block c i)) iv ≡ opened_block d iv c i
@@ -19,12 +19,12 @@ pub returns-then-i-eq0 : goal.returns-then-i-eq0
 returns-then-i-eq0 g c =
     let d = g.B.Block.decrypted c.args.cipher.now in
     c.xor_into.ensures
-    ∙ ap (λ x. xor_octets x c.args.iv.now) (c.decrypt-opened.ensures ∙ ap d (c.copy_from_slice.ensures.after ∙ block_is c.args.buf.now c.args.i))
+    ∙ ap (λ x. xor_octets x c.args.iv.now) (c.decrypt-opened.ensures ∙ ap d (c.copy_from_slice.ensures.after ∙ chunk_is 16 c.args.buf.now c.args.i))
     ∙ first d c.args.iv.now c.args.buf.now c.args.i c.if-i-eq0.true
 
 pub returns-else-i-eq0 : goal.returns-else-i-eq0
 returns-else-i-eq0 g c =
     let d = g.B.Block.decrypted c.args.cipher.now in
     c.xor_into-else-i-eq0.ensures
-    ∙ ap₂ xor_octets (c.decrypt-opened.ensures ∙ ap d (c.copy_from_slice.ensures.after ∙ block_is c.args.buf.now c.args.i)) (block_is c.args.buf.now (c.args.i - 1))
+    ∙ ap₂ xor_octets (c.decrypt-opened.ensures ∙ ap d (c.copy_from_slice.ensures.after ∙ chunk_is 16 c.args.buf.now c.args.i)) (chunk_is 16 c.args.buf.now (c.args.i - 1))
     ∙ later d c.args.iv.now c.args.buf.now c.args.i c.if-i-eq0.false

@@ -1,7 +1,7 @@
 use Rattle.std.proofs.Common.{◌≡◌, map}
 use Rattle.serde_json.specs.View.{members_view}
 use Rattle.objects.specs.Jwe.{recipients_of}
-use Rattle.objects.specs.Recipients.{recipient_view, recipient_parts_view}
+use Rattle.objects.specs.Views.{recipient_view, recipient_parts_view}
 use Rattle.objects.proofs.Recipients.{with_done}
 use Rattle.objects.proofs.jwe.read_recipients.Given as goal
 

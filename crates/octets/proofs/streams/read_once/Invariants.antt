@@ -2,5 +2,5 @@ use Rattle.std.specs.Io.KnownBytes.{Keeps}
 use Rattle.octets.proofs.streams.read_once.Given as goal
 
 -- what was interrupted left the reader as it was
-abbrev pub invariant-loop : goal.invariant-loop
-invariant-loop g l = Keeps (g.R.Read.remaining l.fn.reader) (g.R.Read.remaining l.reader)
+abbrev pub invariant-reads : goal.invariant-reads
+invariant-reads g l = Keeps (g.R.Read.remaining l.fn.reader) (g.R.Read.remaining l.reader)

@@ -2,5 +2,5 @@ use Rattle.std.specs.Io.KnownBytes.{Keeps}
 use Rattle.octets.proofs.streams.write_once.Given as goal
 
 -- what was interrupted left the writer as it was
-abbrev pub invariant-loop : goal.invariant-loop
-invariant-loop g l = Keeps (g.W.Write.contents l.fn.writer) (g.W.Write.contents l.writer)
+abbrev pub invariant-writes : goal.invariant-writes
+invariant-writes g l = Keeps (g.W.Write.contents l.fn.writer) (g.W.Write.contents l.writer)

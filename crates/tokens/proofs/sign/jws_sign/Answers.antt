@@ -1,7 +1,6 @@
 use Rattle.std.proofs.Common.{◌≡◌, ◌∙◌, sym, ap, Ok}
 use Rattle.octets.specs.Devices.{appended}
 use Rattle.octets.proofs.Agreement.{agrees_last, appended-append, whole_is}
-use Rattle.keys.specs.KeySets.{key_set_view}
 use Rattle.objects.specs.Jws.{compact_text}
 use Rattle.tokens.specs.Signers.{signer_view}
 use Rattle.tokens.specs.Signing.{signed}
@@ -14,7 +13,7 @@ returns-clause-answer g c payload may =
     let at_end = g.I.Input.is_at_end in
     let written = g.O.Output.written in
     let s = signer_view c.in_ok-signer.signer in
-    let set = key_set_view c.args.keys.now in
+    let set = c.args.keys.now in
     let p : payload ≡ c.deref.result.now = whole_is consumed at_end _ _ _ payload c.in_ok-payload.ensures.whole.0 c.in_ok-payload.ensures.whole.1 may ∙ sym c.deref.ensures.value in
     let text : c.as_bytes.result.now ≡ compact_text (signed s payload) = c.as_bytes.ensures.value ∙ c.in_ok-text.ensures.text ∙ ap (λ x. compact_text (signed s x)) (sym p) in
     agrees_last _ _ c.emit.result c.emit.ensures.all c.emit.ensures.cause (λ all.

@@ -1,6 +1,6 @@
 use Rattle.std.proofs.Common.{◌≤◌, ◌++◌, length, take, sym, ap, subst, ◌∙◌, arith}
 use Rattle.modes.specs.Cbc.{cbc_blocks}
-use Rattle.ciphers.specs.Running.{IsAuthenticating}
+use Rattle.ciphers.specs.Views.{HoldsAuthentication}
 use Rattle.ciphers.proofs.Sealers.{whole_after, pace_of_whole}
 use Rattle.ciphers.proofs.cbc_hmac.CbcHmac.feed.Goals as goal
 
@@ -20,7 +20,7 @@ returns-clause-fed g c s p fed =
       aad = fed.aad;
       is_sealing = fed.is_sealing;
       cbc = c.feed-written.ensures.fed fed.e fed.iv p fed.cbc;
-      authentication = subst (IsAuthenticating f g.H.Hash.holds c.update.new.self fed.mac_key fed.iv fed.aad) (sym text)
+      authentication = subst (HoldsAuthentication f g.H.Hash.holds c.update.new.self fed.mac_key fed.iv fed.aad) (sym text)
           (c.update.ensures fed.mac_key fed.iv fed.aad (cbc_blocks fed.e fed.iv p) fed.authentication);
       whole = whole;
       pace = pace_of_whole f s fed.e fed.mac_key fed.iv fed.aad (p ++ piece) fed.is_sealing whole;

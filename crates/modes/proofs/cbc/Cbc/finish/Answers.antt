@@ -1,4 +1,4 @@
-use Rattle.std.proofs.Common.{◌-◌, ◌++◌, take, drop, replicate, sym, ap, ◌∙◌}
+use Rattle.std.proofs.Common.{◌++◌, sym, ap, ap₂, ◌∙◌}
 use Rattle.modes.specs.Cbc.{cbc_blocks}
 use Rattle.modes.proofs.Fed.{finished}
 use Rattle.modes.proofs.cbc.Cbc.finish.Goals as goal
@@ -6,8 +6,8 @@ use Rattle.modes.proofs.cbc.Cbc.finish.Goals as goal
 pub returns : goal.returns
 returns g c e iv p f =
     let s = c.args.self in
-    finished e iv p s.previous (take s.count s.waiting) f.previous f.waiting s.count f.counted
+    let n = c.space-space.result in
+    finished e iv p s.previous s.waiting f.previous f.waiting n c.space-space.ensures.space
     ∙ ap (λ t. cbc_blocks e iv p ++ t)
-    (ap (λ h. cbc_blocks h s.previous (take s.count s.waiting ++ drop s.count (replicate 16 (16 - s.count)))) (sym f.cipher)
-    ∙ ap (λ t. cbc_blocks (g.B.Block.encrypted s.cipher) s.previous (t ++ drop s.count (replicate 16 (16 - s.count)))) (sym c.copy_from_slice.ensures.after)
+    (ap₂ (λ h t. cbc_blocks h s.previous t) (sym f.cipher) (sym c.complete-last.ensures.block)
     ∙ sym c.encrypt_blocks.ensures.text)

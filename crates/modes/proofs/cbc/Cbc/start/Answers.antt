@@ -4,4 +4,4 @@ use Rattle.modes.proofs.cbc.Cbc.start.Goals as goal
 
 pub returns : goal.returns
 unfolding chained
-returns g c = record { cipher = refl; previous = refl; waiting = refl; counted = refl }
+returns g c = record { cipher = refl; previous = refl; waiting = c.new.ensures }

@@ -1,7 +1,7 @@
 use Rattle.std.proofs.Common.{◌≡◌, ℕ, ◌+◌, ◌-◌, ◌≤◌, List, ◌++◌, length, take, drop, sym, ap, subst, ◌∙◌, arith, append_assoc, length-drop}
 use Rattle.std.proofs.lemmas.List.{drop-drop, take_rest, take_all}
 use Rattle.modes.specs.Ctr.{ctr}
-use Rattle.modes.specs.Running.{IsStreaming}
+use Rattle.modes.specs.Views.{HoldsKeyStream}
 use Rattle.modes.proofs.Fronts.{take_split, take_written, drop_written}
 use Rattle.modes.proofs.ctr.KeyStream.apply.Goals as goal
 
@@ -22,7 +22,7 @@ loop-at-preserved g c =
     record {
       within = omega (arith, c.apply_front-at.ensures.some, room, c.loop-at.invariant.within);
       rest = drop_written a n xs y within ∙ c.apply_front-at.ensures.rest ∙ ap (drop n) handed ∙ drop-drop n a first;
-      fed = λ f p k. subst (IsStreaming c.apply_front-at.new.self e f) (split p)
+      fed = λ f p k. subst (HoldsKeyStream c.apply_front-at.new.self e f) (split p)
           (c.apply_front-at.ensures.fed f (p ++ take a first) (c.loop-at.invariant.fed f p k));
       text = λ f p k.
           ap (ctr e f) (sym (split p))
@@ -35,4 +35,4 @@ loop-at-preserved g c =
 pub returns-clause-fed : goal.returns-clause-fed
 returns-clause-fed g c f p k =
     let all : take c.loop-at.at c.args.octets.now ≡ c.args.octets.now = take_all c.loop-at.at c.args.octets.now (omega (arith, c.loop-at-test.false)) in
-    subst (λ t. IsStreaming c.loop-at.self (g.B.Block.encrypted c.args.cipher.now) f (p ++ t)) all (c.loop-at.invariant.fed f p k)
+    subst (λ t. HoldsKeyStream c.loop-at.self (g.B.Block.encrypted c.args.cipher.now) f (p ++ t)) all (c.loop-at.invariant.fed f p k)

@@ -1,15 +1,15 @@
 use Rattle.std.proofs.Common.{◌≡◌, ℕ, ◌-◌, ◌≤◌, List, ◌++◌, length, take, drop}
 use Rattle.modes.specs.Ctr.{ctr}
-use Rattle.modes.specs.Running.{IsStreaming}
+use Rattle.modes.specs.Views.{HoldsKeyStream}
 use Rattle.modes.proofs.ctr.KeyStream.apply.Given as goal
 
 abbrev pub invariant-loop-at : goal.invariant-loop-at
 invariant-loop-at g l = record {
   within : l.at ≤ length l.initial.octets;
   rest : drop l.at l.octets ≡ drop l.at l.initial.octets;
-  fed : (f p : List ℕ) → IsStreaming l.initial.self (g.B.Block.encrypted l.cipher) f p
-      → IsStreaming l.self (g.B.Block.encrypted l.cipher) f (p ++ take l.at l.initial.octets);
-  text : (f p : List ℕ) → IsStreaming l.initial.self (g.B.Block.encrypted l.cipher) f p
+  fed : (f p : List ℕ) → HoldsKeyStream l.initial.self (g.B.Block.encrypted l.cipher) f p
+      → HoldsKeyStream l.self (g.B.Block.encrypted l.cipher) f (p ++ take l.at l.initial.octets);
+  text : (f p : List ℕ) → HoldsKeyStream l.initial.self (g.B.Block.encrypted l.cipher) f p
       → ctr (g.B.Block.encrypted l.cipher) f (p ++ take l.at l.initial.octets) ≡ ctr (g.B.Block.encrypted l.cipher) f p ++ take l.at l.octets;
 }
 

@@ -5,4 +5,4 @@ use Rattle.modes.proofs.ghash.Ghash.start.Goals as goal
 
 pub returns : goal.returns
 unfolding ghash_number numbers polynomial_sum
-returns c = record { key = c.from_be_bytes.ensures; sum = refl; waiting = refl; counted = refl }
+returns c = record { key = c.from_be_bytes.ensures; sum = refl; waiting = c.new.ensures }

@@ -1,6 +1,6 @@
 use Rattle.std.proofs.Common.{◌++◌, take, drop, ap, ◌∙◌, arith}
 use Rattle.std.proofs.lemmas.Grind.{common_steps}
-use Rattle.octets.specs.Memory.{front_of}
+use Rattle.octets.specs.Views.{front_of}
 use Rattle.octets.proofs.Pieces.{take_copied}
 use Rattle.octets.proofs.memory.MemoryInputInput.read.Goals as goal
 

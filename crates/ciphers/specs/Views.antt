@@ -1,0 +1,93 @@
+-- What contracts see of the registers of a key wrap, of its cipher, and of running sealings.
+use Rattle.std.specs.Prelude.{◌≡◌, ℕ, suc, ◌*◌, ◌/◌, ◌<◌, List, ◌++◌, length}
+use Rattle.aes.specs.Block.{IsCipher}
+use Rattle.aes.specs.declared.aes.Aes128.{Aes128}
+use Rattle.aes.specs.declared.aes.Aes192.{Aes192}
+use Rattle.aes.specs.declared.aes.Aes256.{Aes256}
+use Rattle.ciphers.specs.KeyWrap.{part, table}
+use Rattle.ciphers.specs.Sealing.{Sealing, KeepsPace, cbc_hmac, gcm}
+use Rattle.ciphers.specs.declared.authentication.Authentication.{Authentication}
+use Rattle.ciphers.specs.declared.cbc_hmac.CbcHmac.{CbcHmac}
+use Rattle.ciphers.specs.declared.kek.Kek.{Kek}
+use Rattle.ciphers.specs.declared.kek.Kek.TheVariants.{A128, A192, A256}
+use Rattle.ciphers.specs.declared.sealer.ContentSealer.{ContentSealer}
+use Rattle.ciphers.specs.declared.sealer.ContentSealer.TheVariants.{A128CbcHs256, A192CbcHs384, A256CbcHs512, A128Gcm, A192Gcm, A256Gcm}
+use Rattle.modes.specs.Cbc.{cbc_blocks}
+use Rattle.modes.specs.Gcm.{bit_length, gcm_ciphertext}
+use Rattle.modes.specs.Views as modes
+use Rattle.modes.specs.declared.gcm.Gcm.{Gcm}
+use Rattle.prf.specs.HashFunction.{HashFunction}
+use Rattle.prf.specs.Sha2.{Sha256, Sha384, Sha512}
+use Rattle.prf.specs.Views as prf
+
+-- ---- key wrap
+
+-- a and r are row t of the table
+pub record IsRow (e : List ℕ → List ℕ) (p : List ℕ) (t : ℕ) (a r : List ℕ) : Type 0 where
+  pub long : length r ≡ length p
+  pub check : a ≡ table e p t 0
+  pub registers : (i : ℕ) → i < length p / 8 → part r i ≡ table e p t (suc i)
+
+-- what the one cipher that there is sends a block to
+abbrev pub on_kek : Kek → (Aes128 → List ℕ → List ℕ) → (Aes192 → List ℕ → List ℕ) → (Aes256 → List ℕ → List ℕ) → List ℕ → List ℕ
+on_kek (A128 k) a b c = a k
+on_kek (A192 k) a b c = b k
+on_kek (A256 k) a b c = c k
+
+pub on_each_kek : {e d : Aes128 → List ℕ → List ℕ} {e' d' : Aes192 → List ℕ → List ℕ} {e'' d'' : Aes256 → List ℕ → List ℕ}
+    → ((k : Aes128) → IsCipher (e k) (d k)) → ((k : Aes192) → IsCipher (e' k) (d' k)) → ((k : Aes256) → IsCipher (e'' k) (d'' k))
+    → (k : Kek) → IsCipher (on_kek k e e' e'') (on_kek k d d' d'')
+on_each_kek a b c (A128 k) = a k
+on_each_kek a b c (A192 k) = b k
+on_each_kek a b c (A256 k) = c k
+
+-- ---- a running sealing: what it was started with, and what it was fed
+
+-- it was started with these, and has taken this ciphertext
+pub record HoldsAuthentication {H : Type 0} (f : HashFunction) (holds : H → List ℕ → Type 0) (s : Authentication H) (mac_key iv aad c : List ℕ) : Type 0 where
+  pub mac : prf.HoldsHmac f holds s.mac mac_key ((aad ++ iv) ++ c)
+  pub bits : s.aad_bits ≡ bit_length aad
+
+-- it was started for this sealing, and has taken p
+pub record HoldsCbcHmac {B H : Type 0} (encrypted : B → List ℕ → List ℕ) (f : HashFunction) (holds : H → List ℕ → Type 0) (s : CbcHmac B H) (sealing : Sealing) (p : List ℕ) : Type 0 where
+  pub e : List ℕ → List ℕ
+  pub mac_key : List ℕ
+  pub iv : List ℕ
+  pub aad : List ℕ
+  pub is_sealing : sealing ≡ cbc_hmac e f mac_key iv aad
+  pub cbc : modes.HoldsCbc encrypted s.cbc e iv p
+  pub authentication : HoldsAuthentication f holds s.authentication mac_key iv aad (cbc_blocks e iv p)
+  pub whole : length (cbc_blocks e iv p) ≡ 16 * (length p / 16)
+  pub pace : KeepsPace sealing p
+
+pub record HoldsGcmSealing {B : Type 0} (encrypted : B → List ℕ → List ℕ) (s : Gcm B) (sealing : Sealing) (p : List ℕ) : Type 0 where
+  pub e : List ℕ → List ℕ
+  pub iv : List ℕ
+  pub aad : List ℕ
+  pub is_sealing : sealing ≡ gcm e iv aad
+  pub gcm : modes.HoldsGcm encrypted s e iv aad p
+  pub whole : length (gcm_ciphertext e iv p) ≡ length p
+  pub pace : KeepsPace sealing p
+
+-- what is said of the one sealing that there is
+abbrev pub on_sealer : ContentSealer → (CbcHmac Aes128 Sha256 → Type 0) → (CbcHmac Aes192 Sha384 → Type 0) → (CbcHmac Aes256 Sha512 → Type 0)
+    → (Gcm Aes128 → Type 0) → (Gcm Aes192 → Type 0) → (Gcm Aes256 → Type 0) → Type 0
+on_sealer (A128CbcHs256 x) a b c d e f = a x
+on_sealer (A192CbcHs384 x) a b c d e f = b x
+on_sealer (A256CbcHs512 x) a b c d e f = c x
+on_sealer (A128Gcm x) a b c d e f = d x
+on_sealer (A192Gcm x) a b c d e f = e x
+on_sealer (A256Gcm x) a b c d e f = f x
+
+pub on_each_sealer : {P : Type 0} (x : ContentSealer)
+    {a : CbcHmac Aes128 Sha256 → Type 0} {b : CbcHmac Aes192 Sha384 → Type 0} {c : CbcHmac Aes256 Sha512 → Type 0}
+    {d : Gcm Aes128 → Type 0} {e : Gcm Aes192 → Type 0} {f : Gcm Aes256 → Type 0}
+    → ((y : CbcHmac Aes128 Sha256) → a y → P) → ((y : CbcHmac Aes192 Sha384) → b y → P) → ((y : CbcHmac Aes256 Sha512) → c y → P)
+    → ((y : Gcm Aes128) → d y → P) → ((y : Gcm Aes192) → e y → P) → ((y : Gcm Aes256) → f y → P)
+    → on_sealer x a b c d e f → P
+on_each_sealer (A128CbcHs256 x) a b c d e f k = a x k
+on_each_sealer (A192CbcHs384 x) a b c d e f k = b x k
+on_each_sealer (A256CbcHs512 x) a b c d e f k = c x k
+on_each_sealer (A128Gcm x) a b c d e f k = d x k
+on_each_sealer (A192Gcm x) a b c d e f k = e x k
+on_each_sealer (A256Gcm x) a b c d e f k = f x k

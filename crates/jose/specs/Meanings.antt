@@ -1,0 +1,82 @@
+-- What each command means, in one record for each.
+use Rattle.std.specs.Prelude.{ℕ, Bool, true, false, List, is_some, Result, Ok}
+use Rattle.std.specs.Option.{ok_or}
+use Rattle.std.specs.Str.{byte}
+use Rattle.octets.specs.declared.refusal.Refusal.{Refusal}
+use Rattle.octets.specs.declared.refusal.Refusal.TheVariants.{Usage}
+use Rattle.octets.specs.Outcomes.{◌>>=◌}
+use Rattle.octets.specs.Plan.{Draft, placed, by_plan, by_text}
+use Rattle.octets.specs.Encoding.{encoding, decoding}
+use Rattle.jose.specs.declared.command.Command.{Command}
+use Rattle.jose.specs.declared.command.Command.TheVariants.{JwkGen, JwkThp, B64Enc, B64Dec, JwsSig, JwsVer}
+use Rattle.jose.specs.Invocations.{Settings, value_at, hash_asked}
+use Rattle.jose.specs.Ports.{OutputTexts, as_text, as_content}
+use Rattle.jose.specs.Jwk.{making, thp_answer}
+use Rattle.jose.specs.Jws.{sig_answer, ver_answer}
+
+-- which of the inputs is the content, which may be read while its text is written
+pub data Content : Type 0 where
+  none : Content
+  the_text : Content
+  the_content : Content
+
+pub record Meaning : Type 0 where
+  pub content : Content
+  -- no output is touched before all is accepted
+  pub holds_back : Bool
+  -- what the settings, the text and the keys settle, or the first refusal; a text that is the content settles nothing
+  pub draft : Settings → List ℕ → List ℕ → Result (Draft OutputTexts) Refusal
+
+-- `-O` was given
+abbrev pub is_content_wanted : Settings → Bool
+is_content_wanted settings = is_some (value_at (byte "O") settings)
+
+abbrev pub jwk_gen : Meaning
+jwk_gen = record {
+  content = none;
+  holds_back = true;
+  draft = λ settings text keys. placed as_text (making text);
+}
+
+abbrev pub jwk_thp : Meaning
+jwk_thp = record {
+  content = none;
+  holds_back = true;
+  draft = λ settings text keys. placed as_text (by_text (ok_or (hash_asked settings) Usage >>= λ hash. thp_answer hash text));
+}
+
+abbrev pub b64_enc : Meaning
+b64_enc = record {
+  content = the_content;
+  holds_back = false;
+  draft = λ settings text keys. placed as_text (by_plan (Ok encoding));
+}
+
+abbrev pub b64_dec : Meaning
+b64_dec = record {
+  content = the_text;
+  holds_back = false;
+  draft = λ settings text keys. placed as_content (by_plan (Ok decoding));
+}
+
+abbrev pub jws_sig : Meaning
+jws_sig = record {
+  content = the_content;
+  holds_back = false;
+  draft = λ settings text keys. placed as_text (by_plan (sig_answer keys text));
+}
+
+abbrev pub jws_ver : Meaning
+jws_ver = record {
+  content = none;
+  holds_back = true;
+  draft = λ settings text keys. placed as_content (by_text (ver_answer (is_content_wanted settings) keys text));
+}
+
+abbrev pub meaning_of : Command → Meaning
+meaning_of JwkGen = jwk_gen
+meaning_of JwkThp = jwk_thp
+meaning_of B64Enc = b64_enc
+meaning_of B64Dec = b64_dec
+meaning_of JwsSig = jws_sig
+meaning_of JwsVer = jws_ver

@@ -1,0 +1,51 @@
+//! The commands `b64 enc` and `b64 dec`, from devices to devices.
+ghost use Rattle.std.specs.Prelude.{◌≡◌, ◌≢◌, ℕ, List, [], ◌∷◌, OnOk, OnErr, IfErr, IsTrue};
+ghost use Rattle.std.specs.Iterator.{IsFinite};
+ghost use Rattle.octets.specs.Devices.{appended, observed, IsPossibleInput, AppendsPrefixOf};
+ghost use Rattle.octets.specs.Encoding.{encoding, decoding};
+ghost use Rattle.octets.specs.Faults.{TellsFaults, counts};
+ghost use Rattle.octets.specs.Outcomes.{AgreesUnlessExternal};
+ghost use Rattle.octets.specs.Plan.{beginning_of};
+
+use octets::{Input, Output, Refusal, b64_decode, b64_encode, emit, read_to_end, without_line_end};
+use std::alloc::Global;
+
+/// Writes the base64url text of the content.
+pub(crate) fn encode<I: Input, O: Output>(
+    alloc: Global,
+    content: &mut I,
+    out: &mut O,
+) -> Result<(), Refusal>
+    requires { IsFinite (I.remaining content.old) }
+    ensures answer { (whole : List ℕ) → IsPossibleInput (observed I.consumed I.is_at_end content.old content.new) whole
+        → AgreesUnlessExternal (encoding.whole whole) (appended (O.written out.old) (O.written out.new)) result }
+    ensures beginning { OnErr result (AppendsPrefixOf (beginning_of encoding (observed I.consumed I.is_at_end content.old content.new)) (O.written out.old) (O.written out.new)) }
+    ensures finished { OnOk result (IsTrue (O.is_finished out.new)) }
+    ensures uncut { IfErr result (λ refusal. refusal ≢ Refusal.Write
+        → O.written out.new ≡ O.written out.old → out.new ≡ out.old) }
+    ensures faults { TellsFaults (counts I.failures content.old content.new ∷ []) (counts O.failures out.old out.new ∷ []) result }
+{
+    let octets = read_to_end(alloc, content)?;
+    let text = b64_encode(alloc, &octets)?;
+    emit(out, text.as_bytes())
+}
+
+/// Writes the octets whose base64url text the input is, with a line end or without.
+pub(crate) fn decode<I: Input, O: Output>(
+    alloc: Global,
+    text: &mut I,
+    out: &mut O,
+) -> Result<(), Refusal>
+    requires { IsFinite (I.remaining text.old) }
+    ensures answer { (whole : List ℕ) → IsPossibleInput (observed I.consumed I.is_at_end text.old text.new) whole
+        → AgreesUnlessExternal (decoding.whole whole) (appended (O.written out.old) (O.written out.new)) result }
+    ensures beginning { OnErr result (AppendsPrefixOf (beginning_of decoding (observed I.consumed I.is_at_end text.old text.new)) (O.written out.old) (O.written out.new)) }
+    ensures finished { OnOk result (IsTrue (O.is_finished out.new)) }
+    ensures uncut { IfErr result (λ refusal. refusal ≢ Refusal.Write
+        → O.written out.new ≡ O.written out.old → out.new ≡ out.old) }
+    ensures faults { TellsFaults (counts I.failures text.old text.new ∷ []) (counts O.failures out.old out.new ∷ []) result }
+{
+    let text = read_to_end(alloc, text)?;
+    let octets = b64_decode(alloc, without_line_end(&text))?;
+    emit(out, &octets)
+}

@@ -1,0 +1,87 @@
+//! The commands `jws sig` and `jws ver`, from devices to devices.
+ghost use Rattle.std.specs.Prelude.{◌≡◌, ◌≢◌, false, ◌&&◌, ℕ, List, [], ◌∷◌, Err, OnOk, OnErr, IfErr, IsTrue};
+ghost use Rattle.std.specs.Iterator.{IsFinite};
+ghost use Rattle.octets.specs.Devices.{appended, observed, IsPossibleInput, AppendsPrefixOf};
+ghost use Rattle.octets.specs.declared.refusal.Refusal.{Refusal};
+ghost use Rattle.octets.specs.Faults.{TellsFaults, counts};
+ghost use Rattle.octets.specs.Outcomes.{AgreesUnlessExternal};
+ghost use Rattle.octets.specs.Plan.{accepted, planned, planned_beginning};
+ghost use Rattle.jose.specs.Jws.{sig_answer, ver_answer};
+
+use keys::KeySet;
+use objects::Jws;
+use octets::{Input, Output, Refusal, read_to_end};
+use std::alloc::Global;
+use tokens::{jws_sign, jws_verify};
+
+/// Signs the content with the key, as the template asks, and writes the compact text.
+pub(crate) fn sign<I: Input, O: Output>(
+    alloc: Global,
+    template: &mut I,
+    keys: &mut I,
+    content: &mut I,
+    out: &mut O,
+) -> Result<(), Refusal>
+    requires template { IsFinite (I.remaining template.old) }
+    requires keys { IsFinite (I.remaining keys.old) }
+    requires content { IsFinite (I.remaining content.old) }
+    ensures answer { (whole_template whole_keys payload : List ℕ)
+        → IsPossibleInput (observed I.consumed I.is_at_end template.old template.new) whole_template
+        → IsPossibleInput (observed I.consumed I.is_at_end keys.old keys.new) whole_keys
+        → IsPossibleInput (observed I.consumed I.is_at_end content.old content.new) payload
+        → AgreesUnlessExternal (planned (sig_answer whole_keys whole_template) payload) (appended (O.written out.old) (O.written out.new)) result }
+    ensures beginning { OnErr result (AppendsPrefixOf
+        (planned_beginning (I.is_at_end keys.new && I.is_at_end template.new)
+        (sig_answer (appended (I.consumed keys.old) (I.consumed keys.new)) (appended (I.consumed template.old) (I.consumed template.new)))
+        (observed I.consumed I.is_at_end content.old content.new)) (O.written out.old) (O.written out.new)) }
+    ensures finished { OnOk result (IsTrue (O.is_finished out.new)) }
+
+    // No input is touched before the one ahead of it was read to its end, and the content not before the rest is accepted.
+    ensures in_order { (I.is_at_end template.new ≡ false → keys.new ≡ keys.old)
+        × (I.is_at_end keys.new && I.is_at_end template.new ≡ false → content.new ≡ content.old) }
+    ensures content_last { (refusal : Refusal)
+        → sig_answer (appended (I.consumed keys.old) (I.consumed keys.new)) (appended (I.consumed template.old) (I.consumed template.new)) ≡ Err refusal
+        → content.new ≡ content.old }
+    ensures uncut { IfErr result (λ refusal. refusal ≢ Refusal.Write
+        → O.written out.new ≡ O.written out.old → out.new ≡ out.old) }
+    ensures faults { TellsFaults (counts I.failures template.old template.new ∷ counts I.failures keys.old keys.new ∷ counts I.failures content.old content.new ∷ [])
+        (counts O.failures out.old out.new ∷ []) result }
+{
+    let template = read_to_end(alloc, template)?;
+    let keys = read_to_end(alloc, keys)?;
+    let set = KeySet::read(alloc, &keys, true)?;
+    jws_sign(alloc, &set, &template, content, out)
+}
+
+/// Verifies the text with the keys, and writes the payload where it is wanted.
+pub(crate) fn verify<I: Input, O: Output>(
+    alloc: Global,
+    text: &mut I,
+    keys: &mut I,
+    wanted: bool,
+    out: &mut O,
+) -> Result<(), Refusal>
+    requires text { IsFinite (I.remaining text.old) }
+    requires keys { IsFinite (I.remaining keys.old) }
+    ensures answer { (whole_text whole_keys : List ℕ)
+        → IsPossibleInput (observed I.consumed I.is_at_end text.old text.new) whole_text
+        → IsPossibleInput (observed I.consumed I.is_at_end keys.old keys.new) whole_keys
+        → AgreesUnlessExternal (ver_answer wanted whole_keys whole_text) (appended (O.written out.old) (O.written out.new)) result }
+
+    // The output is not touched before all is accepted.
+    ensures held_back { IfErr result (λ refusal. refusal ≢ Refusal.Write → out.new ≡ out.old) }
+    ensures beginning { OnErr result (AppendsPrefixOf
+        (accepted (ver_answer wanted (appended (I.consumed keys.old) (I.consumed keys.new)) (appended (I.consumed text.old) (I.consumed text.new)))
+        (I.is_at_end keys.new && I.is_at_end text.new)) (O.written out.old) (O.written out.new)) }
+    ensures finished { OnOk result (IsTrue wanted → IsTrue (O.is_finished out.new)) }
+    ensures untouched { wanted ≡ false → out.new ≡ out.old }
+    ensures in_order { I.is_at_end text.new ≡ false → keys.new ≡ keys.old }
+    ensures faults { TellsFaults (counts I.failures text.old text.new ∷ counts I.failures keys.old keys.new ∷ [])
+        (counts O.failures out.old out.new ∷ []) result }
+{
+    let text = read_to_end(alloc, text)?;
+    let keys = read_to_end(alloc, keys)?;
+    let set = KeySet::read(alloc, &keys, false)?;
+    let jws = Jws::read(alloc, &text)?;
+    jws_verify(&set, &jws, wanted, out)
+}

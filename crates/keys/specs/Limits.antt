@@ -1,0 +1,32 @@
+-- The limits of this profile. A definition that tests one takes them, so that a law can speak of two values.
+use Rattle.std.specs.Prelude.{ℕ}
+
+pub record Limits : Type 0 where
+  -- the most keys of a set, the good and the others, and the most octets of a key
+  pub keys : ℕ
+  pub key_octets : ℕ
+  -- how deep a header or a key that is written may nest
+  pub depth : ℕ
+  -- the most recipients, or signatures, of an object
+  pub recipients : ℕ
+  -- the greatest p2c that is read; the least, the greatest and the usual one that is written
+  pub greatest_p2c_read : ℕ
+  pub least_p2c : ℕ
+  pub greatest_p2c : ℕ
+  pub usual_p2c : ℕ
+  -- the greatest sum of p2c over the recipients of an object, and over the pairs that are tried
+  pub p2c_sum : ℕ
+
+-- those of this profile
+abbrev pub limits : Limits
+limits = record {
+  keys = 64;
+  key_octets = 4096;
+  depth = 64;
+  recipients = 64;
+  greatest_p2c_read = 1000000;
+  least_p2c = 1000;
+  greatest_p2c = 1000000;
+  usual_p2c = 10000;
+  p2c_sum = 4000000;
+}

@@ -1,0 +1,8 @@
+-- Lists of texts.
+use Rattle.std.specs.Prelude.{ℕ, Bool, List}
+use Rattle.std.specs.List.{list_any}
+use Rattle.std.specs.Str.{bytes_eq}
+
+-- the text is one of these names
+abbrev pub is_among : List (List ℕ) → List ℕ → Bool
+is_among names text = list_any (λ name. bytes_eq name text) names

@@ -1,0 +1,29 @@
+-- What a result tells of the devices of a call, by the counts of their failures.
+use Rattle.std.specs.Prelude.{◌≡◌, ◌⊎◌, ℕ, List, [], ◌∷◌, ⊤, Result, OnOk, IsErrOf}
+use Rattle.octets.specs.declared.refusal.Refusal.{Refusal}
+use Rattle.octets.specs.declared.refusal.Refusal.TheVariants.{Read, Write}
+use Rattle.octets.specs.Devices.{Rose}
+
+-- how often a device had failed before the call, and after it
+pub record Counts : Type 0 where
+  pub old : ℕ
+  pub new : ℕ
+
+abbrev pub counts : {D : Type 0} → (D → ℕ) → D → D → Counts
+counts failures old new = record { old = failures old; new = failures new }
+
+-- no device failed in the call
+abbrev pub NoneFailed : List Counts → Type 0
+NoneFailed [] = ⊤
+NoneFailed (c ∷ cs) = (c.new ≡ c.old) × NoneFailed cs
+
+-- some device did
+abbrev pub SomeFailed : List Counts → Type 0
+SomeFailed [] = ⊥
+SomeFailed (c ∷ cs) = Rose c.old c.new ⊎ SomeFailed cs
+
+-- A device that failed in the call is told, and no other is.
+pub record TellsFaults {X : Type 0} (inputs outputs : List Counts) (result : Result X Refusal) : Type 0 where
+  pub works : OnOk result (NoneFailed inputs × NoneFailed outputs)
+  pub read : IsErrOf result Read → SomeFailed inputs
+  pub write : IsErrOf result Write → SomeFailed outputs

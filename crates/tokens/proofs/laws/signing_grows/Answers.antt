@@ -1,0 +1,5 @@
+use Rattle.tokens.proofs.Growing.{signing_grows}
+use Rattle.tokens.proofs.laws.signing_grows.Goals as goal
+
+pub returns : goal.returns
+returns c = signing_grows
