@@ -2,8 +2,20 @@
 ghost use Rattle.std.specs.Prelude.{◌≡◌, ◌≢◌, ◌+◌, ◌%◌, ◌<◌, ◌≤◌, length};
 ghost use Rattle.ciphers.specs.Delivery.{IsKeyOf, IsCountOf};
 
+use crate::content_alg_tests::{expect_octets, front};
 use crate::{Cek, ContentAlg, KeyAlg, KeyParameters};
 use std::process::Abort;
+
+pub(crate) fn expect_cek(rt: &impl Abort, delivered: Option<Cek>, cek: &[u8]) {
+    match delivered {
+        Some(delivered) => expect_octets(rt, delivered.octets(), cek),
+        None => assert!(rt; false),
+    }
+}
+
+pub(crate) fn expect_no_cek(rt: &impl Abort, delivered: Option<Cek>) {
+    assert!(rt; delivered.is_none());
+}
 
 // The encrypted key, and only that, delivers the content encryption key.
 fn expect_delivery(
@@ -23,26 +35,48 @@ fn expect_delivery(
 {
     let mut out = [0; 72];
     let len = alg.wrap_cek(key, parameters, &Cek::new(cek), &mut out);
-    assert_eq!(rt; &out[..len], encrypted_key);
-    match alg.unwrap_cek(enc, key, parameters, &out[..len]) {
-        Some(delivered) => assert_eq!(rt; delivered.octets(), cek),
-        None => assert!(rt; false),
-    }
-    // Another length, or another octet, delivers nothing.
-    if len < 72 {
-        assert!(rt;
-            alg.unwrap_cek(enc, key, parameters, &out[..len + 1])
-                .is_none()
-        );
-    }
+    expect_octets(rt, &out[..len], encrypted_key);
+    let delivered = alg.unwrap_cek(enc, key, parameters, encrypted_key);
+    expect_cek(rt, delivered, cek);
+    expect_exact(rt, alg, enc, key, parameters, encrypted_key);
+}
+
+// Another length, or another octet, delivers nothing.
+fn expect_exact(
+    rt: &impl Abort,
+    alg: KeyAlg,
+    enc: ContentAlg,
+    key: &[u8],
+    parameters: KeyParameters<'_>,
+    encrypted_key: &[u8],
+)
+    requires key_fits { IsKeyOf alg key.now }
+    requires count_fits { IsCountOf alg parameters.p2c }
+{
+    let len = encrypted_key.len();
+    assert!(rt; len <= 72);
+    let mut other = [0; 73];
+    other[..len].copy_from_slice(encrypted_key);
+    expect_nothing(rt, alg, enc, key, parameters, front(rt, &other, len + 1));
     if len > 8 {
-        assert!(rt;
-            alg.unwrap_cek(enc, key, parameters, &out[..len - 8])
-                .is_none()
-        );
-        out[len - 1] ^= 1;
-        assert!(rt; alg.unwrap_cek(enc, key, parameters, &out[..len]).is_none());
+        expect_nothing(rt, alg, enc, key, parameters, front(rt, &other, len - 8));
+        other[len - 1] ^= 1;
+        expect_nothing(rt, alg, enc, key, parameters, front(rt, &other, len));
     }
+}
+
+fn expect_nothing(
+    rt: &impl Abort,
+    alg: KeyAlg,
+    enc: ContentAlg,
+    key: &[u8],
+    parameters: KeyParameters<'_>,
+    encrypted_key: &[u8],
+)
+    requires key_fits { IsKeyOf alg key.now }
+    requires count_fits { IsCountOf alg parameters.p2c }
+{
+    expect_no_cek(rt, alg.unwrap_cek(enc, key, parameters, encrypted_key));
 }
 
 const PASSWORD: &[u8] = b"Thus from my lips, by yours, my sin is purged.";

@@ -1,6 +1,7 @@
 //! Key wrap: the vectors of RFC 3394, section 4, changed texts, and every length under each size of key.
 ghost use Rattle.std.specs.Prelude.{◌≡◌, ◌+◌, ◌%◌, ◌≤◌, length};
 
+use crate::content_alg_tests::expect_octets;
 use crate::{unwrap, wrap};
 use aes::{Aes128, Aes192, Aes256, Block};
 use std::process::Abort;
@@ -40,7 +41,7 @@ fn expect_both_ways<B: Block>(rt: &impl Abort, kek: &B, key_data: &[u8], text: &
     let mut buf = [0; 72];
     let wrapped = &mut buf[..text.len()];
     wrap(kek, key_data, wrapped);
-    assert_eq!(rt; &*wrapped, text);
+    expect_octets(rt, wrapped, text);
     expect_unwraps(rt, kek, text, key_data);
 }
 
@@ -53,7 +54,7 @@ fn expect_unwraps<B: Block>(rt: &impl Abort, kek: &B, text: &[u8], key_data: &[u
     let mut buf = [0; 64];
     let out = &mut buf[..key_data.len()];
     assert!(rt; unwrap(kek, text, out).is_some());
-    assert_eq!(rt; &*out, key_data);
+    expect_octets(rt, out, key_data);
 }
 
 // What the key data wraps to unwraps to it.
@@ -104,15 +105,20 @@ fn rfc3394_sections_4_4_to_4_6(rt: HostRuntime) {
     expect_both_ways(&rt, &Aes256::new(&first()), &KEY_DATA, &text);
 }
 
+// The text unwraps to nothing, and the place stays.
+fn expect_nothing<B: Block>(rt: &impl Abort, kek: &B, text: &[u8; 24]) {
+    let mut out = [0xee; 16];
+    assert!(rt; unwrap(kek, text, &mut out).is_none());
+    expect_octets(rt, &out, &[0xee; 16]);
+}
+
 #[test]
 fn no_changed_bit_unwraps(rt: HostRuntime) {
     let kek = Aes128::new(&first());
     for bit in 0..192_usize {
         let mut text = WRAPPED;
         text[bit / 8] ^= 1 << (bit % 8);
-        let mut out = [0xee; 16];
-        assert_eq!(rt; unwrap(&kek, &text, &mut out), None);
-        assert_eq!(rt; out, [0xee; 16]);
+        expect_nothing(&rt, &kek, &text);
     }
 }
 

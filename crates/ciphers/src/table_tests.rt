@@ -1,9 +1,13 @@
 //! The lengths of RFC 7518's algorithms, row by row. What each is made of is shown by the vectors of the other tests.
-ghost use Rattle.std.specs.Prelude.{◌≢◌, ◌≤◌, length};
+ghost use Rattle.std.specs.Prelude.{◌≡◌, ◌≢◌, ◌%◌, ◌≤◌, length};
 ghost use Rattle.ciphers.specs.Delivery.{IsKeyOf, IsCountOf};
 
-use crate::{Cek, ContentAlg, KeyAlg, KeyParameters, Sealer};
+use crate::content_alg_tests::{expect_len, front, seal};
+use crate::key_alg_tests::{expect_cek, expect_no_cek};
+use crate::{Cek, ContentAlg, KeyAlg, KeyParameters};
+use std::alloc::{AllocError, Global};
 use std::process::Abort;
+use std::test::Fail;
 
 // Each content encryption algorithm with the lengths of its keys, IVs and tags (sections 5.2.3 to 5.3).
 const CONTENT: [(ContentAlg, usize, usize, usize); 6] = [
@@ -17,19 +21,53 @@ const CONTENT: [(ContentAlg, usize, usize, usize); 6] = [
 
 const OCTETS: [u8; 64] = [3; 64];
 
-#[test]
-fn lengths_of_content_encryption(rt: HostRuntime) {
-    for (alg, cek_len, iv_len, tag_len) in CONTENT {
-        assert_eq!(rt; (alg.cek_len(), alg.iv_len()), (cek_len, iv_len));
-        assert!(rt; cek_len <= 64 && iv_len <= 16);
-        let sealer = alg.seal(&OCTETS[..cek_len], &OCTETS[..iv_len], b"");
-        let mut tag = [0; 32];
-        let (_, len) = sealer.finish(&mut [0; 16], &mut tag);
-        assert_eq!(rt; len, tag_len);
-    }
+fn expect_lengths(
+    rt: &impl Abort,
+    alloc: Global,
+    alg: ContentAlg,
+    cek_len: usize,
+    iv_len: usize,
+    tag_len: usize,
+) -> Result<(), AllocError> {
+    expect_len(rt, alg.cek_len(), cek_len);
+    expect_len(rt, alg.iv_len(), iv_len);
+    let (cek, iv) = (front(rt, &OCTETS, cek_len), front(rt, &OCTETS, iv_len));
+    let (_, tag) = seal(rt, alloc, alg, cek, iv, b"", b"", 1)?;
+    expect_len(rt, tag.len(), tag_len);
+    Ok(())
 }
 
-// The encrypted key of each content encryption key is eight octets longer, and delivers it (sections 4.4 and 4.8).
+#[test]
+fn lengths_of_content_encryption(rt: HostRuntime) -> Result<(), Fail> {
+    for (alg, cek_len, iv_len, tag_len) in CONTENT {
+        expect_lengths(&rt, rt.alloc(), alg, cek_len, iv_len, tag_len)?;
+    }
+    Ok(())
+}
+
+// The encrypted key is eight octets longer, and delivers the content encryption key.
+fn expect_key(
+    rt: &impl Abort,
+    alg: KeyAlg,
+    enc: ContentAlg,
+    key: &[u8],
+    parameters: KeyParameters<'_>,
+    cek: &[u8],
+)
+    requires key_fits { IsKeyOf alg key.now }
+    requires count_fits { IsCountOf alg parameters.p2c }
+    requires wraps { alg ≢ KeyAlg.Dir }
+    requires parts { length cek.now % 8 ≡ 0 }
+    requires size { (16 ≤ length cek.now) × (length cek.now ≤ 64) }
+{
+    let mut out = [0; 72];
+    let n = alg.wrap_cek(key, parameters, &Cek::new(cek), &mut out);
+    expect_len(rt, n, cek.len() + 8);
+    let delivered = alg.unwrap_cek(enc, key, parameters, &out[..n]);
+    expect_cek(rt, delivered, cek);
+}
+
+// The encrypted key of each content encryption key delivers it (sections 4.4 and 4.8).
 fn expect_every_key(rt: &impl Abort, alg: KeyAlg, key: &[u8], parameters: KeyParameters<'_>)
     requires key_fits { IsKeyOf alg key.now }
     requires count_fits { IsCountOf alg parameters.p2c }
@@ -37,14 +75,7 @@ fn expect_every_key(rt: &impl Abort, alg: KeyAlg, key: &[u8], parameters: KeyPar
 {
     for (enc, len, _, _) in CONTENT {
         assert!(rt; 16 <= len && len <= 64 && len % 8 == 0);
-        let cek = &OCTETS[..len];
-        let mut out = [0; 72];
-        let n = alg.wrap_cek(key, parameters, &Cek::new(cek), &mut out);
-        assert_eq!(rt; n, len + 8);
-        match alg.unwrap_cek(enc, key, parameters, &out[..n]) {
-            Some(delivered) => assert_eq!(rt; delivered.octets(), cek),
-            None => assert!(rt; false),
-        }
+        expect_key(rt, alg, enc, key, parameters, &OCTETS[..len]);
     }
 }
 
@@ -70,24 +101,32 @@ fn passwords_of_pbes2(rt: HostRuntime) {
     }
 }
 
+fn direct(enc: ContentAlg, key: &[u8], encrypted_key: &[u8]) -> Option<Cek> {
+    let none = KeyParameters { p2s: b"", p2c: 0 };
+    KeyAlg::Dir.unwrap_cek(enc, key, none, encrypted_key)
+}
+
+fn expect_no_encrypted_key(rt: &impl Abort, len: usize) {
+    assert!(rt; 16 <= len && len <= 64 && len % 8 == 0);
+    let key = &OCTETS[..len];
+    let none = KeyParameters { p2s: b"", p2c: 0 };
+    let n = KeyAlg::Dir.wrap_cek(key, none, &Cek::new(key), &mut [0; 72]);
+    expect_len(rt, n, 0);
+}
+
+fn expect_direct_use(rt: &impl Abort, enc: ContentAlg, len: usize) {
+    assert!(rt; 0 < len && len <= 64);
+    let key = &OCTETS[..len];
+    expect_cek(rt, direct(enc, key, b""), key);
+    expect_no_cek(rt, direct(enc, &OCTETS[..len - 1], b""));
+    expect_no_cek(rt, direct(enc, key, b"\x00"));
+}
+
 // Used directly, a key has the length of a content encryption key, and no encrypted key (section 4.5).
 #[test]
 fn keys_of_direct_use(rt: HostRuntime) {
-    let none = KeyParameters { p2s: b"", p2c: 0 };
     for (enc, len, _, _) in CONTENT {
-        assert!(rt; 16 <= len && len <= 64 && len % 8 == 0);
-        let key = &OCTETS[..len];
-        let mut out = [0; 72];
-        assert_eq!(rt;
-            KeyAlg::Dir.wrap_cek(key, none, &Cek::new(key), &mut out),
-            0
-        );
-        match KeyAlg::Dir.unwrap_cek(enc, key, none, b"") {
-            Some(delivered) => assert_eq!(rt; delivered.octets(), key),
-            None => assert!(rt; false),
-        }
-        let short = &OCTETS[..len - 1];
-        assert!(rt; KeyAlg::Dir.unwrap_cek(enc, short, none, b"").is_none());
-        assert!(rt; KeyAlg::Dir.unwrap_cek(enc, key, none, b"\x00").is_none());
+        expect_no_encrypted_key(&rt, len);
+        expect_direct_use(&rt, enc, len);
     }
 }

@@ -13,7 +13,7 @@ use Rattle.tokens.specs.Verifying.{verifying_by}
 abbrev pub sig_answer : List ℕ → List ℕ → Result (Plan (List ℕ)) Refusal
 sig_answer keys template = do
   set ← key_set limits keys true
-  signing_by set template
+  signing_by limits set template
 
 -- what is written of the object: its payload, where it is asked for
 abbrev pub ver_answer : Bool → List ℕ → List ℕ → Result (List ℕ) Refusal

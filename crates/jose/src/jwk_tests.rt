@@ -1,5 +1,5 @@
 //! `jwk gen` and `jwk thp` over memory: what they write, and what is refused with which cause.
-use crate::tests::{Given, expect, text_or_refusal};
+use crate::tests::{Answer, Given, expect};
 use octets::Refusal;
 use std::process::Abort;
 use std::test::Fail;
@@ -23,12 +23,12 @@ const MANY: &str =
     "{\"keys\":[{},{},{},{},{},{},{},{},{},{},{},{},{},{},{},{},{},{},{},{},{},{},{},{},{},{},{},{},{},{},{},{},{},{},{},{},{},{},{},{},{},{},{},{},{},{},{},{},{},{},{},{},{},{},{},{},{},{},{},{},{},{},{},{},{}]}";
 
 /// The words write this text of these inputs, or are refused and nothing is written.
-fn writes<R: Abort + AllocGlobal>(
+pub(crate) fn writes<R: Abort + AllocGlobal>(
     rt: &R,
     words: &[&str],
     text: &str,
     random: &str,
-    answer: Result<&str, Refusal>,
+    answer: Answer<'_>,
 ) -> Result<(), Fail> {
     let given = Given {
         text,
@@ -36,78 +36,119 @@ fn writes<R: Abort + AllocGlobal>(
         keys: "",
         random,
     };
-    expect(rt, words, &given, text_or_refusal(answer))
+    expect(rt, words, &given, answer)
 }
+
+/// Making keys by these templates, from the octets 0 to 15, answers so.
+fn makes_each<R: Abort + AllocGlobal>(rt: &R, rows: &[(&str, Answer<'_>)]) -> Result<(), Fail> {
+    let random = "\0\x01\x02\x03\x04\x05\x06\x07\x08\x09\x0a\x0b\x0c\x0d\x0e\x0f";
+    for (template, answer) in rows {
+        writes(rt, &["jwk", "gen", "-i", "t"], template, random, *answer)?;
+    }
+    Ok(())
+}
+
+/// Templates, and their keys.
+const TEMPLATES: &[(&str, Answer<'_>)] = &[
+    ("{\"alg\":\"A128KW\"}", Answer::Text(KEY)),
+    (
+        "{\"bytes\":16}",
+        Answer::Text("{\"k\":\"AAECAwQFBgcICQoLDA0ODw\",\"kty\":\"oct\"}"),
+    ),
+    (
+        "{\"alg\":\"A128KW\",\"use\":\"enc\"}",
+        Answer::Text(
+            "{\"alg\":\"A128KW\",\"k\":\"AAECAwQFBgcICQoLDA0ODw\",\"kty\":\"oct\",\"use\":\"enc\"}",
+        ),
+    ),
+];
 
 #[test]
 fn a_key_is_made_by_its_template(rt: HostRuntime) -> Result<(), Fail> {
-    let random = "\0\x01\x02\x03\x04\x05\x06\x07\x08\x09\x0a\x0b\x0c\x0d\x0e\x0f";
-    for (template, answer) in [
-        ("{\"alg\":\"A128KW\"}", Ok(KEY)),
-        (
-            "{\"bytes\":16}",
-            Ok("{\"k\":\"AAECAwQFBgcICQoLDA0ODw\",\"kty\":\"oct\"}"),
-        ),
-        (
-            "{\"alg\":\"A128KW\",\"use\":\"enc\"}",
-            Ok(
-                "{\"alg\":\"A128KW\",\"k\":\"AAECAwQFBgcICQoLDA0ODw\",\"kty\":\"oct\",\"use\":\"enc\"}",
-            ),
-        ),
-        // Octets that are not there, and no size.
-        ("{\"bytes\":17}", Err(Refusal::Random)),
-        ("{}", Err(Refusal::NoAlgorithm)),
-        ("{\"alg\":\"dir\"}", Err(Refusal::NoAlgorithm)),
-        // Sizes that do not fit, an unknown algorithm, and too many octets.
-        (
-            "{\"alg\":\"HS256\",\"bytes\":16}",
-            Err(Refusal::KeyDoesNotFit),
-        ),
-        ("{\"alg\":\"RS256\"}", Err(Refusal::Unsupported)),
-        ("{\"bytes\":4097}", Err(Refusal::Limit)),
-        // Templates that are none.
-        ("{\"bytes\":0}", Err(Refusal::Key)),
-        ("{\"k\":\"AA\"}", Err(Refusal::Key)),
-        ("{\"kty\":\"EC\"}", Err(Refusal::Key)),
-    ] {
-        writes(&rt, &["jwk", "gen", "-i", "t"], template, random, answer)?;
+    makes_each(&rt, TEMPLATES)
+}
+
+/// Templates by which no key is made.
+const OTHER_TEMPLATES: &[(&str, Answer<'_>)] = &[
+    // Octets that are not there, and no size.
+    ("{\"bytes\":17}", Answer::Refusal(Refusal::Random)),
+    ("{}", Answer::Refusal(Refusal::NoAlgorithm)),
+    ("{\"alg\":\"dir\"}", Answer::Refusal(Refusal::NoAlgorithm)),
+    // Sizes that do not fit, an unknown algorithm, and too many octets.
+    (
+        "{\"alg\":\"HS256\",\"bytes\":16}",
+        Answer::Refusal(Refusal::KeyDoesNotFit),
+    ),
+    ("{\"alg\":\"RS256\"}", Answer::Refusal(Refusal::Unsupported)),
+    ("{\"bytes\":4097}", Answer::Refusal(Refusal::Limit)),
+    // Templates that are none.
+    ("{\"bytes\":0}", Answer::Refusal(Refusal::Key)),
+    ("{\"k\":\"AA\"}", Answer::Refusal(Refusal::Key)),
+    ("{\"kty\":\"EC\"}", Answer::Refusal(Refusal::Key)),
+];
+
+#[test]
+fn the_first_cause_refuses_a_template(rt: HostRuntime) -> Result<(), Fail> {
+    makes_each(&rt, OTHER_TEMPLATES)
+}
+
+/// Naming these keys answers so.
+fn names_each<R: Abort + AllocGlobal>(rt: &R, rows: &[(&str, Answer<'_>)]) -> Result<(), Fail> {
+    for (text, answer) in rows {
+        writes(rt, &["jwk", "thp"], text, "", *answer)?;
     }
     Ok(())
 }
 
+/// Keys and sets, and their thumbprints.
+const KEYS: &[(&str, Answer<'_>)] = &[
+    (KEY, Answer::Text(NAME)),
+    (SET, Answer::Text(NAMES)),
+    ("{\"keys\":[]}", Answer::Refusal(Refusal::Key)),
+    (MANY, Answer::Refusal(Refusal::Limit)),
+];
+
 #[test]
 fn keys_are_named_by_their_thumbprints(rt: HostRuntime) -> Result<(), Fail> {
-    for (text, answer) in [
-        (KEY, Ok(NAME)),
-        (SET, Ok(NAMES)),
-        ("{\"keys\":[]}", Err(Refusal::Key)),
-        (MANY, Err(Refusal::Limit)),
-    ] {
-        writes(&rt, &["jwk", "thp"], text, "", answer)?;
-    }
-    for (hash, answer) in [
-        ("S224", Ok("jezoqWsOithMshPTiyBe9MlumxPIs1cl5GnkAw")),
-        ("S256", Ok(NAME)),
-        (
-            "S384",
-            Ok("kbKkXo7qjopQnFRo4i3qqhXTj1fwL8yrtjAwdZ6zb2MVtwahNdRb5YXHCUKbqMvR"),
-        ),
-        (
-            "S512",
-            Ok(
-                "GB83fpTxMAN5mPR5LRzvknutylsjaSbA2vaQAn_BePgPJsNnovXvh5B1HwK_na5epHqKl3hZPkuSOBSFh9GBuA",
-            ),
-        ),
-        ("S1", Err(Refusal::Usage)),
-    ] {
-        writes(&rt, &["jwk", "thp", "-a", hash], KEY, "", answer)?;
+    names_each(&rt, KEYS)
+}
+
+/// Naming `KEY` by these hashes answers so.
+fn names_by_each<R: Abort + AllocGlobal>(rt: &R, rows: &[(&str, Answer<'_>)]) -> Result<(), Fail> {
+    for (hash, answer) in rows {
+        writes(rt, &["jwk", "thp", "-a", hash], KEY, "", *answer)?;
     }
     Ok(())
+}
+
+/// Hashes, and the thumbprints of `KEY` by them.
+const HASHES: &[(&str, Answer<'_>)] = &[
+    (
+        "S224",
+        Answer::Text("jezoqWsOithMshPTiyBe9MlumxPIs1cl5GnkAw"),
+    ),
+    ("S256", Answer::Text(NAME)),
+    (
+        "S384",
+        Answer::Text("kbKkXo7qjopQnFRo4i3qqhXTj1fwL8yrtjAwdZ6zb2MVtwahNdRb5YXHCUKbqMvR"),
+    ),
+    (
+        "S512",
+        Answer::Text(
+            "GB83fpTxMAN5mPR5LRzvknutylsjaSbA2vaQAn_BePgPJsNnovXvh5B1HwK_na5epHqKl3hZPkuSOBSFh9GBuA",
+        ),
+    ),
+    ("S1", Answer::Refusal(Refusal::Usage)),
+];
+
+#[test]
+fn a_key_is_named_by_each_hash(rt: HostRuntime) -> Result<(), Fail> {
+    names_by_each(&rt, HASHES)
 }
 
 #[test]
 fn a_template_is_asked_for_and_one_standard_input(rt: HostRuntime) -> Result<(), Fail> {
-    let usage = Err(Refusal::Usage);
+    let usage = Answer::Refusal(Refusal::Usage);
     writes(&rt, &["jwk", "gen"], "{\"bytes\":1}", "\0", usage)?;
     let words = ["jwk", "gen", "-i", "-", "-R", "-"];
     writes(&rt, &words, "{\"bytes\":1}", "\0", usage)

@@ -1,5 +1,6 @@
 //! Content of more than 64 KiB, which is treated like any other.
-use crate::tests::{Answer, Given, KEY, expect};
+use crate::jwk_tests::writes;
+use crate::tests::{Answer, KEY, TEMPLATE, decodes, encodes, signs, verifies};
 use std::alloc::{AllocError, Global};
 use std::process::Abort;
 use std::test::Fail;
@@ -24,20 +25,8 @@ fn repeated(
 fn b64_of_70_000_octets(rt: HostRuntime) -> Result<(), Fail> {
     let octets = repeated(rt.alloc(), "", "a", 70_000, "")?;
     let text = repeated(rt.alloc(), "", "YWFh", 23_333, "YQ")?;
-    let mut given = Given {
-        text: "",
-        content: octets.as_bytes(),
-        keys: "",
-        random: "",
-    };
-    expect(&rt, &["b64", "enc"], &given, Answer::Text(text.as_str()))?;
-    given.text = text.as_str();
-    expect(
-        &rt,
-        &["b64", "dec"],
-        &given,
-        Answer::Content(octets.as_bytes()),
-    )
+    encodes(&rt, octets.as_bytes(), text.as_str())?;
+    decodes(&rt, text.as_str(), Answer::Content(octets.as_bytes()))
 }
 
 #[test]
@@ -50,19 +39,10 @@ fn jws_of_70_000_octets(rt: HostRuntime) -> Result<(), Fail> {
         23_333,
         "YQ.6z0O5j6zwX2ee1VRgV7u7jZOIDY-jdNzwkwNMbHHIYg",
     )?;
-    let mut given = Given {
-        text: "{\"protected\":{\"alg\":\"HS256\"}}",
-        content: payload.as_bytes(),
-        keys: KEY,
-        random: "",
-    };
-    let sign = [
-        "jws", "sig", "-c", "-s", "template", "-I", "payload", "-k", "keys",
-    ];
-    expect(&rt, &sign, &given, Answer::Text(text.as_str()))?;
-    given.text = text.as_str();
-    let verify = ["jws", "ver", "-k", "keys", "-O", "payload"];
-    expect(&rt, &verify, &given, Answer::Content(payload.as_bytes()))
+    let answer = Answer::Text(text.as_str());
+    signs(&rt, TEMPLATE, payload.as_bytes(), KEY, answer)?;
+    let answer = Answer::Content(payload.as_bytes());
+    verifies(&rt, text.as_str(), KEY, answer)
 }
 
 #[test]
@@ -75,29 +55,15 @@ fn jwk_of_a_template_of_70_000_octets(rt: HostRuntime) -> Result<(), Fail> {
         70_000,
         "\"}",
     )?;
-    let making = Given {
-        text: template.as_str(),
-        content: b"",
-        keys: "",
-        random: "\0",
-    };
-    expect(
+    let answer = Answer::Text(key.as_str());
+    writes(
         &rt,
         &["jwk", "gen", "-i", "t"],
-        &making,
-        Answer::Text(key.as_str()),
+        template.as_str(),
+        "\0",
+        answer,
     )?;
-    let naming = Given {
-        text: key.as_str(),
-        content: b"",
-        keys: "",
-        random: "",
-    };
     // The hash of {"k":"AA","kty":"oct"}.
-    expect(
-        &rt,
-        &["jwk", "thp"],
-        &naming,
-        Answer::Text("xoNKolCCOwo3X8anKSSJQKMilUpNMW2KQv6Md8OcdL0"),
-    )
+    let answer = Answer::Text("xoNKolCCOwo3X8anKSSJQKMilUpNMW2KQv6Md8OcdL0");
+    writes(&rt, &["jwk", "thp"], key.as_str(), "", answer)
 }

@@ -48,8 +48,16 @@ fn main(rt: HostRuntime) -> ExitCode {
 }
 
 #[cfg(test)]
+mod header_tests;
+#[cfg(test)]
+mod jwe_text_tests;
+#[cfg(test)]
 mod jwk_tests;
+#[cfg(test)]
+mod jws_text_tests;
 #[cfg(test)]
 mod long_tests;
 #[cfg(test)]
 mod tests;
+#[cfg(test)]
+mod tokens_tests;

@@ -5,7 +5,9 @@ ghost use Rattle.modes.specs.Toy.{turned};
 
 use crate::{Cbc, Ctr32, Ghash, cbc_open};
 use aes::{Aes128, Aes192, Aes256, Block};
+use std::alloc::{AllocError, Global};
 use std::process::Abort;
+use std::test::Fail;
 
 // A cipher of no worth: octet i of a block's text is octet i + 1 modulo 16 of the block, plus 1.
 #[derive(Drop)]
@@ -58,103 +60,122 @@ const TEXT: [u8; 64] = [
     0xf6, 0x9f, 0x24, 0x45, 0xdf, 0x4f, 0x9b, 0x17, 0xad, 0x2b, 0x41, 0x7b, 0xe6, 0x6c, 0x37, 0x10,
 ];
 
-// A ciphertext as it grows.
-#[derive(Drop)]
-struct Ciphertext {
-    octets: [u8; 96],
-    length: usize,
+pub(crate) fn expect_octets(rt: &impl Abort, found: &[u8], wanted: &[u8]) {
+    assert_eq!(rt; *found, *wanted);
 }
 
-impl Ciphertext {
-    fn push(&mut self, rt: &impl Abort, octets: &[u8]) {
-        assert!(rt; octets.len() <= 96 && self.length <= 96 - octets.len());
-        self.octets[self.length..self.length + octets.len()].copy_from_slice(octets);
-        self.length += octets.len();
-    }
-}
-
-// The ciphertext of the text, of which the first piece ends at the cut, and each further one has so many octets.
-fn encrypt<B: Block>(
+// The CBC ciphertext of the text in pieces of so many octets.
+pub(crate) fn cbc<B: Block>(
     rt: &impl Abort,
+    alloc: Global,
     cipher: B,
     iv: &[u8; 16],
     text: &[u8],
-    cut: usize,
     step: usize,
-) -> Ciphertext {
-    let mut all = Ciphertext {
-        octets: [0; 96],
-        length: 0,
-    };
+) -> Result<Vec<u8>, AllocError> {
+    assert!(rt; step > 0);
+    let mut all = Vec::new(alloc);
     let mut out = [0; 4112];
     let mut cbc = Cbc::start(cipher, iv);
-    assert!(rt; text.len() <= 4096 && cut <= text.len() && step > 0);
-    let n = cbc.feed(&text[..cut], &mut out);
-    all.push(rt, &out[..n]);
-    for piece in text[cut..].chunks(step) {
+    for piece in text.chunks(step) {
         assert!(rt; piece.len() <= 4096);
         let n = cbc.feed(piece, &mut out);
-        all.push(rt, &out[..n]);
+        all.extend_from_slice(&out[..n])?;
     }
     let mut last = [0; 16];
     cbc.finish(&mut last);
-    all.push(rt, &last);
-    all
+    all.extend_from_slice(&last)?;
+    Ok(all)
+}
+
+// The text in counter mode, in pieces of so many octets.
+pub(crate) fn ctr<B: Block>(
+    rt: &impl Abort,
+    alloc: Global,
+    cipher: B,
+    first: &[u8; 16],
+    text: &[u8],
+    step: usize,
+) -> Result<Vec<u8>, AllocError> {
+    assert!(rt; step > 0);
+    let mut all = Vec::new(alloc);
+    let mut out = [0; 4112];
+    let mut ctr = Ctr32::start(cipher, first);
+    for piece in text.chunks(step) {
+        assert!(rt; piece.len() <= 4096);
+        let n = ctr.feed(piece, &mut out);
+        all.extend_from_slice(&out[..n])?;
+    }
+    ctr.finish();
+    Ok(all)
+}
+
+// The sum of the text in pieces of so many octets.
+pub(crate) fn ghash(rt: &impl Abort, h: &[u8; 16], text: &[u8], step: usize) -> [u8; 16] {
+    assert!(rt; step > 0);
+    let mut ghash = Ghash::start(h);
+    for piece in text.chunks(step) {
+        ghash.feed(piece);
+    }
+    ghash.finish()
 }
 
 #[test]
-fn a_toy_cipher_encrypts(rt: HostRuntime) {
-    let text = encrypt(&rt, Toy::new(), &ZERO, &[], 0, 16);
-    assert_eq!(rt; text.length, 16);
-    assert_eq!(rt; text.octets[..16], [0x11; 16][..]);
-    let text = encrypt(&rt, Toy::new(), &ZERO, &[0; 16], 0, 16);
-    assert_eq!(rt; text.length, 32);
-    assert_eq!(rt; text.octets[..16], [0x01; 16][..]);
-    assert_eq!(rt; text.octets[16..32], [0x10; 16][..]);
+fn a_toy_cipher_encrypts(rt: HostRuntime) -> Result<(), Fail> {
+    let text = cbc(&rt, rt.alloc(), Toy::new(), &ZERO, b"", 16)?;
+    expect_octets(&rt, &text, &[0x11; 16]);
+    let text = cbc(&rt, rt.alloc(), Toy::new(), &ZERO, &ZERO, 16)?;
+    expect_octets(
+        &rt,
+        &text,
+        b"\x01\x01\x01\x01\x01\x01\x01\x01\x01\x01\x01\x01\x01\x01\x01\x01\x10\x10\x10\x10\x10\x10\x10\x10\x10\x10\x10\x10\x10\x10\x10\x10",
+    );
+    Ok(())
+}
+
+// What opening answers, and what then begins the place of the text.
+fn expect_opening(rt: &impl Abort, text: &[u8; 16], answer: Option<usize>, front: &[u8]) {
+    let mut place = *text;
+    assert_eq!(rt; cbc_open(&Toy::new(), &ZERO, &mut place), answer);
+    assert!(rt; place.starts_with(front));
 }
 
 #[test]
 fn a_toy_cipher_opens_what_is_padded(rt: HostRuntime) {
+    expect_opening(&rt, &[0x11; 16], Some(0), b"");
+    expect_opening(&rt, &ZERO, Some(15), &[1; 15]);
+    expect_opening(&rt, &[1; 16], None, &[1; 16]);
     let mut other = [2; 16];
     other[14] = 3;
-    for (text, length) in [
-        ([0x11; 16], Some(0)),
-        ([0x00; 16], Some(15)),
-        ([0x01; 16], None),
-        (other, None),
-    ] {
-        let mut buf = text;
-        assert_eq!(rt; cbc_open(&Toy::new(), &ZERO, &mut buf), length);
-        if length == Some(15) {
-            assert_eq!(rt; buf[..15], [1; 15][..]);
-        }
-        if length == None {
-            assert_eq!(rt; buf, text);
-        }
-    }
+    expect_opening(&rt, &other, None, &other);
 }
 
 #[test]
 fn a_part_of_a_block_is_no_ciphertext(rt: HostRuntime) {
     let mut buf = [0xee; 17];
     assert_eq!(rt; cbc_open(&Toy::new(), &ZERO, &mut buf), None);
-    assert_eq!(rt; buf, [0xee; 17]);
-    assert_eq!(rt; cbc_open(&Toy::new(), &ZERO, &mut buf[..0]), None);
+    expect_octets(&rt, &buf, &[0xee; 17]);
+    assert_eq!(rt; cbc_open(&Toy::new(), &ZERO, &mut []), None);
 }
 
 // The text of SP 800-38A encrypts to these octets and a block of padding, which open to it.
-fn expect_both_ways<B: Block>(rt: &impl Abort, sealing: B, opening: &B, octets: &[u8; 64]) {
-    let text = encrypt(rt, sealing, &IV, &TEXT, 0, 64);
-    assert_eq!(rt; text.length, 80);
-    assert_eq!(rt; text.octets[..64], octets[..]);
-    let mut buf = [0; 80];
-    buf.copy_from_slice(&text.octets[..80]);
-    assert_eq!(rt; cbc_open(opening, &IV, &mut buf), Some(64));
-    assert_eq!(rt; buf[..64], TEXT[..]);
+fn expect_both_ways<B: Block>(
+    rt: &impl Abort,
+    alloc: Global,
+    sealing: B,
+    opening: &B,
+    octets: &[u8; 64],
+) -> Result<(), AllocError> {
+    let mut text = cbc(rt, alloc, sealing, &IV, &TEXT, 64)?;
+    assert_eq!(rt; text.len(), 80);
+    assert!(rt; text.starts_with(octets));
+    assert_eq!(rt; cbc_open(opening, &IV, &mut text), Some(64));
+    assert!(rt; text.starts_with(&TEXT));
+    Ok(())
 }
 
 #[test]
-fn sp800_38a_appendix_f2(rt: HostRuntime) {
+fn sp800_38a_appendix_f2(rt: HostRuntime) -> Result<(), Fail> {
     let key = [
         0x2b, 0x7e, 0x15, 0x16, 0x28, 0xae, 0xd2, 0xa6, 0xab, 0xf7, 0x15, 0x88, 0x09, 0xcf, 0x4f,
         0x3c,
@@ -166,7 +187,8 @@ fn sp800_38a_appendix_f2(rt: HostRuntime) {
         0x22, 0x95, 0x16, 0x3f, 0xf1, 0xca, 0xa1, 0x68, 0x1f, 0xac, 0x09, 0x12, 0x0e, 0xca, 0x30,
         0x75, 0x86, 0xe1, 0xa7,
     ];
-    expect_both_ways(&rt, Aes128::new(&key), &Aes128::new(&key), &text);
+    let alloc = rt.alloc();
+    expect_both_ways(&rt, alloc, Aes128::new(&key), &Aes128::new(&key), &text)?;
     let key = [
         0x8e, 0x73, 0xb0, 0xf7, 0xda, 0x0e, 0x64, 0x52, 0xc8, 0x10, 0xf3, 0x2b, 0x80, 0x90, 0x79,
         0xe5, 0x62, 0xf8, 0xea, 0xd2, 0x52, 0x2c, 0x6b, 0x7b,
@@ -178,7 +200,7 @@ fn sp800_38a_appendix_f2(rt: HostRuntime) {
         0xf1, 0x02, 0xe0, 0x08, 0xb0, 0xe2, 0x79, 0x88, 0x59, 0x88, 0x81, 0xd9, 0x20, 0xa9, 0xe6,
         0x4f, 0x56, 0x15, 0xcd,
     ];
-    expect_both_ways(&rt, Aes192::new(&key), &Aes192::new(&key), &text);
+    expect_both_ways(&rt, alloc, Aes192::new(&key), &Aes192::new(&key), &text)?;
     let key = [
         0x60, 0x3d, 0xeb, 0x10, 0x15, 0xca, 0x71, 0xbe, 0x2b, 0x73, 0xae, 0xf0, 0x85, 0x7d, 0x77,
         0x81, 0x1f, 0x35, 0x2c, 0x07, 0x3b, 0x61, 0x08, 0xd7, 0x2d, 0x98, 0x10, 0xa3, 0x09, 0x14,
@@ -191,36 +213,28 @@ fn sp800_38a_appendix_f2(rt: HostRuntime) {
         0x23, 0x14, 0x61, 0xb2, 0xeb, 0x05, 0xe2, 0xc3, 0x9b, 0xe9, 0xfc, 0xda, 0x6c, 0x19, 0x07,
         0x8c, 0x6a, 0x9d, 0x1b,
     ];
-    expect_both_ways(&rt, Aes256::new(&key), &Aes256::new(&key), &text);
+    expect_both_ways(&rt, alloc, Aes256::new(&key), &Aes256::new(&key), &text)?;
+    Ok(())
 }
 
 #[test]
-fn padding_fills_a_block_or_is_one(rt: HostRuntime) {
+fn padding_fills_a_block_or_is_one(rt: HostRuntime) -> Result<(), Fail> {
     for (length, expected) in [(0, 16), (15, 16), (16, 32), (17, 32)] {
-        let text = encrypt(&rt, Toy::new(), &IV, &TEXT[..length], 0, 64);
-        assert_eq!(rt; text.length, expected);
+        let text = cbc(&rt, rt.alloc(), Toy::new(), &IV, &TEXT[..length], 64)?;
+        assert_eq!(rt; text.len(), expected);
     }
+    Ok(())
 }
 
 #[test]
-fn a_cut_changes_nothing(rt: HostRuntime) {
-    let whole = encrypt(&rt, Toy::new(), &IV, &TEXT[..50], 50, 1);
-    assert_eq!(rt; whole.length, 64);
-    let text = encrypt(&rt, Toy::new(), &IV, &TEXT[..50], 0, 1);
-    assert_eq!(rt; text.octets, whole.octets);
-    for cut in 0..51_usize {
-        let text = encrypt(&rt, Toy::new(), &IV, &TEXT[..50], cut, 50);
-        assert_eq!(rt; text.octets, whole.octets, "cut at {cut}");
+fn a_cut_changes_nothing(rt: HostRuntime) -> Result<(), Fail> {
+    let whole = cbc(&rt, rt.alloc(), Toy::new(), &IV, &TEXT[..50], 50)?;
+    assert_eq!(rt; whole.len(), 64);
+    for step in 1..50_usize {
+        let text = cbc(&rt, rt.alloc(), Toy::new(), &IV, &TEXT[..50], step)?;
+        assert_eq!(rt; text, whole, "in steps of {step}");
     }
-}
-
-// The sum of the text, of which the first piece ends at the cut.
-fn hash(rt: &impl Abort, h: u128, text: &[u8], cut: usize) -> [u8; 16] {
-    assert!(rt; cut <= text.len());
-    let mut ghash = Ghash::start(&h.to_be_bytes());
-    ghash.feed(&text[..cut]);
-    ghash.feed(&text[cut..]);
-    ghash.finish()
+    Ok(())
 }
 
 #[test]
@@ -242,42 +256,41 @@ fn sums_of_blocks(rt: HostRuntime) {
         ghash.feed(&second.to_be_bytes());
         assert_eq!(rt; u128::from_be_bytes(ghash.finish()), expected);
     }
-    let mut filled = [0; 64];
-    filled[..50].copy_from_slice(&TEXT[..50]);
-    let whole = hash(&rt, h, &filled, 64);
-    for cut in 0..51_usize {
-        assert_eq!(rt; hash(&rt, h, &TEXT[..50], cut), whole, "cut at {cut}");
-    }
-    let mut ghash = Ghash::start(&h.to_be_bytes());
-    ghash.feed(&TEXT[..50]);
-    ghash.pad();
-    ghash.feed(&[]);
-    assert_eq!(rt; ghash.finish(), whole);
 }
 
 #[test]
-fn the_counter_is_of_four_octets(rt: HostRuntime) {
+fn a_cut_changes_no_sum(rt: HostRuntime) {
+    let mut filled = [0; 64];
+    filled[..50].copy_from_slice(&TEXT[..50]);
+    let whole = ghash(&rt, &IV, &filled, 64);
+    for step in 1..51_usize {
+        assert_eq!(rt;
+            ghash(&rt, &IV, &TEXT[..50], step),
+            whole,
+            "in steps of {step}"
+        );
+    }
+    let mut padded = Ghash::start(&IV);
+    padded.feed(&TEXT[..50]);
+    padded.pad();
+    padded.feed(b"");
+    assert_eq!(rt; padded.finish(), whole);
+}
+
+#[test]
+fn the_counter_is_of_four_octets(rt: HostRuntime) -> Result<(), Fail> {
     let first = [0, 1, 2, 3, 4, 5, 6, 7, 8, 9, 10, 11, 0xff, 0xff, 0xff, 0xff];
-    let mut ctr = Ctr32::start(Toy::new(), &first);
-    let mut out = [0; 4112];
-    assert_eq!(rt; ctr.feed(&[0; 32], &mut out), 32);
-    ctr.finish();
+    let text = ctr(&rt, rt.alloc(), Toy::new(), &first, &[0; 32], 32)?;
     let expected = [
         0, 3, 2, 5, 4, 7, 6, 9, 8, 11, 10, 0xfe, 0xfe, 0xfe, 0xfe, 1, 0, 3, 2, 5, 4, 7, 6, 9, 8,
         11, 10, 1, 1, 1, 1, 1,
     ];
-    assert_eq!(rt; front(&out), expected);
+    expect_octets(&rt, &text, &expected);
+    Ok(())
 }
 
-fn front(octets: &[u8; 4112]) -> [u8; 32] {
-    let mut front = [0; 32];
-    front.copy_from_slice(&octets[..32]);
-    front
-}
-
-// The text in counter mode, of which the first piece ends at the cut.
-fn count(rt: &impl Abort, text: &[u8], cut: usize) -> [u8; 64] {
-    assert!(rt; text.len() <= 64 && cut <= text.len());
+#[test]
+fn sp800_38a_appendix_f5_1(rt: HostRuntime) -> Result<(), Fail> {
     let key = [
         0x2b, 0x7e, 0x15, 0x16, 0x28, 0xae, 0xd2, 0xa6, 0xab, 0xf7, 0x15, 0x88, 0x09, 0xcf, 0x4f,
         0x3c,
@@ -286,18 +299,6 @@ fn count(rt: &impl Abort, text: &[u8], cut: usize) -> [u8; 64] {
         0xf0, 0xf1, 0xf2, 0xf3, 0xf4, 0xf5, 0xf6, 0xf7, 0xf8, 0xf9, 0xfa, 0xfb, 0xfc, 0xfd, 0xfe,
         0xff,
     ];
-    let mut ctr = Ctr32::start(Aes128::new(&key), &first);
-    let mut result = [0; 64];
-    let mut out = [0; 4112];
-    let n = ctr.feed(&text[..cut], &mut out);
-    result[..n].copy_from_slice(&out[..n]);
-    let m = ctr.feed(&text[cut..], &mut out);
-    result[n..n + m].copy_from_slice(&out[..m]);
-    result
-}
-
-#[test]
-fn sp800_38a_appendix_f5_1(rt: HostRuntime) {
     let text = [
         0x87, 0x4d, 0x61, 0x91, 0xb6, 0x20, 0xe3, 0x26, 0x1b, 0xef, 0x68, 0x64, 0x99, 0x0d, 0xb6,
         0xce, 0x98, 0x06, 0xf6, 0x6b, 0x79, 0x70, 0xfd, 0xff, 0x86, 0x17, 0x18, 0x7b, 0xb9, 0xff,
@@ -305,9 +306,9 @@ fn sp800_38a_appendix_f5_1(rt: HostRuntime) {
         0xb0, 0x3e, 0xab, 0x1e, 0x03, 0x1d, 0xda, 0x2f, 0xbe, 0x03, 0xd1, 0x79, 0x21, 0x70, 0xa0,
         0xf3, 0x00, 0x9c, 0xee,
     ];
-    assert_eq!(rt; count(&rt, &TEXT, 0), text);
-    let whole = count(&rt, &TEXT[..50], 50);
-    for cut in 0..51_usize {
-        assert_eq!(rt; count(&rt, &TEXT[..50], cut), whole);
+    for step in 1..65_usize {
+        let found = ctr(&rt, rt.alloc(), Aes128::new(&key), &first, &TEXT, step)?;
+        assert_eq!(rt; found.as_slice(), text.as_slice(), "in steps of {step}");
     }
+    Ok(())
 }

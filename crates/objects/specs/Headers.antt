@@ -1,12 +1,26 @@
 -- JOSE headers (RFC 7515 section 4, RFC 7516 section 4): their members, and the parameters that this profile reads.
 use Rattle.std.specs.Prelude.{◌≡◌, ℕ, ◌||◌, Bool, true, false, not, List, length, nat_le, is_some, if◌then◌else◌, Option, Some, None, option_and_then, Result, Ok, Err}
 use Rattle.serde_json.specs.Data.{Data, Members, no_members, member, put}
-use Rattle.serde_json.specs.Find.{get_member, as_str, as_number, as_u64, as_object}
+use Rattle.serde_json.specs.Find.{get, get_member, as_str, as_number, as_u64, as_object}
 use Rattle.octets.specs.declared.refusal.Refusal.{Refusal}
-use Rattle.octets.specs.declared.refusal.Refusal.TheVariants.{Header}
+use Rattle.octets.specs.declared.refusal.Refusal.TheVariants.{Form, Header}
 use Rattle.octets.specs.Outcomes.{◌>>=◌, needs}
 use Rattle.octets.specs.Base64url.{decoded}
 use Rattle.keys.specs.Json.{json_value}
+
+-- ---- a header in a JSON value
+
+abbrev pub some_members : Option Members → Result Members Refusal
+some_members None = Err Form
+some_members (Some members) = Ok members
+
+abbrev pub members_if_there : Option Data → Result Members Refusal
+members_if_there None = Ok no_members
+members_if_there (Some value) = some_members (as_object value)
+
+-- the members of a member that is an object, and none where it is absent
+unfoldable pub header_at : List ℕ → Data → Result Members Refusal
+header_at name value = members_if_there (get name value)
 
 -- ---- the protected header
 

@@ -1,10 +1,10 @@
 -- JWE objects (RFC 7516): their compact texts (section 7.1) and their flattened JSON texts (section 7.2.2).
-use Rattle.std.specs.Prelude.{ℕ, ◌&&◌, ◌==◌, Bool, true, false, not, List, [], ◌∷◌, ◌++◌, length, map, codes, nat_le, is_none, if◌then◌else◌, Option, Some, None, option_and_then, Result, Ok, Err}
+use Rattle.std.specs.Prelude.{ℕ, ◌&&◌, ◌==◌, Bool, true, false, not, List, [], ◌∷◌, ◌++◌, length, codes, nat_le, is_none, if◌then◌else◌, Option, Some, None, option_and_then, Result, Ok}
 use Rattle.std.specs.List.{list_all}
 use Rattle.std.specs.Option.{ok_or}
 use Rattle.std.specs.Str.{bytes_eq}
 use Rattle.serde_json.specs.Data.{Data, Members, no_members, member, string, object, put}
-use Rattle.serde_json.specs.Find.{get, get_member, as_str, as_object}
+use Rattle.serde_json.specs.Find.{get, get_member, as_str}
 use Rattle.serde_json.specs.Written.{compact_text}
 use Rattle.octets.specs.declared.refusal.Refusal.{Refusal}
 use Rattle.octets.specs.declared.refusal.Refusal.TheVariants.{Form, Header, Unsupported, NotCompact}
@@ -15,7 +15,7 @@ use Rattle.keys.specs.declared.algorithm.ManagementAlg.{ManagementAlg}
 use Rattle.keys.specs.declared.algorithm.ManagementAlg.TheVariants.{Dir, A128Kw, A192Kw, A256Kw, Pbes2Hs256A128Kw, Pbes2Hs384A192Kw, Pbes2Hs512A256Kw}
 use Rattle.keys.specs.Algorithms.{management_alg_of}
 use Rattle.keys.specs.Json.{json_value}
-use Rattle.objects.specs.Headers.{protected_members, joint_header, string_parameter, number_parameter, salt_parameter}
+use Rattle.objects.specs.Headers.{header_at, protected_members, joint_header, string_parameter, number_parameter, salt_parameter}
 use Rattle.objects.specs.Jws.{is_json_form, split_at_dot, three_parts}
 
 -- ---- the members of an object
@@ -70,29 +70,17 @@ text_at name value = text_if_there (get name value)
 unfoldable pub required_text : List ℕ → Data → Result (List ℕ) Refusal
 required_text name value = ok_or (option_and_then as_str (get name value)) Form
 
-abbrev pub some_members : Option Members → Result Members Refusal
-some_members None = Err Form
-some_members (Some members) = Ok members
-
-abbrev pub members_if_there : Option Data → Result Members Refusal
-members_if_there None = Ok no_members
-members_if_there (Some value) = some_members (as_object value)
-
--- an object's members, and none where it is absent
-unfoldable pub members_at : List ℕ → Data → Result Members Refusal
-members_at name value = members_if_there (get name value)
-
 unfoldable pub shared_texts : Data → Result SharedTexts Refusal
 shared_texts value = do
   protected ← text_at (codes "protected") value
-  unprotected ← members_at (codes "unprotected") value
+  unprotected ← header_at (codes "unprotected") value
   aad ← text_at (codes "aad") value
   Ok (record { protected = protected; unprotected = unprotected; aad = aad })
 
 unfoldable pub recipient_texts : Data → Result RecipientTexts Refusal
 recipient_texts value = do
   encrypted_key ← text_at (codes "encrypted_key") value
-  header ← members_at (codes "header") value
+  header ← header_at (codes "header") value
   Ok (record { header = header; encrypted_key = encrypted_key })
 
 -- the ciphertext must be there

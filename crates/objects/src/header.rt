@@ -1,13 +1,14 @@
 //! JOSE headers (RFC 7515 section 4, RFC 7516 section 4). It sees their members alone.
-ghost use Rattle.std.specs.Prelude.{◌≡◌, IfErr, Some, codes, is_some, option_map};
+ghost use Rattle.std.specs.Prelude.{◌≡◌, false, IfOk, IfErr, Some, codes, is_some, option_map};
 ghost use Rattle.octets.specs.Base64url.{decoded};
 ghost use Rattle.octets.specs.Outcomes.{AgreesUnlessMemory};
 ghost use Rattle.serde_json.specs.Find.{get_member};
 ghost use Rattle.serde_json.specs.View.{view, members_view};
-ghost use Rattle.objects.specs.Headers.{members_of_json, protected_members, overlap as overlap_of, joint_header, string_parameter, number_parameter, salt, salt_parameter};
+ghost use Rattle.serde_json.specs.Written.{has_float, members_have_float};
+ghost use Rattle.objects.specs.Headers.{header_at, members_of_json, protected_members, overlap as overlap_of, joint_header, string_parameter, number_parameter, salt, salt_parameter};
 ghost use Rattle.objects.specs.Views.{header_view, part_view};
 
-use keys::read_json;
+use keys::{laws, read_json};
 use octets::{Refusal, b64_decode, needs};
 use serde_json::{Map, Value};
 use std::alloc::Global;
@@ -20,6 +21,27 @@ pub struct Header<'m> {
     protected: Option<&'m Map<String, Value>>,
     unprotected: Option<&'m Map<String, Value>>,
     per_recipient: Option<&'m Map<String, Value>>,
+}
+
+/// The header that a member of the value is (RFC 7515 section 7.2.1, RFC 7516 section 7.2.1). It may be absent.
+/// Refused with `Form` where the member is no object.
+#[tactic(auto, unfolding(crate::specs::Headers::header_at))]
+pub fn header_at<'v>(
+    value: &'v Value,
+    name: &str,
+) -> Result<Option<&'v Map<String, Value>>, Refusal>
+    ensures exact { AgreesUnlessMemory part_view result (header_at name.now (view value.now)) }
+    ensures no_float { IfOk result (λ part. has_float (view value.now) ≡ false
+        → members_have_float (part_view part) ≡ false) }
+{
+    laws::members_keep_floats_out();
+    match value.get(name) {
+        None => Ok(None),
+        Some(found) => match found.as_object() {
+            None => Err(Refusal::Form),
+            Some(members) => Ok(Some(members)),
+        },
+    }
 }
 
 /// The members of a protected header's octets (RFC 7515 section 4.1). No octets stand for a header

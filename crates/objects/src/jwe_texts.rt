@@ -1,17 +1,16 @@
 //! The members of an encrypted object as texts, by its compact or its flattened JSON serialization (RFC 7516 section
 //! 7). It decodes them, and reads no header.
-ghost use Rattle.std.specs.Prelude.{◌≡◌, ◌∷◌, [], IfOk, IfErr, false};
+ghost use Rattle.std.specs.Prelude.{◌≡◌, ◌∷◌, [], IfOk, IfErr};
 ghost use Rattle.serde_json.specs.View.{view, members_view};
-ghost use Rattle.serde_json.specs.Written.{has_float, members_have_float};
 ghost use Rattle.octets.specs.Base64url.{base64url};
 ghost use Rattle.octets.specs.Outcomes.{AgreesUnlessMemory};
 ghost use Rattle.objects.specs.Views.{part_view, shared_view, recipient_texts_view, content_view, texts_view, parts_view};
-ghost use Rattle.objects.specs.Jwe.{text_at, required_text, members_at, shared_texts, recipient_texts, content_texts, flattened_texts, compact_texts, parts_of_texts};
+ghost use Rattle.objects.specs.Jwe.{text_at, required_text, shared_texts, recipient_texts, content_texts, flattened_texts, compact_texts, parts_of_texts};
 
 use crate::compact::{split_at_dot, three_parts_of};
+use crate::header::header_at;
 use crate::jwe::JweParts;
 use crate::recipient::RecipientParts;
-use keys::laws;
 use octets::{Refusal, b64_decode, b64_encode, needs};
 use serde_json::{Map, Value};
 use std::alloc::Global;
@@ -76,7 +75,7 @@ fn shared_texts(value: &Value) -> Result<SharedTexts<'_>, Refusal>
     ensures { AgreesUnlessMemory shared_view result (shared_texts (view value.now)) }
 {
     let protected = text_at(value, "protected")?;
-    let unprotected = members_at(value, "unprotected")?;
+    let unprotected = header_at(value, "unprotected")?;
     let aad = text_at(value, "aad")?;
     Ok(SharedTexts {
         protected,
@@ -90,7 +89,7 @@ fn texts_of_recipient(value: &Value) -> Result<RecipientTexts<'_>, Refusal>
     ensures { AgreesUnlessMemory recipient_texts_view result (recipient_texts (view value.now)) }
 {
     let encrypted_key = text_at(value, "encrypted_key")?;
-    let header = members_at(value, "header")?;
+    let header = header_at(value, "header")?;
     Ok(RecipientTexts {
         header,
         encrypted_key,
@@ -133,23 +132,6 @@ fn required_text<'v>(value: &'v Value, name: &str) -> Result<&'v [u8], Refusal>
     match value.get(name).and_then(Value::as_str) {
         None => Err(Refusal::Form),
         Some(text) => Ok(text.as_bytes()),
-    }
-}
-
-/// The members of a member that is an object. It may be absent.
-#[tactic(auto, unfolding(crate::specs::Jwe::members_at))]
-fn members_at<'v>(value: &'v Value, name: &str) -> Result<Option<&'v Map<String, Value>>, Refusal>
-    ensures exact { AgreesUnlessMemory part_view result (members_at name.now (view value.now)) }
-    ensures no_float { IfOk result (λ part. has_float (view value.now) ≡ false
-        → members_have_float (part_view part) ≡ false) }
-{
-    laws::members_keep_floats_out();
-    match value.get(name) {
-        None => Ok(None),
-        Some(found) => match found.as_object() {
-            None => Err(Refusal::Form),
-            Some(members) => Ok(Some(members)),
-        },
     }
 }
 

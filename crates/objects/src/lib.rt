@@ -20,14 +20,7 @@ mod jws;
 pub mod laws;
 mod recipient;
 
-pub use header::{Header, read_protected};
+pub use header::{Header, header_at, read_protected};
 pub use jwe::{Jwe, JweParts};
 pub use jws::Jws;
 pub use recipient::{Recipient, RecipientParts};
-
-#[cfg(test)]
-mod jwe_tests;
-#[cfg(test)]
-mod jws_tests;
-#[cfg(test)]
-mod tests;

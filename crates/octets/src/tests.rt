@@ -10,6 +10,10 @@ use std::io::{Read, Write};
 use std::process::Abort;
 use std::test::Fail;
 
+fn expect_octets(rt: &impl Abort, found: &[u8], wanted: &[u8]) {
+    assert_eq!(rt; *found, *wanted);
+}
+
 #[test]
 fn rfc4648_section_10(rt: HostRuntime) -> Result<(), Fail> {
     for (octets, text) in [
@@ -29,27 +33,39 @@ fn rfc4648_section_10(rt: HostRuntime) -> Result<(), Fail> {
     Ok(())
 }
 
+/// The text of octets that are fed in pieces of so many.
+fn fed(rt: &impl Abort, alloc: Global, octets: &[u8], step: usize) -> Result<Vec<u8>, AllocError> {
+    assert!(rt; step > 0);
+    let mut text = Vec::new(alloc);
+    let mut out = [0u8; 5488];
+    let mut writer = B64Writer::start();
+    for piece in octets.chunks(step) {
+        assert!(rt; piece.len() <= 4096);
+        let n = writer.feed(piece, &mut out);
+        text.extend_from_slice(&out[..n])?;
+    }
+    let mut last = [0u8; 4];
+    let n = writer.finish(&mut last);
+    text.extend_from_slice(&last[..n])?;
+    Ok(text)
+}
+
 #[test]
 fn a_text_comes_whole_from_any_pieces(rt: HostRuntime) -> Result<(), Fail> {
     let octets = [0xa5; 100];
     let whole = b64_encode(rt.alloc(), &octets)?;
     for step in 1..12usize {
-        let mut writer = B64Writer::start();
-        let mut text = Vec::new(rt.alloc());
-        let mut out = [0u8; 5488];
-        for piece in octets.chunks(step) {
-            let piece = piece.get(..12).unwrap_or(piece);
-            let n = writer.feed(piece, &mut out);
-            text.extend_from_slice(&out[..n])?;
-        }
-        let mut last = [0u8; 4];
-        let n = writer.finish(&mut last);
-        text.extend_from_slice(&last[..n])?;
+        let text = fed(&rt, rt.alloc(), &octets, step)?;
         assert_eq!(rt; text.as_slice(), whole.as_bytes(), "in steps of {step}");
     }
+    Ok(())
+}
+
+#[test]
+fn a_text_is_appended(rt: HostRuntime) -> Result<(), Fail> {
     let mut text = b64_encode(rt.alloc(), b"foo")?;
     b64_append(&mut text, b"fo")?;
-    assert_eq!(rt; text.as_str(), "Zm9vZm8");
+    expect_octets(&rt, text.as_bytes(), b"Zm9vZm8");
     Ok(())
 }
 
@@ -59,47 +75,49 @@ fn the_alphabet_is_url_safe(rt: HostRuntime) -> Result<(), Fail> {
     let text = b"ABCDEFGHIJKLMNOPQRSTUVWXYZabcdefghijklmnopqrstuvwxyz0123456789-_";
     let octets =
         b"\x00\x10\x83\x10\x51\x87\x20\x92\x8b\x30\xd3\x8f\x41\x14\x93\x51\x55\x97\x61\x96\x9b\x71\xd7\x9f\x82\x18\xa3\x92\x59\xa7\xa2\x9a\xab\xb2\xdb\xaf\xc3\x1c\xb3\xd3\x5d\xb7\xe3\x9e\xbb\xf3\xdf\xbf";
-    assert_eq!(rt; b64_encode(rt.alloc(), octets)?.as_bytes(), text.as_slice());
-    assert_eq!(rt; b64_decode(rt.alloc(), text)?.as_slice(), octets.as_slice());
+    expect_octets(&rt, b64_encode(rt.alloc(), octets)?.as_bytes(), text);
+    expect_octets(&rt, &b64_decode(rt.alloc(), text)?, octets);
     Ok(())
 }
 
+const NOT_STRICT: [&str; 26] = [
+    // Trailing bits, after two characters and after three.
+    "Zh",
+    "ZmB",
+    "-_9",
+    "AB",
+    // Padding.
+    "Zg==",
+    "Zm8=",
+    "Zm9vYg==",
+    "Zg=",
+    "=",
+    "Zm9v=",
+    // A length of 1 modulo 4.
+    "Z",
+    "Zm9vY",
+    "Zm9vYmFyZ",
+    // The other alphabet.
+    "+/8",
+    "-/8",
+    "+_8",
+    // White space and line ends, inside and at the end.
+    "Zm 9v",
+    "Zm\n9v",
+    "Zm9v\n",
+    "Zm9v\r\n",
+    "\tZm9v",
+    "Zm9v ",
+    // Characters of neither alphabet.
+    "Zm.v",
+    "Zm9*",
+    "Zm\u{e9}v",
+    "Zm9v\u{0}",
+];
+
 #[test]
 fn a_text_that_is_not_strict_is_refused(rt: HostRuntime) {
-    for text in [
-        // Trailing bits, after two characters and after three.
-        "Zh",
-        "ZmB",
-        "-_9",
-        "AB",
-        // Padding.
-        "Zg==",
-        "Zm8=",
-        "Zm9vYg==",
-        "Zg=",
-        "=",
-        "Zm9v=",
-        // A length of 1 modulo 4.
-        "Z",
-        "Zm9vY",
-        "Zm9vYmFyZ",
-        // The other alphabet.
-        "+/8",
-        "-/8",
-        "+_8",
-        // White space and line ends, inside and at the end.
-        "Zm 9v",
-        "Zm\n9v",
-        "Zm9v\n",
-        "Zm9v\r\n",
-        "\tZm9v",
-        "Zm9v ",
-        // Characters of neither alphabet.
-        "Zm.v",
-        "Zm9*",
-        "Zm\u{e9}v",
-        "Zm9v\u{0}",
-    ] {
+    for text in NOT_STRICT {
         assert_eq!(rt;
             b64_decode(rt.alloc(), text.as_bytes()).err(),
             Some(Refusal::Base64),
@@ -158,17 +176,31 @@ fn an_input_gives_its_octets_and_then_the_end(rt: HostRuntime) {
     }
 }
 
+/// Each of these octet strings is written by one call, with this result.
+fn expect_writes<O: Output>(
+    rt: &impl Abort,
+    out: &mut O,
+    writes: &[(&[u8], Result<usize, Fault>)],
+) {
+    for (octets, result) in writes {
+        assert_eq!(rt; out.write(octets), *result);
+    }
+}
+
 #[test]
 fn an_output_takes_what_it_has_room_for(rt: HostRuntime) -> Result<(), Fail> {
     let mut out = MemoryOutput::new(rt.alloc(), 5)?;
-    assert_eq!(rt; out.write(b"abc"), Ok(3));
-    assert_eq!(rt; out.write(b""), Ok(0));
-    assert_eq!(rt; out.write(b"def"), Ok(2));
-    assert_eq!(rt; out.write(b"f"), Err(Fault::Writing));
+    let writes: [(&[u8], Result<usize, Fault>); 4] = [
+        (b"abc", Ok(3)),
+        (b"", Ok(0)),
+        (b"def", Ok(2)),
+        (b"f", Err(Fault::Writing)),
+    ];
+    expect_writes(&rt, &mut out, &writes);
     assert!(rt; !out.is_finished());
     assert_eq!(rt; out.finish(), Ok(()));
     assert!(rt; out.is_finished());
-    assert_eq!(rt; out.octets(), b"abcde".as_slice());
+    expect_octets(&rt, out.octets(), b"abcde");
     Ok(())
 }
 
@@ -176,12 +208,15 @@ fn an_output_takes_what_it_has_room_for(rt: HostRuntime) -> Result<(), Fail> {
 fn a_writer_gets_what_an_output_takes(rt: HostRuntime) -> Result<(), Fail> {
     let mut kept = Vec::new(rt.alloc());
     let mut out = WriterOutput::new(&mut kept);
-    assert_eq!(rt; out.write(b"abc"), Ok(3));
-    assert_eq!(rt; out.write(b""), Ok(0));
-    assert_eq!(rt; out.write(b"de"), Ok(2));
+    let writes: [(&[u8], Result<usize, Fault>); 3] = [
+        (b"abc", Ok(3)),
+        (b"", Ok(0)),
+        (b"de", Ok(2)),
+    ];
+    expect_writes(&rt, &mut out, &writes);
     assert_eq!(rt; out.finish(), Ok(()));
     drop(out);
-    assert_eq!(rt; kept.as_slice(), b"abcde".as_slice());
+    expect_octets(&rt, &kept, b"abcde");
     Ok(())
 }
 
@@ -295,35 +330,43 @@ fn repeated(
     Ok(all)
 }
 
+/// A read into so many octets gives these.
+fn expect_read<I: Input>(rt: &impl Abort, input: &mut I, len: usize, octets: &[u8]) {
+    let mut place = [0u8; 4];
+    assert!(rt; len <= 4 && octets.len() <= 4);
+    assert_eq!(rt; input.read(&mut place[..len]), Ok(octets.len()));
+    expect_octets(rt, &place[..octets.len()], octets);
+}
+
 #[test]
-fn an_interrupted_and_slow_device_is_no_fault(rt: HostRuntime) -> Result<(), Fail> {
+fn an_interrupted_and_slow_reader_is_no_fault(rt: HostRuntime) {
     let mut input = ReaderInput::new(Slow::new(rt.alloc(), b"abcdef"));
-    assert_eq!(rt; input.read(&mut []), Ok(0));
-    let mut octet = [0u8; 1];
-    assert_eq!(rt; input.read(&mut octet), Ok(1));
-    assert_eq!(rt; octet, *b"a");
-    assert_eq!(rt; next_four(&mut input), (Ok(1), *b"b\0\0\0"));
+    expect_read(&rt, &mut input, 0, b"");
+    expect_read(&rt, &mut input, 1, b"a");
+    expect_read(&rt, &mut input, 4, b"b");
     let mut octets = [0u8; 4];
     assert_eq!(rt; draw(&mut input, &mut octets), Ok(()));
-    assert_eq!(rt; octets, *b"cdef");
-    assert_eq!(rt; input.read(&mut octets), Ok(0));
+    expect_octets(&rt, &octets, b"cdef");
+    expect_read(&rt, &mut input, 4, b"");
+}
 
+#[test]
+fn an_interrupted_and_slow_writer_is_no_fault(rt: HostRuntime) -> Result<(), Fail> {
     let hundred = repeated(rt.alloc(), b"foo", 33, b"f")?;
     let many = repeated(rt.alloc(), b"foo", 33_333, b"f")?;
     let mut writer = Slow::new(rt.alloc(), b"");
     let mut out = WriterOutput::new(&mut writer);
-    assert_eq!(rt; out.write(b""), Ok(0));
-    assert_eq!(rt; out.write(b"f"), Ok(1));
-    assert_eq!(rt; out.write(b"oo"), Ok(1));
-    assert_eq!(rt; write_whole(&mut out, b"o"), Ok(()));
-    assert_eq!(rt; write_whole(&mut out, &hundred), Ok(()));
-    assert_eq!(rt; write_whole(&mut out, b"oo"), Ok(()));
-    assert_eq!(rt; write_whole(&mut out, &many), Ok(()));
+    let writes: [(&[u8], Result<usize, Fault>); 3] = [(b"", Ok(0)), (b"f", Ok(1)), (b"oo", Ok(1))];
+    expect_writes(&rt, &mut out, &writes);
+    let wholes: [&[u8]; 4] = [b"o", &hundred, b"oo", &many];
+    for octets in wholes {
+        assert_eq!(rt; write_whole(&mut out, octets), Ok(()));
+    }
     assert_eq!(rt; out.finish(), Ok(()));
     drop(out);
     assert!(rt; writer.is_flushed);
     let all = repeated(rt.alloc(), b"foo", 33_368, b"f")?;
-    assert_eq!(rt; writer.taken.as_slice(), all.as_slice());
+    expect_octets(&rt, &writer.taken, &all);
     Ok(())
 }
 
@@ -332,99 +375,113 @@ fn an_interrupted_and_slow_device_is_no_fault(rt: HostRuntime) -> Result<(), Fai
 fn long_octets_have_their_text(rt: HostRuntime) -> Result<(), Fail> {
     let octets = repeated(rt.alloc(), b"foo", 23_333, b"f")?;
     let text = repeated(rt.alloc(), b"Zm9v", 23_333, b"Zg")?;
-    let mut encoded = b64_encode(rt.alloc(), &octets)?;
-    assert_eq!(rt; encoded.as_bytes(), text.as_slice());
-    assert_eq!(rt;
-        b64_decode(rt.alloc(), &text)?.as_slice(),
-        octets.as_slice()
-    );
-    let mut writer = B64Writer::start();
-    let mut written = Vec::new(rt.alloc());
-    let mut out = [0u8; 5488];
-    let mut rest = octets.as_slice();
-    for _ in 0..18 {
-        let n = rest.len().min(4000);
-        let len = writer.feed(&rest[..n], &mut out);
-        written.extend_from_slice(&out[..len])?;
-        rest = &rest[n..];
-    }
-    let mut last = [0u8; 4];
-    let len = writer.finish(&mut last);
-    written.extend_from_slice(&last[..len])?;
-    assert_eq!(rt; written.as_slice(), text.as_slice());
-    b64_append(&mut encoded, &octets)?;
-    written.extend_from_slice(&text)?;
-    assert_eq!(rt; encoded.as_bytes(), written.as_slice());
+    expect_octets(&rt, b64_encode(rt.alloc(), &octets)?.as_bytes(), &text);
+    expect_octets(&rt, &b64_decode(rt.alloc(), &text)?, &octets);
+    expect_octets(&rt, &fed(&rt, rt.alloc(), &octets, 4000)?, &text);
+    let mut all = String::from_str(rt.alloc(), "Zm9v")?;
+    b64_append(&mut all, &octets)?;
+    let text = repeated(rt.alloc(), b"Zm9v", 23_334, b"Zg")?;
+    expect_octets(&rt, all.as_bytes(), &text);
     Ok(())
 }
 
 #[test]
-fn long_octets_are_read_written_added_and_compared(rt: HostRuntime) -> Result<(), Fail> {
+fn long_octets_are_read(rt: HostRuntime) -> Result<(), Fail> {
     let octets = repeated(rt.alloc(), b"foo", 23_333, b"f")?;
     for step in [1, 4096, 70_000usize] {
         let mut input = MemoryInput::new(&octets, step);
-        assert_eq!(rt;
-            read_to_end(rt.alloc(), &mut input)?.as_slice(),
-            octets.as_slice()
-        );
+        expect_octets(&rt, &read_to_end(rt.alloc(), &mut input)?, &octets);
     }
     let mut input = ReaderInput::new(Slow::new(rt.alloc(), &octets));
-    assert_eq!(rt;
-        read_to_end(rt.alloc(), &mut input)?.as_slice(),
-        octets.as_slice()
-    );
-    let mut out = MemoryOutput::new(rt.alloc(), 140_000)?;
-    assert_eq!(rt; write_whole(&mut out, &octets), Ok(()));
-    assert_eq!(rt; out.octets(), octets.as_slice());
-    assert_eq!(rt; emit(&mut out, &octets), Ok(()));
-    let twice = repeated(rt.alloc(), &octets, 2, b"")?;
-    assert_eq!(rt; out.octets(), twice.as_slice());
-    let mut other = repeated(rt.alloc(), b"oof", 23_333, b"o")?;
-    assert_eq!(rt; same_octets(&octets, &other), false);
-    let n = octets.len().min(other.len());
-    xor_into(&mut other[..n], &octets[..n]);
-    // 'o' ^ 'f' is 9.
-    let sum = repeated(rt.alloc(), b"\x09\x00\x09", 23_333, b"\x09")?;
-    assert_eq!(rt; other.as_slice(), sum.as_slice());
-    assert_eq!(rt; same_octets(&other, &sum), true);
+    expect_octets(&rt, &read_to_end(rt.alloc(), &mut input)?, &octets);
     Ok(())
 }
 
-/// Each call that grows, with its answer. A growth may be refused: then the answer is `Memory`, and
-/// what was lent is as it was.
-fn grows<R: Abort + AllocGlobal>(rt: &R, may_be_refused: bool) {
-    let alloc = rt.alloc();
-    match b64_encode(alloc, b"foobar") {
-        Ok(text) => assert_eq!(rt; text.as_str(), "Zm9vYmFy"),
-        Err(refusal) => assert!(rt; may_be_refused && refusal == Refusal::Memory),
+#[test]
+fn long_octets_are_written(rt: HostRuntime) -> Result<(), Fail> {
+    let octets = repeated(rt.alloc(), b"foo", 23_333, b"f")?;
+    let mut out = MemoryOutput::new(rt.alloc(), 140_000)?;
+    assert_eq!(rt; write_whole(&mut out, &octets), Ok(()));
+    expect_octets(&rt, out.octets(), &octets);
+    assert_eq!(rt; emit(&mut out, &octets), Ok(()));
+    expect_octets(&rt, out.octets(), &repeated(rt.alloc(), &octets, 2, b"")?);
+    Ok(())
+}
+
+#[test]
+fn long_octets_are_added_and_compared(rt: HostRuntime) -> Result<(), Fail> {
+    let octets = repeated(rt.alloc(), b"foo", 23_333, b"f")?;
+    let mut other = repeated(rt.alloc(), b"oof", 23_333, b"o")?;
+    assert!(rt; !same_octets(&octets, &other));
+    assert!(rt; octets.len() == other.len());
+    xor_into(&mut other, &octets);
+    // 'o' ^ 'f' is 9.
+    let sum = repeated(rt.alloc(), b"\x09\x00\x09", 23_333, b"\x09")?;
+    expect_octets(&rt, &other, &sum);
+    assert!(rt; same_octets(&other, &sum));
+    Ok(())
+}
+
+/// A growth may be refused: then the answer is `Memory`.
+fn expect_memory(rt: &impl Abort, refusal: Refusal, may_be_refused: bool) {
+    assert!(rt; may_be_refused && refusal == Refusal::Memory);
+}
+
+fn encoding_grows<R: Abort + AllocGlobal>(rt: &R, may_be_refused: bool) {
+    match b64_encode(rt.alloc(), b"foobar") {
+        Ok(text) => expect_octets(rt, text.as_bytes(), b"Zm9vYmFy"),
+        Err(refusal) => expect_memory(rt, refusal, may_be_refused),
     }
-    match b64_decode(alloc, b"Zm9vYmFy") {
-        Ok(octets) => assert_eq!(rt; octets.as_slice(), b"foobar".as_slice()),
-        Err(refusal) => assert!(rt; may_be_refused && refusal == Refusal::Memory),
+}
+
+fn decoding_grows<R: Abort + AllocGlobal>(rt: &R, may_be_refused: bool) {
+    match b64_decode(rt.alloc(), b"Zm9vYmFy") {
+        Ok(octets) => expect_octets(rt, &octets, b"foobar"),
+        Err(refusal) => expect_memory(rt, refusal, may_be_refused),
     }
-    let refusal = b64_decode(alloc, b"Zm9vYmF").err();
+    let refusal = b64_decode(rt.alloc(), b"Zm9vYmF").err();
     assert!(rt;
         refusal == Some(Refusal::Base64) || may_be_refused && refusal == Some(Refusal::Memory)
     );
+}
+
+/// What was lent is as it was where the growth is refused.
+fn appending_grows<R: Abort + AllocGlobal>(rt: &R, may_be_refused: bool) {
+    if let Ok(mut text) = String::from_str(rt.alloc(), "foo") {
+        let wanted = match b64_append(&mut text, b"foobar") {
+            Ok(()) => "fooZm9vYmFy",
+            Err(refusal) => {
+                expect_memory(rt, refusal, may_be_refused);
+                "foo"
+            }
+        };
+        expect_octets(rt, text.as_bytes(), wanted.as_bytes());
+    }
+}
+
+fn reading_grows<R: Abort + AllocGlobal>(rt: &R, may_be_refused: bool) {
     let content = [7u8; 10_000];
     let mut input = MemoryInput::new(&content, 5000);
-    match read_to_end(alloc, &mut input) {
-        Ok(octets) => assert_eq!(rt; octets.as_slice(), content.as_slice()),
-        Err(refusal) => assert!(rt; may_be_refused && refusal == Refusal::Memory),
+    match read_to_end(rt.alloc(), &mut input) {
+        Ok(octets) => expect_octets(rt, &octets, &content),
+        Err(refusal) => expect_memory(rt, refusal, may_be_refused),
     }
-    if let Ok(mut text) = String::from_str(alloc, "foo") {
-        match b64_append(&mut text, b"foobar") {
-            Ok(()) => assert_eq!(rt; text.as_str(), "fooZm9vYmFy"),
-            Err(refusal) => {
-                assert!(rt; may_be_refused && refusal == Refusal::Memory);
-                assert_eq!(rt; text.as_str(), "foo");
-            }
-        }
+}
+
+fn an_output_grows<R: Abort + AllocGlobal>(rt: &R, may_be_refused: bool) {
+    match MemoryOutput::new(rt.alloc(), 10) {
+        Ok(out) => expect_octets(rt, out.octets(), b""),
+        Err(refusal) => expect_memory(rt, refusal, may_be_refused),
     }
-    match MemoryOutput::new(alloc, 10) {
-        Ok(out) => assert_eq!(rt; out.octets(), b"".as_slice()),
-        Err(refusal) => assert!(rt; may_be_refused && refusal == Refusal::Memory),
-    }
+}
+
+/// Each call that grows, with its answer.
+fn grows<R: Abort + AllocGlobal>(rt: &R, may_be_refused: bool) {
+    encoding_grows(rt, may_be_refused);
+    decoding_grows(rt, may_be_refused);
+    reading_grows(rt, may_be_refused);
+    appending_grows(rt, may_be_refused);
+    an_output_grows(rt, may_be_refused);
 }
 
 #[test]
@@ -442,8 +499,24 @@ fn all_of_a_text_goes_out_or_partial_tells_how_much(rt: HostRuntime) -> Result<(
     let mut out = MemoryOutput::new(rt.alloc(), 5)?;
     assert_eq!(rt; write_whole(&mut out, b"abc"), Ok(()));
     assert_eq!(rt; write_whole(&mut out, b"defg"), Err(Partial { written: 2 }));
-    assert_eq!(rt; out.octets(), b"abcde".as_slice());
+    expect_octets(&rt, out.octets(), b"abcde");
     Ok(())
+}
+
+/// A draw of so many octets, which leaves this in five that were zero.
+fn expect_draw(
+    rt: &impl Abort,
+    random: &[u8],
+    len: usize,
+    step: usize,
+    answer: Result<(), Refusal>,
+    filled: &[u8],
+) {
+    assert!(rt; len <= 5 && step > 0);
+    let mut random = MemoryInput::new(random, step);
+    let mut out = [0u8; 5];
+    assert_eq!(rt; draw(&mut random, &mut out[..len]), answer);
+    expect_octets(rt, &out, filled);
 }
 
 #[test]
@@ -457,15 +530,12 @@ fn draws_are_filled_or_refused(rt: HostRuntime) {
         ("", 1, 1, Err(Refusal::Random), "\0\0\0\0\0"),
         ("", 0, 1, Ok(()), "\0\0\0\0\0"),
     ] {
-        let mut random = MemoryInput::new(octets.as_bytes(), step);
-        let mut out = [0u8; 5];
-        assert_eq!(rt;
-            draw(&mut random, &mut out[..len]),
-            result,
-            "{len} of {octets}"
-        );
-        assert_eq!(rt; out.as_slice(), filled.as_bytes());
+        expect_draw(&rt, octets.as_bytes(), len, step, result, filled.as_bytes());
     }
+}
+
+#[test]
+fn a_draw_takes_what_it_draws(rt: HostRuntime) {
     let mut octets = [0u8; 2];
     assert_eq!(rt;
         draw(&mut ReaderInput::new(Broken), &mut octets),
@@ -473,18 +543,23 @@ fn draws_are_filled_or_refused(rt: HostRuntime) {
     );
     let mut random = MemoryInput::new(b"abc", 1);
     assert_eq!(rt; draw(&mut random, &mut octets), Ok(()));
-    assert_eq!(rt; next_four(&mut random), (Ok(1), *b"c\0\0\0"));
+    expect_read(&rt, &mut random, 4, b"c");
 }
 
 #[test]
 fn octet_strings_are_added_and_compared(rt: HostRuntime) {
     let mut octets = *b"\x00\x0f\xff";
     xor_into(&mut octets, b"\xf0\xff\xff");
-    assert_eq!(rt; octets, *b"\xf0\xf0\x00");
+    expect_octets(&rt, &octets, b"\xf0\xf0\x00");
     xor_into(&mut octets[..0], b"");
-    assert_eq!(rt; same_octets(&octets, b"\xf0\xf0\x00"), true);
-    assert_eq!(rt; same_octets(&octets, b"\xf1\xf0\x00"), false);
-    assert_eq!(rt; same_octets(&octets, b"\xf0\xf0\x01"), false);
-    assert_eq!(rt; same_octets(&octets, b"\xf0\xf0"), false);
-    assert_eq!(rt; same_octets(b"", b""), true);
+    let others: [(&[u8], bool); 4] = [
+        (b"\xf0\xf0\x00", true),
+        (b"\xf1\xf0\x00", false),
+        (b"\xf0\xf0\x01", false),
+        (b"\xf0\xf0", false),
+    ];
+    for (other, is_same) in others {
+        assert_eq!(rt; same_octets(&octets, other), is_same);
+    }
+    assert!(rt; same_octets(b"", b""));
 }

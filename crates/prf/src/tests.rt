@@ -4,41 +4,64 @@ ghost use Rattle.std.specs.Prelude.{◌≤◌, length};
 use crate::{Hash, HashAlg, Hmac, Sha256, Sha384, Sha512, digest, pbkdf2};
 use std::process::Abort;
 
-/// The code of the text, whole and in two pieces, is this one.
-fn expect_code<H: Hash>(rt: &impl Abort, key: &[u8], text: &[u8], code: &[u8]) {
-    let (first, second) = text.split_at(text.len() / 3);
-    for (first, second) in [(text, b"".as_slice()), (first, second)] {
-        let mut mac = Hmac::<H>::new(key);
-        mac.update(first);
-        mac.update(second);
-        let mut out = [0u8; 64];
-        let len = mac.finish(&mut out);
-        assert_eq!(rt; out[..len], *code);
-    }
+/// The octets begin with so many that are these.
+pub(crate) fn expect_front(rt: &impl Abort, octets: &[u8; 64], len: usize, wanted: &[u8]) {
+    assert!(rt; len <= 64);
+    assert_eq!(rt; octets[..len], *wanted);
 }
 
-/// The keys and texts of RFC 4231, cases 1 to 4, 6 and 7, with these codes. In the last two cases the key is longer
-/// than a block.
+/// The code of what was taken is this one.
+pub(crate) fn expect_end<H: Hash>(rt: &impl Abort, mac: Hmac<H>, code: &[u8]) {
+    let mut out = [0u8; 64];
+    let len = mac.finish(&mut out);
+    expect_front(rt, &out, len, code);
+}
+
+/// The code of both pieces together is this one.
+fn expect_code_of_two<H: Hash>(
+    rt: &impl Abort,
+    key: &[u8],
+    first: &[u8],
+    second: &[u8],
+    code: &[u8],
+) {
+    let mut mac = Hmac::<H>::new(key);
+    mac.update(first);
+    mac.update(second);
+    expect_end(rt, mac, code);
+}
+
+/// The code of the text, whole and in two pieces, is this one.
+fn expect_code<H: Hash>(rt: &impl Abort, key: &[u8], text: &[u8], code: &[u8]) {
+    expect_code_of_two::<H>(rt, key, text, b"", code);
+    let (first, second) = text.split_at(text.len() / 3);
+    expect_code_of_two::<H>(rt, key, first, second, code);
+}
+
+/// The keys and texts of RFC 4231, cases 1 to 4, 6 and 7. In the last two cases the key is longer than a block.
+const CASES: [(&[u8], &[u8]); 6] = [
+    (&[0x0b; 20], b"Hi There"),
+    (b"Jefe", b"what do ya want for nothing?"),
+    (&[0xaa; 20], &[0xdd; 50]),
+    (
+        b"\x01\x02\x03\x04\x05\x06\x07\x08\x09\x0a\x0b\x0c\x0d\x0e\x0f\x10\x11\x12\x13\x14\x15\x16\x17\x18\x19",
+        &[0xcd; 50],
+    ),
+    (
+        &[0xaa; 131],
+        b"Test Using Larger Than Block-Size Key - Hash Key First",
+    ),
+    (
+        &[0xaa; 131],
+        b"This is a test using a larger than block-size key and a larger than block-size data. The key needs to be hashed before being used by the HMAC algorithm.",
+    ),
+];
+
+/// The cases have these codes.
 fn expect_codes<H: Hash>(rt: &impl Abort, codes: [&[u8]; 6]) {
-    let long_key = [0xaa; 131];
-    let counting_key =
-        b"\x01\x02\x03\x04\x05\x06\x07\x08\x09\x0a\x0b\x0c\x0d\x0e\x0f\x10\x11\x12\x13\x14\x15\x16\x17\x18\x19";
-    let cases: [(&[u8], &[u8]); 6] = [
-        (&[0x0b; 20], b"Hi There"),
-        (b"Jefe", b"what do ya want for nothing?"),
-        (&[0xaa; 20], &[0xdd; 50]),
-        (counting_key, &[0xcd; 50]),
-        (
-            &long_key,
-            b"Test Using Larger Than Block-Size Key - Hash Key First",
-        ),
-        (
-            &long_key,
-            b"This is a test using a larger than block-size key and a larger than block-size data. The key needs to be hashed before being used by the HMAC algorithm.",
-        ),
-    ];
-    for ((key, text), code) in cases.into_iter().zip(codes) {
-        expect_code::<H>(rt, key, text, code);
+    for i in 0..6_usize {
+        let (key, text) = CASES[i];
+        expect_code::<H>(rt, key, text, codes[i]);
     }
 }
 
@@ -90,57 +113,66 @@ fn rfc4231_hmac_sha_512(rt: HostRuntime) {
     assert_eq!(rt; (Sha512::block_len(), Sha512::output_len()), (128, 64));
 }
 
-/// The messages of FIPS 180-4's examples: the empty one, one of 24 bits and one of 448.
+/// The digests of FIPS 180-4's messages: the empty one, one of 24 bits and one of 448.
+const DIGESTS: [(HashAlg, &[u8], &[u8], &[u8]); 4] = [
+    (
+        HashAlg::S224,
+        b"\xd1\x4a\x02\x8c\x2a\x3a\x2b\xc9\x47\x61\x02\xbb\x28\x82\x34\xc4\x15\xa2\xb0\x1f\x82\x8e\xa6\x2a\xc5\xb3\xe4\x2f",
+        b"\x23\x09\x7d\x22\x34\x05\xd8\x22\x86\x42\xa4\x77\xbd\xa2\x55\xb3\x2a\xad\xbc\xe4\xbd\xa0\xb3\xf7\xe3\x6c\x9d\xa7",
+        b"\x75\x38\x8b\x16\x51\x27\x76\xcc\x5d\xba\x5d\xa1\xfd\x89\x01\x50\xb0\xc6\x45\x5c\xb4\xf5\x8b\x19\x52\x52\x25\x25",
+    ),
+    (
+        HashAlg::S256,
+        b"\xe3\xb0\xc4\x42\x98\xfc\x1c\x14\x9a\xfb\xf4\xc8\x99\x6f\xb9\x24\x27\xae\x41\xe4\x64\x9b\x93\x4c\xa4\x95\x99\x1b\x78\x52\xb8\x55",
+        b"\xba\x78\x16\xbf\x8f\x01\xcf\xea\x41\x41\x40\xde\x5d\xae\x22\x23\xb0\x03\x61\xa3\x96\x17\x7a\x9c\xb4\x10\xff\x61\xf2\x00\x15\xad",
+        b"\x24\x8d\x6a\x61\xd2\x06\x38\xb8\xe5\xc0\x26\x93\x0c\x3e\x60\x39\xa3\x3c\xe4\x59\x64\xff\x21\x67\xf6\xec\xed\xd4\x19\xdb\x06\xc1",
+    ),
+    (
+        HashAlg::S384,
+        b"\x38\xb0\x60\xa7\x51\xac\x96\x38\x4c\xd9\x32\x7e\xb1\xb1\xe3\x6a\x21\xfd\xb7\x11\x14\xbe\x07\x43\x4c\x0c\xc7\xbf\x63\xf6\xe1\xda\x27\x4e\xde\xbf\xe7\x6f\x65\xfb\xd5\x1a\xd2\xf1\x48\x98\xb9\x5b",
+        b"\xcb\x00\x75\x3f\x45\xa3\x5e\x8b\xb5\xa0\x3d\x69\x9a\xc6\x50\x07\x27\x2c\x32\xab\x0e\xde\xd1\x63\x1a\x8b\x60\x5a\x43\xff\x5b\xed\x80\x86\x07\x2b\xa1\xe7\xcc\x23\x58\xba\xec\xa1\x34\xc8\x25\xa7",
+        b"\x33\x91\xfd\xdd\xfc\x8d\xc7\x39\x37\x07\xa6\x5b\x1b\x47\x09\x39\x7c\xf8\xb1\xd1\x62\xaf\x05\xab\xfe\x8f\x45\x0d\xe5\xf3\x6b\xc6\xb0\x45\x5a\x85\x20\xbc\x4e\x6f\x5f\xe9\x5b\x1f\xe3\xc8\x45\x2b",
+    ),
+    (
+        HashAlg::S512,
+        b"\xcf\x83\xe1\x35\x7e\xef\xb8\xbd\xf1\x54\x28\x50\xd6\x6d\x80\x07\xd6\x20\xe4\x05\x0b\x57\x15\xdc\x83\xf4\xa9\x21\xd3\x6c\xe9\xce\x47\xd0\xd1\x3c\x5d\x85\xf2\xb0\xff\x83\x18\xd2\x87\x7e\xec\x2f\x63\xb9\x31\xbd\x47\x41\x7a\x81\xa5\x38\x32\x7a\xf9\x27\xda\x3e",
+        b"\xdd\xaf\x35\xa1\x93\x61\x7a\xba\xcc\x41\x73\x49\xae\x20\x41\x31\x12\xe6\xfa\x4e\x89\xa9\x7e\xa2\x0a\x9e\xee\xe6\x4b\x55\xd3\x9a\x21\x92\x99\x2a\x27\x4f\xc1\xa8\x36\xba\x3c\x23\xa3\xfe\xeb\xbd\x45\x4d\x44\x23\x64\x3c\xe8\x0e\x2a\x9a\xc9\x4f\xa5\x4c\xa4\x9f",
+        b"\x20\x4a\x8f\xc6\xdd\xa8\x2f\x0a\x0c\xed\x7b\xeb\x8e\x08\xa4\x16\x57\xc1\x6e\xf4\x68\xb2\x28\xa8\x27\x9b\xe3\x31\xa7\x03\xc3\x35\x96\xfd\x15\xc1\x3b\x1b\x07\xf9\xaa\x1d\x3b\xea\x57\x78\x9c\xa0\x31\xad\x85\xc7\xa7\x1d\xd7\x03\x54\xec\x63\x12\x38\xca\x34\x45",
+    ),
+];
+
+fn expect_digest(rt: &impl Abort, hash: HashAlg, message: &[u8], expected: &[u8]) {
+    let mut out = [0u8; 64];
+    let len = digest(hash, message, &mut out);
+    expect_front(rt, &out, len, expected);
+}
+
 #[test]
 fn fips_180_4_digests(rt: HostRuntime) {
-    let messages = [
-        "",
-        "abc",
-        "abcdbcdecdefdefgefghfghighijhijkijkljklmklmnlmnomnopnopq",
-    ];
-    for (hash, digests) in [
-        (
-            HashAlg::S224,
-            [
-                b"\xd1\x4a\x02\x8c\x2a\x3a\x2b\xc9\x47\x61\x02\xbb\x28\x82\x34\xc4\x15\xa2\xb0\x1f\x82\x8e\xa6\x2a\xc5\xb3\xe4\x2f".as_slice(),
-                b"\x23\x09\x7d\x22\x34\x05\xd8\x22\x86\x42\xa4\x77\xbd\xa2\x55\xb3\x2a\xad\xbc\xe4\xbd\xa0\xb3\xf7\xe3\x6c\x9d\xa7".as_slice(),
-                b"\x75\x38\x8b\x16\x51\x27\x76\xcc\x5d\xba\x5d\xa1\xfd\x89\x01\x50\xb0\xc6\x45\x5c\xb4\xf5\x8b\x19\x52\x52\x25\x25".as_slice(),
-            ],
-        ),
-        (
-            HashAlg::S256,
-            [
-                b"\xe3\xb0\xc4\x42\x98\xfc\x1c\x14\x9a\xfb\xf4\xc8\x99\x6f\xb9\x24\x27\xae\x41\xe4\x64\x9b\x93\x4c\xa4\x95\x99\x1b\x78\x52\xb8\x55".as_slice(),
-                b"\xba\x78\x16\xbf\x8f\x01\xcf\xea\x41\x41\x40\xde\x5d\xae\x22\x23\xb0\x03\x61\xa3\x96\x17\x7a\x9c\xb4\x10\xff\x61\xf2\x00\x15\xad".as_slice(),
-                b"\x24\x8d\x6a\x61\xd2\x06\x38\xb8\xe5\xc0\x26\x93\x0c\x3e\x60\x39\xa3\x3c\xe4\x59\x64\xff\x21\x67\xf6\xec\xed\xd4\x19\xdb\x06\xc1".as_slice(),
-            ],
-        ),
-        (
-            HashAlg::S384,
-            [
-                b"\x38\xb0\x60\xa7\x51\xac\x96\x38\x4c\xd9\x32\x7e\xb1\xb1\xe3\x6a\x21\xfd\xb7\x11\x14\xbe\x07\x43\x4c\x0c\xc7\xbf\x63\xf6\xe1\xda\x27\x4e\xde\xbf\xe7\x6f\x65\xfb\xd5\x1a\xd2\xf1\x48\x98\xb9\x5b".as_slice(),
-                b"\xcb\x00\x75\x3f\x45\xa3\x5e\x8b\xb5\xa0\x3d\x69\x9a\xc6\x50\x07\x27\x2c\x32\xab\x0e\xde\xd1\x63\x1a\x8b\x60\x5a\x43\xff\x5b\xed\x80\x86\x07\x2b\xa1\xe7\xcc\x23\x58\xba\xec\xa1\x34\xc8\x25\xa7".as_slice(),
-                b"\x33\x91\xfd\xdd\xfc\x8d\xc7\x39\x37\x07\xa6\x5b\x1b\x47\x09\x39\x7c\xf8\xb1\xd1\x62\xaf\x05\xab\xfe\x8f\x45\x0d\xe5\xf3\x6b\xc6\xb0\x45\x5a\x85\x20\xbc\x4e\x6f\x5f\xe9\x5b\x1f\xe3\xc8\x45\x2b".as_slice(),
-            ],
-        ),
-        (
-            HashAlg::S512,
-            [
-                b"\xcf\x83\xe1\x35\x7e\xef\xb8\xbd\xf1\x54\x28\x50\xd6\x6d\x80\x07\xd6\x20\xe4\x05\x0b\x57\x15\xdc\x83\xf4\xa9\x21\xd3\x6c\xe9\xce\x47\xd0\xd1\x3c\x5d\x85\xf2\xb0\xff\x83\x18\xd2\x87\x7e\xec\x2f\x63\xb9\x31\xbd\x47\x41\x7a\x81\xa5\x38\x32\x7a\xf9\x27\xda\x3e".as_slice(),
-                b"\xdd\xaf\x35\xa1\x93\x61\x7a\xba\xcc\x41\x73\x49\xae\x20\x41\x31\x12\xe6\xfa\x4e\x89\xa9\x7e\xa2\x0a\x9e\xee\xe6\x4b\x55\xd3\x9a\x21\x92\x99\x2a\x27\x4f\xc1\xa8\x36\xba\x3c\x23\xa3\xfe\xeb\xbd\x45\x4d\x44\x23\x64\x3c\xe8\x0e\x2a\x9a\xc9\x4f\xa5\x4c\xa4\x9f".as_slice(),
-                b"\x20\x4a\x8f\xc6\xdd\xa8\x2f\x0a\x0c\xed\x7b\xeb\x8e\x08\xa4\x16\x57\xc1\x6e\xf4\x68\xb2\x28\xa8\x27\x9b\xe3\x31\xa7\x03\xc3\x35\x96\xfd\x15\xc1\x3b\x1b\x07\xf9\xaa\x1d\x3b\xea\x57\x78\x9c\xa0\x31\xad\x85\xc7\xa7\x1d\xd7\x03\x54\xec\x63\x12\x38\xca\x34\x45".as_slice(),
-            ],
-        ),
-    ] {
-        for (message, expected) in messages.into_iter().zip(digests) {
-            let mut out = [0u8; 64];
-            let len = digest(hash, message.as_bytes(), &mut out);
-            assert_eq!(rt; out[..len], *expected, "{hash:?} of {message}");
-        }
+    for (hash, empty, short, long) in DIGESTS {
+        expect_digest(&rt, hash, b"", empty);
+        expect_digest(&rt, hash, b"abc", short);
+        expect_digest(
+            &rt,
+            hash,
+            b"abcdbcdecdefdefgefghfghighijhijkijkljklmklmnlmnomnopnopq",
+            long,
+        );
     }
 }
 
-/// The key of this password and salt, however the salt is cut in two, and how many HMAC calls it takes.
+/// The key of this password and salt in two parts, and how many HMAC calls it takes.
+fn expect_key_of_two<H: Hash>(rt: &impl Abort, salt: [&[u8]; 2], count: u32, key: &[u8], calls: u64)
+    requires iterated { 1 ≤ count }
+    requires fits { length key.now ≤ 64 }
+{
+    let mut out = [0u8; 64];
+    let found = pbkdf2::<H>(b"password", salt, count, &mut out[..key.len()]);
+    assert_eq!(rt; found, calls);
+    expect_front(rt, &out, key.len(), key);
+}
+
+/// The same key however the salt is cut in two, where that does not take long.
 fn expect_key<H: Hash>(rt: &impl Abort, count: u32, key: &[u8], calls: u64)
     requires iterated { 1 ≤ count }
     requires fits { length key.now ≤ 64 }
@@ -148,13 +180,7 @@ fn expect_key<H: Hash>(rt: &impl Abort, count: u32, key: &[u8], calls: u64)
     let cuts = if count < 10 { 5 } else { 1 };
     for at in 0..cuts {
         let (first, second) = b"salt".split_at(at);
-        let mut out = [0u8; 64];
-        let out = &mut out[..key.len()];
-        assert_eq!(rt;
-            pbkdf2::<H>(b"password", [first, second], count, out),
-            calls
-        );
-        assert_eq!(rt; &*out, key);
+        expect_key_of_two::<H>(rt, [first, second], count, key, calls);
     }
 }
 

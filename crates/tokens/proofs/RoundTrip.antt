@@ -28,18 +28,19 @@ use Rattle.keys.specs.declared.operation.Operation.TheVariants.{Sign, Verify}
 use Rattle.keys.specs.Algorithms.{signature_name, signature_alg_of}
 use Rattle.keys.specs.Json.{json_value, is_object, has_only}
 use Rattle.keys.specs.JsonTexts.{IsJson, AreJsonMembers}
+use Rattle.keys.specs.Limits.{limits}
 use Rattle.keys.specs.Keys.{OctetKey, allows, fits}
 use Rattle.keys.proofs.CompactTexts.{text_is_utf8}
 use Rattle.keys.proofs.JsonParts.{keep_json}
 use Rattle.keys.proofs.ReadingBack.{reads_back}
 use Rattle.keys.proofs.UrlTexts.{url_texts_are_json}
 use Rattle.keys.proofs.ValuesRead.{reads_json}
-use Rattle.objects.specs.Headers.{overlap, all_members, are_disjoint, joint_header, string_parameter, if_there, protected_members, members_of_json}
+use Rattle.objects.specs.Headers.{header_at, members_if_there, some_members, overlap, all_members, are_disjoint, joint_header, string_parameter, if_there, protected_members, members_of_json}
 use Rattle.objects.specs.Jws.{CompactParts, AreOctets, SpellsCompact, compact_text as jws_text, compact_parts, is_json_space, is_json_form, header_alg, signed_object}
 use Rattle.objects.proofs.CompactTexts.{parts_of_spelled}
 use Rattle.objects.proofs.Names.{has_all_members}
 use Rattle.tokens.specs.Signatures.{signature_of, supported}
-use Rattle.tokens.specs.Template.{SignatureTemplate, members_at, members_if_there, some_members, template_headers, template_of, named_alg, some_alg, supported_if_there, with_alg, header_text, is_shallow, is_empty, compact_header}
+use Rattle.tokens.specs.Template.{SignatureTemplate, template_headers, template_of, named_alg, some_alg, supported_if_there, with_alg, header_text, is_shallow, is_empty, compact_header}
 use Rattle.tokens.specs.Signing.{Signer, chosen_alg, only_key, signer_by, signer_of, signed, plan_by, signing_by}
 use Rattle.tokens.specs.Verifying.{verified_payload, verifying_by, SignedVerifies}
 
@@ -288,7 +289,7 @@ record ReadsBack (m : Members) : Type 0 where
   members : protected_members (header_text m) ≡ Ok m
   octets : IsOctets (header_text m)
 
-read_back : (m : Members) (name : List ℕ) → Names m name → AreJsonMembers m → is_shallow m ≡ true → ReadsBack m
+read_back : (m : Members) (name : List ℕ) → Names m name → AreJsonMembers m → is_shallow limits m ≡ true → ReadsBack m
 unfolding protected_members members_of_json string_parameter
 read_back no_members name names json shallow = let none = names.alg in cc none
 read_back (member k value rest) name names json shallow =
@@ -318,8 +319,8 @@ same_bytes x = search rules
 
 -- ---- what the template's text says
 
-members_json : (d : Data) (name : List ℕ) (m : Members) → IsJson d → members_at name d ≡ Ok m → AreJsonMembers m
-unfolding members_at
+members_json : (d : Data) (name : List ℕ) (m : Members) → IsJson d → header_at name d ≡ Ok m → AreJsonMembers m
+unfolding header_at
 members_json d name m json h = by_found (get name d) refl h
   where
     by_members : (v : Data) (o : Option Members) → IsJson v → as_object v ≡ o → some_members o ≡ Ok m → AreJsonMembers m
@@ -333,11 +334,11 @@ members_json d name m json h = by_found (get name d) refl h
 protected_json : (d : Data) (headers : Members × Members) → IsJson d → template_headers d ≡ Ok headers → AreJsonMembers headers.0
 unfolding template_headers
 protected_json d headers json h =
-    let rest : Members → Result (Members × Members) Refusal = λ protected. members_at (codes "header") d >>= λ own. Ok (protected, own) in
-    let a = steps (needs (is_object d) Form) (λ u. needs (has_only (codes "protected" ∷ codes "header" ∷ []) d) Form >>= λ v. members_at (codes "protected") d >>= rest) headers h in
-    let b = steps (needs (has_only (codes "protected" ∷ codes "header" ∷ []) d) Form) (λ v. members_at (codes "protected") d >>= rest) headers a.2 in
-    let c = steps (members_at (codes "protected") d) rest headers b.2 in
-    let e = steps (members_at (codes "header") d) (λ own. Ok (c.0, own)) headers c.2 in
+    let rest : Members → Result (Members × Members) Refusal = λ protected. header_at (codes "header") d >>= λ per_signature. Ok (protected, per_signature) in
+    let a = steps (needs (is_object d) Form) (λ u. needs (has_only (codes "protected" ∷ codes "header" ∷ []) d) Form >>= λ v. header_at (codes "protected") d >>= rest) headers h in
+    let b = steps (needs (has_only (codes "protected" ∷ codes "header" ∷ []) d) Form) (λ v. header_at (codes "protected") d >>= rest) headers a.2 in
+    let c = steps (header_at (codes "protected") d) rest headers b.2 in
+    let e = steps (header_at (codes "header") d) (λ per_signature. Ok (c.0, per_signature)) headers c.2 in
     let same : c.0 ≡ headers.0 = ap (λ q. q.0) (same_answer (c.0, e.0) headers e.2) in
     subst AreJsonMembers same (members_json d (codes "protected") c.0 json c.1)
 
@@ -359,35 +360,35 @@ record Signs (key : OctetKey) (s : Signer) : Type 0 where
   is : supported (signature_alg_of name) ≡ Ok s.alg
   self : supported (Some s.alg) ≡ Ok s.alg
 
-written_header : (t : SignatureTemplate) (alg : SignatureAlg) (header : List ℕ) → compact_header t alg ≡ Ok header
-    → (is_shallow (with_alg t alg) ≡ true) × (is_empty t.own ≡ true) × (header ≡ header_text (with_alg t alg))
+written_header : (t : SignatureTemplate) (alg : SignatureAlg) (header : List ℕ) → compact_header limits t alg ≡ Ok header
+    → (is_shallow limits (with_alg t alg) ≡ true) × (is_empty t.per_signature ≡ true) × (header ≡ header_text (with_alg t alg))
 unfolding compact_header
 written_header t alg header h =
-    let test : Bool = is_shallow (with_alg t alg) && is_shallow t.own in
-    let a = steps (needs test Limit) (λ u. needs (is_empty t.own) NotCompact >>= λ v. Ok (header_text (with_alg t alg))) header h in
-    let b = steps (needs (is_empty t.own) NotCompact) (λ v. Ok (header_text (with_alg t alg))) header a.2 in
+    let test : Bool = is_shallow limits (with_alg t alg) && is_shallow limits t.per_signature in
+    let a = steps (needs test Limit) (λ u. needs (is_empty t.per_signature) NotCompact >>= λ v. Ok (header_text (with_alg t alg))) header h in
+    let b = steps (needs (is_empty t.per_signature) NotCompact) (λ v. Ok (header_text (with_alg t alg))) header a.2 in
     let same : header_text (with_alg t alg) ≡ header = cc (b.2) in
-    ((both (is_shallow (with_alg t alg)) (is_shallow t.own) (passed test Limit a.0 a.1)).0, passed (is_empty t.own) NotCompact b.0 b.1, sym same)
+    ((both (is_shallow limits (with_alg t alg)) (is_shallow limits t.per_signature) (passed test Limit a.0 a.1)).0, passed (is_empty t.per_signature) NotCompact b.0 b.1, sym same)
 
 self_supported : (x alg : SignatureAlg) → supported (Some x) ≡ Ok alg → supported (Some alg) ≡ Ok alg
 self_supported Hs256 alg h = let same : Hs256 ≡ alg = cc h in subst (λ a. supported (Some a) ≡ Ok a) same refl
 self_supported Hs384 alg h = cc h
 self_supported Hs512 alg h = cc h
 
-signs : (key : OctetKey) (t : SignatureTemplate) (s : Signer) → ((t.own ≡ no_members) → Said t.protected t.alg) → AreJsonMembers t.protected → signer_by key t ≡ Ok s → Signs key s
+signs : (key : OctetKey) (t : SignatureTemplate) (s : Signer) → ((t.per_signature ≡ no_members) → Said t.protected t.alg) → AreJsonMembers t.protected → signer_by limits key t ≡ Ok s → Signs key s
 unfolding signer_by
 signs key t s say json h =
     let test : SignatureAlg → Bool = λ alg. allows key Sign && fits key (Signature alg) in
     let last : SignatureAlg → List ℕ → Result Signer Refusal = λ alg header. Ok (record { alg = alg; key = key.octets; header = header }) in
-    let third : SignatureAlg → Result Signer Refusal = λ alg. needs (test alg) KeyDoesNotFit >>= λ u. compact_header t alg >>= last alg in
+    let third : SignatureAlg → Result Signer Refusal = λ alg. needs (test alg) KeyDoesNotFit >>= λ u. compact_header limits t alg >>= last alg in
     let a = steps (chosen_alg t.alg key) (λ chosen. supported (Some chosen) >>= third) s h in
     let b = steps (supported (Some a.0)) third s a.2 in
-    let c = steps (needs (test b.0) KeyDoesNotFit) (λ u. compact_header t b.0 >>= last b.0) s b.2 in
-    let d = steps (compact_header t b.0) (last b.0) s c.2 in
+    let c = steps (needs (test b.0) KeyDoesNotFit) (λ u. compact_header limits t b.0 >>= last b.0) s b.2 in
+    let d = steps (compact_header limits t b.0) (last b.0) s c.2 in
     let w = written_header t b.0 d.0 d.1 in
-    let own : t.own ≡ no_members = empty_is t.own w.1 in
+    let alone : t.per_signature ≡ no_members = empty_is t.per_signature w.1 in
     let m = with_alg t b.0 in
-    let wrote = written t key a.0 b.0 (say own) json a.1 b.1 in
+    let wrote = written t key a.0 b.0 (say alone) json a.1 b.1 in
     let back = read_back m wrote.name wrote.names wrote.json w.0 in
     let fit : fits key (Signature b.0) ≡ true = (both (allows key Sign) (fits key (Signature b.0)) (passed (test b.0) KeyDoesNotFit c.0 c.1)).1 in
     let made : Signs key (record { alg = b.0; key = key.octets; header = d.0 }) = record {
@@ -420,27 +421,27 @@ verified key s payload octets may by =
     subst (λ k. bytes_eq (signature_of s.alg s.key (base64url s.header) (base64url payload)) (signature_of s.alg k (base64url s.header) (base64url payload)) ≡ true) key_octets (same_bytes (signature_of s.alg s.key (base64url s.header) (base64url payload))) in
     rw (no_json_form text characters, no_line_end text characters, read, by.read, by.named, by.is, may, by.fit, signature) refl
 
-signer_signs : (key : OctetKey) (template : List ℕ) (s : Signer) → signer_of (key ∷ []) template ≡ Ok s → Signs key s
+signer_signs : (key : OctetKey) (template : List ℕ) (s : Signer) → signer_of limits (key ∷ []) template ≡ Ok s → Signs key s
 unfolding signer_of template_of
 signer_signs key template s h =
-    let a = steps (json_value template) (λ value. template_of value >>= λ t. only_key (key ∷ []) >>= λ k. signer_by k t) s h in
-    let b = steps (template_of a.0) (λ t. only_key (key ∷ []) >>= λ k. signer_by k t) s a.2 in
+    let a = steps (json_value template) (λ value. template_of value >>= λ t. only_key (key ∷ []) >>= λ k. signer_by limits k t) s h in
+    let b = steps (template_of a.0) (λ t. only_key (key ∷ []) >>= λ k. signer_by limits k t) s a.2 in
     let json : IsJson a.0 = (reads_json template a.0 a.1).0 in
-    let make : Members × Members → Option SignatureAlg → Result SignatureTemplate Refusal = λ headers alg. Ok (record { protected = headers.0; own = headers.1; alg = alg }) in
+    let make : Members × Members → Option SignatureAlg → Result SignatureTemplate Refusal = λ headers alg. Ok (record { protected = headers.0; per_signature = headers.1; alg = alg }) in
     let c = steps (template_headers a.0) (λ headers. named_alg headers.0 headers.1 >>= make headers) b.0 b.1 in
     let d = steps (named_alg c.0.0 c.0.1) (make c.0) b.0 c.2 in
-    let same : record { protected = c.0.0; own = c.0.1; alg = d.0 } ≡ b.0 = same_answer _ b.0 d.2 in
+    let same : record { protected = c.0.0; per_signature = c.0.1; alg = d.0 } ≡ b.0 = same_answer _ b.0 d.2 in
     let say : c.0.1 ≡ no_members → Said c.0.0 d.0 = λ none. said c.0.0 d.0 (ap (named_alg c.0.0) (sym none) ∙ d.1) in
     signs key b.0 s
-    (subst (λ t. t.own ≡ no_members → Said t.protected t.alg) same say)
+    (subst (λ t. t.per_signature ≡ no_members → Said t.protected t.alg) same say)
     (subst (λ t. AreJsonMembers t.protected) same (protected_json a.0 c.0 json c.1))
     b.2
 
 pub signed_verifies : SignedVerifies
 unfolding signing_by
 signed_verifies key template payload text octets may h =
-    let a = steps (signing_by (key ∷ []) template) (λ plan. plan.whole payload) text h in
-    let b = steps (signer_of (key ∷ []) template) (λ signer. Ok (plan_by signer)) a.0 a.1 in
+    let a = steps (signing_by limits (key ∷ []) template) (λ plan. plan.whole payload) text h in
+    let b = steps (signer_of limits (key ∷ []) template) (λ signer. Ok (plan_by signer)) a.0 a.1 in
     let plan : plan_by b.0 ≡ a.0 = same_answer (plan_by b.0) a.0 b.2 in
     let whole : Ok (jws_text (signed b.0 payload)) ≡ Ok text = ap (λ p. p.whole payload) plan ∙ a.2 in
     let same : jws_text (signed b.0 payload) ≡ text = cc whole in

@@ -1,5 +1,5 @@
 pub mod Signatures
 pub mod Template
 pub mod Signing
-pub mod Signers
 pub mod Verifying
+pub mod Views

@@ -12,6 +12,7 @@ use Rattle.keys.specs.declared.algorithm.SignatureAlg.TheVariants.{Hs256, Hs384,
 use Rattle.keys.specs.declared.operation.Operation.TheVariants.{Sign}
 use Rattle.keys.specs.Algorithms.{signature_alg_of}
 use Rattle.keys.specs.Json.{json_value}
+use Rattle.keys.specs.Limits.{Limits}
 use Rattle.keys.specs.Keys.{OctetKey, allows, fits}
 use Rattle.objects.specs.Jws.{CompactParts, compact_text}
 use Rattle.tokens.specs.Template.{SignatureTemplate, template_of, compact_header}
@@ -52,21 +53,21 @@ only_key (key ∷ []) = Ok key
 only_key (key ∷ (other ∷ keys)) = Err Limit
 
 -- the signer that a key makes by a template
-unfoldable pub signer_by : OctetKey → SignatureTemplate → Result Signer Refusal
-signer_by key template = do
+unfoldable pub signer_by : Limits → OctetKey → SignatureTemplate → Result Signer Refusal
+signer_by limits key template = do
   chosen ← chosen_alg template.alg key
   alg ← supported (Some chosen)
   fit ← needs (allows key Sign && fits key (Signature alg)) KeyDoesNotFit
-  header ← compact_header template alg
+  header ← compact_header limits template alg
   Ok (record { alg = alg; key = key.octets; header = header })
 
 -- the signer of keys and a template's text, or the first refusal
-unfoldable pub signer_of : List OctetKey → List ℕ → Result Signer Refusal
-signer_of keys text = do
+unfoldable pub signer_of : Limits → List OctetKey → List ℕ → Result Signer Refusal
+signer_of limits keys text = do
   value ← json_value text
   template ← template_of value
   key ← only_key keys
-  signer_by key template
+  signer_by limits key template
 
 -- ---- the object
 
@@ -88,9 +89,9 @@ plan_by signer = record {
 }
 
 -- that of the signer of keys and a template's text, or the first refusal
-unfoldable pub signing_by : List OctetKey → List ℕ → Result (Plan (List ℕ)) Refusal
-signing_by set template = do
-  signer ← signer_of set template
+unfoldable pub signing_by : Limits → List OctetKey → List ℕ → Result (Plan (List ℕ)) Refusal
+signing_by limits set template = do
+  signer ← signer_of limits set template
   Ok (plan_by signer)
 
 -- the plan of every signer goes on as its payload does

@@ -1,7 +1,7 @@
 -- Templates of signatures: the members `protected` and `header` of a signature in JSON form (RFC 7515 section 7.2.1), as objects.
 use Rattle.std.specs.Prelude.{ℕ, ◌&&◌, Bool, true, false, List, [], ◌∷◌, codes, is_some, is_none, nat_le, if◌then◌else◌, Option, Some, None, Result, Ok, Err}
 use Rattle.serde_json.specs.Data.{Data, Members, no_members, member, string, object, put, depth}
-use Rattle.serde_json.specs.Find.{get, get_member, as_object}
+use Rattle.serde_json.specs.Find.{get_member}
 use Rattle.serde_json.specs.Written.{compact_text}
 use Rattle.octets.specs.declared.refusal.Refusal.{Refusal}
 use Rattle.octets.specs.declared.refusal.Refusal.TheVariants.{Form, Unsupported, Limit, NotCompact}
@@ -9,29 +9,16 @@ use Rattle.octets.specs.Outcomes.{◌>>=◌, needs}
 use Rattle.keys.specs.declared.algorithm.SignatureAlg.{SignatureAlg}
 use Rattle.keys.specs.Algorithms.{signature_name, signature_alg_of}
 use Rattle.keys.specs.Json.{is_object, has_only}
-use Rattle.objects.specs.Headers.{joint_header, string_parameter}
-use Rattle.objects.specs.Views.{part_view}
-use Rattle.tokens.specs.declared.template.Template.{Template}
+use Rattle.keys.specs.Limits.{Limits}
+use Rattle.objects.specs.Headers.{header_at, joint_header, string_parameter}
 use Rattle.tokens.specs.Signatures.{supported}
 
 -- ---- the form
 
-abbrev pub some_members : Option Members → Result Members Refusal
-some_members None = Err Form
-some_members (Some members) = Ok members
-
-abbrev pub members_if_there : Option Data → Result Members Refusal
-members_if_there None = Ok no_members
-members_if_there (Some value) = some_members (as_object value)
-
--- the members of a member that is an object, and none where it is absent
-unfoldable pub members_at : List ℕ → Data → Result Members Refusal
-members_at name value = members_if_there (get name value)
-
 -- the two headers of a template, and the algorithm that they name, if they do
 pub record SignatureTemplate : Type 0 where
   pub protected : Members
-  pub own : Members
+  pub per_signature : Members
   pub alg : Option SignatureAlg
 
 -- an object with no member but `protected` and `header`, each an object
@@ -39,9 +26,9 @@ unfoldable pub template_headers : Data → Result (Members × Members) Refusal
 template_headers value = do
   an_object ← needs (is_object value) Form
   known ← needs (has_only (codes "protected" ∷ codes "header" ∷ []) value) Form
-  protected ← members_at (codes "protected") value
-  own ← members_at (codes "header") value
-  Ok (protected, own)
+  protected ← header_at (codes "protected") value
+  per_signature ← header_at (codes "header") value
+  Ok (protected, per_signature)
 
 -- ---- the algorithm
 
@@ -55,8 +42,8 @@ supported_if_there (Some name) = some_alg (supported (signature_alg_of name))
 
 -- the algorithm that two headers name together, which have no `crit`
 unfoldable pub named_alg : Members → Members → Result (Option SignatureAlg) Refusal
-named_alg protected own = do
-  header ← joint_header protected no_members own
+named_alg protected per_signature = do
+  header ← joint_header protected no_members per_signature
   name ← string_parameter (codes "alg") header
   plain ← needs (is_none (get_member (codes "crit") header)) Unsupported
   supported_if_there name
@@ -66,7 +53,7 @@ unfoldable pub template_of : Data → Result SignatureTemplate Refusal
 template_of value = do
   headers ← template_headers value
   alg ← named_alg headers.0 headers.1
-  Ok (record { protected = headers.0; own = headers.1; alg = alg })
+  Ok (record { protected = headers.0; per_signature = headers.1; alg = alg })
 
 -- ---- the headers that are written
 
@@ -79,22 +66,17 @@ abbrev pub header_text : Members → List ℕ
 header_text no_members = []
 header_text (member name value rest) = compact_text (object (member name value rest))
 
--- at most 64 deep
-abbrev pub is_shallow : Members → Bool
-is_shallow members = nat_le (depth (object members)) 64
+-- no deeper than a header may nest
+abbrev pub is_shallow : Limits → Members → Bool
+is_shallow limits members = nat_le (depth (object members)) limits.depth
 
 abbrev pub is_empty : Members → Bool
 is_empty no_members = true
 is_empty (member name value rest) = false
 
 -- the text of the protected header of a compact text, which holds no other header
-unfoldable pub compact_header : SignatureTemplate → SignatureAlg → Result (List ℕ) Refusal
-compact_header template alg = do
-  shallow ← needs (is_shallow (with_alg template alg) && is_shallow template.own) Limit
-  alone ← needs (is_empty template.own) NotCompact
+unfoldable pub compact_header : Limits → SignatureTemplate → SignatureAlg → Result (List ℕ) Refusal
+compact_header limits template alg = do
+  shallow ← needs (is_shallow limits (with_alg template alg) && is_shallow limits template.per_signature) Limit
+  alone ← needs (is_empty template.per_signature) NotCompact
   Ok (header_text (with_alg template alg))
-
--- ---- what values of the code hold
-
-abbrev pub template_view : Template → SignatureTemplate
-template_view t = record { protected = part_view t.protected; own = part_view t.own; alg = t.alg }

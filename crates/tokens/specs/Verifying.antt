@@ -11,6 +11,7 @@ use Rattle.keys.specs.declared.algorithm.Algorithm.TheVariants.{Signature}
 use Rattle.keys.specs.declared.algorithm.SignatureAlg.{SignatureAlg}
 use Rattle.keys.specs.declared.operation.Operation.TheVariants.{Verify}
 use Rattle.keys.specs.Algorithms.{signature_alg_of}
+use Rattle.keys.specs.Limits.{limits}
 use Rattle.keys.specs.Keys.{OctetKey, allows, fits}
 use Rattle.objects.specs.Jws.{SignedObject, signed_object}
 use Rattle.tokens.specs.Signatures.{signature_of, supported}
@@ -47,5 +48,5 @@ verifying_by wanted keys jws = do
 -- Where a key signs as the template asks and may verify, what is written verifies with it, and gives the payload.
 abbrev pub SignedVerifies : Type 0
 SignedVerifies = (key : OctetKey) (template payload text : List ℕ) → IsOctets payload → allows key Verify ≡ true
-    → planned (signing_by (key ∷ []) template) payload ≡ Ok text
+    → planned (signing_by limits (key ∷ []) template) payload ≡ Ok text
     → (signed_object text >>= λ jws. verifying_by true (key ∷ []) jws) ≡ Ok payload

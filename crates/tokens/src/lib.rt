@@ -18,6 +18,3 @@ mod verify;
 
 pub use sign::jws_sign;
 pub use verify::jws_verify;
-
-#[cfg(test)]
-mod tests;

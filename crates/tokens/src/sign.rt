@@ -7,11 +7,11 @@ ghost use Rattle.octets.specs.Faults.{TellsFaults, counts};
 ghost use Rattle.octets.specs.Outcomes.{AgreesUnlessMemory, AgreesUnlessExternal};
 ghost use Rattle.octets.specs.Plan.{begun, planned};
 ghost use Rattle.octets.specs.declared.refusal.Refusal.{Refusal};
+ghost use Rattle.keys.specs.Limits.{limits};
 ghost use Rattle.keys.specs.Views.{key_view};
 ghost use Rattle.objects.specs.Jws.{compact_text};
-ghost use Rattle.tokens.specs.Template.{template_view};
 ghost use Rattle.tokens.specs.Signing.{signing_by, signer_of, signer_by, only_key, chosen_alg, alg_of_key, alg_by_length, signed};
-ghost use Rattle.tokens.specs.Signers.{signer_view};
+ghost use Rattle.tokens.specs.Views.{signer_view, template_view};
 
 use crate::signature::{Signature, supported};
 use crate::template::{Template, compact_header, read_template};
@@ -44,15 +44,15 @@ pub fn jws_sign<I: Input, O: Output>(
     requires { IsFinite (I.remaining content.old) }
     ensures answer { (payload : List ℕ)
         → IsPossibleInput (observed I.consumed I.is_at_end content.old content.new) payload
-        → AgreesUnlessExternal (planned (signing_by keys.now template.now) payload) (appended (O.written out.old) (O.written out.new)) result }
+        → AgreesUnlessExternal (planned (signing_by limits keys.now template.now) payload) (appended (O.written out.old) (O.written out.new)) result }
     ensures beginning { OnErr result (AppendsPrefixOf
-        (begun (signing_by keys.now template.now) (observed I.consumed I.is_at_end content.old content.new))
+        (begun (signing_by limits keys.now template.now) (observed I.consumed I.is_at_end content.old content.new))
         (O.written out.old) (O.written out.new)) }
     ensures finished { OnOk result (IsTrue (O.is_finished out.new)) }
 
     // What the template and the keys refuse is refused before the content is touched; an output on which nothing was
     // written is as it was, unless it failed.
-    ensures content_last { (refusal : Refusal) → signing_by keys.now template.now ≡ Err refusal
+    ensures content_last { (refusal : Refusal) → signing_by limits keys.now template.now ≡ Err refusal
         → content.new ≡ content.old }
     ensures uncut { IfErr result (λ refusal. refusal ≢ Refusal.Write
         → O.written out.new ≡ O.written out.old → out.new ≡ out.old) }
@@ -76,7 +76,7 @@ struct Signer<'k> {
 /// and `read_template`; with `Limit` where there are several keys; with those of `signer_by`.
 #[tactic(auto, unfolding(crate::specs::Signing::signer_of))]
 fn read_signer<'k>(alloc: Global, keys: &'k KeySet, template: &[u8]) -> Result<Signer<'k>, Refusal>
-    ensures { AgreesUnlessMemory signer_view result (signer_of keys.now template.now) }
+    ensures { AgreesUnlessMemory signer_view result (signer_of limits keys.now template.now) }
 {
     let value = read_json(alloc, template)?;
     let template = read_template(&value)?;
@@ -100,7 +100,7 @@ fn only_key(keys: &[Key]) -> Result<&Key, Refusal>
 #[tactic(auto, unfolding(crate::specs::Signing::signer_by))]
 fn signer_by<'k>(alloc: Global, key: &'k Key, template: Template<'_>) -> Result<Signer<'k>, Refusal>
     requires { members_have_float (template_view template).protected ≡ false }
-    ensures { AgreesUnlessMemory signer_view result (signer_by (key_view key.now) (template_view template.entry)) }
+    ensures { AgreesUnlessMemory signer_view result (signer_by limits (key_view key.now) (template_view template.entry)) }
 {
     let chosen = chosen_alg(template.alg, key)?;
     let alg = supported(Some(chosen))?;

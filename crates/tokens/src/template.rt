@@ -3,12 +3,14 @@ ghost use Rattle.std.specs.Prelude.{◌≡◌, false, option_map, IfOk, string_b
 ghost use Rattle.serde_json.specs.View.{view, members_view};
 ghost use Rattle.serde_json.specs.Written.{has_float, members_have_float};
 ghost use Rattle.octets.specs.Outcomes.{AgreesUnlessMemory};
+ghost use Rattle.keys.specs.Limits.{limits};
 ghost use Rattle.objects.specs.Views.{part_view};
-ghost use Rattle.tokens.specs.Template.{template_view, template_of, template_headers, members_at, named_alg, supported_if_there, with_alg, header_text, compact_header, is_shallow, is_empty};
+ghost use Rattle.tokens.specs.Template.{template_of, template_headers, named_alg, supported_if_there, with_alg, header_text, compact_header, is_shallow, is_empty};
+ghost use Rattle.tokens.specs.Views.{template_view};
 
 use crate::signature::supported;
-use keys::{SignatureAlg, has_only, is_object, laws, object_nests_at_most};
-use objects::Header;
+use keys::{MOST_DEPTH, SignatureAlg, has_only, is_object, laws, object_nests_at_most};
+use objects::{Header, header_at};
 use octets::{Refusal, needs};
 use serde_json::{Map, Value};
 use std::alloc::{AllocError, Global};
@@ -17,7 +19,7 @@ use std::alloc::{AllocError, Global};
 #[derive(Clone, Copy)]
 pub(crate) struct Template<'v> {
     protected: Option<&'v Map<String, Value>>,
-    own: Option<&'v Map<String, Value>>,
+    per_signature: Option<&'v Map<String, Value>>,
     pub(crate) alg: Option<SignatureAlg>,
 }
 
@@ -31,11 +33,11 @@ pub(crate) fn read_template(value: &Value) -> Result<Template<'_>, Refusal>
     ensures no_float { IfOk result (λ template. has_float (view value.now) ≡ false
         → members_have_float (template_view template).protected ≡ false) }
 {
-    let (protected, own) = template_headers(value)?;
-    let alg = named_alg(protected, own)?;
+    let (protected, per_signature) = template_headers(value)?;
+    let alg = named_alg(protected, per_signature)?;
     Ok(Template {
         protected,
-        own,
+        per_signature,
         alg,
     })
 }
@@ -51,37 +53,20 @@ fn template_headers(
 {
     needs(is_object(value), Refusal::Form)?;
     needs(has_only(value, &["protected", "header"]), Refusal::Form)?;
-    let protected = members_at(value, "protected")?;
-    let own = members_at(value, "header")?;
-    Ok((protected, own))
-}
-
-/// The members of a member that is an object. It may be absent.
-#[tactic(auto, unfolding(crate::specs::Template::members_at))]
-fn members_at<'v>(value: &'v Value, name: &str) -> Result<Option<&'v Map<String, Value>>, Refusal>
-    ensures exact { AgreesUnlessMemory part_view result (members_at name.now (view value.now)) }
-    ensures no_float { IfOk result (λ part. has_float (view value.now) ≡ false
-        → members_have_float (part_view part) ≡ false) }
-{
-    laws::members_keep_floats_out();
-    match value.get(name) {
-        None => Ok(None),
-        Some(found) => match found.as_object() {
-            None => Err(Refusal::Form),
-            Some(members) => Ok(Some(members)),
-        },
-    }
+    let protected = header_at(value, "protected")?;
+    let per_signature = header_at(value, "header")?;
+    Ok((protected, per_signature))
 }
 
 /// The algorithm that the two headers name together, where they do.
 #[tactic(auto, unfolding(crate::specs::Template::named_alg))]
 fn named_alg<'v>(
     protected: Option<&'v Map<String, Value>>,
-    own: Option<&'v Map<String, Value>>,
+    per_signature: Option<&'v Map<String, Value>>,
 ) -> Result<Option<SignatureAlg>, Refusal>
-    ensures { AgreesUnlessMemory (λ alg. alg) result (named_alg (part_view protected.entry) (part_view own.entry)) }
+    ensures { AgreesUnlessMemory (λ alg. alg) result (named_alg (part_view protected.entry) (part_view per_signature.entry)) }
 {
-    let header = Header::joint(protected, None, own)?;
+    let header = Header::joint(protected, None, per_signature)?;
     let name = header.alg()?;
     needs(!header.has("crit"), Refusal::Unsupported)?;
     supported_if_there(name)
@@ -107,12 +92,13 @@ pub(crate) fn compact_header(
     alg: SignatureAlg,
 ) -> Result<String, Refusal>
     requires { members_have_float (template_view template).protected ≡ false }
-    ensures { AgreesUnlessMemory string_bytes result (compact_header (template_view template.entry) alg) }
+    ensures { AgreesUnlessMemory string_bytes result (compact_header limits (template_view template.entry) alg) }
 {
     let protected = with_alg(alloc, template, alg)?;
-    let shallow = object_nests_at_most(&protected, 64) && is_shallow(template.own);
+    let shallow = object_nests_at_most(&protected, MOST_DEPTH)
+        && is_shallow(template.per_signature);
     needs(shallow, Refusal::Limit)?;
-    needs(is_empty(template.own), Refusal::NotCompact)?;
+    needs(is_empty(template.per_signature), Refusal::NotCompact)?;
     Ok(header_text(alloc, protected)?)
 }
 
@@ -148,11 +134,11 @@ fn copy(alloc: Global, part: Option<&Map<String, Value>>) -> Result<Map<String, 
 
 /// The header nests at most 64 deep.
 fn is_shallow(part: Option<&Map<String, Value>>) -> bool
-    ensures { result ≡ is_shallow (part_view part.entry) }
+    ensures { result ≡ is_shallow limits (part_view part.entry) }
 {
     match part {
         None => true,
-        Some(members) => object_nests_at_most(members, 64),
+        Some(members) => object_nests_at_most(members, MOST_DEPTH),
     }
 }
 

@@ -2,7 +2,7 @@ use Rattle.std.proofs.Common.{◌≡◌, ◌∙◌, sym, ap, Ok}
 use Rattle.octets.specs.Devices.{appended}
 use Rattle.octets.proofs.Agreement.{agrees_last, appended-append, whole_is}
 use Rattle.objects.specs.Jws.{compact_text}
-use Rattle.tokens.specs.Signers.{signer_view}
+use Rattle.tokens.specs.Views.{signer_view}
 use Rattle.tokens.specs.Signing.{signed}
 use Rattle.tokens.proofs.SigningPlans.{planned_signing_by}
 use Rattle.tokens.proofs.sign.jws_sign.Goals as goal

@@ -1,0 +1,242 @@
+//! Headers that are read and headers that are refused, as tables.
+use crate::tests::expect_octets;
+use objects::{Header, read_protected};
+use octets::Refusal;
+use serde_json::{Map, Value};
+use std::process::Abort;
+
+fn read<R: Abort + AllocGlobal>(rt: &R, text: &str) -> Map<String, Value> {
+    read_protected(rt.alloc(), text.as_bytes()).expect(rt, "a header")
+}
+
+/// Protected headers, and how many members each has.
+const PROTECTED: &[(&[u8], Result<usize, Refusal>)] = &[
+    (b"", Ok(0)),
+    (b"{}", Ok(0)),
+    (b"{\"alg\":\"HS256\",\"kid\":1}", Ok(2)),
+    (b"{\"alg\":\"HS256\",\"alg\":\"HS512\"}", Ok(1)),
+    (b" ", Err(Refusal::Json)),
+    (b"{\"alg\":\"\xff\"}", Err(Refusal::Json)),
+    (b"1.5", Err(Refusal::Number)),
+    (b"{\"p2c\":1.5}", Err(Refusal::Number)),
+    (b"[\"alg\"]", Err(Refusal::Header)),
+    (b"null", Err(Refusal::Header)),
+];
+
+fn expect_members<R: Abort + AllocGlobal>(rt: &R, octets: &[u8], expected: Result<usize, Refusal>) {
+    let count = match read_protected(rt.alloc(), octets) {
+        Ok(members) => Ok(members.len()),
+        Err(refusal) => Err(refusal),
+    };
+    assert_eq!(rt; count, expected, "at {octets:?}");
+}
+
+#[test]
+fn protected_headers_are_objects(rt: HostRuntime) {
+    for (octets, expected) in PROTECTED {
+        expect_members(&rt, octets, *expected);
+    }
+}
+
+/// Three parts, and whether they are no header.
+const PARTS: &[(&str, &str, &str, Option<Refusal>)] = &[
+    ("{\"alg\":1}", "{\"enc\":1}", "{\"kid\":1}", None),
+    ("{\"alg\":1}", "{\"Alg\":1}", "{\"al\":1}", None),
+    ("{\"alg\":1}", "{\"alg\":1}", "{}", Some(Refusal::Header)),
+    (
+        "{\"alg\":1,\"kid\":1}",
+        "{}",
+        "{\"kid\":2}",
+        Some(Refusal::Header),
+    ),
+    (
+        "{}",
+        "{\"enc\":1}",
+        "{\"a\":1,\"\\u0065nc\":null}",
+        Some(Refusal::Header),
+    ),
+];
+
+fn expect_joint<R: Abort + AllocGlobal>(
+    rt: &R,
+    protected: &str,
+    unprotected: &str,
+    per_recipient: &str,
+    refusal: Option<Refusal>,
+) {
+    let protected = read(rt, protected);
+    let unprotected = read(rt, unprotected);
+    let per_recipient = read(rt, per_recipient);
+    let header = Header::joint(Some(&protected), Some(&unprotected), Some(&per_recipient));
+    match header {
+        Ok(_) => assert!(rt; refusal.is_none()),
+        Err(refused) => assert!(rt; refusal == Some(refused)),
+    }
+}
+
+#[test]
+fn no_name_stands_in_two_parts(rt: HostRuntime) {
+    for (protected, unprotected, per_recipient, refusal) in PARTS {
+        expect_joint(&rt, protected, unprotected, per_recipient, *refusal);
+    }
+}
+
+fn expect_string(
+    rt: &impl Abort,
+    found: Result<Option<&str>, Refusal>,
+    expected: Result<Option<&str>, Refusal>,
+    at: &str,
+) {
+    assert_eq!(rt; found, expected, "at {at}");
+}
+
+fn expect_number(
+    rt: &impl Abort,
+    found: Result<Option<u64>, Refusal>,
+    expected: Result<Option<u64>, Refusal>,
+    at: &str,
+) {
+    assert_eq!(rt; found, expected, "at {at}");
+}
+
+/// Headers, and what their `alg` is.
+const ALGORITHMS: &[(&str, Result<Option<&str>, Refusal>)] = &[
+    ("{\"enc\":\"A128GCM\"}", Ok(None)),
+    ("{\"alg\":\"dir\",\"enc\":1}", Ok(Some("dir"))),
+    ("{\"alg\":\"HS256\",\"alg\":\"HS512\"}", Ok(Some("HS512"))),
+    ("{\"alg\":null}", Err(Refusal::Header)),
+];
+
+fn expect_alg<R: Abort + AllocGlobal>(rt: &R, text: &str, expected: Result<Option<&str>, Refusal>) {
+    let members = read(rt, text);
+    let header = Header::joint(Some(&members), None, None).expect(rt, "a joint header");
+    expect_string(rt, header.alg(), expected, text);
+}
+
+#[test]
+fn an_algorithm_is_a_string(rt: HostRuntime) {
+    for (text, expected) in ALGORITHMS {
+        expect_alg(&rt, text, *expected);
+    }
+}
+
+/// Headers, and what their `enc` is.
+const ENCRYPTIONS: &[(&str, Result<Option<&str>, Refusal>)] = &[
+    ("{\"alg\":\"dir\"}", Ok(None)),
+    ("{\"alg\":1,\"enc\":\"A128GCM\"}", Ok(Some("A128GCM"))),
+    ("{\"enc\":[\"A128GCM\"]}", Err(Refusal::Header)),
+];
+
+fn expect_enc<R: Abort + AllocGlobal>(rt: &R, text: &str, expected: Result<Option<&str>, Refusal>) {
+    let members = read(rt, text);
+    let header = Header::joint(None, Some(&members), None).expect(rt, "a joint header");
+    expect_string(rt, header.enc(), expected, text);
+}
+
+#[test]
+fn a_content_encryption_is_a_string(rt: HostRuntime) {
+    for (text, expected) in ENCRYPTIONS {
+        expect_enc(&rt, text, *expected);
+    }
+}
+
+/// Headers, and what their `p2c` is.
+const COUNTS: &[(&str, Result<Option<u64>, Refusal>)] = &[
+    ("{}", Ok(None)),
+    ("{\"p2c\":0}", Ok(Some(0))),
+    ("{\"p2c\":1}", Ok(Some(1))),
+    (
+        "{\"p2c\":18446744073709551615}",
+        Ok(Some(18446744073709551615)),
+    ),
+    ("{\"p2c\":-1}", Err(Refusal::Header)),
+    ("{\"p2c\":\"x\"}", Err(Refusal::Header)),
+];
+
+fn expect_p2c<R: Abort + AllocGlobal>(rt: &R, text: &str, expected: Result<Option<u64>, Refusal>) {
+    let members = read(rt, text);
+    let header = Header::joint(None, None, Some(&members)).expect(rt, "a joint header");
+    expect_number(rt, header.p2c(), expected, text);
+}
+
+#[test]
+fn a_count_is_a_whole_number(rt: HostRuntime) {
+    for (text, expected) in COUNTS {
+        expect_p2c(&rt, text, *expected);
+    }
+}
+
+/// Headers, and how many octets their `p2s` has.
+const SALTS: &[(&str, Result<Option<u64>, Refusal>)] = &[
+    ("{}", Ok(None)),
+    ("{\"p2s\":\"c2FsdC1vY3Q\"}", Ok(Some(8))),
+    ("{\"p2s\":\"c2FsdC03bw\"}", Err(Refusal::Header)),
+    ("{\"p2s\":\"\"}", Err(Refusal::Header)),
+    ("{\"p2s\":\"c2FsdC1vY3Q=\"}", Err(Refusal::Header)),
+    ("{\"p2s\":\"c2FsdC1vY3R\"}", Err(Refusal::Header)),
+    ("{\"p2s\":8}", Err(Refusal::Header)),
+];
+
+fn expect_p2s<R: Abort + AllocGlobal>(rt: &R, text: &str, expected: Result<Option<u64>, Refusal>) {
+    let members = read(rt, text);
+    let header = Header::joint(Some(&members), None, None).expect(rt, "a joint header");
+    let len = match header.p2s(rt.alloc()) {
+        Ok(Some(octets)) => Ok(Some(octets.len() as u64)),
+        Ok(None) => Ok(None),
+        Err(refusal) => Err(refusal),
+    };
+    expect_number(rt, len, expected, text);
+}
+
+#[test]
+fn salts_have_eight_octets(rt: HostRuntime) {
+    for (text, expected) in SALTS {
+        expect_p2s(&rt, text, *expected);
+    }
+}
+
+/// The parameters of RFC 7517 appendix C.2.
+fn expect_parameters(rt: &impl Abort, header: &Header<'_>) {
+    expect_string(rt, header.alg(), Ok(Some("PBES2-HS256+A128KW")), "alg");
+    expect_string(rt, header.enc(), Ok(Some("A128CBC-HS256")), "enc");
+    expect_number(rt, header.p2c(), Ok(Some(4096)), "p2c");
+}
+
+/// Its salt.
+fn expect_salt<R: Abort + AllocGlobal>(rt: &R, header: &Header<'_>) {
+    match header.p2s(rt.alloc()) {
+        Ok(Some(salt)) => expect_octets(
+            rt,
+            &salt,
+            b"\xd9\x60\x93\x70\x96\x75\x46\xf7\x7f\x08\x9b\x89\xae\x2a\x50\xd7",
+            "the salt",
+        ),
+        _ => assert!(rt; false),
+    }
+}
+
+/// Its `cty`.
+fn expect_cty(rt: &impl Abort, header: &Header<'_>) {
+    match header.get("cty") {
+        Some(value) => expect_string(rt, Ok(value.as_str()), Ok(Some("jwk+json")), "cty"),
+        None => assert!(rt; false),
+    }
+    assert!(rt; header.has("cty"));
+    assert!(rt; !header.has("crit"));
+}
+
+/// The header of RFC 7517 appendix C.2, in three parts.
+#[test]
+fn rfc7517_appendix_c2(rt: HostRuntime) {
+    let protected = read(
+        &rt,
+        "{\"alg\":\"PBES2-HS256+A128KW\",\"p2s\":\"2WCTcJZ1Rvd_CJuJripQ1w\"}",
+    );
+    let unprotected = read(&rt, "{\"p2c\":4096,\"cty\":\"jwk+json\"}");
+    let per_recipient = read(&rt, "{\"enc\":\"A128CBC-HS256\"}");
+    let header = Header::joint(Some(&protected), Some(&unprotected), Some(&per_recipient));
+    let header = header.expect(&rt, "a joint header");
+    expect_parameters(&rt, &header);
+    expect_salt(&rt, &header);
+    expect_cty(&rt, &header);
+}

@@ -1,0 +1,137 @@
+//! Encrypted objects that are read and texts that are refused.
+use crate::tests::{expect_octets, expect_refusal};
+use objects::{Jwe, Recipient};
+use octets::Refusal;
+use std::process::Abort;
+
+/// RFC 7516 appendix A.3.7.
+const COMPACT: &str =
+    "eyJhbGciOiJBMTI4S1ciLCJlbmMiOiJBMTI4Q0JDLUhTMjU2In0.6KB707dM9YTIgHtLvtgWQ8mKwboJW3of9locizkDTHzBC2IlrT1oOQ.AxY8DCtDaGlsbGljb3RoZQ.KDlTtXchhZTGufMYmOYGS4HffxPSUrfmqCHXaI9wOGY.U0m_YmjN04DJvceFICbCVQ";
+
+/// RFC 7516 appendix A.5, with its members in another order and with one that is unknown.
+const FLATTENED: &str =
+    "{\"protected\":\"eyJlbmMiOiJBMTI4Q0JDLUhTMjU2In0\",\"unprotected\":{\"jku\":\"https://server.example.com/keys.jwks\"},\"header\":{\"alg\":\"A128KW\",\"kid\":\"7\"},\"x\":1,\"encrypted_key\":\"6KB707dM9YTIgHtLvtgWQ8mKwboJW3of9locizkDTHzBC2IlrT1oOQ\",\"iv\":\"AxY8DCtDaGlsbGljb3RoZQ\",\"ciphertext\":\"KDlTtXchhZTGufMYmOYGS4HffxPSUrfmqCHXaI9wOGY\",\"tag\":\"Mz-VPPyU4RlcuYv1IwIvzw\"}";
+
+fn expect_recipient(rt: &impl Abort, recipient: &Recipient) {
+    expect_octets(rt, recipient.alg().as_bytes(), b"A128KW", "alg");
+    expect_octets(rt, recipient.enc().as_bytes(), b"A128CBC-HS256", "enc");
+    assert_eq!(rt; recipient.encrypted_key().len(), 40);
+    assert_eq!(rt; recipient.p2s().len(), 0);
+    assert_eq!(rt; recipient.p2c(), 0);
+}
+
+fn expect_parts(rt: &impl Abort, jwe: &Jwe, tag: &[u8]) {
+    expect_octets(
+        rt,
+        jwe.iv(),
+        b"\x03\x16\x3c\x0c\x2b\x43\x68\x69\x6c\x6c\x69\x63\x6f\x74\x68\x65",
+        "the initialization vector",
+    );
+    expect_octets(rt, jwe.tag(), tag, "the authentication tag");
+    assert_eq!(rt; jwe.ciphertext().len(), 32);
+    match jwe.recipients() {
+        [recipient] => expect_recipient(rt, recipient),
+        _ => assert!(rt; false),
+    }
+}
+
+#[test]
+fn rfc7516_appendix_a3(rt: HostRuntime) {
+    let jwe = Jwe::read(rt.alloc(), COMPACT.as_bytes()).expect(&rt, "an object");
+    expect_parts(
+        &rt,
+        &jwe,
+        b"\x53\x49\xbf\x62\x68\xcd\xd3\x80\xc9\xbd\xc7\x85\x20\x26\xc2\x55",
+    );
+}
+
+#[test]
+fn rfc7516_appendix_a5(rt: HostRuntime) {
+    let jwe = Jwe::read(rt.alloc(), FLATTENED.as_bytes()).expect(&rt, "an object");
+    expect_parts(
+        &rt,
+        &jwe,
+        b"\x33\x3f\x95\x3c\xfc\x94\xe1\x19\x5c\xb9\x8b\xf5\x23\x02\x2f\xcf",
+    );
+}
+
+/// These texts are refused, and why.
+fn expect_refused<R: Abort + AllocGlobal>(rt: &R, rows: &[(&str, Refusal)]) {
+    for (text, refusal) in rows {
+        match Jwe::read(rt.alloc(), text.as_bytes()) {
+            Ok(_) => assert!(rt; false, "at {text}"),
+            Err(refused) => expect_refusal(rt, refused, *refusal, text),
+        }
+    }
+}
+
+/// Texts in compact form, in the order of their causes.
+const COMPACT_TEXTS: &[(&str, Refusal)] = &[
+    // Parts that are not five.
+    ("", Refusal::Form),
+    ("...", Refusal::Form),
+    (".....", Refusal::Form),
+    // Trailing bits.
+    ("e30.AB...", Refusal::Base64),
+    // No `alg`.
+    ("e30....", Refusal::Header),
+    ("....", Refusal::Header),
+];
+
+#[test]
+fn compact_texts_are_refused_in_order(rt: HostRuntime) {
+    expect_refused(&rt, COMPACT_TEXTS);
+}
+
+/// Texts in JSON form, in the order of their causes.
+const JSON_TEXTS: &[(&str, Refusal)] = &[
+    // JSON texts: none, a float, and members of other types.
+    ("{", Refusal::Json),
+    ("{\"ciphertext\":1.5}", Refusal::Number),
+    (" {}", Refusal::Form),
+    ("{\"ciphertext\":1}", Refusal::Form),
+    ("{\"ciphertext\":\"AB\",\"iv\":1}", Refusal::Form),
+    ("{\"ciphertext\":\"AB\",\"header\":[]}", Refusal::Form),
+    ("{\"ciphertext\":\"\",\"recipients\":[{}]}", Refusal::Form),
+    (
+        "{\"ciphertext\":\"AB\",\"protected\":\"AA\"}",
+        Refusal::Base64,
+    ),
+];
+
+#[test]
+fn json_texts_are_refused_in_order(rt: HostRuntime) {
+    expect_refused(&rt, JSON_TEXTS);
+}
+
+/// And then their headers.
+const HEADERS: &[(&str, Refusal)] = &[
+    // The protected header: no JSON, a float, and a list.
+    ("{\"ciphertext\":\"\",\"protected\":\"AA\"}", Refusal::Json),
+    (
+        "{\"ciphertext\":\"\",\"protected\":\"MS41\"}",
+        Refusal::Number,
+    ),
+    (
+        "{\"ciphertext\":\"\",\"protected\":\"W10\"}",
+        Refusal::Header,
+    ),
+    // The joint header: no `enc`, a name in two parts, and a `zip`.
+    (
+        "{\"ciphertext\":\"\",\"header\":{\"alg\":\"dir\"}}",
+        Refusal::Header,
+    ),
+    (
+        "{\"ciphertext\":\"\",\"header\":{\"alg\":\"dir\",\"enc\":\"x\"},\"unprotected\":{\"enc\":\"x\"}}",
+        Refusal::Header,
+    ),
+    (
+        "{\"ciphertext\":\"\",\"header\":{\"alg\":\"dir\",\"enc\":\"x\"},\"unprotected\":{\"zip\":1}}",
+        Refusal::Unsupported,
+    ),
+];
+
+#[test]
+fn headers_are_refused_in_order(rt: HostRuntime) {
+    expect_refused(&rt, HEADERS);
+}
