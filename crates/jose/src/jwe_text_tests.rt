@@ -1,4 +1,4 @@
-//! Encrypted objects that are read and texts that are refused.
+//! Encrypted objects that are read and written, and texts that are refused.
 use crate::tests::{expect_octets, expect_refusal};
 use objects::{Jwe, Recipient};
 use octets::Refusal;
@@ -134,4 +134,63 @@ const HEADERS: &[(&str, Refusal)] = &[
 #[test]
 fn headers_are_refused_in_order(rt: HostRuntime) {
     expect_refused(&rt, HEADERS);
+}
+
+/// Objects as they are read, in flattened JSON form, and in compact form where that has room for them.
+const WRITTEN: &[(&str, &str, Option<&str>)] = &[
+    (
+        COMPACT,
+        "{\"ciphertext\":\"KDlTtXchhZTGufMYmOYGS4HffxPSUrfmqCHXaI9wOGY\",\"encrypted_key\":\"6KB707dM9YTIgHtLvtgWQ8mKwboJW3of9locizkDTHzBC2IlrT1oOQ\",\"iv\":\"AxY8DCtDaGlsbGljb3RoZQ\",\"protected\":\"eyJhbGciOiJBMTI4S1ciLCJlbmMiOiJBMTI4Q0JDLUhTMjU2In0\",\"tag\":\"U0m_YmjN04DJvceFICbCVQ\"}",
+        Some(COMPACT),
+    ),
+    (
+        FLATTENED,
+        "{\"ciphertext\":\"KDlTtXchhZTGufMYmOYGS4HffxPSUrfmqCHXaI9wOGY\",\"encrypted_key\":\"6KB707dM9YTIgHtLvtgWQ8mKwboJW3of9locizkDTHzBC2IlrT1oOQ\",\"header\":{\"alg\":\"A128KW\",\"kid\":\"7\"},\"iv\":\"AxY8DCtDaGlsbGljb3RoZQ\",\"protected\":\"eyJlbmMiOiJBMTI4Q0JDLUhTMjU2In0\",\"tag\":\"Mz-VPPyU4RlcuYv1IwIvzw\",\"unprotected\":{\"jku\":\"https://server.example.com/keys.jwks\"}}",
+        None,
+    ),
+    // Additional data alone, a header of the recipient alone, and a shared header alone have no place in a compact text.
+    (
+        "{\"aad\":\"YQ\",\"ciphertext\":\"\",\"protected\":\"eyJhbGciOiJkaXIiLCJlbmMiOiJBMTI4R0NNIn0\"}",
+        "{\"aad\":\"YQ\",\"ciphertext\":\"\",\"protected\":\"eyJhbGciOiJkaXIiLCJlbmMiOiJBMTI4R0NNIn0\"}",
+        None,
+    ),
+    (
+        " {\"header\":{\"enc\":\"A128GCM\",\"alg\":\"dir\"},\"ciphertext\":\"AA\"}",
+        "{\"ciphertext\":\"AA\",\"header\":{\"alg\":\"dir\",\"enc\":\"A128GCM\"}}",
+        None,
+    ),
+    (
+        "{\"unprotected\":{\"enc\":\"A128GCM\",\"alg\":\"dir\"},\"ciphertext\":\"AA\"}",
+        "{\"ciphertext\":\"AA\",\"unprotected\":{\"alg\":\"dir\",\"enc\":\"A128GCM\"}}",
+        None,
+    ),
+    // Optional members that are empty are left out.
+    (
+        "{\"aad\":\"\",\"ciphertext\":\"\",\"encrypted_key\":\"\",\"header\":{},\"iv\":\"\",\"protected\":\"eyJhbGciOiJkaXIiLCJlbmMiOiJBMTI4R0NNIn0\",\"tag\":\"\",\"unprotected\":{}}",
+        "{\"ciphertext\":\"\",\"protected\":\"eyJhbGciOiJkaXIiLCJlbmMiOiJBMTI4R0NNIn0\"}",
+        Some("eyJhbGciOiJkaXIiLCJlbmMiOiJBMTI4R0NNIn0...."),
+    ),
+];
+
+fn expect_written<R: Abort + AllocGlobal>(rt: &R, text: &str, json: &str, compact: Option<&str>) {
+    let jwe = Jwe::read(rt.alloc(), text.as_bytes()).expect(rt, "an object");
+    let written = jwe.to_json(rt.alloc()).expect(rt, "memory");
+    expect_octets(rt, written.as_bytes(), json.as_bytes(), text);
+    expect_compact(rt, &jwe, compact, text);
+}
+
+fn expect_compact<R: Abort + AllocGlobal>(rt: &R, jwe: &Jwe, compact: Option<&str>, at: &str) {
+    match (jwe.to_compact(rt.alloc()), compact) {
+        (Ok(text), Some(compact)) => expect_octets(rt, text.as_bytes(), compact.as_bytes(), at),
+        (Err(refused), None) => expect_refusal(rt, refused, Refusal::NotCompact, at),
+        _ => assert!(rt; false, "at {at}"),
+    }
+}
+
+#[test]
+fn objects_are_written(rt: HostRuntime) {
+    for &(text, json, compact) in WRITTEN {
+        expect_written(&rt, text, json, compact);
+        expect_written(&rt, json, json, compact);
+    }
 }

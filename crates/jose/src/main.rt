@@ -48,6 +48,8 @@ fn main(rt: HostRuntime) -> ExitCode {
 }
 
 #[cfg(test)]
+mod algorithm_tests;
+#[cfg(test)]
 mod header_tests;
 #[cfg(test)]
 mod jwe_text_tests;
@@ -55,6 +57,10 @@ mod jwe_text_tests;
 mod jwk_tests;
 #[cfg(test)]
 mod jws_text_tests;
+#[cfg(test)]
+mod key_template_tests;
+#[cfg(test)]
+mod key_tests;
 #[cfg(test)]
 mod long_tests;
 #[cfg(test)]

@@ -31,10 +31,3 @@ pub use limits::{MOST_DEPTH, MOST_KEY_OCTETS, MOST_KEYS};
 pub use operation::Operation;
 pub use set::KeySet;
 pub use thumbprints::thumbprint;
-
-#[cfg(test)]
-mod algorithm_tests;
-#[cfg(test)]
-mod generating_tests;
-#[cfg(test)]
-mod tests;

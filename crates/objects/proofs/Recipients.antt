@@ -1,12 +1,13 @@
 -- Lists of recipients beside the lists that they stand for.
 use Rattle.std.proofs.Common.{◌≡◌, ℕ, ◌≤◌, List, [], ◌∷◌, ◌++◌, length, map, slice_index_or, Result, Ok, Err, refl, sym, ap, ◌∙◌, arith, append_assoc}
 use Rattle.std.specs.List.{list_all}
-use Rattle.std.specs.Prelude.{◌&&◌}
+use Rattle.std.specs.Prelude.{◌&&◌, ◌||◌, Bool, true, false}
 use Rattle.std.specs.Str.{bytes_eq}
 use Rattle.serde_json.specs.Data.{Members}
+use Rattle.serde_json.specs.Written.{members_have_float}
 use Rattle.octets.specs.declared.refusal.Refusal.{Refusal}
 use Rattle.octets.specs.Outcomes.{◌>>=◌}
-use Rattle.objects.specs.Jwe.{RecipientParts, Recipient, recipient_of, recipients_of, have_enc, have_one_enc, is_plain}
+use Rattle.objects.specs.Jwe.{RecipientParts, Recipient, recipient_of, recipients_of, have_enc, have_one_enc, is_plain, recipients_have_float}
 use Rattle.objects.specs.Views.{recipient_view, recipient_parts_view}
 use Rattle.objects.specs.declared.recipient.Recipient.{Recipient as Code}
 use Rattle.objects.specs.declared.recipient.RecipientParts.{RecipientParts as Parts}
@@ -51,3 +52,11 @@ with_one_more protected unprotected done parts rest r e = rw e (by_answer (recip
 pub with_one_refused : (protected unprotected : Members) (done : List Recipient) (parts : RecipientParts) (rest : List RecipientParts) (e : Refusal)
     → recipient_of protected unprotected parts ≡ Err e → with_done protected unprotected done (parts ∷ rest) ≡ Err e
 with_one_refused protected unprotected done parts rest e is = rw is refl
+
+-- no float in what is left of recipients without floats
+pub rest_without_float : (parts : RecipientParts) (rest : List RecipientParts) → recipients_have_float (parts ∷ rest) ≡ false → recipients_have_float rest ≡ false
+rest_without_float parts rest = by_first (members_have_float parts.header) (recipients_have_float rest)
+  where
+    by_first : (a b : Bool) → (a || b) ≡ false → b ≡ false
+    by_first false b h = h
+    by_first true b h = cc h

@@ -1,11 +1,11 @@
 -- JWE objects (RFC 7516): their compact texts (section 7.1) and their flattened JSON texts (section 7.2.2).
-use Rattle.std.specs.Prelude.{ℕ, ◌&&◌, ◌==◌, Bool, true, false, not, List, [], ◌∷◌, ◌++◌, length, codes, nat_le, is_none, if◌then◌else◌, Option, Some, None, option_and_then, Result, Ok}
+use Rattle.std.specs.Prelude.{ℕ, ◌&&◌, ◌||◌, ◌==◌, Bool, true, false, not, List, [], ◌∷◌, ◌++◌, length, codes, nat_le, is_none, if◌then◌else◌, Option, Some, None, option_and_then, Result, Ok}
 use Rattle.std.specs.List.{list_all}
 use Rattle.std.specs.Option.{ok_or}
 use Rattle.std.specs.Str.{bytes_eq}
 use Rattle.serde_json.specs.Data.{Data, Members, no_members, member, string, object, put}
 use Rattle.serde_json.specs.Find.{get, get_member, as_str}
-use Rattle.serde_json.specs.Written.{compact_text}
+use Rattle.serde_json.specs.Written.{compact_text, members_have_float}
 use Rattle.octets.specs.declared.refusal.Refusal.{Refusal}
 use Rattle.octets.specs.declared.refusal.Refusal.TheVariants.{Form, Header, Unsupported, NotCompact}
 use Rattle.octets.specs.Outcomes.{◌>>=◌, needs}
@@ -134,6 +134,18 @@ parts_of_texts texts = do
     tag = tag;
     recipients = record { header = texts.recipient.header; encrypted_key = encrypted_key } ∷ [];
   })
+
+-- ---- headers without floats, which have compact texts
+
+abbrev pub recipients_have_float : List RecipientParts → Bool
+recipients_have_float [] = false
+recipients_have_float (r ∷ rest) = members_have_float r.header || recipients_have_float rest
+
+abbrev pub parts_have_float : JweParts → Bool
+parts_have_float p = members_have_float p.unprotected || recipients_have_float p.recipients
+
+abbrev pub texts_have_float : JweTexts → Bool
+texts_have_float t = members_have_float t.shared.unprotected || members_have_float t.recipient.header
 
 -- ---- the object
 
@@ -267,14 +279,17 @@ abbrev pub put_text : List ℕ → List ℕ → Members → Members
 put_text name [] members = members
 put_text name (c ∷ text) members = put name (string (c ∷ text)) members
 
--- a member that is there where it has members
-abbrev pub put_members : List ℕ → Members → Members → Members
-put_members name no_members members = members
-put_members name (member k d rest) members = put name (object (member k d rest)) members
+abbrev pub has_members : Members → Bool
+has_members no_members = false
+has_members (member k d rest) = true
+
+-- a header that is there where it has members
+abbrev pub put_header : List ℕ → Members → Members → Members
+put_header name header members = if has_members header then put name (object header) members else members
 
 -- the header and the encrypted key of a recipient
 abbrev pub put_recipient : Recipient → Members → Members
-put_recipient r members = put_members (codes "header") r.header (put_text (codes "encrypted_key") (base64url r.encrypted_key) members)
+put_recipient r members = put_header (codes "header") r.header (put_text (codes "encrypted_key") (base64url r.encrypted_key) members)
 
 -- those of the one recipient
 abbrev pub put_recipients : List Recipient → Members → Members
@@ -284,7 +299,7 @@ put_recipients (r ∷ rest) members = put_recipient r members
 -- the headers that all recipients share, and the content with its tag; the ciphertext is always there
 abbrev pub put_shared : EncryptedObject → Members → Members
 put_shared o members =
-    put_members (codes "unprotected") o.unprotected (
+    put_header (codes "unprotected") o.unprotected (
     put_text (codes "tag") (base64url o.tag) (
     put_text (codes "protected") o.protected (
     put_text (codes "iv") (base64url o.iv) (
@@ -299,10 +314,6 @@ json_text o = compact_text (object (put_shared o (put_recipients o.recipients no
 abbrev pub joined : List ℕ → List ℕ → List ℕ → List ℕ → List ℕ → List ℕ
 joined protected encrypted_key iv ciphertext tag =
     protected ++ codes "." ++ base64url encrypted_key ++ codes "." ++ base64url iv ++ codes "." ++ base64url ciphertext ++ codes "." ++ base64url tag
-
-abbrev pub has_members : Members → Bool
-has_members no_members = false
-has_members (member k d rest) = true
 
 -- all of the object stands in a compact text: its one recipient has no per-recipient header, and there is nothing that is shared but not protected
 abbrev pub is_compact : EncryptedObject → List Recipient → Bool

@@ -51,7 +51,7 @@ parameters_view p = record { p2s = p.p2s.items; p2c = p.p2c }
 
 abbrev pub recipient_view : recipient.Recipient → Recipient
 recipient_view r = record {
-  header = members_view r.header.entries;
+  header = members_view r.header.map.entries;
   encrypted_key = r.encrypted_key.items;
   alg = string_bytes r.alg;
   enc = string_bytes r.enc;
@@ -86,7 +86,7 @@ abbrev pub jwe_view : jwe.Jwe → EncryptedObject
 jwe_view j = record {
   protected = string_bytes j.protected;
   protected_members = members_view j.protected_members.entries;
-  unprotected = members_view j.unprotected.entries;
+  unprotected = members_view j.unprotected.map.entries;
   iv = j.iv.items;
   aad = j.aad.items;
   ciphertext = j.ciphertext.items;

@@ -1,13 +1,14 @@
 //! Encrypted objects (RFC 7516). It is given an object's text or its members, and sees no key.
-ghost use Rattle.std.specs.Prelude.{◌≡◌, map};
+ghost use Rattle.std.specs.Prelude.{◌≡◌, false, map};
 ghost use Rattle.std.specs.List.{list_all};
 ghost use Rattle.std.specs.Str.{bytes_eq};
 ghost use Rattle.serde_json.specs.View.{members_view};
 ghost use Rattle.octets.specs.Outcomes.{AgreesUnlessMemory};
-ghost use Rattle.objects.specs.Jwe.{jwe_of, object_of_texts as object_of_jwe_texts, encrypted_object as encrypted_object_of, recipients_of, recipients_of_one_enc, have_one_enc as have_one_enc_of, is_plain as is_plain_header, are_plain as are_plain_parts};
+ghost use Rattle.objects.specs.Jwe.{jwe_of, object_of_texts as object_of_jwe_texts, encrypted_object as encrypted_object_of, recipients_of, recipients_of_one_enc, have_one_enc as have_one_enc_of, is_plain as is_plain_header, are_plain as are_plain_parts, parts_have_float, recipients_have_float, texts_have_float};
 ghost use Rattle.objects.specs.Views.{jwe_view, parts_view, texts_view, recipient_view, recipient_parts_view};
 
 use crate::header::read_protected;
+use crate::header_members::HeaderMembers;
 use crate::jwe_texts::{JweTexts, compact_texts, flattened_texts, read_parts};
 use crate::jws::is_json_form;
 use crate::recipient::{Recipient, RecipientParts, is_plain, read_recipient};
@@ -38,7 +39,7 @@ pub struct JweParts {
 pub struct Jwe {
     protected: String,
     protected_members: Map<String, Value>,
-    unprotected: Map<String, Value>,
+    pub(crate) unprotected: HeaderMembers,
     iv: Vec<u8>,
     aad: Vec<u8>,
     ciphertext: Vec<u8>,
@@ -77,7 +78,7 @@ impl Jwe {
     pub fn unprotected(&self) -> &Map<String, Value>
         ensures { members_view result.now.entries ≡ (jwe_view self.now).unprotected }
     {
-        &self.unprotected
+        &self.unprotected.map
     }
 
     /// The initialization vector.
@@ -118,6 +119,7 @@ impl Jwe {
 /// The object whose members have these texts.
 #[tactic(auto, unfolding(crate::specs::Jwe::object_of_texts))]
 fn object_of_texts(alloc: Global, texts: JweTexts<'_>) -> Result<Jwe, Refusal>
+    requires { texts_have_float (texts_view texts) ≡ false }
     ensures { AgreesUnlessMemory jwe_view result (object_of_jwe_texts (texts_view texts.entry)) }
 {
     let protected = b64_decode(alloc, texts.protected())?;
@@ -128,6 +130,7 @@ fn object_of_texts(alloc: Global, texts: JweTexts<'_>) -> Result<Jwe, Refusal>
 /// The object with these members and these octets of its protected header.
 #[tactic(auto, unfolding(crate::specs::Jwe::encrypted_object))]
 fn encrypted_object(alloc: Global, octets: &[u8], parts: JweParts) -> Result<Jwe, Refusal>
+    requires { parts_have_float (parts_view parts) ≡ false }
     ensures { AgreesUnlessMemory jwe_view result (encrypted_object_of octets.now (parts_view parts)) }
 {
     let JweParts {
@@ -146,7 +149,7 @@ fn encrypted_object(alloc: Global, octets: &[u8], parts: JweParts) -> Result<Jwe
     Ok(Jwe {
         protected,
         protected_members,
-        unprotected,
+        unprotected: HeaderMembers { map: unprotected },
         iv,
         aad,
         ciphertext,
@@ -184,6 +187,7 @@ fn recipients_of_one_enc(
     unprotected: &Map<String, Value>,
     parts: Vec<RecipientParts>,
 ) -> Result<Vec<Recipient>, Refusal>
+    requires { recipients_have_float (map recipient_parts_view parts.items) ≡ false }
     ensures { AgreesUnlessMemory (λ recipients. map recipient_view recipients.items) result
         (recipients_of_one_enc (members_view protected.now.entries) (members_view unprotected.now.entries) (map recipient_parts_view parts.items)) }
 {
@@ -193,13 +197,14 @@ fn recipients_of_one_enc(
 }
 
 /// The recipients, in order, by the other parts of their joint headers.
-#[tactic(auto, using(crate::proofs::Recipients::with_none_done, crate::proofs::Recipients::with_one_more, crate::proofs::Recipients::with_one_refused))]
+#[tactic(auto, using(crate::proofs::Recipients::with_none_done, crate::proofs::Recipients::with_one_more, crate::proofs::Recipients::with_one_refused, crate::proofs::Recipients::rest_without_float))]
 fn read_recipients(
     alloc: Global,
     protected: &Map<String, Value>,
     unprotected: &Map<String, Value>,
     parts: Vec<RecipientParts>,
 ) -> Result<Vec<Recipient>, Refusal>
+    requires { recipients_have_float (map recipient_parts_view parts.items) ≡ false }
     ensures { AgreesUnlessMemory (λ recipients. map recipient_view recipients.items) result
         (recipients_of (members_view protected.now.entries) (members_view unprotected.now.entries) (map recipient_parts_view parts.items)) }
 {

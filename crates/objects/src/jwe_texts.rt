@@ -1,11 +1,12 @@
 //! The members of an encrypted object as texts, by its compact or its flattened JSON serialization (RFC 7516 section
 //! 7). It decodes them, and reads no header.
-ghost use Rattle.std.specs.Prelude.{◌≡◌, ◌∷◌, [], IfOk, IfErr};
+ghost use Rattle.std.specs.Prelude.{◌≡◌, ◌∷◌, [], false, IfOk, IfErr};
 ghost use Rattle.serde_json.specs.View.{view, members_view};
+ghost use Rattle.serde_json.specs.Written.{has_float, members_have_float};
 ghost use Rattle.octets.specs.Base64url.{base64url};
 ghost use Rattle.octets.specs.Outcomes.{AgreesUnlessMemory};
 ghost use Rattle.objects.specs.Views.{part_view, shared_view, recipient_texts_view, content_view, texts_view, parts_view};
-ghost use Rattle.objects.specs.Jwe.{text_at, required_text, shared_texts, recipient_texts, content_texts, flattened_texts, compact_texts, parts_of_texts};
+ghost use Rattle.objects.specs.Jwe.{text_at, required_text, shared_texts, recipient_texts, content_texts, flattened_texts, compact_texts, parts_of_texts, parts_have_float, texts_have_float};
 
 use crate::compact::{split_at_dot, three_parts_of};
 use crate::header::header_at;
@@ -57,7 +58,8 @@ impl<'t> JweTexts<'t> {
 /// is no `ciphertext`, or there is a member `recipients`.
 #[tactic(auto, unfolding(crate::specs::Jwe::flattened_texts))]
 pub(crate) fn flattened_texts(value: &Value) -> Result<JweTexts<'_>, Refusal>
-    ensures { AgreesUnlessMemory texts_view result (flattened_texts (view value.now)) }
+    ensures exact { AgreesUnlessMemory texts_view result (flattened_texts (view value.now)) }
+    ensures no_float { IfOk result (λ texts. has_float (view value.now) ≡ false → texts_have_float (texts_view texts) ≡ false) }
 {
     needs(value.get("recipients").is_none(), Refusal::Form)?;
     let shared = shared_texts(value)?;
@@ -72,7 +74,8 @@ pub(crate) fn flattened_texts(value: &Value) -> Result<JweTexts<'_>, Refusal>
 
 #[tactic(auto, unfolding(crate::specs::Jwe::shared_texts))]
 fn shared_texts(value: &Value) -> Result<SharedTexts<'_>, Refusal>
-    ensures { AgreesUnlessMemory shared_view result (shared_texts (view value.now)) }
+    ensures exact { AgreesUnlessMemory shared_view result (shared_texts (view value.now)) }
+    ensures no_float { IfOk result (λ texts. has_float (view value.now) ≡ false → members_have_float (shared_view texts).unprotected ≡ false) }
 {
     let protected = text_at(value, "protected")?;
     let unprotected = header_at(value, "unprotected")?;
@@ -86,7 +89,8 @@ fn shared_texts(value: &Value) -> Result<SharedTexts<'_>, Refusal>
 
 #[tactic(auto, unfolding(crate::specs::Jwe::recipient_texts))]
 fn texts_of_recipient(value: &Value) -> Result<RecipientTexts<'_>, Refusal>
-    ensures { AgreesUnlessMemory recipient_texts_view result (recipient_texts (view value.now)) }
+    ensures exact { AgreesUnlessMemory recipient_texts_view result (recipient_texts (view value.now)) }
+    ensures no_float { IfOk result (λ texts. has_float (view value.now) ≡ false → members_have_float (recipient_texts_view texts).header ≡ false) }
 {
     let encrypted_key = text_at(value, "encrypted_key")?;
     let header = header_at(value, "header")?;
@@ -138,7 +142,8 @@ fn required_text<'v>(value: &'v Value, name: &str) -> Result<&'v [u8], Refusal>
 /// The five parts of a compact text (RFC 7516 section 7.1). Refused with `Form` where there are more or fewer.
 #[tactic(auto, unfolding(crate::specs::Jwe::compact_texts))]
 pub(crate) fn compact_texts(text: &[u8]) -> Result<JweTexts<'_>, Refusal>
-    ensures { AgreesUnlessMemory texts_view result (compact_texts text.now) }
+    ensures exact { AgreesUnlessMemory texts_view result (compact_texts text.now) }
+    ensures no_float { IfOk result (λ texts. texts_have_float (texts_view texts) ≡ false) }
 {
     let (protected, rest) = split_at_dot(text)?;
     let (encrypted_key, rest) = split_at_dot(rest)?;
@@ -172,8 +177,9 @@ pub(crate) fn read_parts(
     texts: JweTexts<'_>,
     protected: &[u8],
 ) -> Result<JweParts, Refusal>
-    requires { base64url protected.now ≡ texts.shared.protected.now }
-    ensures { AgreesUnlessMemory parts_view result (parts_of_texts (texts_view texts.entry)) }
+    requires received { base64url protected.now ≡ texts.shared.protected.now }
+    ensures exact { AgreesUnlessMemory parts_view result (parts_of_texts (texts_view texts.entry)) }
+    ensures no_float { IfOk result (λ parts. texts_have_float (texts_view texts.entry) ≡ false → parts_have_float (parts_view parts) ≡ false) }
 {
     let aad = b64_decode(alloc, texts.shared.aad)?;
     let encrypted_key = b64_decode(alloc, texts.recipient.encrypted_key)?;
@@ -208,7 +214,10 @@ fn one(alloc: Global, recipient: RecipientParts) -> Result<Vec<RecipientParts>, 
 
 /// A copy of a header. An absent one has no members.
 #[tactic(auto, using(crate::proofs::HeaderMembers::copied_members))]
-fn copy(alloc: Global, part: Option<&Map<String, Value>>) -> Result<Map<String, Value>, Refusal>
+pub(crate) fn copy(
+    alloc: Global,
+    part: Option<&Map<String, Value>>,
+) -> Result<Map<String, Value>, Refusal>
     ensures members { IfOk result (λ copy. members_view copy.entries ≡ part_view part.entry) }
     ensures memory { IfErr result (λ e. e ≡ Refusal.Memory) }
 {

@@ -1,6 +1,6 @@
-//! JOSE headers (RFC 7515 section 4, RFC 7516 section 4), and signed objects in compact form (RFC 7515
-//! section 7.1). It may be given objects' texts, headers as JSON texts and maps, and never sees a key's
-//! octets.
+//! JOSE headers (RFC 7515 section 4, RFC 7516 section 4), signed objects in compact form (RFC 7515 section 7.1), and
+//! encrypted objects in compact and in flattened JSON form (RFC 7516 section 7). It may be given objects' texts,
+//! headers as JSON texts and maps, and never sees a key's octets.
 //!
 //! ```rust
 //! let protected = read_protected(alloc, b"{\"alg\":\"HS256\"}")?;
@@ -9,13 +9,18 @@
 //!
 //! let jws = Jws::read(alloc, b"eyJhbGciOiJIUzI1NiJ9.YWJj.sxvq")?;
 //! let payload = jws.payload(); // abc, not verified yet
+//!
+//! let jwe = Jwe::read(alloc, b"eyJhbGciOiJkaXIiLCJlbmMiOiJBMTI4R0NNIn0....")?;
+//! let json = jwe.to_json(alloc)?; // {"ciphertext":"","protected":"eyJhbGciOiJkaXIiLCJlbmMiOiJBMTI4R0NNIn0"}
 //! ```
 #![tactic(auto)]
 
 mod compact;
 mod header;
+mod header_members;
 mod jwe;
 mod jwe_texts;
+mod jwe_writing;
 mod jws;
 pub mod laws;
 mod recipient;

@@ -1,14 +1,16 @@
 //! The recipients of an encrypted object (RFC 7516). It sees their headers, and no key.
-ghost use Rattle.std.specs.Prelude.{◌≡◌, is_some, option_map, string_bytes};
+ghost use Rattle.std.specs.Prelude.{◌≡◌, false, is_some, option_map, string_bytes};
 ghost use Rattle.serde_json.specs.Find.{get_member};
 ghost use Rattle.std.specs.Option.{ok_or};
 ghost use Rattle.serde_json.specs.View.{members_view};
+ghost use Rattle.serde_json.specs.Written.{members_have_float};
 ghost use Rattle.octets.specs.Outcomes.{AgreesUnlessMemory};
 ghost use Rattle.objects.specs.Jwe.{recipient_of, parameters_of, password_parameters, is_password_based as is_password_based_name, is_plain as is_plain_header};
 ghost use Rattle.objects.specs.Views.{header_view, recipient_view, recipient_parts_view, parameters_view};
 
 use crate::Header;
 use crate::header::part_member;
+use crate::header_members::HeaderMembers;
 use keys::ManagementAlg;
 use octets::{Refusal, needs};
 use serde_json::{Map, Value};
@@ -26,7 +28,7 @@ pub struct RecipientParts {
 /// A recipient: its members, and what its joint header says of the algorithms.
 #[derive(Drop)]
 pub struct Recipient {
-    header: Map<String, Value>,
+    pub(crate) header: HeaderMembers,
     encrypted_key: Vec<u8>,
     alg: String,
     enc: String,
@@ -51,6 +53,7 @@ pub(crate) fn read_recipient(
     unprotected: &Map<String, Value>,
     parts: RecipientParts,
 ) -> Result<Recipient, Refusal>
+    requires { members_have_float (recipient_parts_view parts).header ≡ false }
     ensures { AgreesUnlessMemory recipient_view result (recipient_of (members_view protected.now.entries)
         (members_view unprotected.now.entries) (recipient_parts_view parts)) }
 {
@@ -63,7 +66,7 @@ pub(crate) fn read_recipient(
         encrypted_key,
     } = parts;
     Ok(Recipient {
-        header,
+        header: HeaderMembers { map: header },
         encrypted_key,
         alg,
         enc,
@@ -76,7 +79,7 @@ impl Recipient {
     pub fn header(&self) -> &Map<String, Value>
         ensures { members_view result.now.entries ≡ (recipient_view self.now).header }
     {
-        &self.header
+        &self.header.map
     }
 
     /// Its encrypted key.

@@ -1,7 +1,7 @@
 //! The tables of RFC 7517 section 4 and RFC 7518 sections 3.1, 4.1 and 5.1, row by row: the names of the algorithms, the
 //! lengths of their keys, and what `alg`, `use` and `key_ops` allow.
-use crate::tests::expect_same;
-use crate::{Algorithm, EncryptionAlg, KeySet, ManagementAlg, Operation, SignatureAlg};
+use crate::key_tests::expect_same;
+use keys::{Algorithm, EncryptionAlg, KeySet, ManagementAlg, Operation, SignatureAlg};
 use octets::{Refusal, b64_append};
 use std::alloc::Global;
 use std::process::Abort;

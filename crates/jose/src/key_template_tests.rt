@@ -1,6 +1,6 @@
 //! Keys that are made and templates that are refused, as tables.
-use crate::generate;
-use crate::tests::{expect_same, long_note, nested};
+use crate::key_tests::{expect_same, long_note, nested};
+use keys::generate;
 use octets::{MemoryInput, Refusal};
 use std::alloc::{AllocError, Global};
 use std::process::Abort;

@@ -1,5 +1,6 @@
-//! Texts that are read and texts that are refused, as tables.
-use crate::{Key, KeySet, nests_at_most, read_json, thumbprint};
+//! JSON texts, keys and their sets that are read and that are refused, as tables, and thumbprints.
+use crate::tests::expect_octets;
+use keys::{Key, KeySet, nests_at_most, read_json, thumbprint};
 use octets::Refusal;
 use prf::HashAlg;
 use serde_json::Value;
@@ -17,22 +18,6 @@ pub(crate) fn expect_same<T: PartialEq + Debug + Drop, N: Debug + Drop>(
     assert_eq!(rt; found, wanted, "at {at:?}");
 }
 
-/// The text `start`, so many times `part`, and `end`.
-fn repeated(
-    alloc: Global,
-    start: &str,
-    part: &str,
-    times: usize,
-    end: &str,
-) -> Result<String, AllocError> {
-    let mut text = String::from_str(alloc, start)?;
-    for _ in 0..times {
-        text.push_str(part)?;
-    }
-    text.push_str(end)?;
-    Ok(text)
-}
-
 /// A list that is `depth` deep, between `start` and `end`.
 pub(crate) fn nested(
     alloc: Global,
@@ -40,14 +25,14 @@ pub(crate) fn nested(
     depth: usize,
     end: &str,
 ) -> Result<String, AllocError> {
-    let opened = repeated(alloc, start, "[", depth, "")?;
-    repeated(alloc, opened.as_str(), "]", depth, end)
+    let opened = "[".repeat(alloc, depth)?;
+    let closed = "]".repeat(alloc, depth)?;
+    format!(in alloc; "{start}{opened}{closed}{end}")
 }
 
 /// A text of more than 65,536 characters.
 pub(crate) fn long_note(alloc: Global) -> Result<String, AllocError> {
-    let part = "a text of sixty-four characters, which is written over and over ";
-    repeated(alloc, "", part, 1100, "")
+    "a text of sixty-four characters, which is written over and over ".repeat(alloc, 1100)
 }
 
 fn expect_json<R: Abort + AllocGlobal>(rt: &R, text: &[u8], refusal: Option<Refusal>, at: &str) {
@@ -229,8 +214,8 @@ fn sets_of_keys(rt: HostRuntime) {
 
 /// A set of so many objects that are no keys, and then one that is.
 fn long_set(alloc: Global, others: usize) -> Result<String, AllocError> {
-    let key = "{\"kty\":\"oct\",\"k\":\"AQ\"}]}";
-    repeated(alloc, "{\"keys\":[", "{},", others, key)
+    let objects = "{},".repeat(alloc, others)?;
+    format!(in alloc; "{{\"keys\":[{objects}{{\"kty\":\"oct\",\"k\":\"AQ\"}}]}}")
 }
 
 fn expect_long_set<R: Abort + AllocGlobal>(rt: &R, others: usize, refusal: Option<Refusal>) {
@@ -246,8 +231,9 @@ fn a_set_has_at_most_64_objects(rt: HostRuntime) {
 
 /// A key whose `k` is 1,365 times `AAAA`, which stands for three zero octets, and then `end`.
 fn expect_long_key<R: Abort + AllocGlobal>(rt: &R, end: &str, refusal: Option<Refusal>) {
+    let zeros = "AAAA".repeat(rt.alloc(), 1365).expect(rt, "memory");
     let start = "{\"kty\":\"oct\",\"k\":\"";
-    let text = repeated(rt.alloc(), start, "AAAA", 1365, end).expect(rt, "memory");
+    let text = format!(in rt.alloc(); "{start}{zeros}{end}").expect(rt, "memory");
     let found = KeySet::read(rt.alloc(), text.as_bytes(), true).err();
     expect_same(rt, found, refusal, end);
 }
@@ -278,7 +264,7 @@ fn expect_one_key<R: Abort + AllocGlobal>(rt: &R, text: &str) {
     let set = KeySet::read(rt.alloc(), text.as_bytes(), false).expect(rt, "a set of keys");
     expect_same(rt, set.keys().len(), 1, "the count of keys");
     for key in set.keys() {
-        expect_same(rt, key.octets(), b"\x01".as_slice(), "the key");
+        expect_octets(rt, key.octets(), b"\x01", "the key");
     }
 }
 
