@@ -4,7 +4,7 @@ ghost use Rattle.std.specs.Prelude.{◌≡◌, ◌++◌, [], map, string_bytes, 
 ghost use Rattle.clap.specs.Words.{app_of, rule_of, found_of, rows_of, kind_of, is_simple_and_free};
 ghost use Rattle.octets.specs.Outcomes.{AgreesUnlessMemory};
 ghost use Rattle.jose.specs.Rows.{option_entry, takes_of};
-ghost use Rattle.jose.specs.Reading.{rule_for, app_for, value_given, setting_before, settings_of, settings_read, IsRefusalFor};
+ghost use Rattle.jose.specs.Reading.{rule_for, with_takes, app_for, value_given, setting_before, settings_of, settings_read, IsRefusalFor};
 ghost use Rattle.jose.specs.Invocations.{settings_view};
 
 use crate::Setting;
@@ -49,7 +49,14 @@ fn argument_of(alloc: Global, option: &OptionRow) -> Arg<'static>
     ensures local { result.global ≡ false }
 {
     let OptionRow(letter, name, kind, _) = *option;
-    let argument = Arg::new(alloc, name).short(letter);
+    taking(Arg::new(alloc, name).short(letter), kind)
+}
+
+/// The argument, which takes what options of the kind take.
+fn taking(argument: Arg<'static>, kind: Kind) -> Arg<'static>
+    ensures rule { rule_of result ≡ with_takes (takes_of kind) (rule_of argument.entry) }
+    ensures local { result.global ≡ argument.entry.global }
+{
     match kind {
         Kind::Flag => argument.action(ArgAction::SetTrue),
         Kind::Required => argument.action(ArgAction::Set).required(true),
