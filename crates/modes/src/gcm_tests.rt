@@ -14,7 +14,7 @@ const AAD: &[u8; 20] =
 const PLAINTEXT: &[u8; 60] =
     b"\xd9\x31\x32\x25\xf8\x84\x06\xe5\xa5\x59\x09\xc5\xaf\xf5\x26\x9a\x86\xa7\xa9\x53\x15\x34\xf7\xda\x2e\x4c\x30\x3d\x8a\x31\x8a\x72\x1c\x3c\x0c\x95\x95\x68\x09\x53\x2f\xcf\x0e\x24\x49\xa6\xb5\x25\xb1\x6a\xed\xf5\xaa\x0d\xe6\x57\xba\x63\x7b\x39";
 
-// The GCM ciphertext of the text in pieces of so many octets, and the tag.
+// The GCM ciphertext of the text in pieces of so many octets and an empty one, and the tag.
 pub(crate) fn gcm<B: Block>(
     rt: &impl Abort,
     alloc: Global,
@@ -33,6 +33,8 @@ pub(crate) fn gcm<B: Block>(
         let n = gcm.feed(piece, &mut out).expect(rt, "no limit");
         all.extend_from_slice(&out[..n])?;
     }
+    let n = gcm.feed(b"", &mut out).expect(rt, "no limit");
+    all.extend_from_slice(&out[..n])?;
     Ok((all, gcm.finish()))
 }
 

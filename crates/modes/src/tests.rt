@@ -64,7 +64,7 @@ pub(crate) fn expect_octets(rt: &impl Abort, found: &[u8], wanted: &[u8]) {
     assert_eq!(rt; *found, *wanted);
 }
 
-// The CBC ciphertext of the text in pieces of so many octets.
+// The CBC ciphertext of the text in pieces of so many octets and an empty one.
 pub(crate) fn cbc<B: Block>(
     rt: &impl Abort,
     alloc: Global,
@@ -82,13 +82,15 @@ pub(crate) fn cbc<B: Block>(
         let n = cbc.feed(piece, &mut out);
         all.extend_from_slice(&out[..n])?;
     }
+    let n = cbc.feed(b"", &mut out);
+    all.extend_from_slice(&out[..n])?;
     let mut last = [0; 16];
     cbc.finish(&mut last);
     all.extend_from_slice(&last)?;
     Ok(all)
 }
 
-// The text in counter mode, in pieces of so many octets.
+// The text in counter mode, in pieces of so many octets and an empty one.
 pub(crate) fn ctr<B: Block>(
     rt: &impl Abort,
     alloc: Global,
@@ -106,6 +108,8 @@ pub(crate) fn ctr<B: Block>(
         let n = ctr.feed(piece, &mut out);
         all.extend_from_slice(&out[..n])?;
     }
+    let n = ctr.feed(b"", &mut out);
+    all.extend_from_slice(&out[..n])?;
     ctr.finish();
     Ok(all)
 }
