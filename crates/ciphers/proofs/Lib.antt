@@ -5,3 +5,4 @@ pub mod Openings
 pub mod Deliveries
 pub mod Sealers
 pub mod Unique
+pub mod Found

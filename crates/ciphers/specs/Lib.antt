@@ -1,4 +1,5 @@
 pub mod KeyWrap
 pub mod Delivery
 pub mod Sealing
+pub mod Openings
 pub mod Views

@@ -3,6 +3,7 @@ ghost use Rattle.std.specs.Prelude.{◌≡◌, ℕ, ◌≤◌, List, length};
 ghost use Rattle.aes.specs.Block.{IsCipher};
 ghost use Rattle.ciphers.specs.Delivery.{IsDelivered};
 ghost use Rattle.ciphers.specs.KeyWrap.{IsUnwrapping};
+ghost use Rattle.ciphers.specs.Openings.{OpensExactly, DeliversExactly};
 ghost use Rattle.ciphers.specs.Sealing.{IsOpening};
 ghost use Rattle.ciphers.specs.declared.content_alg.ContentAlg.{ContentAlg};
 ghost use Rattle.ciphers.specs.declared.key_alg.KeyAlg.{KeyAlg};
@@ -10,6 +11,7 @@ ghost use Rattle.octets.specs.Octets.{IsOctets};
 
 use aes::laws::encrypted_block_is_cipher;
 use modes::laws::{cbc_plaintext_is_unique, gcm_plaintext_is_unique};
+use octets::laws::search_finds_octets;
 use prf::laws::derived_key_is_octets;
 
 /// No two texts are wrapped to one of at most 72 octets, so what `unwrap` gives is what was wrapped (RFC 3394,
@@ -38,4 +40,21 @@ pub fn opening_is_unique()
     encrypted_block_is_cipher();
     cbc_plaintext_is_unique();
     gcm_plaintext_is_unique();
+}
+
+/// The function of opening gives exactly the plaintext that was sealed, and nothing where there is none.
+pub fn opens_exactly()
+    ensures { OpensExactly }
+{
+    encrypted_block_is_cipher();
+    search_finds_octets();
+    opening_is_unique();
+}
+
+/// The function of delivery gives exactly the content encryption key that was delivered, and nothing where there is none.
+pub fn delivers_exactly()
+    ensures { DeliversExactly }
+{
+    search_finds_octets();
+    delivery_is_unique();
 }

@@ -4,7 +4,7 @@ use Rattle.std.specs.Prelude.{ℕ, ◌==◌, ◌&&◌, Bool, List, [], ◌∷◌
 use Rattle.std.specs.Str.{byte, bytes_eq}
 use Rattle.clap.specs.Words.{Text}
 use Rattle.jose.specs.declared.command.Command.{Command}
-use Rattle.jose.specs.declared.command.Command.TheVariants.{JwkGen, JwkThp, B64Enc, B64Dec, JwsSig, JwsVer}
+use Rattle.jose.specs.declared.command.Command.TheVariants.{JwkGen, JwkThp, B64Enc, B64Dec, JwsSig, JwsVer, JweEnc, JweDec}
 use Rattle.jose.specs.declared.command.Role.{Role}
 use Rattle.jose.specs.declared.command.Role.TheVariants.{Input, Output, Neither}
 
@@ -70,6 +70,21 @@ jws_ver_options =
     option "k" "keys" required Input ∷
     option "O" "payload" optional Output ∷ []
 
+abbrev pub jwe_enc_options : List OptionEntry
+jwe_enc_options =
+    option "i" "template" (else_value "{}") Input ∷
+    option "I" "plaintext" (else_value "-") Input ∷
+    option "k" "keys" required Input ∷
+    option "o" "object" (else_value "-") Output ∷
+    option "c" "compact" flag Neither ∷
+    option "R" "random" optional Input ∷ []
+
+abbrev pub jwe_dec_options : List OptionEntry
+jwe_dec_options =
+    option "i" "object" (else_value "-") Input ∷
+    option "k" "keys" required Input ∷
+    option "O" "plaintext" (else_value "-") Output ∷ []
+
 abbrev pub options_of : Command → List OptionEntry
 options_of JwkGen = jwk_gen_options
 options_of JwkThp = jwk_thp_options
@@ -77,6 +92,8 @@ options_of B64Enc = b64_enc_options
 options_of B64Dec = b64_dec_options
 options_of JwsSig = jws_sig_options
 options_of JwsVer = jws_ver_options
+options_of JweEnc = jwe_enc_options
+options_of JweDec = jwe_dec_options
 
 abbrev pub entry : Command → String → String → CommandEntry
 entry command noun verb = record { command = command; noun = codes noun; verb = codes verb; options = options_of command }
@@ -88,7 +105,9 @@ commands =
     entry B64Enc "b64" "enc" ∷
     entry B64Dec "b64" "dec" ∷
     entry JwsSig "jws" "sig" ∷
-    entry JwsVer "jws" "ver" ∷ []
+    entry JwsVer "jws" "ver" ∷
+    entry JweEnc "jwe" "enc" ∷
+    entry JweDec "jwe" "dec" ∷ []
 
 -- the option of a command with this letter
 abbrev pub option_at : String → Command → Option OptionEntry

@@ -5,6 +5,7 @@ pub mod Reading
 pub mod Words
 pub mod Reports
 pub mod Jws
+pub mod Jwe
 pub mod Ports
 pub mod Jwk
 pub mod Meanings

@@ -8,10 +8,11 @@ use Rattle.octets.specs.Outcomes.{◌>>=◌}
 use Rattle.octets.specs.Plan.{Draft, placed, by_plan, by_text}
 use Rattle.octets.specs.Encoding.{encoding, decoding}
 use Rattle.jose.specs.declared.command.Command.{Command}
-use Rattle.jose.specs.declared.command.Command.TheVariants.{JwkGen, JwkThp, B64Enc, B64Dec, JwsSig, JwsVer}
+use Rattle.jose.specs.declared.command.Command.TheVariants.{JwkGen, JwkThp, B64Enc, B64Dec, JwsSig, JwsVer, JweEnc, JweDec}
 use Rattle.jose.specs.Invocations.{Settings, value_at, hash_asked}
 use Rattle.jose.specs.Ports.{OutputTexts, as_text, as_content}
 use Rattle.jose.specs.Jwk.{making, thp_answer}
+use Rattle.jose.specs.Jwe.{enc_answer, dec_answer}
 use Rattle.jose.specs.Jws.{sig_answer, ver_answer}
 
 -- which of the inputs is the content, which may be read while its text is written
@@ -30,6 +31,10 @@ pub record Meaning : Type 0 where
 -- `-O` was given
 abbrev pub is_content_wanted : Settings → Bool
 is_content_wanted settings = is_some (value_at (byte "O") settings)
+
+-- `-c` was given
+abbrev pub is_compact_asked : Settings → Bool
+is_compact_asked settings = is_some (value_at (byte "c") settings)
 
 abbrev pub jwk_gen : Meaning
 jwk_gen = record {
@@ -73,6 +78,20 @@ jws_ver = record {
   draft = λ settings text keys. placed as_content (by_text (ver_answer (is_content_wanted settings) keys text));
 }
 
+abbrev pub jwe_enc : Meaning
+jwe_enc = record {
+  content = the_content;
+  holds_back = false;
+  draft = λ settings text keys. placed as_text (enc_answer (is_compact_asked settings) keys text);
+}
+
+abbrev pub jwe_dec : Meaning
+jwe_dec = record {
+  content = none;
+  holds_back = true;
+  draft = λ settings text keys. placed as_content (by_text (dec_answer keys text));
+}
+
 abbrev pub meaning_of : Command → Meaning
 meaning_of JwkGen = jwk_gen
 meaning_of JwkThp = jwk_thp
@@ -80,3 +99,5 @@ meaning_of B64Enc = b64_enc
 meaning_of B64Dec = b64_dec
 meaning_of JwsSig = jws_sig
 meaning_of JwsVer = jws_ver
+meaning_of JweEnc = jwe_enc
+meaning_of JweDec = jwe_dec

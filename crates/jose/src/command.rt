@@ -20,6 +20,10 @@ pub enum Command {
     JwsSig,
     /// `jws ver`: verify an object.
     JwsVer,
+    /// `jwe enc`: encrypt a plaintext.
+    JweEnc,
+    /// `jwe dec`: decrypt an object.
+    JweDec,
 }
 
 /// What an option takes.
@@ -65,7 +69,7 @@ pub(crate) struct CommandRow {
 }
 
 /// All commands.
-static COMMANDS: [CommandRow; 6] = [
+static COMMANDS: [CommandRow; 8] = [
     CommandRow {
         command: Command::JwkGen,
         noun: "jwk",
@@ -124,6 +128,29 @@ static COMMANDS: [CommandRow; 6] = [
             OptionRow('i', "object", Kind::Default("-"), Role::Input),
             OptionRow('k', "keys", Kind::Required, Role::Input),
             OptionRow('O', "payload", Kind::Optional, Role::Output),
+        ],
+    },
+    CommandRow {
+        command: Command::JweEnc,
+        noun: "jwe",
+        verb: "enc",
+        options: &[
+            OptionRow('i', "template", Kind::Default("{}"), Role::Input),
+            OptionRow('I', "plaintext", Kind::Default("-"), Role::Input),
+            OptionRow('k', "keys", Kind::Required, Role::Input),
+            OptionRow('o', "object", Kind::Default("-"), Role::Output),
+            OptionRow('c', "compact", Kind::Flag, Role::Neither),
+            OptionRow('R', "random", Kind::Optional, Role::Input),
+        ],
+    },
+    CommandRow {
+        command: Command::JweDec,
+        noun: "jwe",
+        verb: "dec",
+        options: &[
+            OptionRow('i', "object", Kind::Default("-"), Role::Input),
+            OptionRow('k', "keys", Kind::Required, Role::Input),
+            OptionRow('O', "plaintext", Kind::Default("-"), Role::Output),
         ],
     },
 ];

@@ -7,7 +7,7 @@ ghost use Rattle.jose.specs.Ports.{observed_inputs, written_texts, AreFinite, Ap
 ghost use Rattle.jose.specs.Answer.{Answers, DrawsAll, DrawsNoMore, AreFinished, AreUntouched, AreUncut, AreInOrder, RefusesFirst, HoldsBack, beginning};
 
 use crate::command::Command;
-use crate::commands::{b64, jwk, jws};
+use crate::commands::{b64, jwe, jwk, jws};
 use crate::invocation::Invocation;
 use crate::ports::{Inputs, Outputs};
 use octets::{Input, Output, Refusal};
@@ -76,5 +76,23 @@ pub fn run<I: Input, O: Output>(
                 &mut outputs.content,
             )
         }
+        Command::JweEnc => {
+            let compact = invocation.has('c');
+            jwe::encrypt(
+                alloc,
+                &mut inputs.text,
+                &mut inputs.keys,
+                compact,
+                &mut inputs.random,
+                &mut inputs.content,
+                &mut outputs.text,
+            )
+        }
+        Command::JweDec => jwe::decrypt(
+            alloc,
+            &mut inputs.text,
+            &mut inputs.keys,
+            &mut outputs.content,
+        ),
     }
 }

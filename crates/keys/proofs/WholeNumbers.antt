@@ -36,7 +36,7 @@ mutual
       let parts = both (numbers_are_whole d) (item_numbers_are_whole ds) h in
       neither (has_float d) (items_have_float ds) (no_float d parts.0) (no_float_in_items ds parts.1)
 
-  no_float_in_members : (ms : Members) → member_numbers_are_whole ms ≡ true → members_have_float ms ≡ false
+  pub no_float_in_members : (ms : Members) → member_numbers_are_whole ms ≡ true → members_have_float ms ≡ false
   no_float_in_members no_members h = refl
   no_float_in_members (member k d ms) h =
       let parts = both (numbers_are_whole d) (member_numbers_are_whole ms) h in

@@ -66,8 +66,10 @@ has_only names (object members) = members_have_only names members
 
 -- ---- values without floats
 
--- A value without floats has none in a member, and its members have none where one without floats is put in.
+-- Members whose numbers are whole have no float. A value without floats has none in a member, and its members have none where one
+-- without floats is put in.
 pub record KeepFloatsOut : Type 0 where
+  pub whole : (members : Members) → member_numbers_are_whole members ≡ true → members_have_float members ≡ false
   pub found : (name : List ℕ) (d e : Data) → has_float d ≡ false → get name d ≡ Some e → has_float e ≡ false
   pub members_of : (d : Data) (members : Members) → as_object d ≡ Some members → has_float d ≡ false → members_have_float members ≡ false
   pub put_in : (name : List ℕ) (d : Data) (members : Members) → has_float d ≡ false → members_have_float members ≡ false → members_have_float (put name d members) ≡ false

@@ -164,7 +164,7 @@ impl ManagementAlg {
     }
 
     /// The operations of a sender and a receiver.
-    fn operations(self) -> (Operation, Operation)
+    pub fn operations(self) -> (Operation, Operation)
         ensures { result ≡ management_operations self }
     {
         match self {

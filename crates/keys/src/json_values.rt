@@ -61,8 +61,9 @@ fn items_have_whole_numbers(items: &Vec<Value>) -> bool
     true
 }
 
+/// Each number in an object with these members has one of them.
 #[cycle(numbers)]
-fn members_have_whole_numbers(members: &Map<String, Value>) -> bool
+pub fn members_have_whole_numbers(members: &Map<String, Value>) -> bool
     ensures { result ≡ member_numbers_are_whole (members_view members.now.entries) }
 {
     for (_, member) in members.iter() {

@@ -2,8 +2,8 @@
 ghost use Rattle.keys.specs.Json.{KeepFloatsOut};
 ghost use Rattle.keys.specs.JsonTexts.{CompactTextReadsBack, KeepJson, ReadsJson, UrlTextsAreJson};
 
-/// Members of a value without floats have none, and one may be put in. So what `read_json` gives, and
-/// what is made of it, has a compact text.
+/// Members whose numbers are whole have no float, nor have those of a value without floats, and one may be put in. So what
+/// `read_json` gives, and what is made of it, has a compact text.
 pub fn members_keep_floats_out()
     ensures { KeepFloatsOut }
 {}

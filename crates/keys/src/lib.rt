@@ -25,7 +25,9 @@ mod thumbprints;
 
 pub use algorithm::{Algorithm, EncryptionAlg, ManagementAlg, SignatureAlg};
 pub use generating::generate;
-pub use json_values::{has_only, is_object, nests_at_most, object_nests_at_most, read_json};
+pub use json_values::{
+    has_only, is_object, members_have_whole_numbers, nests_at_most, object_nests_at_most, read_json,
+};
 pub use key::Key;
 pub use limits::{MOST_DEPTH, MOST_KEY_OCTETS, MOST_KEYS};
 pub use operation::Operation;

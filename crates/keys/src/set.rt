@@ -51,7 +51,8 @@ impl KeySet {
 
     /// The keys, in the order of the text.
     pub fn keys(&self) -> &[Key]
-        ensures { map key_view result.now ≡ self.now }
+        ensures list { map key_view result.now ≡ self.now }
+        ensures few { length result.now ≤ limits.keys }
     {
         &self.keys
     }

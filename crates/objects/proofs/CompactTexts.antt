@@ -24,7 +24,7 @@ no_dot_by c true e h =
     let url : is_url_character 46 ≡ true = sym (ap is_url_character dot) ∙ h in
     cc url
 
-all_no_dot : (xs : List ℕ) → AllByRecursion (λ c. is_url_character c ≡ true) xs → HasNoDot xs
+pub all_no_dot : (xs : List ℕ) → AllByRecursion (λ c. is_url_character c ≡ true) xs → HasNoDot xs
 all_no_dot [] h = tt
 all_no_dot (x ∷ xs) h = (no_dot_by x (is_dot x) refl h.0, all_no_dot xs h.1)
 
@@ -107,7 +107,7 @@ unfolding split_at_dot
 joined_of_split text parts h = joined_of text parts (position is_dot text) refl h
 
 -- the steps of a chain that answers
-steps : {A B : Type 0} (r : Result A Refusal) (f : A → Result B Refusal) (y : B) → (r >>= f) ≡ Ok y → (x : A) × (r ≡ Ok x) × (f x ≡ Ok y)
+pub steps : {A B : Type 0} (r : Result A Refusal) (f : A → Result B Refusal) (y : B) → (r >>= f) ≡ Ok y → (x : A) × (r ≡ Ok x) × (f x ≡ Ok y)
 steps (Ok x) f y h = (x, refl, h)
 steps (Err e) f y h = cc h
 

@@ -1,10 +1,12 @@
 -- Lists of recipients beside the lists that they stand for.
-use Rattle.std.proofs.Common.{◌≡◌, ℕ, ◌≤◌, List, [], ◌∷◌, ◌++◌, length, map, slice_index_or, Result, Ok, Err, refl, sym, ap, ◌∙◌, arith, append_assoc}
+use Rattle.std.proofs.Common.{◌≡◌, ℕ, suc, ◌≤◌, List, [], ◌∷◌, ◌++◌, length, map, slice_index_or, Result, Ok, Err, refl, sym, ap, ◌∙◌, arith, append_assoc}
 use Rattle.std.specs.List.{list_all}
-use Rattle.std.specs.Prelude.{◌&&◌, ◌||◌, Bool, true, false}
+use Rattle.std.specs.Prelude.{◌&&◌, ◌||◌, Bool, true, false, nat_le}
 use Rattle.std.specs.Str.{bytes_eq}
-use Rattle.serde_json.specs.Data.{Members}
+use Rattle.serde_json.specs.Data.{Members, object, depth, members_depth}
 use Rattle.serde_json.specs.Written.{members_have_float}
+use Rattle.std.proofs.lemmas.List.{length-map}
+use Rattle.keys.specs.Json.{member_numbers_are_whole, KeepFloatsOut}
 use Rattle.octets.specs.declared.refusal.Refusal.{Refusal}
 use Rattle.octets.specs.Outcomes.{◌>>=◌}
 use Rattle.objects.specs.Jwe.{RecipientParts, Recipient, recipient_of, recipients_of, have_enc, have_one_enc, is_plain, recipients_have_float}
@@ -24,10 +26,50 @@ one_enc [] first some is = absurd (omega arith)
 one_enc (r ∷ recipients) first some is =
     ap (λ (f : Code). have_enc (recipient_view f).enc (map recipient_view (r ∷ recipients))) (sym is) ∙ all_have_enc (recipient_view first).enc (r ∷ recipients)
 
--- whether all have headers with no member that is refused
+-- whether all have headers that pass
+all_headers : (test : Members → Bool) (recipients : List Parts) → list_all (λ (r : RecipientParts). test r.header) (map recipient_parts_view recipients) ≡ list_all (λ (r : Parts). test (recipient_parts_view r).header) recipients
+all_headers test [] = refl
+all_headers test (r ∷ recipients) = ap (λ rest. test (recipient_parts_view r).header && rest) (all_headers test recipients)
+
 pub all_plain : (recipients : List Parts) → list_all (λ (r : RecipientParts). is_plain r.header) (map recipient_parts_view recipients) ≡ list_all (λ (r : Parts). is_plain (recipient_parts_view r).header) recipients
-all_plain [] = refl
-all_plain (r ∷ recipients) = ap (λ rest. is_plain (recipient_parts_view r).header && rest) (all_plain recipients)
+all_plain = all_headers is_plain
+
+pub all_shallow : (n : ℕ) (recipients : List Parts) → list_all (λ (r : RecipientParts). nat_le (depth (object r.header)) n) (map recipient_parts_view recipients)
+    ≡ list_all (λ (r : Parts). nat_le (suc (members_depth (recipient_parts_view r).header)) n) recipients
+all_shallow n = all_headers (λ header. nat_le (suc (members_depth header)) n)
+
+pub all_whole : (recipients : List Parts) → list_all (λ (r : RecipientParts). member_numbers_are_whole r.header) (map recipient_parts_view recipients)
+    ≡ list_all (λ (r : Parts). member_numbers_are_whole (recipient_parts_view r).header) recipients
+all_whole = all_headers member_numbers_are_whole
+
+-- where each has a header whose numbers are whole, there is no float
+no_float_by : (a b c d : Bool) → (a && b) ≡ true → (a ≡ true → c ≡ false) → (b ≡ true → d ≡ false) → (c || d) ≡ false
+no_float_by true b c d h first rest = rw (first refl) (rest h)
+no_float_by false b c d h first rest = cc h
+
+pub no_floats : KeepFloatsOut → (recipients : List RecipientParts) → list_all (λ (r : RecipientParts). member_numbers_are_whole r.header) recipients ≡ true → recipients_have_float recipients ≡ false
+no_floats law [] h = refl
+no_floats law (r ∷ recipients) h =
+    no_float_by (member_numbers_are_whole r.header) _ (members_have_float r.header) (recipients_have_float recipients) h (law.whole r.header) (no_floats law recipients)
+
+-- there are as many recipients as are given
+many_by : (parts : List RecipientParts) (recipients : List Recipient) (first : Result Recipient Refusal) (others : Result (List Recipient) Refusal)
+    → (first >>= λ f. others >>= λ o. Ok (f ∷ o)) ≡ Ok recipients → ((o : List Recipient) → others ≡ Ok o → length o ≡ length parts) → length recipients ≡ suc (length parts)
+many_by parts recipients (Ok f) (Ok o) h later =
+    let made : recipients ≡ f ∷ o = cc h in
+    ap length made ∙ ap suc (later o refl)
+many_by parts recipients (Ok f) (Err r) h later = cc h
+many_by parts recipients (Err r) others h later = cc h
+
+many : (protected unprotected : Members) (parts : List RecipientParts) (recipients : List Recipient) → recipients_of protected unprotected parts ≡ Ok recipients → length recipients ≡ length parts
+many protected unprotected [] recipients h = let none : recipients ≡ [] = cc h in ap length none
+many protected unprotected (p ∷ parts) recipients h =
+    many_by parts recipients (recipient_of protected unprotected p) (recipients_of protected unprotected parts) h (many protected unprotected parts)
+
+pub as_many : (protected unprotected : Members) (parts : List Parts) (recipients : List Code)
+    → recipients_of protected unprotected (map recipient_parts_view parts) ≡ Ok (map recipient_view recipients) → length recipients ≡ length parts
+as_many protected unprotected parts recipients h =
+    sym (length-map recipients recipient_view) ∙ many protected unprotected (map recipient_parts_view parts) (map recipient_view recipients) h ∙ length-map parts recipient_parts_view
 
 -- the recipients so far, and then those of the parts that are left
 abbrev pub with_done : Members → Members → List Recipient → List RecipientParts → Result (List Recipient) Refusal

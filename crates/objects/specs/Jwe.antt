@@ -1,20 +1,22 @@
 -- JWE objects (RFC 7516): their compact texts (section 7.1) and their flattened JSON texts (section 7.2.2).
-use Rattle.std.specs.Prelude.{ℕ, ◌&&◌, ◌||◌, ◌==◌, Bool, true, false, not, List, [], ◌∷◌, ◌++◌, length, codes, nat_le, is_none, if◌then◌else◌, Option, Some, None, option_and_then, Result, Ok}
-use Rattle.std.specs.List.{list_all}
+use Rattle.std.specs.Prelude.{◌≡◌, ℕ, ◌&&◌, ◌||◌, ◌==◌, Bool, true, false, not, List, [], ◌∷◌, ◌++◌, length, codes, nat_le, is_none, if◌then◌else◌, Option, Some, None, option_and_then, Result, Ok}
+use Rattle.std.specs.List.{AllByRecursion, list_all}
 use Rattle.std.specs.Option.{ok_or}
 use Rattle.std.specs.Str.{bytes_eq}
-use Rattle.serde_json.specs.Data.{Data, Members, no_members, member, string, object, put}
+use Rattle.serde_json.specs.Data.{Data, Members, no_members, member, string, object, put, depth}
 use Rattle.serde_json.specs.Find.{get, get_member, as_str}
 use Rattle.serde_json.specs.Written.{compact_text, members_have_float}
 use Rattle.octets.specs.declared.refusal.Refusal.{Refusal}
-use Rattle.octets.specs.declared.refusal.Refusal.TheVariants.{Form, Header, Unsupported, NotCompact}
+use Rattle.octets.specs.declared.refusal.Refusal.TheVariants.{Json, Number, Form, Header, Unsupported, NotCompact}
 use Rattle.octets.specs.Outcomes.{◌>>=◌, needs}
+use Rattle.octets.specs.Octets.{IsOctets}
 use Rattle.octets.specs.Base64url.{base64url, decoded}
 use Rattle.octets.specs.LineEnds.{without_line_end}
 use Rattle.keys.specs.declared.algorithm.ManagementAlg.{ManagementAlg}
 use Rattle.keys.specs.declared.algorithm.ManagementAlg.TheVariants.{Dir, A128Kw, A192Kw, A256Kw, Pbes2Hs256A128Kw, Pbes2Hs384A192Kw, Pbes2Hs512A256Kw}
 use Rattle.keys.specs.Algorithms.{management_alg_of}
-use Rattle.keys.specs.Json.{json_value}
+use Rattle.keys.specs.Json.{json_value, member_numbers_are_whole}
+use Rattle.keys.specs.JsonTexts.{AreJsonMembers}
 use Rattle.objects.specs.Headers.{header_at, protected_members, joint_header, string_parameter, number_parameter, salt_parameter}
 use Rattle.objects.specs.Jws.{is_json_form, split_at_dot, three_parts}
 
@@ -169,6 +171,19 @@ pub record EncryptedObject : Type 0 where
   pub tag : List ℕ
   pub recipients : List Recipient
 
+-- the same object, but for its ciphertext
+abbrev pub without_ciphertext : EncryptedObject → EncryptedObject
+without_ciphertext o = record {
+  protected = o.protected;
+  protected_members = o.protected_members;
+  unprotected = o.unprotected;
+  iv = o.iv;
+  aad = o.aad;
+  ciphertext = [];
+  tag = o.tag;
+  recipients = o.recipients;
+}
+
 -- ---- the header of a recipient
 
 -- the key comes of a password (RFC 7518 section 4.8)
@@ -272,6 +287,27 @@ jwe_of text = do
   texts ← jwe_texts text
   object_of_texts texts
 
+-- ---- an object that is made of its members
+
+-- A text is read where it nests at most 127 deep, and so is a header in it where that nests one less deep.
+abbrev pub header_depth : ℕ
+header_depth = 126
+
+abbrev pub nest_at_most : ℕ → JweParts → Bool
+nest_at_most n parts = nat_le (depth (object parts.unprotected)) n && list_all (λ r. nat_le (depth (object r.header)) n) parts.recipients
+
+abbrev pub have_whole_numbers : JweParts → Bool
+have_whole_numbers parts = member_numbers_are_whole parts.unprotected && list_all (λ r. member_numbers_are_whole r.header) parts.recipients
+
+-- the object with these members, or what its JSON text would be refused with; so far it has one recipient
+unfoldable pub built : JweParts → Result EncryptedObject Refusal
+built parts = do
+  shallow ← needs (nest_at_most header_depth parts) Json
+  whole ← needs (have_whole_numbers parts) Number
+  one ← needs (length parts.recipients == 1) Form
+  octets ← decoded parts.protected
+  encrypted_object octets parts
+
 -- ---- its texts
 
 -- a member that is there where its text is not empty
@@ -330,3 +366,20 @@ unfoldable pub jwe_compact_text : EncryptedObject → Result (List ℕ) Refusal
 jwe_compact_text o = do
   fits ← needs (is_compact o o.recipients) NotCompact
   Ok (joined o.protected (key_of_first o.recipients) o.iv o.ciphertext o.tag)
+
+-- ---- what is written is read
+
+-- the texts and headers are as JSON has them, and the others are octets
+pub record AreMembers (parts : JweParts) : Type 0 where
+  pub protected : IsOctets parts.protected
+  pub unprotected : AreJsonMembers parts.unprotected
+  pub iv : IsOctets parts.iv
+  pub aad : IsOctets parts.aad
+  pub ciphertext : IsOctets parts.ciphertext
+  pub tag : IsOctets parts.tag
+  pub recipients : AllByRecursion (λ r. AreJsonMembers r.header × IsOctets r.encrypted_key) parts.recipients
+
+-- An object that is made of its members is what its JSON text spells, and its compact text where it has one.
+abbrev pub TextsSpellObjects : Type 0
+TextsSpellObjects = (parts : JweParts) (o : EncryptedObject) → AreMembers parts → built parts ≡ Ok o
+    → (jwe_of (json_text o) ≡ Ok o) × ((text : List ℕ) → jwe_compact_text o ≡ Ok text → jwe_of text ≡ Ok o)

@@ -91,5 +91,5 @@ jwe_view j = record {
   aad = j.aad.items;
   ciphertext = j.ciphertext.items;
   tag = j.tag.items;
-  recipients = map recipient_view j.recipients.items;
+  recipients = map recipient_view j.recipients.list.items;
 }

@@ -1,10 +1,11 @@
 //! Encrypted objects (RFC 7516). It is given an object's text or its members, and sees no key.
-ghost use Rattle.std.specs.Prelude.{◌≡◌, false, map};
+ghost use Rattle.std.specs.Prelude.{◌≡◌, ◌≤◌, false, length, map, IfOk};
 ghost use Rattle.std.specs.List.{list_all};
 ghost use Rattle.std.specs.Str.{bytes_eq};
 ghost use Rattle.serde_json.specs.View.{members_view};
 ghost use Rattle.octets.specs.Outcomes.{AgreesUnlessMemory};
-ghost use Rattle.objects.specs.Jwe.{jwe_of, object_of_texts as object_of_jwe_texts, encrypted_object as encrypted_object_of, recipients_of, recipients_of_one_enc, have_one_enc as have_one_enc_of, is_plain as is_plain_header, are_plain as are_plain_parts, parts_have_float, recipients_have_float, texts_have_float};
+ghost use Rattle.keys.specs.Limits.{limits};
+ghost use Rattle.objects.specs.Jwe.{jwe_of, object_of_texts as object_of_jwe_texts, encrypted_object as encrypted_object_of, recipients_of, recipients_of_one_enc, have_one_enc as have_one_enc_of, without_ciphertext, is_plain as is_plain_header, are_plain as are_plain_parts, parts_have_float, recipients_have_float, texts_have_float};
 ghost use Rattle.objects.specs.Views.{jwe_view, parts_view, texts_view, recipient_view, recipient_parts_view};
 
 use crate::header::read_protected;
@@ -12,10 +13,12 @@ use crate::header_members::HeaderMembers;
 use crate::jwe_texts::{JweTexts, compact_texts, flattened_texts, read_parts};
 use crate::jws::is_json_form;
 use crate::recipient::{Recipient, RecipientParts, is_plain, read_recipient};
+use crate::recipient_list::RecipientList;
 use keys::read_json;
 use octets::{Refusal, b64_decode, needs, without_line_end};
 use serde_json::{Map, Value};
 use std::alloc::Global;
+use std::mem::replace;
 
 /// The members of an encrypted object. An absent one is empty.
 #[derive(Drop)]
@@ -34,7 +37,7 @@ pub struct JweParts {
     pub recipients: Vec<RecipientParts>,
 }
 
-/// An encrypted object.
+/// An encrypted object. It has 64 recipients at most.
 #[derive(Drop)]
 pub struct Jwe {
     protected: String,
@@ -44,7 +47,7 @@ pub struct Jwe {
     aad: Vec<u8>,
     ciphertext: Vec<u8>,
     tag: Vec<u8>,
-    recipients: Vec<Recipient>,
+    recipients: RecipientList,
 }
 
 impl Jwe {
@@ -108,11 +111,20 @@ impl Jwe {
         &self.tag
     }
 
+    /// Takes the ciphertext out, and leaves none.
+    pub fn take_ciphertext(&mut self, alloc: Global) -> Vec<u8>
+        ensures taken { result.items ≡ (jwe_view self.old).ciphertext }
+        ensures left { jwe_view self.new ≡ without_ciphertext (jwe_view self.old) }
+    {
+        replace(&mut self.ciphertext, Vec::new(alloc))
+    }
+
     /// The recipients, in order.
     pub fn recipients(&self) -> &[Recipient]
-        ensures { map recipient_view result.now ≡ (jwe_view self.now).recipients }
+        ensures list { map recipient_view result.now ≡ (jwe_view self.now).recipients }
+        ensures few { length result.now ≤ limits.recipients }
     {
-        &self.recipients
+        &self.recipients.list
     }
 }
 
@@ -129,8 +141,13 @@ fn object_of_texts(alloc: Global, texts: JweTexts<'_>) -> Result<Jwe, Refusal>
 
 /// The object with these members and these octets of its protected header.
 #[tactic(auto, unfolding(crate::specs::Jwe::encrypted_object))]
-fn encrypted_object(alloc: Global, octets: &[u8], parts: JweParts) -> Result<Jwe, Refusal>
-    requires { parts_have_float (parts_view parts) ≡ false }
+pub(crate) fn encrypted_object(
+    alloc: Global,
+    octets: &[u8],
+    parts: JweParts,
+) -> Result<Jwe, Refusal>
+    requires no_float { parts_have_float (parts_view parts) ≡ false }
+    requires few { length parts.recipients.items ≤ limits.recipients }
     ensures { AgreesUnlessMemory jwe_view result (encrypted_object_of octets.now (parts_view parts)) }
 {
     let JweParts {
@@ -154,7 +171,7 @@ fn encrypted_object(alloc: Global, octets: &[u8], parts: JweParts) -> Result<Jwe
         aad,
         ciphertext,
         tag,
-        recipients,
+        recipients: RecipientList { list: recipients },
     })
 }
 
@@ -180,7 +197,7 @@ fn have_plain_headers(recipients: &[RecipientParts]) -> bool
 }
 
 /// The recipients, whose `enc` is the same for all.
-#[tactic(auto, unfolding(crate::specs::Jwe::recipients_of_one_enc))]
+#[tactic(auto, unfolding(crate::specs::Jwe::recipients_of_one_enc), using(crate::proofs::Recipients::as_many))]
 fn recipients_of_one_enc(
     alloc: Global,
     protected: &Map<String, Value>,
@@ -188,7 +205,8 @@ fn recipients_of_one_enc(
     parts: Vec<RecipientParts>,
 ) -> Result<Vec<Recipient>, Refusal>
     requires { recipients_have_float (map recipient_parts_view parts.items) ≡ false }
-    ensures { AgreesUnlessMemory (λ recipients. map recipient_view recipients.items) result
+    ensures as_many { IfOk result (λ recipients. length recipients.items ≡ length parts.items) }
+    ensures exact { AgreesUnlessMemory (λ recipients. map recipient_view recipients.items) result
         (recipients_of_one_enc (members_view protected.now.entries) (members_view unprotected.now.entries) (map recipient_parts_view parts.items)) }
 {
     let recipients = read_recipients(alloc, protected, unprotected, parts)?;

@@ -1,6 +1,6 @@
 //! The members of an encrypted object as texts, by its compact or its flattened JSON serialization (RFC 7516 section
 //! 7). It decodes them, and reads no header.
-ghost use Rattle.std.specs.Prelude.{◌≡◌, ◌∷◌, [], false, IfOk, IfErr};
+ghost use Rattle.std.specs.Prelude.{◌≡◌, ◌∷◌, [], false, length, IfOk, IfErr};
 ghost use Rattle.serde_json.specs.View.{view, members_view};
 ghost use Rattle.serde_json.specs.Written.{has_float, members_have_float};
 ghost use Rattle.octets.specs.Base64url.{base64url};
@@ -114,9 +114,9 @@ fn content_texts(value: &Value) -> Result<ContentTexts<'_>, Refusal>
     })
 }
 
-/// The text of a member that is a string. It may be absent.
+/// The text of a member that is a string, and none where it is absent. Refused with `Form` where it is no string.
 #[tactic(auto, unfolding(crate::specs::Jwe::text_at))]
-fn text_at<'v>(value: &'v Value, name: &str) -> Result<&'v [u8], Refusal>
+pub fn text_at<'v>(value: &'v Value, name: &str) -> Result<&'v [u8], Refusal>
     ensures { AgreesUnlessMemory (λ text. text.now) result (text_at name.now (view value.now)) }
 {
     match value.get(name) {
@@ -179,6 +179,7 @@ pub(crate) fn read_parts(
 ) -> Result<JweParts, Refusal>
     requires received { base64url protected.now ≡ texts.shared.protected.now }
     ensures exact { AgreesUnlessMemory parts_view result (parts_of_texts (texts_view texts.entry)) }
+    ensures single { IfOk result (λ parts. length parts.recipients.items ≡ 1) }
     ensures no_float { IfOk result (λ parts. texts_have_float (texts_view texts.entry) ≡ false → parts_have_float (parts_view parts) ≡ false) }
 {
     let aad = b64_decode(alloc, texts.shared.aad)?;

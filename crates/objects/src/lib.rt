@@ -19,13 +19,16 @@ mod compact;
 mod header;
 mod header_members;
 mod jwe;
+mod jwe_building;
 mod jwe_texts;
 mod jwe_writing;
 mod jws;
 pub mod laws;
 mod recipient;
+mod recipient_list;
 
 pub use header::{Header, header_at, read_protected};
 pub use jwe::{Jwe, JweParts};
+pub use jwe_texts::text_at;
 pub use jws::Jws;
 pub use recipient::{Recipient, RecipientParts};

@@ -17,7 +17,7 @@ use Rattle.octets.proofs.Meanings.{text_of_meaning, meaning_of_text}
 pub IsOctets-nil : IsOctets []
 IsOctets-nil i = omega arith
 
-first_or : (x : ℕ) (xs : List ℕ) → x < 256 → IsOctets xs → IsOctets (x ∷ xs)
+pub first_or : (x : ℕ) (xs : List ℕ) → x < 256 → IsOctets xs → IsOctets (x ∷ xs)
 first_or x xs h rest zero = h
 first_or x xs h rest (suc i) = rest i
 

@@ -7,3 +7,4 @@ pub mod Growing
 pub mod Prefixes
 pub mod Agreement
 pub mod Chunks
+pub mod Search

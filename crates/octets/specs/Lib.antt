@@ -8,3 +8,4 @@ pub mod LineEnds
 pub mod Plan
 pub mod Faults
 pub mod Encoding
+pub mod Search

@@ -1,8 +1,10 @@
 //! Laws of the definitions, each the contract of a function that does nothing.
-ghost use Rattle.octets.specs.Base64url.{TextsAreDistinct, DecodesExactly, SpellsSixBits, HasUrlCharacters};
+ghost use Rattle.std.specs.Prelude.{◌≡◌, ℕ, List, Ok};
+ghost use Rattle.octets.specs.Base64url.{decoded, TextsAreDistinct, DecodesExactly, SpellsSixBits, HasUrlCharacters};
 ghost use Rattle.octets.specs.Encoding.{encoding, decoding, FixesLongest};
 ghost use Rattle.octets.specs.Octets.{IsOctets};
 ghost use Rattle.octets.specs.Plan.{Grows};
+ghost use Rattle.octets.specs.Search.{FindsOctets};
 
 /// A slice of octets holds octets. A caller says so of a buffer after a call has filled it, since a
 /// contract does not.
@@ -19,6 +21,11 @@ pub fn base64url_texts_are_distinct()
 /// refused as `Base64`.
 pub fn base64url_decodes_exactly()
     ensures { DecodesExactly }
+{}
+
+/// What a text decodes to is octets.
+pub fn base64url_decodes_to_octets()
+    ensures { (text octets : List ℕ) → IsOctets text → decoded text ≡ Ok octets → IsOctets octets }
 {}
 
 /// A base64url text is the characters of the octets' groups of six bits, in order, in the URL and
@@ -45,4 +52,9 @@ pub fn decoding_grows()
 /// What a beginning of a text fixes is the longest list of whole groups of three octets whose text begins it.
 pub fn decoding_fixes_the_longest()
     ensures { FixesLongest }
+{}
+
+/// The search for an octet string finds one that passes, and finds none only where there is none.
+pub fn search_finds_octets()
+    ensures { FindsOctets }
 {}

@@ -3,3 +3,8 @@ pub mod SigningPlans
 pub mod HeaderMembers
 pub mod Growing
 pub mod RoundTrip
+pub mod Candidates
+pub mod PairLists
+pub mod Sealed
+pub mod Openings
+pub mod EncryptingPlans

@@ -1,9 +1,23 @@
 -- What values of the code hold.
-use Rattle.std.specs.Prelude.{string_bytes}
+use Rattle.std.specs.Prelude.{ℕ, List, string_bytes}
+use Rattle.ciphers.specs.Sealing as ciphers
+use Rattle.serde_json.specs.View.{members_view}
 use Rattle.keys.specs.Views.{key_view}
-use Rattle.objects.specs.Views.{part_view}
+use Rattle.objects.specs.Views.{part_view, recipient_view}
 use Rattle.tokens.specs.declared.template.Template.{Template}
 use Rattle.tokens.specs.declared.sign.Signer.{Signer as Code}
+use Rattle.tokens.specs.declared.algorithms.Algorithms.{Algorithms as CodeAlgorithms}
+use Rattle.tokens.specs.declared.pair.Pair.{Pair as CodePair}
+use Rattle.tokens.specs.declared.decrypt.Sealed.{Sealed}
+use Rattle.tokens.specs.declared.decrypt.Work.{Work}
+use Rattle.tokens.specs.declared.sealing.SealedOctets.{SealedOctets}
+use Rattle.tokens.specs.declared.encryption.Encryption.{Encryption as CodeEncryption}
+use Rattle.tokens.specs.declared.encryption_template.AlgorithmsAsked.{AlgorithmsAsked as CodeAsked}
+use Rattle.tokens.specs.declared.encryption_template.EncryptionTemplate.{EncryptionTemplate as CodeTemplate}
+use Rattle.tokens.specs.declared.encryption_template.TemplateTexts.{TemplateTexts as CodeTexts}
+use Rattle.tokens.specs.Algorithms.{Algorithms}
+use Rattle.tokens.specs.Encrypting.{TemplateTexts, AlgorithmsAsked, EncryptionTemplate, Encryption}
+use Rattle.tokens.specs.Decrypting.{Pair, SealedContent, Counts}
 use Rattle.tokens.specs.Template.{SignatureTemplate}
 use Rattle.tokens.specs.Signing.{Signer}
 
@@ -12,3 +26,38 @@ template_view t = record { protected = part_view t.protected; per_signature = pa
 
 abbrev pub signer_view : Code → Signer
 signer_view s = record { alg = s.alg; key = (key_view s.key.now).octets; header = string_bytes s.header }
+
+abbrev pub algorithms_view : CodeAlgorithms → Algorithms
+algorithms_view a = record { management = a.management; encryption = a.encryption }
+
+abbrev pub pair_view : CodePair → Pair
+pair_view p = record { recipient = recipient_view p.recipient.now; algorithms = algorithms_view p.algorithms; key = key_view p.key.now }
+
+-- with the ciphertext, which stands elsewhere
+abbrev pub sealed_view : Sealed → List ℕ → SealedContent
+sealed_view s ciphertext = record { iv = s.iv.now; aad = s.aad.now; ciphertext = ciphertext; tag = s.tag.now }
+
+abbrev pub work_view : Work → Counts
+work_view w = record { iterations = w.iterations; unwraps = w.unwraps; openings = w.openings }
+
+abbrev pub sealed_octets_view : SealedOctets → ciphers.Sealed
+sealed_octets_view s = record { ciphertext = s.ciphertext.items; tag = s.tag.items }
+
+abbrev pub template_texts_view : CodeTexts → TemplateTexts
+template_texts_view t = record { protected = part_view t.protected; unprotected = part_view t.unprotected; aad = t.aad.now }
+
+abbrev pub asked_view : CodeAsked → AlgorithmsAsked
+asked_view a = record { management = a.management; encryption = a.encryption }
+
+abbrev pub encryption_template_view : CodeTemplate → EncryptionTemplate
+encryption_template_view t = record { protected = part_view t.protected; unprotected = part_view t.unprotected; aad = t.aad.items; asked = asked_view t.asked }
+
+abbrev pub encryption_view : CodeEncryption → Encryption
+encryption_view e = record {
+  management = e.management;
+  encryption = e.encryption;
+  key = (key_view e.key.now).octets;
+  header = string_bytes e.header;
+  unprotected = members_view e.unprotected.entries;
+  aad = e.aad.items;
+}

@@ -10,11 +10,22 @@
 //! ```
 #![tactic(auto)]
 
+mod algorithms;
+mod choosing;
+mod decrypt;
+mod encrypt;
+mod encryption;
+mod encryption_template;
 pub mod laws;
+mod pair;
+mod pairs;
+mod sealing;
 mod sign;
 mod signature;
 mod template;
 mod verify;
 
+pub use decrypt::{Work, jwe_decrypt};
+pub use encrypt::jwe_encrypt;
 pub use sign::jws_sign;
 pub use verify::jws_verify;

@@ -85,7 +85,7 @@ fn read_signer<'k>(alloc: Global, keys: &'k KeySet, template: &[u8]) -> Result<S
 }
 
 /// The one key that signs.
-fn only_key(keys: &[Key]) -> Result<&Key, Refusal>
+pub(crate) fn only_key(keys: &[Key]) -> Result<&Key, Refusal>
     ensures { AgreesUnlessMemory (λ key. key_view key.now) result (only_key (map key_view keys.now)) }
 {
     match keys {

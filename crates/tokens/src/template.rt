@@ -123,7 +123,10 @@ fn with_alg(
 
 /// A copy of a header. An absent one has no members.
 #[tactic(auto, using(crate::proofs::HeaderMembers::copied_members))]
-fn copy(alloc: Global, part: Option<&Map<String, Value>>) -> Result<Map<String, Value>, AllocError>
+pub(crate) fn copy(
+    alloc: Global,
+    part: Option<&Map<String, Value>>,
+) -> Result<Map<String, Value>, AllocError>
     ensures { IfOk result (λ copy. members_view copy.entries ≡ part_view part.entry) }
 {
     match part {
@@ -133,7 +136,7 @@ fn copy(alloc: Global, part: Option<&Map<String, Value>>) -> Result<Map<String, 
 }
 
 /// The header nests at most 64 deep.
-fn is_shallow(part: Option<&Map<String, Value>>) -> bool
+pub(crate) fn is_shallow(part: Option<&Map<String, Value>>) -> bool
     ensures { result ≡ is_shallow limits (part_view part.entry) }
 {
     match part {
@@ -144,7 +147,7 @@ fn is_shallow(part: Option<&Map<String, Value>>) -> bool
 
 /// The header has no members.
 #[tactic(auto, using(crate::proofs::HeaderMembers::empty_members))]
-fn is_empty(part: Option<&Map<String, Value>>) -> bool
+pub(crate) fn is_empty(part: Option<&Map<String, Value>>) -> bool
     ensures { result ≡ is_empty (part_view part.entry) }
 {
     match part {
@@ -155,7 +158,7 @@ fn is_empty(part: Option<&Map<String, Value>>) -> bool
 
 /// The compact JSON text of a header. One without members has the empty text.
 #[tactic(auto, using(crate::proofs::HeaderMembers::text_of_some, crate::proofs::HeaderMembers::text_of_none))]
-fn header_text(alloc: Global, members: Map<String, Value>) -> Result<String, AllocError>
+pub(crate) fn header_text(alloc: Global, members: Map<String, Value>) -> Result<String, AllocError>
     requires { members_have_float (members_view members.entries) ≡ false }
     ensures { IfOk result (λ text. string_bytes text ≡ header_text (members_view members.entries)) }
 {

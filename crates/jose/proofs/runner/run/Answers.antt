@@ -3,17 +3,18 @@ use Rattle.std.proofs.Math.Seq.{drop-length}
 use Rattle.std.specs.Option.{ok_or}
 use Rattle.octets.specs.declared.refusal.Refusal.TheVariants.{Usage}
 use Rattle.octets.specs.Devices.{appended, observed}
-use Rattle.octets.specs.Plan.{planned}
+use Rattle.octets.specs.Plan.{plan_from, planned}
 use Rattle.octets.specs.Encoding.{encoding, decoding}
-use Rattle.octets.proofs.Agreement.{planned_map, planned_without_content, plan_of_plan, plan_of_text, on_refusal}
+use Rattle.octets.proofs.Agreement.{planned_map, planned_without_content, plan_from-placed, plan_of_plan, plan_of_text, on_refusal}
 use Rattle.octets.proofs.Prefixes.{AppendsPrefixOf-none}
 use Rattle.keys.specs.Generating.{gen_answer}
 use Rattle.keys.specs.Limits.{limits}
 use Rattle.jose.specs.Invocations.{invocation_view, hash_asked}
 use Rattle.jose.specs.Ports.{as_text, as_content}
 use Rattle.jose.specs.Jwk.{thp_answer}
+use Rattle.jose.specs.Jwe.{enc_answer, dec_answer}
 use Rattle.jose.specs.Jws.{sig_answer, ver_answer}
-use Rattle.jose.specs.Meanings.{is_content_wanted}
+use Rattle.jose.specs.Meanings.{is_compact_asked, is_content_wanted}
 use Rattle.jose.proofs.Agreement.{agrees_as_text, agrees_as_content, plan_of_making, begun_by_plan, begun_by_text}
 use Rattle.jose.proofs.runner.run.Goals as goal
 
@@ -115,3 +116,45 @@ returns-in-JwsVer-clause-beginning g c =
     let others = at_end c.verify.new.keys && at_end c.verify.new.text in
     on_refusal c.verify.result (rw (← c.has-wanted.ensures) c.verify.ensures.beginning)
     (λ h. rw (c.in-JwsVer.is, plan_of_text as_content a (appended random random), begun_by_text as_content refl others a) (record { text = AppendsPrefixOf-none _ _ refl; content = h }))
+
+-- ---- jwe enc
+
+pub returns-in-JweEnc-clause-answer : goal.returns-in-JweEnc-clause-answer
+returns-in-JweEnc-clause-answer g c inputs may =
+    let draft = enc_answer (is_compact_asked (invocation_view c.args.invocation.now).options) inputs.keys inputs.text in
+    let plan = plan_from draft inputs.random in
+    let h = c.encrypt.ensures.answer inputs.text inputs.keys inputs.random inputs.content may.text may.keys may.random may.content in
+    rw (c.in-JweEnc.is, plan_from-placed as_text draft inputs.random, planned_map as_text plan inputs.content)
+    (agrees_as_text (planned plan inputs.content) _ _ _ (drop-length (g.O.Output.written c.args.outputs.now.content)) (rw (← c.has-compact.ensures) h))
+
+pub returns-in-JweEnc-clause-beginning : goal.returns-in-JweEnc-clause-beginning
+returns-in-JweEnc-clause-beginning g c =
+    let consumed = g.I.Input.consumed in
+    let at_end = g.I.Input.is_at_end in
+    let old = c.args.inputs.now in
+    let random = appended (consumed old.random) (consumed c.encrypt.new.random) in
+    let draft = enc_answer (is_compact_asked (invocation_view c.args.invocation.now).options) (appended (consumed old.keys) (consumed c.encrypt.new.keys)) (appended (consumed old.text) (consumed c.encrypt.new.template)) in
+    let others = at_end c.encrypt.new.keys && at_end c.encrypt.new.template in
+    let content = observed consumed at_end old.content c.encrypt.new.content in
+    on_refusal c.encrypt.result (rw (← c.has-compact.ensures) c.encrypt.ensures.beginning)
+    (λ h. rw (c.in-JweEnc.is, plan_from-placed as_text draft random, begun_by_plan as_text refl others (plan_from draft random) content) (record { text = h; content = AppendsPrefixOf-none _ _ refl }))
+
+-- ---- jwe dec
+
+pub returns-in-JweDec-clause-answer : goal.returns-in-JweDec-clause-answer
+returns-in-JweDec-clause-answer g c inputs may =
+    let a = dec_answer inputs.keys inputs.text in
+    let h = c.decrypt.ensures.answer inputs.text inputs.keys may.text may.keys in
+    rw (c.in-JweDec.is, plan_of_text as_content a inputs.random, planned_without_content as_content a [])
+    (agrees_as_content a _ _ _ (drop-length (g.O.Output.written c.args.outputs.now.text)) h)
+
+pub returns-in-JweDec-clause-beginning : goal.returns-in-JweDec-clause-beginning
+returns-in-JweDec-clause-beginning g c =
+    let consumed = g.I.Input.consumed in
+    let at_end = g.I.Input.is_at_end in
+    let old = c.args.inputs.now in
+    let random = consumed old.random in
+    let a = dec_answer (appended (consumed old.keys) (consumed c.decrypt.new.keys)) (appended (consumed old.text) (consumed c.decrypt.new.text)) in
+    let others = at_end c.decrypt.new.keys && at_end c.decrypt.new.text in
+    on_refusal c.decrypt.result c.decrypt.ensures.beginning
+    (λ h. rw (c.in-JweDec.is, plan_of_text as_content a (appended random random), begun_by_text as_content refl others a) (record { text = AppendsPrefixOf-none _ _ refl; content = h }))

@@ -1,0 +1,144 @@
+-- Searching for an opening or a delivered key finds exactly it.
+use Rattle.std.proofs.Common.{◌≡◌, ◌↔◌, ℕ, ◌==◌, ◌&&◌, ◌+◌, ◌<◌, ◌≤◌, Bool, true, false, List, [], length, drop, slice_index, if◌then◌else◌, Option, Some, None, ◌⊎◌, inl, inr, refl, ◌∙◌, ap, arith}
+use Rattle.std.specs.Bool.{Decides}
+use Rattle.std.specs.Option.{IsSomeAnd}
+use Rattle.std.proofs.lemmas.Bool.Decides.{Decides-eqb, Decides-and, Decides-like, Decides-not, Decides-ltb}
+use Rattle.std.proofs.lemmas.Slice.Eq.{bytes_eq-Decides}
+use Rattle.aes.specs.Block.{IsBlock, IsCipher}
+use Rattle.aes.specs.Cipher.{encrypted_block}
+use Rattle.aes.specs.InverseCipher.{inverse_cipher}
+use Rattle.aes.specs.KeyExpansion.{key_expansion}
+use Rattle.ciphers.specs.Delivery.{encrypted_key_of, IsDelivered}
+use Rattle.ciphers.specs.Openings.{is_direct_key, is_encrypted_to, delivered, is_longer, is_sealed_to, opening}
+use Rattle.ciphers.specs.Sealing.{Sealing, IsTooLong, sealing, cek_len, iv_len, IsOpening}
+use Rattle.ciphers.specs.declared.content_alg.ContentAlg.{ContentAlg}
+use Rattle.ciphers.specs.declared.content_alg.ContentAlg.TheVariants.{A128CbcHs256, A192CbcHs384, A256CbcHs512, A128Gcm, A192Gcm, A256Gcm}
+use Rattle.ciphers.specs.declared.key_alg.KeyAlg.{KeyAlg}
+use Rattle.ciphers.specs.declared.key_alg.KeyAlg.TheVariants.{Dir, A128Kw, A192Kw, A256Kw, Pbes2Hs256A128Kw, Pbes2Hs384A192Kw, Pbes2Hs512A256Kw}
+use Rattle.modes.specs.Cbc.{cbc}
+use Rattle.modes.specs.Ctr.{counter_block}
+use Rattle.modes.specs.Gcm.{gcm_ciphertext, pre_counter_block}
+use Rattle.modes.proofs.Counting.{length-ctr}
+use Rattle.modes.proofs.Opening.{length-cbc}
+use Rattle.octets.specs.Octets.{IsOctets}
+use Rattle.octets.specs.Search.{found_within, FindsOctets}
+use Rattle.octets.proofs.Decoded.{IsOctets-drop}
+
+-- a value is there, or not
+there_or_not : {X : Type 0} (o : Option X) → ((x : X) × (o ≡ Some x)) ⊎ (o ≡ None)
+there_or_not (Some x) = inl (x, refl)
+there_or_not None = inr refl
+
+-- what is given where a condition holds is exactly what needs the condition
+where_so : {X P Q : Type 0} (b : Bool) (o : Option X) (x : X) → Decides b Q → (Q → (o ≡ Some x) ↔ P) → (P → Q)
+    → ((if b then o else None) ≡ Some x) ↔ P
+where_so true o x decided exactly needs = exactly (decided.0 refl)
+where_so false o x decided exactly needs = (λ e. cc e, λ p. cc (decided.1 (needs p)))
+
+-- Where a test decides what is so of octet strings of at most n octets, and of one at most, the search finds exactly that one.
+module _ (finds : FindsOctets) (n : ℕ) (test : List ℕ → Bool) (P : List ℕ → Type 0)
+    (holds : (x : List ℕ) → IsOctets x → test x ≡ true → P x)
+    (passes : (x : List ℕ) → P x → IsOctets x × (length x ≤ n) × (test x ≡ true))
+    (one : (x y : List ℕ) → P x → P y → x ≡ y) where
+  -- it is so of what is found
+  found_is : (x : List ℕ) → found_within n test ≡ Some x → P x
+  found_is x h = let r = finds.found n test x h in holds x r.1 r.0
+
+  -- what it is so of is found
+  is_found : (x : List ℕ) → P x → found_within n test ≡ Some x
+  is_found x p = elim (there_or_not (found_within n test)) [
+    | inl r ↦ r.1 ∙ ap (λ y. Some y) (one r.0 x (found_is r.0 r.1) p)
+    | inr none ↦ let o = passes x p in cc (finds.nothing n test x none o.0 o.1, o.2)
+  ]
+
+  -- both ways
+  finds_exactly : (x : List ℕ) → (found_within n test ≡ Some x) ↔ P x
+  finds_exactly x = (found_is x, is_found x)
+
+-- ---- content encryption keys
+
+-- the test of a direct key decides that it is the key, where the algorithm uses it directly
+direct_decided : (alg : KeyAlg) (key cek : List ℕ) → Decides (is_direct_key alg key cek) (alg ≡ Dir → cek ≡ key)
+direct_decided Dir key cek = Decides-like _ (λ e _. e) (λ e. e refl) (bytes_eq-Decides cek key)
+direct_decided A128Kw key cek = (λ _ e. cc e, λ _. refl)
+direct_decided A192Kw key cek = (λ _ e. cc e, λ _. refl)
+direct_decided A256Kw key cek = (λ _ e. cc e, λ _. refl)
+direct_decided Pbes2Hs256A128Kw key cek = (λ _ e. cc e, λ _. refl)
+direct_decided Pbes2Hs384A192Kw key cek = (λ _ e. cc e, λ _. refl)
+direct_decided Pbes2Hs512A256Kw key cek = (λ _ e. cc e, λ _. refl)
+
+module _ (finds : FindsOctets) (alg : KeyAlg) (enc : ContentAlg) (key p2s : List ℕ) (p2c : ℕ) (encrypted : List ℕ)
+    (one : (x y : List ℕ) → IsDelivered alg enc key p2s p2c encrypted x → IsDelivered alg enc key p2s p2c encrypted y → x ≡ y) where
+  -- the test of a content encryption key decides that it is of its length, the direct key and encrypted to what was received
+  decided : (cek : List ℕ) → Decides (is_encrypted_to alg enc key p2s p2c encrypted cek)
+      ((length cek ≡ cek_len enc) × ((alg ≡ Dir → cek ≡ key) × (encrypted_key_of alg key p2s p2c cek ≡ encrypted)))
+  decided cek =
+      Decides-and _ _ (Decides-eqb (length cek) (cek_len enc))
+      (Decides-and _ _ (direct_decided alg key cek) (bytes_eq-Decides (encrypted_key_of alg key p2s p2c cek) encrypted))
+
+  -- the search gives exactly the key that is delivered
+  pub delivers : (cek : List ℕ) → (delivered alg enc key p2s p2c encrypted ≡ Some cek) ↔ IsDelivered alg enc key p2s p2c encrypted cek
+  unfolding delivered
+  delivers =
+      finds_exactly finds (cek_len enc) (is_encrypted_to alg enc key p2s p2c encrypted) (IsDelivered alg enc key p2s p2c encrypted)
+      (λ x octets h. let r = (decided x).0 h in record { octets = octets; fits = r.0; direct = r.1.0; is_encrypted = r.1.1 })
+      (λ x d. (d.octets, omega (arith, d.fits), (decided x).1 (d.fits, (d.direct, d.is_encrypted))))
+      one
+
+-- ---- contents
+
+-- the test of a length decides that it is above the most there may be
+longer_decided : (n : ℕ) (longest : Option ℕ) → Decides (is_longer n longest) (IsSomeAnd longest (λ most. most < n))
+longer_decided n None = (λ e. cc e, λ h. absurd h)
+longer_decided n (Some most) = Decides-ltb most n
+
+-- the test of a plaintext decides that it is sealed to the ciphertext and the tag
+sealed_decided : (s : Sealing) (c tag p : List ℕ)
+    → Decides (is_sealed_to s c tag p) ((IsTooLong s p → ⊥) × (((s.sealed p).ciphertext ≡ c) × ((s.sealed p).tag ≡ tag)))
+sealed_decided s c tag p =
+    Decides-and _ _ (Decides-not _ (longer_decided (length p) s.longest))
+    (Decides-and _ _ (bytes_eq-Decides (s.sealed p).ciphertext c) (bytes_eq-Decides (s.sealed p).tag tag))
+
+-- with GCM a plaintext is as long as its ciphertext
+under_gcm : (e : List ℕ → List ℕ) (iv p c : List ℕ) → gcm_ciphertext e iv p ≡ c → length p ≤ length c
+unfolding gcm_ciphertext
+under_gcm e iv p c text = omega (arith, length-ctr e (counter_block (pre_counter_block iv) 1) [] [] p, ap length text)
+
+module _ (cipher : (nk : ℕ) (k : List ℕ) → ((i : ℕ) → slice_index k i < 256) → IsCipher (encrypted_block nk k) (inverse_cipher (nk + 6) (key_expansion nk k))) where
+  -- with CBC it is shorter
+  under_cbc : (nk n : ℕ) (cek iv p c : List ℕ) → IsOctets cek → IsOctets iv → length iv ≡ 16 → IsOctets p
+      → cbc (encrypted_block nk (drop n cek)) iv p ≡ c → length p ≤ length c
+  under_cbc nk n cek iv p c key start sixteen octets text =
+      let block : IsBlock iv = record { sixteen = sixteen; octets = start } in
+      omega (arith, length-cbc _ _ (cipher nk (drop n cek) (IsOctets-drop n cek key)) iv block p octets, ap length text)
+
+  -- an opening is no longer than its ciphertext
+  no_longer : (alg : ContentAlg) (cek iv aad c tag p : List ℕ) → IsOctets cek → IsOctets iv → IsOpening alg cek iv aad c tag p → length p ≤ length c
+  unfolding sealing
+  no_longer A128CbcHs256 cek iv aad c tag p key start o = under_cbc 4 16 cek iv p c key start o.iv_fits o.octets o.ciphertext
+  no_longer A192CbcHs384 cek iv aad c tag p key start o = under_cbc 6 24 cek iv p c key start o.iv_fits o.octets o.ciphertext
+  no_longer A256CbcHs512 cek iv aad c tag p key start o = under_cbc 8 32 cek iv p c key start o.iv_fits o.octets o.ciphertext
+  no_longer A128Gcm cek iv aad c tag p key start o = under_gcm (encrypted_block 4 cek) iv p c o.ciphertext
+  no_longer A192Gcm cek iv aad c tag p key start o = under_gcm (encrypted_block 6 cek) iv p c o.ciphertext
+  no_longer A256Gcm cek iv aad c tag p key start o = under_gcm (encrypted_block 8 cek) iv p c o.ciphertext
+
+  module _ (finds : FindsOctets) (alg : ContentAlg) (cek iv aad c tag : List ℕ) (key : IsOctets cek) (start : IsOctets iv)
+      (one : (x y : List ℕ) → IsOpening alg cek iv aad c tag x → IsOpening alg cek iv aad c tag y → x ≡ y) where
+    -- under a key and an IV of their lengths the search finds exactly the opening
+    opens_where_fit : (length cek ≡ cek_len alg) × (length iv ≡ iv_len alg) → (p : List ℕ)
+        → (found_within (length c) (is_sealed_to (sealing alg cek iv aad) c tag) ≡ Some p) ↔ IsOpening alg cek iv aad c tag p
+    opens_where_fit (cek_fits, iv_fits) =
+        let decided = sealed_decided (sealing alg cek iv aad) c tag in
+        finds_exactly finds (length c) (is_sealed_to (sealing alg cek iv aad) c tag) (IsOpening alg cek iv aad c tag)
+        (λ x octets h. let r = (decided x).0 h in
+        record { cek_fits = cek_fits; iv_fits = iv_fits; octets = octets; short = r.0; ciphertext = r.1.0; is_tag = r.1.1 })
+        (λ x o. (o.octets, no_longer alg cek iv aad c tag x key start o, (decided x).1 (o.short, (o.ciphertext, o.is_tag))))
+        one
+
+    -- the function of opening gives exactly the opening
+    pub opens : (p : List ℕ) → (opening alg cek iv aad c tag ≡ Some p) ↔ IsOpening alg cek iv aad c tag p
+    unfolding opening
+    opens p =
+        where_so (length cek == cek_len alg && length iv == iv_len alg) _ p
+        (Decides-and _ _ (Decides-eqb (length cek) (cek_len alg)) (Decides-eqb (length iv) (iv_len alg)))
+        (λ fit. opens_where_fit fit p) (λ o. (o.cek_fits, o.iv_fits))

@@ -1,0 +1,23 @@
+-- The commands `jwe enc` and `jwe dec`.
+use Rattle.std.specs.Prelude.{ℕ, Bool, true, false, List, Result}
+use Rattle.octets.specs.declared.refusal.Refusal.{Refusal}
+use Rattle.octets.specs.Outcomes.{◌>>=◌}
+use Rattle.octets.specs.Plan.{Draft}
+use Rattle.keys.specs.KeySets.{key_set}
+use Rattle.keys.specs.Limits.{limits}
+use Rattle.objects.specs.Jwe.{jwe_of}
+use Rattle.tokens.specs.Encrypting.{encrypting_by}
+use Rattle.tokens.specs.Decrypting.{decrypted}
+
+-- the text of a plaintext that is encrypted to the keys, as the template asks, by octets of the random input
+abbrev pub enc_answer : Bool → List ℕ → List ℕ → Result (Draft (List ℕ)) Refusal
+enc_answer compact keys template = do
+  set ← key_set limits keys true
+  encrypting_by limits compact set template
+
+-- the plaintext of the object
+abbrev pub dec_answer : List ℕ → List ℕ → Result (List ℕ) Refusal
+dec_answer keys text = do
+  set ← key_set limits keys false
+  jwe ← jwe_of text
+  decrypted set jwe

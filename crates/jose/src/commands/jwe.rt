@@ -1,0 +1,102 @@
+//! The commands `jwe enc` and `jwe dec`, from devices to devices.
+ghost use Rattle.std.specs.Prelude.{◌≡◌, ◌≢◌, ◌≤◌, false, ◌&&◌, ℕ, List, [], ◌∷◌, length, Err, OnOk, OnErr, IfErr, IsTrue};
+ghost use Rattle.std.specs.Iterator.{IsFinite};
+ghost use Rattle.octets.specs.Devices.{appended, observed, IsPossibleInput, AppendsPrefixOf};
+ghost use Rattle.octets.specs.declared.refusal.Refusal.{Refusal};
+ghost use Rattle.octets.specs.Faults.{TellsFaults, counts};
+ghost use Rattle.octets.specs.Outcomes.{AgreesUnlessExternal};
+ghost use Rattle.octets.specs.Plan.{accepted, drawn_of, plan_from, planned, planned_beginning};
+ghost use Rattle.jose.specs.Jwe.{enc_answer, dec_answer};
+
+use keys::KeySet;
+use objects::Jwe;
+use octets::{Input, Output, Refusal, read_to_end};
+use std::alloc::Global;
+use tokens::{jwe_decrypt, jwe_encrypt};
+
+/// Encrypts the content to the key, as the template asks, and writes the object's text.
+pub(crate) fn encrypt<I: Input, O: Output>(
+    alloc: Global,
+    template: &mut I,
+    keys: &mut I,
+    compact: bool,
+    random: &mut I,
+    content: &mut I,
+    out: &mut O,
+) -> Result<(), Refusal>
+    requires template { IsFinite (I.remaining template.old) }
+    requires keys { IsFinite (I.remaining keys.old) }
+    requires content { IsFinite (I.remaining content.old) }
+    ensures answer { (whole_template whole_keys octets plaintext : List ℕ)
+        → IsPossibleInput (observed I.consumed I.is_at_end template.old template.new) whole_template
+        → IsPossibleInput (observed I.consumed I.is_at_end keys.old keys.new) whole_keys
+        → IsPossibleInput (observed I.consumed I.is_at_end random.old random.new) octets
+        → IsPossibleInput (observed I.consumed I.is_at_end content.old content.new) plaintext
+        → AgreesUnlessExternal (planned (plan_from (enc_answer compact whole_keys whole_template) octets) plaintext)
+        (appended (O.written out.old) (O.written out.new)) result }
+
+    // Exactly what the answer draws is read of the random input, and no more before a refusal.
+    ensures drawn { OnOk result ((whole_template whole_keys : List ℕ)
+        → IsPossibleInput (observed I.consumed I.is_at_end template.old template.new) whole_template
+        → IsPossibleInput (observed I.consumed I.is_at_end keys.old keys.new) whole_keys
+        → length (appended (I.consumed random.old) (I.consumed random.new)) ≡ drawn_of (enc_answer compact whole_keys whole_template)) }
+    ensures at_most { (whole_template whole_keys : List ℕ)
+        → IsPossibleInput (observed I.consumed I.is_at_end template.old template.new) whole_template
+        → IsPossibleInput (observed I.consumed I.is_at_end keys.old keys.new) whole_keys
+        → length (appended (I.consumed random.old) (I.consumed random.new)) ≤ drawn_of (enc_answer compact whole_keys whole_template) }
+    ensures beginning { OnErr result (AppendsPrefixOf
+        (planned_beginning (I.is_at_end keys.new && I.is_at_end template.new)
+        (plan_from (enc_answer compact (appended (I.consumed keys.old) (I.consumed keys.new)) (appended (I.consumed template.old) (I.consumed template.new)))
+        (appended (I.consumed random.old) (I.consumed random.new)))
+        (observed I.consumed I.is_at_end content.old content.new)) (O.written out.old) (O.written out.new)) }
+    ensures finished { OnOk result (IsTrue (O.is_finished out.new)) }
+
+    // No input is touched before the one ahead of it was read to its end, and what is drawn and the content not before the
+    // rest is accepted.
+    ensures in_order { (I.is_at_end template.new ≡ false → keys.new ≡ keys.old)
+        × (I.is_at_end keys.new && I.is_at_end template.new ≡ false → (random.new ≡ random.old) × (content.new ≡ content.old)) }
+    ensures content_last { (refusal : Refusal)
+        → enc_answer compact (appended (I.consumed keys.old) (I.consumed keys.new)) (appended (I.consumed template.old) (I.consumed template.new)) ≡ Err refusal
+        → (random.new ≡ random.old) × (content.new ≡ content.old) }
+    ensures uncut { IfErr result (λ refusal. refusal ≢ Refusal.Write
+        → O.written out.new ≡ O.written out.old → out.new ≡ out.old) }
+    ensures faults { TellsFaults (counts I.failures template.old template.new ∷ counts I.failures keys.old keys.new
+        ∷ counts I.failures random.old random.new ∷ counts I.failures content.old content.new ∷ [])
+        (counts O.failures out.old out.new ∷ []) result }
+{
+    let template = read_to_end(alloc, template)?;
+    let keys = read_to_end(alloc, keys)?;
+    let set = KeySet::read(alloc, &keys, true)?;
+    jwe_encrypt(alloc, &set, &template, compact, random, content, out)
+}
+
+/// Decrypts the text with the keys, and writes the plaintext.
+pub(crate) fn decrypt<I: Input, O: Output>(
+    alloc: Global,
+    text: &mut I,
+    keys: &mut I,
+    out: &mut O,
+) -> Result<(), Refusal>
+    requires text { IsFinite (I.remaining text.old) }
+    requires keys { IsFinite (I.remaining keys.old) }
+    ensures answer { (whole_text whole_keys : List ℕ)
+        → IsPossibleInput (observed I.consumed I.is_at_end text.old text.new) whole_text
+        → IsPossibleInput (observed I.consumed I.is_at_end keys.old keys.new) whole_keys
+        → AgreesUnlessExternal (dec_answer whole_keys whole_text) (appended (O.written out.old) (O.written out.new)) result }
+
+    // The output is not touched before a key has opened the object.
+    ensures held_back { IfErr result (λ refusal. refusal ≢ Refusal.Write → out.new ≡ out.old) }
+    ensures beginning { OnErr result (AppendsPrefixOf
+        (accepted (dec_answer (appended (I.consumed keys.old) (I.consumed keys.new)) (appended (I.consumed text.old) (I.consumed text.new)))
+        (I.is_at_end keys.new && I.is_at_end text.new)) (O.written out.old) (O.written out.new)) }
+    ensures finished { OnOk result (IsTrue (O.is_finished out.new)) }
+    ensures in_order { I.is_at_end text.new ≡ false → keys.new ≡ keys.old }
+    ensures faults { TellsFaults (counts I.failures text.old text.new ∷ counts I.failures keys.old keys.new ∷ [])
+        (counts O.failures out.old out.new ∷ []) result }
+{
+    let text = read_to_end(alloc, text)?;
+    let keys = read_to_end(alloc, keys)?;
+    let set = KeySet::read(alloc, &keys, false)?;
+    let jwe = Jwe::read(alloc, &text)?;
+    jwe_decrypt(alloc, &set, jwe, out).1
+}

@@ -1,0 +1,47 @@
+-- The algorithms of encrypted objects, as the ciphers have them, and which are supported.
+use Rattle.std.specs.Prelude.{Bool, true, false, if◌then◌else◌, Option, Some, None}
+use Rattle.ciphers.specs.declared.content_alg.ContentAlg.{ContentAlg}
+use Rattle.ciphers.specs.declared.content_alg.ContentAlg.TheVariants as content
+use Rattle.ciphers.specs.declared.key_alg.KeyAlg.{KeyAlg}
+use Rattle.ciphers.specs.declared.key_alg.KeyAlg.TheVariants as delivery
+use Rattle.keys.specs.declared.algorithm.EncryptionAlg.{EncryptionAlg}
+use Rattle.keys.specs.declared.algorithm.EncryptionAlg.TheVariants.{A128CbcHs256, A192CbcHs384, A256CbcHs512, A128Gcm, A192Gcm, A256Gcm}
+use Rattle.keys.specs.declared.algorithm.ManagementAlg.{ManagementAlg}
+use Rattle.keys.specs.declared.algorithm.ManagementAlg.TheVariants.{Dir, A128Kw, A192Kw, A256Kw, Pbes2Hs256A128Kw, Pbes2Hs384A192Kw, Pbes2Hs512A256Kw}
+
+-- of content encryption (RFC 7518 section 5.1)
+abbrev pub content_alg : EncryptionAlg → ContentAlg
+content_alg A128CbcHs256 = content.A128CbcHs256
+content_alg A192CbcHs384 = content.A192CbcHs384
+content_alg A256CbcHs512 = content.A256CbcHs512
+content_alg A128Gcm = content.A128Gcm
+content_alg A192Gcm = content.A192Gcm
+content_alg A256Gcm = content.A256Gcm
+
+-- of key management (RFC 7518 section 4.1)
+abbrev pub key_alg : ManagementAlg → KeyAlg
+key_alg Dir = delivery.Dir
+key_alg A128Kw = delivery.A128Kw
+key_alg A192Kw = delivery.A192Kw
+key_alg A256Kw = delivery.A256Kw
+key_alg Pbes2Hs256A128Kw = delivery.Pbes2Hs256A128Kw
+key_alg Pbes2Hs384A192Kw = delivery.Pbes2Hs384A192Kw
+key_alg Pbes2Hs512A256Kw = delivery.Pbes2Hs512A256Kw
+
+-- So far keys are used directly, or wrap.
+abbrev pub is_supported : ManagementAlg → Bool
+is_supported Dir = true
+is_supported A128Kw = true
+is_supported A192Kw = true
+is_supported A256Kw = true
+is_supported Pbes2Hs256A128Kw = false
+is_supported Pbes2Hs384A192Kw = false
+is_supported Pbes2Hs512A256Kw = false
+
+abbrev pub if_supported : ManagementAlg → Option ManagementAlg
+if_supported alg = if is_supported alg then Some alg else None
+
+-- both algorithms of an encrypted object
+pub record Algorithms : Type 0 where
+  pub management : ManagementAlg
+  pub encryption : EncryptionAlg

@@ -1,0 +1,157 @@
+-- Decrypting (RFC 7516 section 5.2): the pairs of a recipient and a key that are tried, what they open, and what that takes.
+use Rattle.std.specs.Prelude.{ℕ, ◌+◌, ◌*◌, ◌≤◌, ◌&&◌, Bool, true, false, List, [], ◌∷◌, ◌++◌, map, is_some, if◌then◌else◌, Option, Some, None, option_and_then, Result, Ok, Err}
+use Rattle.std.specs.List.{filter, list_any}
+use Rattle.std.specs.Option.{ok_or, option_or}
+use Rattle.std.specs.Str.{byte}
+use Rattle.octets.specs.declared.refusal.Refusal.{Refusal}
+use Rattle.octets.specs.declared.refusal.Refusal.TheVariants.{Memory, Unsupported, KeyDoesNotFit, NotOpened}
+use Rattle.octets.specs.Outcomes.{◌>>=◌, needs}
+use Rattle.octets.specs.Base64url.{base64url}
+use Rattle.ciphers.specs.Openings.{opening, delivered}
+use Rattle.keys.specs.declared.algorithm.Algorithm.TheVariants.{Encryption}
+use Rattle.keys.specs.declared.algorithm.EncryptionAlg.{EncryptionAlg}
+use Rattle.keys.specs.declared.algorithm.ManagementAlg.{ManagementAlg}
+use Rattle.keys.specs.declared.algorithm.ManagementAlg.TheVariants.{Dir, A128Kw, A192Kw, A256Kw, Pbes2Hs256A128Kw, Pbes2Hs384A192Kw, Pbes2Hs512A256Kw}
+use Rattle.keys.specs.Algorithms.{management_alg_of, encryption_alg_of, management_operations}
+use Rattle.keys.specs.Keys.{OctetKey, allows, fits}
+use Rattle.keys.specs.Limits.{limits}
+use Rattle.objects.specs.Jwe.{Recipient, EncryptedObject}
+use Rattle.tokens.specs.Algorithms.{Algorithms, content_alg, key_alg, is_supported}
+
+-- ---- the pairs that are tried
+
+abbrev pub algorithms_by : Option ManagementAlg → Option EncryptionAlg → Option Algorithms
+algorithms_by None enc = None
+algorithms_by (Some alg) None = None
+algorithms_by (Some alg) (Some enc) = if is_supported alg then Some (record { management = alg; encryption = enc }) else None
+
+-- the algorithms of a recipient, where both are supported
+unfoldable pub algorithms_of : Recipient → Option Algorithms
+algorithms_of r = algorithms_by (management_alg_of r.alg) (encryption_alg_of r.enc)
+
+-- the key allows what the receiver does, and fits
+unfoldable pub is_candidate : Algorithms → OctetKey → Bool
+is_candidate a key = allows key (management_operations a.management).1 && fits key (Encryption a.management a.encryption)
+
+pub record Pair : Type 0 where
+  pub recipient : Recipient
+  pub algorithms : Algorithms
+  pub key : OctetKey
+
+-- a recipient's by its algorithms: the keys in order
+abbrev pub pairs_with : Recipient → Algorithms → List OctetKey → List Pair
+pairs_with r a keys = map (λ key. record { recipient = r; algorithms = a; key = key }) (filter (is_candidate a) keys)
+
+abbrev pub pairs_by : List OctetKey → Recipient → Option Algorithms → List Pair
+pairs_by keys r None = []
+pairs_by keys r (Some a) = pairs_with r a keys
+
+abbrev pub pairs_of : List OctetKey → Recipient → List Pair
+pairs_of keys r = pairs_by keys r (algorithms_of r)
+
+-- of the recipients in order
+abbrev pub all_pairs : List OctetKey → List Recipient → List Pair
+all_pairs keys [] = []
+all_pairs keys (r ∷ recipients) = pairs_of keys r ++ all_pairs keys recipients
+
+abbrev pub has_pairs : List Pair → Bool
+has_pairs [] = false
+has_pairs (pair ∷ pairs) = true
+
+-- some recipient's algorithms are supported, and then some key is a candidate
+unfoldable pub pairs_to_try : List OctetKey → List Recipient → Result (List Pair) Refusal
+pairs_to_try keys recipients = do
+  supported ← needs (list_any (λ r. is_some (algorithms_of r)) recipients) Unsupported
+  candidates ← needs (has_pairs (all_pairs keys recipients)) KeyDoesNotFit
+  Ok (all_pairs keys recipients)
+
+-- ---- what a pair opens
+
+-- the text of the protected header, and after a dot that of the other additional data, where there are some (step 14)
+abbrev pub authenticated : List ℕ → List ℕ → List ℕ
+authenticated protected [] = protected
+authenticated protected (a ∷ aad) = protected ++ (byte "." ∷ base64url (a ∷ aad))
+
+-- what an object holds of its content
+pub record SealedContent : Type 0 where
+  pub iv : List ℕ
+  pub aad : List ℕ
+  pub ciphertext : List ℕ
+  pub tag : List ℕ
+
+abbrev pub sealed_content : EncryptedObject → SealedContent
+sealed_content o = record { iv = o.iv; aad = authenticated o.protected o.aad; ciphertext = o.ciphertext; tag = o.tag }
+
+-- the content encryption key that the recipient's encrypted key delivers
+unfoldable pub cek_of : Pair → Option (List ℕ)
+cek_of pair =
+    delivered (key_alg pair.algorithms.management) (content_alg pair.algorithms.encryption) pair.key.octets pair.recipient.p2s pair.recipient.p2c pair.recipient.encrypted_key
+
+-- the plaintext under it
+unfoldable pub opened_by : SealedContent → Pair → Option (List ℕ)
+opened_by s pair = option_and_then (λ cek. opening (content_alg pair.algorithms.encryption) cek s.iv s.aad s.ciphertext s.tag) (cek_of pair)
+
+-- that of the first pair that opens
+abbrev pub first_opened : SealedContent → List Pair → Option (List ℕ)
+first_opened s [] = None
+first_opened s (pair ∷ pairs) = option_or (opened_by s pair) (first_opened s pairs)
+
+-- the plaintext of the object, or the first refusal
+unfoldable pub decrypted : List OctetKey → EncryptedObject → Result (List ℕ) Refusal
+decrypted keys o = do
+  pairs ← pairs_to_try keys o.recipients
+  ok_or (first_opened (sealed_content o) pairs) NotOpened
+
+-- ---- work
+
+-- iterations of PBKDF2, encrypted keys that were unwrapped, and contents that were opened or tried
+pub record Counts : Type 0 where
+  pub iterations : ℕ
+  pub unwraps : ℕ
+  pub openings : ℕ
+
+abbrev pub no_work : Counts
+no_work = record { iterations = 0; unwraps = 0; openings = 0 }
+
+abbrev pub iterations_of : ManagementAlg → ℕ → ℕ
+iterations_of Dir p2c = 0
+iterations_of A128Kw p2c = 0
+iterations_of A192Kw p2c = 0
+iterations_of A256Kw p2c = 0
+iterations_of Pbes2Hs256A128Kw p2c = p2c
+iterations_of Pbes2Hs384A192Kw p2c = p2c
+iterations_of Pbes2Hs512A256Kw p2c = p2c
+
+abbrev pub unwraps_of : ManagementAlg → ℕ
+unwraps_of Dir = 0
+unwraps_of A128Kw = 1
+unwraps_of A192Kw = 1
+unwraps_of A256Kw = 1
+unwraps_of Pbes2Hs256A128Kw = 1
+unwraps_of Pbes2Hs384A192Kw = 1
+unwraps_of Pbes2Hs512A256Kw = 1
+
+-- with one pair more, which opens or tries the content where a content encryption key is delivered
+abbrev pub with_pair : Counts → Pair → Counts
+with_pair w pair = record {
+  iterations = w.iterations + iterations_of pair.algorithms.management pair.recipient.p2c;
+  unwraps = w.unwraps + unwraps_of pair.algorithms.management;
+  openings = w.openings + (if is_some (cek_of pair) then 1 else 0);
+}
+
+-- with the pairs up to and with the first that opens
+abbrev pub with_pairs : SealedContent → Counts → List Pair → Counts
+with_pairs s w [] = w
+with_pairs s w (pair ∷ pairs) = if is_some (opened_by s pair) then with_pair w pair else with_pairs s (with_pair w pair) pairs
+
+-- What a result tells: that of all the pairs that were tried, and none where they are refused or memory ran out before.
+abbrev pub work_told : {X : Type 0} → EncryptedObject → Result (List Pair) Refusal → Result X Refusal → Counts
+work_told o (Err r) result = no_work
+work_told o (Ok pairs) (Err Memory) = no_work
+work_told o (Ok pairs) result = with_pairs (sealed_content o) no_work pairs
+
+-- within the limits of an object and a set
+pub record IsBounded (w : Counts) : Type 0 where
+  pub iterations : w.iterations ≤ limits.p2c_sum
+  pub unwraps : w.unwraps ≤ limits.keys * limits.recipients
+  pub openings : w.openings ≤ limits.keys * limits.recipients

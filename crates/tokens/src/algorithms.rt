@@ -1,0 +1,93 @@
+//! The algorithms of encrypted objects, by the ciphers that have them. It sees names and no key.
+ghost use Rattle.std.specs.Prelude.{◌≡◌, ◌≤◌, option_map};
+ghost use Rattle.tokens.specs.Algorithms.{content_alg, key_alg, is_supported};
+ghost use Rattle.tokens.specs.Decrypting.{algorithms_by, unwraps_of};
+ghost use Rattle.tokens.specs.Views.{algorithms_view};
+
+use ciphers::{ContentAlg, KeyAlg};
+use keys::{EncryptionAlg, ManagementAlg};
+
+/// Both algorithms of an encrypted object, which are supported.
+#[derive(Clone, Copy)]
+pub(crate) struct Algorithms {
+    pub(crate) management: ManagementAlg,
+    pub(crate) encryption: EncryptionAlg,
+}
+
+impl Algorithms {
+    /// Those that are named, where both are there and supported.
+    pub(crate) fn named(
+        management: Option<ManagementAlg>,
+        encryption: Option<EncryptionAlg>,
+    ) -> Option<Algorithms>
+        ensures { option_map algorithms_view result ≡ algorithms_by management encryption }
+    {
+        let management = management?;
+        let encryption = encryption?;
+        if !is_supported(management) {
+            return None;
+        }
+        Some(Algorithms {
+            management,
+            encryption,
+        })
+    }
+}
+
+/// So far keys are used directly, or wrap.
+pub(crate) fn is_supported(alg: ManagementAlg) -> bool
+    ensures { result ≡ is_supported alg }
+{
+    match alg {
+        ManagementAlg::Dir
+        | ManagementAlg::A128Kw
+        | ManagementAlg::A192Kw
+        | ManagementAlg::A256Kw => true,
+        ManagementAlg::Pbes2Hs256A128Kw
+        | ManagementAlg::Pbes2Hs384A192Kw
+        | ManagementAlg::Pbes2Hs512A256Kw => false,
+    }
+}
+
+pub(crate) fn content_alg(enc: EncryptionAlg) -> ContentAlg
+    ensures { result ≡ content_alg enc }
+{
+    match enc {
+        EncryptionAlg::A128CbcHs256 => ContentAlg::A128CbcHs256,
+        EncryptionAlg::A192CbcHs384 => ContentAlg::A192CbcHs384,
+        EncryptionAlg::A256CbcHs512 => ContentAlg::A256CbcHs512,
+        EncryptionAlg::A128Gcm => ContentAlg::A128Gcm,
+        EncryptionAlg::A192Gcm => ContentAlg::A192Gcm,
+        EncryptionAlg::A256Gcm => ContentAlg::A256Gcm,
+    }
+}
+
+pub(crate) fn key_alg(alg: ManagementAlg) -> KeyAlg
+    ensures { result ≡ key_alg alg }
+{
+    match alg {
+        ManagementAlg::Dir => KeyAlg::Dir,
+        ManagementAlg::A128Kw => KeyAlg::A128Kw,
+        ManagementAlg::A192Kw => KeyAlg::A192Kw,
+        ManagementAlg::A256Kw => KeyAlg::A256Kw,
+        ManagementAlg::Pbes2Hs256A128Kw => KeyAlg::Pbes2Hs256A128Kw,
+        ManagementAlg::Pbes2Hs384A192Kw => KeyAlg::Pbes2Hs384A192Kw,
+        ManagementAlg::Pbes2Hs512A256Kw => KeyAlg::Pbes2Hs512A256Kw,
+    }
+}
+
+/// How many encrypted keys are unwrapped: none where the key is used directly.
+pub(crate) fn unwraps(alg: ManagementAlg) -> u64
+    ensures count { result ≡ unwraps_of alg }
+    ensures bound { result ≤ 1 }
+{
+    match alg {
+        ManagementAlg::Dir => 0,
+        ManagementAlg::A128Kw
+        | ManagementAlg::A192Kw
+        | ManagementAlg::A256Kw
+        | ManagementAlg::Pbes2Hs256A128Kw
+        | ManagementAlg::Pbes2Hs384A192Kw
+        | ManagementAlg::Pbes2Hs512A256Kw => 1,
+    }
+}

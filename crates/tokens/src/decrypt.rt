@@ -1,0 +1,205 @@
+//! Decrypting with any key of a set (RFC 7516 section 5.2).
+ghost use Rattle.std.specs.Prelude.{◌≡◌, ◌≢◌, ◌+◌, ◌≤◌, ◌*◌, ℕ, [], ◌∷◌, length, take, map, option_map, Err, OnOk, OnErr, IfOk, IfErr, IfNone, IsTrue, string_bytes};
+ghost use Rattle.std.specs.Result.{result_unwrap_or};
+ghost use Rattle.octets.specs.Devices.{appended, AppendsPrefixOf};
+ghost use Rattle.octets.specs.Faults.{TellsFaults, counts};
+ghost use Rattle.octets.specs.Outcomes.{AgreesUnlessMemory, AgreesUnlessExternal};
+ghost use Rattle.keys.specs.Limits.{limits};
+ghost use Rattle.keys.specs.Views.{key_view};
+ghost use Rattle.objects.specs.Views.{jwe_view, recipient_view};
+ghost use Rattle.tokens.specs.Decrypting.{decrypted, pairs_to_try, authenticated, first_opened, opened_by, cek_of, no_work, with_pair, with_pairs, work_told, IsBounded};
+ghost use Rattle.tokens.specs.Views.{pair_view, sealed_view, work_view};
+
+use crate::algorithms::{Algorithms, content_alg, key_alg, unwraps};
+use crate::pair::Pair;
+use crate::pairs::pairs_to_try;
+use ciphers::laws::{delivers_exactly, opens_exactly};
+use ciphers::{Cek, KeyParameters};
+use keys::KeySet;
+use objects::Jwe;
+use octets::laws::are_octets;
+use octets::{Output, Refusal, b64_append, emit};
+use std::alloc::Global;
+
+/// What was done to open an object, over the pairs of a recipient and a key that were tried.
+#[derive(Clone, Copy, Debug, PartialEq, Eq)]
+pub struct Work {
+    /// Iterations of PBKDF2.
+    pub iterations: u64,
+    /// Encrypted keys that were unwrapped, or tried.
+    pub unwraps: u64,
+    /// Contents that were opened, or tried.
+    pub openings: u64,
+}
+
+/// What a content was sealed with, its ciphertext aside.
+#[derive(Clone, Copy)]
+struct Sealed<'j> {
+    iv: &'j [u8],
+    aad: &'j [u8],
+    tag: &'j [u8],
+}
+
+/// Decrypts the object with the keys (RFC 7516 section 5.2), and writes its plaintext. The recipients are tried in order,
+/// and for each the keys in order that may decrypt by its algorithms and fit: the first pair decides whose encrypted key
+/// unwraps, and under whose content encryption key the tag is right.
+///
+/// Refused, in this order, with `Unsupported` where no recipient's algorithms are supported; `KeyDoesNotFit` where no key
+/// may decrypt and fits; `NotOpened` where no pair opens; and then with `Write` where the output fails. `Work` is what was
+/// done: nothing where the refusal is another one than the last two.
+pub fn jwe_decrypt<O: Output>(
+    alloc: Global,
+    keys: &KeySet,
+    jwe: Jwe,
+    out: &mut O,
+) -> (Work, Result<(), Refusal>)
+    ensures answer { AgreesUnlessExternal (decrypted keys.now (jwe_view jwe)) (appended (O.written out.old) (O.written out.new)) result.1 }
+
+    // The output is not touched before a pair has opened.
+    ensures held_back { IfErr result.1 (λ refusal. refusal ≢ Refusal.Write → out.new ≡ out.old) }
+    ensures beginning { OnErr result.1 (AppendsPrefixOf (result_unwrap_or (decrypted keys.now (jwe_view jwe)) [])
+        (O.written out.old) (O.written out.new)) }
+    ensures finished { OnOk result.1 (IsTrue (O.is_finished out.new)) }
+    ensures faults { TellsFaults [] (counts O.failures out.old out.new ∷ []) result.1 }
+
+    // The work is that of the pairs up to and with the first that opens.
+    ensures work { work_view result.0 ≡ work_told (jwe_view jwe) (pairs_to_try keys.now (jwe_view jwe).recipients) result.1 }
+    ensures bound { IsBounded (work_view result.0) }
+{
+    let mut work = Work {
+        iterations: 0,
+        unwraps: 0,
+        openings: 0,
+    };
+    let result = decrypt(alloc, keys, jwe, &mut work, out);
+    (work, result)
+}
+
+fn decrypt<O: Output>(
+    alloc: Global,
+    keys: &KeySet,
+    jwe: Jwe,
+    work: &mut Work,
+    out: &mut O,
+) -> Result<(), Refusal>
+    requires { work_view work.old ≡ no_work }
+    ensures answer { AgreesUnlessExternal (decrypted keys.now (jwe_view jwe)) (appended (O.written out.old) (O.written out.new)) result }
+    ensures held_back { IfErr result (λ refusal. refusal ≢ Refusal.Write → out.new ≡ out.old) }
+    ensures beginning { OnErr result (AppendsPrefixOf (result_unwrap_or (decrypted keys.now (jwe_view jwe)) [])
+        (O.written out.old) (O.written out.new)) }
+    ensures finished { OnOk result (IsTrue (O.is_finished out.new)) }
+    ensures faults { TellsFaults [] (counts O.failures out.old out.new ∷ []) result }
+    ensures work { work_view work.new ≡ work_told (jwe_view jwe) (pairs_to_try keys.now (jwe_view jwe).recipients) result }
+    ensures bound { IsBounded (work_view work.new) }
+{
+    let plaintext = open_first(alloc, keys, jwe, work)?;
+    emit(out, &plaintext)
+}
+
+/// The plaintext of the first pair that opens.
+#[tactic(auto, unfolding(crate::specs::Decrypting::decrypted))]
+fn open_first(alloc: Global, keys: &KeySet, jwe: Jwe, work: &mut Work) -> Result<Vec<u8>, Refusal>
+    requires { work_view work.old ≡ no_work }
+    ensures answer { AgreesUnlessMemory (λ plaintext. plaintext.items) result (decrypted keys.now (jwe_view jwe)) }
+    ensures work { work_view work.new ≡ work_told (jwe_view jwe) (pairs_to_try keys.now (jwe_view jwe).recipients) result }
+    ensures bound { IsBounded (work_view work.new) }
+{
+    let mut jwe = jwe;
+    let mut octets = jwe.take_ciphertext(alloc);
+    let pairs = pairs_to_try(alloc, keys.keys(), jwe.recipients())?;
+    let aad = authenticated(alloc, jwe.protected(), jwe.aad())?;
+    let sealed = Sealed {
+        iv: jwe.iv(),
+        aad: aad.as_bytes(),
+        tag: jwe.tag(),
+    };
+    let len = open_pairs(&pairs, sealed, &mut octets, work).ok_or(Refusal::NotOpened)?;
+    octets.truncate(len);
+    Ok(octets)
+}
+
+/// The additional data: the text of the protected header, and after a dot that of the others, where there are some
+/// (RFC 7516 section 5.2, step 14).
+pub(crate) fn authenticated(alloc: Global, protected: &str, aad: &[u8]) -> Result<String, Refusal>
+    ensures text { IfOk result (λ text. string_bytes text ≡ authenticated protected.now aad.now) }
+    ensures memory { IfErr result (λ e. e ≡ Refusal.Memory) }
+{
+    let mut text = String::from_str(alloc, protected)?;
+    if !aad.is_empty() {
+        text.push('.')?;
+        b64_append(&mut text, aad)?;
+    }
+    Ok(text)
+}
+
+/// Opens the ciphertext where it stands by the first pair that opens it, and answers the length of the plaintext.
+fn open_pairs(
+    pairs: &[Pair<'_>],
+    sealed: Sealed<'_>,
+    octets: &mut [u8],
+    work: &mut Work,
+) -> Option<usize>
+    requires few { length pairs.now ≤ limits.keys * limits.recipients }
+    requires fresh { work_view work.old ≡ no_work }
+    ensures opened { option_map (λ n. take n octets.new) result ≡ first_opened (sealed_view sealed.entry octets.old) (map pair_view pairs.now) }
+    ensures work { work_view work.new ≡ with_pairs (sealed_view sealed.entry octets.old) no_work (map pair_view pairs.now) }
+    ensures bound { IsBounded (work_view work.new) }
+{
+    for pair in pairs {
+        if let Some(len) = open_pair(pair, sealed, octets, work) {
+            return Some(len);
+        }
+    }
+    None
+}
+
+/// Opens the ciphertext by a pair. Where it does not, the octets are as they were.
+#[tactic(auto, unfolding(crate::specs::Decrypting::opened_by))]
+fn open_pair(
+    pair: &Pair<'_>,
+    sealed: Sealed<'_>,
+    octets: &mut [u8],
+    work: &mut Work,
+) -> Option<usize>
+    requires { IsBounded (work_view work.old) }
+    ensures opened { option_map (λ n. take n octets.new) result ≡ opened_by (sealed_view sealed.entry octets.old) (pair_view pair.now) }
+    ensures unchanged { IfNone result (octets.new ≡ octets.old) }
+    ensures work { work_view work.new ≡ with_pair (work_view work.old) (pair_view pair.now) }
+    ensures iterations { work.new.iterations ≡ work.old.iterations }
+    ensures unwraps { work.new.unwraps ≤ work.old.unwraps + 1 }
+    ensures openings { work.new.openings ≤ work.old.openings + 1 }
+{
+    let enc = content_alg(pair.algorithms.encryption);
+    work.unwraps += unwraps(pair.algorithms.management);
+    let cek = deliver(pair)?;
+    work.openings += 1;
+    let cek = cek.octets();
+    opens_exactly();
+    are_octets(cek);
+    are_octets(sealed.iv);
+    enc.open(cek, sealed.iv, sealed.aad, octets, sealed.tag)
+}
+
+/// The content encryption key that a pair delivers.
+#[tactic(auto, unfolding(crate::specs::Decrypting::cek_of), using(crate::proofs::Candidates::is_key_of))]
+fn deliver(pair: &Pair<'_>) -> Option<Cek>
+    ensures { result ≡ cek_of (pair_view pair.now) }
+{
+    let Algorithms {
+        management,
+        encryption,
+    } = pair.algorithms;
+    let parameters = KeyParameters {
+        p2s: pair.recipient.p2s(),
+        p2c: 0,
+    };
+    let key = pair.key.octets();
+    delivers_exactly();
+    are_octets(key);
+    key_alg(management).unwrap_cek(
+        content_alg(encryption),
+        key,
+        parameters,
+        pair.recipient.encrypted_key(),
+    )
+}

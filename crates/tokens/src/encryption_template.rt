@@ -1,0 +1,144 @@
+//! Templates of encrypted objects. It is given a template's value, and sees no key and no content.
+ghost use Rattle.std.specs.Prelude.{◌≡◌, false, option_map, IfOk};
+ghost use Rattle.serde_json.specs.View.{view};
+ghost use Rattle.serde_json.specs.Written.{has_float, members_have_float};
+ghost use Rattle.octets.specs.Outcomes.{AgreesUnlessMemory};
+ghost use Rattle.objects.specs.Views.{part_view};
+ghost use Rattle.tokens.specs.Encrypting.{template_texts, management_asked, encryption_asked, supported_management, supported_encryption, algorithms_asked, encryption_template};
+ghost use Rattle.tokens.specs.Views.{template_texts_view, asked_view, encryption_template_view};
+
+use crate::algorithms::is_supported;
+use keys::{EncryptionAlg, ManagementAlg, has_only, is_object};
+use objects::{Header, header_at, text_at};
+use octets::{Refusal, b64_decode, needs};
+use serde_json::{Map, Value};
+use std::alloc::Global;
+
+/// The algorithms that a template names, if it does.
+#[derive(Clone, Copy)]
+pub(crate) struct AlgorithmsAsked {
+    pub(crate) management: Option<ManagementAlg>,
+    pub(crate) encryption: Option<EncryptionAlg>,
+}
+
+/// A template of an encrypted object.
+#[derive(Drop)]
+pub(crate) struct EncryptionTemplate<'v> {
+    pub(crate) protected: Option<&'v Map<String, Value>>,
+    pub(crate) unprotected: Option<&'v Map<String, Value>>,
+    pub(crate) aad: Vec<u8>,
+    pub(crate) asked: AlgorithmsAsked,
+}
+
+/// The headers of a template, and the text of its additional data.
+#[derive(Clone, Copy)]
+struct TemplateTexts<'v> {
+    protected: Option<&'v Map<String, Value>>,
+    unprotected: Option<&'v Map<String, Value>>,
+    aad: &'v [u8],
+}
+
+/// The template that a JSON value is. Refused over the whole template with `Form` where it is no object, has a member but
+/// `protected`, `unprotected` and `aad`, or one of these has a wrong type; `Base64` where `aad` is no base64url text;
+/// `Header` where a name stands in both headers, `alg` or `enc` is no string, or there is a `p2s`; and `Unsupported` where
+/// there is a `crit` or a `zip`, or an algorithm that is not supported.
+#[tactic(auto, unfolding(crate::specs::Encrypting::encryption_template))]
+pub(crate) fn read_encryption_template(
+    alloc: Global,
+    value: &Value,
+) -> Result<EncryptionTemplate<'_>, Refusal>
+    ensures exact { AgreesUnlessMemory encryption_template_view result (encryption_template (view value.now)) }
+    ensures no_float { IfOk result (λ t. has_float (view value.now) ≡ false
+        → (members_have_float (part_view t.protected) ≡ false) × (members_have_float (part_view t.unprotected) ≡ false)) }
+{
+    let TemplateTexts {
+        protected,
+        unprotected,
+        aad,
+    } = template_texts(value)?;
+    let aad = b64_decode(alloc, aad)?;
+    let asked = algorithms_asked(protected, unprotected)?;
+    Ok(EncryptionTemplate {
+        protected,
+        unprotected,
+        aad,
+        asked,
+    })
+}
+
+#[tactic(auto, unfolding(crate::specs::Encrypting::template_texts))]
+fn template_texts(value: &Value) -> Result<TemplateTexts<'_>, Refusal>
+    ensures exact { AgreesUnlessMemory template_texts_view result (template_texts (view value.now)) }
+    ensures no_float { IfOk result (λ t. has_float (view value.now) ≡ false
+        → (members_have_float (part_view t.protected) ≡ false) × (members_have_float (part_view t.unprotected) ≡ false)) }
+{
+    needs(is_object(value), Refusal::Form)?;
+    needs(
+        has_only(value, &["protected", "unprotected", "aad"]),
+        Refusal::Form,
+    )?;
+    let protected = header_at(value, "protected")?;
+    let unprotected = header_at(value, "unprotected")?;
+    let aad = text_at(value, "aad")?;
+    Ok(TemplateTexts {
+        protected,
+        unprotected,
+        aad,
+    })
+}
+
+/// The algorithms that both headers name together, where they do.
+#[tactic(auto, unfolding(crate::specs::Encrypting::algorithms_asked))]
+fn algorithms_asked<'v>(
+    protected: Option<&'v Map<String, Value>>,
+    unprotected: Option<&'v Map<String, Value>>,
+) -> Result<AlgorithmsAsked, Refusal>
+    ensures { AgreesUnlessMemory asked_view result (algorithms_asked (part_view protected.entry) (part_view unprotected.entry)) }
+{
+    let header = Header::joint(protected, unprotected, None)?;
+    let alg = header.alg()?;
+    let enc = header.enc()?;
+    needs(!header.has("p2s"), Refusal::Header)?;
+    needs(
+        !header.has("crit") && !header.has("zip"),
+        Refusal::Unsupported,
+    )?;
+    let management = management_asked(alg)?;
+    let encryption = encryption_asked(enc)?;
+    Ok(AlgorithmsAsked {
+        management,
+        encryption,
+    })
+}
+
+/// The algorithm of key management of the name, where one is given: it must be supported.
+fn management_asked(name: Option<&str>) -> Result<Option<ManagementAlg>, Refusal>
+    ensures { AgreesUnlessMemory (λ alg. alg) result (management_asked (option_map (λ n. n.now) name.entry)) }
+{
+    match name {
+        None => Ok(None),
+        Some(name) => supported_management(ManagementAlg::named(name)),
+    }
+}
+
+fn supported_management(alg: Option<ManagementAlg>) -> Result<Option<ManagementAlg>, Refusal>
+    ensures { AgreesUnlessMemory (λ alg. alg) result (supported_management alg) }
+{
+    match alg {
+        Some(alg) if is_supported(alg) => Ok(Some(alg)),
+        _ => Err(Refusal::Unsupported),
+    }
+}
+
+/// The algorithm of content encryption of the name, where one is given: it must be supported.
+fn encryption_asked(name: Option<&str>) -> Result<Option<EncryptionAlg>, Refusal>
+    ensures { AgreesUnlessMemory (λ alg. alg) result (encryption_asked (option_map (λ n. n.now) name.entry)) }
+{
+    match name {
+        None => Ok(None),
+        Some(name) => match EncryptionAlg::named(name) {
+            None => Err(Refusal::Unsupported),
+            Some(alg) => Ok(Some(alg)),
+        },
+    }
+}

@@ -1,0 +1,20 @@
+//! A recipient and a key that may have its content encryption key.
+ghost use Rattle.std.specs.Prelude.{◌≡◌, true};
+ghost use Rattle.keys.specs.declared.algorithm.Algorithm.TheVariants.{Encryption};
+ghost use Rattle.keys.specs.Keys.{fits};
+ghost use Rattle.keys.specs.Views.{key_view};
+ghost use Rattle.tokens.specs.Algorithms.{is_supported};
+
+use crate::algorithms::Algorithms;
+use keys::Key;
+use objects::Recipient;
+
+/// A recipient, whose algorithms are supported, and a key that may decrypt by these and fits.
+#[derive(Drop)]
+pub(crate) struct Pair<'a> {
+    pub(crate) recipient: &'a Recipient,
+    pub(crate) algorithms: Algorithms,
+    pub(crate) key: &'a Key,
+    ghost supported: { is_supported algorithms.management ≡ true },
+    ghost fits: { fits (key_view key.now) (Encryption algorithms.management algorithms.encryption) ≡ true },
+}

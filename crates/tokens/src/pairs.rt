@@ -1,0 +1,145 @@
+//! The pairs of a recipient and a key that are tried (RFC 7516 section 5.2). It opens nothing.
+ghost use Rattle.std.specs.Prelude.{◌≡◌, ◌≤◌, ◌*◌, [], ◌∷◌, ◌++◌, true, length, map, is_some, option_map, Err, IfSome, IfOk, IfErr, OnOk, OnErr};
+ghost use Rattle.std.specs.List.{list_any};
+ghost use Rattle.octets.specs.Outcomes.{AgreesUnlessMemory};
+ghost use Rattle.keys.specs.Views.{key_view};
+ghost use Rattle.objects.specs.Views.{recipient_view};
+ghost use Rattle.keys.specs.declared.algorithm.Algorithm.TheVariants.{Encryption};
+ghost use Rattle.keys.specs.Keys.{fits};
+ghost use Rattle.tokens.specs.Algorithms.{is_supported};
+ghost use Rattle.tokens.specs.Decrypting.{pairs_to_try, all_pairs, pairs_of, pairs_with, algorithms_of, is_candidate};
+ghost use Rattle.tokens.specs.Views.{algorithms_view, pair_view};
+
+use crate::algorithms::Algorithms;
+use crate::pair::Pair;
+use keys::{Algorithm, EncryptionAlg, Key, ManagementAlg};
+use objects::Recipient;
+use octets::{Refusal, needs};
+use std::alloc::Global;
+
+/// The pairs of a recipient and a key: the recipients in order, and for each of them the keys in order, those that may
+/// decrypt by its algorithms and fit. Refused with `Unsupported` where no recipient's algorithms are supported, and then
+/// with `KeyDoesNotFit` where there is no pair.
+#[tactic(auto, unfolding(crate::specs::Decrypting::pairs_to_try), using(crate::proofs::PairLists::any_recipient, crate::proofs::PairLists::no_pairs, crate::proofs::PairLists::some_pairs))]
+pub(crate) fn pairs_to_try<'a>(
+    alloc: Global,
+    keys: &'a [Key],
+    recipients: &'a [Recipient],
+) -> Result<Vec<Pair<'a>>, Refusal>
+    ensures exact { AgreesUnlessMemory (λ pairs. map pair_view pairs.items) result
+        (pairs_to_try (map key_view keys.now) (map recipient_view recipients.now)) }
+    ensures few { IfOk result (λ pairs. length pairs.items ≤ length keys.now * length recipients.now) }
+{
+    needs(has_supported(recipients), Refusal::Unsupported)?;
+    let pairs = all_pairs(alloc, keys, recipients)?;
+    needs(!pairs.is_empty(), Refusal::KeyDoesNotFit)?;
+    Ok(pairs)
+}
+
+/// The algorithms of some recipient are supported.
+fn has_supported(recipients: &[Recipient]) -> bool
+    ensures { result ≡ list_any (λ r. is_some (algorithms_of (recipient_view r))) recipients.now }
+{
+    recipients
+        .iter()
+        .any(|recipient| algorithms_of(recipient).is_some())
+}
+
+/// The pairs of all recipients.
+#[tactic(auto, using(crate::proofs::PairLists::few_pairs))]
+fn all_pairs<'a>(
+    alloc: Global,
+    keys: &'a [Key],
+    recipients: &'a [Recipient],
+) -> Result<Vec<Pair<'a>>, Refusal>
+    ensures pairs { IfOk result (λ pairs. map pair_view pairs.items ≡ all_pairs (map key_view keys.now) (map recipient_view recipients.now)) }
+    ensures few { IfOk result (λ pairs. length pairs.items ≤ length keys.now * length recipients.now) }
+    ensures memory { IfErr result (λ e. e ≡ Refusal.Memory) }
+{
+    let mut pairs = Vec::new(alloc);
+    for recipient in recipients {
+        push_pairs(&mut pairs, keys, recipient)?;
+    }
+    Ok(pairs)
+}
+
+/// Adds the pairs of a recipient.
+fn push_pairs<'a>(
+    pairs: &mut Vec<Pair<'a>>,
+    keys: &'a [Key],
+    recipient: &'a Recipient,
+) -> Result<(), Refusal>
+    ensures pushed { OnOk result (map pair_view pairs.new.items
+        ≡ map pair_view pairs.old.items ++ pairs_of (map key_view keys.now) (recipient_view recipient.now)) }
+    ensures memory { OnErr result (result ≡ Err Refusal.Memory) }
+{
+    match algorithms_of(recipient) {
+        None => Ok(()),
+        Some(algorithms) => push_candidates(pairs, keys, recipient, algorithms),
+    }
+}
+
+/// Adds a pair for each key that may decrypt by the algorithms and fits.
+fn push_candidates<'a>(
+    pairs: &mut Vec<Pair<'a>>,
+    keys: &'a [Key],
+    recipient: &'a Recipient,
+    algorithms: Algorithms,
+) -> Result<(), Refusal>
+    requires supported { is_supported algorithms.management ≡ true }
+    ensures pushed { OnOk result (map pair_view pairs.new.items
+        ≡ map pair_view pairs.old.items ++ pairs_with (recipient_view recipient.now) (algorithms_view algorithms) (map key_view keys.now)) }
+    ensures memory { OnErr result (result ≡ Err Refusal.Memory) }
+{
+    for key in keys {
+        push_candidate(pairs, key, recipient, algorithms)?;
+    }
+    Ok(())
+}
+
+/// Adds the pair of a key, where it may decrypt by the algorithms and fits.
+fn push_candidate<'a>(
+    pairs: &mut Vec<Pair<'a>>,
+    key: &'a Key,
+    recipient: &'a Recipient,
+    algorithms: Algorithms,
+) -> Result<(), Refusal>
+    requires supported { is_supported algorithms.management ≡ true }
+    ensures pushed { OnOk result (map pair_view pairs.new.items
+        ≡ map pair_view pairs.old.items ++ pairs_with (recipient_view recipient.now) (algorithms_view algorithms) (key_view key.now ∷ [])) }
+    ensures memory { OnErr result (result ≡ Err Refusal.Memory) }
+{
+    if is_candidate(algorithms, key) {
+        pairs.push(Pair {
+            recipient,
+            algorithms,
+            key,
+        })?;
+    }
+    Ok(())
+}
+
+/// The algorithms of a recipient, where both are supported.
+#[tactic(auto, unfolding(crate::specs::Decrypting::algorithms_of))]
+fn algorithms_of(recipient: &Recipient) -> Option<Algorithms>
+    ensures named { option_map algorithms_view result ≡ algorithms_of (recipient_view recipient.now) }
+    ensures supported { IfSome result (λ a. is_supported a.management ≡ true) }
+{
+    Algorithms::named(
+        ManagementAlg::named(recipient.alg()),
+        EncryptionAlg::named(recipient.enc()),
+    )
+}
+
+/// The key may decrypt by the algorithms, and fits.
+#[tactic(auto, unfolding(crate::specs::Decrypting::is_candidate))]
+fn is_candidate(algorithms: Algorithms, key: &Key) -> bool
+    ensures candidate { result ≡ is_candidate (algorithms_view algorithms) (key_view key.now) }
+    ensures fits { result ≡ true → fits (key_view key.now) (Encryption algorithms.management algorithms.encryption) ≡ true }
+{
+    let Algorithms {
+        management,
+        encryption,
+    } = algorithms;
+    key.allows(management.operations().1) && key.fits(Algorithm::Encryption(management, encryption))
+}
