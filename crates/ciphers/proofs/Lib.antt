@@ -6,3 +6,4 @@ pub mod Deliveries
 pub mod Sealers
 pub mod Unique
 pub mod Found
+pub mod Octets

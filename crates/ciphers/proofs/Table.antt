@@ -47,7 +47,7 @@ module _ (e d : List ℕ → List ℕ) (law : IsCipher e d) where
   image a r x y = law.gives_block (a ++ r) (block_of_halves a r x y)
 
   module _ (p : List ℕ) (octets : IsOctets p) (two : 16 ≤ length p) where
-    table_is_half : (t k : ℕ) → k ≤ length p / 8 → IsHalf (table e p t k)
+    pub table_is_half : (t k : ℕ) → k ≤ length p / 8 → IsHalf (table e p t k)
     unfolding table
     table_is_half zero zero l = record { eight = refl; octets = λ i. search rules }
     table_is_half zero (suc i) l = part_is_half p i octets (within p i (omega arith))

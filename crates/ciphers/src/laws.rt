@@ -58,3 +58,20 @@ pub fn delivers_exactly()
     search_finds_octets();
     delivery_is_unique();
 }
+
+/// A ciphertext and a tag that an octet string opens are octets.
+pub fn what_is_opened_is_octets()
+    ensures { (alg : ContentAlg) (cek iv aad c tag p : List ℕ) → IsOctets cek → IsOctets iv
+        → IsOpening alg cek iv aad c tag p → IsOctets c × IsOctets tag }
+{
+    encrypted_block_is_cipher();
+}
+
+/// An encrypted key that delivers a content encryption key is octets.
+pub fn what_delivers_is_octets()
+    ensures { (alg : KeyAlg) (enc : ContentAlg) (key p2s : List ℕ) (p2c : ℕ) (encrypted cek : List ℕ) → IsOctets key
+        → IsDelivered alg enc key p2s p2c encrypted cek → IsOctets encrypted }
+{
+    encrypted_block_is_cipher();
+    derived_key_is_octets();
+}

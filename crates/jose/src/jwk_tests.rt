@@ -34,7 +34,7 @@ pub(crate) fn writes<R: Abort + AllocGlobal>(
         text,
         content: b"",
         keys: "",
-        random,
+        random: random.as_bytes(),
     };
     expect(rt, words, &given, answer)
 }

@@ -1,4 +1,7 @@
 //! Content of more than 64 KiB, which is treated like any other.
+use crate::jwe_tests::{
+    BY_A128KW, BY_A192KW, BY_A256KW, COMPACT, DIRECT, ENCRYPT, decrypts_what_is_written,
+};
 use crate::jwk_tests::writes;
 use crate::tests::{Answer, KEY, TEMPLATE, decodes, encodes, signs, verifies};
 use std::alloc::{AllocError, Global};
@@ -66,4 +69,45 @@ fn jwk_of_a_template_of_70_000_octets(rt: HostRuntime) -> Result<(), Fail> {
     // The hash of {"k":"AA","kty":"oct"}.
     let answer = Answer::Text("xoNKolCCOwo3X8anKSSJQKMilUpNMW2KQv6Md8OcdL0");
     writes(&rt, &["jwk", "thp"], key.as_str(), "", answer)
+}
+
+/// 70,000 octets come back by the row.
+fn comes_back<R: Abort + AllocGlobal>(
+    rt: &R,
+    words: &[&str],
+    row: (&str, &str, &str),
+) -> Result<(), Fail> {
+    let (template, keys, _) = row;
+    let content = repeated(rt.alloc(), "", "abcdefg", 10_000, "")?;
+    decrypts_what_is_written(rt, words, template, keys, content.as_bytes())
+}
+
+#[test]
+fn jwe_of_70_000_octets_by_a128cbc_hs256(rt: HostRuntime) -> Result<(), Fail> {
+    comes_back(&rt, &ENCRYPT, DIRECT[0])
+}
+
+#[test]
+fn jwe_of_70_000_octets_by_a192cbc_hs384(rt: HostRuntime) -> Result<(), Fail> {
+    comes_back(&rt, &COMPACT, BY_A128KW[1])
+}
+
+#[test]
+fn jwe_of_70_000_octets_by_a256cbc_hs512(rt: HostRuntime) -> Result<(), Fail> {
+    comes_back(&rt, &COMPACT, BY_A192KW[2])
+}
+
+#[test]
+fn jwe_of_70_000_octets_by_a128gcm(rt: HostRuntime) -> Result<(), Fail> {
+    comes_back(&rt, &ENCRYPT, BY_A256KW[3])
+}
+
+#[test]
+fn jwe_of_70_000_octets_by_a192gcm(rt: HostRuntime) -> Result<(), Fail> {
+    comes_back(&rt, &COMPACT, DIRECT[4])
+}
+
+#[test]
+fn jwe_of_70_000_octets_by_a256gcm(rt: HostRuntime) -> Result<(), Fail> {
+    comes_back(&rt, &COMPACT, BY_A128KW[5])
 }

@@ -1,5 +1,6 @@
 //! The command `jose` for octet keys: makes keys (RFC 7517) and writes their thumbprints (RFC 7638), signs
-//! and verifies small documents (RFC 7515), and writes and reads base64url (RFC 4648 section 5).
+//! and verifies small documents (RFC 7515), encrypts and decrypts secrets (RFC 7516), and writes and reads base64url
+//! (RFC 4648 section 5).
 //!
 //! The words become an invocation (`words`, by the table in `command`), the invocation names devices
 //! (`files`), and `run` does what is asked from devices to devices. `report` tells a refusal.
@@ -51,6 +52,8 @@ fn main(rt: HostRuntime) -> ExitCode {
 mod algorithm_tests;
 #[cfg(test)]
 mod header_tests;
+#[cfg(test)]
+mod jwe_tests;
 #[cfg(test)]
 mod jwe_text_tests;
 #[cfg(test)]

@@ -1,4 +1,5 @@
 //! The commands over memory: worked examples of the standards, and what is refused with which cause.
+use crate::jwe_tests::{DECRYPT, ENCRYPT, LINE, RFC7516_KEY, RFC7516_RANDOM, WITH_AAD};
 use crate::{Inputs, Outputs, parse, report, run};
 use octets::{MemoryInput, MemoryOutput, ReaderInput, Refusal};
 use std::alloc::{AllocError, Global};
@@ -31,7 +32,7 @@ const SIGN: [&str; 9] = [
 const VERIFY: [&str; 6] = ["jws", "ver", "-k", "keys", "-O", "payload"];
 
 /// How many octets each output takes, where there is room enough.
-const ROOM: usize = 100_000;
+pub(crate) const ROOM: usize = 100_000;
 
 /// What the inputs hold.
 #[derive(Clone, Copy)]
@@ -39,7 +40,7 @@ pub(crate) struct Given<'a> {
     pub(crate) text: &'a str,
     pub(crate) content: &'a [u8],
     pub(crate) keys: &'a str,
-    pub(crate) random: &'a str,
+    pub(crate) random: &'a [u8],
 }
 
 /// What a call of the program did.
@@ -79,7 +80,7 @@ pub(crate) fn outcome(
                 text: MemoryInput::new(given.text.as_bytes(), step),
                 content: MemoryInput::new(given.content, step),
                 keys: MemoryInput::new(given.keys.as_bytes(), step),
-                random: MemoryInput::new(given.random.as_bytes(), step),
+                random: MemoryInput::new(given.random, step),
             };
             run(alloc, &invocation, &mut inputs, &mut outputs)
         }
@@ -177,7 +178,7 @@ pub(crate) fn verifies<R: Abort + AllocGlobal>(
         text,
         content: b"",
         keys,
-        random: "",
+        random: b"",
     };
     expect(rt, &VERIFY, &given, answer)
 }
@@ -479,7 +480,7 @@ pub(crate) fn signs<R: Abort + AllocGlobal>(
         text,
         content,
         keys,
-        random: "",
+        random: b"",
     };
     expect(rt, &SIGN, &given, answer)
 }
@@ -720,7 +721,7 @@ pub(crate) fn encodes<R: Abort + AllocGlobal>(
         text: "",
         content,
         keys: "",
-        random: "",
+        random: b"",
     };
     expect(rt, &["b64", "enc"], &given, Answer::Text(text))
 }
@@ -743,7 +744,7 @@ pub(crate) fn decodes<R: Abort + AllocGlobal>(
         text,
         content: b"",
         keys: "",
-        random: "",
+        random: b"",
     };
     expect(rt, &["b64", "dec"], &given, answer)
 }
@@ -807,7 +808,7 @@ fn an_output_without_room_holds_a_beginning(rt: HostRuntime) -> Result<(), Fail>
         text: "",
         content: b"abc",
         keys: "",
-        random: "",
+        random: b"",
     };
     let done = outcome(rt.alloc(), &["b64", "enc"], &given, 2, 3)?;
     expect_ended(&rt, done.result, Err(Refusal::Write), "the end of room");
@@ -886,7 +887,7 @@ fn expect_usage<R: Abort + AllocGlobal>(rt: &R, words: &[&str]) -> Result<(), Fa
         text: "",
         content: b"",
         keys: "",
-        random: "",
+        random: b"",
     };
     let done = outcome(rt.alloc(), words, &nothing, 1, ROOM)?;
     expect_told(rt, done.result, 1, b"jose: 1 Usage\n")
@@ -899,7 +900,7 @@ fn words_that_are_no_command_are_told(rt: HostRuntime) -> Result<(), Fail> {
     expect_told(&rt, Ok(()), 0, b"")
 }
 
-/// Signs, verifies, makes a key and names keys, after so many growths of its own. Each growth may be
+/// Signs, verifies, makes a key, names keys, encrypts and decrypts, after so many growths of its own. Each growth may be
 /// refused: then the answer is `Memory`, and nothing was written.
 fn works<R: Abort + AllocGlobal>(rt: &R, before: usize, may_be_refused: bool) {
     for _ in 0..before {
@@ -909,19 +910,39 @@ fn works<R: Abort + AllocGlobal>(rt: &R, before: usize, may_be_refused: bool) {
         text: TEMPLATE,
         content: b"abc",
         keys: KEY,
-        random: "",
+        random: b"",
     };
     let verifying = Given {
         text: ABC,
         content: b"",
         keys: KEY,
-        random: "",
+        random: b"",
     };
     let signed = outcome(rt.alloc(), &SIGN, &signing, 4096, ROOM);
     answers(rt, signed, Answer::Text(ABC), may_be_refused);
     let verified = outcome(rt.alloc(), &VERIFY, &verifying, 4096, ROOM);
     answers(rt, verified, Answer::Content(b"abc"), may_be_refused);
     makes_and_names(rt, may_be_refused);
+    encrypts_and_decrypts(rt, may_be_refused);
+}
+
+fn encrypts_and_decrypts<R: Abort + AllocGlobal>(rt: &R, may_be_refused: bool) {
+    let encrypting = Given {
+        text: "{\"aad\":\"YQ\"}",
+        content: LINE,
+        keys: RFC7516_KEY,
+        random: RFC7516_RANDOM,
+    };
+    let decrypting = Given {
+        text: WITH_AAD,
+        content: b"",
+        keys: RFC7516_KEY,
+        random: b"",
+    };
+    let encrypted = outcome(rt.alloc(), &ENCRYPT, &encrypting, 4096, ROOM);
+    answers(rt, encrypted, Answer::Text(WITH_AAD), may_be_refused);
+    let decrypted = outcome(rt.alloc(), &DECRYPT, &decrypting, 4096, ROOM);
+    answers(rt, decrypted, Answer::Content(LINE), may_be_refused);
 }
 
 fn makes_and_names<R: Abort + AllocGlobal>(rt: &R, may_be_refused: bool) {
@@ -929,7 +950,7 @@ fn makes_and_names<R: Abort + AllocGlobal>(rt: &R, may_be_refused: bool) {
         text: "{\"alg\":\"A128KW\"}",
         content: b"",
         keys: "",
-        random: "0123456789abcdef",
+        random: b"0123456789abcdef",
     };
     let key =
         "{\"alg\":\"A128KW\",\"k\":\"MDEyMzQ1Njc4OWFiY2RlZg\",\"key_ops\":[\"wrapKey\",\"unwrapKey\"],\"kty\":\"oct\"}";
@@ -937,7 +958,7 @@ fn makes_and_names<R: Abort + AllocGlobal>(rt: &R, may_be_refused: bool) {
         text: "{\"keys\":[{\"kty\":\"oct\",\"k\":\"MDEyMzQ1Njc4OWFiY2RlZg\"},{\"kty\":\"EC\"}]}",
         content: b"",
         keys: "",
-        random: "",
+        random: b"",
     };
     let made = outcome(rt.alloc(), &["jwk", "gen", "-i", "t"], &making, 4096, ROOM);
     answers(rt, made, Answer::Text(key), may_be_refused);

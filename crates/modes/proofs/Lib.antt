@@ -10,3 +10,4 @@ pub mod Fronts
 pub mod BlockProduct
 pub mod Numbers
 pub mod Protecting
+pub mod Octets

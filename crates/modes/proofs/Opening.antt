@@ -18,7 +18,7 @@ opened_same d iv b c zero same = ap (λ x. xor_octets (d x) iv) (same 0 (omega a
 opened_same d iv b c (suc i) same = ap₂ (λ x y. xor_octets (d x) y) (same (suc i) (omega arith)) (same i (omega arith))
 
 module _ (e d : List ℕ → List ℕ) (law : IsCipher e d) (iv : List ℕ) (start : IsBlock iv) where
-  chained_is_block : (q : List ℕ) → IsOctets q → (i : ℕ) → 16 * i ≤ length q → IsBlock (chained e iv q i)
+  pub chained_is_block : (q : List ℕ) → IsOctets q → (i : ℕ) → 16 * i ≤ length q → IsBlock (chained e iv q i)
   unfolding chained
   chained_is_block q small zero h = start
   chained_is_block q small (suc i) h =

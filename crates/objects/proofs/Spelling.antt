@@ -243,7 +243,7 @@ protected_characters laws o r is =
 -- ---- the JSON text
 
 -- a name of letters, digits, `-` and `_` is UTF-8
-name_is_json : UrlTextsAreJson → (name : List ℕ) → list_all is_url_character name ≡ true → IsUtf8 name
+pub name_is_json : UrlTextsAreJson → (name : List ℕ) → list_all is_url_character name ≡ true → IsUtf8 name
 name_is_json url name h = (url name (all_url name h)).0
   where
     all_url : (text : List ℕ) → list_all is_url_character text ≡ true → AllByRecursion (λ c. is_url_character c ≡ true) text

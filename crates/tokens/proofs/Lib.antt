@@ -8,3 +8,5 @@ pub mod PairLists
 pub mod Sealed
 pub mod Openings
 pub mod EncryptingPlans
+pub mod EncryptedTemplates
+pub mod EncryptedRoundTrip

@@ -47,15 +47,15 @@ use Rattle.tokens.specs.Verifying.{verified_payload, verifying_by, SignedVerifie
 -- ---- steps and tests
 
 -- the steps of a chain that answers
-steps : {A B : Type 0} (r : Result A Refusal) (f : A → Result B Refusal) (y : B) → (r >>= f) ≡ Ok y → (x : A) × (r ≡ Ok x) × (f x ≡ Ok y)
+pub steps : {A B : Type 0} (r : Result A Refusal) (f : A → Result B Refusal) (y : B) → (r >>= f) ≡ Ok y → (x : A) × (r ≡ Ok x) × (f x ≡ Ok y)
 steps (Ok x) f y h = (x, refl, h)
 steps (Err e) f y h = cc h
 
-passed : (test : Bool) (refusal : Refusal) (u : Unit {0}) → needs test refusal ≡ Ok u → test ≡ true
+pub passed : (test : Bool) (refusal : Refusal) (u : Unit {0}) → needs test refusal ≡ Ok u → test ≡ true
 passed true r u h = refl
 passed false r u h = cc h
 
-both : (x y : Bool) → (x && y) ≡ true → (x ≡ true) × (y ≡ true)
+pub both : (x y : Bool) → (x && y) ≡ true → (x ≡ true) × (y ≡ true)
 both true y h = (refl, h)
 both false y h = cc h
 
@@ -63,7 +63,7 @@ nothing_there : {X : Type 0} (o : Option X) → is_none o ≡ true → o ≡ Non
 nothing_there None h = refl
 nothing_there (Some x) h = cc h
 
-same_answer : {A : Type 0} (x y : A) → (let r : Result A Refusal = Ok x in r) ≡ Ok y → x ≡ y
+pub same_answer : {A : Type 0} (x y : A) → (let r : Result A Refusal = Ok x in r) ≡ Ok y → x ≡ y
 same_answer x y h = cc h
 
 -- ---- UTF-8 is octets
@@ -94,7 +94,7 @@ all_encoded : (cs : List ℕ) → scalars cs ≡ true → IsOctets (encodes cs)
 all_encoded [] h = IsOctets-nil
 all_encoded (c ∷ cs) h = let parts = both (scalar c) (scalars cs) h in IsOctets-append (encode c) (encodes cs) (encoded_octets c parts.0) (all_encoded cs parts.1)
 
-octets_of_utf8 : (text : List ℕ) → IsUtf8 text → IsOctets text
+pub octets_of_utf8 : (text : List ℕ) → IsUtf8 text → IsOctets text
 octets_of_utf8 text h = subst IsOctets h.1.1 (all_encoded h.0 h.1.0)
 
 -- ---- the characters of a compact text
@@ -285,14 +285,14 @@ written t key chosen alg s json chose ok = by_alg t.alg refl s.is chose
         }
 
 -- its text reads back
-record ReadsBack (m : Members) : Type 0 where
-  members : protected_members (header_text m) ≡ Ok m
-  octets : IsOctets (header_text m)
+pub record ReadsBack (m : Members) : Type 0 where
+  pub members : protected_members (header_text m) ≡ Ok m
+  pub octets : IsOctets (header_text m)
 
-read_back : (m : Members) (name : List ℕ) → Names m name → AreJsonMembers m → is_shallow limits m ≡ true → ReadsBack m
-unfolding protected_members members_of_json string_parameter
-read_back no_members name names json shallow = let none = names.alg in cc none
-read_back (member k value rest) name names json shallow =
+pub read_back : (m : Members) → AreJsonMembers m → is_shallow limits m ≡ true → ReadsBack m
+unfolding protected_members members_of_json
+read_back no_members json shallow = record { members = refl; octets = IsOctets-nil }
+read_back (member k value rest) json shallow =
     let d = object (member k value rest) in
     let few : depth d ≤ 64 = leb-true (depth d) 64 shallow in
     let back : json_value (compact_text d) ≡ Ok d = reads_back d json (omega arith) in
@@ -319,7 +319,7 @@ same_bytes x = search rules
 
 -- ---- what the template's text says
 
-members_json : (d : Data) (name : List ℕ) (m : Members) → IsJson d → header_at name d ≡ Ok m → AreJsonMembers m
+pub members_json : (d : Data) (name : List ℕ) (m : Members) → IsJson d → header_at name d ≡ Ok m → AreJsonMembers m
 unfolding header_at
 members_json d name m json h = by_found (get name d) refl h
   where
@@ -389,7 +389,7 @@ signs key t s say json h =
     let alone : t.per_signature ≡ no_members = empty_is t.per_signature w.1 in
     let m = with_alg t b.0 in
     let wrote = written t key a.0 b.0 (say alone) json a.1 b.1 in
-    let back = read_back m wrote.name wrote.names wrote.json w.0 in
+    let back = read_back m wrote.json w.0 in
     let fit : fits key (Signature b.0) ≡ true = (both (allows key Sign) (fits key (Signature b.0)) (passed (test b.0) KeyDoesNotFit c.0 c.1)).1 in
     let made : Signs key (record { alg = b.0; key = key.octets; header = d.0 }) = record {
       key_is = refl;

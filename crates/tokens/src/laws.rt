@@ -1,6 +1,12 @@
 //! Laws of the definitions, each the contract of a function that does nothing.
+ghost use Rattle.tokens.specs.Encrypting.{EncryptedDecrypts};
 ghost use Rattle.tokens.specs.Signing.{SigningGrows};
 ghost use Rattle.tokens.specs.Verifying.{SignedVerifies};
+
+use ciphers::laws::{
+    delivers_exactly, opens_exactly, what_delivers_is_octets, what_is_opened_is_octets,
+};
+use objects::laws::texts_spell_objects;
 
 /// What a beginning of the payload fixes of the compact text goes on as more is read, and begins the whole text.
 pub fn signing_grows()
@@ -11,3 +17,14 @@ pub fn signing_grows()
 pub fn what_is_signed_verifies()
     ensures { SignedVerifies }
 {}
+
+/// What is encrypted to a key as a template asks is decrypted with this key alone, where it may decrypt, to the plaintext.
+pub fn what_is_encrypted_decrypts()
+    ensures { EncryptedDecrypts }
+{
+    opens_exactly();
+    delivers_exactly();
+    what_is_opened_is_octets();
+    what_delivers_is_octets();
+    texts_spell_objects();
+}
