@@ -4,7 +4,7 @@ PREFIX ?= /usr/local
 
 .PHONY: demo test edits build ports faults bench install clean
 
-# Signs a document, verifies it, and shows what a changed token and a wrong key give.
+# Signs a document and verifies it, makes a key, encrypts a secret and decrypts it, and shows what changed texts and wrong keys give.
 demo:
 	@scripts/demo
 
@@ -32,10 +32,11 @@ faults:
 bench:
 	@scripts/bench
 
-# Installs the built program.
+# Installs the built program and its man page.
 install:
 	@test -x crates/jose/out/jose || { echo "make build first" >&2; exit 1; }
 	install -D -m 755 crates/jose/out/jose $(DESTDIR)$(PREFIX)/bin/jose
+	install -D -m 644 man/jose.1 $(DESTDIR)$(PREFIX)/share/man/man1/jose.1
 
 clean:
 	rm -rf crates/*/out
