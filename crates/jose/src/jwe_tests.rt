@@ -6,11 +6,26 @@ use std::process::Abort;
 use std::test::Fail;
 
 pub(crate) const COMPACT: [&str; 9] = [
-    "jwe", "enc", "-c", "-i", "template", "-I", "plaintext", "-k", "keys",
+    "jwe",
+    "enc",
+    "-c",
+    "-i",
+    "template",
+    "-I",
+    "plaintext",
+    "-k",
+    "keys",
 ];
 
 pub(crate) const ENCRYPT: [&str; 8] = [
-    "jwe", "enc", "-i", "template", "-I", "plaintext", "-k", "keys",
+    "jwe",
+    "enc",
+    "-i",
+    "template",
+    "-I",
+    "plaintext",
+    "-k",
+    "keys",
 ];
 
 pub(crate) const DECRYPT: [&str; 6] = ["jwe", "dec", "-k", "keys", "-O", "plaintext"];
@@ -22,7 +37,8 @@ pub(crate) const LINE: &[u8] = b"Live long and prosper.";
 pub(crate) const RFC7516_KEY: &str = "{\"kty\":\"oct\",\"k\":\"GawgguFyGrWKav7AX4VKUg\"}";
 
 /// Its content encryption key, and its initialization vector.
-pub(crate) const RFC7516_RANDOM: &[u8] = b"\x04\xd3\x1f\xc5\x54\x9d\xfc\xfe\x0b\x64\x9d\xfa\x3f\xaa\x6a\xce\x6b\x7c\xd4\x2d\x6f\x6b\x09\xdb\xc8\xb1\x00\xf0\x8f\x9c\x2c\xcf\x03\x16\x3c\x0c\x2b\x43\x68\x69\x6c\x6c\x69\x63\x6f\x74\x68\x65";
+pub(crate) const RFC7516_RANDOM: &[u8] =
+    b"\x04\xd3\x1f\xc5\x54\x9d\xfc\xfe\x0b\x64\x9d\xfa\x3f\xaa\x6a\xce\x6b\x7c\xd4\x2d\x6f\x6b\x09\xdb\xc8\xb1\x00\xf0\x8f\x9c\x2c\xcf\x03\x16\x3c\x0c\x2b\x43\x68\x69\x6c\x6c\x69\x63\x6f\x74\x68\x65";
 
 /// Its compact text.
 const RFC7516_A3: &str =
@@ -45,19 +61,17 @@ const WITH_UNPROTECTED: &str =
     "{\"ciphertext\":\"KDlTtXchhZTGufMYmOYGS4HffxPSUrfmqCHXaI9wOGY\",\"encrypted_key\":\"6KB707dM9YTIgHtLvtgWQ8mKwboJW3of9locizkDTHzBC2IlrT1oOQ\",\"iv\":\"AxY8DCtDaGlsbGljb3RoZQ\",\"protected\":\"eyJlbmMiOiJBMTI4Q0JDLUhTMjU2In0\",\"tag\":\"Mz-VPPyU4RlcuYv1IwIvzw\",\"unprotected\":{\"alg\":\"A128KW\"}}";
 
 /// The octets 1 to 80.
-const OCTETS: &[u8] = b"\x01\x02\x03\x04\x05\x06\x07\x08\x09\x0a\x0b\x0c\x0d\x0e\x0f\x10\x11\x12\x13\x14\x15\x16\x17\x18\x19\x1a\x1b\x1c\x1d\x1e\x1f\x20\x21\x22\x23\x24\x25\x26\x27\x28\x29\x2a\x2b\x2c\x2d\x2e\x2f\x30\x31\x32\x33\x34\x35\x36\x37\x38\x39\x3a\x3b\x3c\x3d\x3e\x3f\x40\x41\x42\x43\x44\x45\x46\x47\x48\x49\x4a\x4b\x4c\x4d\x4e\x4f\x50";
+const OCTETS: &[u8] =
+    b"\x01\x02\x03\x04\x05\x06\x07\x08\x09\x0a\x0b\x0c\x0d\x0e\x0f\x10\x11\x12\x13\x14\x15\x16\x17\x18\x19\x1a\x1b\x1c\x1d\x1e\x1f\x20\x21\x22\x23\x24\x25\x26\x27\x28\x29\x2a\x2b\x2c\x2d\x2e\x2f\x30\x31\x32\x33\x34\x35\x36\x37\x38\x39\x3a\x3b\x3c\x3d\x3e\x3f\x40\x41\x42\x43\x44\x45\x46\x47\x48\x49\x4a\x4b\x4c\x4d\x4e\x4f\x50";
 
 /// A key of 16 octets.
-const KEY_16: &str =
-    "{\"kty\":\"oct\",\"k\":\"ZWZnaGlqa2xtbm9wcXJzdA\"}";
+const KEY_16: &str = "{\"kty\":\"oct\",\"k\":\"ZWZnaGlqa2xtbm9wcXJzdA\"}";
 
 /// A key of 24 octets.
-const KEY_24: &str =
-    "{\"kty\":\"oct\",\"k\":\"ZWZnaGlqa2xtbm9wcXJzdHV2d3h5ent8\"}";
+const KEY_24: &str = "{\"kty\":\"oct\",\"k\":\"ZWZnaGlqa2xtbm9wcXJzdHV2d3h5ent8\"}";
 
 /// A key of 32 octets.
-const KEY_32: &str =
-    "{\"kty\":\"oct\",\"k\":\"ZWZnaGlqa2xtbm9wcXJzdHV2d3h5ent8fX5_gIGCg4Q\"}";
+const KEY_32: &str = "{\"kty\":\"oct\",\"k\":\"ZWZnaGlqa2xtbm9wcXJzdHV2d3h5ent8fX5_gIGCg4Q\"}";
 
 /// A key of 48 octets.
 const KEY_48: &str =
@@ -272,10 +286,7 @@ fn what_a_template_gives_stays_where_it_is(rt: HostRuntime) -> Result<(), Fail> 
 }
 
 /// Each line becomes these texts, and these texts the line.
-fn made_elsewhere<R: Abort + AllocGlobal>(
-    rt: &R,
-    rows: &[(&str, &str, &str)],
-) -> Result<(), Fail> {
+fn made_elsewhere<R: Abort + AllocGlobal>(rt: &R, rows: &[(&str, &str, &str)]) -> Result<(), Fail> {
     for (template, keys, text) in rows {
         encrypts(rt, &COMPACT, template, keys, Answer::Text(text))?;
         decrypts(rt, text, keys, Answer::Content(LINE))?;
@@ -420,11 +431,7 @@ const NOT_OPENED: &[(&str, &str, Refusal)] = &[
         Refusal::Unsupported,
     ),
     // The keys before the object.
-    (
-        "",
-        " {}",
-        Refusal::Key,
-    ),
+    ("", " {}", Refusal::Key),
 ];
 
 #[test]
@@ -555,11 +562,7 @@ const NOT_ENCRYPTED: &[(&str, &str, Refusal)] = &[
         "{\"kty\":\"oct\",\"k\":\"GawgguFyGrWKav7AX4VKUg\",\"key_ops\":[\"unwrapKey\"]}",
         Refusal::KeyDoesNotFit,
     ),
-    (
-        "{}",
-        "{\"keys\":[{\"kty\":\"EC\"}]}",
-        Refusal::Key,
-    ),
+    ("{}", "{\"keys\":[{\"kty\":\"EC\"}]}", Refusal::Key),
     // The limit.
     (
         "{\"protected\":{\"x\":[[[[[[[[[[[[[[[[[[[[[[[[[[[[[[[[[[[[[[[[[[[[[[[[[[[[[[[[[[[[[[[[]]]]]]]]]]]]]]]]]]]]]]]]]]]]]]]]]]]]]]]]]]]]]]]]]]]]]]]]]]]]]]]]}}",
@@ -590,8 +593,7 @@ fn a_compact_text_has_room_for_protected_headers_alone(rt: HostRuntime) -> Resul
 }
 
 /// A key of 16 zero octets that names its content encryption.
-const DIRECT_KEY: &str =
-    "{\"kty\":\"oct\",\"k\":\"AAAAAAAAAAAAAAAAAAAAAA\",\"alg\":\"A128GCM\"}";
+const DIRECT_KEY: &str = "{\"kty\":\"oct\",\"k\":\"AAAAAAAAAAAAAAAAAAAAAA\",\"alg\":\"A128GCM\"}";
 
 /// Of twelve zero octets and this content comes this text.
 fn by_direct_key<R: Abort + AllocGlobal>(

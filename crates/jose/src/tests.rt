@@ -1030,6 +1030,6 @@ fn a_refused_growth_7(rt: HostRuntime) {
 }
 
 #[test]
-fn ample_memory_gives_the_answers(rt: HostRuntime) {
+fn ample_memory_refuses_no_growth(rt: HostRuntime) {
     works(&rt, 7, false);
 }

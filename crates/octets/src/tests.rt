@@ -490,7 +490,7 @@ fn a_refused_growth_0(rt: HostRuntime) {
 }
 
 #[test]
-fn ample_memory_gives_the_answers(rt: HostRuntime) {
+fn ample_memory_refuses_no_growth(rt: HostRuntime) {
     grows(&rt, false);
 }
 

@@ -1,5 +1,5 @@
 -- A key that may decrypt by an algorithm has a length that its cipher takes.
-use Rattle.std.proofs.Common.{◌≡◌, ℕ, Bool, true, false, length, refl, ◌∙◌}
+use Rattle.std.proofs.Common.{◌≡◌, Bool, true, false, length, refl, ◌∙◌}
 use Rattle.std.proofs.lemmas.Bool.{eqb-true}
 use Rattle.std.specs.Prelude.{◌&&◌}
 use Rattle.ciphers.specs.Delivery.{IsKeyOf}

@@ -4,7 +4,7 @@ use Rattle.std.proofs.lemmas.Bool.{le-leb}
 use Rattle.std.proofs.Math.Seq.{take-length}
 use Rattle.octets.specs.declared.refusal.Refusal.{Refusal}
 use Rattle.octets.specs.Devices.{Observed}
-use Rattle.octets.specs.Plan.{Plan, begun, planned, plan_from}
+use Rattle.octets.specs.Plan.{Plan, begun, plan_from}
 use Rattle.keys.specs.Keys.{OctetKey}
 use Rattle.keys.specs.Limits.{Limits}
 use Rattle.tokens.specs.Encrypting.{Encryption, encryption_of, encrypting_by, octets_drawn, plan_by}

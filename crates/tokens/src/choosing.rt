@@ -65,8 +65,7 @@ fn encryption_by<'k>(
         Refusal::KeyDoesNotFit,
     )?;
     let protected = with_algorithms(alloc, &template, management, encryption)?;
-    let shallow =
-        object_nests_at_most(&protected, MOST_DEPTH) && is_shallow(template.unprotected);
+    let shallow = object_nests_at_most(&protected, MOST_DEPTH) && is_shallow(template.unprotected);
     needs(shallow, Refusal::Limit)?;
     needs(has_no_more(compact, &template), Refusal::NotCompact)?;
     let header = header_text(alloc, protected)?;
@@ -213,8 +212,20 @@ fn with_algorithms(
 {
     let header = copy(alloc, template.protected)?;
     let asked = template.asked;
-    let header = with_name(alloc, asked.management.is_some(), "alg", management.name(), header)?;
-    with_name(alloc, asked.encryption.is_some(), "enc", encryption.name(), header)
+    let header = with_name(
+        alloc,
+        asked.management.is_some(),
+        "alg",
+        management.name(),
+        header,
+    )?;
+    with_name(
+        alloc,
+        asked.encryption.is_some(),
+        "enc",
+        encryption.name(),
+        header,
+    )
 }
 
 /// The header with a parameter, where the template does not name its algorithm.

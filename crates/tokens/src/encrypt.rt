@@ -152,11 +152,19 @@ fn encrypted(
     let protected = b64_encode(alloc, encryption.header.as_bytes())?;
     let aad = authenticated(alloc, &protected, &encryption.aad)?;
     let alg = content_alg(encryption.encryption);
-    let SealedOctets { ciphertext, tag } =
-        seal(alloc, alg, cek.octets(), iv, aad.as_bytes(), plaintext)?;
+    let SealedOctets { ciphertext, tag } = seal(
+        alloc,
+        alg,
+        cek.octets(),
+        iv,
+        aad.as_bytes(),
+        plaintext,
+    )?;
     let recipients = recipient(alloc, &encryption, &cek)?;
     let Encryption {
-        unprotected, aad, ..
+        unprotected,
+        aad,
+        ..
     } = encryption;
     let parts = JweParts {
         protected,
