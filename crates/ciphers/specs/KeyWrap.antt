@@ -1,5 +1,5 @@
 -- AES key wrap (RFC 3394, section 2.2), over any function e of blocks.
-use Rattle.std.specs.Prelude.{◌≡◌, ℕ, zero, suc, ◌*◌, ◌/◌, ◌%◌, ◌<◌, ◌≤◌, ◌==◌, if◌then◌else◌, bit_xor, List, ◌++◌, length, take, drop, map, replicate}
+use Rattle.std.specs.Prelude.{◌≡◌, ℕ, zero, suc, ◌*◌, ◌/◌, ◌%◌, ◌≤◌, ◌==◌, if◌then◌else◌, bit_xor, List, ◌++◌, length, take, drop, map, replicate}
 use Rattle.std.specs.Int.{w64, from_be_bytes, to_be_bytes}
 use Rattle.std.specs.List.{range_with_len, concat}
 use Rattle.octets.specs.Octets.{IsOctets}

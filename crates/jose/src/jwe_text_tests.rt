@@ -113,7 +113,7 @@ const HEADERS: &[(&str, Refusal)] = &[
         Refusal::Number,
     ),
     (
-        "{\"ciphertext\":\"\",\"protected\":\"W10\"}",
+        "{\"ciphertext\":\"\",\"protected\":\"WzFd\"}",
         Refusal::Header,
     ),
     // The joint header: no `enc`, a name in two parts, and a `zip`.

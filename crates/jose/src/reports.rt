@@ -1,6 +1,6 @@
 //! The program's last word: a status, and for a refusal one line.
-ghost use Rattle.std.specs.Prelude.{◌≡◌, ◌<◌, ◌-◌, ◌^◌, ◌++◌, OnOk, OnErr, IfErr, IsTrue};
-ghost use Rattle.octets.specs.Devices.{next_count, AppendsPrefixOf};
+ghost use Rattle.std.specs.Prelude.{◌≡◌, ◌<◌, ◌++◌, OnOk, OnErr, IfErr, IsTrue};
+ghost use Rattle.octets.specs.Devices.{greatest_count, next_count, AppendsPrefixOf};
 ghost use Rattle.jose.specs.Reports.{status_of, report_line};
 
 use octets::{Output, Refusal, write_whole};
@@ -12,7 +12,7 @@ pub fn report<O: Output>(outcome: Result<(), Refusal>, out: &mut O) -> u8
     ensures quiet { OnOk outcome (out.new ≡ out.old) }
     ensures line { IfErr outcome (λ refusal.
         AppendsPrefixOf (report_line refusal) (O.written out.old) (O.written out.new)) }
-    ensures whole { IfErr outcome (λ refusal. O.failures out.old < 2 ^ 64 - 1
+    ensures whole { IfErr outcome (λ refusal. O.failures out.old < greatest_count
         → O.failures out.new ≡ O.failures out.old
         → (O.written out.new ≡ O.written out.old ++ report_line refusal)
         × IsTrue (O.is_finished out.new)) }

@@ -4,4 +4,5 @@ pub mod HeaderMembers
 pub mod Recipients
 pub mod Members
 pub mod Spelling
+pub mod Characters
 pub mod SpellingCompact

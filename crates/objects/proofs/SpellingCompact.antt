@@ -1,69 +1,15 @@
 -- The compact text of an encrypted object spells the object.
-use Rattle.std.proofs.Common.{◌≡◌, ◌-◌, ◌==◌, ◌&&◌, ◌||◌, ℕ, zero, suc, List, [], ◌∷◌, ◌++◌, length, codes, slice_index, Bool, true, false, not, Ok, refl, sym, ap, ◌∙◌, arith, append_assoc, append-nil, subst}
+use Rattle.std.proofs.Common.{◌≡◌, ◌==◌, ◌&&◌, ℕ, List, [], ◌∷◌, ◌++◌, length, codes, true, not, Ok, refl, sym, ap, ◌∙◌, arith, append_assoc}
 use Rattle.std.proofs.lemmas.Bool.{and_parts, eqb-true}
-use Rattle.std.specs.List.{AllByRecursion}
 use Rattle.serde_json.specs.Data.{Members, no_members, member}
 use Rattle.octets.specs.declared.refusal.Refusal.TheVariants.{NotCompact}
 use Rattle.octets.specs.Octets.{IsOctets}
-use Rattle.octets.specs.Base64url.{base64url, is_url_character}
-use Rattle.octets.specs.LineEnds.{without_line_end}
+use Rattle.octets.specs.Base64url.{base64url}
 use Rattle.octets.specs.Outcomes.{needs}
 use Rattle.objects.specs.Jwe.{JweTexts, EncryptedObject, Recipient, compact_texts, jwe_texts, object_of_texts, jwe_of, has_members, joined, is_compact, key_of_first, jwe_compact_text, TextsSpellObjects}
-use Rattle.objects.specs.Jws.{is_json_space, is_json_form}
+use Rattle.objects.proofs.Characters.{IsUrlText, HasCharacters, url_then, url_text, no_json_form, no_line_end}
 use Rattle.objects.proofs.CompactTexts.{all_no_dot, split_of_joined, three_of_joined, steps}
 use Rattle.objects.proofs.Spelling.{Laws, IsMade, is_made, texts_of, read_texts, protected_characters, json_text_spells, passed, same_answer}
-
--- ---- the characters of a compact text
-
--- letters, digits, `-` and `_` alone
-abbrev IsUrlText : List ℕ → Type 0
-IsUrlText text = AllByRecursion (λ c. is_url_character c ≡ true) text
-
--- one of these, or a dot
-abbrev is_character : ℕ → Bool
-is_character c = is_url_character c || (c == 46)
-
--- such characters alone
-abbrev HasCharacters : List ℕ → Type 0
-HasCharacters text = AllByRecursion (λ c. is_character c ≡ true) text
-
--- a text without dots before one with such characters has them too
-url_then : (text rest : List ℕ) → IsUrlText text → HasCharacters rest → HasCharacters (text ++ rest)
-url_then [] rest h later = later
-url_then (c ∷ text) rest h later = (ap (λ b. b || (c == 46)) h.0, url_then text rest h.1 later)
-
--- none of them is another character
-no_other : (k : ℕ) → is_character k ≡ false → (c : ℕ) → is_character c ≡ true → (c == k) ≡ false
-no_other k isnt c h = by_test (c == k) refl
-  where
-    by_test : (b : Bool) → (c == k) ≡ b → b ≡ false
-    by_test false e = refl
-    by_test true e =
-        let same : c ≡ k = eqb-true c k e in
-        let bad : true ≡ false = sym h ∙ ap is_character same ∙ isnt in
-        cc bad
-
--- none is white space
-no_space : (c : ℕ) → is_character c ≡ true → is_json_space c ≡ false
-no_space c h = rw (no_other 32 refl c h, no_other 9 refl c h, no_other 10 refl c h, no_other 13 refl c h) refl
-
--- a text of them is not in JSON form
-no_json_form : (text : List ℕ) → HasCharacters text → is_json_form text ≡ false
-unfolding is_json_form
-no_json_form [] h = refl
-no_json_form (c ∷ text) h = rw (no_space c h.0) (no_other 123 refl c h.0)
-
--- nor has it a line feed
-no_line_feed : (text : List ℕ) → HasCharacters text → (i : ℕ) → (slice_index text i == 10) ≡ false
-no_line_feed [] h zero = refl
-no_line_feed [] h (suc i) = refl
-no_line_feed (c ∷ text) h zero = no_other 10 refl c h.0
-no_line_feed (c ∷ text) h (suc i) = no_line_feed text h.1 i
-
--- so it has no line end to leave out
-no_line_end : (text : List ℕ) → HasCharacters text → without_line_end text ≡ text
-unfolding without_line_end
-no_line_end text h = rw (no_line_feed text h (length text - 1)) refl
 
 -- ---- its parts
 
@@ -96,8 +42,7 @@ split_in_five protected key iv ciphertext tag h =
 -- joined they have such characters and dots
 joined_characters : (protected key iv ciphertext tag : List ℕ) → AreUrlTexts protected key iv ciphertext tag → HasCharacters (between_dots protected key iv ciphertext tag)
 joined_characters protected key iv ciphertext tag h =
-    let last : HasCharacters tag = subst HasCharacters (append-nil tag) (url_then tag [] h.4 tt) in
-    url_then protected _ h.0 (refl, url_then key _ h.1 (refl, url_then iv _ h.2 (refl, url_then ciphertext _ h.3 (refl, last))))
+    url_then protected _ h.0 (refl, url_then key _ h.1 (refl, url_then iv _ h.2 (refl, url_then ciphertext _ h.3 (refl, url_text tag h.4))))
 
 -- such a text is read by its parts
 read_compact : (text : List ℕ) (texts : JweTexts) (o : EncryptedObject) → HasCharacters text → compact_texts text ≡ Ok texts → object_of_texts texts ≡ Ok o → jwe_of text ≡ Ok o

@@ -1,5 +1,5 @@
 -- Plans of base64url whose beginnings go on.
-use Rattle.std.proofs.Common.{◌≡◌, ℕ, zero, suc, ◌<◌, ◌+◌, ◌-◌, ◌*◌, ◌/◌, ◌%◌, ◌==◌, ◌≤◌, Bool, true, false, cond, List, [], ◌∷◌, ◌++◌, length, take, drop, slice_index, Result, Ok, Err, ◌⊎◌, inl, inr, refl, sym, ◌∙◌, ap, subst, arith, append_assoc, append-nil, length-append}
+use Rattle.std.proofs.Common.{◌≡◌, ℕ, zero, suc, ◌<◌, ◌+◌, ◌-◌, ◌%◌, ◌==◌, ◌≤◌, Bool, true, false, cond, List, [], ◌∷◌, ◌++◌, length, take, drop, slice_index, Result, Ok, Err, ◌⊎◌, inl, inr, refl, sym, ◌∙◌, ap, subst, arith, append_assoc, length-append}
 use Rattle.std.proofs.Math.Seq.{take-length}
 use Rattle.std.proofs.lemmas.List.{take-append-drop, length-take-le, length-drop}
 use Rattle.std.proofs.lemmas.Bool.{cases_lt, eqb-true}
@@ -10,7 +10,7 @@ use Rattle.octets.specs.Base64url.{base64url, decoded, is_url_character, whole_g
 use Rattle.octets.specs.LineEnds.{without_line_end}
 use Rattle.octets.specs.Plan.{Begins, Grows}
 use Rattle.octets.specs.Encoding.{encoding, and_octets, octets_of_groups, decoding, IsLongestDecoded, FixesLongest}
-use Rattle.octets.proofs.Decoded.{IsOctets-nil, IsOctets-append, IsOctets-take, IsOctets-drop, IsOctets-front, IsOctets-back, octets_of_meaning, parts_of_meaning, same_front}
+use Rattle.octets.proofs.Decoded.{IsOctets-nil, IsOctets-append, IsOctets-take, IsOctets-drop, IsOctets-front, octets_of_meaning, parts_of_meaning, same_front}
 use Rattle.octets.proofs.Groups.{base64url-append, length-base64url, base64url_whole-append, base64url_whole_part}
 use Rattle.base64.specs.Engines.{url_safe_no_pad}
 use Rattle.base64.proofs.EngineFacts.{encode_of-nil}

@@ -5,13 +5,16 @@ use Rattle.octets.specs.Octets.{IsOctets}
 
 -- ---- the count of failures
 
+abbrev pub greatest_count : ℕ
+greatest_count = 2 ^ 64 - 1
+
 -- the count after one more failure; it stays at its greatest value
 abbrev pub next_count : ℕ → ℕ
-next_count n = min (n + 1) (2 ^ 64 - 1)
+next_count n = min (n + 1) greatest_count
 
 -- the count has risen, unless it stood at its greatest value
 abbrev pub Rose : ℕ → ℕ → Type 0
-Rose old new = old < 2 ^ 64 - 1 → old < new
+Rose old new = old < greatest_count → old < new
 
 -- ---- how far it is to the end
 

@@ -31,15 +31,14 @@ abbrev pub AgreesUnlessMemory : {X Y : Type 0} → (X → Y) → Result X Refusa
 AgreesUnlessMemory view (Ok x) answer = answer ≡ Ok (view x)
 AgreesUnlessMemory view (Err r) answer = is_memory r ≡ false → (answer ≡ Err r) × (is_external r ≡ false)
 
--- A call over devices: it wrote the octets of the answer, or refused as the answer does, unless memory or a device failed.
-abbrev pub AgreesUnlessExternal : {W : Type 0} → Result W Refusal → W → Result (Unit {0}) Refusal → Type 0
-AgreesUnlessExternal answer wrote (Ok done) = answer ≡ Ok wrote
-AgreesUnlessExternal answer wrote (Err r) = is_external r ≡ false → answer ≡ Err r
-
 -- A call over devices that answers a value: its result, seen by view, is the answer, unless memory or a device failed.
 abbrev pub GivesUnlessExternal : {X Y : Type 0} → (X → Y) → Result X Refusal → Result Y Refusal → Type 0
 GivesUnlessExternal view (Ok x) answer = answer ≡ Ok (view x)
 GivesUnlessExternal view (Err r) answer = is_external r ≡ false → answer ≡ Err r
+
+-- One that answers by writing: it wrote the octets of the answer, or refused as the answer does, unless memory or a device failed.
+abbrev pub AgreesUnlessExternal : {W : Type 0} → Result W Refusal → W → Result (Unit {0}) Refusal → Type 0
+AgreesUnlessExternal answer wrote result = GivesUnlessExternal (λ done. wrote) result answer
 
 -- Why reading an input to its end gave up, by the count of its failures: memory, or the input failed.
 abbrev pub IsReadingFailure : ℕ → ℕ → Refusal → Type 0

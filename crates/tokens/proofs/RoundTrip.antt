@@ -1,10 +1,9 @@
 -- What is signed verifies.
-use Rattle.std.proofs.Common.{◌≡◌, ℕ, zero, suc, ◌+◌, ◌-◌, ◌/◌, ◌%◌, ◌<◌, ◌≤◌, ◌==◌, ◌&&◌, ◌||◌, nat_le, Bool, true, false, cond, List, [], ◌∷◌, ◌++◌, length, codes, slice_index, Option, Some, None, is_some, is_none, Result, Ok, Err, IsUtf8, ◌⊎◌, inl, inr, rules, refl, sym, ◌∙◌, ap, subst, arith}
+use Rattle.std.proofs.Common.{◌≡◌, ℕ, zero, suc, ◌+◌, ◌/◌, ◌%◌, ◌<◌, ◌≤◌, ◌&&◌, nat_le, Bool, true, false, cond, List, [], ◌∷◌, ◌++◌, length, codes, Option, Some, None, is_some, is_none, Result, Ok, Err, IsUtf8, ◌⊎◌, inl, inr, rules, refl, sym, ◌∙◌, ap, subst, arith, append_assoc}
 use borrow.Author.Tests.{ltb-true, ltb-false}
 use lib.Dec.{ltb}
 use lib.Utf8.{scalar, scalars, scalar_cases, encode, encodes}
-use Rattle.std.proofs.lemmas.Bool.{eqb-true, leb-true}
-use Rattle.std.specs.List.{AllByRecursion}
+use Rattle.std.proofs.lemmas.Bool.{leb-true}
 use Rattle.std.specs.Str.{bytes_eq}
 use Rattle.serde_json.specs.Data.{Data, Members, no_members, member, string, object, put, depth}
 use Rattle.serde_json.specs.Find.{get, get_member, as_object, as_str}
@@ -14,8 +13,7 @@ use Rattle.octets.specs.declared.refusal.Refusal.{Refusal}
 use Rattle.octets.specs.declared.refusal.Refusal.TheVariants.{Form, Unsupported, Limit, NotCompact, KeyDoesNotFit}
 use Rattle.octets.specs.Octets.{IsOctets}
 use Rattle.octets.specs.Outcomes.{◌>>=◌, needs}
-use Rattle.octets.specs.Base64url.{base64url, is_url_character}
-use Rattle.octets.specs.LineEnds.{without_line_end}
+use Rattle.octets.specs.Base64url.{base64url}
 use Rattle.octets.proofs.Decoded.{IsOctets-nil, IsOctets-append}
 use Rattle.octets.proofs.Characters.{has_url_characters}
 use Rattle.octets.proofs.Meanings.{decodes_exactly}
@@ -36,7 +34,8 @@ use Rattle.keys.proofs.ReadingBack.{reads_back}
 use Rattle.keys.proofs.UrlTexts.{url_texts_are_json}
 use Rattle.keys.proofs.ValuesRead.{reads_json}
 use Rattle.objects.specs.Headers.{header_at, members_if_there, some_members, overlap, all_members, are_disjoint, joint_header, string_parameter, if_there, protected_members, members_of_json}
-use Rattle.objects.specs.Jws.{CompactParts, AreOctets, SpellsCompact, compact_text as jws_text, compact_parts, is_json_space, is_json_form, header_alg, signed_object}
+use Rattle.objects.specs.Jws.{CompactParts, AreOctets, SpellsCompact, compact_text as jws_text, compact_parts, header_alg, signed_object}
+use Rattle.objects.proofs.Characters.{HasCharacters, url_then, url_text, no_json_form, no_line_end}
 use Rattle.objects.proofs.CompactTexts.{parts_of_spelled}
 use Rattle.objects.proofs.Names.{has_all_members}
 use Rattle.tokens.specs.Signatures.{signature_of, supported}
@@ -99,60 +98,14 @@ octets_of_utf8 text h = subst IsOctets h.1.1 (all_encoded h.0 h.1.0)
 
 -- ---- the characters of a compact text
 
-abbrev is_character : ℕ → Bool
-is_character c = is_url_character c || (c == 46)
-
-abbrev HasCharacters : List ℕ → Type 0
-HasCharacters text = AllByRecursion (λ c. is_character c ≡ true) text
-
-url_characters : (text : List ℕ) → AllByRecursion (λ c. is_url_character c ≡ true) text → HasCharacters text
-url_characters [] h = tt
-url_characters (c ∷ text) h = (ap (λ b. b || (c == 46)) h.0, url_characters text h.1)
-
-characters-append : (a b : List ℕ) → HasCharacters a → HasCharacters b → HasCharacters (a ++ b)
-characters-append [] b ha hb = hb
-characters-append (c ∷ a) b ha hb = (ha.0, characters-append a b ha.1 hb)
-
 text_characters : (parts : CompactParts) → AreOctets parts → HasCharacters (jws_text parts)
 text_characters parts octets =
     let h = base64url parts.header in
     let p = base64url parts.payload in
     let s = base64url parts.signature in
-    let dot : HasCharacters (codes ".") = (refl, tt) in
-    characters-append (h ++ codes "." ++ p ++ codes ".") s
-    (characters-append (h ++ codes "." ++ p) (codes ".")
-    (characters-append (h ++ codes ".") p (characters-append h (codes ".") (url_characters h (has_url_characters parts.header octets.header)) dot) (url_characters p (has_url_characters parts.payload octets.payload)))
-    dot)
-    (url_characters s (has_url_characters parts.signature octets.signature))
-
--- none of them is another character
-no_other : (k : ℕ) → is_character k ≡ false → (c : ℕ) → is_character c ≡ true → (c == k) ≡ false
-no_other k isnt c h = by_test (c == k) refl
-  where
-    by_test : (b : Bool) → (c == k) ≡ b → b ≡ false
-    by_test false e = refl
-    by_test true e =
-        let same : c ≡ k = eqb-true c k e in
-        let bad : true ≡ false = sym h ∙ ap is_character same ∙ isnt in
-        cc bad
-
-no_space : (c : ℕ) → is_character c ≡ true → is_json_space c ≡ false
-no_space c h = rw (no_other 32 refl c h, no_other 9 refl c h, no_other 10 refl c h, no_other 13 refl c h) refl
-
-no_json_form : (text : List ℕ) → HasCharacters text → is_json_form text ≡ false
-unfolding is_json_form
-no_json_form [] h = refl
-no_json_form (c ∷ text) h = rw (no_space c h.0) (no_other 123 refl c h.0)
-
-no_line_feed : (text : List ℕ) → HasCharacters text → (i : ℕ) → (slice_index text i == 10) ≡ false
-no_line_feed [] h zero = refl
-no_line_feed [] h (suc i) = refl
-no_line_feed (c ∷ text) h zero = no_other 10 refl c h.0
-no_line_feed (c ∷ text) h (suc i) = no_line_feed text h.1 i
-
-no_line_end : (text : List ℕ) → HasCharacters text → without_line_end text ≡ text
-unfolding without_line_end
-no_line_end text h = rw (no_line_feed text h (length text - 1)) refl
+    let grouped : h ++ codes "." ++ p ++ codes "." ++ s ≡ h ++ 46 ∷ (p ++ 46 ∷ s) = simp append_assoc in
+    let last : HasCharacters (p ++ 46 ∷ s) = url_then p _ (has_url_characters parts.payload octets.payload) (refl, url_text s (has_url_characters parts.signature octets.signature)) in
+    subst HasCharacters (sym grouped) (url_then h _ (has_url_characters parts.header octets.header) (refl, last))
 
 -- ---- a header that is all protected
 
