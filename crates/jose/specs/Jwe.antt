@@ -20,4 +20,4 @@ abbrev pub dec_answer : List ℕ → List ℕ → Result (List ℕ) Refusal
 dec_answer keys text = do
   set ← key_set limits keys false
   jwe ← jwe_of text
-  decrypted set jwe
+  decrypted limits set jwe

@@ -507,7 +507,7 @@ const NOT_ENCRYPTED: &[(&str, &str, Refusal)] = &[
         Refusal::Unsupported,
     ),
     (
-        "{\"protected\":{\"alg\":\"PBES2-HS256+A128KW\"}}",
+        "{\"protected\":{\"alg\":\"A128GCMKW\"}}",
         "{\"kty\":\"oct\",\"k\":\"GawgguFyGrWKav7AX4VKUg\"}",
         Refusal::Unsupported,
     ),
@@ -539,8 +539,8 @@ const NOT_ENCRYPTED: &[(&str, &str, Refusal)] = &[
     ),
     (
         "{}",
-        "{\"kty\":\"oct\",\"k\":\"GawgguFyGrWKav7AX4VKUg\",\"alg\":\"PBES2-HS256+A128KW\"}",
-        Refusal::Unsupported,
+        "{\"kty\":\"oct\",\"k\":\"GawgguFyGrWKav7AX4VKUg\",\"alg\":\"A128GCMKW\"}",
+        Refusal::KeyDoesNotFit,
     ),
     (
         "{\"protected\":{\"alg\":\"dir\"}}",

@@ -67,6 +67,10 @@ mod key_tests;
 #[cfg(test)]
 mod long_tests;
 #[cfg(test)]
+mod password_tests;
+#[cfg(test)]
+mod peer_tests;
+#[cfg(test)]
 mod tests;
 #[cfg(test)]
 mod tokens_tests;

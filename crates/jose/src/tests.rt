@@ -119,7 +119,7 @@ pub(crate) fn expect<R: Abort + AllocGlobal>(
     Ok(())
 }
 
-fn expect_done<R: Abort>(rt: &R, done: &Done, at: &str, answer: Answer<'_>) {
+pub(crate) fn expect_done<R: Abort>(rt: &R, done: &Done, at: &str, answer: Answer<'_>) {
     match answer {
         Answer::Text(text) => {
             expect_ended(rt, done.result, Ok(()), at);

@@ -1,5 +1,5 @@
 -- The algorithms (RFC 7518 sections 3.1, 4.1 and 5.1): their names, the lengths of their keys, and the operations that they serve.
-use Rattle.std.specs.Prelude.{ℕ, ◌==◌, Bool, true, List, [], ◌∷◌, codes, nat_le, Option, Some, None, option_map}
+use Rattle.std.specs.Prelude.{ℕ, ◌==◌, Bool, true, false, List, [], ◌∷◌, codes, nat_le, Option, Some, None, option_map}
 use Rattle.std.specs.List.{find}
 use Rattle.std.specs.Option.{option_or}
 use Rattle.std.specs.Str.{bytes_eq}
@@ -108,6 +108,16 @@ management_key_len A256Kw = Exactly 32
 management_key_len Pbes2Hs256A128Kw = Any
 management_key_len Pbes2Hs384A192Kw = Any
 management_key_len Pbes2Hs512A256Kw = Any
+
+-- a key of any octets, from which a key of the wrap is derived (section 4.8)
+abbrev pub is_password_based : ManagementAlg → Bool
+is_password_based Dir = false
+is_password_based A128Kw = false
+is_password_based A192Kw = false
+is_password_based A256Kw = false
+is_password_based Pbes2Hs256A128Kw = true
+is_password_based Pbes2Hs384A192Kw = true
+is_password_based Pbes2Hs512A256Kw = true
 
 -- with `enc`, the key of direct encryption is the content encryption key (section 4.5)
 abbrev pub key_len : Algorithm → KeyLen

@@ -1,6 +1,6 @@
 //! The algorithms: their names, the lengths of their keys, and the operations that they serve. It sees no key and no JSON.
 ghost use Rattle.std.specs.Prelude.{◌≡◌, Some};
-ghost use Rattle.keys.specs.Algorithms.{signature_name, signature_alg_of, management_name, management_alg_of, encryption_name, encryption_alg_of, named_alg_of, cek_len, signature_key_len, management_key_len, key_len, named_key_len, has_len, usual_len, management_operations, operations};
+ghost use Rattle.keys.specs.Algorithms.{signature_name, signature_alg_of, management_name, management_alg_of, encryption_name, encryption_alg_of, named_alg_of, cek_len, signature_key_len, management_key_len, key_len, named_key_len, has_len, usual_len, is_password_based, management_operations, operations};
 
 use crate::operation::Operation;
 
@@ -160,6 +160,21 @@ impl ManagementAlg {
             | ManagementAlg::Pbes2Hs256A128Kw
             | ManagementAlg::Pbes2Hs384A192Kw
             | ManagementAlg::Pbes2Hs512A256Kw => KeyLen::Any,
+        }
+    }
+
+    /// Its key is a password, from which the key of the wrap is derived (RFC 7518 section 4.8).
+    pub fn is_password_based(self) -> bool
+        ensures { result ≡ is_password_based self }
+    {
+        match self {
+            ManagementAlg::Dir
+            | ManagementAlg::A128Kw
+            | ManagementAlg::A192Kw
+            | ManagementAlg::A256Kw => false,
+            ManagementAlg::Pbes2Hs256A128Kw
+            | ManagementAlg::Pbes2Hs384A192Kw
+            | ManagementAlg::Pbes2Hs512A256Kw => true,
         }
     }
 

@@ -29,7 +29,10 @@ pub use json_values::{
     has_only, is_object, members_have_whole_numbers, nests_at_most, object_nests_at_most, read_json,
 };
 pub use key::Key;
-pub use limits::{MOST_DEPTH, MOST_KEY_OCTETS, MOST_KEYS};
+pub use limits::{
+    GREATEST_P2C, GREATEST_P2C_READ, LEAST_P2C, MOST_DEPTH, MOST_ITERATIONS, MOST_KEY_OCTETS,
+    MOST_KEYS, USUAL_P2C,
+};
 pub use operation::Operation;
 pub use set::KeySet;
 pub use thumbprints::thumbprint;

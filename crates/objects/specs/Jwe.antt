@@ -13,8 +13,7 @@ use Rattle.octets.specs.Octets.{IsOctets}
 use Rattle.octets.specs.Base64url.{base64url, decoded}
 use Rattle.octets.specs.LineEnds.{without_line_end}
 use Rattle.keys.specs.declared.algorithm.ManagementAlg.{ManagementAlg}
-use Rattle.keys.specs.declared.algorithm.ManagementAlg.TheVariants.{Dir, A128Kw, A192Kw, A256Kw, Pbes2Hs256A128Kw, Pbes2Hs384A192Kw, Pbes2Hs512A256Kw}
-use Rattle.keys.specs.Algorithms.{management_alg_of}
+use Rattle.keys.specs.Algorithms.{management_alg_of, is_password_based}
 use Rattle.keys.specs.Json.{json_value, member_numbers_are_whole}
 use Rattle.keys.specs.JsonTexts.{AreJsonMembers}
 use Rattle.objects.specs.Headers.{header_at, protected_members, joint_header, string_parameter, number_parameter, salt_parameter}
@@ -186,16 +185,14 @@ without_ciphertext o = record {
 
 -- ---- the header of a recipient
 
--- the key comes of a password (RFC 7518 section 4.8)
-abbrev pub is_password_based : Option ManagementAlg → Bool
-is_password_based None = false
-is_password_based (Some Dir) = false
-is_password_based (Some A128Kw) = false
-is_password_based (Some A192Kw) = false
-is_password_based (Some A256Kw) = false
-is_password_based (Some Pbes2Hs256A128Kw) = true
-is_password_based (Some Pbes2Hs384A192Kw) = true
-is_password_based (Some Pbes2Hs512A256Kw) = true
+-- the algorithm derives a key from a password (RFC 7518 section 4.8)
+abbrev pub reads_password : Option ManagementAlg → Bool
+reads_password None = false
+reads_password (Some alg) = is_password_based alg
+
+-- p2c is at least 1 where it is read, and else 0
+abbrev pub is_count_of : Option ManagementAlg → ℕ → Bool
+is_count_of alg p2c = if reads_password alg then nat_le 1 p2c else p2c == 0
 
 -- a string that must be there
 unfoldable pub string_there : List ℕ → Members → Result (List ℕ) Refusal
@@ -219,7 +216,7 @@ password_parameters header = do
 
 abbrev pub parameters_of : List ℕ → Members → Result PasswordParameters Refusal
 parameters_of alg header =
-    if is_password_based (management_alg_of alg) then password_parameters header else Ok (record { p2s = []; p2c = 0 })
+    if reads_password (management_alg_of alg) then password_parameters header else Ok (record { p2s = []; p2c = 0 })
 
 -- a recipient, by its joint header
 unfoldable pub recipient_by : Members → RecipientParts → Result Recipient Refusal

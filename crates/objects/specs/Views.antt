@@ -53,10 +53,10 @@ abbrev pub recipient_view : recipient.Recipient → Recipient
 recipient_view r = record {
   header = members_view r.header.map.entries;
   encrypted_key = r.encrypted_key.items;
-  alg = string_bytes r.alg;
+  alg = string_bytes r.management.alg;
   enc = string_bytes r.enc;
-  p2s = r.parameters.p2s.items;
-  p2c = r.parameters.p2c;
+  p2s = r.management.p2s.items;
+  p2c = r.management.p2c;
 }
 
 abbrev pub shared_view : shared.SharedTexts → SharedTexts

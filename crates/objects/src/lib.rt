@@ -23,6 +23,7 @@ mod jwe_building;
 mod jwe_texts;
 mod jwe_writing;
 mod jws;
+mod key_management;
 pub mod laws;
 mod recipient;
 mod recipient_list;

@@ -1,16 +1,18 @@
 //! The recipients of an encrypted object (RFC 7516). It sees their headers, and no key.
-ghost use Rattle.std.specs.Prelude.{◌≡◌, false, is_some, option_map, string_bytes};
+ghost use Rattle.std.specs.Prelude.{◌≡◌, ◌≤◌, true, false, is_some, option_map, IfOk, string_bytes};
 ghost use Rattle.serde_json.specs.Find.{get_member};
 ghost use Rattle.std.specs.Option.{ok_or};
 ghost use Rattle.serde_json.specs.View.{members_view};
 ghost use Rattle.serde_json.specs.Written.{members_have_float};
 ghost use Rattle.octets.specs.Outcomes.{AgreesUnlessMemory};
-ghost use Rattle.objects.specs.Jwe.{recipient_of, parameters_of, password_parameters, is_password_based as is_password_based_name, is_plain as is_plain_header};
+ghost use Rattle.objects.specs.Jwe.{recipient_of, parameters_of, password_parameters, reads_password as reads_password_by, is_count_of, is_plain as is_plain_header};
+ghost use Rattle.keys.specs.Algorithms.{management_alg_of};
 ghost use Rattle.objects.specs.Views.{header_view, recipient_view, recipient_parts_view, parameters_view};
 
 use crate::Header;
 use crate::header::part_member;
 use crate::header_members::HeaderMembers;
+use crate::key_management::KeyManagement;
 use keys::ManagementAlg;
 use octets::{Refusal, needs};
 use serde_json::{Map, Value};
@@ -30,9 +32,8 @@ pub struct RecipientParts {
 pub struct Recipient {
     pub(crate) header: HeaderMembers,
     encrypted_key: Vec<u8>,
-    alg: String,
+    management: KeyManagement,
     enc: String,
-    parameters: Parameters,
 }
 
 /// The parameters of an algorithm that derives a key from a password (RFC 7518 section 4.8.1). They are empty and 0
@@ -60,7 +61,7 @@ pub(crate) fn read_recipient(
     let header = Header::joint(Some(protected), Some(unprotected), Some(&parts.header))?;
     let alg = string_there(alloc, header.alg()?)?;
     let enc = string_there(alloc, header.enc()?)?;
-    let parameters = read_parameters(alloc, &alg, header)?;
+    let Parameters { p2s, p2c } = read_parameters(alloc, &alg, header)?;
     let RecipientParts {
         header,
         encrypted_key,
@@ -68,9 +69,8 @@ pub(crate) fn read_recipient(
     Ok(Recipient {
         header: HeaderMembers { map: header },
         encrypted_key,
-        alg,
+        management: KeyManagement { alg, p2s, p2c },
         enc,
-        parameters,
     })
 }
 
@@ -93,7 +93,7 @@ impl Recipient {
     pub fn alg(&self) -> &str
         ensures { result.now ≡ (recipient_view self.now).alg }
     {
-        &self.alg
+        &self.management.alg
     }
 
     /// The name of the algorithm of content encryption (RFC 7516 section 4.1.2).
@@ -107,14 +107,15 @@ impl Recipient {
     pub fn p2s(&self) -> &[u8]
         ensures { result.now ≡ (recipient_view self.now).p2s }
     {
-        &self.parameters.p2s
+        &self.management.p2s
     }
 
-    /// The count p2c, which is 0 where the algorithm reads none.
+    /// The count p2c, which is at least 1 where the algorithm reads it, and else 0.
     pub fn p2c(&self) -> u64
-        ensures { result ≡ (recipient_view self.now).p2c }
+        ensures p2c { result ≡ (recipient_view self.now).p2c }
+        ensures counted { is_count_of (management_alg_of (recipient_view self.now).alg) result ≡ true }
     {
-        self.parameters.p2c
+        self.management.p2c
     }
 }
 
@@ -127,9 +128,10 @@ fn string_there(alloc: Global, found: Option<&str>) -> Result<String, Refusal>
 
 /// The parameters that the algorithm of this name reads.
 fn read_parameters(alloc: Global, alg: &str, header: Header<'_>) -> Result<Parameters, Refusal>
-    ensures { AgreesUnlessMemory parameters_view result (parameters_of alg.now (header_view header.entry)) }
+    ensures exact { AgreesUnlessMemory parameters_view result (parameters_of alg.now (header_view header.entry)) }
+    ensures counted { IfOk result (λ parameters. is_count_of (management_alg_of alg.now) parameters.p2c ≡ true) }
 {
-    if is_password_based(ManagementAlg::named(alg)) {
+    if reads_password(ManagementAlg::named(alg)) {
         password_parameters(alloc, header)
     } else {
         Ok(Parameters {
@@ -141,7 +143,8 @@ fn read_parameters(alloc: Global, alg: &str, header: Header<'_>) -> Result<Param
 
 #[tactic(auto, unfolding(crate::specs::Jwe::password_parameters))]
 fn password_parameters(alloc: Global, header: Header<'_>) -> Result<Parameters, Refusal>
-    ensures { AgreesUnlessMemory parameters_view result (password_parameters (header_view header.entry)) }
+    ensures exact { AgreesUnlessMemory parameters_view result (password_parameters (header_view header.entry)) }
+    ensures positive { IfOk result (λ parameters. 1 ≤ parameters.p2c) }
 {
     let p2s = header.p2s(alloc)?.ok_or(Refusal::Header)?;
     let p2c = header.p2c()?.ok_or(Refusal::Header)?;
@@ -150,16 +153,12 @@ fn password_parameters(alloc: Global, header: Header<'_>) -> Result<Parameters, 
 }
 
 /// The algorithm derives a key from a password (RFC 7518 section 4.8).
-fn is_password_based(alg: Option<ManagementAlg>) -> bool
-    ensures { result ≡ is_password_based_name alg }
+fn reads_password(alg: Option<ManagementAlg>) -> bool
+    ensures { result ≡ reads_password_by alg }
 {
     match alg {
-        Some(
-            ManagementAlg::Pbes2Hs256A128Kw
-            | ManagementAlg::Pbes2Hs384A192Kw
-            | ManagementAlg::Pbes2Hs512A256Kw,
-        ) => true,
-        _ => false,
+        None => false,
+        Some(alg) => alg.is_password_based(),
     }
 }
 

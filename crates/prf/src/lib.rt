@@ -30,4 +30,6 @@ pub use sha2::{Sha256, Sha384, Sha512};
 #[cfg(test)]
 mod long_tests;
 #[cfg(test)]
+mod pbkdf2_tests;
+#[cfg(test)]
 mod tests;

@@ -1,8 +1,8 @@
 -- A key that may decrypt by an algorithm has a length that its cipher takes.
-use Rattle.std.proofs.Common.{◌≡◌, Bool, true, false, length, refl, ◌∙◌}
-use Rattle.std.proofs.lemmas.Bool.{eqb-true}
+use Rattle.std.proofs.Common.{◌≡◌, ℕ, Bool, true, false, Some, length, refl, ◌∙◌}
+use Rattle.std.proofs.lemmas.Bool.{eqb-true, leb-true}
 use Rattle.std.specs.Prelude.{◌&&◌}
-use Rattle.ciphers.specs.Delivery.{IsKeyOf}
+use Rattle.ciphers.specs.Delivery.{IsKeyOf, IsCountOf}
 use Rattle.ciphers.specs.Sealing as ciphers
 use Rattle.keys.specs.declared.algorithm.Algorithm.TheVariants.{Encryption}
 use Rattle.keys.specs.declared.algorithm.EncryptionAlg.{EncryptionAlg}
@@ -11,6 +11,7 @@ use Rattle.keys.specs.declared.algorithm.ManagementAlg.{ManagementAlg}
 use Rattle.keys.specs.declared.algorithm.ManagementAlg.TheVariants.{Dir, A128Kw, A192Kw, A256Kw, Pbes2Hs256A128Kw, Pbes2Hs384A192Kw, Pbes2Hs512A256Kw}
 use Rattle.keys.specs.Algorithms.{key_len, has_len, cek_len}
 use Rattle.keys.specs.Keys.{OctetKey, fits}
+use Rattle.objects.specs.Jwe.{is_count_of}
 use Rattle.tokens.specs.Algorithms.{key_alg, content_alg}
 
 last : (a b : Bool) → (a && b) ≡ true → b ≡ true
@@ -30,6 +31,16 @@ by_length Pbes2Hs512A256Kw enc key h = tt
 pub is_key_of : (alg : ManagementAlg) (enc : EncryptionAlg) (key : OctetKey) → fits key (Encryption alg enc) ≡ true → IsKeyOf (key_alg alg) key.octets
 unfolding fits
 is_key_of alg enc key h = by_length alg enc key (last _ (has_len (key_len (Encryption alg enc)) (length key.octets)) h)
+
+-- where a count is as it has to be, the algorithm takes it
+pub counts : (alg : ManagementAlg) (p2c : ℕ) → is_count_of (Some alg) p2c ≡ true → IsCountOf (key_alg alg) p2c
+counts Dir p2c h = tt
+counts A128Kw p2c h = tt
+counts A192Kw p2c h = tt
+counts A256Kw p2c h = tt
+counts Pbes2Hs256A128Kw p2c h = leb-true 1 p2c h
+counts Pbes2Hs384A192Kw p2c h = leb-true 1 p2c h
+counts Pbes2Hs512A256Kw p2c h = leb-true 1 p2c h
 
 -- both crates give a content encryption key the same length
 pub same_cek_len : (enc : EncryptionAlg) → cek_len enc ≡ ciphers.cek_len (content_alg enc)

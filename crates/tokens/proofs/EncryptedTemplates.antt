@@ -1,21 +1,24 @@
--- What a template and a key settle: the header that is written reads back, and the joint header names both algorithms.
-use Rattle.std.proofs.Common.{◌≡◌, ℕ, Bool, true, false, List, [], ◌∷◌, ◌&&◌, codes, slice_index, if◌then◌else◌, Option, Some, None, is_some, is_none, Ok, Err, IsUtf8, refl, sym, ◌∙◌, ap, subst, arith}
-use Rattle.std.specs.Option.{option_or, ok_or}
-use Rattle.serde_json.specs.Data.{Data, null, boolean, number, string, array, object, Members, no_members, put}
+-- What a template and a key settle: the header that is written reads back, and the joint header names both algorithms and, for a
+-- password, has its salt and the count of its iterations.
+use Rattle.std.proofs.Common.{◌≡◌, ℕ, ◌≤◌, Bool, true, false, not, nat_le, List, [], ◌∷◌, ◌&&◌, length, codes, if◌then◌else◌, Option, Some, None, is_some, is_none, Result, Ok, IsUtf8, refl, sym, ◌∙◌, ap, ap₂, subst, arith}
+use Rattle.std.proofs.lemmas.Bool.{leb-true, le-leb}
+use Rattle.std.proofs.lemmas.List.{nil_from_length}
+use Rattle.std.specs.Option.{ok_or}
+use Rattle.std.specs.Prelude.{◌||◌}
+use Rattle.serde_json.specs.Data.{Data, null, boolean, number, string, array, object, Members, no_members, put, depth}
 use Rattle.serde_json.specs.Find.{get, get_member, as_str}
-use Rattle.serde_json.proofs.Views.{get_member-put, get_member-put_other}
 use Rattle.octets.specs.declared.refusal.Refusal.{Refusal}
 use Rattle.octets.specs.declared.refusal.Refusal.TheVariants.{Form, Header, Unsupported, KeyDoesNotFit, Limit, NotCompact}
 use Rattle.octets.specs.Octets.{IsOctets}
 use Rattle.octets.specs.Outcomes.{needs}
-use Rattle.octets.specs.Base64url.{decoded}
+use Rattle.octets.specs.Base64url.{base64url, decoded}
+use Rattle.octets.proofs.Characters.{has_url_characters}
 use Rattle.octets.proofs.Decoded.{IsOctets-nil, octets_of_meaning}
+use Rattle.octets.proofs.Meanings.{decodes_exactly}
 use Rattle.keys.specs.declared.algorithm.Algorithm.TheVariants.{Encryption as EncryptionWith}
 use Rattle.keys.specs.declared.algorithm.EncryptionAlg.{EncryptionAlg}
-use Rattle.keys.specs.declared.algorithm.EncryptionAlg.TheVariants.{A128CbcHs256, A192CbcHs384, A256CbcHs512, A128Gcm, A192Gcm, A256Gcm}
 use Rattle.keys.specs.declared.algorithm.ManagementAlg.{ManagementAlg}
-use Rattle.keys.specs.declared.algorithm.ManagementAlg.TheVariants.{Dir, A128Kw, A192Kw, A256Kw, Pbes2Hs256A128Kw, Pbes2Hs384A192Kw, Pbes2Hs512A256Kw}
-use Rattle.keys.specs.Algorithms.{management_name, encryption_name, management_alg_of, encryption_alg_of, management_operations}
+use Rattle.keys.specs.Algorithms.{management_name, encryption_name, management_alg_of, encryption_alg_of, is_password_based, management_operations}
 use Rattle.keys.specs.Json.{json_value, is_object, has_only}
 use Rattle.keys.specs.JsonTexts.{IsJson, AreJsonMembers}
 use Rattle.keys.specs.Keys.{OctetKey, allows, fits}
@@ -23,117 +26,24 @@ use Rattle.keys.specs.Limits.{limits}
 use Rattle.keys.proofs.JsonParts.{keep_json}
 use Rattle.keys.proofs.UrlTexts.{url_texts_are_json}
 use Rattle.keys.proofs.ValuesRead.{reads_json}
-use Rattle.objects.specs.Headers.{header_at, are_disjoint, all_members, joint_header, string_parameter, if_there}
-use Rattle.objects.specs.Jwe.{text_if_there, text_at, is_plain}
-use Rattle.objects.proofs.Names.{get_member-all_members}
+use Rattle.objects.specs.Headers.{header_at, are_disjoint, all_members, joint_header, string_parameter, number_parameter, salt_parameter}
+use Rattle.objects.specs.Jwe.{text_if_there, text_at, is_plain, PasswordParameters, password_parameters, parameters_of}
 use Rattle.objects.proofs.Spelling.{name_is_json}
-use Rattle.tokens.specs.Algorithms.{is_supported}
-use Rattle.tokens.specs.Encrypting.{TemplateTexts, template_texts, AlgorithmsAsked, supported_management, management_asked, supported_encryption, encryption_asked, algorithms_asked, EncryptionTemplate, encryption_template, chosen_management, chosen_encryption, Encryption, with_name, with_algorithms, may_encrypt, has_no_more, encryption_by, encryption_of}
-use Rattle.tokens.specs.Template.{is_shallow, header_text}
+use Rattle.tokens.specs.Encrypting.{TemplateTexts, template_texts, AlgorithmsAsked, supported_management, management_asked, supported_encryption, encryption_asked, algorithms_asked, EncryptionTemplate, encryption_template, chosen_management, chosen_encryption, chosen_p2c, is_written, Encryption, with_name, is_given, with_p2c, with_parameters, may_encrypt, has_no_more, encryption_by, encryption_of, salt_len, with_salt}
+use Rattle.tokens.specs.Template.{is_shallow}
+use Rattle.tokens.proofs.JointParameters.{put_parameter, kept_number, enc_is_not_alg, alg_is_not_p2c, enc_is_not_p2c, alg_is_not_p2s, enc_is_not_p2s, p2c_is_not_p2s, Named, IsAsked, still_named, named, still_asked, management_named, encryption_named, management_is_text, encryption_is_text, with_name_json, IsCount, few_iterations, counted, named_count, counted_name, with_p2c_json}
 use Rattle.tokens.proofs.RoundTrip.{steps, passed, both, same_answer, octets_of_utf8, members_json, ReadsBack, read_back}
-
--- ---- a parameter that names an algorithm
-
--- the parameter of the joint header is a string, which names the algorithm
-pub record Named {A : Type 0} (of : List ℕ → Option A) (parameter : List ℕ) (protected unprotected : Members) (alg : A) : Type 0 where
-  pub name : List ℕ
-  pub is_there : string_parameter parameter (all_members protected unprotected no_members) ≡ Ok (Some name)
-  pub names : of name ≡ Some alg
-
--- the same of an algorithm that may not be named
-abbrev IsAsked : {A : Type 0} → (List ℕ → Option A) → List ℕ → Members → Members → Option A → Type 0
-IsAsked of parameter protected unprotected None = Unit {0}
-IsAsked of parameter protected unprotected (Some alg) = Named of parameter protected unprotected alg
-
--- a string that is put into the protected header stands in the joint header
-put_parameter : (parameter name : List ℕ) (p u : Members) → string_parameter parameter (all_members (put parameter (string name) p) u no_members) ≡ Ok (Some name)
-unfolding string_parameter
-put_parameter parameter name p u =
-    ap (if_there as_str) (get_member-all_members parameter (put parameter (string name) p) u no_members ∙ ap (λ o. option_or o (option_or (get_member parameter u) None)) (get_member-put parameter (string name) p))
-
--- the other parameters stay
-kept_parameter : (parameter other name : List ℕ) (p u : Members) → (parameter ≡ other → ⊥)
-    → string_parameter parameter (all_members (put other (string name) p) u no_members) ≡ string_parameter parameter (all_members p u no_members)
-unfolding string_parameter
-kept_parameter parameter other name p u differ =
-    ap (if_there as_str)
-    (get_member-all_members parameter (put other (string name) p) u no_members
-    ∙ ap (λ o. option_or o (option_or (get_member parameter u) None)) (get_member-put_other parameter other (string name) p differ)
-    ∙ sym (get_member-all_members parameter p u no_members))
-
--- an algorithm that was not asked for is named by what is put in
-named : {A : Type 0} (of : List ℕ → Option A) (name_of : A → List ℕ) (parameter : List ℕ) (p u : Members) (asked : Option A) (alg : A)
-    → of (name_of alg) ≡ Some alg → IsAsked of parameter p u asked → ((a : A) → asked ≡ Some a → a ≡ alg)
-    → Named of parameter (with_name (is_some asked) parameter (name_of alg) p) u alg
-named of name_of parameter p u None alg own is same = record { name = name_of alg; is_there = put_parameter parameter (name_of alg) p u; names = own }
-named of name_of parameter p u (Some a) alg own is same = subst (Named of parameter p u) (same a refl) is
-
--- what is asked for stays so where another parameter is put in
-still_asked : {A : Type 0} (of : List ℕ → Option A) (parameter other name : List ℕ) (there : Bool) (p u : Members) (asked : Option A) → (parameter ≡ other → ⊥)
-    → IsAsked of parameter p u asked → IsAsked of parameter (with_name there other name p) u asked
-still_asked of parameter other name true p u asked differ is = is
-still_asked of parameter other name false p u None differ is = tt
-still_asked of parameter other name false p u (Some a) differ is = record { name = is.name; is_there = kept_parameter parameter other name p u differ ∙ is.is_there; names = is.names }
-
--- the name of a key management names it
-management_named : (alg : ManagementAlg) → management_alg_of (management_name alg) ≡ Some alg
-unfolding management_alg_of
-management_named Dir = refl
-management_named A128Kw = refl
-management_named A192Kw = refl
-management_named A256Kw = refl
-management_named Pbes2Hs256A128Kw = refl
-management_named Pbes2Hs384A192Kw = refl
-management_named Pbes2Hs512A256Kw = refl
-
--- so does that of a content encryption
-encryption_named : (enc : EncryptionAlg) → encryption_alg_of (encryption_name enc) ≡ Some enc
-unfolding encryption_alg_of
-encryption_named A128CbcHs256 = refl
-encryption_named A192CbcHs384 = refl
-encryption_named A256CbcHs512 = refl
-encryption_named A128Gcm = refl
-encryption_named A192Gcm = refl
-encryption_named A256Gcm = refl
-
--- the name of a key management that is supported is text
-management_is_text : (alg : ManagementAlg) → is_supported alg ≡ true → IsUtf8 (management_name alg)
-management_is_text Dir h = name_is_json url_texts_are_json (codes "dir") refl
-management_is_text A128Kw h = name_is_json url_texts_are_json (codes "A128KW") refl
-management_is_text A192Kw h = name_is_json url_texts_are_json (codes "A192KW") refl
-management_is_text A256Kw h = name_is_json url_texts_are_json (codes "A256KW") refl
-management_is_text Pbes2Hs256A128Kw h = cc h
-management_is_text Pbes2Hs384A192Kw h = cc h
-management_is_text Pbes2Hs512A256Kw h = cc h
-
--- so is that of a content encryption
-encryption_is_text : (enc : EncryptionAlg) → IsUtf8 (encryption_name enc)
-encryption_is_text A128CbcHs256 = name_is_json url_texts_are_json (codes "A128CBC-HS256") refl
-encryption_is_text A192CbcHs384 = name_is_json url_texts_are_json (codes "A192CBC-HS384") refl
-encryption_is_text A256CbcHs512 = name_is_json url_texts_are_json (codes "A256CBC-HS512") refl
-encryption_is_text A128Gcm = name_is_json url_texts_are_json (codes "A128GCM") refl
-encryption_is_text A192Gcm = name_is_json url_texts_are_json (codes "A192GCM") refl
-encryption_is_text A256Gcm = name_is_json url_texts_are_json (codes "A256GCM") refl
-
--- a header stays JSON where a name is put in
-with_name_json : (there : Bool) (parameter name : List ℕ) (p : Members) → IsUtf8 parameter → IsUtf8 name → AreJsonMembers p → AreJsonMembers (with_name there parameter name p)
-with_name_json true parameter name p key text json = json
-with_name_json false parameter name p key text json = (keep_json.put_in parameter (string name) p key text json).0
 
 -- ---- the template
 
--- its headers are JSON, its additional data are octets, and its headers name the algorithms that are asked for
+-- its headers are JSON, its additional data are octets, and its headers name the algorithms, and have the count, that are asked for
 record IsTemplate (t : EncryptionTemplate) : Type 0 where
   protected : AreJsonMembers t.protected
   unprotected : AreJsonMembers t.unprotected
   aad : IsOctets t.aad
   management : IsAsked management_alg_of (codes "alg") t.protected t.unprotected t.asked.management
   encryption : IsAsked encryption_alg_of (codes "enc") t.protected t.unprotected t.asked.encryption
-
--- what a test lets through
-let_through : {A : Type 0} (test : Bool) (x y : A) (refusal : Refusal) → (if test then Ok x else Err refusal) ≡ Ok y → x ≡ y
-let_through true x y refusal h = same_answer x y h
-let_through false x y refusal h = cc h
+  count : number_parameter (codes "p2c") (all_members t.protected t.unprotected no_members) ≡ t.asked.p2c
 
 -- the key management that is asked for is what `alg` names
 asked_management : (p u : Members) (name : Option (List ℕ)) (asked : Option ManagementAlg) → string_parameter (codes "alg") (all_members p u no_members) ≡ Ok name
@@ -143,8 +53,7 @@ asked_management p u (Some n) asked there is = by_name (management_alg_of n) ref
   where
     by_name : (found : Option ManagementAlg) → management_alg_of n ≡ found → supported_management found ≡ Ok asked → IsAsked management_alg_of (codes "alg") p u asked
     by_name None e h = cc h
-    by_name (Some a) e h =
-        subst (IsAsked management_alg_of (codes "alg") p u) (let_through (is_supported a) (Some a) asked Unsupported h) (record { name = n; is_there = there; names = e })
+    by_name (Some a) e h = subst (IsAsked management_alg_of (codes "alg") p u) (same_answer (Some a) asked h) (record { name = n; is_there = there; names = e })
 
 -- and the content encryption what `enc` names
 asked_encryption : (p u : Members) (name : Option (List ℕ)) (asked : Option EncryptionAlg) → string_parameter (codes "enc") (all_members p u no_members) ≡ Ok name
@@ -164,10 +73,11 @@ joint_is p u r joint h =
     same_answer (all_members p u r) joint a.2
 
 -- what the headers ask for
-asked_both : (p u : Members) (asked : AlgorithmsAsked) → algorithms_asked p u ≡ Ok asked
+asked_all : (p u : Members) (asked : AlgorithmsAsked) → algorithms_asked p u ≡ Ok asked
     → IsAsked management_alg_of (codes "alg") p u asked.management × IsAsked encryption_alg_of (codes "enc") p u asked.encryption
+    × (number_parameter (codes "p2c") (all_members p u no_members) ≡ asked.p2c)
 unfolding algorithms_asked
-asked_both p u asked h =
+asked_all p u asked h =
     let joint = steps (joint_header p u no_members) _ asked h in
     let same = joint_is p u no_members joint.0 joint.1 in
     let alg = steps (string_parameter (codes "alg") joint.0) _ asked joint.2 in
@@ -176,9 +86,10 @@ asked_both p u asked h =
     let plain = steps (needs (is_plain joint.0) Unsupported) _ asked unsalted.2 in
     let management = steps (management_asked alg.0) _ asked plain.2 in
     let encryption = steps (encryption_asked enc.0) _ asked management.2 in
-    let is : record { management = management.0; encryption = encryption.0 } ≡ asked = same_answer _ asked encryption.2 in (
+    let is : record { management = management.0; encryption = encryption.0; p2c = number_parameter (codes "p2c") joint.0 } ≡ asked = same_answer _ asked encryption.2 in (
       subst (λ (a : AlgorithmsAsked). IsAsked management_alg_of (codes "alg") p u a.management) is (asked_management p u alg.0 management.0 (ap (string_parameter (codes "alg")) same ∙ alg.1) management.1),
       subst (λ (a : AlgorithmsAsked). IsAsked encryption_alg_of (codes "enc") p u a.encryption) is (asked_encryption p u enc.0 encryption.0 (ap (string_parameter (codes "enc")) same ∙ enc.1) encryption.1),
+      ap (number_parameter (codes "p2c")) same ∙ ap (λ (a : AlgorithmsAsked). a.p2c) is,
     )
 
 -- a text in JSON is octets
@@ -218,30 +129,31 @@ is_template d t json h =
     let aad = steps (decoded texts.0.aad) _ t texts.2 in
     let asked = steps (algorithms_asked texts.0.protected texts.0.unprotected) _ t aad.2 in
     let all = texts_json d texts.0 json texts.1 in
-    let names = asked_both texts.0.protected texts.0.unprotected asked.0 asked.1 in
+    let names = asked_all texts.0.protected texts.0.unprotected asked.0 asked.1 in
     let made : IsTemplate (record { protected = texts.0.protected; unprotected = texts.0.unprotected; aad = aad.0; asked = asked.0 }) = record {
       protected = all.0;
       unprotected = all.1;
       aad = octets_of_meaning texts.0.aad aad.0 all.2 aad.1;
       management = names.0;
       encryption = names.1;
+      count = names.2;
     } in
     subst IsTemplate (same_answer _ t asked.2) made
 
 -- ---- what it settles with a key
 
--- The key's octets, and algorithms that are supported and that the key fits. The header reads back, and the joint header names both algorithms.
+-- The key's octets, and algorithms that the key fits. The headers are JSON, and the joint header names both algorithms and has the
+-- count of iterations.
 pub record Encrypts (key : OctetKey) (e : Encryption) : Type 0 where
-  pub header : Members
-  pub header_is : e.header ≡ header_text header
-  pub back : ReadsBack header
   pub key_is : e.key ≡ key.octets
-  pub supported : is_supported e.management ≡ true
   pub fit : fits key (EncryptionWith e.management e.encryption) ≡ true
+  pub protected : AreJsonMembers e.protected
+  pub shallow : is_shallow limits e.protected ≡ true
   pub unprotected : AreJsonMembers e.unprotected
   pub aad : IsOctets e.aad
-  pub management : Named management_alg_of (codes "alg") header e.unprotected e.management
-  pub encryption : Named encryption_alg_of (codes "enc") header e.unprotected e.encryption
+  pub management : Named management_alg_of (codes "alg") e.protected e.unprotected e.management
+  pub encryption : Named encryption_alg_of (codes "enc") e.protected e.unprotected e.encryption
+  pub count : IsCount (is_password_based e.management) e.protected e.unprotected e.p2c
 
 -- where the template names a key management, it is chosen
 management_kept : (key : OctetKey) (asked : Option ManagementAlg) (alg : ManagementAlg) → chosen_management asked key ≡ Ok alg → (a : ManagementAlg) → asked ≡ Some a → a ≡ alg
@@ -254,41 +166,48 @@ encryption_kept : (key : OctetKey) (management : ManagementAlg) (asked : Option 
 encryption_kept key management None enc h a e = cc e
 encryption_kept key management (Some b) enc h a e = cc (e, h)
 
--- the two names differ
-enc_is_not_alg : codes "enc" ≡ codes "alg" → ⊥
-enc_is_not_alg e = absurd (omega (arith, ap (λ (s : List ℕ). slice_index s 0) e))
-
 -- all this holds of what a template and a key settle
 encrypts_by : (compact : Bool) (key : OctetKey) (t : EncryptionTemplate) (e : Encryption) → IsTemplate t → encryption_by limits compact key t ≡ Ok e → Encrypts key e
 unfolding encryption_by
 encrypts_by compact key t e is h =
     let management = steps (chosen_management t.asked.management key) _ e h in
     let m : ManagementAlg = management.0 in
-    let supported = steps (needs (is_supported m) Unsupported) _ e management.2 in
-    let encryption = steps (chosen_encryption t.asked.encryption m key) _ e supported.2 in
+    let encryption = steps (chosen_encryption t.asked.encryption m key) _ e management.2 in
     let n : EncryptionAlg = encryption.0 in
     let fit = steps (needs (may_encrypt key m n) KeyDoesNotFit) _ e encryption.2 in
-    let shallow = steps (needs (is_shallow limits (with_algorithms t m n) && is_shallow limits t.unprotected) Limit) _ e fit.2 in
-    let alone = steps (needs (has_no_more compact t) NotCompact) _ e shallow.2 in
-    let can : is_supported m ≡ true = passed _ Unsupported supported.0 supported.1 in
+    let p2c = steps (chosen_p2c limits m t.asked.p2c) _ e fit.2 in
+    let c : ℕ = p2c.0 in
+    let shallow = steps (needs (is_shallow limits (with_parameters t m n c) && is_shallow limits t.unprotected) Limit) _ e p2c.2 in
+    let written = steps (needs (is_written limits m c) Limit) _ e shallow.2 in
+    let alone = steps (needs (has_no_more compact t) NotCompact) _ e written.2 in
+    let u : Members = t.unprotected in
     let with_alg : Members = with_name (is_some t.asked.management) (codes "alg") (management_name m) t.protected in
-    let json : AreJsonMembers (with_algorithms t m n) =
-    with_name_json (is_some t.asked.encryption) (codes "enc") (encryption_name n) with_alg (name_is_json url_texts_are_json (codes "enc") refl) (encryption_is_text n)
-    (with_name_json (is_some t.asked.management) (codes "alg") (management_name m) t.protected (name_is_json url_texts_are_json (codes "alg") refl) (management_is_text m can) is.protected) in
-    let made : Encrypts key (record { management = m; encryption = n; key = key.octets; header = header_text (with_algorithms t m n); unprotected = t.unprotected; aad = t.aad }) = record {
-      header = with_algorithms t m n;
-      header_is = refl;
-      back = read_back (with_algorithms t m n) json (both (is_shallow limits (with_algorithms t m n)) (is_shallow limits t.unprotected) (passed _ Limit shallow.0 shallow.1)).0;
+    let with_enc : Members = with_name (is_some t.asked.encryption) (codes "enc") (encryption_name n) with_alg in
+    let there : Bool = not (is_password_based m) || is_given t.asked.p2c in
+    let count : IsCount (is_password_based m) (with_p2c there c with_enc) u c =
+    counted m t.asked.p2c c with_enc u
+    (named_count (is_some t.asked.encryption) (codes "enc") (encryption_name n) with_alg u (λ same. enc_is_not_p2c (sym same))
+    ∙ named_count (is_some t.asked.management) (codes "alg") (management_name m) t.protected u (λ same. alg_is_not_p2c (sym same)) ∙ is.count)
+    p2c.1 (passed _ Limit written.0 written.1) in
+    let json : AreJsonMembers (with_p2c there c with_enc) =
+    with_p2c_json there c with_enc (few_iterations (is_password_based m) (with_p2c there c with_enc) u c count)
+    (with_name_json (is_some t.asked.encryption) (codes "enc") (encryption_name n) with_alg (name_is_json url_texts_are_json (codes "enc") refl) (encryption_is_text n)
+    (with_name_json (is_some t.asked.management) (codes "alg") (management_name m) t.protected (name_is_json url_texts_are_json (codes "alg") refl) (management_is_text m) is.protected)) in
+    let made : Encrypts key (record { management = m; encryption = n; key = key.octets; p2c = c; protected = with_parameters t m n c; unprotected = u; aad = t.aad }) = record {
       key_is = refl;
-      supported = can;
       fit = (both (allows key (management_operations m).0) (fits key (EncryptionWith m n)) (passed _ KeyDoesNotFit fit.0 fit.1)).1;
+      protected = json;
+      shallow = (both (is_shallow limits (with_parameters t m n c)) (is_shallow limits u) (passed _ Limit shallow.0 shallow.1)).0;
       unprotected = is.unprotected;
       aad = is.aad;
-      management = still_asked management_alg_of (codes "alg") (codes "enc") (encryption_name n) (is_some t.asked.encryption) with_alg t.unprotected (Some m) (λ same. enc_is_not_alg (sym same))
-          (named management_alg_of management_name (codes "alg") t.protected t.unprotected t.asked.management m (management_named m) is.management (management_kept key t.asked.management m management.1));
-      encryption = named encryption_alg_of encryption_name (codes "enc") with_alg t.unprotected t.asked.encryption n (encryption_named n)
-          (still_asked encryption_alg_of (codes "enc") (codes "alg") (management_name m) (is_some t.asked.management) t.protected t.unprotected t.asked.encryption enc_is_not_alg is.encryption)
-          (encryption_kept key m t.asked.encryption n encryption.1);
+      management = counted_name management_alg_of (codes "alg") there c with_enc u m alg_is_not_p2c
+          (still_asked management_alg_of (codes "alg") (codes "enc") (encryption_name n) (is_some t.asked.encryption) with_alg u (Some m) (λ same. enc_is_not_alg (sym same))
+          (named management_alg_of management_name (codes "alg") t.protected u t.asked.management m (management_named m) is.management (management_kept key t.asked.management m management.1)));
+      encryption = counted_name encryption_alg_of (codes "enc") there c with_enc u n enc_is_not_p2c
+          (named encryption_alg_of encryption_name (codes "enc") with_alg u t.asked.encryption n (encryption_named n)
+          (still_asked encryption_alg_of (codes "enc") (codes "alg") (management_name m) (is_some t.asked.management) t.protected u t.asked.encryption enc_is_not_alg is.encryption)
+          (encryption_kept key m t.asked.encryption n encryption.1));
+      count = count;
     } in
     subst (Encrypts key) (same_answer _ e alone.2) made
 
@@ -299,3 +218,57 @@ encrypts compact key template e h =
     let value = steps (json_value template) _ e h in
     let t = steps (encryption_template value.0) _ e value.2 in
     encrypts_by compact key t.0 e (is_template value.0 t.0 (reads_json template value.0 value.1).0 t.1) t.2
+
+-- ---- the header with the salt
+
+-- It reads back. The joint header names both algorithms, and has the parameters of a password.
+pub record HeaderReads (e : Encryption) (salt : List ℕ) : Type 0 where
+  pub back : ReadsBack (with_salt e.management salt e.protected)
+  pub management : Named management_alg_of (codes "alg") (with_salt e.management salt e.protected) e.unprotected e.management
+  pub encryption : Named encryption_alg_of (codes "enc") (with_salt e.management salt e.protected) e.unprotected e.encryption
+  pub parameters : parameters_of management.name (all_members (with_salt e.management salt e.protected) e.unprotected no_members) ≡ Ok (record { p2s = salt; p2c = e.p2c })
+
+-- the header with a salt, for a password
+abbrev salted : Bool → List ℕ → Members → Members
+salted password salt header = if password then put (codes "p2s") (string (base64url salt)) header else header
+
+-- it is JSON, and no deeper than a header may nest
+salted_back : (password : Bool) (salt : List ℕ) (p : Members) → IsOctets salt → AreJsonMembers p → is_shallow limits p ≡ true → ReadsBack (salted password salt p)
+salted_back true salt p octets json shallow =
+    let text : IsUtf8 (base64url salt) = (url_texts_are_json (base64url salt) (has_url_characters salt octets)).0 in
+    let kept = keep_json.put_in (codes "p2s") (string (base64url salt)) p (name_is_json url_texts_are_json (codes "p2s") refl) text json in
+    let few : depth (object p) ≤ 64 = leb-true (depth (object p)) 64 shallow in
+    read_back (put (codes "p2s") (string (base64url salt)) p) kept.0 (le-leb (depth (object (put (codes "p2s") (string (base64url salt)) p))) 64 (omega (arith, kept.1, few)))
+salted_back false salt p octets json shallow = read_back p json shallow
+
+-- it names the algorithms
+salted_name : {A : Type 0} (of : List ℕ → Option A) (parameter : List ℕ) (password : Bool) (salt : List ℕ) (p u : Members) (alg : A) → (parameter ≡ codes "p2s" → ⊥)
+    → Named of parameter p u alg → Named of parameter (salted password salt p) u alg
+salted_name of parameter true salt p u alg differ is = still_named of parameter (codes "p2s") (string (base64url salt)) p u alg differ is
+salted_name of parameter false salt p u alg differ is = is
+
+-- it has the salt and the count
+salted_parameters : (password : Bool) (salt : List ℕ) (p u : Members) (n : ℕ) → IsCount password p u n → IsOctets salt → length salt ≡ (if password then salt_len else 0)
+    → (if password then password_parameters (all_members (salted password salt p) u no_members) else Ok (record { p2s = []; p2c = 0 })) ≡ Ok (record { p2s = salt; p2c = n })
+unfolding password_parameters salt_parameter
+salted_parameters true salt p u n is octets long =
+    let enough : nat_le 8 (length salt) ≡ true = le-leb 8 (length salt) (omega (arith, long)) in
+    let count : number_parameter (codes "p2c") (all_members (put (codes "p2s") (string (base64url salt)) p) u no_members) ≡ Ok (Some n) =
+    kept_number (codes "p2c") (codes "p2s") (string (base64url salt)) p u p2c_is_not_p2s ∙ is.is_there in
+    let some : nat_le 1 n ≡ true = le-leb 1 n is.some in
+    rw (put_parameter (codes "p2s") (base64url salt) p u, decodes_exactly.round_trip salt octets, enough, count, some) refl
+salted_parameters false salt p u n is octets long =
+    ap₂ (λ (s : List ℕ) (k : ℕ). let r : Result PasswordParameters Refusal = Ok (record { p2s = s; p2c = k }) in r) (sym (nil_from_length salt long)) (sym is)
+
+-- so it reads with a salt of the length that is drawn
+pub header_reads : (key : OctetKey) (e : Encryption) (salt : List ℕ) → Encrypts key e → IsOctets salt → length salt ≡ (if is_password_based e.management then salt_len else 0) → HeaderReads e salt
+header_reads key e salt by octets long =
+    let password : Bool = is_password_based e.management in
+    let management : Named management_alg_of (codes "alg") (with_salt e.management salt e.protected) e.unprotected e.management =
+    salted_name management_alg_of (codes "alg") password salt e.protected e.unprotected e.management alg_is_not_p2s by.management in
+    record {
+      back = salted_back password salt e.protected octets by.protected by.shallow;
+      management = management;
+      encryption = salted_name encryption_alg_of (codes "enc") password salt e.protected e.unprotected e.encryption enc_is_not_p2s by.encryption;
+      parameters = rw management.names (salted_parameters password salt e.protected e.unprotected e.p2c by.count octets long);
+    }

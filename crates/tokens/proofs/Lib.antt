@@ -5,8 +5,10 @@ pub mod Growing
 pub mod RoundTrip
 pub mod Candidates
 pub mod PairLists
+pub mod Iterations
 pub mod Sealed
 pub mod Openings
 pub mod EncryptingPlans
+pub mod JointParameters
 pub mod EncryptedTemplates
 pub mod EncryptedRoundTrip

@@ -1,14 +1,12 @@
 -- What a pair opens, by what its ciphers say of it.
-use Rattle.std.proofs.Common.{◌≡◌, ◌↔◌, ◌∙◌, ℕ, ◌≤◌, true, List, length, Option, Some, None, IfSome, IfNone, option_map, option_and_then, take, refl, sym, ap}
+use Rattle.std.proofs.Common.{◌≡◌, ◌↔◌, ℕ, ◌≤◌, List, length, Option, Some, None, IfSome, IfNone, option_map, option_and_then, take, refl, sym, ap}
 use Rattle.octets.specs.Octets.{IsOctets}
 use Rattle.ciphers.specs.declared.content_alg.ContentAlg.{ContentAlg}
 use Rattle.ciphers.specs.declared.key_alg.KeyAlg.{KeyAlg}
-use Rattle.ciphers.specs.Delivery.{encrypted_key_of, IsDelivered}
+use Rattle.ciphers.specs.Delivery.{IsDelivered}
 use Rattle.ciphers.specs.Openings.{delivered, opening, DeliversExactly, OpensExactly}
 use Rattle.ciphers.specs.Sealing.{IsOpening}
-use Rattle.keys.specs.declared.algorithm.ManagementAlg.{ManagementAlg}
-use Rattle.keys.specs.declared.algorithm.ManagementAlg.TheVariants.{Dir, A128Kw, A192Kw, A256Kw, Pbes2Hs256A128Kw, Pbes2Hs384A192Kw, Pbes2Hs512A256Kw}
-use Rattle.tokens.specs.Algorithms.{content_alg, key_alg, is_supported}
+use Rattle.tokens.specs.Algorithms.{content_alg}
 use Rattle.tokens.specs.Decrypting.{Pair, SealedContent, cek_of, opened_by}
 
 -- a result that is right where it is there, and absent only where nothing is right, is the option that is exactly what is right
@@ -17,29 +15,14 @@ found P o (Some x) to back some none = sym (to x some)
 found P None None to back some none = refl
 found P (Some x) None to back some none = absurd (none x (back x refl))
 
--- a supported algorithm does not read the count p2c
-pub uncounted : (alg : ManagementAlg) (key p2s : List ℕ) (n m : ℕ) (cek : List ℕ) → is_supported alg ≡ true → encrypted_key_of (key_alg alg) key p2s n cek ≡ encrypted_key_of (key_alg alg) key p2s m cek
-unfolding encrypted_key_of
-uncounted Dir key p2s n m cek h = refl
-uncounted A128Kw key p2s n m cek h = refl
-uncounted A192Kw key p2s n m cek h = refl
-uncounted A256Kw key p2s n m cek h = refl
-uncounted Pbes2Hs256A128Kw key p2s n m cek h = cc h
-uncounted Pbes2Hs384A192Kw key p2s n m cek h = cc h
-uncounted Pbes2Hs512A256Kw key p2s n m cek h = cc h
-
--- a call that unwraps without the count gives the key that is delivered
-pub delivers : DeliversExactly → (alg : KeyAlg) (enc : ContentAlg) (key p2s : List ℕ) (p2c : ℕ) (encrypted : List ℕ) (result : Option (List ℕ))
-    → IsOctets key → ((cek : List ℕ) → encrypted_key_of alg key p2s 0 cek ≡ encrypted_key_of alg key p2s p2c cek)
-    → IfSome result (IsDelivered alg enc key p2s 0 encrypted) → IfNone result ((cek : List ℕ) → IsDelivered alg enc key p2s 0 encrypted cek → ⊥)
+-- a call that unwraps gives the key that is delivered
+pub delivers : DeliversExactly → (alg : KeyAlg) (enc : ContentAlg) (key p2s : List ℕ) (p2c : ℕ) (encrypted : List ℕ) (result : Option (List ℕ)) → IsOctets key
+    → IfSome result (IsDelivered alg enc key p2s p2c encrypted) → IfNone result ((cek : List ℕ) → IsDelivered alg enc key p2s p2c encrypted cek → ⊥)
     → result ≡ delivered alg enc key p2s p2c encrypted
-delivers exactly alg enc key p2s p2c encrypted result octets same some none =
+delivers exactly alg enc key p2s p2c encrypted result octets some none =
     let law : (cek : List ℕ) → (delivered alg enc key p2s p2c encrypted ≡ Some cek) ↔ IsDelivered alg enc key p2s p2c encrypted cek =
     λ cek. exactly alg enc key p2s p2c encrypted cek octets in
-    found (IsDelivered alg enc key p2s 0 encrypted) (delivered alg enc key p2s p2c encrypted) result
-    (λ cek d. (law cek).1 (record { octets = d.octets; fits = d.fits; direct = d.direct; is_encrypted = sym (same cek) ∙ d.is_encrypted }))
-    (λ cek h. let d = (law cek).0 h in record { octets = d.octets; fits = d.fits; direct = d.direct; is_encrypted = same cek ∙ d.is_encrypted })
-    some none
+    found (IsDelivered alg enc key p2s p2c encrypted) (delivered alg enc key p2s p2c encrypted) result (λ cek. (law cek).1) (λ cek. (law cek).0) some none
 
 -- what holds of the octets of a length that is there holds of those octets
 some_of : (P : List ℕ → Type 0) (most : ℕ) (r : Option ℕ) (now : List ℕ) → IfSome r (λ n. (n ≤ most) × P (take n now)) → IfSome (option_map (λ n. take n now) r) P

@@ -1,5 +1,4 @@
--- The algorithms of encrypted objects, as the ciphers have them, and which are supported.
-use Rattle.std.specs.Prelude.{Bool, true, false, if◌then◌else◌, Option, Some, None}
+-- The algorithms of encrypted objects, as the ciphers have them.
 use Rattle.ciphers.specs.declared.content_alg.ContentAlg.{ContentAlg}
 use Rattle.ciphers.specs.declared.content_alg.ContentAlg.TheVariants as content
 use Rattle.ciphers.specs.declared.key_alg.KeyAlg.{KeyAlg}
@@ -27,19 +26,6 @@ key_alg A256Kw = delivery.A256Kw
 key_alg Pbes2Hs256A128Kw = delivery.Pbes2Hs256A128Kw
 key_alg Pbes2Hs384A192Kw = delivery.Pbes2Hs384A192Kw
 key_alg Pbes2Hs512A256Kw = delivery.Pbes2Hs512A256Kw
-
--- So far keys are used directly, or wrap.
-abbrev pub is_supported : ManagementAlg → Bool
-is_supported Dir = true
-is_supported A128Kw = true
-is_supported A192Kw = true
-is_supported A256Kw = true
-is_supported Pbes2Hs256A128Kw = false
-is_supported Pbes2Hs384A192Kw = false
-is_supported Pbes2Hs512A256Kw = false
-
-abbrev pub if_supported : ManagementAlg → Option ManagementAlg
-if_supported alg = if is_supported alg then Some alg else None
 
 -- both algorithms of an encrypted object
 pub record Algorithms : Type 0 where

@@ -1,10 +1,10 @@
 -- Decrypting (RFC 7516 section 5.2): the pairs of a recipient and a key that are tried, what they open, and what that takes.
-use Rattle.std.specs.Prelude.{ℕ, ◌+◌, ◌*◌, ◌≤◌, ◌&&◌, Bool, true, false, List, [], ◌∷◌, ◌++◌, map, is_some, if◌then◌else◌, Option, Some, None, option_and_then, Result, Ok, Err}
-use Rattle.std.specs.List.{filter, list_any}
+use Rattle.std.specs.Prelude.{ℕ, ◌+◌, ◌*◌, ◌≤◌, ◌&&◌, Bool, true, false, nat_le, List, [], ◌∷◌, ◌++◌, map, is_some, if◌then◌else◌, Option, Some, None, option_and_then, Result, Ok, Err}
+use Rattle.std.specs.List.{filter, list_all, list_any}
 use Rattle.std.specs.Option.{ok_or, option_or}
 use Rattle.std.specs.Str.{byte}
 use Rattle.octets.specs.declared.refusal.Refusal.{Refusal}
-use Rattle.octets.specs.declared.refusal.Refusal.TheVariants.{Memory, Unsupported, KeyDoesNotFit, NotOpened}
+use Rattle.octets.specs.declared.refusal.Refusal.TheVariants.{Memory, Unsupported, KeyDoesNotFit, Limit, NotOpened}
 use Rattle.octets.specs.Outcomes.{◌>>=◌, needs}
 use Rattle.octets.specs.Base64url.{base64url}
 use Rattle.ciphers.specs.Openings.{opening, delivered}
@@ -12,18 +12,18 @@ use Rattle.keys.specs.declared.algorithm.Algorithm.TheVariants.{Encryption}
 use Rattle.keys.specs.declared.algorithm.EncryptionAlg.{EncryptionAlg}
 use Rattle.keys.specs.declared.algorithm.ManagementAlg.{ManagementAlg}
 use Rattle.keys.specs.declared.algorithm.ManagementAlg.TheVariants.{Dir, A128Kw, A192Kw, A256Kw, Pbes2Hs256A128Kw, Pbes2Hs384A192Kw, Pbes2Hs512A256Kw}
-use Rattle.keys.specs.Algorithms.{management_alg_of, encryption_alg_of, management_operations}
+use Rattle.keys.specs.Algorithms.{management_alg_of, encryption_alg_of, is_password_based, management_operations}
 use Rattle.keys.specs.Keys.{OctetKey, allows, fits}
-use Rattle.keys.specs.Limits.{limits}
+use Rattle.keys.specs.Limits.{Limits, limits}
 use Rattle.objects.specs.Jwe.{Recipient, EncryptedObject}
-use Rattle.tokens.specs.Algorithms.{Algorithms, content_alg, key_alg, is_supported}
+use Rattle.tokens.specs.Algorithms.{Algorithms, content_alg, key_alg}
 
 -- ---- the pairs that are tried
 
 abbrev pub algorithms_by : Option ManagementAlg → Option EncryptionAlg → Option Algorithms
 algorithms_by None enc = None
 algorithms_by (Some alg) None = None
-algorithms_by (Some alg) (Some enc) = if is_supported alg then Some (record { management = alg; encryption = enc }) else None
+algorithms_by (Some alg) (Some enc) = Some (record { management = alg; encryption = enc })
 
 -- the algorithms of a recipient, where both are supported
 unfoldable pub algorithms_of : Recipient → Option Algorithms
@@ -58,11 +58,25 @@ abbrev pub has_pairs : List Pair → Bool
 has_pairs [] = false
 has_pairs (pair ∷ pairs) = true
 
--- some recipient's algorithms are supported, and then some key is a candidate
-unfoldable pub pairs_to_try : List OctetKey → List Recipient → Result (List Pair) Refusal
-pairs_to_try keys recipients = do
+-- how many iterations of PBKDF2 a pair takes (RFC 7518 section 4.8.1.2)
+abbrev pub iterations_of : Pair → ℕ
+iterations_of pair = if is_password_based pair.algorithms.management then pair.recipient.p2c else 0
+
+abbrev pub all_iterations : List Pair → ℕ
+all_iterations [] = 0
+all_iterations (pair ∷ pairs) = iterations_of pair + all_iterations pairs
+
+-- those of each pair, and of all together, are within the limits
+abbrev pub are_within : Limits → List Pair → Bool
+are_within limits pairs =
+    list_all (λ pair. nat_le (iterations_of pair) limits.greatest_p2c_read) pairs && nat_le (all_iterations pairs) limits.p2c_sum
+
+-- some recipient's algorithms are supported; then some key is a candidate; then the work is within the limits
+unfoldable pub pairs_to_try : Limits → List OctetKey → List Recipient → Result (List Pair) Refusal
+pairs_to_try limits keys recipients = do
   supported ← needs (list_any (λ r. is_some (algorithms_of r)) recipients) Unsupported
   candidates ← needs (has_pairs (all_pairs keys recipients)) KeyDoesNotFit
+  few ← needs (are_within limits (all_pairs keys recipients)) Limit
   Ok (all_pairs keys recipients)
 
 -- ---- what a pair opens
@@ -97,9 +111,9 @@ first_opened s [] = None
 first_opened s (pair ∷ pairs) = option_or (opened_by s pair) (first_opened s pairs)
 
 -- the plaintext of the object, or the first refusal
-unfoldable pub decrypted : List OctetKey → EncryptedObject → Result (List ℕ) Refusal
-decrypted keys o = do
-  pairs ← pairs_to_try keys o.recipients
+unfoldable pub decrypted : Limits → List OctetKey → EncryptedObject → Result (List ℕ) Refusal
+decrypted limits keys o = do
+  pairs ← pairs_to_try limits keys o.recipients
   ok_or (first_opened (sealed_content o) pairs) NotOpened
 
 -- ---- work
@@ -113,15 +127,6 @@ pub record Counts : Type 0 where
 abbrev pub no_work : Counts
 no_work = record { iterations = 0; unwraps = 0; openings = 0 }
 
-abbrev pub iterations_of : ManagementAlg → ℕ → ℕ
-iterations_of Dir p2c = 0
-iterations_of A128Kw p2c = 0
-iterations_of A192Kw p2c = 0
-iterations_of A256Kw p2c = 0
-iterations_of Pbes2Hs256A128Kw p2c = p2c
-iterations_of Pbes2Hs384A192Kw p2c = p2c
-iterations_of Pbes2Hs512A256Kw p2c = p2c
-
 abbrev pub unwraps_of : ManagementAlg → ℕ
 unwraps_of Dir = 0
 unwraps_of A128Kw = 1
@@ -134,7 +139,7 @@ unwraps_of Pbes2Hs512A256Kw = 1
 -- with one pair more, which opens or tries the content where a content encryption key is delivered
 abbrev pub with_pair : Counts → Pair → Counts
 with_pair w pair = record {
-  iterations = w.iterations + iterations_of pair.algorithms.management pair.recipient.p2c;
+  iterations = w.iterations + iterations_of pair;
   unwraps = w.unwraps + unwraps_of pair.algorithms.management;
   openings = w.openings + (if is_some (cek_of pair) then 1 else 0);
 }

@@ -1,7 +1,7 @@
 -- Encrypting to one key (RFC 7516 section 5.1), in compact form (section 7.1) or in flattened JSON form (section 7.2.2).
-use Rattle.std.specs.Prelude.{◌≡◌, ℕ, ◌+◌, ◌==◌, ◌&&◌, Bool, true, false, not, List, [], ◌∷◌, ◌++◌, length, take, drop, codes, is_some, is_none, if◌then◌else◌, Option, Some, None, Result, Ok, Err}
-use Rattle.std.specs.Option.{ok_or, option_or}
-use Rattle.serde_json.specs.Data.{Data, Members, no_members, string, put}
+use Rattle.std.specs.Prelude.{◌≡◌, ℕ, ◌+◌, ◌==◌, ◌&&◌, ◌||◌, Bool, true, false, not, nat_le, List, [], ◌∷◌, ◌++◌, length, take, drop, codes, is_some, is_none, if◌then◌else◌, Option, Some, None, Result, Ok, Err}
+use Rattle.std.specs.Option.{ok_or, option_or, unwrap_or}
+use Rattle.serde_json.specs.Data.{Data, Members, no_members, unsigned, number, string, put}
 use Rattle.serde_json.specs.Find.{get_member}
 use Rattle.octets.specs.declared.refusal.Refusal.{Refusal}
 use Rattle.octets.specs.declared.refusal.Refusal.TheVariants.{Form, Header, Unsupported, NoAlgorithm, KeyDoesNotFit, Limit, NotCompact}
@@ -17,13 +17,13 @@ use Rattle.keys.specs.declared.algorithm.EncryptionAlg.{EncryptionAlg}
 use Rattle.keys.specs.declared.algorithm.EncryptionAlg.TheVariants.{A128CbcHs256, A192CbcHs384, A256CbcHs512}
 use Rattle.keys.specs.declared.algorithm.ManagementAlg.{ManagementAlg}
 use Rattle.keys.specs.declared.algorithm.ManagementAlg.TheVariants.{Dir, A128Kw, A192Kw, A256Kw, Pbes2Hs256A128Kw, Pbes2Hs384A192Kw, Pbes2Hs512A256Kw}
-use Rattle.keys.specs.Algorithms.{management_name, encryption_name, management_alg_of, encryption_alg_of, management_operations}
+use Rattle.keys.specs.Algorithms.{management_name, encryption_name, management_alg_of, encryption_alg_of, is_password_based, management_operations}
 use Rattle.keys.specs.Json.{json_value, is_object, has_only}
 use Rattle.keys.specs.Keys.{OctetKey, allows, fits}
 use Rattle.keys.specs.Limits.{Limits, limits}
-use Rattle.objects.specs.Headers.{header_at, joint_header, string_parameter}
+use Rattle.objects.specs.Headers.{header_at, joint_header, string_parameter, number_parameter}
 use Rattle.objects.specs.Jwe.{JweParts, EncryptedObject, text_at, is_plain, built, json_text, jwe_compact_text, jwe_of}
-use Rattle.tokens.specs.Algorithms.{content_alg, key_alg, is_supported}
+use Rattle.tokens.specs.Algorithms.{content_alg, key_alg}
 use Rattle.tokens.specs.Decrypting.{authenticated, decrypted}
 use Rattle.tokens.specs.Signing.{only_key}
 use Rattle.tokens.specs.Template.{is_shallow, is_empty, header_text}
@@ -46,14 +46,16 @@ template_texts value = do
   aad ← text_at (codes "aad") value
   Ok (record { protected = protected; unprotected = unprotected; aad = aad })
 
--- the algorithms that the headers name, if they do
+-- The algorithms that the headers name, if they do, and the count of iterations that they give, if they do. It is refused where
+-- it is no whole number, but only for an algorithm that reads it.
 pub record AlgorithmsAsked : Type 0 where
   pub management : Option ManagementAlg
   pub encryption : Option EncryptionAlg
+  pub p2c : Result (Option ℕ) Refusal
 
 abbrev pub supported_management : Option ManagementAlg → Result (Option ManagementAlg) Refusal
 supported_management None = Err Unsupported
-supported_management (Some alg) = if is_supported alg then Ok (Some alg) else Err Unsupported
+supported_management (Some alg) = Ok (Some alg)
 
 abbrev pub management_asked : Option (List ℕ) → Result (Option ManagementAlg) Refusal
 management_asked None = Ok None
@@ -77,7 +79,7 @@ algorithms_asked protected unprotected = do
   plain ← needs (is_plain header) Unsupported
   management ← management_asked alg
   encryption ← encryption_asked enc
-  Ok (record { management = management; encryption = encryption })
+  Ok (record { management = management; encryption = encryption; p2c = number_parameter (codes "p2c") header })
 
 pub record EncryptionTemplate : Type 0 where
   pub protected : Members
@@ -146,14 +148,27 @@ abbrev pub chosen_encryption : Option EncryptionAlg → ManagementAlg → OctetK
 chosen_encryption (Some enc) alg key = Ok enc
 chosen_encryption None alg key = ok_or (encryption_by_management alg key) NoAlgorithm
 
+-- ---- the iterations of PBKDF2
+
+-- those of the template, or else the usual number, where the algorithm takes any
+abbrev pub chosen_p2c : Limits → ManagementAlg → Result (Option ℕ) Refusal → Result ℕ Refusal
+chosen_p2c _ alg (Err refusal) = if is_password_based alg then Err refusal else Ok 0
+chosen_p2c limits alg (Ok p2c) = if is_password_based alg then Ok (unwrap_or p2c limits.usual_p2c) else Ok 0
+
+-- as many as may be written
+abbrev pub is_written : Limits → ManagementAlg → ℕ → Bool
+is_written limits alg p2c = if is_password_based alg then nat_le limits.least_p2c p2c && nat_le p2c limits.greatest_p2c else true
+
 -- ---- what a template and a key settle
 
--- the algorithms, the octets of the key and of the protected header, the other header, and the additional data
+-- The algorithms, the octets of the key, the iterations, the protected header but for what is drawn, the other header, and the
+-- additional data. The iterations are 0 where the algorithm takes none.
 pub record Encryption : Type 0 where
   pub management : ManagementAlg
   pub encryption : EncryptionAlg
   pub key : List ℕ
-  pub header : List ℕ
+  pub p2c : ℕ
+  pub protected : Members
   pub unprotected : Members
   pub aad : List ℕ
 
@@ -162,11 +177,22 @@ abbrev pub with_name : Bool → List ℕ → List ℕ → Members → Members
 with_name true parameter name header = header
 with_name false parameter name header = put parameter (string name) header
 
--- the protected header, with the algorithms that the template does not name
-abbrev pub with_algorithms : EncryptionTemplate → ManagementAlg → EncryptionAlg → Members
-with_algorithms t management encryption =
-    with_name (is_some t.asked.encryption) (codes "enc") (encryption_name encryption)
-    (with_name (is_some t.asked.management) (codes "alg") (management_name management) t.protected)
+-- the template gives the iterations
+abbrev pub is_given : Result (Option ℕ) Refusal → Bool
+is_given (Ok p2c) = is_some p2c
+is_given (Err refusal) = true
+
+-- the header with the iterations, where they are needed and the template does not give them
+abbrev pub with_p2c : Bool → ℕ → Members → Members
+with_p2c true p2c header = header
+with_p2c false p2c header = put (codes "p2c") (number (unsigned p2c)) header
+
+-- the protected header, with the algorithms that the template does not name, and with the iterations
+abbrev pub with_parameters : EncryptionTemplate → ManagementAlg → EncryptionAlg → ℕ → Members
+with_parameters t management encryption p2c =
+    with_p2c (not (is_password_based management) || is_given t.asked.p2c) p2c
+    (with_name (is_some t.asked.encryption) (codes "enc") (encryption_name encryption)
+    (with_name (is_some t.asked.management) (codes "alg") (management_name management) t.protected))
 
 -- the key may encrypt, and fits
 abbrev pub may_encrypt : OctetKey → ManagementAlg → EncryptionAlg → Bool
@@ -178,16 +204,18 @@ has_no_more compact t = if compact then is_empty t.unprotected && (length t.aad 
 unfoldable pub encryption_by : Limits → Bool → OctetKey → EncryptionTemplate → Result Encryption Refusal
 encryption_by limits compact key t = do
   management ← chosen_management t.asked.management key
-  supported ← needs (is_supported management) Unsupported
   encryption ← chosen_encryption t.asked.encryption management key
   fit ← needs (may_encrypt key management encryption) KeyDoesNotFit
-  shallow ← needs (is_shallow limits (with_algorithms t management encryption) && is_shallow limits t.unprotected) Limit
+  p2c ← chosen_p2c limits management t.asked.p2c
+  shallow ← needs (is_shallow limits (with_parameters t management encryption p2c) && is_shallow limits t.unprotected) Limit
+  written ← needs (is_written limits management p2c) Limit
   alone ← needs (has_no_more compact t) NotCompact
   Ok (record {
     management = management;
     encryption = encryption;
     key = key.octets;
-    header = header_text (with_algorithms t management encryption);
+    p2c = p2c;
+    protected = with_parameters t management encryption p2c;
     unprotected = t.unprotected;
     aad = t.aad;
   })
@@ -200,7 +228,15 @@ encryption_of limits compact keys text = do
   key ← only_key keys
   encryption_by limits compact key template
 
--- ---- what is drawn: the content encryption key, unless the key is it, and then the initialization vector
+-- ---- what is drawn: the salt of a password, the content encryption key, unless the key is it, and then the initialization vector
+
+-- the octets of a salt
+abbrev pub salt_len : ℕ
+salt_len = 16
+
+-- how many octets the salt takes of them
+abbrev pub salt_drawn : Encryption → ℕ
+salt_drawn e = if is_password_based e.management then salt_len else 0
 
 abbrev pub drawn_cek : ManagementAlg → ℕ → ℕ
 drawn_cek Dir n = 0
@@ -216,7 +252,7 @@ abbrev pub cek_drawn : Encryption → ℕ
 cek_drawn e = drawn_cek e.management (cek_len (content_alg e.encryption))
 
 abbrev pub octets_drawn : Encryption → ℕ
-octets_drawn e = cek_drawn e + iv_len (content_alg e.encryption)
+octets_drawn e = salt_drawn e + cek_drawn e + iv_len (content_alg e.encryption)
 
 abbrev pub cek_among : ManagementAlg → List ℕ → List ℕ → List ℕ
 cek_among Dir key drawn = key
@@ -227,16 +263,32 @@ cek_among Pbes2Hs256A128Kw key drawn = drawn
 cek_among Pbes2Hs384A192Kw key drawn = drawn
 cek_among Pbes2Hs512A256Kw key drawn = drawn
 
+abbrev pub salt_by : Encryption → List ℕ → List ℕ
+salt_by e random = take (salt_drawn e) random
+
+abbrev pub after_salt : Encryption → List ℕ → List ℕ
+after_salt e random = drop (salt_drawn e) random
+
 abbrev pub cek_by : Encryption → List ℕ → List ℕ
-cek_by e random = cek_among e.management e.key (take (cek_drawn e) random)
+cek_by e random = cek_among e.management e.key (take (cek_drawn e) (after_salt e random))
 
 abbrev pub iv_by : Encryption → List ℕ → List ℕ
-iv_by e random = drop (cek_drawn e) random
+iv_by e random = drop (cek_drawn e) (after_salt e random)
+
+-- ---- the protected header
+
+-- with the salt that was drawn (RFC 7518 section 4.8.1.1)
+abbrev pub with_salt : ManagementAlg → List ℕ → Members → Members
+with_salt alg salt header = if is_password_based alg then put (codes "p2s") (string (base64url salt)) header else header
+
+-- its text
+abbrev pub header_by : Encryption → List ℕ → List ℕ
+header_by e random = header_text (with_salt e.management (salt_by e random) e.protected)
 
 -- ---- the object of a plaintext
 
 abbrev pub sealing_by : Encryption → List ℕ → Sealing
-sealing_by e random = sealing (content_alg e.encryption) (cek_by e random) (iv_by e random) (authenticated (base64url e.header) e.aad)
+sealing_by e random = sealing (content_alg e.encryption) (cek_by e random) (iv_by e random) (authenticated (base64url (header_by e random)) e.aad)
 
 -- what the plaintext becomes, where it is not too long
 unfoldable pub sealed_by : Sealing → List ℕ → Result Sealed Refusal
@@ -244,14 +296,14 @@ sealed_by s plaintext = do
   short ← needs (not (is_longer (length plaintext) s.longest)) Limit
   Ok (s.sealed plaintext)
 
--- the encrypted key (section 5.1, steps 4 to 6); no algorithm so far reads a parameter of the header
+-- the encrypted key (section 5.1, steps 4 to 6)
 abbrev pub encrypted_key_by : Encryption → List ℕ → List ℕ
-encrypted_key_by e random = encrypted_key_of (key_alg e.management) e.key [] 0 (cek_by e random)
+encrypted_key_by e random = encrypted_key_of (key_alg e.management) e.key (salt_by e random) e.p2c (cek_by e random)
 
 -- the members of the object, whose one recipient has no header of its own
 abbrev pub parts_by : Encryption → List ℕ → Sealed → JweParts
 parts_by e random s = record {
-  protected = base64url e.header;
+  protected = base64url (header_by e random);
   unprotected = e.unprotected;
   iv = iv_by e random;
   aad = e.aad;
@@ -277,7 +329,7 @@ aad_member [] = []
 aad_member (a ∷ aad) = codes "\"aad\":\"" ++ base64url (a ∷ aad) ++ codes "\","
 
 abbrev pub text_before : Bool → Encryption → List ℕ → List ℕ
-text_before true e random = base64url e.header ++ codes "." ++ base64url (encrypted_key_by e random) ++ codes "." ++ base64url (iv_by e random) ++ codes "."
+text_before true e random = base64url (header_by e random) ++ codes "." ++ base64url (encrypted_key_by e random) ++ codes "." ++ base64url (iv_by e random) ++ codes "."
 text_before false e random = codes "{" ++ aad_member e.aad ++ codes "\"ciphertext\":\""
 
 abbrev pub within_longest : Option ℕ → List ℕ → List ℕ
@@ -309,4 +361,4 @@ abbrev pub EncryptedDecrypts : Type 0
 EncryptedDecrypts = (compact : Bool) (key : OctetKey) (template random plaintext text : List ℕ)
     → IsOctets key.octets → IsOctets random → IsOctets plaintext → MayDecrypt compact key template
     → planned (plan_from (encrypting_by limits compact (key ∷ []) template) random) plaintext ≡ Ok text
-    → (jwe_of text >>= decrypted (key ∷ [])) ≡ Ok plaintext
+    → (jwe_of text >>= decrypted limits (key ∷ [])) ≡ Ok plaintext

@@ -47,7 +47,7 @@ abbrev pub template_texts_view : CodeTexts → TemplateTexts
 template_texts_view t = record { protected = part_view t.protected; unprotected = part_view t.unprotected; aad = t.aad.now }
 
 abbrev pub asked_view : CodeAsked → AlgorithmsAsked
-asked_view a = record { management = a.management; encryption = a.encryption }
+asked_view a = record { management = a.management; encryption = a.encryption; p2c = a.p2c }
 
 abbrev pub encryption_template_view : CodeTemplate → EncryptionTemplate
 encryption_template_view t = record { protected = part_view t.protected; unprotected = part_view t.unprotected; aad = t.aad.items; asked = asked_view t.asked }
@@ -57,7 +57,8 @@ encryption_view e = record {
   management = e.management;
   encryption = e.encryption;
   key = (key_view e.key.now).octets;
-  header = string_bytes e.header;
+  p2c = e.p2c;
+  protected = members_view e.protected.entries;
   unprotected = members_view e.unprotected.entries;
   aad = e.aad.items;
 }

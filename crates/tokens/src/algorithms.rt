@@ -1,13 +1,13 @@
 //! The algorithms of encrypted objects, by the ciphers that have them. It sees names and no key.
 ghost use Rattle.std.specs.Prelude.{◌≡◌, ◌≤◌, option_map};
-ghost use Rattle.tokens.specs.Algorithms.{content_alg, key_alg, is_supported};
+ghost use Rattle.tokens.specs.Algorithms.{content_alg, key_alg};
 ghost use Rattle.tokens.specs.Decrypting.{algorithms_by, unwraps_of};
 ghost use Rattle.tokens.specs.Views.{algorithms_view};
 
 use ciphers::{ContentAlg, KeyAlg};
 use keys::{EncryptionAlg, ManagementAlg};
 
-/// Both algorithms of an encrypted object, which are supported.
+/// Both algorithms of an encrypted object.
 #[derive(Clone, Copy)]
 pub(crate) struct Algorithms {
     pub(crate) management: ManagementAlg,
@@ -15,7 +15,7 @@ pub(crate) struct Algorithms {
 }
 
 impl Algorithms {
-    /// Those that are named, where both are there and supported.
+    /// Those that are named, where both are.
     pub(crate) fn named(
         management: Option<ManagementAlg>,
         encryption: Option<EncryptionAlg>,
@@ -24,28 +24,10 @@ impl Algorithms {
     {
         let management = management?;
         let encryption = encryption?;
-        if !is_supported(management) {
-            return None;
-        }
         Some(Algorithms {
             management,
             encryption,
         })
-    }
-}
-
-/// So far keys are used directly, or wrap.
-pub(crate) fn is_supported(alg: ManagementAlg) -> bool
-    ensures { result ≡ is_supported alg }
-{
-    match alg {
-        ManagementAlg::Dir
-        | ManagementAlg::A128Kw
-        | ManagementAlg::A192Kw
-        | ManagementAlg::A256Kw => true,
-        ManagementAlg::Pbes2Hs256A128Kw
-        | ManagementAlg::Pbes2Hs384A192Kw
-        | ManagementAlg::Pbes2Hs512A256Kw => false,
     }
 }
 

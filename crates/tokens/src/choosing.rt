@@ -1,6 +1,6 @@
 //! The choice of algorithms by a template and a key, and all else that they settle before anything is drawn. It sees no
 //! content.
-ghost use Rattle.std.specs.Prelude.{◌≡◌, ◌==◌, true, false, is_some, length, option_map, IfOk, string_bytes};
+ghost use Rattle.std.specs.Prelude.{◌≡◌, ◌==◌, Some, true, false, is_some, length, option_map, IfOk, IfErr, string_bytes};
 ghost use Rattle.serde_json.specs.View.{members_view};
 ghost use Rattle.serde_json.specs.Written.{members_have_float};
 ghost use Rattle.octets.specs.Outcomes.{AgreesUnlessMemory};
@@ -9,17 +9,16 @@ ghost use Rattle.keys.specs.Keys.{fits};
 ghost use Rattle.keys.specs.Limits.{limits};
 ghost use Rattle.keys.specs.Views.{key_view};
 ghost use Rattle.objects.specs.Views.{part_view};
-ghost use Rattle.tokens.specs.Encrypting.{encryption_of, encryption_by, chosen_management, management_of_key, management_by_name, management_by_length, chosen_encryption, encryption_by_management, encryption_by_name, encryption_by_length, may_encrypt, has_no_more, with_algorithms, with_name};
+ghost use Rattle.tokens.specs.Encrypting.{encryption_of, encryption_by, chosen_management, management_of_key, management_by_name, management_by_length, chosen_encryption, encryption_by_management, encryption_by_name, encryption_by_length, may_encrypt, has_no_more, chosen_p2c, is_written, is_given, with_parameters, with_name, with_p2c};
 ghost use Rattle.tokens.specs.Views.{encryption_view, encryption_template_view};
 
-use crate::algorithms::is_supported;
 use crate::encryption::Encryption;
 use crate::encryption_template::{EncryptionTemplate, read_encryption_template};
 use crate::sign::only_key;
-use crate::template::{copy, header_text, is_empty, is_shallow};
+use crate::template::{copy, is_empty, is_shallow};
 use keys::{
-    Algorithm, EncryptionAlg, Key, KeySet, MOST_DEPTH, ManagementAlg, laws, object_nests_at_most,
-    read_json,
+    Algorithm, EncryptionAlg, GREATEST_P2C, Key, KeySet, LEAST_P2C, MOST_DEPTH, ManagementAlg,
+    USUAL_P2C, laws, object_nests_at_most, read_json,
 };
 use octets::{Refusal, needs};
 use serde_json::{Map, Value};
@@ -43,9 +42,10 @@ pub(crate) fn read_encryption<'k>(
 }
 
 /// What a key and a template settle. Refused, in this order, with `NoAlgorithm` where nothing says the algorithm of key
-/// management; `KeyDoesNotFit` where the key's `alg` is none of encryption; `Unsupported`; `NoAlgorithm` where nothing says
-/// that of content encryption; `KeyDoesNotFit` where the key may not encrypt, or does not fit; `Limit` where a header nests
-/// more than 64 deep; and `NotCompact` where a compact text has no room for what the template gives.
+/// management; `KeyDoesNotFit` where the key's `alg` is none of encryption; `NoAlgorithm` where nothing says that of content
+/// encryption; `KeyDoesNotFit` where the key may not encrypt, or does not fit; where it is a password, `Header` where `p2c` is
+/// no whole number; `Limit` where a header nests more than 64 deep, or the `p2c` of a password is not from 1,000 to 1,000,000;
+/// and `NotCompact` where a compact text has no room for what the template gives.
 #[tactic(auto, unfolding(crate::specs::Encrypting::encryption_by))]
 fn encryption_by<'k>(
     alloc: Global,
@@ -53,29 +53,31 @@ fn encryption_by<'k>(
     key: &'k Key,
     template: EncryptionTemplate<'_>,
 ) -> Result<Encryption<'k>, Refusal>
-    requires { members_have_float (part_view template.protected) ≡ false }
+    requires no_float { members_have_float (part_view template.protected) ≡ false }
+    requires p2c { IfErr template.asked.p2c (λ e. e ≡ Refusal.Header) }
     ensures { AgreesUnlessMemory encryption_view result (encryption_by limits compact (key_view key.now) (encryption_template_view template.entry)) }
 {
     let asked = template.asked;
     let management = chosen_management(asked.management, key)?;
-    needs(is_supported(management), Refusal::Unsupported)?;
     let encryption = chosen_encryption(asked.encryption, management, key)?;
     needs(
         may_encrypt(key, management, encryption),
         Refusal::KeyDoesNotFit,
     )?;
-    let protected = with_algorithms(alloc, &template, management, encryption)?;
+    let p2c = chosen_p2c(management, asked.p2c)?;
+    let protected = with_parameters(alloc, &template, management, encryption, p2c)?;
     let shallow = object_nests_at_most(&protected, MOST_DEPTH) && is_shallow(template.unprotected);
     needs(shallow, Refusal::Limit)?;
+    needs(is_written(management, p2c), Refusal::Limit)?;
     needs(has_no_more(compact, &template), Refusal::NotCompact)?;
-    let header = header_text(alloc, protected)?;
     let unprotected = copy(alloc, template.unprotected)?;
     let EncryptionTemplate { aad, .. } = template;
     Ok(Encryption {
         management,
         encryption,
         key,
-        header,
+        p2c: p2c as u32,
+        protected,
         unprotected,
         aad,
     })
@@ -199,14 +201,50 @@ fn has_no_more(compact: bool, template: &EncryptionTemplate<'_>) -> bool
     !compact || is_empty(template.unprotected) && template.aad.is_empty()
 }
 
-/// The protected header of a template, with the algorithms that it does not name.
-fn with_algorithms(
+/// The iterations of PBKDF2: those of the template, or else the usual number. There are none where the algorithm does not
+/// derive a key from a password.
+fn chosen_p2c(
+    management: ManagementAlg,
+    asked: Result<Option<u64>, Refusal>,
+) -> Result<u64, Refusal>
+    requires { IfErr asked (λ e. e ≡ Refusal.Header) }
+    ensures exact { AgreesUnlessMemory (λ p2c. p2c) result (chosen_p2c limits management asked) }
+{
+    if !management.is_password_based() {
+        return Ok(0);
+    }
+    match asked? {
+        None => Ok(USUAL_P2C),
+        Some(p2c) => Ok(p2c),
+    }
+}
+
+/// They are as many as may be written.
+fn is_written(management: ManagementAlg, p2c: u64) -> bool
+    ensures { result ≡ is_written limits management p2c }
+{
+    !management.is_password_based() || LEAST_P2C <= p2c && p2c <= GREATEST_P2C
+}
+
+/// The template gives the iterations.
+fn is_given(asked: Result<Option<u64>, Refusal>) -> bool
+    ensures { result ≡ is_given asked }
+{
+    match asked {
+        Ok(p2c) => p2c.is_some(),
+        Err(_) => true,
+    }
+}
+
+/// The protected header of a template, with the algorithms that it does not name, and with the iterations.
+fn with_parameters(
     alloc: Global,
     template: &EncryptionTemplate<'_>,
     management: ManagementAlg,
     encryption: EncryptionAlg,
+    p2c: u64,
 ) -> Result<Map<String, Value>, AllocError>
-    ensures members { IfOk result (λ header. members_view header.entries ≡ with_algorithms (encryption_template_view template.now) management encryption) }
+    ensures members { IfOk result (λ header. members_view header.entries ≡ with_parameters (encryption_template_view template.now) management encryption p2c) }
     ensures no_float { IfOk result (λ header. members_have_float (part_view template.now.protected) ≡ false
         → members_have_float (members_view header.entries) ≡ false) }
 {
@@ -219,13 +257,33 @@ fn with_algorithms(
         management.name(),
         header,
     )?;
-    with_name(
+    let header = with_name(
         alloc,
         asked.encryption.is_some(),
         "enc",
         encryption.name(),
         header,
-    )
+    )?;
+    let given = !management.is_password_based() || is_given(asked.p2c);
+    with_p2c(alloc, given, p2c, header)
+}
+
+/// The header with the iterations, where they are needed and the template does not give them.
+fn with_p2c(
+    alloc: Global,
+    given: bool,
+    p2c: u64,
+    mut header: Map<String, Value>,
+) -> Result<Map<String, Value>, AllocError>
+    ensures members { IfOk result (λ made. members_view made.entries ≡ with_p2c given p2c (members_view header.entries)) }
+    ensures no_float { IfOk result (λ made. members_have_float (members_view header.entries) ≡ false
+        → members_have_float (members_view made.entries) ≡ false) }
+{
+    laws::members_keep_floats_out();
+    if !given {
+        serde_json::put(&mut header, alloc, "p2c", Value::from(p2c))?;
+    }
+    Ok(header)
 }
 
 /// The header with a parameter, where the template does not name its algorithm.

@@ -1,18 +1,17 @@
 //! Decrypting with any key of a set (RFC 7516 section 5.2).
-ghost use Rattle.std.specs.Prelude.{◌≡◌, ◌≢◌, ◌+◌, ◌≤◌, ◌*◌, ℕ, [], ◌∷◌, length, take, map, option_map, Err, OnOk, OnErr, IfOk, IfErr, IfNone, IsTrue, string_bytes};
+ghost use Rattle.std.specs.Prelude.{◌≡◌, ◌≢◌, ◌+◌, ◌≤◌, ◌*◌, [], ◌∷◌, true, length, take, map, option_map, OnOk, OnErr, IfOk, IfErr, IfNone, IsTrue, string_bytes};
 ghost use Rattle.std.specs.Result.{result_unwrap_or};
 ghost use Rattle.octets.specs.Devices.{appended, AppendsPrefixOf};
 ghost use Rattle.octets.specs.Faults.{TellsFaults, counts};
 ghost use Rattle.octets.specs.Outcomes.{AgreesUnlessMemory, AgreesUnlessExternal};
 ghost use Rattle.keys.specs.Limits.{limits};
-ghost use Rattle.keys.specs.Views.{key_view};
-ghost use Rattle.objects.specs.Views.{jwe_view, recipient_view};
-ghost use Rattle.tokens.specs.Decrypting.{decrypted, pairs_to_try, authenticated, first_opened, opened_by, cek_of, no_work, with_pair, with_pairs, work_told, IsBounded};
+ghost use Rattle.objects.specs.Views.{jwe_view};
+ghost use Rattle.tokens.specs.Decrypting.{decrypted, pairs_to_try, are_within, iterations_of, authenticated, first_opened, opened_by, cek_of, no_work, with_pair, with_pairs, work_told, IsBounded};
 ghost use Rattle.tokens.specs.Views.{pair_view, sealed_view, work_view};
 
 use crate::algorithms::{Algorithms, content_alg, key_alg, unwraps};
 use crate::pair::Pair;
-use crate::pairs::pairs_to_try;
+use crate::pairs::{iterations, pairs_to_try};
 use ciphers::laws::{delivers_exactly, opens_exactly};
 use ciphers::{Cek, KeyParameters};
 use keys::KeySet;
@@ -45,25 +44,26 @@ struct Sealed<'j> {
 /// unwraps, and under whose content encryption key the tag is right.
 ///
 /// Refused, in this order, with `Unsupported` where no recipient's algorithms are supported; `KeyDoesNotFit` where no key
-/// may decrypt and fits; `NotOpened` where no pair opens; and then with `Write` where the output fails. `Work` is what was
-/// done: nothing where the refusal is another one than the last two.
+/// may decrypt and fits; `Limit` where a pair takes more than 1,000,000 iterations of PBKDF2 or all of them more than
+/// 4,000,000; `NotOpened` where no pair opens; and then with `Write` where the output fails. `Work` is what was done: nothing
+/// where the refusal is another one than the last two.
 pub fn jwe_decrypt<O: Output>(
     alloc: Global,
     keys: &KeySet,
     jwe: Jwe,
     out: &mut O,
 ) -> (Work, Result<(), Refusal>)
-    ensures answer { AgreesUnlessExternal (decrypted keys.now (jwe_view jwe)) (appended (O.written out.old) (O.written out.new)) result.1 }
+    ensures answer { AgreesUnlessExternal (decrypted limits keys.now (jwe_view jwe)) (appended (O.written out.old) (O.written out.new)) result.1 }
 
     // The output is not touched before a pair has opened.
     ensures held_back { IfErr result.1 (λ refusal. refusal ≢ Refusal.Write → out.new ≡ out.old) }
-    ensures beginning { OnErr result.1 (AppendsPrefixOf (result_unwrap_or (decrypted keys.now (jwe_view jwe)) [])
+    ensures beginning { OnErr result.1 (AppendsPrefixOf (result_unwrap_or (decrypted limits keys.now (jwe_view jwe)) [])
         (O.written out.old) (O.written out.new)) }
     ensures finished { OnOk result.1 (IsTrue (O.is_finished out.new)) }
     ensures faults { TellsFaults [] (counts O.failures out.old out.new ∷ []) result.1 }
 
     // The work is that of the pairs up to and with the first that opens.
-    ensures work { work_view result.0 ≡ work_told (jwe_view jwe) (pairs_to_try keys.now (jwe_view jwe).recipients) result.1 }
+    ensures work { work_view result.0 ≡ work_told (jwe_view jwe) (pairs_to_try limits keys.now (jwe_view jwe).recipients) result.1 }
     ensures bound { IsBounded (work_view result.0) }
 {
     let mut work = Work {
@@ -83,13 +83,13 @@ fn decrypt<O: Output>(
     out: &mut O,
 ) -> Result<(), Refusal>
     requires { work_view work.old ≡ no_work }
-    ensures answer { AgreesUnlessExternal (decrypted keys.now (jwe_view jwe)) (appended (O.written out.old) (O.written out.new)) result }
+    ensures answer { AgreesUnlessExternal (decrypted limits keys.now (jwe_view jwe)) (appended (O.written out.old) (O.written out.new)) result }
     ensures held_back { IfErr result (λ refusal. refusal ≢ Refusal.Write → out.new ≡ out.old) }
-    ensures beginning { OnErr result (AppendsPrefixOf (result_unwrap_or (decrypted keys.now (jwe_view jwe)) [])
+    ensures beginning { OnErr result (AppendsPrefixOf (result_unwrap_or (decrypted limits keys.now (jwe_view jwe)) [])
         (O.written out.old) (O.written out.new)) }
     ensures finished { OnOk result (IsTrue (O.is_finished out.new)) }
     ensures faults { TellsFaults [] (counts O.failures out.old out.new ∷ []) result }
-    ensures work { work_view work.new ≡ work_told (jwe_view jwe) (pairs_to_try keys.now (jwe_view jwe).recipients) result }
+    ensures work { work_view work.new ≡ work_told (jwe_view jwe) (pairs_to_try limits keys.now (jwe_view jwe).recipients) result }
     ensures bound { IsBounded (work_view work.new) }
 {
     let plaintext = open_first(alloc, keys, jwe, work)?;
@@ -100,8 +100,8 @@ fn decrypt<O: Output>(
 #[tactic(auto, unfolding(crate::specs::Decrypting::decrypted))]
 fn open_first(alloc: Global, keys: &KeySet, jwe: Jwe, work: &mut Work) -> Result<Vec<u8>, Refusal>
     requires { work_view work.old ≡ no_work }
-    ensures answer { AgreesUnlessMemory (λ plaintext. plaintext.items) result (decrypted keys.now (jwe_view jwe)) }
-    ensures work { work_view work.new ≡ work_told (jwe_view jwe) (pairs_to_try keys.now (jwe_view jwe).recipients) result }
+    ensures answer { AgreesUnlessMemory (λ plaintext. plaintext.items) result (decrypted limits keys.now (jwe_view jwe)) }
+    ensures work { work_view work.new ≡ work_told (jwe_view jwe) (pairs_to_try limits keys.now (jwe_view jwe).recipients) result }
     ensures bound { IsBounded (work_view work.new) }
 {
     let mut jwe = jwe;
@@ -140,6 +140,7 @@ fn open_pairs(
     work: &mut Work,
 ) -> Option<usize>
     requires few { length pairs.now ≤ limits.keys * limits.recipients }
+    requires within { are_within limits (map pair_view pairs.now) ≡ true }
     requires fresh { work_view work.old ≡ no_work }
     ensures opened { option_map (λ n. take n octets.new) result ≡ first_opened (sealed_view sealed.entry octets.old) (map pair_view pairs.now) }
     ensures work { work_view work.new ≡ with_pairs (sealed_view sealed.entry octets.old) no_work (map pair_view pairs.now) }
@@ -161,15 +162,17 @@ fn open_pair(
     octets: &mut [u8],
     work: &mut Work,
 ) -> Option<usize>
-    requires { IsBounded (work_view work.old) }
+    requires bound { IsBounded (work_view work.old) }
+    requires counted { iterations_of (pair_view pair.now) ≤ limits.greatest_p2c_read }
     ensures opened { option_map (λ n. take n octets.new) result ≡ opened_by (sealed_view sealed.entry octets.old) (pair_view pair.now) }
     ensures unchanged { IfNone result (octets.new ≡ octets.old) }
     ensures work { work_view work.new ≡ with_pair (work_view work.old) (pair_view pair.now) }
-    ensures iterations { work.new.iterations ≡ work.old.iterations }
+    ensures iterations { work.new.iterations ≡ work.old.iterations + iterations_of (pair_view pair.now) }
     ensures unwraps { work.new.unwraps ≤ work.old.unwraps + 1 }
     ensures openings { work.new.openings ≤ work.old.openings + 1 }
 {
     let enc = content_alg(pair.algorithms.encryption);
+    work.iterations += iterations(pair);
     work.unwraps += unwraps(pair.algorithms.management);
     let cek = deliver(pair)?;
     work.openings += 1;
@@ -181,8 +184,9 @@ fn open_pair(
 }
 
 /// The content encryption key that a pair delivers.
-#[tactic(auto, unfolding(crate::specs::Decrypting::cek_of), using(crate::proofs::Candidates::is_key_of))]
+#[tactic(auto, unfolding(crate::specs::Decrypting::cek_of), using(crate::proofs::Candidates::is_key_of, crate::proofs::Candidates::counts))]
 fn deliver(pair: &Pair<'_>) -> Option<Cek>
+    requires { iterations_of (pair_view pair.now) ≤ limits.greatest_p2c_read }
     ensures { result ≡ cek_of (pair_view pair.now) }
 {
     let Algorithms {
@@ -191,7 +195,7 @@ fn deliver(pair: &Pair<'_>) -> Option<Cek>
     } = pair.algorithms;
     let parameters = KeyParameters {
         p2s: pair.recipient.p2s(),
-        p2c: 0,
+        p2c: pair.recipient.p2c() as u32,
     };
     let key = pair.key.octets();
     delivers_exactly();

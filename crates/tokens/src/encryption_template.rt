@@ -1,24 +1,25 @@
 //! Templates of encrypted objects. It is given a template's value, and sees no key and no content.
-ghost use Rattle.std.specs.Prelude.{◌≡◌, false, option_map, IfOk};
+ghost use Rattle.std.specs.Prelude.{◌≡◌, false, option_map, IfOk, IfErr};
 ghost use Rattle.serde_json.specs.View.{view};
 ghost use Rattle.serde_json.specs.Written.{has_float, members_have_float};
 ghost use Rattle.octets.specs.Outcomes.{AgreesUnlessMemory};
 ghost use Rattle.objects.specs.Views.{part_view};
-ghost use Rattle.tokens.specs.Encrypting.{template_texts, management_asked, encryption_asked, supported_management, supported_encryption, algorithms_asked, encryption_template};
+ghost use Rattle.tokens.specs.Encrypting.{template_texts, management_asked, encryption_asked, supported_management, algorithms_asked, encryption_template};
 ghost use Rattle.tokens.specs.Views.{template_texts_view, asked_view, encryption_template_view};
 
-use crate::algorithms::is_supported;
 use keys::{EncryptionAlg, ManagementAlg, has_only, is_object};
 use objects::{Header, header_at, text_at};
 use octets::{Refusal, b64_decode, needs};
 use serde_json::{Map, Value};
 use std::alloc::Global;
 
-/// The algorithms that a template names, if it does.
+/// The algorithms that a template names, if it does, and the count of iterations that it gives, if it does, or its refusal,
+/// which matters to an algorithm that reads the count.
 #[derive(Clone, Copy)]
 pub(crate) struct AlgorithmsAsked {
     pub(crate) management: Option<ManagementAlg>,
     pub(crate) encryption: Option<EncryptionAlg>,
+    pub(crate) p2c: Result<Option<u64>, Refusal>,
 }
 
 /// A template of an encrypted object.
@@ -50,6 +51,7 @@ pub(crate) fn read_encryption_template(
     ensures exact { AgreesUnlessMemory encryption_template_view result (encryption_template (view value.now)) }
     ensures no_float { IfOk result (λ t. has_float (view value.now) ≡ false
         → (members_have_float (part_view t.protected) ≡ false) × (members_have_float (part_view t.unprotected) ≡ false)) }
+    ensures p2c { IfOk result (λ t. IfErr t.asked.p2c (λ e. e ≡ Refusal.Header)) }
 {
     let TemplateTexts {
         protected,
@@ -93,7 +95,8 @@ fn algorithms_asked<'v>(
     protected: Option<&'v Map<String, Value>>,
     unprotected: Option<&'v Map<String, Value>>,
 ) -> Result<AlgorithmsAsked, Refusal>
-    ensures { AgreesUnlessMemory asked_view result (algorithms_asked (part_view protected.entry) (part_view unprotected.entry)) }
+    ensures exact { AgreesUnlessMemory asked_view result (algorithms_asked (part_view protected.entry) (part_view unprotected.entry)) }
+    ensures p2c { IfOk result (λ asked. IfErr asked.p2c (λ e. e ≡ Refusal.Header)) }
 {
     let header = Header::joint(protected, unprotected, None)?;
     let alg = header.alg()?;
@@ -108,6 +111,7 @@ fn algorithms_asked<'v>(
     Ok(AlgorithmsAsked {
         management,
         encryption,
+        p2c: header.p2c(),
     })
 }
 
@@ -125,8 +129,8 @@ fn supported_management(alg: Option<ManagementAlg>) -> Result<Option<ManagementA
     ensures { AgreesUnlessMemory (λ alg. alg) result (supported_management alg) }
 {
     match alg {
-        Some(alg) if is_supported(alg) => Ok(Some(alg)),
-        _ => Err(Refusal::Unsupported),
+        None => Err(Refusal::Unsupported),
+        Some(alg) => Ok(Some(alg)),
     }
 }
 

@@ -1,20 +1,21 @@
 //! A recipient and a key that may have its content encryption key.
-ghost use Rattle.std.specs.Prelude.{◌≡◌, true};
+ghost use Rattle.std.specs.Prelude.{◌≡◌, Some, true};
 ghost use Rattle.keys.specs.declared.algorithm.Algorithm.TheVariants.{Encryption};
 ghost use Rattle.keys.specs.Keys.{fits};
 ghost use Rattle.keys.specs.Views.{key_view};
-ghost use Rattle.tokens.specs.Algorithms.{is_supported};
+ghost use Rattle.objects.specs.Jwe.{is_count_of};
+ghost use Rattle.objects.specs.Views.{recipient_view};
 
 use crate::algorithms::Algorithms;
 use keys::Key;
 use objects::Recipient;
 
-/// A recipient, whose algorithms are supported, and a key that may decrypt by these and fits.
+/// A recipient, its algorithms, and a key that may decrypt by these and fits.
 #[derive(Drop)]
 pub(crate) struct Pair<'a> {
     pub(crate) recipient: &'a Recipient,
     pub(crate) algorithms: Algorithms,
     pub(crate) key: &'a Key,
-    ghost supported: { is_supported algorithms.management ≡ true },
+    ghost counted: { is_count_of (Some algorithms.management) (recipient_view recipient.now).p2c ≡ true },
     ghost fits: { fits (key_view key.now) (Encryption algorithms.management algorithms.encryption) ≡ true },
 }

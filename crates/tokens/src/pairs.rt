@@ -1,25 +1,26 @@
 //! The pairs of a recipient and a key that are tried (RFC 7516 section 5.2). It opens nothing.
-ghost use Rattle.std.specs.Prelude.{◌≡◌, ◌≤◌, ◌*◌, [], ◌∷◌, ◌++◌, true, length, map, is_some, option_map, Err, IfSome, IfOk, IfErr, OnOk, OnErr};
+ghost use Rattle.std.specs.Prelude.{◌≡◌, ◌≤◌, ◌*◌, [], ◌∷◌, ◌++◌, true, length, map, is_some, option_map, Some, Err, IfSome, IfOk, IfErr, OnOk, OnErr};
 ghost use Rattle.std.specs.List.{list_any};
 ghost use Rattle.octets.specs.Outcomes.{AgreesUnlessMemory};
 ghost use Rattle.keys.specs.Views.{key_view};
 ghost use Rattle.objects.specs.Views.{recipient_view};
 ghost use Rattle.keys.specs.declared.algorithm.Algorithm.TheVariants.{Encryption};
 ghost use Rattle.keys.specs.Keys.{fits};
-ghost use Rattle.tokens.specs.Algorithms.{is_supported};
-ghost use Rattle.tokens.specs.Decrypting.{pairs_to_try, all_pairs, pairs_of, pairs_with, algorithms_of, is_candidate};
+ghost use Rattle.keys.specs.Limits.{limits};
+ghost use Rattle.objects.specs.Jwe.{is_count_of};
+ghost use Rattle.tokens.specs.Decrypting.{pairs_to_try, all_pairs, pairs_of, pairs_with, algorithms_of, is_candidate, are_within, iterations_of};
 ghost use Rattle.tokens.specs.Views.{algorithms_view, pair_view};
 
 use crate::algorithms::Algorithms;
 use crate::pair::Pair;
-use keys::{Algorithm, EncryptionAlg, Key, ManagementAlg};
+use keys::{Algorithm, EncryptionAlg, GREATEST_P2C_READ, Key, MOST_ITERATIONS, ManagementAlg};
 use objects::Recipient;
 use octets::{Refusal, needs};
 use std::alloc::Global;
 
 /// The pairs of a recipient and a key: the recipients in order, and for each of them the keys in order, those that may
-/// decrypt by its algorithms and fit. Refused with `Unsupported` where no recipient's algorithms are supported, and then
-/// with `KeyDoesNotFit` where there is no pair.
+/// decrypt by its algorithms and fit. Refused with `Unsupported` where no recipient's algorithms are supported; then with
+/// `KeyDoesNotFit` where there is no pair; and then with `Limit` where a pair, or all of them, take too many iterations.
 #[tactic(auto, unfolding(crate::specs::Decrypting::pairs_to_try), using(crate::proofs::PairLists::any_recipient, crate::proofs::PairLists::no_pairs, crate::proofs::PairLists::some_pairs))]
 pub(crate) fn pairs_to_try<'a>(
     alloc: Global,
@@ -27,13 +28,45 @@ pub(crate) fn pairs_to_try<'a>(
     recipients: &'a [Recipient],
 ) -> Result<Vec<Pair<'a>>, Refusal>
     ensures exact { AgreesUnlessMemory (λ pairs. map pair_view pairs.items) result
-        (pairs_to_try (map key_view keys.now) (map recipient_view recipients.now)) }
+        (pairs_to_try limits (map key_view keys.now) (map recipient_view recipients.now)) }
     ensures few { IfOk result (λ pairs. length pairs.items ≤ length keys.now * length recipients.now) }
+    ensures within { IfOk result (λ pairs. are_within limits (map pair_view pairs.items) ≡ true) }
 {
     needs(has_supported(recipients), Refusal::Unsupported)?;
     let pairs = all_pairs(alloc, keys, recipients)?;
     needs(!pairs.is_empty(), Refusal::KeyDoesNotFit)?;
+    needs(are_within(&pairs), Refusal::Limit)?;
     Ok(pairs)
+}
+
+/// The iterations of each pair, and those of all together, are within the limits.
+fn are_within(pairs: &[Pair<'_>]) -> bool
+    ensures { result ≡ are_within limits (map pair_view pairs.now) }
+{
+    let mut sum = 0;
+    for pair in pairs {
+        let count = iterations(pair);
+        if count > GREATEST_P2C_READ {
+            return false;
+        }
+        sum += count;
+        if sum > MOST_ITERATIONS {
+            return false;
+        }
+    }
+    true
+}
+
+/// How many iterations of PBKDF2 a pair takes (RFC 7518 section 4.8.1.2): none where the algorithm does not derive a key from
+/// a password.
+pub(crate) fn iterations(pair: &Pair<'_>) -> u64
+    ensures { result ≡ iterations_of (pair_view pair.now) }
+{
+    if pair.algorithms.management.is_password_based() {
+        pair.recipient.p2c()
+    } else {
+        0
+    }
 }
 
 /// The algorithms of some recipient are supported.
@@ -86,7 +119,7 @@ fn push_candidates<'a>(
     recipient: &'a Recipient,
     algorithms: Algorithms,
 ) -> Result<(), Refusal>
-    requires supported { is_supported algorithms.management ≡ true }
+    requires counted { is_count_of (Some algorithms.management) (recipient_view recipient.now).p2c ≡ true }
     ensures pushed { OnOk result (map pair_view pairs.new.items
         ≡ map pair_view pairs.old.items ++ pairs_with (recipient_view recipient.now) (algorithms_view algorithms) (map key_view keys.now)) }
     ensures memory { OnErr result (result ≡ Err Refusal.Memory) }
@@ -104,7 +137,7 @@ fn push_candidate<'a>(
     recipient: &'a Recipient,
     algorithms: Algorithms,
 ) -> Result<(), Refusal>
-    requires supported { is_supported algorithms.management ≡ true }
+    requires counted { is_count_of (Some algorithms.management) (recipient_view recipient.now).p2c ≡ true }
     ensures pushed { OnOk result (map pair_view pairs.new.items
         ≡ map pair_view pairs.old.items ++ pairs_with (recipient_view recipient.now) (algorithms_view algorithms) (key_view key.now ∷ [])) }
     ensures memory { OnErr result (result ≡ Err Refusal.Memory) }
@@ -119,11 +152,11 @@ fn push_candidate<'a>(
     Ok(())
 }
 
-/// The algorithms of a recipient, where both are supported.
+/// The algorithms of a recipient, where both of its names are those of algorithms.
 #[tactic(auto, unfolding(crate::specs::Decrypting::algorithms_of))]
 fn algorithms_of(recipient: &Recipient) -> Option<Algorithms>
     ensures named { option_map algorithms_view result ≡ algorithms_of (recipient_view recipient.now) }
-    ensures supported { IfSome result (λ a. is_supported a.management ≡ true) }
+    ensures counted { IfSome result (λ a. is_count_of (Some a.management) (recipient_view recipient.now).p2c ≡ true) }
 {
     Algorithms::named(
         ManagementAlg::named(recipient.alg()),
