@@ -7,3 +7,4 @@ pub mod Sealers
 pub mod Unique
 pub mod Found
 pub mod Octets
+pub mod Growing

@@ -5,7 +5,7 @@ use Rattle.octets.specs.declared.refusal.Refusal.{Refusal}
 use Rattle.octets.specs.declared.refusal.Refusal.TheVariants.{Random}
 use Rattle.octets.specs.Devices.{Observed}
 use Rattle.octets.specs.Outcomes.{◌>>=◌, needs, AgreesUnlessExternal}
-use Rattle.octets.specs.Plan.{Plan, Draft, plan_map, plan_from, placed, planned_beginning, beginning_of, without_content, accepted}
+use Rattle.octets.specs.Plan.{Plan, plan_map, plan_from, placed, planned_beginning, beginning_of, without_content, accepted}
 use Rattle.octets.proofs.Agreement.{AgreesUnlessExternal-map}
 use Rattle.keys.specs.Generating.{MadeKey, made_key, key_text, gen_answer}
 use Rattle.keys.specs.Limits.{limits}

@@ -1,5 +1,5 @@
 -- Sources and sinks as clauses see them, which of them the value of an option means, and the devices of a run.
-use Rattle.std.specs.Prelude.{◌≡◌, ℕ, ◌^◌, ◌&&◌, ◌==◌, Bool, true, false, List, [], drop, Option, None, Some, IsSome, IsNone, codes, slice_index, if◌then◌else◌, ⊤}
+use Rattle.std.specs.Prelude.{◌≡◌, ℕ, ◌&&◌, ◌==◌, Bool, true, false, List, [], drop, Option, None, Some, IsSome, IsNone, codes, slice_index, if◌then◌else◌, ⊤}
 use Rattle.std.specs.Option.{option_and_then, option_or}
 use Rattle.std.specs.Iterator.{at_most}
 use Rattle.std.specs.Str.{byte, bytes_eq}

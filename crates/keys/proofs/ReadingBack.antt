@@ -18,7 +18,7 @@ use Rattle.serde_json.specs.Written.{number_text, outline, items_outline, member
 use Rattle.serde_json.proofs.Numbers.{number_of-decimal, number_of-negative}
 use Rattle.serde_json.proofs.Texts.{print-outline}
 use Rattle.octets.specs.Outcomes.{◌>>=◌, needs}
-use Rattle.octets.specs.declared.refusal.Refusal.TheVariants.{Json, Number}
+use Rattle.octets.specs.declared.refusal.Refusal.TheVariants.{Number}
 use Rattle.keys.specs.Json.{json_reading, json_value, is_whole, numbers_are_whole, item_numbers_are_whole, member_numbers_are_whole}
 use Rattle.keys.specs.JsonTexts.{IsJsonNumber, IsBefore, IsJson, AreJsonItems, AreJsonMembers, CompactTextReadsBack}
 use Rattle.keys.proofs.CompactTexts.{text_is_utf8}

@@ -36,13 +36,17 @@ use Rattle.tokens.proofs.EncryptedTemplates.{joint_is, Encrypts, encrypts, Heade
 use Rattle.tokens.proofs.JointParameters.{Named, few_iterations}
 use Rattle.tokens.proofs.RoundTrip.{steps, passed, same_answer, octets_of_utf8}
 
--- the laws of ciphers and of objects
+-- the laws of ciphers that say what is octets
+pub record OctetLaws : Type 0 where
+  pub opened : (alg : ContentAlg) (cek iv aad c tag p : List ℕ) → IsOctets cek → IsOctets iv → IsOpening alg cek iv aad c tag p → IsOctets c × IsOctets tag
+  pub delivering : (alg : KeyAlg) (enc : ContentAlg) (key p2s : List ℕ) (p2c : ℕ) (encrypted cek : List ℕ) → IsOctets key
+      → IsDelivered alg enc key p2s p2c encrypted cek → IsOctets encrypted
+
+-- with the others of ciphers and of objects
 pub record Laws : Type 0 where
+  pub octets : OctetLaws
   pub opens : OpensExactly
   pub delivers : DeliversExactly
-  pub opened_octets : (alg : ContentAlg) (cek iv aad c tag p : List ℕ) → IsOctets cek → IsOctets iv → IsOpening alg cek iv aad c tag p → IsOctets c × IsOctets tag
-  pub delivering_octets : (alg : KeyAlg) (enc : ContentAlg) (key p2s : List ℕ) (p2c : ℕ) (encrypted cek : List ℕ) → IsOctets key
-      → IsDelivered alg enc key p2s p2c encrypted cek → IsOctets encrypted
   pub spells : TextsSpellObjects
 
 -- ---- the content encryption key, and what is sealed
@@ -135,7 +139,7 @@ text_is_octets : (x : List ℕ) → IsOctets x → IsOctets (base64url x)
 text_is_octets x octets = octets_of_utf8 (base64url x) (url_texts_are_json (base64url x) (has_url_characters x octets)).0
 
 -- the object of these members
-abbrev object_by : Encryption → List ℕ → Sealed → Members → List Recipient → EncryptedObject
+abbrev pub object_by : Encryption → List ℕ → Sealed → Members → List Recipient → EncryptedObject
 object_by e random s header recipients = record {
   protected = base64url (header_by e random);
   protected_members = header;
@@ -148,15 +152,15 @@ object_by e random s header recipients = record {
 }
 
 -- the protected header that is written
-abbrev header_of : Encryption → List ℕ → Members
+abbrev pub header_of : Encryption → List ℕ → Members
 header_of e random = with_salt e.management (salt_by e random) e.protected
 
 -- the recipient that it speaks of
-abbrev recipient_by_header : (e : Encryption) (random : List ℕ) → HeaderReads e (salt_by e random) → Recipient
+abbrev pub recipient_by_header : (e : Encryption) (random : List ℕ) → HeaderReads e (salt_by e random) → Recipient
 recipient_by_header e random by = recipient by.management.name by.encryption.name (encrypted_key_by e random) (salt_by e random) e.p2c
 
 -- it is what is built
-object_is : (e : Encryption) (random : List ℕ) (s : Sealed) (o : EncryptedObject) (by : HeaderReads e (salt_by e random)) → built (parts_by e random s) ≡ Ok o
+pub object_is : (e : Encryption) (random : List ℕ) (s : Sealed) (o : EncryptedObject) (by : HeaderReads e (salt_by e random)) → built (parts_by e random s) ≡ Ok o
     → object_by e random s (header_of e random) (recipient_by_header e random by ∷ []) ≡ o
 unfolding built encrypted_object recipients_of_one_enc
 object_is e random s o by h =
@@ -193,15 +197,23 @@ encrypting_steps : (e : Encryption) (random plaintext : List ℕ) (o : Encrypted
 unfolding encrypted
 encrypting_steps e random plaintext o h = steps (sealed_by (sealing_by e random) plaintext) (λ s. built (parts_by e random s)) o h
 
--- by just as many random octets as are drawn, the text is that of an object which is decrypted
-decrypts : Laws → (compact : Bool) (key : OctetKey) (e : Encryption) (random plaintext text : List ℕ) → IsOctets key.octets → IsOctets random → IsOctets plaintext
-    → length random ≡ octets_drawn e → Encrypts key e → allows key (management_operations e.management).1 ≡ true → (encrypted e random plaintext >>= text_of compact) ≡ Ok text
-    → (jwe_of text >>= decrypted limits (key ∷ [])) ≡ Ok plaintext
-decrypts laws compact key e random plaintext text key_octets random_octets octets long by may h =
+-- What is encrypted by just as many random octets as are drawn: the header that is written reads, the content encryption key is
+-- delivered, the plaintext opens what is sealed, and the object is made of members that are as JSON has them, or octets.
+pub record IsEncrypted (key : OctetKey) (e : Encryption) (random plaintext : List ℕ) (o : EncryptedObject) : Type 0 where
+  pub sealed : Sealed
+  pub reads : HeaderReads e (salt_by e random)
+  pub delivers : IsDelivered (key_alg e.management) (content_alg e.encryption) key.octets (salt_by e random) e.p2c (encrypted_key_by e random) (cek_by e random)
+  pub opens : IsOpening (content_alg e.encryption) (cek_by e random) (iv_by e random) (authenticated (base64url (header_by e random)) e.aad) sealed.ciphertext sealed.tag plaintext
+  pub members : AreMembers (parts_by e random sealed)
+  pub made : built (parts_by e random sealed) ≡ Ok o
+
+-- all this holds of it
+pub is_encrypted : OctetLaws → (key : OctetKey) (e : Encryption) (random plaintext : List ℕ) (o : EncryptedObject) → IsOctets key.octets → IsOctets random → IsOctets plaintext
+    → length random ≡ octets_drawn e → Encrypts key e → encrypted e random plaintext ≡ Ok o → IsEncrypted key e random plaintext o
+is_encrypted laws key e random plaintext o key_octets random_octets octets long by h =
     let alg = e.management in
     let enc = e.encryption in
-    let o = steps (encrypted e random plaintext) (text_of compact) text h in
-    let made = encrypting_steps e random plaintext o.0 o.1 in
+    let made = encrypting_steps e random plaintext o h in
     let s = made.0 in
     let sealed = sealed_is (sealing_by e random) plaintext s made.1 in
     let salt : List ℕ = salt_by e random in
@@ -224,7 +236,7 @@ decrypts laws compact key e random plaintext text key_octets random_octets octet
       ciphertext = ap (λ (x : Sealed). x.ciphertext) sealed.1;
       is_tag = ap (λ (x : Sealed). x.tag) sealed.1;
     } in
-    let both = laws.opened_octets (content_alg enc) (cek_by e random) (iv_by e random) authentic s.ciphertext s.tag plaintext delivers.octets start opens in
+    let both = laws.opened (content_alg enc) (cek_by e random) (iv_by e random) authentic s.ciphertext s.tag plaintext delivers.octets start opens in
     let members : AreMembers (parts_by e random s) = record {
       protected = text_is_octets (header_by e random) reads.back.octets;
       unprotected = by.unprotected;
@@ -232,32 +244,52 @@ decrypts laws compact key e random plaintext text key_octets random_octets octet
       aad = by.aad;
       ciphertext = both.0;
       tag = both.1;
-      recipients = ((tt, laws.delivering_octets (key_alg alg) (content_alg enc) key.octets salt e.p2c (encrypted_key_by e random) (cek_by e random) key_octets delivers), tt);
+      recipients = ((tt, laws.delivering (key_alg alg) (content_alg enc) key.octets salt e.p2c (encrypted_key_by e random) (cek_by e random) key_octets delivers), tt);
     } in
-    let r : Recipient = recipient_by_header e random reads in
+    record { sealed = s; reads = reads; delivers = delivers; opens = opens; members = members; made = made.2 }
+
+-- its text is that of an object which is decrypted
+decrypts : Laws → (compact : Bool) (key : OctetKey) (e : Encryption) (random plaintext text : List ℕ) → IsOctets key.octets → IsOctets random → IsOctets plaintext
+    → length random ≡ octets_drawn e → Encrypts key e → allows key (management_operations e.management).1 ≡ true → (encrypted e random plaintext >>= text_of compact) ≡ Ok text
+    → (jwe_of text >>= decrypted limits (key ∷ [])) ≡ Ok plaintext
+decrypts laws compact key e random plaintext text key_octets random_octets octets long by may h =
+    let alg = e.management in
+    let enc = e.encryption in
+    let o = steps (encrypted e random plaintext) (text_of compact) text h in
+    let is : IsEncrypted key e random plaintext o.0 = is_encrypted laws.octets key e random plaintext o.0 key_octets random_octets octets long by o.1 in
+    let s = is.sealed in
+    let r : Recipient = recipient_by_header e random is.reads in
     let all : EncryptedObject = object_by e random s (header_of e random) (r ∷ []) in
     let plain : decrypted limits (key ∷ []) all ≡ Ok plaintext =
     decrypts_by key all r (record { management = alg; encryption = enc }) plaintext refl
-    (algorithms_are alg enc r reads.management.names reads.encryption.names)
+    (algorithms_are alg enc r is.reads.management.names is.reads.encryption.names)
     (candidate_is alg enc key may by.fit)
     (few_iterations (is_password_based alg) e.protected e.unprotected e.p2c by.count)
-    (opened_is laws alg enc key r (sealed_content all) (cek_by e random) plaintext key_octets start delivers opens) in
-    ap (λ read. read >>= decrypted limits (key ∷ [])) (text_is_read laws compact (parts_by e random s) o.0 text members made.2 o.2)
-    ∙ subst (λ object. decrypted limits (key ∷ []) object ≡ Ok plaintext) (object_is e random s o.0 reads made.2) plain
+    (opened_is laws alg enc key r (sealed_content all) (cek_by e random) plaintext key_octets is.members.iv is.delivers is.opens) in
+    ap (λ read. read >>= decrypted limits (key ∷ [])) (text_is_read laws compact (parts_by e random s) o.0 text is.members is.made o.2)
+    ∙ subst (λ object. decrypted limits (key ∷ []) object ≡ Ok plaintext) (object_is e random s o.0 is.reads is.made) plain
 
--- so is what is encrypted as a template and a key settle
-pub encrypted_decrypts : Laws → EncryptedDecrypts
+-- what a template and a key settle, and the plan by the random octets that are drawn
+pub plan_is : (compact : Bool) (key : OctetKey) (template random : List ℕ) (plan : Plan (List ℕ)) → plan_from (encrypting_by limits compact (key ∷ []) template) random ≡ Ok plan
+    → (e : Encryption) × (encryption_of limits compact (key ∷ []) template ≡ Ok e) × (length (take (octets_drawn e) random) ≡ octets_drawn e)
+    × (plan_by compact e (take (octets_drawn e) random) ≡ plan)
 unfolding encrypting_by
-encrypted_decrypts laws compact key template random plaintext text key_octets random_octets octets may h =
-    let plan = steps (plan_from (encrypting_by limits compact (key ∷ []) template) random) (λ p. p.whole plaintext) text h in
-    let draft = steps (encrypting_by limits compact (key ∷ []) template) _ plan.0 plan.1 in
-    let enough = steps (needs (nat_le draft.0.drawn (length random)) Random) _ plan.0 draft.2 in
+plan_is compact key template random plan h =
+    let draft = steps (encrypting_by limits compact (key ∷ []) template) _ plan h in
+    let enough = steps (needs (nat_le draft.0.drawn (length random)) Random) _ plan draft.2 in
     let settled = steps (encryption_of limits compact (key ∷ []) template) _ draft.0 draft.1 in
     let e : Encryption = settled.0 in
     let made : Draft (List ℕ) = record { drawn = octets_drawn e; plan = plan_by compact e } in
     let same : made ≡ draft.0 = same_answer made draft.0 settled.2 in
     let room : nat_le (octets_drawn e) (length random) ≡ true = ap (λ (d : Draft (List ℕ)). nat_le d.drawn (length random)) same ∙ passed _ Random enough.0 enough.1 in
-    let whole : plan_by compact e (take (octets_drawn e) random) ≡ plan.0 = ap (λ (d : Draft (List ℕ)). d.plan (take d.drawn random)) same ∙ same_answer _ plan.0 enough.2 in
-    decrypts laws compact key e (take (octets_drawn e) random) plaintext text key_octets (IsOctets-take (octets_drawn e) random random_octets) octets
-    (length-take-le (octets_drawn e) random (leb-true (octets_drawn e) (length random) room)) (encrypts compact key template e settled.1) (may e settled.1)
-    (ap (λ (p : Plan (List ℕ)). p.whole plaintext) whole ∙ plan.2)
+    let whole : plan_by compact e (take (octets_drawn e) random) ≡ plan = ap (λ (d : Draft (List ℕ)). d.plan (take d.drawn random)) same ∙ same_answer _ plan enough.2 in
+    (e, settled.1, length-take-le (octets_drawn e) random (leb-true (octets_drawn e) (length random) room), whole)
+
+-- so it is with what is encrypted as they settle
+pub encrypted_decrypts : Laws → EncryptedDecrypts
+encrypted_decrypts laws compact key template random plaintext text key_octets random_octets octets may h =
+    let plan = steps (plan_from (encrypting_by limits compact (key ∷ []) template) random) (λ p. p.whole plaintext) text h in
+    let is = plan_is compact key template random plan.0 plan.1 in
+    let e : Encryption = is.0 in
+    decrypts laws compact key e (take (octets_drawn e) random) plaintext text key_octets (IsOctets-take (octets_drawn e) random random_octets) octets is.2
+    (encrypts compact key template e is.1) (may e is.1) (ap (λ (p : Plan (List ℕ)). p.whole plaintext) is.3 ∙ plan.2)

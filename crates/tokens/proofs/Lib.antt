@@ -12,3 +12,4 @@ pub mod EncryptingPlans
 pub mod JointParameters
 pub mod EncryptedTemplates
 pub mod EncryptedRoundTrip
+pub mod EncryptingGrowth

@@ -8,7 +8,7 @@ use Rattle.octets.specs.declared.refusal.Refusal.TheVariants.{Form, Header, Unsu
 use Rattle.octets.specs.Outcomes.{◌>>=◌, needs}
 use Rattle.octets.specs.Base64url.{base64url, decoded, whole_groups}
 use Rattle.octets.specs.Octets.{IsOctets}
-use Rattle.octets.specs.Plan.{Plan, Draft, planned, plan_from}
+use Rattle.octets.specs.Plan.{Plan, Grows, Draft, planned, plan_from}
 use Rattle.ciphers.specs.Delivery.{encrypted_key_of}
 use Rattle.ciphers.specs.Openings.{is_longer}
 use Rattle.ciphers.specs.Sealing.{Sealed, Sealing, sealing, cek_len, iv_len}
@@ -348,6 +348,11 @@ unfoldable pub encrypting_by : Limits → Bool → List OctetKey → List ℕ �
 encrypting_by limits compact keys text = do
   e ← encryption_of limits compact keys text
   Ok (record { drawn = octets_drawn e; plan = plan_by compact e })
+
+-- What a beginning of the plaintext fixes of the text goes on as more is read, and begins the whole text.
+abbrev pub EncryptingGrows : Type 0
+EncryptingGrows = (compact : Bool) (key : OctetKey) (template random : List ℕ) (plan : Plan (List ℕ)) → IsOctets key.octets → IsOctets random
+    → plan_from (encrypting_by limits compact (key ∷ []) template) random ≡ Ok plan → Grows plan
 
 -- ---- what is encrypted is decrypted
 

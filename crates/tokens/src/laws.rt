@@ -1,5 +1,5 @@
 //! Laws of the definitions, each the contract of a function that does nothing.
-ghost use Rattle.tokens.specs.Encrypting.{EncryptedDecrypts};
+ghost use Rattle.tokens.specs.Encrypting.{EncryptedDecrypts, EncryptingGrows};
 ghost use Rattle.tokens.specs.Signing.{SigningGrows};
 ghost use Rattle.tokens.specs.Verifying.{SignedVerifies};
 
@@ -17,6 +17,15 @@ pub fn signing_grows()
 pub fn what_is_signed_verifies()
     ensures { SignedVerifies }
 {}
+
+/// What a beginning of the plaintext fixes of the text of an encrypted object goes on as more is read, and begins the whole
+/// text.
+pub fn encrypting_grows()
+    ensures { EncryptingGrows }
+{
+    what_is_opened_is_octets();
+    what_delivers_is_octets();
+}
 
 /// What is encrypted to a key as a template asks is decrypted with this key alone, where it may decrypt, to the plaintext.
 pub fn what_is_encrypted_decrypts()

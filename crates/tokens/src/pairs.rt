@@ -57,16 +57,12 @@ fn are_within(pairs: &[Pair<'_>]) -> bool
     true
 }
 
-/// How many iterations of PBKDF2 a pair takes (RFC 7518 section 4.8.1.2): none where the algorithm does not derive a key from
-/// a password.
+/// How many iterations of PBKDF2 a pair takes (RFC 7518 section 4.8.1.2). A recipient whose algorithm takes none has a count
+/// of 0.
 pub(crate) fn iterations(pair: &Pair<'_>) -> u64
     ensures { result ≡ iterations_of (pair_view pair.now) }
 {
-    if pair.algorithms.management.is_password_based() {
-        pair.recipient.p2c()
-    } else {
-        0
-    }
+    pair.recipient.p2c()
 }
 
 /// The algorithms of some recipient are supported.

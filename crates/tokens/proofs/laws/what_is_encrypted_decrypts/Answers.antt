@@ -4,9 +4,8 @@ use Rattle.tokens.proofs.laws.what_is_encrypted_decrypts.Goals as goal
 pub returns : goal.returns
 returns c =
     encrypted_decrypts (record {
+      octets = record { opened = c.what_is_opened_is_octets.ensures; delivering = c.what_delivers_is_octets.ensures };
       opens = c.opens_exactly.ensures;
       delivers = c.delivers_exactly.ensures;
-      opened_octets = c.what_is_opened_is_octets.ensures;
-      delivering_octets = c.what_delivers_is_octets.ensures;
       spells = c.texts_spell_objects.ensures;
     })

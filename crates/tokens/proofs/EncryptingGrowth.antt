@@ -1,0 +1,270 @@
+-- The plan of encrypting, which goes on as its plaintext does.
+use Rattle.std.proofs.Common.{◌≡◌, ℕ, zero, suc, ◌<◌, ◌≤◌, Bool, true, false, List, [], ◌∷◌, ◌++◌, length, take, codes, Option, Some, None, Ok, Greater, nat_cmp, refl, sym, ◌∙◌, ap, subst, arith, append_assoc, length-append, ⊎_elim, take_all}
+use Rattle.std.proofs.lemmas.Bool.{cases_lt}
+use Rattle.std.proofs.lemmas.List.{nil_from_length}
+use Rattle.std.specs.Cmp.Lexicographic.{slice_cmp}
+use Rattle.std.specs.List.{list_all}
+use Rattle.std.specs.Option.{IsSomeAnd}
+use Rattle.serde_json.specs.Data.{Data, string, object, Members, no_members, member, put}
+use Rattle.serde_json.specs.Written.{comma_if, compact_text, members_text}
+use Rattle.octets.specs.declared.refusal.Refusal.TheVariants.{NotCompact}
+use Rattle.octets.specs.Base64url.{base64url, whole_groups, part_group, is_url_character}
+use Rattle.octets.specs.Octets.{IsOctets}
+use Rattle.octets.specs.Outcomes.{needs}
+use Rattle.octets.specs.Plan.{Begins, Grows}
+use Rattle.octets.proofs.Characters.{has_url_characters}
+use Rattle.octets.proofs.Decoded.{IsOctets-take}
+use Rattle.octets.proofs.Groups.{length-base64url, base64url_whole-append, base64url_whole_part}
+use Rattle.ciphers.specs.Sealing.{Sealed}
+use Rattle.ciphers.proofs.Growing.{fixed_grows, ciphertext_grows}
+use Rattle.keys.specs.Keys.{OctetKey}
+use Rattle.keys.proofs.UrlTexts.{url_texts_are_json}
+use Rattle.objects.specs.Jwe.{Recipient, EncryptedObject, put_text, put_header, put_recipient, put_recipients, put_shared, json_text, joined, key_of_first, is_compact, jwe_compact_text, built}
+use Rattle.objects.proofs.Characters.{IsUrlText}
+use Rattle.tokens.specs.Algorithms.{content_alg}
+use Rattle.tokens.specs.Decrypting.{authenticated}
+use Rattle.tokens.specs.Encrypting.{Encryption, octets_drawn, salt_by, cek_by, iv_by, header_by, sealing_by, parts_by, encrypted, text_of, aad_member, text_before, within_longest, plan_by, EncryptingGrows}
+use Rattle.tokens.proofs.EncryptedRoundTrip.{OctetLaws, object_by, header_of, recipient_by_header, object_is, is_encrypted, plan_is}
+use Rattle.tokens.proofs.EncryptedTemplates.{Encrypts, encrypts, HeaderReads}
+use Rattle.tokens.proofs.RoundTrip.{steps, both, same_answer}
+
+-- ---- lists that begin others
+
+-- behind a list they still do
+begins_behind : (front x y : List ℕ) → Begins x y → Begins (front ++ x) (front ++ y)
+begins_behind front x y b = record { rest = b.rest; continues = ap (λ l. front ++ l) b.continues ∙ sym (append_assoc front x b.rest) }
+
+-- what begins a beginning of a list begins the list
+begins_all : (x y z : List ℕ) → Begins x y → Begins y z → Begins x z
+begins_all x y z a b = record { rest = a.rest ++ b.rest; continues = b.continues ∙ ap (λ l. l ++ b.rest) a.continues ∙ append_assoc x a.rest b.rest }
+
+-- the text of whole groups goes on
+groups_grow : (x y : List ℕ) → Begins x y → Begins (base64url (whole_groups x)) (base64url (whole_groups y))
+groups_grow x y b = record {
+  rest = base64url (whole_groups (part_group x ++ b.rest));
+  continues = ap (λ l. base64url (whole_groups l)) b.continues ∙ base64url_whole-append x b.rest;
+}
+
+-- and begins the text of all
+text_grows : (x y : List ℕ) → Begins x y → Begins (base64url (whole_groups x)) (base64url y)
+text_grows x y b =
+    begins_all (base64url (whole_groups x)) (base64url (whole_groups y)) (base64url y) (groups_grow x y b)
+    (record { rest = base64url (part_group y); continues = base64url_whole_part y })
+
+-- ---- what is fixed of the ciphertext
+
+-- the first octets go on
+take_grows : (n : ℕ) (p q : List ℕ) → Begins (take n p) (take n (p ++ q))
+take_grows zero p q = record { rest = []; continues = refl }
+take_grows (suc n) [] q = record { rest = take (suc n) q; continues = refl }
+take_grows (suc n) (x ∷ p) q = let more = take_grows n p q in record { rest = more.rest; continues = ap (λ l. x ∷ l) more.continues }
+
+-- so does what is within the longest plaintext
+within_grows : (longest : Option ℕ) (p q : List ℕ) → Begins (within_longest longest p) (within_longest longest (p ++ q))
+within_grows None p q = record { rest = q; continues = refl }
+within_grows (Some most) p q = take_grows most p q
+
+-- which is all, where the plaintext is not too long
+all_within : (longest : Option ℕ) (p q : List ℕ) → (IsSomeAnd longest (λ most. most < length (p ++ q)) → ⊥) → within_longest longest p ≡ p
+all_within None p q short = refl
+all_within (Some most) p q short =
+    let within : length (p ++ q) ≤ most = ⊎_elim (λ long. absurd (short long)) (λ h. h) (cases_lt most (length (p ++ q))) in
+    take_all most p (omega (arith, within, length-append p q))
+
+-- what is fixed goes on
+more_fixed : (e : Encryption) (random p q : List ℕ)
+    → Begins ((sealing_by e random).fixed (within_longest (sealing_by e random).longest p)) ((sealing_by e random).fixed (within_longest (sealing_by e random).longest (p ++ q)))
+more_fixed e random p q =
+    let s = sealing_by e random in
+    let front : List ℕ = within_longest s.longest p in
+    let more = within_grows s.longest p q in
+    subst (λ l. Begins (s.fixed front) (s.fixed l)) (sym more.continues)
+    (fixed_grows (content_alg e.encryption) (cek_by e random) (iv_by e random) (authenticated (base64url (header_by e random)) e.aad) front more.rest)
+
+-- ---- the compact text
+
+-- it begins with the parts up to the ciphertext
+compact_begins : (o : EncryptedObject) (r : Recipient) (text : List ℕ) → o.recipients ≡ r ∷ [] → jwe_compact_text o ≡ Ok text
+    → Begins (o.protected ++ codes "." ++ base64url r.encrypted_key ++ codes "." ++ base64url o.iv ++ codes "." ++ base64url o.ciphertext) text
+unfolding jwe_compact_text
+compact_begins o r text alone h =
+    let fits = steps (needs (is_compact o o.recipients) NotCompact) _ text h in
+    record {
+      rest = codes "." ++ base64url o.tag;
+      continues = sym (same_answer _ text fits.2) ∙ ap (λ rs. joined o.protected (key_of_first rs) o.iv o.ciphertext o.tag) alone
+          ∙ append_assoc (o.protected ++ codes "." ++ base64url r.encrypted_key ++ codes "." ++ base64url o.iv ++ codes "." ++ base64url o.ciphertext) (codes ".") (base64url o.tag);
+    }
+
+-- ---- the members of the JSON text
+
+-- members that begin with the additional data, where their text is not empty, and the ciphertext
+abbrev first_members : List ℕ → List ℕ → Members → Members
+first_members [] ciphertext later = member (codes "ciphertext") (string ciphertext) later
+first_members (c ∷ aad) ciphertext later = member (codes "aad") (string (c ∷ aad)) (member (codes "ciphertext") (string ciphertext) later)
+
+-- a name behind both of theirs
+record IsLater (name : List ℕ) : Type 0 where
+  than_aad : slice_cmp nat_cmp name (codes "aad") ≡ Greater
+  than_ciphertext : slice_cmp nat_cmp name (codes "ciphertext") ≡ Greater
+
+-- a member of such a name is put in behind them
+put_later : (name : List ℕ) (value : Data) (aad ciphertext : List ℕ) (later : Members) → IsLater name
+    → put name value (first_members aad ciphertext later) ≡ first_members aad ciphertext (put name value later)
+put_later name value [] ciphertext later is = rw is.than_ciphertext refl
+put_later name value (c ∷ aad) ciphertext later is = rw (is.than_aad, is.than_ciphertext) refl
+
+-- so is a text
+put_text_later : (name text aad ciphertext : List ℕ) (later : Members) → IsLater name
+    → put_text name text (first_members aad ciphertext later) ≡ first_members aad ciphertext (put_text name text later)
+put_text_later name [] aad ciphertext later is = refl
+put_text_later name (c ∷ text) aad ciphertext later is = put_later name (string (c ∷ text)) aad ciphertext later is
+
+-- and a header
+put_header_later : (name : List ℕ) (header : Members) (aad ciphertext : List ℕ) (later : Members) → IsLater name
+    → put_header name header (first_members aad ciphertext later) ≡ first_members aad ciphertext (put_header name header later)
+put_header_later name no_members aad ciphertext later is = refl
+put_header_later name (member k value rest) aad ciphertext later is = put_later name (object (member k value rest)) aad ciphertext later is
+
+-- both are put in before the members of a recipient
+put_first : (header : Members) (key aad ciphertext : List ℕ)
+    → put (codes "ciphertext") (string ciphertext) (put_text (codes "aad") aad (put_header (codes "header") header (put_text (codes "encrypted_key") key no_members)))
+    ≡ first_members aad ciphertext (put_header (codes "header") header (put_text (codes "encrypted_key") key no_members))
+put_first no_members [] [] ciphertext = refl
+put_first no_members [] (a ∷ aad) ciphertext = refl
+put_first no_members (k ∷ key) [] ciphertext = refl
+put_first no_members (k ∷ key) (a ∷ aad) ciphertext = refl
+put_first (member name value rest) [] [] ciphertext = refl
+put_first (member name value rest) [] (a ∷ aad) ciphertext = refl
+put_first (member name value rest) (k ∷ key) [] ciphertext = refl
+put_first (member name value rest) (k ∷ key) (a ∷ aad) ciphertext = refl
+
+-- the members behind them
+abbrev later_members : EncryptedObject → Recipient → Members
+later_members o r =
+    put_header (codes "unprotected") o.unprotected
+    (put_text (codes "tag") (base64url o.tag) (put_text (codes "protected") o.protected (put_text (codes "iv") (base64url o.iv) (put_recipient r no_members))))
+
+-- the members of an object begin with them
+members_are : (o : EncryptedObject) (r : Recipient) → put_shared o (put_recipient r no_members) ≡ first_members (base64url o.aad) (base64url o.ciphertext) (later_members o r)
+members_are o r =
+    let aad : List ℕ = base64url o.aad in
+    let ciphertext : List ℕ = base64url o.ciphertext in
+    let with_recipient : Members = put_recipient r no_members in
+    let with_iv : Members = put_text (codes "iv") (base64url o.iv) with_recipient in
+    let with_protected : Members = put_text (codes "protected") o.protected with_iv in
+    let with_tag : Members = put_text (codes "tag") (base64url o.tag) with_protected in
+    let unprotected : Members → Members = λ ms. put_header (codes "unprotected") o.unprotected ms in
+    let tag : Members → Members = λ ms. put_text (codes "tag") (base64url o.tag) ms in
+    let protected : Members → Members = λ ms. put_text (codes "protected") o.protected ms in
+    let iv : Members → Members = λ ms. put_text (codes "iv") (base64url o.iv) ms in
+    ap (λ ms. unprotected (tag (protected (iv ms)))) (put_first r.header (base64url r.encrypted_key) aad ciphertext)
+    ∙ ap (λ ms. unprotected (tag (protected ms))) (put_text_later (codes "iv") (base64url o.iv) aad ciphertext with_recipient (record { than_aad = refl; than_ciphertext = refl }))
+    ∙ ap (λ ms. unprotected (tag ms)) (put_text_later (codes "protected") o.protected aad ciphertext with_iv (record { than_aad = refl; than_ciphertext = refl }))
+    ∙ ap unprotected (put_text_later (codes "tag") (base64url o.tag) aad ciphertext with_protected (record { than_aad = refl; than_ciphertext = refl }))
+    ∙ put_header_later (codes "unprotected") o.unprotected aad ciphertext with_tag (record { than_aad = refl; than_ciphertext = refl })
+
+-- ---- the JSON text
+
+-- a name of letters, digits, `-` and `_`
+url_name : (name : List ℕ) → list_all is_url_character name ≡ true → IsUrlText name
+url_name [] h = tt
+url_name (c ∷ name) h = let parts = both (is_url_character c) (list_all is_url_character name) h in (parts.0, url_name name parts.1)
+
+-- a member of such a name and such a text stands between quotes as it is
+member_text : (later : Bool) (name text : List ℕ) (rest : Members) → IsUrlText name → IsUrlText text
+    → members_text later (member name (string text) rest) ≡ comma_if later ++ (34 ∷ (name ++ 34 ∷ 58 ∷ 34 ∷ (text ++ 34 ∷ members_text true rest)))
+member_text later name text rest is_name is_text =
+    let comma : List ℕ = comma_if later in
+    let more : List ℕ = members_text true rest in
+    ap (λ t. comma ++ (t ++ 58 ∷ (compact_text (string text) ++ more))) (url_texts_are_json name is_name).1
+    ∙ ap (λ t. comma ++ ((34 ∷ (name ++ 34 ∷ [])) ++ 58 ∷ (t ++ more))) (url_texts_are_json text is_text).1
+    ∙ ap (λ t. comma ++ (34 ∷ t)) (append_assoc name (34 ∷ []) (58 ∷ 34 ∷ ((text ++ 34 ∷ []) ++ more)))
+    ∙ ap (λ t. comma ++ (34 ∷ (name ++ 34 ∷ 58 ∷ 34 ∷ t))) (append_assoc text (34 ∷ []) more)
+
+-- the text of the member of the additional data
+abbrev aad_text : List ℕ → List ℕ
+aad_text [] = []
+aad_text (c ∷ aad) = codes "\"aad\":\"" ++ (c ∷ aad) ++ codes "\","
+
+-- it stands where there are any
+aad_text_is : (aad : List ℕ) → aad_text (base64url aad) ≡ aad_member aad
+aad_text_is [] = ap aad_text (nil_from_length (base64url []) (length-base64url []))
+aad_text_is (a ∷ aad) = by_text (base64url (a ∷ aad)) refl
+  where
+    by_text : (text : List ℕ) → base64url (a ∷ aad) ≡ text → aad_text text ≡ codes "\"aad\":\"" ++ text ++ codes "\","
+    by_text [] e = absurd (omega (arith, ap length e, length-base64url (a ∷ aad)))
+    by_text (c ∷ text) e = refl
+
+-- an object with these members first begins with their texts
+first_text : (aad ciphertext : List ℕ) (later : Members) → IsUrlText aad → IsUrlText ciphertext
+    → Begins (codes "{" ++ aad_text aad ++ codes "\"ciphertext\":\"" ++ ciphertext) (compact_text (object (first_members aad ciphertext later)))
+first_text [] ciphertext later is_aad is_ciphertext = record {
+  rest = 34 ∷ members_text true later;
+  continues = ap (λ t. 123 ∷ t) (member_text false (codes "ciphertext") ciphertext later (url_name (codes "ciphertext") refl) is_ciphertext);
+}
+first_text (c ∷ aad) ciphertext later is_aad is_ciphertext =
+    let rest : List ℕ = 34 ∷ members_text true later in
+    let regrouped : codes "{\"aad\":\"" ++ ((c ∷ aad) ++ (codes "\",\"ciphertext\":\"" ++ (ciphertext ++ rest)))
+    ≡ (codes "{" ++ (codes "\"aad\":\"" ++ (c ∷ aad) ++ codes "\",") ++ codes "\"ciphertext\":\"" ++ ciphertext) ++ rest = simp append_assoc in
+    record {
+      rest = rest;
+      continues = ap (λ t. 123 ∷ t) (member_text false (codes "aad") (c ∷ aad) (member (codes "ciphertext") (string ciphertext) later) (url_name (codes "aad") refl) is_aad)
+          ∙ ap (λ t. codes "{\"aad\":\"" ++ ((c ∷ aad) ++ 34 ∷ t)) (member_text true (codes "ciphertext") ciphertext later (url_name (codes "ciphertext") refl) is_ciphertext)
+          ∙ regrouped;
+    }
+
+-- so the JSON text of an object begins with the members up to the ciphertext
+json_begins : (o : EncryptedObject) (r : Recipient) → o.recipients ≡ r ∷ [] → IsOctets o.aad → IsOctets o.ciphertext
+    → Begins (codes "{" ++ aad_member o.aad ++ codes "\"ciphertext\":\"" ++ base64url o.ciphertext) (json_text o)
+unfolding json_text
+json_begins o r alone aad_octets ciphertext_octets =
+    let ciphertext : List ℕ = base64url o.ciphertext in
+    let first = first_text (base64url o.aad) ciphertext (later_members o r) (has_url_characters o.aad aad_octets) (has_url_characters o.ciphertext ciphertext_octets) in
+    record {
+      rest = first.rest;
+      continues = ap (λ rs. compact_text (object (put_shared o (put_recipients rs no_members)))) alone ∙ ap (λ ms. compact_text (object ms)) (members_are o r) ∙ first.continues
+          ∙ ap (λ t. (codes "{" ++ t ++ codes "\"ciphertext\":\"" ++ ciphertext) ++ first.rest) (aad_text_is o.aad);
+    }
+
+-- ---- what is encrypted
+
+-- the text begins with what stands before the ciphertext, and with the ciphertext's text
+text_begins : (compact : Bool) (e : Encryption) (random : List ℕ) (s : Sealed) (o : EncryptedObject) (text : List ℕ) → HeaderReads e (salt_by e random) → IsOctets e.aad
+    → IsOctets s.ciphertext → built (parts_by e random s) ≡ Ok o → text_of compact o ≡ Ok text → Begins (text_before compact e random ++ base64url s.ciphertext) text
+text_begins true e random s o text reads aad_octets ciphertext_octets made h =
+    let r : Recipient = recipient_by_header e random reads in
+    compact_begins (object_by e random s (header_of e random) (r ∷ [])) r text refl (ap jwe_compact_text (object_is e random s o reads made) ∙ h)
+text_begins false e random s o text reads aad_octets ciphertext_octets made h =
+    let r : Recipient = recipient_by_header e random reads in
+    let all : EncryptedObject = object_by e random s (header_of e random) (r ∷ []) in
+    let is : json_text all ≡ text = ap json_text (object_is e random s o reads made) ∙ same_answer (json_text o) text h in
+    subst (Begins (text_before false e random ++ base64url s.ciphertext)) is (json_begins all r refl aad_octets ciphertext_octets)
+
+-- by just as many random octets as are drawn, the plan grows
+plan_grows : OctetLaws → (compact : Bool) (key : OctetKey) (e : Encryption) (random : List ℕ) → IsOctets key.octets → IsOctets random → length random ≡ octets_drawn e
+    → Encrypts key e → Grows (plan_by compact e random)
+plan_grows laws compact key e random key_octets random_octets long by = record {
+  more = λ p q.
+      let s = sealing_by e random in
+      begins_behind (text_before compact e random) _ _ (groups_grow (s.fixed (within_longest s.longest p)) (s.fixed (within_longest s.longest (p ++ q))) (more_fixed e random p q));
+  whole = λ p q text octets h.
+      let s = sealing_by e random in
+      let before : List ℕ = text_before compact e random in
+      let o = steps (encrypted e random (p ++ q)) (text_of compact) text h in
+      let is = is_encrypted laws key e random (p ++ q) o.0 key_octets random_octets octets long by o.1 in
+      let ciphertext : List ℕ = is.sealed.ciphertext in
+      let fixed : Begins (s.fixed p) ciphertext =
+      subst (Begins (s.fixed p)) is.opens.ciphertext
+      (ciphertext_grows (content_alg e.encryption) (cek_by e random) (iv_by e random) (authenticated (base64url (header_by e random)) e.aad) p q) in
+      let front : Begins (s.fixed (within_longest s.longest p)) ciphertext = subst (λ l. Begins (s.fixed l) ciphertext) (sym (all_within s.longest p q is.opens.short)) fixed in
+      begins_all (before ++ base64url (whole_groups (s.fixed (within_longest s.longest p)))) (before ++ base64url ciphertext) text
+      (begins_behind before _ _ (text_grows (s.fixed (within_longest s.longest p)) ciphertext front))
+      (text_begins compact e random is.sealed o.0 text is.reads by.aad is.members.ciphertext is.made o.2);
+}
+
+-- so does each plan that a template and a key settle
+pub encrypting_grows : OctetLaws → EncryptingGrows
+encrypting_grows laws compact key template random plan key_octets random_octets h =
+    let is = plan_is compact key template random plan h in
+    let drawn : List ℕ = take (octets_drawn is.0) random in
+    subst Grows is.3 (plan_grows laws compact key is.0 drawn key_octets (IsOctets-take (octets_drawn is.0) random random_octets) is.2 (encrypts compact key template is.0 is.1))
