@@ -1,10 +1,10 @@
 -- What a command did on one output, seen on both.
-use Rattle.std.proofs.Common.{◌≡◌, ℕ, List, [], length, take, nat_le, Bool, true, false, cond, Result, Ok, Err, refl, sym, ap}
-use Rattle.std.specs.Result.{result_unwrap_or}
+use Rattle.std.proofs.Common.{◌≡◌, ℕ, List, [], length, take, nat_le, Bool, true, false, cond, Result, Ok, Err, refl, sym, ap, ◌∙◌, append-nil, rules}
+use Rattle.std.specs.Result.{result_unwrap_or, OnOk, IsErrAnd}
 use Rattle.octets.specs.declared.refusal.Refusal.{Refusal}
-use Rattle.octets.specs.declared.refusal.Refusal.TheVariants.{Random}
-use Rattle.octets.specs.Devices.{Observed}
-use Rattle.octets.specs.Outcomes.{◌>>=◌, needs, AgreesUnlessExternal}
+use Rattle.octets.specs.declared.refusal.Refusal.TheVariants.{Memory, Random}
+use Rattle.octets.specs.Devices.{Observed, observed, appended, IsPossibleInput}
+use Rattle.octets.specs.Outcomes.{◌>>=◌, needs, is_memory, is_external, AgreesUnlessExternal}
 use Rattle.octets.specs.Plan.{Plan, plan_map, plan_from, placed, planned_beginning, beginning_of, without_content, accepted}
 use Rattle.octets.proofs.Agreement.{AgreesUnlessExternal-map}
 use Rattle.keys.specs.Generating.{MadeKey, made_key, key_text, gen_answer}
@@ -61,3 +61,22 @@ begun_by_text f none true (Ok x) = refl
 begun_by_text f none true (Err r) = sym none
 begun_by_text f none false (Ok x) = sym none
 begun_by_text f none false (Err r) = sym none
+
+-- what was seen of an input may be all of it
+pub seen_possible : {D : Type 0} (consumed : D → List ℕ) (is_at_end : D → Bool) (old new : D) → IsPossibleInput (observed consumed is_at_end old new) (appended (consumed old) (consumed new))
+seen_possible consumed is_at_end old new = record { rest = []; continues = sym (append-nil (appended (consumed old) (consumed new))); ends = λ _. refl; octets = search rules }
+
+-- a fact at an answer, by another
+pub on_success : {P Q : Type 0} (r : Result (Unit {0}) Refusal) → OnOk r P → (P → Q) → OnOk r Q
+on_success (Ok done) p f = f p
+on_success (Err e) p f = tt
+
+-- a refusal that stands in the answer, unless it is external
+pub refused : {W : Type 0} (answer : Result W Refusal) (wrote : W) (e : Refusal) (r : Result (Unit {0}) Refusal) → IsErrAnd r (λ refusal. refusal ≡ e)
+    → (is_external e ≡ false → answer ≡ Err e) → AgreesUnlessExternal answer wrote r
+refused answer wrote e (Ok done) same f = absurd same
+refused answer wrote e (Err r) same f = λ inside. f (ap is_external (sym same) ∙ inside) ∙ ap Err (sym same)
+
+pub not_memory : (e : Refusal) → is_external e ≡ false → is_memory e ≡ false
+not_memory Memory inside = cc inside
+not_memory e inside = refl

@@ -2,6 +2,9 @@
 use Rattle.std.proofs.Common.{◌≡◌, ℕ, ◌==◌, List, [], ◌++◌, Option, Some, None, option_map, string_bytes, refl, ap, ◌∙◌, sym}
 use Rattle.std.specs.List.{find}
 use Rattle.clap.specs.Words.{Text}
+use Rattle.jose.specs.declared.command.Kind.TheVariants.{Flag}
+use Rattle.jose.specs.declared.command.OptionRow.{OptionRow}
+use Rattle.jose.specs.declared.command.Role.TheVariants.{Input}
 use Rattle.jose.specs.declared.invocation.Setting.{Setting}
 use Rattle.jose.specs.Invocations.{settings_view, value_at}
 use Rattle.jose.specs.Reading.{setting_before}
@@ -20,3 +23,7 @@ value_found letter settings =
 pub setting_before-append : (letter : ℕ) (value : Option Text) (more : List (ℕ × Text)) → setting_before letter value [] ++ more ≡ setting_before letter value more
 setting_before-append letter None more = refl
 setting_before-append letter (Some v) more = refl
+
+-- what a read of a command's options gives past their end
+abbrev pub no_option : OptionRow
+no_option = record { 0 = 0; 1 = record { ref_ptr = (0, 0); now = [] }; 2 = Flag; 3 = Input }

@@ -1,5 +1,40 @@
 //! What each command does, from devices to devices. They are given an option's value where a device does not say it all.
+ghost use Rattle.std.specs.Prelude.{◌≡◌, false, ℕ, List, [], ◌∷◌, OnOk, IfOk, IsTrue};
+ghost use Rattle.std.specs.Iterator.{IsFinite};
+ghost use Rattle.octets.specs.Devices.{observed, IsPossibleInput};
+ghost use Rattle.octets.specs.Faults.{TellsFaults, counts};
+ghost use Rattle.octets.specs.Outcomes.{GivesUnlessExternal};
+ghost use Rattle.keys.specs.KeySets.{key_set};
+ghost use Rattle.keys.specs.Limits.{limits};
+
 pub(crate) mod b64;
 pub(crate) mod jwe;
 pub(crate) mod jwk;
 pub(crate) mod jws;
+
+use keys::KeySet;
+use octets::{Input, Refusal, read_to_end};
+use std::alloc::Global;
+
+/// Reads the text to its end, and then the keys. `strict` asks for each key to be good.
+fn read_with_keys<I: Input>(
+    alloc: Global,
+    text: &mut I,
+    keys: &mut I,
+    strict: bool,
+) -> Result<(Vec<u8>, KeySet), Refusal>
+    requires text { IsFinite (I.remaining text.old) }
+    requires keys { IsFinite (I.remaining keys.old) }
+    ensures ends { OnOk result (IsTrue (I.is_at_end text.new) × IsTrue (I.is_at_end keys.new)) }
+    ensures text { IfOk result (λ read. (whole : List ℕ)
+        → IsPossibleInput (observed I.consumed I.is_at_end text.old text.new) whole → whole ≡ read.0.items) }
+    ensures keys { (whole : List ℕ) → IsPossibleInput (observed I.consumed I.is_at_end keys.old keys.new) whole
+        → GivesUnlessExternal (λ read. read.1) result (key_set limits whole strict) }
+    ensures in_order { I.is_at_end text.new ≡ false → keys.new ≡ keys.old }
+    ensures faults { TellsFaults (counts I.failures text.old text.new ∷ counts I.failures keys.old keys.new ∷ []) [] result }
+{
+    let text = read_to_end(alloc, text)?;
+    let keys = read_to_end(alloc, keys)?;
+    let set = KeySet::read(alloc, &keys, strict)?;
+    Ok((text, set))
+}

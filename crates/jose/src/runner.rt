@@ -14,7 +14,6 @@ use octets::{Input, Output, Refusal};
 use std::alloc::Global;
 
 /// Does what is asked.
-#[tactic(auto, using(crate::proofs::Draws::nothing_drawn, crate::proofs::Draws::none_drawn))]
 pub fn run<I: Input, O: Output>(
     alloc: Global,
     invocation: &Invocation,

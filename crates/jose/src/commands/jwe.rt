@@ -8,9 +8,9 @@ ghost use Rattle.octets.specs.Outcomes.{AgreesUnlessExternal};
 ghost use Rattle.octets.specs.Plan.{accepted, drawn_of, plan_from, planned, planned_beginning};
 ghost use Rattle.jose.specs.Jwe.{enc_answer, dec_answer};
 
-use keys::KeySet;
+use crate::commands::read_with_keys;
 use objects::Jwe;
-use octets::{Input, Output, Refusal, read_to_end};
+use octets::{Input, Output, Refusal};
 use std::alloc::Global;
 use tokens::{jwe_decrypt, jwe_encrypt};
 
@@ -64,9 +64,7 @@ pub(crate) fn encrypt<I: Input, O: Output>(
         ∷ counts I.failures random.old random.new ∷ counts I.failures content.old content.new ∷ [])
         (counts O.failures out.old out.new ∷ []) result }
 {
-    let template = read_to_end(alloc, template)?;
-    let keys = read_to_end(alloc, keys)?;
-    let set = KeySet::read(alloc, &keys, true)?;
+    let (template, set) = read_with_keys(alloc, template, keys, true)?;
     jwe_encrypt(alloc, &set, &template, compact, random, content, out)
 }
 
@@ -94,9 +92,7 @@ pub(crate) fn decrypt<I: Input, O: Output>(
     ensures faults { TellsFaults (counts I.failures text.old text.new ∷ counts I.failures keys.old keys.new ∷ [])
         (counts O.failures out.old out.new ∷ []) result }
 {
-    let text = read_to_end(alloc, text)?;
-    let keys = read_to_end(alloc, keys)?;
-    let set = KeySet::read(alloc, &keys, false)?;
+    let (text, set) = read_with_keys(alloc, text, keys, false)?;
     let jwe = Jwe::read(alloc, &text)?;
     jwe_decrypt(alloc, &set, jwe, out).1
 }

@@ -8,9 +8,9 @@ ghost use Rattle.octets.specs.Outcomes.{AgreesUnlessExternal};
 ghost use Rattle.octets.specs.Plan.{accepted, planned, planned_beginning};
 ghost use Rattle.jose.specs.Jws.{sig_answer, ver_answer};
 
-use keys::KeySet;
+use crate::commands::read_with_keys;
 use objects::Jws;
-use octets::{Input, Output, Refusal, read_to_end};
+use octets::{Input, Output, Refusal};
 use std::alloc::Global;
 use tokens::{jws_sign, jws_verify};
 
@@ -47,9 +47,7 @@ pub(crate) fn sign<I: Input, O: Output>(
     ensures faults { TellsFaults (counts I.failures template.old template.new ∷ counts I.failures keys.old keys.new ∷ counts I.failures content.old content.new ∷ [])
         (counts O.failures out.old out.new ∷ []) result }
 {
-    let template = read_to_end(alloc, template)?;
-    let keys = read_to_end(alloc, keys)?;
-    let set = KeySet::read(alloc, &keys, true)?;
+    let (template, set) = read_with_keys(alloc, template, keys, true)?;
     jws_sign(alloc, &set, &template, content, out)
 }
 
@@ -79,9 +77,7 @@ pub(crate) fn verify<I: Input, O: Output>(
     ensures faults { TellsFaults (counts I.failures text.old text.new ∷ counts I.failures keys.old keys.new ∷ [])
         (counts O.failures out.old out.new ∷ []) result }
 {
-    let text = read_to_end(alloc, text)?;
-    let keys = read_to_end(alloc, keys)?;
-    let set = KeySet::read(alloc, &keys, false)?;
+    let (text, set) = read_with_keys(alloc, text, keys, false)?;
     let jws = Jws::read(alloc, &text)?;
     jws_verify(&set, &jws, wanted, out)
 }

@@ -5,10 +5,8 @@ use Rattle.clap.proofs.WalkLemmas.{first_value-rows}
 use Rattle.jose.specs.Reading.{settings_of, setting_before, value_given}
 use Rattle.jose.specs.Rows.{option_entry, takes_of}
 use Rattle.jose.specs.Invocations.{settings_view}
-use Rattle.jose.specs.declared.command.Kind.TheVariants.{Flag}
-use Rattle.jose.specs.declared.command.Role.TheVariants.{Input}
 use Rattle.jose.specs.declared.command.OptionRow.{OptionRow}
-use Rattle.jose.proofs.Settings.{setting_before-append}
+use Rattle.jose.proofs.Settings.{no_option, setting_before-append}
 use Rattle.jose.proofs.reading.settings.Goals as goal
 
 -- one more option
@@ -20,10 +18,6 @@ one_more so_far now left rest o rows all value here is added whole =
     ap (λ l. l ++ later) added ∙ append_assoc so_far (setting_before o.0 value []) later
     ∙ ap (λ l. so_far ++ l) (setting_before-append o.0 value later ∙ ap (λ v. setting_before o.0 v later) is)
     ∙ ap (λ l. so_far ++ settings_of (map option_entry l) rows) (sym here) ∙ whole
-
--- what a read of the options gives past their end, which no turn reaches
-abbrev no_option : OptionRow
-no_option = record { 0 = 0; 1 = record { ref_ptr = (0, 0); now = [] }; 2 = Flag; 3 = Input }
 
 pub loop-option-preserved : goal.loop-option-preserved
 loop-option-preserved c =

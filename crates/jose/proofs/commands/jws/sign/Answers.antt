@@ -1,14 +1,36 @@
-use Rattle.std.proofs.Common.{◌≡◌, ◌∙◌, sym, ap, true, Ok}
-use Rattle.octets.proofs.Agreement.{whole_is}
+use Rattle.std.proofs.Common.{◌≡◌, ◌∙◌, sym, true, Ok}
 use Rattle.keys.specs.KeySets.{key_set}
 use Rattle.keys.specs.Limits.{limits}
+use Rattle.octets.specs.Devices.{appended}
+use Rattle.jose.proofs.Agreement.{refused, seen_possible}
 use Rattle.jose.proofs.commands.jws.sign.Goals as goal
+
+pub returns-in_err-template-clause-answer : goal.returns-in_err-template-clause-answer
+returns-in_err-template-clause-answer g c whole_template whole_keys payload template_may keys_may payload_may =
+    refused _ _ c.in_err-template.field-0.0 c.from_residual.result c.from_residual.ensures.1 (λ inside. rw (c.in_err-template.ensures.keys whole_keys keys_may inside))
 
 pub returns-clause-answer : goal.returns-clause-answer
 returns-clause-answer g c whole_template whole_keys payload template_may keys_may payload_may =
+    let t : whole_template ≡ c.deref.result.now = c.in_ok-template.ensures.text whole_template template_may ∙ sym c.deref.ensures.value in
+    let k : key_set limits whole_keys true ≡ Ok c.in_ok-template.set = c.in_ok-template.ensures.keys whole_keys keys_may in
+    rw (k, t) (c.jws_sign.ensures.answer payload payload_may)
+
+pub returns-clause-beginning : goal.returns-clause-beginning
+returns-clause-beginning g c =
     let consumed = g.I.Input.consumed in
     let at_end = g.I.Input.is_at_end in
-    let t : whole_template ≡ c.deref-2.result.now = whole_is consumed at_end _ _ _ whole_template c.in_ok-template.ensures.whole.0 c.in_ok-template.ensures.whole.1 template_may ∙ sym c.deref-2.ensures.value in
-    let k : whole_keys ≡ c.deref.result.now = whole_is consumed at_end _ _ _ whole_keys c.in_ok-keys.ensures.whole.0 c.in_ok-keys.ensures.whole.1 keys_may ∙ sym c.deref.ensures.value in
-    let read : key_set limits whole_keys true ≡ Ok c.in_ok-set.set = ap (λ x. key_set limits x true) k ∙ c.in_ok-set.ensures in
-    rw (read, t) (c.jws_sign.ensures.answer payload payload_may)
+    let old = c.args in
+    let new = c.read_with_keys.new in
+    let t : appended (consumed old.template.now) (consumed new.text) ≡ c.deref.result.now = c.in_ok-template.ensures.text _ (seen_possible consumed at_end old.template.now new.text) ∙ sym c.deref.ensures.value in
+    let k : key_set limits (appended (consumed old.keys.now) (consumed new.keys)) true ≡ Ok c.in_ok-template.set = c.in_ok-template.ensures.keys _ (seen_possible consumed at_end old.keys.now new.keys) in
+    rw (c.in_ok-template.ensures.ends.0, c.in_ok-template.ensures.ends.1, k, t) c.jws_sign.ensures.beginning
+
+pub returns-clause-content_last : goal.returns-clause-content_last
+returns-clause-content_last g c refusal refused =
+    let consumed = g.I.Input.consumed in
+    let at_end = g.I.Input.is_at_end in
+    let old = c.args in
+    let new = c.read_with_keys.new in
+    let t : appended (consumed old.template.now) (consumed new.text) ≡ c.deref.result.now = c.in_ok-template.ensures.text _ (seen_possible consumed at_end old.template.now new.text) ∙ sym c.deref.ensures.value in
+    let k : key_set limits (appended (consumed old.keys.now) (consumed new.keys)) true ≡ Ok c.in_ok-template.set = c.in_ok-template.ensures.keys _ (seen_possible consumed at_end old.keys.now new.keys) in
+    c.jws_sign.ensures.content_last refusal (rw (k, t) at refused)

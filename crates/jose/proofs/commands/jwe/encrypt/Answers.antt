@@ -1,0 +1,52 @@
+use Rattle.std.proofs.Common.{◌≡◌, ◌∙◌, sym, true, Ok}
+use Rattle.keys.specs.KeySets.{key_set}
+use Rattle.keys.specs.Limits.{limits}
+use Rattle.octets.specs.Devices.{appended}
+use Rattle.jose.proofs.Agreement.{on_success, refused, seen_possible}
+use Rattle.jose.proofs.commands.jwe.encrypt.Goals as goal
+
+pub returns-in_err-template-clause-answer : goal.returns-in_err-template-clause-answer
+returns-in_err-template-clause-answer g c whole_template whole_keys octets plaintext template_may keys_may octets_may plaintext_may =
+    refused _ _ c.in_err-template.field-0.0 c.from_residual.result c.from_residual.ensures.1 (λ inside. rw (c.in_err-template.ensures.keys whole_keys keys_may inside))
+
+pub returns-clause-answer : goal.returns-clause-answer
+returns-clause-answer g c whole_template whole_keys octets plaintext template_may keys_may octets_may plaintext_may =
+    let t : whole_template ≡ c.deref.result.now = c.in_ok-template.ensures.text whole_template template_may ∙ sym c.deref.ensures.value in
+    let k : key_set limits whole_keys true ≡ Ok c.in_ok-template.set = c.in_ok-template.ensures.keys whole_keys keys_may in
+    rw (k, t) (c.jwe_encrypt.ensures.answer octets plaintext octets_may plaintext_may)
+
+pub returns-clause-drawn : goal.returns-clause-drawn
+returns-clause-drawn g c = on_success c.jwe_encrypt.result c.jwe_encrypt.ensures.drawn (λ h whole_template whole_keys template_may keys_may.
+    let t : whole_template ≡ c.deref.result.now = c.in_ok-template.ensures.text whole_template template_may ∙ sym c.deref.ensures.value in
+    let k : key_set limits whole_keys true ≡ Ok c.in_ok-template.set = c.in_ok-template.ensures.keys whole_keys keys_may in
+    rw (k, t) h)
+
+pub returns-clause-at_most : goal.returns-clause-at_most
+returns-clause-at_most g c whole_template whole_keys template_may keys_may =
+    let t : whole_template ≡ c.deref.result.now = c.in_ok-template.ensures.text whole_template template_may ∙ sym c.deref.ensures.value in
+    let k : key_set limits whole_keys true ≡ Ok c.in_ok-template.set = c.in_ok-template.ensures.keys whole_keys keys_may in
+    rw (k, t) c.jwe_encrypt.ensures.at_most
+
+pub returns-clause-beginning : goal.returns-clause-beginning
+returns-clause-beginning g c =
+    let consumed = g.I.Input.consumed in
+    let at_end = g.I.Input.is_at_end in
+    let old = c.args in
+    let new = c.read_with_keys.new in
+    let template = appended (consumed old.template.now) (consumed new.text) in
+    let keys = appended (consumed old.keys.now) (consumed new.keys) in
+    let t : template ≡ c.deref.result.now = c.in_ok-template.ensures.text template (seen_possible consumed at_end old.template.now new.text) ∙ sym c.deref.ensures.value in
+    let k : key_set limits keys true ≡ Ok c.in_ok-template.set = c.in_ok-template.ensures.keys keys (seen_possible consumed at_end old.keys.now new.keys) in
+    rw (c.in_ok-template.ensures.ends.0, c.in_ok-template.ensures.ends.1, k, t) c.jwe_encrypt.ensures.beginning
+
+pub returns-clause-content_last : goal.returns-clause-content_last
+returns-clause-content_last g c refusal refused =
+    let consumed = g.I.Input.consumed in
+    let at_end = g.I.Input.is_at_end in
+    let old = c.args in
+    let new = c.read_with_keys.new in
+    let template = appended (consumed old.template.now) (consumed new.text) in
+    let keys = appended (consumed old.keys.now) (consumed new.keys) in
+    let t : template ≡ c.deref.result.now = c.in_ok-template.ensures.text template (seen_possible consumed at_end old.template.now new.text) ∙ sym c.deref.ensures.value in
+    let k : key_set limits keys true ≡ Ok c.in_ok-template.set = c.in_ok-template.ensures.keys keys (seen_possible consumed at_end old.keys.now new.keys) in
+    c.jwe_encrypt.ensures.content_last refusal (rw (k, t) at refused)
