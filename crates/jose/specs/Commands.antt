@@ -4,7 +4,7 @@ use Rattle.std.specs.Prelude.{ℕ, ◌==◌, ◌&&◌, Bool, List, [], ◌∷◌
 use Rattle.std.specs.Str.{byte, bytes_eq}
 use Rattle.clap.specs.Words.{Text}
 use Rattle.jose.specs.declared.command.Command.{Command}
-use Rattle.jose.specs.declared.command.Command.TheVariants.{JwkGen, JwkThp, B64Enc, B64Dec, JwsSig, JwsVer, JweEnc, JweDec}
+use Rattle.jose.specs.declared.command.Command.TheVariants.{JwkGen, JwkThp, B64Enc, B64Dec, JwsSig, JwsVer, JwsFmt, JweEnc, JweDec, JweFmt}
 use Rattle.jose.specs.declared.command.Role.{Role}
 use Rattle.jose.specs.declared.command.Role.TheVariants.{Input, Output, Neither}
 
@@ -68,7 +68,14 @@ abbrev pub jws_ver_options : List OptionEntry
 jws_ver_options =
     option "i" "object" (else_value "-") Input ∷
     option "k" "keys" required Input ∷
+    option "a" "all" flag Neither ∷
     option "O" "payload" optional Output ∷ []
+
+abbrev pub jws_fmt_options : List OptionEntry
+jws_fmt_options =
+    option "i" "object" (else_value "-") Input ∷
+    option "o" "text" (else_value "-") Output ∷
+    option "c" "compact" flag Neither ∷ []
 
 abbrev pub jwe_enc_options : List OptionEntry
 jwe_enc_options =
@@ -85,6 +92,12 @@ jwe_dec_options =
     option "k" "keys" required Input ∷
     option "O" "plaintext" (else_value "-") Output ∷ []
 
+abbrev pub jwe_fmt_options : List OptionEntry
+jwe_fmt_options =
+    option "i" "object" (else_value "-") Input ∷
+    option "o" "text" (else_value "-") Output ∷
+    option "c" "compact" flag Neither ∷ []
+
 abbrev pub options_of : Command → List OptionEntry
 options_of JwkGen = jwk_gen_options
 options_of JwkThp = jwk_thp_options
@@ -92,8 +105,10 @@ options_of B64Enc = b64_enc_options
 options_of B64Dec = b64_dec_options
 options_of JwsSig = jws_sig_options
 options_of JwsVer = jws_ver_options
+options_of JwsFmt = jws_fmt_options
 options_of JweEnc = jwe_enc_options
 options_of JweDec = jwe_dec_options
+options_of JweFmt = jwe_fmt_options
 
 abbrev pub entry : Command → String → String → CommandEntry
 entry command noun verb = record { command = command; noun = codes noun; verb = codes verb; options = options_of command }
@@ -106,8 +121,10 @@ commands =
     entry B64Dec "b64" "dec" ∷
     entry JwsSig "jws" "sig" ∷
     entry JwsVer "jws" "ver" ∷
+    entry JwsFmt "jws" "fmt" ∷
     entry JweEnc "jwe" "enc" ∷
-    entry JweDec "jwe" "dec" ∷ []
+    entry JweDec "jwe" "dec" ∷
+    entry JweFmt "jwe" "fmt" ∷ []
 
 -- the option of a command with this letter
 abbrev pub option_at : String → Command → Option OptionEntry

@@ -1,4 +1,4 @@
--- The commands `jwe enc` and `jwe dec`.
+-- The commands `jwe enc`, `jwe dec` and `jwe fmt`.
 use Rattle.std.specs.Prelude.{ℕ, Bool, true, false, List, Result}
 use Rattle.octets.specs.declared.refusal.Refusal.{Refusal}
 use Rattle.octets.specs.Outcomes.{◌>>=◌}
@@ -6,7 +6,7 @@ use Rattle.octets.specs.Plan.{Draft}
 use Rattle.keys.specs.KeySets.{key_set}
 use Rattle.keys.specs.Limits.{limits}
 use Rattle.objects.specs.Jwe.{jwe_of}
-use Rattle.tokens.specs.Encrypting.{encrypting_by}
+use Rattle.tokens.specs.Encrypting.{encrypting_by, text_of}
 use Rattle.tokens.specs.Decrypting.{decrypted}
 
 -- the text of a plaintext that is encrypted to the keys, as the template asks, by octets of the random input
@@ -19,5 +19,11 @@ enc_answer compact keys template = do
 abbrev pub dec_answer : List ℕ → List ℕ → Result (List ℕ) Refusal
 dec_answer keys text = do
   set ← key_set limits keys false
-  jwe ← jwe_of text
+  jwe ← jwe_of limits text
   decrypted limits set jwe
+
+-- the text of the object in the other form, or in the same
+unfoldable pub jwe_fmt_answer : Bool → List ℕ → Result (List ℕ) Refusal
+jwe_fmt_answer compact text = do
+  jwe ← jwe_of limits text
+  text_of compact jwe

@@ -8,12 +8,12 @@ use Rattle.octets.specs.Outcomes.{◌>>=◌}
 use Rattle.octets.specs.Plan.{Draft, placed, by_plan, by_text}
 use Rattle.octets.specs.Encoding.{encoding, decoding}
 use Rattle.jose.specs.declared.command.Command.{Command}
-use Rattle.jose.specs.declared.command.Command.TheVariants.{JwkGen, JwkThp, B64Enc, B64Dec, JwsSig, JwsVer, JweEnc, JweDec}
+use Rattle.jose.specs.declared.command.Command.TheVariants.{JwkGen, JwkThp, B64Enc, B64Dec, JwsSig, JwsVer, JwsFmt, JweEnc, JweDec, JweFmt}
 use Rattle.jose.specs.Invocations.{Settings, value_at, hash_asked}
 use Rattle.jose.specs.Ports.{OutputTexts, as_text, as_content}
 use Rattle.jose.specs.Jwk.{making, thp_answer}
-use Rattle.jose.specs.Jwe.{enc_answer, dec_answer}
-use Rattle.jose.specs.Jws.{sig_answer, ver_answer}
+use Rattle.jose.specs.Jwe.{enc_answer, dec_answer, jwe_fmt_answer}
+use Rattle.jose.specs.Jws.{sig_answer, ver_answer, jws_fmt_answer}
 
 -- which of the inputs is the content, which may be read while its text is written
 pub data Content : Type 0 where
@@ -35,6 +35,10 @@ is_content_wanted settings = is_some (value_at (byte "O") settings)
 -- `-c` was given
 abbrev pub is_compact_asked : Settings → Bool
 is_compact_asked settings = is_some (value_at (byte "c") settings)
+
+-- `-a` was given
+abbrev pub is_all_asked : Settings → Bool
+is_all_asked settings = is_some (value_at (byte "a") settings)
 
 abbrev pub jwk_gen : Meaning
 jwk_gen = record {
@@ -68,14 +72,21 @@ abbrev pub jws_sig : Meaning
 jws_sig = record {
   content = the_content;
   holds_back = false;
-  draft = λ settings text keys. placed as_text (by_plan (sig_answer keys text));
+  draft = λ settings text keys. placed as_text (by_plan (sig_answer (is_compact_asked settings) keys text));
 }
 
 abbrev pub jws_ver : Meaning
 jws_ver = record {
   content = none;
   holds_back = true;
-  draft = λ settings text keys. placed as_content (by_text (ver_answer (is_content_wanted settings) keys text));
+  draft = λ settings text keys. placed as_content (by_text (ver_answer (is_all_asked settings) (is_content_wanted settings) keys text));
+}
+
+abbrev pub jws_fmt : Meaning
+jws_fmt = record {
+  content = none;
+  holds_back = true;
+  draft = λ settings text keys. placed as_text (by_text (jws_fmt_answer (is_compact_asked settings) text));
 }
 
 abbrev pub jwe_enc : Meaning
@@ -92,6 +103,13 @@ jwe_dec = record {
   draft = λ settings text keys. placed as_content (by_text (dec_answer keys text));
 }
 
+abbrev pub jwe_fmt : Meaning
+jwe_fmt = record {
+  content = none;
+  holds_back = true;
+  draft = λ settings text keys. placed as_text (by_text (jwe_fmt_answer (is_compact_asked settings) text));
+}
+
 abbrev pub meaning_of : Command → Meaning
 meaning_of JwkGen = jwk_gen
 meaning_of JwkThp = jwk_thp
@@ -99,5 +117,7 @@ meaning_of B64Enc = b64_enc
 meaning_of B64Dec = b64_dec
 meaning_of JwsSig = jws_sig
 meaning_of JwsVer = jws_ver
+meaning_of JwsFmt = jws_fmt
 meaning_of JweEnc = jwe_enc
 meaning_of JweDec = jwe_dec
+meaning_of JweFmt = jwe_fmt

@@ -7,7 +7,7 @@ use Rattle.octets.specs.declared.refusal.Refusal.{Refusal}
 use Rattle.octets.specs.declared.refusal.Refusal.TheVariants.{Usage}
 use Rattle.octets.specs.Outcomes.{◌>>=◌, needs}
 use Rattle.jose.specs.declared.command.Command.{Command}
-use Rattle.jose.specs.declared.command.Command.TheVariants.{JwkThp, JwsSig}
+use Rattle.jose.specs.declared.command.Command.TheVariants.{JwkThp}
 use Rattle.jose.specs.declared.command.Role.{Role}
 use Rattle.jose.specs.declared.command.Role.TheVariants.{Input, Output, Neither}
 use Rattle.jose.specs.Commands.{OptionEntry, command_named}
@@ -34,10 +34,9 @@ standard_count role options settings = count_by (names_standard role settings) o
 
 -- ---- the words
 
--- of `jwk thp` the four hashes are served, and of `jws sig` only the compact form
+-- of `jwk thp` the four hashes are served
 abbrev pub is_served : Command → Settings → Bool
 is_served JwkThp settings = is_some (hash_asked settings)
-is_served JwsSig settings = is_some (value_at (byte "c") settings)
 is_served command settings = true
 
 -- Two words pick the command, and the others are its options. At most one input is standard input,

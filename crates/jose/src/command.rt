@@ -20,10 +20,14 @@ pub enum Command {
     JwsSig,
     /// `jws ver`: verify an object.
     JwsVer,
+    /// `jws fmt`: an object in another form.
+    JwsFmt,
     /// `jwe enc`: encrypt a plaintext.
     JweEnc,
     /// `jwe dec`: decrypt an object.
     JweDec,
+    /// `jwe fmt`: an object in another form.
+    JweFmt,
 }
 
 /// What an option takes.
@@ -69,7 +73,7 @@ pub(crate) struct CommandRow {
 }
 
 /// All commands.
-static COMMANDS: [CommandRow; 8] = [
+static COMMANDS: [CommandRow; 10] = [
     CommandRow {
         command: Command::JwkGen,
         noun: "jwk",
@@ -127,7 +131,18 @@ static COMMANDS: [CommandRow; 8] = [
         options: &[
             OptionRow('i', "object", Kind::Default("-"), Role::Input),
             OptionRow('k', "keys", Kind::Required, Role::Input),
+            OptionRow('a', "all", Kind::Flag, Role::Neither),
             OptionRow('O', "payload", Kind::Optional, Role::Output),
+        ],
+    },
+    CommandRow {
+        command: Command::JwsFmt,
+        noun: "jws",
+        verb: "fmt",
+        options: &[
+            OptionRow('i', "object", Kind::Default("-"), Role::Input),
+            OptionRow('o', "text", Kind::Default("-"), Role::Output),
+            OptionRow('c', "compact", Kind::Flag, Role::Neither),
         ],
     },
     CommandRow {
@@ -151,6 +166,16 @@ static COMMANDS: [CommandRow; 8] = [
             OptionRow('i', "object", Kind::Default("-"), Role::Input),
             OptionRow('k', "keys", Kind::Required, Role::Input),
             OptionRow('O', "plaintext", Kind::Default("-"), Role::Output),
+        ],
+    },
+    CommandRow {
+        command: Command::JweFmt,
+        noun: "jwe",
+        verb: "fmt",
+        options: &[
+            OptionRow('i', "object", Kind::Default("-"), Role::Input),
+            OptionRow('o', "text", Kind::Default("-"), Role::Output),
+            OptionRow('c', "compact", Kind::Flag, Role::Neither),
         ],
     },
 ];

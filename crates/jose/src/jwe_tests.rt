@@ -385,7 +385,7 @@ const NOT_OPENED: &[(&str, &str, Refusal)] = &[
         Refusal::Form,
     ),
     (
-        "{\"ciphertext\":\"\",\"recipients\":[{}]}",
+        "{\"ciphertext\":\"\",\"recipients\":[]}",
         "{\"kty\":\"oct\",\"k\":\"GawgguFyGrWKav7AX4VKUg\"}",
         Refusal::Form,
     ),

@@ -92,7 +92,42 @@ const JSON_TEXTS: &[(&str, Refusal)] = &[
     ("{\"ciphertext\":1}", Refusal::Form),
     ("{\"ciphertext\":\"AB\",\"iv\":1}", Refusal::Form),
     ("{\"ciphertext\":\"AB\",\"header\":[]}", Refusal::Form),
-    ("{\"ciphertext\":\"\",\"recipients\":[{}]}", Refusal::Form),
+    // Lists that are none, or not of objects, or hold no recipient, and what may not stand beside one.
+    ("{\"ciphertext\":\"\",\"recipients\":[]}", Refusal::Form),
+    ("{\"ciphertext\":\"\",\"recipients\":{}}", Refusal::Form),
+    (
+        "{\"ciphertext\":\"\",\"recipients\":[{},\"\"]}",
+        Refusal::Form,
+    ),
+    (
+        "{\"ciphertext\":\"\",\"recipients\":[{\"header\":1}]}",
+        Refusal::Form,
+    ),
+    (
+        "{\"ciphertext\":\"\",\"encrypted_key\":\"AA\",\"recipients\":[{}]}",
+        Refusal::Form,
+    ),
+    (
+        "{\"ciphertext\":\"\",\"header\":{\"x\":1},\"recipients\":[{}]}",
+        Refusal::Form,
+    ),
+    (
+        "{\"ciphertext\":\"\",\"header\":\"\",\"recipients\":[{}]}",
+        Refusal::Form,
+    ),
+    // Each step over all recipients before the next.
+    (
+        "{\"ciphertext\":\"AB\",\"recipients\":[{},{\"encrypted_key\":1}]}",
+        Refusal::Form,
+    ),
+    (
+        "{\"ciphertext\":\"\",\"protected\":\"AA\",\"recipients\":[{},{\"encrypted_key\":\"AB\"}]}",
+        Refusal::Base64,
+    ),
+    (
+        "{\"ciphertext\":\"\",\"header\":{},\"encrypted_key\":\"\",\"recipients\":[{}]}",
+        Refusal::Header,
+    ),
     (
         "{\"ciphertext\":\"AB\",\"protected\":\"AA\"}",
         Refusal::Base64,
@@ -127,6 +162,19 @@ const HEADERS: &[(&str, Refusal)] = &[
     ),
     (
         "{\"ciphertext\":\"\",\"header\":{\"alg\":\"dir\",\"enc\":\"x\"},\"unprotected\":{\"zip\":1}}",
+        Refusal::Unsupported,
+    ),
+    // The headers of the second recipient: no `alg`, another `enc`, and then a `crit`.
+    (
+        "{\"ciphertext\":\"\",\"unprotected\":{\"enc\":\"x\"},\"recipients\":[{\"header\":{\"alg\":\"dir\",\"crit\":1}},{}]}",
+        Refusal::Header,
+    ),
+    (
+        "{\"ciphertext\":\"\",\"unprotected\":{\"alg\":\"dir\"},\"recipients\":[{\"header\":{\"enc\":\"x\",\"zip\":1}},{\"header\":{\"enc\":\"y\"}}]}",
+        Refusal::Header,
+    ),
+    (
+        "{\"ciphertext\":\"\",\"unprotected\":{\"alg\":\"dir\",\"enc\":\"x\"},\"recipients\":[{},{\"header\":{\"crit\":1}}]}",
         Refusal::Unsupported,
     ),
 ];

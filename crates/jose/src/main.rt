@@ -51,6 +51,10 @@ fn main(rt: HostRuntime) -> ExitCode {
 #[cfg(test)]
 mod algorithm_tests;
 #[cfg(test)]
+mod general_peer_tests;
+#[cfg(test)]
+mod general_tests;
+#[cfg(test)]
 mod header_tests;
 #[cfg(test)]
 mod jwe_tests;

@@ -9,16 +9,17 @@ use std::test::Fail;
 
 const KEY_8: &str = "{\"kty\":\"oct\",\"k\":\"ZWZnaGlqa2w\"}";
 
-const KEY_16: &str = "{\"kty\":\"oct\",\"k\":\"ZWZnaGlqa2xtbm9wcXJzdA\"}";
+pub(crate) const KEY_16: &str = "{\"kty\":\"oct\",\"k\":\"ZWZnaGlqa2xtbm9wcXJzdA\"}";
 
-const KEY_24: &str = "{\"kty\":\"oct\",\"k\":\"ZWZnaGlqa2xtbm9wcXJzdHV2d3h5ent8\"}";
+pub(crate) const KEY_24: &str = "{\"kty\":\"oct\",\"k\":\"ZWZnaGlqa2xtbm9wcXJzdHV2d3h5ent8\"}";
 
-const KEY_32: &str = "{\"kty\":\"oct\",\"k\":\"ZWZnaGlqa2xtbm9wcXJzdHV2d3h5ent8fX5_gIGCg4Q\"}";
+pub(crate) const KEY_32: &str =
+    "{\"kty\":\"oct\",\"k\":\"ZWZnaGlqa2xtbm9wcXJzdHV2d3h5ent8fX5_gIGCg4Q\"}";
 
-const KEY_48: &str =
+pub(crate) const KEY_48: &str =
     "{\"kty\":\"oct\",\"k\":\"ZWZnaGlqa2xtbm9wcXJzdHV2d3h5ent8fX5_gIGCg4SFhoeIiYqLjI2Oj5CRkpOU\"}";
 
-const KEY_64: &str =
+pub(crate) const KEY_64: &str =
     "{\"kty\":\"oct\",\"k\":\"ZWZnaGlqa2xtbm9wcXJzdHV2d3h5ent8fX5_gIGCg4SFhoeIiYqLjI2Oj5CRkpOUlZaXmJmam5ydnp-goaKjpA\"}";
 
 /// By latchset's `jose`.

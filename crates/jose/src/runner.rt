@@ -58,22 +58,32 @@ pub fn run<I: Input, O: Output>(
         }
         Command::B64Enc => b64::encode(alloc, &mut inputs.content, &mut outputs.text),
         Command::B64Dec => b64::decode(alloc, &mut inputs.text, &mut outputs.content),
-        Command::JwsSig => jws::sign(
-            alloc,
-            &mut inputs.text,
-            &mut inputs.keys,
-            &mut inputs.content,
-            &mut outputs.text,
-        ),
+        Command::JwsSig => {
+            let compact = invocation.has('c');
+            jws::sign(
+                alloc,
+                &mut inputs.text,
+                &mut inputs.keys,
+                compact,
+                &mut inputs.content,
+                &mut outputs.text,
+            )
+        }
         Command::JwsVer => {
+            let all = invocation.has('a');
             let wanted = invocation.has('O');
             jws::verify(
                 alloc,
                 &mut inputs.text,
                 &mut inputs.keys,
+                all,
                 wanted,
                 &mut outputs.content,
             )
+        }
+        Command::JwsFmt => {
+            let compact = invocation.has('c');
+            jws::format(alloc, &mut inputs.text, compact, &mut outputs.text)
         }
         Command::JweEnc => {
             let compact = invocation.has('c');
@@ -93,5 +103,9 @@ pub fn run<I: Input, O: Output>(
             &mut inputs.keys,
             &mut outputs.content,
         ),
+        Command::JweFmt => {
+            let compact = invocation.has('c');
+            jwe::format(alloc, &mut inputs.text, compact, &mut outputs.text)
+        }
     }
 }

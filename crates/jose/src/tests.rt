@@ -345,12 +345,16 @@ const OTHER_ALGORITHMS: &[(&str, Answer<'_>)] = &[
     ),
     (
         "eyJhbGciOiJIUzM4NCJ9.YWJj.n0ws_8Cz70cGB9Rwo1VMctjnLA9CpzQfmcdaud1d--H_vMvsACtFe5HXiWNiIEqg",
-        Answer::Refusal(Refusal::Unsupported),
+        Answer::Content(b"abc"),
+    ),
+    (
+        "eyJhbGciOiJIUzUxMiJ9.YWJj.ScK1f_2owqwH0tMhgpVtvopDQ1GhlP2zxdgv400w_wSEXHxwOM2XkeStAhVFb6moKzeC1Z0H00YC8-EWsv84Wg",
+        Answer::Content(b"abc"),
     ),
 ];
 
 #[test]
-fn the_algorithm_refuses_a_token(rt: HostRuntime) -> Result<(), Fail> {
+fn the_algorithm_decides_of_a_token(rt: HostRuntime) -> Result<(), Fail> {
     verifies_each(&rt, OTHER_ALGORITHMS)
 }
 
@@ -548,7 +552,13 @@ const WITHOUT_ALGORITHM: &[(&str, &str, Answer<'_>)] = &[
         "{\"kty\":\"oct\",\"k\":\"AyM1SysPpbyDfgZld3umj1qzKObwVMkoqQ-EstJQLr_T-1qS0gZH75aKtMN3Yj0iPS4hcgUuTwjAzZr1Z9CAow\",\"alg\":\"HS256\"}",
         Answer::Text(ABC),
     ),
-    ("{}", KEY, Answer::Refusal(Refusal::Unsupported)),
+    (
+        "{}",
+        KEY,
+        Answer::Text(
+            "eyJhbGciOiJIUzUxMiJ9.YWJj.ScK1f_2owqwH0tMhgpVtvopDQ1GhlP2zxdgv400w_wSEXHxwOM2XkeStAhVFb6moKzeC1Z0H00YC8-EWsv84Wg",
+        ),
+    ),
     (
         "{}",
         "{\"kty\":\"oct\",\"k\":\"AAECAwQFBgcICQoLDA0ODxAREhMUFRYXGBkaGxwdHg\"}",
@@ -562,7 +572,9 @@ const WITHOUT_ALGORITHM: &[(&str, &str, Answer<'_>)] = &[
     (
         "{}",
         "{\"kty\":\"oct\",\"k\":\"AyM1SysPpbyDfgZld3umj1qzKObwVMkoqQ-EstJQLr_T-1qS0gZH75aKtMN3Yj0iPS4hcgUuTwjAzZr1Z9CAow\",\"alg\":\"HS384\"}",
-        Answer::Refusal(Refusal::Unsupported),
+        Answer::Text(
+            "eyJhbGciOiJIUzM4NCJ9.YWJj.n0ws_8Cz70cGB9Rwo1VMctjnLA9CpzQfmcdaud1d--H_vMvsACtFe5HXiWNiIEqg",
+        ),
     ),
 ];
 
@@ -640,7 +652,7 @@ fn a_header_has_64_objects_and_lists_in_one_another(rt: HostRuntime) -> Result<(
 
 /// Sets of keys.
 const SIGNING_SETS: &[(&str, &str, Answer<'_>)] = &[
-    // Sets: one key signs, and all are good.
+    // Sets: one key signs in compact form, and all are good.
     (
         TEMPLATE,
         "{\"keys\":[{\"kty\":\"oct\",\"k\":\"AyM1SysPpbyDfgZld3umj1qzKObwVMkoqQ-EstJQLr_T-1qS0gZH75aKtMN3Yj0iPS4hcgUuTwjAzZr1Z9CAow\"}]}",
@@ -649,7 +661,7 @@ const SIGNING_SETS: &[(&str, &str, Answer<'_>)] = &[
     (
         TEMPLATE,
         "{\"keys\":[{\"kty\":\"oct\",\"k\":\"AyM1SysPpbyDfgZld3umj1qzKObwVMkoqQ-EstJQLr_T-1qS0gZH75aKtMN3Yj0iPS4hcgUuTwjAzZr1Z9CAow\"},{\"kty\":\"oct\",\"k\":\"AyM1SysPpbyDfgZld3umj1qzKObwVMkoqQ-EstJQLr_T-1qS0gZH75aKtMN3Yj0iPS4hcgUuTwjAzZr1Z9CAow\"}]}",
-        Answer::Refusal(Refusal::Limit),
+        Answer::Refusal(Refusal::NotCompact),
     ),
     (
         TEMPLATE,
@@ -659,7 +671,7 @@ const SIGNING_SETS: &[(&str, &str, Answer<'_>)] = &[
 ];
 
 #[test]
-fn one_key_signs(rt: HostRuntime) -> Result<(), Fail> {
+fn one_key_signs_in_compact_form(rt: HostRuntime) -> Result<(), Fail> {
     signs_each(&rt, SIGNING_SETS)
 }
 

@@ -51,13 +51,12 @@ fn is_standard(option: &OptionRow, role: Role, invocation: &Invocation) -> bool
     of == role && invocation.value(letter) == Some("-")
 }
 
-/// Of `jwk thp` the four hashes are served, and of `jws sig` the compact form. Its form in JSON comes later.
+/// Of `jwk thp` the four hashes are served.
 fn is_served(invocation: &Invocation) -> bool
     ensures { result ≡ served invocation.now.command (invocation_view invocation.now).options }
 {
     match invocation.command {
         Command::JwkThp => invocation.hash().is_some(),
-        Command::JwsSig => invocation.has('c'),
         _ => true,
     }
 }

@@ -31,8 +31,8 @@ pub use json_values::{
 pub use key::Key;
 pub use limits::{
     GREATEST_P2C, GREATEST_P2C_READ, LEAST_P2C, MOST_DEPTH, MOST_ITERATIONS, MOST_KEY_OCTETS,
-    MOST_KEYS, USUAL_P2C,
+    MOST_KEYS, MOST_RECIPIENTS, USUAL_P2C,
 };
 pub use operation::Operation;
-pub use set::KeySet;
+pub use set::{KeySet, are_objects};
 pub use thumbprints::thumbprint;

@@ -6,6 +6,9 @@ pub const MOST_KEYS: usize = 64;
 /// The most octets of a key.
 pub const MOST_KEY_OCTETS: usize = 4096;
 
+/// The most recipients, or signatures, of an object.
+pub const MOST_RECIPIENTS: usize = 64;
+
 /// The greatest depth of a header or a key that is written.
 pub const MOST_DEPTH: usize = 64;
 

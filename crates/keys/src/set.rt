@@ -97,7 +97,7 @@ fn object_list(values: &Value) -> Result<&[Value], Refusal>
 }
 
 /// Each value is an object.
-fn are_objects(values: &[Value]) -> bool
+pub fn are_objects(values: &[Value]) -> bool
     ensures { result ≡ are_objects (items_view values.now) }
 {
     for value in values {

@@ -4,7 +4,7 @@ use Rattle.std.proofs.lemmas.Bool.{eqb-true}
 use Rattle.std.specs.List.{AllByRecursion}
 use Rattle.octets.specs.Base64url.{is_url_character}
 use Rattle.octets.specs.LineEnds.{without_line_end}
-use Rattle.objects.specs.Jws.{is_json_space, is_json_form}
+use Rattle.objects.specs.Texts.{is_json_space, is_json_form}
 
 -- letters, digits, `-` and `_` alone
 abbrev pub IsUrlText : List ℕ → Type 0
@@ -18,14 +18,22 @@ is_character c = is_url_character c || (c == 46)
 abbrev pub HasCharacters : List ℕ → Type 0
 HasCharacters text = AllByRecursion (λ c. is_character c ≡ true) text
 
+-- parts between dots
+abbrev pub between_dots : List (List ℕ) → List ℕ
+between_dots [] = []
+between_dots (part ∷ []) = part
+between_dots (part ∷ (next ∷ rest)) = part ++ 46 ∷ between_dots (next ∷ rest)
+
 -- a text without dots before one with such characters has them too
-pub url_then : (text rest : List ℕ) → IsUrlText text → HasCharacters rest → HasCharacters (text ++ rest)
+url_then : (text rest : List ℕ) → IsUrlText text → HasCharacters rest → HasCharacters (text ++ rest)
 url_then [] rest h later = later
 url_then (c ∷ text) rest h later = (ap (λ b. b || (c == 46)) h.0, url_then text rest h.1 later)
 
--- such a text alone
-pub url_text : (text : List ℕ) → IsUrlText text → HasCharacters text
-url_text text h = subst HasCharacters (append-nil text) (url_then text [] h tt)
+-- texts between dots have such characters
+pub joined_characters : (parts : List (List ℕ)) → AllByRecursion IsUrlText parts → HasCharacters (between_dots parts)
+joined_characters [] h = tt
+joined_characters (part ∷ []) h = subst HasCharacters (append-nil part) (url_then part [] h.0 tt)
+joined_characters (part ∷ (next ∷ rest)) h = url_then part (46 ∷ between_dots (next ∷ rest)) h.0 (refl, joined_characters (next ∷ rest) h.1)
 
 -- none of them is another character
 no_other : (k : ℕ) → is_character k ≡ false → (c : ℕ) → is_character c ≡ true → (c == k) ≡ false

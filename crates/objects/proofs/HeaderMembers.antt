@@ -7,7 +7,7 @@ use Rattle.serde_json.specs.Data.{object}
 use Rattle.serde_json.specs.View.{view, members_view}
 use Rattle.serde_json.specs.declared.value.Value.{Value, Object}
 use Rattle.serde_json.proofs.Views.{Entry, view-Object}
-use Rattle.objects.specs.Jwe.{has_members}
+use Rattle.objects.specs.Texts.{has_members}
 
 -- a copy stands for the same members
 pub copied_members : (entries copies : List Entry) → AllZip (λ (p q : Entry). (string_bytes q.0 ≡ string_bytes p.0) × (view q.1 ≡ view p.1)) entries copies → members_view copies ≡ members_view entries

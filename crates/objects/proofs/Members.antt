@@ -9,20 +9,24 @@ use Rattle.serde_json.specs.Find.{get_member}
 use Rattle.serde_json.proofs.Views.{get_member-put, get_member-put_other}
 use Rattle.keys.specs.JsonTexts.{IsJson, AreJsonMembers, KeepJson}
 
+-- names, each with its value where it is there
+abbrev pub Entries : Type 0
+Entries = List (List ℕ × Option Data)
+
 -- the members with one more, where it is there
 abbrev pub put_if_there : List ℕ → Option Data → Members → Members
 put_if_there name None members = members
 put_if_there name (Some d) members = put name d members
 
 -- those that are there, put in from the last one on
-abbrev pub put_all : List (List ℕ × Option Data) → Members
+abbrev pub put_all : Entries → Members
 put_all [] = no_members
 put_all (e ∷ rest) = put_if_there e.0 e.1 (put_all rest)
 
 -- ---- what is found
 
 -- the first that is there under the name
-abbrev pub first_there : List ℕ → List (List ℕ × Option Data) → Option Data
+abbrev pub first_there : List ℕ → Entries → Option Data
 first_there name [] = None
 first_there name (e ∷ rest) = cond (bytes_eq name e.0) (option_or e.1 (first_there name rest)) (first_there name rest)
 
@@ -36,7 +40,7 @@ found_by false name other (Some d) ms later is there =
     get_member-put_other name other d ms (λ same. true≢false (sym ((bytes_eq-Decides name other).1 same) ∙ is)) ∙ there
 
 -- what is found in the members is the first that is there
-pub get_member-put_all : (name : List ℕ) (entries : List (List ℕ × Option Data)) → get_member name (put_all entries) ≡ first_there name entries
+pub get_member-put_all : (name : List ℕ) (entries : Entries) → get_member name (put_all entries) ≡ first_there name entries
 get_member-put_all name [] = refl
 get_member-put_all name (e ∷ rest) = found_by (bytes_eq name e.0) name e.0 e.1 (put_all rest) (first_there name rest) refl (get_member-put_all name rest)
 
@@ -47,6 +51,10 @@ abbrev pub IsJsonIfThere : ℕ → Option Data → Type 0
 IsJsonIfThere n None = Unit {0}
 IsJsonIfThere n (Some d) = IsJson d × (depth d ≤ n)
 
+-- each is so, and its name is UTF-8
+abbrev pub AreJsonEntries : ℕ → Entries → Type 0
+AreJsonEntries n entries = AllByRecursion (λ e. IsUtf8 e.0 × IsJsonIfThere n e.1) entries
+
 -- members stay so where one is put in
 one_more : KeepJson → (n : ℕ) (name : List ℕ) (d : Option Data) (members : Members) → IsUtf8 name → IsJsonIfThere n d → AreJsonMembers members × (members_depth members ≤ n)
     → AreJsonMembers (put_if_there name d members) × (members_depth (put_if_there name d members) ≤ n)
@@ -56,7 +64,6 @@ one_more keep n name (Some d) ms text is all =
     (more.0, omega (arith, more.1, is.1, all.1))
 
 -- where each is so, the members are, and nest no deeper
-pub all_json : KeepJson → (n : ℕ) (entries : List (List ℕ × Option Data)) → AllByRecursion (λ e. IsUtf8 e.0 × IsJsonIfThere n e.1) entries
-    → AreJsonMembers (put_all entries) × (members_depth (put_all entries) ≤ n)
+pub all_json : KeepJson → (n : ℕ) (entries : Entries) → AreJsonEntries n entries → AreJsonMembers (put_all entries) × (members_depth (put_all entries) ≤ n)
 all_json keep n [] all = (tt, omega arith)
 all_json keep n (e ∷ rest) all = one_more keep n e.0 e.1 (put_all rest) all.0.0 all.0.1 (all_json keep n rest all.1)

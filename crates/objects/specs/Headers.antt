@@ -1,5 +1,6 @@
 -- JOSE headers (RFC 7515 section 4, RFC 7516 section 4): their members, and the parameters that this profile reads.
-use Rattle.std.specs.Prelude.{◌≡◌, ℕ, ◌||◌, Bool, true, false, not, List, length, nat_le, is_some, if◌then◌else◌, Option, Some, None, option_and_then, Result, Ok, Err}
+use Rattle.std.specs.Prelude.{◌≡◌, ℕ, ◌||◌, Bool, true, false, not, List, length, codes, nat_le, is_some, is_none, if◌then◌else◌, Option, Some, None, option_and_then, Result, Ok, Err}
+use Rattle.std.specs.Option.{ok_or}
 use Rattle.serde_json.specs.Data.{Data, Members, no_members, member, put}
 use Rattle.serde_json.specs.Find.{get, get_member, as_str, as_number, as_u64, as_object}
 use Rattle.octets.specs.declared.refusal.Refusal.{Refusal}
@@ -89,6 +90,12 @@ if_there read (Some value) = required (read value)
 unfoldable pub string_parameter : List ℕ → Members → Result (Option (List ℕ)) Refusal
 string_parameter name header = if_there as_str (get_member name header)
 
+-- one that must be there
+unfoldable pub string_there : List ℕ → Members → Result (List ℕ) Refusal
+string_there name header = do
+  found ← string_parameter name header
+  ok_or found Header
+
 -- `p2c` (RFC 7518 section 4.8.1.2): a whole number
 unfoldable pub number_parameter : List ℕ → Members → Result (Option ℕ) Refusal
 number_parameter name header = if_there (λ value. option_and_then as_u64 (as_number value)) (get_member name header)
@@ -106,3 +113,9 @@ unfoldable pub salt_parameter : List ℕ → Members → Result (Option (List �
 salt_parameter name header = do
   text ← string_parameter name header
   salt_if_there text
+
+-- ---- members that are refused
+
+-- no `crit` (RFC 7515 section 4.1.11): no extension is known
+abbrev pub has_no_crit : Members → Bool
+has_no_crit header = is_none (get_member (codes "crit") header)

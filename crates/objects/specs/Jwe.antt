@@ -1,13 +1,13 @@
--- JWE objects (RFC 7516): their compact texts (section 7.1) and their flattened JSON texts (section 7.2.2).
-use Rattle.std.specs.Prelude.{◌≡◌, ℕ, ◌&&◌, ◌||◌, ◌==◌, Bool, true, false, not, List, [], ◌∷◌, ◌++◌, length, codes, nat_le, is_none, if◌then◌else◌, Option, Some, None, option_and_then, Result, Ok}
+-- JWE objects (RFC 7516): their compact texts (section 7.1) and their JSON texts, general and flattened (section 7.2).
+use Rattle.std.specs.Prelude.{◌≡◌, ℕ, ◌&&◌, ◌==◌, Bool, true, false, not, List, [], ◌∷◌, ◌++◌, length, codes, nat_le, is_none, if◌then◌else◌, Option, Some, None, Result, Ok}
 use Rattle.std.specs.List.{AllByRecursion, list_all}
 use Rattle.std.specs.Option.{ok_or}
 use Rattle.std.specs.Str.{bytes_eq}
-use Rattle.serde_json.specs.Data.{Data, Members, no_members, member, string, object, put, depth}
-use Rattle.serde_json.specs.Find.{get, get_member, as_str}
-use Rattle.serde_json.specs.Written.{compact_text, members_have_float}
+use Rattle.serde_json.specs.Data.{Data, Items, no_items, item, Members, no_members, string, object, put, depth}
+use Rattle.serde_json.specs.Find.{get, get_member}
+use Rattle.serde_json.specs.Written.{compact_text}
 use Rattle.octets.specs.declared.refusal.Refusal.{Refusal}
-use Rattle.octets.specs.declared.refusal.Refusal.TheVariants.{Json, Number, Form, Header, Unsupported, NotCompact}
+use Rattle.octets.specs.declared.refusal.Refusal.TheVariants.{Json, Number, Form, Header, Unsupported, Limit, NotCompact}
 use Rattle.octets.specs.Outcomes.{◌>>=◌, needs}
 use Rattle.octets.specs.Octets.{IsOctets}
 use Rattle.octets.specs.Base64url.{base64url, decoded}
@@ -16,8 +16,9 @@ use Rattle.keys.specs.declared.algorithm.ManagementAlg.{ManagementAlg}
 use Rattle.keys.specs.Algorithms.{management_alg_of, is_password_based}
 use Rattle.keys.specs.Json.{json_value, member_numbers_are_whole}
 use Rattle.keys.specs.JsonTexts.{AreJsonMembers}
-use Rattle.objects.specs.Headers.{header_at, protected_members, joint_header, string_parameter, number_parameter, salt_parameter}
-use Rattle.objects.specs.Jws.{is_json_form, split_at_dot, three_parts}
+use Rattle.keys.specs.Limits.{Limits}
+use Rattle.objects.specs.Headers.{header_at, protected_members, joint_header, string_there, number_parameter, salt_parameter, has_no_crit}
+use Rattle.objects.specs.Texts.{each, each_item, is_json_form, split_at_dot, three_parts, text_at, required_text, object_list, has_text, has_members, put_text, put_header, put_each, header_depth, depth_of_each}
 
 -- ---- the members of an object
 
@@ -56,20 +57,8 @@ pub record ContentTexts : Type 0 where
 -- the members of an object, with the texts that they have
 pub record JweTexts : Type 0 where
   pub shared : SharedTexts
-  pub recipient : RecipientTexts
+  pub recipients : List RecipientTexts
   pub content : ContentTexts
-
-abbrev pub text_if_there : Option Data → Result (List ℕ) Refusal
-text_if_there None = Ok []
-text_if_there (Some value) = ok_or (as_str value) Form
-
--- a string, and the empty text where it is absent
-unfoldable pub text_at : List ℕ → Data → Result (List ℕ) Refusal
-text_at name value = text_if_there (get name value)
-
--- a string that must be there
-unfoldable pub required_text : List ℕ → Data → Result (List ℕ) Refusal
-required_text name value = ok_or (option_and_then as_str (get name value)) Form
 
 unfoldable pub shared_texts : Data → Result SharedTexts Refusal
 shared_texts value = do
@@ -92,14 +81,29 @@ content_texts value = do
   tag ← text_at (codes "tag") value
   Ok (record { iv = iv; ciphertext = ciphertext; tag = tag })
 
--- The members of a flattened object. One with a list of recipients is of another form.
-unfoldable pub flattened_texts : Data → Result JweTexts Refusal
-flattened_texts value = do
-  flattened ← needs (is_none (get (codes "recipients") value)) Form
+-- nothing of a recipient stands there; it may, where it is empty
+unfoldable pub no_recipient_at : Data → Result (Unit {0}) Refusal
+no_recipient_at value = do
+  own ← recipient_texts value
+  needs (not (has_text own.encrypted_key) && not (has_members own.header)) Form
+
+-- The object itself where it is flattened (section 7.2.2), or those of the list of a general one (section 7.2.1), beside which nothing of a recipient may stand.
+abbrev pub recipients_by : Data → Option Data → Result Items Refusal
+recipients_by value None = Ok (item value no_items)
+recipients_by value (Some list) = do
+  alone ← no_recipient_at value
+  object_list list
+
+unfoldable pub recipient_objects : Data → Result Items Refusal
+recipient_objects value = recipients_by value (get (codes "recipients") value)
+
+unfoldable pub json_texts : Data → Result JweTexts Refusal
+json_texts value = do
   shared ← shared_texts value
-  recipient ← recipient_texts value
+  objects ← recipient_objects value
+  recipients ← each_item recipient_texts objects
   content ← content_texts value
-  Ok (record { shared = shared; recipient = recipient; content = content })
+  Ok (record { shared = shared; recipients = recipients; content = content })
 
 -- exactly five parts between dots
 unfoldable pub compact_texts : List ℕ → Result JweTexts Refusal
@@ -109,20 +113,24 @@ compact_texts text = do
   content ← three_parts encrypted_key.1
   Ok (record {
     shared = record { protected = protected.0; unprotected = no_members; aad = [] };
-    recipient = record { header = no_members; encrypted_key = encrypted_key.0 };
+    recipients = record { header = no_members; encrypted_key = encrypted_key.0 } ∷ [];
     content = record { iv = content.0; ciphertext = content.1; tag = content.2 };
   })
 
 -- those of a JSON text, or of a compact text, with a line end or without
 unfoldable pub jwe_texts : List ℕ → Result JweTexts Refusal
-jwe_texts text =
-    if is_json_form text then (json_value text >>= flattened_texts) else compact_texts (without_line_end text)
+jwe_texts text = if is_json_form text then (json_value text >>= json_texts) else compact_texts (without_line_end text)
 
 -- the octets that they are the base64url texts of, the text of the protected header aside
+unfoldable pub recipient_parts : RecipientTexts → Result RecipientParts Refusal
+recipient_parts texts = do
+  encrypted_key ← decoded texts.encrypted_key
+  Ok (record { header = texts.header; encrypted_key = encrypted_key })
+
 unfoldable pub parts_of_texts : JweTexts → Result JweParts Refusal
 parts_of_texts texts = do
   aad ← decoded texts.shared.aad
-  encrypted_key ← decoded texts.recipient.encrypted_key
+  recipients ← each recipient_parts texts.recipients
   iv ← decoded texts.content.iv
   ciphertext ← decoded texts.content.ciphertext
   tag ← decoded texts.content.tag
@@ -133,20 +141,8 @@ parts_of_texts texts = do
     aad = aad;
     ciphertext = ciphertext;
     tag = tag;
-    recipients = record { header = texts.recipient.header; encrypted_key = encrypted_key } ∷ [];
+    recipients = recipients;
   })
-
--- ---- headers without floats, which have compact texts
-
-abbrev pub recipients_have_float : List RecipientParts → Bool
-recipients_have_float [] = false
-recipients_have_float (r ∷ rest) = members_have_float r.header || recipients_have_float rest
-
-abbrev pub parts_have_float : JweParts → Bool
-parts_have_float p = members_have_float p.unprotected || recipients_have_float p.recipients
-
-abbrev pub texts_have_float : JweTexts → Bool
-texts_have_float t = members_have_float t.shared.unprotected || members_have_float t.recipient.header
 
 -- ---- the object
 
@@ -194,12 +190,6 @@ reads_password (Some alg) = is_password_based alg
 abbrev pub is_count_of : Option ManagementAlg → ℕ → Bool
 is_count_of alg p2c = if reads_password alg then nat_le 1 p2c else p2c == 0
 
--- a string that must be there
-unfoldable pub string_there : List ℕ → Members → Result (List ℕ) Refusal
-string_there name header = do
-  found ← string_parameter name header
-  ok_or found Header
-
 -- p2s and p2c, which is at least 1, where the algorithm reads them
 pub record PasswordParameters : Type 0 where
   pub p2s : List ℕ
@@ -233,11 +223,7 @@ recipient_of protected unprotected parts = do
 
 -- all of them, in order
 abbrev pub recipients_of : Members → Members → List RecipientParts → Result (List Recipient) Refusal
-recipients_of protected unprotected [] = Ok []
-recipients_of protected unprotected (parts ∷ rest) = do
-  first ← recipient_of protected unprotected parts
-  others ← recipients_of protected unprotected rest
-  Ok (first ∷ others)
+recipients_of protected unprotected parts = each (recipient_of protected unprotected) parts
 
 -- `enc` is the same for all
 abbrev pub have_enc : List ℕ → List Recipient → Bool
@@ -257,7 +243,7 @@ recipients_of_one_enc protected unprotected parts = do
 
 -- neither `crit` nor `zip`: no extension is known, and no content is compressed
 abbrev pub is_plain : Members → Bool
-is_plain header = is_none (get_member (codes "crit") header) && is_none (get_member (codes "zip") header)
+is_plain header = has_no_crit header && is_none (get_member (codes "zip") header)
 
 -- in no part of a header
 abbrev pub are_plain : Members → Members → List RecipientParts → Bool
@@ -271,63 +257,50 @@ encrypted_object octets parts = do
   plain ← needs (are_plain protected parts.unprotected parts.recipients) Unsupported
   Ok (record { protected = parts.protected; protected_members = protected; unprotected = parts.unprotected; iv = parts.iv; aad = parts.aad; ciphertext = parts.ciphertext; tag = parts.tag; recipients = recipients })
 
--- the object whose members have these texts
-unfoldable pub object_of_texts : JweTexts → Result EncryptedObject Refusal
-object_of_texts texts = do
+-- the object whose members have these texts; it has not too many recipients
+unfoldable pub object_of_texts : Limits → JweTexts → Result EncryptedObject Refusal
+object_of_texts limits texts = do
+  few ← needs (nat_le (length texts.recipients) limits.recipients) Limit
   octets ← decoded texts.shared.protected
   parts ← parts_of_texts texts
   encrypted_object octets parts
 
 -- the object of a text, or the first refusal
-unfoldable pub jwe_of : List ℕ → Result EncryptedObject Refusal
-jwe_of text = do
+unfoldable pub jwe_of : Limits → List ℕ → Result EncryptedObject Refusal
+jwe_of limits text = do
   texts ← jwe_texts text
-  object_of_texts texts
+  object_of_texts limits texts
 
 -- ---- an object that is made of its members
 
--- A text is read where it nests at most 127 deep, and so is a header in it where that nests one less deep.
-abbrev pub header_depth : ℕ
-header_depth = 126
+abbrev pub nest_at_most : ℕ → List RecipientParts → Bool
+nest_at_most n recipients = list_all (λ r. nat_le (depth (object r.header)) n) recipients
 
-abbrev pub nest_at_most : ℕ → JweParts → Bool
-nest_at_most n parts = nat_le (depth (object parts.unprotected)) n && list_all (λ r. nat_le (depth (object r.header)) n) parts.recipients
+-- no header is too deep
+abbrev pub is_shallow : JweParts → Bool
+is_shallow parts = nat_le (depth (object parts.unprotected)) header_depth && nest_at_most (depth_of_each (length parts.recipients)) parts.recipients
 
 abbrev pub have_whole_numbers : JweParts → Bool
 have_whole_numbers parts = member_numbers_are_whole parts.unprotected && list_all (λ r. member_numbers_are_whole r.header) parts.recipients
 
--- the object with these members, or what its JSON text would be refused with; so far it has one recipient
-unfoldable pub built : JweParts → Result EncryptedObject Refusal
-built parts = do
-  shallow ← needs (nest_at_most header_depth parts) Json
+-- the object with these members, or what its JSON text would be refused with
+unfoldable pub built : Limits → JweParts → Result EncryptedObject Refusal
+built limits parts = do
+  shallow ← needs (is_shallow parts) Json
   whole ← needs (have_whole_numbers parts) Number
-  one ← needs (length parts.recipients == 1) Form
+  some ← needs (nat_le 1 (length parts.recipients)) Form
+  few ← needs (nat_le (length parts.recipients) limits.recipients) Limit
   octets ← decoded parts.protected
   encrypted_object octets parts
 
 -- ---- its texts
 
--- a member that is there where its text is not empty
-abbrev pub put_text : List ℕ → List ℕ → Members → Members
-put_text name [] members = members
-put_text name (c ∷ text) members = put name (string (c ∷ text)) members
-
-abbrev pub has_members : Members → Bool
-has_members no_members = false
-has_members (member k d rest) = true
-
--- a header that is there where it has members
-abbrev pub put_header : List ℕ → Members → Members → Members
-put_header name header members = if has_members header then put name (object header) members else members
-
 -- the header and the encrypted key of a recipient
 abbrev pub put_recipient : Recipient → Members → Members
 put_recipient r members = put_header (codes "header") r.header (put_text (codes "encrypted_key") (base64url r.encrypted_key) members)
 
--- those of the one recipient
 abbrev pub put_recipients : List Recipient → Members → Members
-put_recipients [] members = members
-put_recipients (r ∷ rest) members = put_recipient r members
+put_recipients recipients members = put_each (codes "recipients") put_recipient recipients members
 
 -- the headers that all recipients share, and the content with its tag; the ciphertext is always there
 abbrev pub put_shared : EncryptedObject → Members → Members
@@ -339,7 +312,7 @@ put_shared o members =
     put (codes "ciphertext") (string (base64url o.ciphertext)) (
     put_text (codes "aad") (base64url o.aad) members)))))
 
--- the flattened JSON text (RFC 7516 section 7.2.2), whose members stand in byte order of their names
+-- The JSON text, whose members stand in byte order of their names: flattened where there is one recipient, and else general.
 unfoldable pub json_text : EncryptedObject → List ℕ
 json_text o = compact_text (object (put_shared o (put_recipients o.recipients no_members)))
 
@@ -364,7 +337,7 @@ jwe_compact_text o = do
   fits ← needs (is_compact o o.recipients) NotCompact
   Ok (joined o.protected (key_of_first o.recipients) o.iv o.ciphertext o.tag)
 
--- ---- what is written is read
+-- ---- what is written is read, and what is read can be written
 
 -- the texts and headers are as JSON has them, and the others are octets
 pub record AreMembers (parts : JweParts) : Type 0 where
@@ -378,5 +351,15 @@ pub record AreMembers (parts : JweParts) : Type 0 where
 
 -- An object that is made of its members is what its JSON text spells, and its compact text where it has one.
 abbrev pub TextsSpellObjects : Type 0
-TextsSpellObjects = (parts : JweParts) (o : EncryptedObject) → AreMembers parts → built parts ≡ Ok o
-    → (jwe_of (json_text o) ≡ Ok o) × ((text : List ℕ) → jwe_compact_text o ≡ Ok text → jwe_of text ≡ Ok o)
+TextsSpellObjects = (limits : Limits) (parts : JweParts) (o : EncryptedObject) → AreMembers parts → built limits parts ≡ Ok o
+    → (jwe_of limits (json_text o) ≡ Ok o) × ((text : List ℕ) → jwe_compact_text o ≡ Ok text → jwe_of limits text ≡ Ok o)
+
+-- An object that is read can be made of its members.
+abbrev pub ObjectsAreMade : Type 0
+ObjectsAreMade = (limits : Limits) (text : List ℕ) (o : EncryptedObject) → IsOctets text → jwe_of limits text ≡ Ok o
+    → (parts : JweParts) × (AreMembers parts × (built limits parts ≡ Ok o))
+
+-- A compact text that is read is the compact text of the object, but for a line end.
+abbrev pub CompactTextsAreExact : Type 0
+CompactTextsAreExact = (limits : Limits) (text : List ℕ) (o : EncryptedObject) → IsOctets text → is_json_form text ≡ false → jwe_of limits text ≡ Ok o
+    → jwe_compact_text o ≡ Ok (without_line_end text)

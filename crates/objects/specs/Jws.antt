@@ -1,113 +1,233 @@
--- JWS objects in compact form (RFC 7515 section 7.1).
-use Rattle.std.specs.Prelude.{◌≡◌, ℕ, ◌+◌, ◌==◌, ◌||◌, Bool, false, not, List, ◌++◌, take, drop, codes, is_none, position, Option, Some, None, Result, Ok, Err}
-use Rattle.std.specs.List.{find}
-use Rattle.std.specs.Option.{ok_or}
-use Rattle.std.specs.Str.{byte}
-use Rattle.serde_json.specs.Data.{Members, no_members}
-use Rattle.serde_json.specs.Find.{get_member}
+-- JWS objects (RFC 7515): their compact texts (section 7.1) and their JSON texts, general and flattened (section 7.2).
+use Rattle.std.specs.Prelude.{◌≡◌, ℕ, ◌&&◌, Bool, false, not, List, [], ◌∷◌, ◌++◌, length, codes, nat_le, is_none, if◌then◌else◌, Option, Some, None, Result, Ok}
+use Rattle.std.specs.List.{AllByRecursion, list_all}
+use Rattle.serde_json.specs.Data.{Data, Items, no_items, item, Members, no_members, string, object, put, depth}
+use Rattle.serde_json.specs.Find.{get}
+use Rattle.serde_json.specs.Written.{compact_text}
 use Rattle.octets.specs.declared.refusal.Refusal.{Refusal}
-use Rattle.octets.specs.declared.refusal.Refusal.TheVariants.{Form, Header, Unsupported}
+use Rattle.octets.specs.declared.refusal.Refusal.TheVariants.{Json, Number, Form, Unsupported, Limit, NotCompact}
 use Rattle.octets.specs.Outcomes.{◌>>=◌, needs}
 use Rattle.octets.specs.Octets.{IsOctets}
 use Rattle.octets.specs.Base64url.{base64url, decoded}
 use Rattle.octets.specs.LineEnds.{without_line_end}
-use Rattle.objects.specs.Headers.{protected_members, joint_header, string_parameter}
+use Rattle.keys.specs.Json.{json_value, member_numbers_are_whole}
+use Rattle.keys.specs.JsonTexts.{AreJsonMembers}
+use Rattle.keys.specs.Limits.{Limits}
+use Rattle.objects.specs.Headers.{header_at, protected_members, joint_header, string_there, has_no_crit}
+use Rattle.objects.specs.Texts.{each, each_item, is_json_form, three_parts, text_at, required_text, object_list, has_text, has_members, put_text, put_header, put_each, depth_of_each}
 
--- ---- what a text spells
+-- ---- the members of an object
 
--- the texts of header and payload as they were received, and the octets of header, payload and signature
-pub record CompactParts : Type 0 where
+-- the text of the protected header, as it was received, the unprotected header, and the octets of the signature
+pub record SignatureParts : Type 0 where
   pub protected : List ℕ
-  pub payload_text : List ℕ
-  pub header : List ℕ
-  pub payload : List ℕ
+  pub header : Members
   pub signature : List ℕ
 
-pub record AreOctets (parts : CompactParts) : Type 0 where
-  pub header : IsOctets parts.header
-  pub payload : IsOctets parts.payload
-  pub signature : IsOctets parts.signature
+pub record JwsParts : Type 0 where
+  pub payload : List ℕ
+  pub signatures : List SignatureParts
 
--- the compact serialization: the base64url texts of header, payload and signature, between dots
-abbrev pub compact_text : CompactParts → List ℕ
-compact_text parts = base64url parts.header ++ codes "." ++ base64url parts.payload ++ codes "." ++ base64url parts.signature
+-- ---- the members of a text
 
--- the line is the compact serialization of the parts
-pub record SpellsCompact (line : List ℕ) (parts : CompactParts) : Type 0 where
-  pub spelled : line ≡ compact_text parts
-  pub protected : parts.protected ≡ base64url parts.header
-  pub payload_text : parts.payload_text ≡ base64url parts.payload
+-- the same, with the text of the signature
+pub record SignatureTexts : Type 0 where
+  pub protected : List ℕ
+  pub header : Members
+  pub signature : List ℕ
 
--- ---- reading the parts
+pub record JwsTexts : Type 0 where
+  pub payload : List ℕ
+  pub signatures : List SignatureTexts
 
-abbrev pub is_dot : ℕ → Bool
-is_dot c = c == byte "."
+-- the signature must be there
+unfoldable pub signature_texts : Data → Result SignatureTexts Refusal
+signature_texts value = do
+  protected ← text_at (codes "protected") value
+  header ← header_at (codes "header") value
+  signature ← required_text (codes "signature") value
+  Ok (record { protected = protected; header = header; signature = signature })
 
-abbrev pub parts_at : List ℕ → Option ℕ → Result (List ℕ × List ℕ) Refusal
-parts_at text None = Err Form
-parts_at text (Some i) = Ok (take i text, drop (i + 1) text)
+-- nothing of a signature stands there; its headers may be, where they are empty
+unfoldable pub no_signature_at : Data → Result (Unit {0}) Refusal
+no_signature_at value = do
+  protected ← text_at (codes "protected") value
+  header ← header_at (codes "header") value
+  needs (not (has_text protected) && (not (has_members header) && is_none (get (codes "signature") value))) Form
 
--- what stands before and after the first dot
-unfoldable pub split_at_dot : List ℕ → Result (List ℕ × List ℕ) Refusal
-split_at_dot text = parts_at text (position is_dot text)
+-- The object itself where it is flattened (section 7.2.2), or those of the list of a general one (section 7.2.1), beside which nothing of a signature may stand.
+abbrev pub signatures_by : Data → Option Data → Result Items Refusal
+signatures_by value None = Ok (item value no_items)
+signatures_by value (Some list) = do
+  alone ← no_signature_at value
+  object_list list
+
+unfoldable pub signature_objects : Data → Result Items Refusal
+signature_objects value = signatures_by value (get (codes "signatures") value)
+
+-- the payload must be there
+unfoldable pub json_texts : Data → Result JwsTexts Refusal
+json_texts value = do
+  payload ← required_text (codes "payload") value
+  objects ← signature_objects value
+  signatures ← each_item signature_texts objects
+  Ok (record { payload = payload; signatures = signatures })
 
 -- exactly three parts between dots
-unfoldable pub three_parts : List ℕ → Result (List ℕ × List ℕ × List ℕ) Refusal
-three_parts text = do
-  first ← split_at_dot text
-  second ← split_at_dot first.1
-  last ← needs (is_none (position is_dot second.1)) Form
-  Ok (first.0, second.0, second.1)
+unfoldable pub compact_texts : List ℕ → Result JwsTexts Refusal
+compact_texts text = do
+  parts ← three_parts text
+  Ok (record { payload = parts.1; signatures = record { protected = parts.0; header = no_members; signature = parts.2 } ∷ [] })
 
--- three parts, each the base64url text of some octets
-unfoldable pub compact_parts : List ℕ → Result CompactParts Refusal
-compact_parts line = do
-  parts ← three_parts line
-  header ← decoded parts.0
-  payload ← decoded parts.1
-  signature ← decoded parts.2
-  Ok (record { protected = parts.0; payload_text = parts.1; header = header; payload = payload; signature = signature })
+-- those of a JSON text, or of a compact text, with a line end or without
+unfoldable pub jws_texts : List ℕ → Result JwsTexts Refusal
+jws_texts text = if is_json_form text then (json_value text >>= json_texts) else compact_texts (without_line_end text)
 
 -- ---- the object
 
--- white space of JSON (RFC 8259 section 2)
-abbrev pub is_json_space : ℕ → Bool
-is_json_space c = c == byte " " || c == byte "\t" || c == byte "\n" || c == byte "\r"
-
-abbrev pub is_brace : Option ℕ → Bool
-is_brace None = false
-is_brace (Some c) = c == byte "{"
-
--- the text is in JSON form: but for white space it begins with a brace
-unfoldable pub is_json_form : List ℕ → Bool
-is_json_form text = is_brace (find (λ c. not (is_json_space c)) text)
-
--- a signed object: what was signed, as it was received, the payload and signature, and the `alg`
-pub record SignedObject : Type 0 where
+-- a signature: its members, and the `alg` of its joint header (section 4.1.1)
+pub record Signature : Type 0 where
   pub protected : List ℕ
-  pub payload_text : List ℕ
-  pub payload : List ℕ
+  pub header : Members
   pub signature : List ℕ
   pub alg : List ℕ
 
--- the `alg` of a header that is all protected, and has no `crit` (RFC 7515 sections 4.1.1 and 4.1.11)
-unfoldable pub header_alg : Members → Result (List ℕ) Refusal
-header_alg protected = do
-  header ← joint_header protected no_members no_members
-  found ← string_parameter (codes "alg") header
-  alg ← ok_or found Header
-  plain ← needs (is_none (get_member (codes "crit") header)) Unsupported
-  Ok alg
+pub record SignedObject : Type 0 where
+  pub payload : List ℕ
+  pub signatures : List Signature
 
--- the object that a compact text is
-unfoldable pub signed_object : List ℕ → Result SignedObject Refusal
-signed_object text = do
-  compact ← needs (not (is_json_form text)) Form
-  parts ← compact_parts (without_line_end text)
-  protected ← protected_members parts.header
-  alg ← header_alg protected
-  Ok (record { protected = parts.protected; payload_text = parts.payload_text; payload = parts.payload; signature = parts.signature; alg = alg })
+-- a signature, with the octets of its protected header
+pub record DecodedSignature : Type 0 where
+  pub octets : List ℕ
+  pub parts : SignatureParts
 
--- the parts of which the object was made, with the octets of its header
-abbrev pub parts_of : SignedObject → List ℕ → CompactParts
-parts_of j header = record { protected = j.protected; payload_text = j.payload_text; header = header; payload = j.payload; signature = j.signature }
+-- and with the members that these are
+pub record HeadedSignature : Type 0 where
+  pub members : Members
+  pub parts : SignatureParts
+
+unfoldable pub decoded_signature : SignatureParts → Result DecodedSignature Refusal
+decoded_signature parts = do
+  octets ← decoded parts.protected
+  Ok (record { octets = octets; parts = parts })
+
+-- one whose members have these texts
+unfoldable pub decoded_texts : SignatureTexts → Result DecodedSignature Refusal
+decoded_texts texts = do
+  signature ← decoded texts.signature
+  decoded_signature (record { protected = texts.protected; header = texts.header; signature = signature })
+
+unfoldable pub headed_signature : DecodedSignature → Result HeadedSignature Refusal
+headed_signature s = do
+  members ← protected_members s.octets
+  Ok (record { members = members; parts = s.parts })
+
+-- its headers have no name in common, and name the algorithm together
+unfoldable pub signature_by : HeadedSignature → Result Signature Refusal
+signature_by s = do
+  header ← joint_header s.members no_members s.parts.header
+  alg ← string_there (codes "alg") header
+  Ok (record { protected = s.parts.protected; header = s.parts.header; signature = s.parts.signature; alg = alg })
+
+-- neither header has a `crit`
+abbrev pub is_plain : HeadedSignature → Bool
+is_plain s = has_no_crit s.members && has_no_crit s.parts.header
+
+-- Each step is taken for every signature before the next.
+unfoldable pub signatures_of : List DecodedSignature → Result (List Signature) Refusal
+signatures_of decoded = do
+  headed ← each headed_signature decoded
+  signatures ← each signature_by headed
+  plain ← needs (list_all is_plain headed) Unsupported
+  Ok signatures
+
+-- the object of a payload and these signatures
+unfoldable pub signed_object : List ℕ → List DecodedSignature → Result SignedObject Refusal
+signed_object payload decoded = do
+  signatures ← signatures_of decoded
+  Ok (record { payload = payload; signatures = signatures })
+
+-- the object whose members have these texts; it has not too many signatures
+unfoldable pub object_of_texts : Limits → JwsTexts → Result SignedObject Refusal
+object_of_texts limits texts = do
+  few ← needs (nat_le (length texts.signatures) limits.recipients) Limit
+  payload ← decoded texts.payload
+  signatures ← each decoded_texts texts.signatures
+  signed_object payload signatures
+
+-- the object of a text, or the first refusal
+unfoldable pub jws_of : Limits → List ℕ → Result SignedObject Refusal
+jws_of limits text = do
+  texts ← jws_texts text
+  object_of_texts limits texts
+
+-- ---- an object that is made of its members
+
+abbrev pub nest_at_most : ℕ → List SignatureParts → Bool
+nest_at_most n signatures = list_all (λ s. nat_le (depth (object s.header)) n) signatures
+
+abbrev pub have_whole_numbers : List SignatureParts → Bool
+have_whole_numbers signatures = list_all (λ s. member_numbers_are_whole s.header) signatures
+
+-- the object with these members, or what its JSON text would be refused with
+unfoldable pub built : Limits → JwsParts → Result SignedObject Refusal
+built limits parts = do
+  shallow ← needs (nest_at_most (depth_of_each (length parts.signatures)) parts.signatures) Json
+  whole ← needs (have_whole_numbers parts.signatures) Number
+  some ← needs (nat_le 1 (length parts.signatures)) Form
+  few ← needs (nat_le (length parts.signatures) limits.recipients) Limit
+  signatures ← each decoded_signature parts.signatures
+  signed_object parts.payload signatures
+
+-- ---- its texts
+
+-- the members of a signature, which is always there
+abbrev pub put_signature : Signature → Members → Members
+put_signature s members =
+    put_header (codes "header") s.header (put (codes "signature") (string (base64url s.signature)) (put_text (codes "protected") s.protected members))
+
+-- The JSON text, whose members stand in byte order of their names: flattened where there is one signature, and else general.
+unfoldable pub json_text : SignedObject → List ℕ
+json_text o = compact_text (object (put (codes "payload") (string (base64url o.payload)) (put_each (codes "signatures") put_signature o.signatures no_members)))
+
+-- the parts of a compact text between dots
+abbrev pub joined : List ℕ → List ℕ → List ℕ → List ℕ
+joined protected payload signature = protected ++ codes "." ++ base64url payload ++ codes "." ++ base64url signature
+
+-- all of the object stands in a compact text: its one signature has no unprotected header
+abbrev pub is_compact : List Signature → Bool
+is_compact [] = false
+is_compact (s ∷ []) = not (has_members s.header)
+is_compact (s ∷ (other ∷ rest)) = false
+
+abbrev pub joined_first : List ℕ → List Signature → List ℕ
+joined_first payload [] = []
+joined_first payload (s ∷ rest) = joined s.protected payload s.signature
+
+-- the compact text (section 7.1), where it can hold the object
+unfoldable pub jws_compact_text : SignedObject → Result (List ℕ) Refusal
+jws_compact_text o = do
+  fits ← needs (is_compact o.signatures) NotCompact
+  Ok (joined_first o.payload o.signatures)
+
+-- ---- what is written is read, and what is read can be written
+
+-- the texts and headers are as JSON has them, and the others are octets
+pub record AreMembers (parts : JwsParts) : Type 0 where
+  pub payload : IsOctets parts.payload
+  pub signatures : AllByRecursion (λ s. IsOctets s.protected × (AreJsonMembers s.header × IsOctets s.signature)) parts.signatures
+
+-- An object that is made of its members is what its JSON text spells, and its compact text where it has one.
+abbrev pub TextsSpellObjects : Type 0
+TextsSpellObjects = (limits : Limits) (parts : JwsParts) (o : SignedObject) → AreMembers parts → built limits parts ≡ Ok o
+    → (jws_of limits (json_text o) ≡ Ok o) × ((text : List ℕ) → jws_compact_text o ≡ Ok text → jws_of limits text ≡ Ok o)
+
+-- An object that is read can be made of its members.
+abbrev pub ObjectsAreMade : Type 0
+ObjectsAreMade = (limits : Limits) (text : List ℕ) (o : SignedObject) → IsOctets text → jws_of limits text ≡ Ok o
+    → (parts : JwsParts) × (AreMembers parts × (built limits parts ≡ Ok o))
+
+-- A compact text that is read is the compact text of the object, but for a line end.
+abbrev pub CompactTextsAreExact : Type 0
+CompactTextsAreExact = (limits : Limits) (text : List ℕ) (o : SignedObject) → IsOctets text → is_json_form text ≡ false → jws_of limits text ≡ Ok o
+    → jws_compact_text o ≡ Ok (without_line_end text)

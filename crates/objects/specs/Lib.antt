@@ -1,4 +1,5 @@
 pub mod Headers
+pub mod Texts
 pub mod Jws
 pub mod Jwe
 pub mod Views

@@ -8,18 +8,27 @@ use Rattle.serde_json.specs.View.{members_view}
 use Rattle.serde_json.specs.declared.value.Value.{Value}
 use Rattle.objects.specs.Headers.{all_members}
 use Rattle.objects.specs.Jwe.{RecipientParts, Recipient, PasswordParameters, SharedTexts, RecipientTexts, ContentTexts, JweTexts, JweParts, EncryptedObject}
-use Rattle.objects.specs.Jws.{CompactParts, SignedObject}
-use Rattle.objects.specs.declared.compact.Compact as compact
+use Rattle.objects.specs.Jws.{SignatureParts, JwsParts, SignatureTexts, JwsTexts, Signature, DecodedSignature, HeadedSignature, SignedObject}
 use Rattle.objects.specs.declared.header.Header as header
 use Rattle.objects.specs.declared.jwe.Jwe as jwe
+use Rattle.objects.specs.declared.jwe.JweMembers as jwe_members
 use Rattle.objects.specs.declared.jwe.JweParts as jwe_parts
 use Rattle.objects.specs.declared.jwe_texts.ContentTexts as content
 use Rattle.objects.specs.declared.jwe_texts.JweTexts as texts
 use Rattle.objects.specs.declared.jwe_texts.RecipientTexts as recipient_texts
 use Rattle.objects.specs.declared.jwe_texts.SharedTexts as shared
+use Rattle.objects.specs.declared.jws.DecodedSignature as decoded
+use Rattle.objects.specs.declared.jws.HeadedSignature as headed
 use Rattle.objects.specs.declared.jws.Jws as jws
+use Rattle.objects.specs.declared.jws.JwsParts as jws_parts
+use Rattle.objects.specs.declared.jws.Signature as signature
+use Rattle.objects.specs.declared.jws.SignatureMembers as signature_members
+use Rattle.objects.specs.declared.jws.SignatureParts as signature_parts
+use Rattle.objects.specs.declared.jws_texts.JwsTexts as jws_texts
+use Rattle.objects.specs.declared.jws_texts.SignatureTexts as signature_texts
 use Rattle.objects.specs.declared.recipient.Parameters as parameters
 use Rattle.objects.specs.declared.recipient.Recipient as recipient
+use Rattle.objects.specs.declared.recipient.RecipientMembers as members
 use Rattle.objects.specs.declared.recipient.RecipientParts as parts
 
 -- ---- headers
@@ -35,16 +44,40 @@ header_view h = all_members (part_view h.protected) (part_view h.unprotected) (p
 
 -- ---- signed objects
 
-abbrev pub compact_view : compact.Compact → CompactParts
-compact_view c = record { protected = c.protected.now; payload_text = c.payload_text.now; header = c.header.items; payload = c.payload.items; signature = c.signature.items }
+abbrev pub signature_texts_view : signature_texts.SignatureTexts → SignatureTexts
+signature_texts_view t = record { protected = t.protected.now; header = members_view t.header.map.entries; signature = t.signature.now }
+
+abbrev pub jws_texts_view : jws_texts.JwsTexts → JwsTexts
+jws_texts_view t = record { payload = t.payload.now; signatures = map signature_texts_view t.signatures.items }
+
+abbrev pub signature_parts_view : signature_parts.SignatureParts → SignatureParts
+signature_parts_view p = record { protected = string_bytes p.protected; header = members_view p.header.entries; signature = p.signature.items }
+
+abbrev pub jws_parts_view : jws_parts.JwsParts → JwsParts
+jws_parts_view p = record { payload = p.payload.items; signatures = map signature_parts_view p.signatures.items }
+
+abbrev pub signature_members_view : signature_members.SignatureMembers → SignatureParts
+signature_members_view m = record { protected = string_bytes m.protected; header = members_view m.header.map.entries; signature = m.signature.items }
+
+abbrev pub decoded_view : decoded.DecodedSignature → DecodedSignature
+decoded_view d = record { octets = d.octets.items; parts = signature_members_view d.members }
+
+abbrev pub headed_view : headed.HeadedSignature → HeadedSignature
+headed_view h = record { members = members_view h.protected.entries; parts = signature_members_view h.members }
+
+abbrev pub signature_view : signature.Signature → Signature
+signature_view s = record { protected = string_bytes s.protected; header = members_view s.header.map.entries; signature = s.signature.items; alg = string_bytes s.alg }
 
 abbrev pub jws_view : jws.Jws → SignedObject
-jws_view j = record { protected = j.protected.now; payload_text = j.payload_text.now; payload = j.payload.items; signature = j.signature.items; alg = string_bytes j.alg }
+jws_view j = record { payload = j.payload.items; signatures = map signature_view j.signatures.list.items }
 
 -- ---- encrypted objects
 
 abbrev pub recipient_parts_view : parts.RecipientParts → RecipientParts
 recipient_parts_view p = record { header = members_view p.header.entries; encrypted_key = p.encrypted_key.items }
+
+abbrev pub recipient_members_view : members.RecipientMembers → RecipientParts
+recipient_members_view m = record { header = members_view m.header.map.entries; encrypted_key = m.encrypted_key.items }
 
 abbrev pub parameters_view : parameters.Parameters → PasswordParameters
 parameters_view p = record { p2s = p.p2s.items; p2c = p.p2c }
@@ -60,16 +93,16 @@ recipient_view r = record {
 }
 
 abbrev pub shared_view : shared.SharedTexts → SharedTexts
-shared_view t = record { protected = t.protected.now; unprotected = part_view t.unprotected; aad = t.aad.now }
+shared_view t = record { protected = t.protected.now; unprotected = members_view t.unprotected.map.entries; aad = t.aad.now }
 
 abbrev pub recipient_texts_view : recipient_texts.RecipientTexts → RecipientTexts
-recipient_texts_view t = record { header = part_view t.header; encrypted_key = t.encrypted_key.now }
+recipient_texts_view t = record { header = members_view t.header.map.entries; encrypted_key = t.encrypted_key.now }
 
 abbrev pub content_view : content.ContentTexts → ContentTexts
 content_view t = record { iv = t.iv.now; ciphertext = t.ciphertext.now; tag = t.tag.now }
 
 abbrev pub texts_view : texts.JweTexts → JweTexts
-texts_view t = record { shared = shared_view t.shared; recipient = recipient_texts_view t.recipient; content = content_view t.content }
+texts_view t = record { shared = shared_view t.shared; recipients = map recipient_texts_view t.recipients.items; content = content_view t.content }
 
 abbrev pub parts_view : jwe_parts.JweParts → JweParts
 parts_view p = record {
@@ -80,6 +113,17 @@ parts_view p = record {
   ciphertext = p.ciphertext.items;
   tag = p.tag.items;
   recipients = map recipient_parts_view p.recipients.items;
+}
+
+abbrev pub jwe_members_view : jwe_members.JweMembers → JweParts
+jwe_members_view m = record {
+  protected = string_bytes m.protected;
+  unprotected = members_view m.unprotected.map.entries;
+  iv = m.iv.items;
+  aad = m.aad.items;
+  ciphertext = m.ciphertext.items;
+  tag = m.tag.items;
+  recipients = map recipient_members_view m.recipients.items;
 }
 
 abbrev pub jwe_view : jwe.Jwe → EncryptedObject

@@ -1,20 +1,20 @@
 //! Encrypted objects (RFC 7516). It is given an object's text or its members, and sees no key.
-ghost use Rattle.std.specs.Prelude.{◌≡◌, ◌≤◌, false, length, map, IfOk};
+ghost use Rattle.std.specs.Prelude.{◌≡◌, ◌≤◌, length, map, IfOk};
 ghost use Rattle.std.specs.List.{list_all};
 ghost use Rattle.std.specs.Str.{bytes_eq};
 ghost use Rattle.serde_json.specs.View.{members_view};
 ghost use Rattle.octets.specs.Outcomes.{AgreesUnlessMemory};
 ghost use Rattle.keys.specs.Limits.{limits};
-ghost use Rattle.objects.specs.Jwe.{jwe_of, object_of_texts as object_of_jwe_texts, encrypted_object as encrypted_object_of, recipients_of, recipients_of_one_enc, have_one_enc as have_one_enc_of, without_ciphertext, is_plain as is_plain_header, are_plain as are_plain_parts, parts_have_float, recipients_have_float, texts_have_float};
-ghost use Rattle.objects.specs.Views.{jwe_view, parts_view, texts_view, recipient_view, recipient_parts_view};
+ghost use Rattle.objects.specs.Jwe.{jwe_of, object_of_texts as object_of_jwe_texts, encrypted_object as encrypted_object_of, recipients_of, recipients_of_one_enc, have_one_enc as have_one_enc_of, without_ciphertext, is_plain as is_plain_header, are_plain as are_plain_parts};
+ghost use Rattle.objects.specs.Views.{jwe_view, jwe_members_view, texts_view, recipient_view, recipient_members_view};
 
 use crate::header::read_protected;
 use crate::header_members::HeaderMembers;
-use crate::jwe_texts::{JweTexts, compact_texts, flattened_texts, read_parts};
-use crate::jws::is_json_form;
-use crate::recipient::{Recipient, RecipientParts, is_plain, read_recipient};
+use crate::jwe_texts::{JweTexts, compact_texts, json_texts, read_members};
+use crate::recipient::{Recipient, RecipientMembers, RecipientParts, is_plain, read_recipient};
 use crate::recipient_list::RecipientList;
-use keys::read_json;
+use crate::texts::is_json_form;
+use keys::{MOST_RECIPIENTS, read_json};
 use octets::{Refusal, b64_decode, needs, without_line_end};
 use serde_json::{Map, Value};
 use std::alloc::Global;
@@ -37,6 +37,18 @@ pub struct JweParts {
     pub recipients: Vec<RecipientParts>,
 }
 
+/// The same, whose headers have compact texts.
+#[derive(Drop)]
+pub(crate) struct JweMembers {
+    pub(crate) protected: String,
+    pub(crate) unprotected: HeaderMembers,
+    pub(crate) iv: Vec<u8>,
+    pub(crate) aad: Vec<u8>,
+    pub(crate) ciphertext: Vec<u8>,
+    pub(crate) tag: Vec<u8>,
+    pub(crate) recipients: Vec<RecipientMembers>,
+}
+
 /// An encrypted object. It has 64 recipients at most.
 #[derive(Drop)]
 pub struct Jwe {
@@ -51,21 +63,22 @@ pub struct Jwe {
 }
 
 impl Jwe {
-    /// The object of a text in compact form, with an LF or a CR LF at its end or without, or in flattened JSON form
-    /// (RFC 7516 section 7). Its causes of refusal, each over the whole text before the next: `Json` and `Number` of a
-    /// JSON text; `Form`; `Base64`; then, of the protected header, `Json`, `Number`, and `Header` where it is no
-    /// object; `Header` where the joint header is none, or what it says of the algorithms is wrong; and `Unsupported`
-    /// where it has a `crit` or a `zip`. Whether the algorithms are supported is not asked.
+    /// The object of a text in compact form, with an LF or a CR LF at its end or without, or in JSON form, general or
+    /// flattened (RFC 7516 section 7). Its causes of refusal, each over the whole text before the next: `Json` and `Number`
+    /// of a JSON text; `Form`; `Limit` where there are more than 64 recipients; `Base64`; then, of the protected header,
+    /// `Json`, `Number`, and `Header` where it is no object; `Header` where a joint header is none, or what it says of the
+    /// algorithms is wrong, or their `enc` is not the same; and `Unsupported` where a header has a `crit` or a `zip`. Whether
+    /// the algorithms are supported is not asked.
     #[tactic(auto, unfolding(crate::specs::Jwe::jwe_of, crate::specs::Jwe::jwe_texts))]
     pub fn read(alloc: Global, text: &[u8]) -> Result<Jwe, Refusal>
-        ensures { AgreesUnlessMemory jwe_view result (jwe_of text.now) }
+        ensures { AgreesUnlessMemory jwe_view result (jwe_of limits text.now) }
     {
         if is_json_form(text) {
             let value = read_json(alloc, text)?;
-            let texts = flattened_texts(&value)?;
+            let texts = json_texts(alloc, &value)?;
             object_of_texts(alloc, texts)
         } else {
-            let texts = compact_texts(without_line_end(text))?;
+            let texts = compact_texts(alloc, without_line_end(text))?;
             object_of_texts(alloc, texts)
         }
     }
@@ -131,12 +144,12 @@ impl Jwe {
 /// The object whose members have these texts.
 #[tactic(auto, unfolding(crate::specs::Jwe::object_of_texts))]
 fn object_of_texts(alloc: Global, texts: JweTexts<'_>) -> Result<Jwe, Refusal>
-    requires { texts_have_float (texts_view texts) ≡ false }
-    ensures { AgreesUnlessMemory jwe_view result (object_of_jwe_texts (texts_view texts.entry)) }
+    ensures { AgreesUnlessMemory jwe_view result (object_of_jwe_texts limits (texts_view texts.entry)) }
 {
+    needs(texts.recipients.len() <= MOST_RECIPIENTS, Refusal::Limit)?;
     let protected = b64_decode(alloc, texts.protected())?;
-    let parts = read_parts(alloc, texts, &protected)?;
-    encrypted_object(alloc, &protected, parts)
+    let members = read_members(alloc, texts, &protected)?;
+    encrypted_object(alloc, &protected, members)
 }
 
 /// The object with these members and these octets of its protected header.
@@ -144,13 +157,12 @@ fn object_of_texts(alloc: Global, texts: JweTexts<'_>) -> Result<Jwe, Refusal>
 pub(crate) fn encrypted_object(
     alloc: Global,
     octets: &[u8],
-    parts: JweParts,
+    members: JweMembers,
 ) -> Result<Jwe, Refusal>
-    requires no_float { parts_have_float (parts_view parts) ≡ false }
-    requires few { length parts.recipients.items ≤ limits.recipients }
-    ensures { AgreesUnlessMemory jwe_view result (encrypted_object_of octets.now (parts_view parts)) }
+    requires few { length members.recipients.items ≤ limits.recipients }
+    ensures { AgreesUnlessMemory jwe_view result (encrypted_object_of octets.now (jwe_members_view members)) }
 {
-    let JweParts {
+    let JweMembers {
         protected,
         unprotected,
         iv,
@@ -158,15 +170,20 @@ pub(crate) fn encrypted_object(
         ciphertext,
         tag,
         recipients,
-    } = parts;
+    } = members;
     let protected_members = read_protected(alloc, octets)?;
-    let plain = are_plain(&protected_members, &unprotected, &recipients);
-    let recipients = recipients_of_one_enc(alloc, &protected_members, &unprotected, recipients)?;
+    let plain = are_plain(&protected_members, &unprotected.map, &recipients);
+    let recipients = recipients_of_one_enc(
+        alloc,
+        &protected_members,
+        &unprotected.map,
+        recipients,
+    )?;
     needs(plain, Refusal::Unsupported)?;
     Ok(Jwe {
         protected,
         protected_members,
-        unprotected: HeaderMembers { map: unprotected },
+        unprotected,
         iv,
         aad,
         ciphertext,
@@ -176,38 +193,37 @@ pub(crate) fn encrypted_object(
 }
 
 /// No part of a header has a member that is refused.
-#[tactic(auto, using(crate::proofs::Recipients::all_plain))]
+#[tactic(auto, using(crate::proofs::Each::views))]
 fn are_plain(
     protected: &Map<String, Value>,
     unprotected: &Map<String, Value>,
-    recipients: &[RecipientParts],
+    recipients: &[RecipientMembers],
 ) -> bool
-    ensures { result ≡ are_plain_parts (members_view protected.now.entries) (members_view unprotected.now.entries) (map recipient_parts_view recipients.now) }
+    ensures { result ≡ are_plain_parts (members_view protected.now.entries) (members_view unprotected.now.entries) (map recipient_members_view recipients.now) }
 {
     is_plain(protected) && is_plain(unprotected) && have_plain_headers(recipients)
 }
 
 /// No per-recipient header has such a member.
-fn have_plain_headers(recipients: &[RecipientParts]) -> bool
-    ensures { result ≡ list_all (λ r. is_plain_header (recipient_parts_view r).header) recipients.now }
+fn have_plain_headers(recipients: &[RecipientMembers]) -> bool
+    ensures { result ≡ list_all (λ r. is_plain_header (recipient_members_view r).header) recipients.now }
 {
     recipients
         .iter()
-        .all(|recipient| is_plain(&recipient.header))
+        .all(|recipient| is_plain(&recipient.header.map))
 }
 
 /// The recipients, whose `enc` is the same for all.
-#[tactic(auto, unfolding(crate::specs::Jwe::recipients_of_one_enc), using(crate::proofs::Recipients::as_many))]
+#[tactic(auto, unfolding(crate::specs::Jwe::recipients_of_one_enc), using(crate::proofs::Each::as_many_views))]
 fn recipients_of_one_enc(
     alloc: Global,
     protected: &Map<String, Value>,
     unprotected: &Map<String, Value>,
-    parts: Vec<RecipientParts>,
+    parts: Vec<RecipientMembers>,
 ) -> Result<Vec<Recipient>, Refusal>
-    requires { recipients_have_float (map recipient_parts_view parts.items) ≡ false }
     ensures as_many { IfOk result (λ recipients. length recipients.items ≡ length parts.items) }
     ensures exact { AgreesUnlessMemory (λ recipients. map recipient_view recipients.items) result
-        (recipients_of_one_enc (members_view protected.now.entries) (members_view unprotected.now.entries) (map recipient_parts_view parts.items)) }
+        (recipients_of_one_enc (members_view protected.now.entries) (members_view unprotected.now.entries) (map recipient_members_view parts.items)) }
 {
     let recipients = read_recipients(alloc, protected, unprotected, parts)?;
     needs(have_one_enc(&recipients), Refusal::Header)?;
@@ -215,16 +231,15 @@ fn recipients_of_one_enc(
 }
 
 /// The recipients, in order, by the other parts of their joint headers.
-#[tactic(auto, using(crate::proofs::Recipients::with_none_done, crate::proofs::Recipients::with_one_more, crate::proofs::Recipients::with_one_refused, crate::proofs::Recipients::rest_without_float))]
+#[tactic(auto, using(crate::proofs::Each::reading))]
 fn read_recipients(
     alloc: Global,
     protected: &Map<String, Value>,
     unprotected: &Map<String, Value>,
-    parts: Vec<RecipientParts>,
+    parts: Vec<RecipientMembers>,
 ) -> Result<Vec<Recipient>, Refusal>
-    requires { recipients_have_float (map recipient_parts_view parts.items) ≡ false }
     ensures { AgreesUnlessMemory (λ recipients. map recipient_view recipients.items) result
-        (recipients_of (members_view protected.now.entries) (members_view unprotected.now.entries) (map recipient_parts_view parts.items)) }
+        (recipients_of (members_view protected.now.entries) (members_view unprotected.now.entries) (map recipient_members_view parts.items)) }
 {
     let mut recipients = Vec::new(alloc);
     for recipient in parts {

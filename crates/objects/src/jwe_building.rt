@@ -1,45 +1,47 @@
 //! Encrypted objects that are made of their members. It sees no text of an object.
-ghost use Rattle.std.specs.Prelude.{◌≡◌, true, false, nat_le, suc};
+ghost use Rattle.std.specs.Prelude.{◌≡◌, true, length, map, nat_le, suc, IfOk, IfErr};
 ghost use Rattle.std.specs.List.{list_all};
 ghost use Rattle.serde_json.specs.Data.{members_depth};
 ghost use Rattle.octets.specs.Outcomes.{AgreesUnlessMemory};
 ghost use Rattle.keys.specs.Json.{member_numbers_are_whole};
-ghost use Rattle.objects.specs.Jwe.{built, header_depth, nest_at_most as nest_at_most_parts, have_whole_numbers as have_whole_numbers_parts, parts_have_float};
-ghost use Rattle.objects.specs.Views.{jwe_view, parts_view, recipient_parts_view};
+ghost use Rattle.keys.specs.Limits.{limits};
+ghost use Rattle.objects.specs.Jwe.{built, is_shallow as is_shallow_object, have_whole_numbers as have_whole_numbers_parts};
+ghost use Rattle.objects.specs.Views.{jwe_view, jwe_members_view, parts_view, recipient_members_view, recipient_parts_view};
 
-use crate::jwe::{Jwe, JweParts, encrypted_object};
-use crate::recipient::RecipientParts;
-use keys::{laws, members_have_whole_numbers, object_nests_at_most};
+use crate::header::with_whole_numbers;
+use crate::jwe::{Jwe, JweMembers, JweParts, encrypted_object};
+use crate::recipient::{RecipientMembers, RecipientParts};
+use crate::texts::{HEADER_DEPTH, depth_of_each};
+use keys::{MOST_RECIPIENTS, members_have_whole_numbers, object_nests_at_most};
 use octets::{Refusal, b64_decode, needs};
 use std::alloc::Global;
 
-/// How deep a header of an object may nest, whose text nests one deeper, and is read up to 127 deep.
-const HEADER_DEPTH: usize = 126;
-
 impl Jwe {
     /// The object with these members. Its causes of refusal are those of its JSON text, each over the whole object before
-    /// the next: `Json` where a header nests more than 126 deep; `Number` where it holds a number that is no whole number of
-    /// 64 bits; `Form` where there is not one recipient; `Base64` where the text of the protected header is no base64url
-    /// text; and then those of `Jwe::read`, from those of the protected header on.
+    /// the next: `Json` where that nests more than 127 deep; `Number` where a header holds a number that is no whole number
+    /// of 64 bits; `Form` where there is no recipient; `Limit` where there are more than 64; `Base64` where the text of the
+    /// protected header is no base64url text; and then those of `Jwe::read`, from those of the protected header on.
     #[tactic(auto, unfolding(crate::specs::Jwe::built))]
     pub fn build(alloc: Global, parts: JweParts) -> Result<Jwe, Refusal>
-        ensures { AgreesUnlessMemory jwe_view result (built (parts_view parts)) }
+        ensures { AgreesUnlessMemory jwe_view result (built limits (parts_view parts)) }
     {
-        needs(nest_at_most(&parts, HEADER_DEPTH), Refusal::Json)?;
+        needs(is_shallow(&parts), Refusal::Json)?;
         needs(have_whole_numbers(&parts), Refusal::Number)?;
-        needs(parts.recipients.len() == 1, Refusal::Form)?;
+        needs(!parts.recipients.is_empty(), Refusal::Form)?;
+        needs(parts.recipients.len() <= MOST_RECIPIENTS, Refusal::Limit)?;
         let protected = b64_decode(alloc, parts.protected.as_bytes())?;
-        encrypted_object(alloc, &protected, parts)
+        let members = members_of_parts(alloc, parts)?;
+        encrypted_object(alloc, &protected, members)
     }
 }
 
-/// No header nests deeper.
-#[tactic(auto, using(crate::proofs::Recipients::all_shallow))]
-fn nest_at_most(parts: &JweParts, depth: usize) -> bool
-    ensures { result ≡ nest_at_most_parts depth (parts_view parts.now) }
+/// No header is too deep for the JSON text.
+#[tactic(auto, using(crate::proofs::Each::views))]
+fn is_shallow(parts: &JweParts) -> bool
+    ensures { result ≡ is_shallow_object (parts_view parts.now) }
 {
-    object_nests_at_most(&parts.unprotected, depth)
-        && headers_nest_at_most(&parts.recipients, depth)
+    object_nests_at_most(&parts.unprotected, HEADER_DEPTH)
+        && headers_nest_at_most(&parts.recipients, depth_of_each(parts.recipients.len()))
 }
 
 fn headers_nest_at_most(recipients: &[RecipientParts], depth: usize) -> bool
@@ -51,12 +53,10 @@ fn headers_nest_at_most(recipients: &[RecipientParts], depth: usize) -> bool
 }
 
 /// No header holds a number that is not whole.
-#[tactic(auto, using(crate::proofs::Recipients::all_whole, crate::proofs::Recipients::no_floats))]
+#[tactic(auto, using(crate::proofs::Each::views))]
 fn have_whole_numbers(parts: &JweParts) -> bool
-    ensures whole { result ≡ have_whole_numbers_parts (parts_view parts.now) }
-    ensures no_float { result ≡ true → parts_have_float (parts_view parts.now) ≡ false }
+    ensures { result ≡ have_whole_numbers_parts (parts_view parts.now) }
 {
-    laws::members_keep_floats_out();
     members_have_whole_numbers(&parts.unprotected) && headers_have_whole_numbers(&parts.recipients)
 }
 
@@ -66,4 +66,53 @@ fn headers_have_whole_numbers(recipients: &[RecipientParts]) -> bool
     recipients
         .iter()
         .all(|recipient| members_have_whole_numbers(&recipient.header))
+}
+
+/// The members, whose numbers are whole.
+#[tactic(auto, using(crate::proofs::Each::views))]
+fn members_of_parts(alloc: Global, parts: JweParts) -> Result<JweMembers, Refusal>
+    requires { have_whole_numbers_parts (parts_view parts) ≡ true }
+    ensures members { IfOk result (λ members. jwe_members_view members ≡ parts_view parts) }
+    ensures memory { IfErr result (λ e. e ≡ Refusal.Memory) }
+{
+    let JweParts {
+        protected,
+        unprotected,
+        iv,
+        aad,
+        ciphertext,
+        tag,
+        recipients,
+    } = parts;
+    Ok(JweMembers {
+        protected,
+        unprotected: with_whole_numbers(unprotected),
+        iv,
+        aad,
+        ciphertext,
+        tag,
+        recipients: members_of_recipients(alloc, recipients)?,
+    })
+}
+
+fn members_of_recipients(
+    alloc: Global,
+    parts: Vec<RecipientParts>,
+) -> Result<Vec<RecipientMembers>, Refusal>
+    requires { list_all (λ r. member_numbers_are_whole (recipient_parts_view r).header) parts.items ≡ true }
+    ensures members { IfOk result (λ recipients. map recipient_members_view recipients.items ≡ map recipient_parts_view parts.items) }
+    ensures memory { IfErr result (λ e. e ≡ Refusal.Memory) }
+{
+    let mut recipients = Vec::new(alloc);
+    for recipient in parts {
+        let RecipientParts {
+            header,
+            encrypted_key,
+        } = recipient;
+        recipients.push(RecipientMembers {
+            header: with_whole_numbers(header),
+            encrypted_key,
+        })?;
+    }
+    Ok(recipients)
 }

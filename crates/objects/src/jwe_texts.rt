@@ -1,40 +1,44 @@
-//! The members of an encrypted object as texts, by its compact or its flattened JSON serialization (RFC 7516 section
-//! 7). It decodes them, and reads no header.
-ghost use Rattle.std.specs.Prelude.{◌≡◌, ◌∷◌, [], false, length, IfOk, IfErr};
-ghost use Rattle.serde_json.specs.View.{view, members_view};
-ghost use Rattle.serde_json.specs.Written.{has_float, members_have_float};
+//! The members of an encrypted object as texts, by its compact or its JSON serialization (RFC 7516 section 7). It decodes
+//! them, and reads no header.
+ghost use Rattle.std.specs.Prelude.{◌≡◌, ◌∷◌, [], false, length, map, IfOk, IfErr};
+ghost use Rattle.serde_json.specs.View.{view, items_view};
+ghost use Rattle.serde_json.specs.Written.{has_float, items_have_float};
 ghost use Rattle.octets.specs.Base64url.{base64url};
 ghost use Rattle.octets.specs.Outcomes.{AgreesUnlessMemory};
-ghost use Rattle.objects.specs.Views.{part_view, shared_view, recipient_texts_view, content_view, texts_view, parts_view};
-ghost use Rattle.objects.specs.Jwe.{text_at, required_text, shared_texts, recipient_texts, content_texts, flattened_texts, compact_texts, parts_of_texts, parts_have_float, texts_have_float};
+ghost use Rattle.objects.specs.Views.{shared_view, recipient_texts_view, content_view, texts_view, jwe_members_view, recipient_members_view};
+ghost use Rattle.objects.specs.Jwe.{shared_texts, recipient_texts, content_texts, no_recipient_at, recipient_objects, json_texts, compact_texts, recipient_parts, parts_of_texts};
+ghost use Rattle.objects.specs.Texts.{each, each_item};
 
-use crate::compact::{split_at_dot, three_parts_of};
-use crate::header::header_at;
-use crate::jwe::JweParts;
-use crate::recipient::RecipientParts;
+use crate::header::{copy_header, has_some_members, header_at, no_members};
+use crate::header_members::HeaderMembers;
+use crate::jwe::JweMembers;
+use crate::recipient::RecipientMembers;
+use crate::texts::{object_list, required_text, split_at_dot, text_at, three_parts_of};
+use keys::laws::members_keep_floats_out;
 use octets::{Refusal, b64_decode, b64_encode, needs};
-use serde_json::{Map, Value};
+use serde_json::Value;
 use std::alloc::Global;
+use std::slice;
 
 /// The members of an encrypted object, with the texts that they have. An absent one is empty.
-#[derive(Clone, Copy)]
+#[derive(Drop)]
 pub(crate) struct JweTexts<'t> {
     shared: SharedTexts<'t>,
-    recipient: RecipientTexts<'t>,
+    pub(crate) recipients: Vec<RecipientTexts<'t>>,
     content: ContentTexts<'t>,
 }
 
 /// What all recipients share beside the content: headers, and additional data.
-#[derive(Clone, Copy)]
+#[derive(Drop)]
 struct SharedTexts<'t> {
     protected: &'t [u8],
-    unprotected: Option<&'t Map<String, Value>>,
+    unprotected: HeaderMembers,
     aad: &'t [u8],
 }
 
-#[derive(Clone, Copy)]
-struct RecipientTexts<'t> {
-    header: Option<&'t Map<String, Value>>,
+#[derive(Drop)]
+pub(crate) struct RecipientTexts<'t> {
+    header: HeaderMembers,
     encrypted_key: &'t [u8],
 }
 
@@ -54,31 +58,31 @@ impl<'t> JweTexts<'t> {
     }
 }
 
-/// The members of a flattened object (RFC 7516 section 7.2.2). Refused with `Form` where one has a wrong type, there
-/// is no `ciphertext`, or there is a member `recipients`.
-#[tactic(auto, unfolding(crate::specs::Jwe::flattened_texts))]
-pub(crate) fn flattened_texts(value: &Value) -> Result<JweTexts<'_>, Refusal>
-    ensures exact { AgreesUnlessMemory texts_view result (flattened_texts (view value.now)) }
-    ensures no_float { IfOk result (λ texts. has_float (view value.now) ≡ false → texts_have_float (texts_view texts) ≡ false) }
+/// The members of an object in JSON form (RFC 7516 section 7.2). Refused with `Form` where one has a wrong type, there is no
+/// `ciphertext`, or what is there of recipients is neither one nor a list of at least one.
+#[tactic(auto, unfolding(crate::specs::Jwe::json_texts))]
+pub(crate) fn json_texts(alloc: Global, value: &Value) -> Result<JweTexts<'_>, Refusal>
+    requires { has_float (view value.now) ≡ false }
+    ensures { AgreesUnlessMemory texts_view result (json_texts (view value.now)) }
 {
-    needs(value.get("recipients").is_none(), Refusal::Form)?;
-    let shared = shared_texts(value)?;
-    let recipient = texts_of_recipient(value)?;
+    let shared = shared_texts(alloc, value)?;
+    let objects = recipient_objects(value)?;
+    let recipients = texts_of_recipients(alloc, objects)?;
     let content = content_texts(value)?;
     Ok(JweTexts {
         shared,
-        recipient,
+        recipients,
         content,
     })
 }
 
 #[tactic(auto, unfolding(crate::specs::Jwe::shared_texts))]
-fn shared_texts(value: &Value) -> Result<SharedTexts<'_>, Refusal>
-    ensures exact { AgreesUnlessMemory shared_view result (shared_texts (view value.now)) }
-    ensures no_float { IfOk result (λ texts. has_float (view value.now) ≡ false → members_have_float (shared_view texts).unprotected ≡ false) }
+fn shared_texts(alloc: Global, value: &Value) -> Result<SharedTexts<'_>, Refusal>
+    requires { has_float (view value.now) ≡ false }
+    ensures { AgreesUnlessMemory shared_view result (shared_texts (view value.now)) }
 {
     let protected = text_at(value, "protected")?;
-    let unprotected = header_at(value, "unprotected")?;
+    let unprotected = copy_header(alloc, value, "unprotected")?;
     let aad = text_at(value, "aad")?;
     Ok(SharedTexts {
         protected,
@@ -87,13 +91,56 @@ fn shared_texts(value: &Value) -> Result<SharedTexts<'_>, Refusal>
     })
 }
 
-#[tactic(auto, unfolding(crate::specs::Jwe::recipient_texts))]
-fn texts_of_recipient(value: &Value) -> Result<RecipientTexts<'_>, Refusal>
-    ensures exact { AgreesUnlessMemory recipient_texts_view result (recipient_texts (view value.now)) }
-    ensures no_float { IfOk result (λ texts. has_float (view value.now) ≡ false → members_have_float (recipient_texts_view texts).header ≡ false) }
+/// The objects that the recipients are: the value itself, or those of its list, beside which nothing of one may stand.
+#[tactic(auto, unfolding(crate::specs::Jwe::recipient_objects))]
+fn recipient_objects(value: &Value) -> Result<&[Value], Refusal>
+    requires { has_float (view value.now) ≡ false }
+    ensures exact { AgreesUnlessMemory (λ objects. items_view objects.now) result (recipient_objects (view value.now)) }
+    ensures no_float { IfOk result (λ objects. items_have_float (items_view objects.now) ≡ false) }
+{
+    members_keep_floats_out();
+    match value.get("recipients") {
+        None => Ok(slice::from_ref(value)),
+        Some(list) => {
+            no_recipient_at(value)?;
+            object_list(list)
+        }
+    }
+}
+
+/// Refused with `Form` where something of a recipient stands in the object.
+#[tactic(auto, unfolding(crate::specs::Jwe::no_recipient_at, crate::specs::Jwe::recipient_texts))]
+fn no_recipient_at(value: &Value) -> Result<(), Refusal>
+    ensures { AgreesUnlessMemory (λ done. done) result (no_recipient_at (view value.now)) }
 {
     let encrypted_key = text_at(value, "encrypted_key")?;
     let header = header_at(value, "header")?;
+    needs(
+        encrypted_key.is_empty() && !has_some_members(header),
+        Refusal::Form,
+    )
+}
+
+/// What the objects hold of recipients.
+#[tactic(auto, using(crate::proofs::Items::reading))]
+fn texts_of_recipients(alloc: Global, objects: &[Value]) -> Result<Vec<RecipientTexts<'_>>, Refusal>
+    requires { items_have_float (items_view objects.now) ≡ false }
+    ensures { AgreesUnlessMemory (λ texts. map recipient_texts_view texts.items) result (each_item recipient_texts (items_view objects.now)) }
+{
+    let mut texts = Vec::new(alloc);
+    for object in objects {
+        texts.push(texts_of_recipient(alloc, object)?)?;
+    }
+    Ok(texts)
+}
+
+#[tactic(auto, unfolding(crate::specs::Jwe::recipient_texts))]
+fn texts_of_recipient(alloc: Global, value: &Value) -> Result<RecipientTexts<'_>, Refusal>
+    requires { has_float (view value.now) ≡ false }
+    ensures { AgreesUnlessMemory recipient_texts_view result (recipient_texts (view value.now)) }
+{
+    let encrypted_key = text_at(value, "encrypted_key")?;
+    let header = copy_header(alloc, value, "header")?;
     Ok(RecipientTexts {
         header,
         encrypted_key,
@@ -114,49 +161,24 @@ fn content_texts(value: &Value) -> Result<ContentTexts<'_>, Refusal>
     })
 }
 
-/// The text of a member that is a string, and none where it is absent. Refused with `Form` where it is no string.
-#[tactic(auto, unfolding(crate::specs::Jwe::text_at))]
-pub fn text_at<'v>(value: &'v Value, name: &str) -> Result<&'v [u8], Refusal>
-    ensures { AgreesUnlessMemory (λ text. text.now) result (text_at name.now (view value.now)) }
-{
-    match value.get(name) {
-        None => Ok(b""),
-        Some(found) => match found.as_str() {
-            None => Err(Refusal::Form),
-            Some(text) => Ok(text.as_bytes()),
-        },
-    }
-}
-
-/// The text of a member that must be there and be a string.
-#[tactic(auto, unfolding(crate::specs::Jwe::required_text))]
-fn required_text<'v>(value: &'v Value, name: &str) -> Result<&'v [u8], Refusal>
-    ensures { AgreesUnlessMemory (λ text. text.now) result (required_text name.now (view value.now)) }
-{
-    match value.get(name).and_then(Value::as_str) {
-        None => Err(Refusal::Form),
-        Some(text) => Ok(text.as_bytes()),
-    }
-}
-
 /// The five parts of a compact text (RFC 7516 section 7.1). Refused with `Form` where there are more or fewer.
 #[tactic(auto, unfolding(crate::specs::Jwe::compact_texts))]
-pub(crate) fn compact_texts(text: &[u8]) -> Result<JweTexts<'_>, Refusal>
-    ensures exact { AgreesUnlessMemory texts_view result (compact_texts text.now) }
-    ensures no_float { IfOk result (λ texts. texts_have_float (texts_view texts) ≡ false) }
+pub(crate) fn compact_texts(alloc: Global, text: &[u8]) -> Result<JweTexts<'_>, Refusal>
+    ensures { AgreesUnlessMemory texts_view result (compact_texts text.now) }
 {
     let (protected, rest) = split_at_dot(text)?;
     let (encrypted_key, rest) = split_at_dot(rest)?;
     let (iv, ciphertext, tag) = three_parts_of(rest)?;
     let shared = SharedTexts {
         protected,
-        unprotected: None,
+        unprotected: no_members(alloc),
         aad: b"",
     };
-    let recipient = RecipientTexts {
-        header: None,
+    let mut recipients = Vec::new(alloc);
+    recipients.push(RecipientTexts {
+        header: no_members(alloc),
         encrypted_key,
-    };
+    })?;
     let content = ContentTexts {
         iv,
         ciphertext,
@@ -164,7 +186,7 @@ pub(crate) fn compact_texts(text: &[u8]) -> Result<JweTexts<'_>, Refusal>
     };
     Ok(JweTexts {
         shared,
-        recipient,
+        recipients,
         content,
     })
 }
@@ -172,58 +194,72 @@ pub(crate) fn compact_texts(text: &[u8]) -> Result<JweTexts<'_>, Refusal>
 /// The octets that the texts of the members mean, where those of the protected header's text are known. Refused with
 /// `Base64` where a text is no base64url text.
 #[tactic(auto, unfolding(crate::specs::Jwe::parts_of_texts))]
-pub(crate) fn read_parts(
+pub(crate) fn read_members(
     alloc: Global,
     texts: JweTexts<'_>,
     protected: &[u8],
-) -> Result<JweParts, Refusal>
-    requires received { base64url protected.now ≡ texts.shared.protected.now }
-    ensures exact { AgreesUnlessMemory parts_view result (parts_of_texts (texts_view texts.entry)) }
-    ensures single { IfOk result (λ parts. length parts.recipients.items ≡ 1) }
-    ensures no_float { IfOk result (λ parts. texts_have_float (texts_view texts.entry) ≡ false → parts_have_float (parts_view parts) ≡ false) }
+) -> Result<JweMembers, Refusal>
+    requires { base64url protected.now ≡ texts.shared.protected.now }
+    ensures exact { AgreesUnlessMemory jwe_members_view result (parts_of_texts (texts_view texts.entry)) }
+    ensures as_many { IfOk result (λ members. length members.recipients.items ≡ length texts.entry.recipients.items) }
 {
-    let aad = b64_decode(alloc, texts.shared.aad)?;
-    let encrypted_key = b64_decode(alloc, texts.recipient.encrypted_key)?;
-    let iv = b64_decode(alloc, texts.content.iv)?;
-    let ciphertext = b64_decode(alloc, texts.content.ciphertext)?;
-    let tag = b64_decode(alloc, texts.content.tag)?;
-    let header = copy(alloc, texts.recipient.header)?;
-    let recipient = RecipientParts {
-        header,
-        encrypted_key,
-    };
-    Ok(JweParts {
+    let JweTexts {
+        shared,
+        recipients,
+        content,
+    } = texts;
+    let SharedTexts {
+        unprotected,
+        aad,
+        ..
+    } = shared;
+    let aad = b64_decode(alloc, aad)?;
+    let recipients = members_of_recipients(alloc, recipients)?;
+    let iv = b64_decode(alloc, content.iv)?;
+    let ciphertext = b64_decode(alloc, content.ciphertext)?;
+    let tag = b64_decode(alloc, content.tag)?;
+    Ok(JweMembers {
         protected: b64_encode(alloc, protected)?,
-        unprotected: copy(alloc, texts.shared.unprotected)?,
+        unprotected,
         iv,
         aad,
         ciphertext,
         tag,
-        recipients: one(alloc, recipient)?,
+        recipients,
     })
 }
 
-/// A list of one recipient.
-fn one(alloc: Global, recipient: RecipientParts) -> Result<Vec<RecipientParts>, Refusal>
-    ensures list { IfOk result (λ list. list.items ≡ recipient ∷ []) }
-    ensures memory { IfErr result (λ e. e ≡ Refusal.Memory) }
+/// What the texts of the recipients' members mean.
+#[tactic(auto, using(crate::proofs::Each::reading))]
+fn members_of_recipients(
+    alloc: Global,
+    texts: Vec<RecipientTexts<'_>>,
+) -> Result<Vec<RecipientMembers>, Refusal>
+    ensures exact { AgreesUnlessMemory (λ recipients. map recipient_members_view recipients.items) result
+        (each recipient_parts (map recipient_texts_view texts.entry.items)) }
+    ensures as_many { IfOk result (λ recipients. length recipients.items ≡ length texts.entry.items) }
 {
-    let mut list = Vec::new(alloc);
-    list.push(recipient)?;
-    Ok(list)
+    let mut recipients = Vec::new(alloc);
+    for text in texts {
+        recipients.push(members_of_recipient(alloc, text)?)?;
+    }
+    Ok(recipients)
 }
 
-/// A copy of a header. An absent one has no members.
-#[tactic(auto, using(crate::proofs::HeaderMembers::copied_members))]
-pub(crate) fn copy(
+#[tactic(auto, unfolding(crate::specs::Jwe::recipient_parts))]
+fn members_of_recipient(
     alloc: Global,
-    part: Option<&Map<String, Value>>,
-) -> Result<Map<String, Value>, Refusal>
-    ensures members { IfOk result (λ copy. members_view copy.entries ≡ part_view part.entry) }
-    ensures memory { IfErr result (λ e. e ≡ Refusal.Memory) }
+    texts: RecipientTexts<'_>,
+) -> Result<RecipientMembers, Refusal>
+    ensures { AgreesUnlessMemory recipient_members_view result (recipient_parts (recipient_texts_view texts.entry)) }
 {
-    match part {
-        None => Ok(Map::new(alloc)),
-        Some(members) => Ok(members.clone()?),
-    }
+    let RecipientTexts {
+        header,
+        encrypted_key,
+    } = texts;
+    let encrypted_key = b64_decode(alloc, encrypted_key)?;
+    Ok(RecipientMembers {
+        header,
+        encrypted_key,
+    })
 }

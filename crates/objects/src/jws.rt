@@ -1,78 +1,129 @@
-//! Signed objects (RFC 7515). It is given an object's text, and sees no key.
-ghost use Rattle.std.specs.Prelude.{◌≡◌, ℕ, List, IfOk, not, string_bytes};
-ghost use Rattle.std.specs.List.{find};
+//! Signed objects (RFC 7515). It is given an object's text or its members, and sees no key.
+ghost use Rattle.std.specs.Prelude.{◌≡◌, ◌≤◌, length, map, IfOk};
+ghost use Rattle.std.specs.List.{list_all};
 ghost use Rattle.serde_json.specs.View.{members_view};
-ghost use Rattle.octets.specs.LineEnds.{without_line_end};
 ghost use Rattle.octets.specs.Outcomes.{AgreesUnlessMemory};
-ghost use Rattle.objects.specs.Jws.{signed_object, header_alg, is_json_form as is_json_form_text, is_json_space as is_json_space_octet, parts_of, SpellsCompact};
-ghost use Rattle.objects.specs.Views.{jws_view};
+ghost use Rattle.keys.specs.Limits.{limits};
+ghost use Rattle.objects.specs.Jws.{jws_of, object_of_texts as object_of_jws_texts, signed_object as signed_object_of, signatures_of, headed_signature, signature_by, is_plain as is_plain_signature};
+ghost use Rattle.objects.specs.Texts.{each};
+ghost use Rattle.objects.specs.Views.{jws_view, jws_texts_view, signature_view, decoded_view, headed_view};
 
-use crate::compact::{Compact, read_compact};
+use crate::header::{has_no_crit, string_there};
+use crate::header_members::HeaderMembers;
+use crate::jws_texts::{JwsTexts, compact_texts, decoded_signatures, json_texts};
+use crate::signature_list::SignatureList;
+use crate::texts::is_json_form;
 use crate::{Header, read_protected};
-use octets::{Refusal, needs};
+use keys::{MOST_RECIPIENTS, read_json};
+use octets::{Refusal, b64_decode, needs, without_line_end};
 use serde_json::{Map, Value};
 use std::alloc::Global;
 
-/// A signed object with one signature, whose header is all protected. It is made by reading a text, and
-/// keeps what the text says, for a key to verify.
+/// What an object holds of a signature. An absent member is empty.
 #[derive(Drop)]
-pub struct Jws<'t> {
-    protected: &'t [u8],
-    payload_text: &'t [u8],
-    payload: Vec<u8>,
+pub struct SignatureParts {
+    /// The text of the protected header.
+    pub protected: String,
+    /// The unprotected header (RFC 7515 section 7.2.1): the member `header`.
+    pub header: Map<String, Value>,
+    pub signature: Vec<u8>,
+}
+
+/// The members of a signed object.
+#[derive(Drop)]
+pub struct JwsParts {
+    pub payload: Vec<u8>,
+    pub signatures: Vec<SignatureParts>,
+}
+
+/// What an object holds of a signature, whose unprotected header has a compact text.
+#[derive(Drop)]
+pub(crate) struct SignatureMembers {
+    pub(crate) protected: String,
+    pub(crate) header: HeaderMembers,
+    pub(crate) signature: Vec<u8>,
+}
+
+/// With the octets of its protected header.
+#[derive(Drop)]
+pub(crate) struct DecodedSignature {
+    pub(crate) octets: Vec<u8>,
+    pub(crate) members: SignatureMembers,
+}
+
+/// With the members of its protected header.
+#[derive(Drop)]
+struct HeadedSignature {
+    protected: Map<String, Value>,
+    members: SignatureMembers,
+}
+
+/// A signature: its members, and the algorithm that its joint header names.
+#[derive(Drop)]
+pub struct Signature {
+    protected: String,
+    pub(crate) header: HeaderMembers,
     signature: Vec<u8>,
     alg: String,
 }
 
-impl<'t> Jws<'t> {
-    /// The object of a text in compact form (RFC 7515 section 7.1), with an LF or a CR LF at its end or
-    /// without.
-    ///
-    /// Members of the header but `alg` and `crit` are ignored, and so is whether `alg` is supported.
-    /// Nothing is verified.
-    ///
-    /// Refused, in this order, with `Form` where the text is in JSON form, or its parts between dots are
-    /// not three; `Base64` where a part is no base64url text; those of `read_protected` on the protected
-    /// header; `Header` where this has no `alg`, or one that is no string; and `Unsupported` where it has
-    /// a member `crit`, whatever that holds (RFC 7515 section 4.1.11).
-    #[tactic(auto, unfolding(crate::specs::Jws::signed_object))]
-    pub fn read(alloc: Global, text: &'t [u8]) -> Result<Jws<'t>, Refusal>
-        ensures exact { AgreesUnlessMemory jws_view result (signed_object text.now) }
-        ensures spells { IfOk result (λ jws. (header : List ℕ)
-            × SpellsCompact (without_line_end text.now) (parts_of (jws_view jws) header)) }
+/// A signed object. It has 64 signatures at most.
+#[derive(Drop)]
+pub struct Jws {
+    payload: Vec<u8>,
+    signatures: SignatureList,
+}
+
+impl Signature {
+    /// The base64url text of the protected header, as it was received. It begins the signing input (RFC 7515 section 5.2).
+    pub fn protected(&self) -> &str
+        ensures { result.now ≡ (signature_view self.now).protected }
     {
-        needs(!is_json_form(text), Refusal::Form)?;
-        let Compact {
-            protected,
-            payload_text,
-            header,
-            payload,
-            signature,
-        } = read_compact(alloc, text)?;
-        let protected_members = read_protected(alloc, &header)?;
-        let alg = read_alg(alloc, &protected_members)?;
-        Ok(Jws {
-            protected,
-            payload_text,
-            payload,
-            signature,
-            alg,
-        })
+        &self.protected
     }
 
-    /// The base64url text of the protected header, as it was received. It begins the signing input (RFC
-    /// 7515 section 5.2).
-    pub fn protected(&self) -> &[u8]
-        ensures { result.now ≡ (jws_view self.now).protected }
+    /// The unprotected header (RFC 7515 section 7.2.1): the member `header`.
+    pub fn header(&self) -> &Map<String, Value>
+        ensures { members_view result.now.entries ≡ (signature_view self.now).header }
     {
-        self.protected
+        &self.header.map
     }
 
-    /// The base64url text of the payload, as it was received. It ends the signing input.
-    pub fn payload_text(&self) -> &[u8]
-        ensures { result.now ≡ (jws_view self.now).payload_text }
+    /// The octets of the signature.
+    pub fn signature(&self) -> &[u8]
+        ensures { result.now ≡ (signature_view self.now).signature }
     {
-        self.payload_text
+        &self.signature
+    }
+
+    /// The name of the algorithm (RFC 7515 section 4.1.1), which may be one that is not supported.
+    pub fn alg(&self) -> &str
+        ensures { result.now ≡ (signature_view self.now).alg }
+    {
+        &self.alg
+    }
+}
+
+impl Jws {
+    /// The object of a text in compact form, with an LF or a CR LF at its end or without, or in JSON form, general or
+    /// flattened (RFC 7515 section 7). Nothing is verified, and whether the algorithms are supported is not asked.
+    ///
+    /// Its causes of refusal, each over the whole text before the next: `Json` and `Number` of a JSON text; `Form`; `Limit`
+    /// where there are more than 64 signatures; `Base64`; then, of each protected header in order, `Json`, `Number`, and
+    /// `Header` where it is no object; `Header` where a joint header is none, or has no `alg` or one that is no string; and
+    /// `Unsupported` where a header has a `crit`, whatever that holds (RFC 7515 section 4.1.11).
+    #[tactic(auto, unfolding(crate::specs::Jws::jws_of, crate::specs::Jws::jws_texts))]
+    pub fn read(alloc: Global, text: &[u8]) -> Result<Jws, Refusal>
+        ensures { AgreesUnlessMemory jws_view result (jws_of limits text.now) }
+    {
+        if is_json_form(text) {
+            let value = read_json(alloc, text)?;
+            let texts = json_texts(alloc, &value)?;
+            object_of_texts(alloc, texts)
+        } else {
+            let texts = compact_texts(alloc, without_line_end(text))?;
+            object_of_texts(alloc, texts)
+        }
     }
 
     /// The octets of the payload.
@@ -82,54 +133,132 @@ impl<'t> Jws<'t> {
         &self.payload
     }
 
-    /// The octets of the signature.
-    pub fn signature(&self) -> &[u8]
-        ensures { result.now ≡ (jws_view self.now).signature }
+    /// The signatures, in order.
+    pub fn signatures(&self) -> &[Signature]
+        ensures list { map signature_view result.now ≡ (jws_view self.now).signatures }
+        ensures few { length result.now ≤ limits.recipients }
     {
-        &self.signature
-    }
-
-    /// The name of the algorithm (RFC 7515 section 4.1.1), which may be one that is not supported.
-    pub fn alg(&self) -> &str
-        ensures { result.now ≡ (jws_view self.now).alg }
-    {
-        &self.alg
+        &self.signatures.list
     }
 }
 
-/// The `alg` of a header that is all protected. Refused with `Header` where there is none or it is no
-/// string, and then with `Unsupported` where the header has a member `crit`, whatever it holds.
-#[tactic(auto, unfolding(crate::specs::Jws::header_alg))]
-fn read_alg(alloc: Global, protected: &Map<String, Value>) -> Result<String, Refusal>
-    ensures { AgreesUnlessMemory string_bytes result (header_alg (members_view protected.now.entries)) }
+/// The object whose members have these texts.
+#[tactic(auto, unfolding(crate::specs::Jws::object_of_texts))]
+fn object_of_texts(alloc: Global, texts: JwsTexts<'_>) -> Result<Jws, Refusal>
+    ensures { AgreesUnlessMemory jws_view result (object_of_jws_texts limits (jws_texts_view texts.entry)) }
 {
-    let header = Header::joint(Some(protected), None, None)?;
-    let alg = header.alg()?.ok_or(Refusal::Header)?;
-    needs(!header.has("crit"), Refusal::Unsupported)?;
-    Ok(String::from_str(alloc, alg)?)
+    needs(texts.signatures.len() <= MOST_RECIPIENTS, Refusal::Limit)?;
+    let JwsTexts {
+        payload,
+        signatures,
+    } = texts;
+    let payload = b64_decode(alloc, payload)?;
+    let signatures = decoded_signatures(alloc, signatures)?;
+    signed_object(alloc, payload, signatures)
 }
 
-/// The text is in JSON form: but for white space it begins with a brace.
-#[tactic(auto, unfolding(crate::specs::Jws::is_json_form))]
-pub(crate) fn is_json_form(text: &[u8]) -> bool
-    ensures { result ≡ is_json_form_text text.now }
+/// The object of a payload and these signatures.
+#[tactic(auto, unfolding(crate::specs::Jws::signed_object))]
+pub(crate) fn signed_object(
+    alloc: Global,
+    payload: Vec<u8>,
+    signatures: Vec<DecodedSignature>,
+) -> Result<Jws, Refusal>
+    requires few { length signatures.items ≤ limits.recipients }
+    ensures { AgreesUnlessMemory jws_view result (signed_object_of payload.items (map decoded_view signatures.items)) }
 {
-    match first_octet(text) {
-        None => false,
-        Some(c) => c == b'{',
+    let signatures = read_signatures(alloc, signatures)?;
+    Ok(Jws {
+        payload,
+        signatures: SignatureList { list: signatures },
+    })
+}
+
+/// The signatures, by their headers. Each step is taken for all before the next.
+#[tactic(auto, unfolding(crate::specs::Jws::signatures_of))]
+fn read_signatures(alloc: Global, decoded: Vec<DecodedSignature>) -> Result<Vec<Signature>, Refusal>
+    ensures exact { AgreesUnlessMemory (λ signatures. map signature_view signatures.items) result (signatures_of (map decoded_view decoded.items)) }
+    ensures as_many { IfOk result (λ signatures. length signatures.items ≡ length decoded.items) }
+{
+    let headed = with_headers(alloc, decoded)?;
+    let plain = are_plain(&headed);
+    let signatures = by_headers(alloc, headed)?;
+    needs(plain, Refusal::Unsupported)?;
+    Ok(signatures)
+}
+
+/// With the members of their protected headers, in order.
+#[tactic(auto, using(crate::proofs::Each::reading))]
+fn with_headers(
+    alloc: Global,
+    decoded: Vec<DecodedSignature>,
+) -> Result<Vec<HeadedSignature>, Refusal>
+    ensures exact { AgreesUnlessMemory (λ headed. map headed_view headed.items) result (each headed_signature (map decoded_view decoded.items)) }
+    ensures as_many { IfOk result (λ headed. length headed.items ≡ length decoded.items) }
+{
+    let mut headed = Vec::new(alloc);
+    for signature in decoded {
+        headed.push(with_header(alloc, signature)?)?;
     }
+    Ok(headed)
 }
 
-/// The first octet that is no white space.
-fn first_octet(text: &[u8]) -> Option<u8>
-    ensures { result ≡ find (λ c. not (is_json_space_octet c)) text.now }
+#[tactic(auto, unfolding(crate::specs::Jws::headed_signature))]
+fn with_header(alloc: Global, decoded: DecodedSignature) -> Result<HeadedSignature, Refusal>
+    ensures { AgreesUnlessMemory headed_view result (headed_signature (decoded_view decoded)) }
 {
-    text.iter().copied().find(|c| !is_json_space(*c))
+    let protected = read_protected(alloc, &decoded.octets)?;
+    Ok(HeadedSignature {
+        protected,
+        members: decoded.members,
+    })
 }
 
-/// White space of JSON (RFC 8259 section 2).
-fn is_json_space(c: u8) -> bool
-    ensures { result ≡ is_json_space_octet c }
+/// No header has a `crit`.
+fn are_plain(headed: &[HeadedSignature]) -> bool
+    ensures { result ≡ list_all is_plain_signature (map headed_view headed.now) }
 {
-    c == b' ' || c == b'\t' || c == b'\n' || c == b'\r'
+    headed.iter().all(|signature| is_plain(signature))
+}
+
+fn is_plain(headed: &HeadedSignature) -> bool
+    ensures { result ≡ is_plain_signature (headed_view headed.now) }
+{
+    has_no_crit(&headed.protected) && has_no_crit(&headed.members.header.map)
+}
+
+/// With the algorithms that their joint headers name.
+#[tactic(auto, using(crate::proofs::Each::reading))]
+fn by_headers(alloc: Global, headed: Vec<HeadedSignature>) -> Result<Vec<Signature>, Refusal>
+    ensures exact { AgreesUnlessMemory (λ signatures. map signature_view signatures.items) result (each signature_by (map headed_view headed.items)) }
+    ensures as_many { IfOk result (λ signatures. length signatures.items ≡ length headed.items) }
+{
+    let mut signatures = Vec::new(alloc);
+    for signature in headed {
+        signatures.push(by_header(alloc, signature)?)?;
+    }
+    Ok(signatures)
+}
+
+#[tactic(auto, unfolding(crate::specs::Jws::signature_by, crate::specs::Headers::string_there))]
+fn by_header(alloc: Global, headed: HeadedSignature) -> Result<Signature, Refusal>
+    ensures { AgreesUnlessMemory signature_view result (signature_by (headed_view headed)) }
+{
+    let header = Header::joint(
+        Some(&headed.protected),
+        None,
+        Some(&headed.members.header.map),
+    )?;
+    let alg = string_there(alloc, header.alg()?)?;
+    let SignatureMembers {
+        protected,
+        header,
+        signature,
+    } = headed.members;
+    Ok(Signature {
+        protected,
+        header,
+        signature,
+        alg,
+    })
 }

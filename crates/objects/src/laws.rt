@@ -1,8 +1,11 @@
 //! Laws of the definitions, each the contract of a function that does nothing.
 ghost use Rattle.objects.specs.Headers.{JointHeaderHasAllMembers};
-ghost use Rattle.objects.specs.Jwe.{TextsSpellObjects};
+ghost use Rattle.objects.specs.Jwe as jwe;
+ghost use Rattle.objects.specs.Jws as jws;
 
-use keys::laws::{compact_text_reads_back, members_keep_json, url_texts_are_json};
+use keys::laws::{
+    compact_text_reads_back, members_keep_json, url_texts_are_json, what_is_read_is_json,
+};
 use octets::laws::{
     base64url_decodes_exactly, base64url_decodes_to_octets, base64url_has_url_characters,
     base64url_spells_six_bits,
@@ -13,10 +16,40 @@ pub fn joint_header_has_all_members()
     ensures { JointHeaderHasAllMembers }
 {}
 
+/// The JSON text of a signed object that is made of its members, and its compact text where it has one, are read as this
+/// object.
+pub fn jws_texts_spell_objects()
+    ensures { jws.TextsSpellObjects }
+{
+    compact_text_reads_back();
+    members_keep_json();
+    url_texts_are_json();
+    base64url_decodes_exactly();
+    base64url_decodes_to_octets();
+    base64url_has_url_characters();
+}
+
+/// A signed object that is read can be made of its members.
+pub fn jws_objects_are_made()
+    ensures { jws.ObjectsAreMade }
+{
+    what_is_read_is_json();
+    members_keep_json();
+    base64url_decodes_to_octets();
+}
+
+/// A compact text of a signed object that is read is the compact text of this object, but for a line end.
+pub fn jws_compact_texts_are_exact()
+    ensures { jws.CompactTextsAreExact }
+{
+    base64url_decodes_exactly();
+    base64url_decodes_to_octets();
+}
+
 /// The JSON text of an encrypted object that is made of its members, and its compact text where it has one, are read as
 /// this object.
-pub fn texts_spell_objects()
-    ensures { TextsSpellObjects }
+pub fn jwe_texts_spell_objects()
+    ensures { jwe.TextsSpellObjects }
 {
     compact_text_reads_back();
     members_keep_json();
@@ -25,4 +58,21 @@ pub fn texts_spell_objects()
     base64url_decodes_to_octets();
     base64url_has_url_characters();
     base64url_spells_six_bits();
+}
+
+/// An encrypted object that is read can be made of its members.
+pub fn jwe_objects_are_made()
+    ensures { jwe.ObjectsAreMade }
+{
+    what_is_read_is_json();
+    members_keep_json();
+    base64url_decodes_to_octets();
+}
+
+/// A compact text of an encrypted object that is read is the compact text of this object, but for a line end.
+pub fn jwe_compact_texts_are_exact()
+    ensures { jwe.CompactTextsAreExact }
+{
+    base64url_decodes_exactly();
+    base64url_decodes_to_octets();
 }

@@ -1,6 +1,6 @@
-//! JOSE headers (RFC 7515 section 4, RFC 7516 section 4), signed objects in compact form (RFC 7515 section 7.1), and
-//! encrypted objects in compact and in flattened JSON form (RFC 7516 section 7). It may be given objects' texts,
-//! headers as JSON texts and maps, and never sees a key's octets.
+//! JOSE headers (RFC 7515 section 4, RFC 7516 section 4), and signed and encrypted objects in compact form and in JSON
+//! form, general and flattened (RFC 7515 section 7, RFC 7516 section 7). It may be given objects' texts, headers as JSON
+//! texts and maps, and never sees a key's octets.
 //!
 //! ```rust
 //! let protected = read_protected(alloc, b"{\"alg\":\"HS256\"}")?;
@@ -15,7 +15,6 @@
 //! ```
 #![tactic(auto)]
 
-mod compact;
 mod header;
 mod header_members;
 mod jwe;
@@ -23,13 +22,19 @@ mod jwe_building;
 mod jwe_texts;
 mod jwe_writing;
 mod jws;
+mod jws_building;
+mod jws_texts;
+mod jws_writing;
 mod key_management;
 pub mod laws;
 mod recipient;
 mod recipient_list;
+mod signature_list;
+mod texts;
+mod written;
 
 pub use header::{Header, header_at, read_protected};
 pub use jwe::{Jwe, JweParts};
-pub use jwe_texts::text_at;
-pub use jws::Jws;
+pub use jws::{Jws, JwsParts, Signature, SignatureParts};
 pub use recipient::{Recipient, RecipientParts};
+pub use texts::text_at;

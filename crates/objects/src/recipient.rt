@@ -1,16 +1,13 @@
 //! The recipients of an encrypted object (RFC 7516). It sees their headers, and no key.
-ghost use Rattle.std.specs.Prelude.{◌≡◌, ◌≤◌, true, false, is_some, option_map, IfOk, string_bytes};
-ghost use Rattle.serde_json.specs.Find.{get_member};
-ghost use Rattle.std.specs.Option.{ok_or};
+ghost use Rattle.std.specs.Prelude.{◌≡◌, ◌≤◌, true, IfOk, string_bytes};
 ghost use Rattle.serde_json.specs.View.{members_view};
-ghost use Rattle.serde_json.specs.Written.{members_have_float};
 ghost use Rattle.octets.specs.Outcomes.{AgreesUnlessMemory};
 ghost use Rattle.objects.specs.Jwe.{recipient_of, parameters_of, password_parameters, reads_password as reads_password_by, is_count_of, is_plain as is_plain_header};
 ghost use Rattle.keys.specs.Algorithms.{management_alg_of};
-ghost use Rattle.objects.specs.Views.{header_view, recipient_view, recipient_parts_view, parameters_view};
+ghost use Rattle.objects.specs.Views.{header_view, recipient_view, recipient_members_view, parameters_view};
 
 use crate::Header;
-use crate::header::part_member;
+use crate::header::{has_no_crit, part_member, string_there};
 use crate::header_members::HeaderMembers;
 use crate::key_management::KeyManagement;
 use keys::ManagementAlg;
@@ -25,6 +22,13 @@ pub struct RecipientParts {
     pub header: Map<String, Value>,
     /// The encrypted key, of no octets where the content encryption key is agreed on.
     pub encrypted_key: Vec<u8>,
+}
+
+/// The same, whose header has a compact text.
+#[derive(Drop)]
+pub(crate) struct RecipientMembers {
+    pub(crate) header: HeaderMembers,
+    pub(crate) encrypted_key: Vec<u8>,
 }
 
 /// A recipient: its members, and what its joint header says of the algorithms.
@@ -47,27 +51,30 @@ struct Parameters {
 /// The recipient, by the other parts of its joint header. Refused with `Header` where a name stands in two parts;
 /// where `alg` or `enc` is absent or no string; and, where the algorithm derives a key from a password, where `p2s`
 /// is not the base64url text of at least 8 octets, or `p2c` no whole number from 1.
-#[tactic(auto, unfolding(crate::specs::Jwe::recipient_of, crate::specs::Jwe::recipient_by, crate::specs::Jwe::string_there))]
+#[tactic(auto, unfolding(crate::specs::Jwe::recipient_of, crate::specs::Jwe::recipient_by, crate::specs::Headers::string_there))]
 pub(crate) fn read_recipient(
     alloc: Global,
     protected: &Map<String, Value>,
     unprotected: &Map<String, Value>,
-    parts: RecipientParts,
+    members: RecipientMembers,
 ) -> Result<Recipient, Refusal>
-    requires { members_have_float (recipient_parts_view parts).header ≡ false }
     ensures { AgreesUnlessMemory recipient_view result (recipient_of (members_view protected.now.entries)
-        (members_view unprotected.now.entries) (recipient_parts_view parts)) }
+        (members_view unprotected.now.entries) (recipient_members_view members)) }
 {
-    let header = Header::joint(Some(protected), Some(unprotected), Some(&parts.header))?;
+    let header = Header::joint(
+        Some(protected),
+        Some(unprotected),
+        Some(&members.header.map),
+    )?;
     let alg = string_there(alloc, header.alg()?)?;
     let enc = string_there(alloc, header.enc()?)?;
     let Parameters { p2s, p2c } = read_parameters(alloc, &alg, header)?;
-    let RecipientParts {
+    let RecipientMembers {
         header,
         encrypted_key,
-    } = parts;
+    } = members;
     Ok(Recipient {
-        header: HeaderMembers { map: header },
+        header,
         encrypted_key,
         management: KeyManagement { alg, p2s, p2c },
         enc,
@@ -119,13 +126,6 @@ impl Recipient {
     }
 }
 
-/// The text of a parameter that must be there.
-fn string_there(alloc: Global, found: Option<&str>) -> Result<String, Refusal>
-    ensures { AgreesUnlessMemory string_bytes result (ok_or (option_map (λ text. text.now) found.entry) Refusal.Header) }
-{
-    Ok(String::from_str(alloc, found.ok_or(Refusal::Header)?)?)
-}
-
 /// The parameters that the algorithm of this name reads.
 fn read_parameters(alloc: Global, alg: &str, header: Header<'_>) -> Result<Parameters, Refusal>
     ensures exact { AgreesUnlessMemory parameters_view result (parameters_of alg.now (header_view header.entry)) }
@@ -167,12 +167,5 @@ fn reads_password(alg: Option<ManagementAlg>) -> bool
 pub(crate) fn is_plain(header: &Map<String, Value>) -> bool
     ensures { result ≡ is_plain_header (members_view header.now.entries) }
 {
-    !has_member(header, "crit") && !has_member(header, "zip")
-}
-
-/// The header has a member of this name.
-fn has_member(header: &Map<String, Value>, name: &str) -> bool
-    ensures { result ≡ is_some (get_member name.now (members_view header.now.entries)) }
-{
-    part_member(Some(header), name).is_some()
+    has_no_crit(header) && part_member(Some(header), "zip").is_none()
 }

@@ -5,8 +5,8 @@ use Rattle.std.proofs.lemmas.Bool.Decides.{Decides-not, Decides-ltb}
 use Rattle.std.proofs.lemmas.List.{length-take-le}
 use Rattle.std.specs.Option.{IsSomeAnd}
 use Rattle.serde_json.specs.Data.{Members, no_members}
-use Rattle.octets.specs.declared.refusal.Refusal.TheVariants.{Json, Number, Header, Unsupported, Limit, Random}
-use Rattle.octets.specs.Base64url.{base64url, decoded}
+use Rattle.octets.specs.declared.refusal.Refusal.TheVariants.{Header, Unsupported, Limit, Random}
+use Rattle.octets.specs.Base64url.{base64url}
 use Rattle.octets.specs.Octets.{IsOctets}
 use Rattle.octets.specs.Outcomes.{◌>>=◌, needs}
 use Rattle.octets.specs.Plan.{Plan, Draft, plan_from}
@@ -26,15 +26,17 @@ use Rattle.keys.specs.Algorithms.{management_alg_of, encryption_alg_of, is_passw
 use Rattle.keys.specs.Keys.{OctetKey, allows, fits}
 use Rattle.keys.specs.Limits.{limits}
 use Rattle.keys.proofs.UrlTexts.{url_texts_are_json}
-use Rattle.objects.specs.Headers.{all_members, joint_header, protected_members}
-use Rattle.objects.specs.Jwe.{Recipient, RecipientParts, JweParts, EncryptedObject, parameters_of, string_there, recipient_by, recipient_of, recipients_of, recipients_of_one_enc, have_one_enc, are_plain, encrypted_object, header_depth, nest_at_most, have_whole_numbers, built, json_text, jwe_of, AreMembers, TextsSpellObjects}
+use Rattle.objects.specs.Headers.{all_members, joint_header, protected_members, string_there}
+use Rattle.objects.specs.Jwe.{Recipient, RecipientParts, JweParts, EncryptedObject, parameters_of, recipient_by, recipient_of, recipients_of, recipients_of_one_enc, have_one_enc, are_plain, encrypted_object, built, json_text, jwe_of, AreMembers, TextsSpellObjects}
+use Rattle.objects.proofs.SpellingJwe.{is_built}
+use Rattle.objects.proofs.Steps.{steps, passed, same_answer}
 use Rattle.tokens.specs.Algorithms.{Algorithms, content_alg, key_alg}
 use Rattle.tokens.specs.Decrypting.{authenticated, algorithms_of, is_candidate, pairs_to_try, SealedContent, sealed_content, cek_of, opened_by, decrypted}
 use Rattle.tokens.specs.Encrypting.{Encryption, encryption_of, salt_drawn, drawn_cek, cek_drawn, octets_drawn, cek_among, salt_by, after_salt, cek_by, iv_by, with_salt, header_by, sealing_by, sealed_by, encrypted_key_by, parts_by, encrypted, text_of, plan_by, encrypting_by, EncryptedDecrypts}
 use Rattle.tokens.proofs.Candidates.{direct_key_fits}
 use Rattle.tokens.proofs.EncryptedTemplates.{joint_is, Encrypts, encrypts, HeaderReads, header_reads}
+use Rattle.objects.proofs.TextOctets.{octets_of_utf8}
 use Rattle.tokens.proofs.JointParameters.{Named, few_iterations}
-use Rattle.tokens.proofs.RoundTrip.{steps, passed, same_answer, octets_of_utf8}
 
 -- the laws of ciphers that say what is octets
 pub record OctetLaws : Type 0 where
@@ -160,42 +162,39 @@ abbrev pub recipient_by_header : (e : Encryption) (random : List ℕ) → Header
 recipient_by_header e random by = recipient by.management.name by.encryption.name (encrypted_key_by e random) (salt_by e random) e.p2c
 
 -- it is what is built
-pub object_is : (e : Encryption) (random : List ℕ) (s : Sealed) (o : EncryptedObject) (by : HeaderReads e (salt_by e random)) → built (parts_by e random s) ≡ Ok o
+pub object_is : (e : Encryption) (random : List ℕ) (s : Sealed) (o : EncryptedObject) (by : HeaderReads e (salt_by e random)) → built limits (parts_by e random s) ≡ Ok o
     → object_by e random s (header_of e random) (recipient_by_header e random by ∷ []) ≡ o
-unfolding built encrypted_object recipients_of_one_enc
+unfolding encrypted_object recipients_of_one_enc
 object_is e random s o by h =
-    let parts = parts_by e random s in
     let u = e.unprotected in
     let alone : RecipientParts = record { header = no_members; encrypted_key = encrypted_key_by e random } in
-    let shallow = steps (needs (nest_at_most header_depth parts) Json) _ o h in
-    let whole = steps (needs (have_whole_numbers parts) Number) _ o shallow.2 in
-    let octets = steps (decoded (base64url (header_by e random))) _ o whole.2 in
-    let header = steps (protected_members octets.0) _ o octets.2 in
+    let is = is_built limits (parts_by e random s) o h in
+    let header = steps (protected_members is.octets) _ o is.made in
     let recipients = steps (recipients_of_one_enc header.0 u (alone ∷ [])) _ o header.2 in
     let plain = steps (needs (are_plain header.0 u (alone ∷ [])) Unsupported) _ o recipients.2 in
     let all = steps (recipients_of header.0 u (alone ∷ [])) _ recipients.0 recipients.1 in
     let one = steps (needs (have_one_enc all.0) Header) _ recipients.0 all.2 in
     let first = steps (recipient_of header.0 u alone) _ all.0 all.1 in
-    let decodes : header_by e random ≡ octets.0 = same_answer (header_by e random) octets.0 (sym (decodes_exactly.round_trip (header_by e random) by.back.octets) ∙ octets.1) in
+    let decodes : header_by e random ≡ is.octets = same_answer (header_by e random) is.octets (sym (decodes_exactly.round_trip (header_by e random) by.back.octets) ∙ is.decodes) in
     let reads : header_of e random ≡ header.0 = same_answer (header_of e random) header.0 (sym by.back.members ∙ ap protected_members decodes ∙ header.1) in
-    let is : recipient_by_header e random by ≡ first.0 =
+    let same : recipient_by_header e random by ≡ first.0 =
     recipient_is (header_of e random) u (encrypted_key_by e random) e.management e.encryption (salt_by e random) e.p2c first.0 by.management by.encryption by.parameters
     (ap (λ p. recipient_of p u alone) reads ∙ first.1) in
-    ap₂ (object_by e random s) reads (ap (λ (r : Recipient). r ∷ []) is ∙ same_answer (first.0 ∷ []) all.0 first.2 ∙ same_answer all.0 recipients.0 one.2)
+    ap₂ (object_by e random s) reads (ap (λ (r : Recipient). r ∷ []) same ∙ same_answer (first.0 ∷ []) all.0 first.2 ∙ same_answer all.0 recipients.0 one.2)
     ∙ same_answer (object_by e random s header.0 recipients.0) o plain.2
 
 -- the object is read from its text in either form
-text_is_read : Laws → (compact : Bool) (parts : JweParts) (o : EncryptedObject) (text : List ℕ) → AreMembers parts → built parts ≡ Ok o → text_of compact o ≡ Ok text → jwe_of text ≡ Ok o
-text_is_read laws true parts o text members is h = (laws.spells parts o members is).1 text h
-text_is_read laws false parts o text members is h = ap jwe_of (sym (same_answer (json_text o) text h)) ∙ (laws.spells parts o members is).0
+text_is_read : Laws → (compact : Bool) (parts : JweParts) (o : EncryptedObject) (text : List ℕ) → AreMembers parts → built limits parts ≡ Ok o → text_of compact o ≡ Ok text → jwe_of limits text ≡ Ok o
+text_is_read laws true parts o text members is h = (laws.spells limits parts o members is).1 text h
+text_is_read laws false parts o text members is h = ap (jwe_of limits) (sym (same_answer (json_text o) text h)) ∙ (laws.spells limits parts o members is).0
 
 -- ---- what is encrypted
 
 -- the steps of encrypting
 encrypting_steps : (e : Encryption) (random plaintext : List ℕ) (o : EncryptedObject) → encrypted e random plaintext ≡ Ok o
-    → (s : Sealed) × (sealed_by (sealing_by e random) plaintext ≡ Ok s) × (built (parts_by e random s) ≡ Ok o)
+    → (s : Sealed) × (sealed_by (sealing_by e random) plaintext ≡ Ok s) × (built limits (parts_by e random s) ≡ Ok o)
 unfolding encrypted
-encrypting_steps e random plaintext o h = steps (sealed_by (sealing_by e random) plaintext) (λ s. built (parts_by e random s)) o h
+encrypting_steps e random plaintext o h = steps (sealed_by (sealing_by e random) plaintext) (λ s. built limits (parts_by e random s)) o h
 
 -- What is encrypted by just as many random octets as are drawn: the header that is written reads, the content encryption key is
 -- delivered, the plaintext opens what is sealed, and the object is made of members that are as JSON has them, or octets.
@@ -205,7 +204,7 @@ pub record IsEncrypted (key : OctetKey) (e : Encryption) (random plaintext : Lis
   pub delivers : IsDelivered (key_alg e.management) (content_alg e.encryption) key.octets (salt_by e random) e.p2c (encrypted_key_by e random) (cek_by e random)
   pub opens : IsOpening (content_alg e.encryption) (cek_by e random) (iv_by e random) (authenticated (base64url (header_by e random)) e.aad) sealed.ciphertext sealed.tag plaintext
   pub members : AreMembers (parts_by e random sealed)
-  pub made : built (parts_by e random sealed) ≡ Ok o
+  pub made : built limits (parts_by e random sealed) ≡ Ok o
 
 -- all this holds of it
 pub is_encrypted : OctetLaws → (key : OctetKey) (e : Encryption) (random plaintext : List ℕ) (o : EncryptedObject) → IsOctets key.octets → IsOctets random → IsOctets plaintext
@@ -251,7 +250,7 @@ is_encrypted laws key e random plaintext o key_octets random_octets octets long 
 -- its text is that of an object which is decrypted
 decrypts : Laws → (compact : Bool) (key : OctetKey) (e : Encryption) (random plaintext text : List ℕ) → IsOctets key.octets → IsOctets random → IsOctets plaintext
     → length random ≡ octets_drawn e → Encrypts key e → allows key (management_operations e.management).1 ≡ true → (encrypted e random plaintext >>= text_of compact) ≡ Ok text
-    → (jwe_of text >>= decrypted limits (key ∷ [])) ≡ Ok plaintext
+    → (jwe_of limits text >>= decrypted limits (key ∷ [])) ≡ Ok plaintext
 decrypts laws compact key e random plaintext text key_octets random_octets octets long by may h =
     let alg = e.management in
     let enc = e.encryption in

@@ -1,7 +1,7 @@
 -- What a template and a key settle: the header that is written reads back, and the joint header names both algorithms and, for a
 -- password, has its salt and the count of its iterations.
 use Rattle.std.proofs.Common.{◌≡◌, ℕ, ◌≤◌, Bool, true, false, not, nat_le, List, [], ◌∷◌, ◌&&◌, length, codes, if◌then◌else◌, Option, Some, None, is_some, is_none, Result, Ok, IsUtf8, refl, sym, ◌∙◌, ap, ap₂, subst, arith}
-use Rattle.std.proofs.lemmas.Bool.{leb-true, le-leb}
+use Rattle.std.proofs.lemmas.Bool.{and_parts, leb-true, le-leb}
 use Rattle.std.proofs.lemmas.List.{nil_from_length}
 use Rattle.std.specs.Option.{ok_or}
 use Rattle.std.specs.Prelude.{◌||◌}
@@ -27,12 +27,15 @@ use Rattle.keys.proofs.JsonParts.{keep_json}
 use Rattle.keys.proofs.UrlTexts.{url_texts_are_json}
 use Rattle.keys.proofs.ValuesRead.{reads_json}
 use Rattle.objects.specs.Headers.{header_at, are_disjoint, all_members, joint_header, string_parameter, number_parameter, salt_parameter}
-use Rattle.objects.specs.Jwe.{text_if_there, text_at, is_plain, PasswordParameters, password_parameters, parameters_of}
+use Rattle.objects.specs.Jwe.{is_plain, PasswordParameters, password_parameters, parameters_of}
+use Rattle.objects.specs.Texts.{text_if_there, text_at}
 use Rattle.objects.proofs.Spelling.{name_is_json}
+use Rattle.objects.proofs.Steps.{steps, passed, same_answer}
 use Rattle.tokens.specs.Encrypting.{TemplateTexts, template_texts, AlgorithmsAsked, supported_management, management_asked, supported_encryption, encryption_asked, algorithms_asked, EncryptionTemplate, encryption_template, chosen_management, chosen_encryption, chosen_p2c, is_written, Encryption, with_name, is_given, with_p2c, with_parameters, may_encrypt, has_no_more, encryption_by, encryption_of, salt_len, with_salt}
 use Rattle.tokens.specs.Template.{is_shallow}
+use Rattle.objects.proofs.TextOctets.{octets_of_utf8}
+use Rattle.tokens.proofs.HeaderTexts.{members_json, ReadsBack, read_back}
 use Rattle.tokens.proofs.JointParameters.{put_parameter, kept_number, enc_is_not_alg, alg_is_not_p2c, enc_is_not_p2c, alg_is_not_p2s, enc_is_not_p2s, p2c_is_not_p2s, Named, IsAsked, still_named, named, still_asked, management_named, encryption_named, management_is_text, encryption_is_text, with_name_json, IsCount, few_iterations, counted, named_count, counted_name, with_p2c_json}
-use Rattle.tokens.proofs.RoundTrip.{steps, passed, both, same_answer, octets_of_utf8, members_json, ReadsBack, read_back}
 
 -- ---- the template
 
@@ -195,9 +198,9 @@ encrypts_by compact key t e is h =
     (with_name_json (is_some t.asked.management) (codes "alg") (management_name m) t.protected (name_is_json url_texts_are_json (codes "alg") refl) (management_is_text m) is.protected)) in
     let made : Encrypts key (record { management = m; encryption = n; key = key.octets; p2c = c; protected = with_parameters t m n c; unprotected = u; aad = t.aad }) = record {
       key_is = refl;
-      fit = (both (allows key (management_operations m).0) (fits key (EncryptionWith m n)) (passed _ KeyDoesNotFit fit.0 fit.1)).1;
+      fit = (and_parts (allows key (management_operations m).0) (fits key (EncryptionWith m n)) (passed _ KeyDoesNotFit fit.0 fit.1)).1;
       protected = json;
-      shallow = (both (is_shallow limits (with_parameters t m n c)) (is_shallow limits u) (passed _ Limit shallow.0 shallow.1)).0;
+      shallow = (and_parts (is_shallow limits (with_parameters t m n c)) (is_shallow limits u) (passed _ Limit shallow.0 shallow.1)).0;
       unprotected = is.unprotected;
       aad = is.aad;
       management = counted_name management_alg_of (codes "alg") there c with_enc u m alg_is_not_p2c

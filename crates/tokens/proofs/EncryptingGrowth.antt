@@ -3,53 +3,32 @@ use Rattle.std.proofs.Common.{◌≡◌, ℕ, zero, suc, ◌<◌, ◌≤◌, Boo
 use Rattle.std.proofs.lemmas.Bool.{cases_lt}
 use Rattle.std.proofs.lemmas.List.{nil_from_length}
 use Rattle.std.specs.Cmp.Lexicographic.{slice_cmp}
-use Rattle.std.specs.List.{list_all}
 use Rattle.std.specs.Option.{IsSomeAnd}
 use Rattle.serde_json.specs.Data.{Data, string, object, Members, no_members, member, put}
-use Rattle.serde_json.specs.Written.{comma_if, compact_text, members_text}
+use Rattle.serde_json.specs.Written.{compact_text, members_text}
 use Rattle.octets.specs.declared.refusal.Refusal.TheVariants.{NotCompact}
-use Rattle.octets.specs.Base64url.{base64url, whole_groups, part_group, is_url_character}
+use Rattle.octets.specs.Base64url.{base64url, whole_groups, is_url_character}
 use Rattle.octets.specs.Octets.{IsOctets}
 use Rattle.octets.specs.Outcomes.{needs}
 use Rattle.octets.specs.Plan.{Begins, Grows}
 use Rattle.octets.proofs.Characters.{has_url_characters}
 use Rattle.octets.proofs.Decoded.{IsOctets-take}
-use Rattle.octets.proofs.Groups.{length-base64url, base64url_whole-append, base64url_whole_part}
+use Rattle.octets.proofs.Groups.{length-base64url}
 use Rattle.ciphers.specs.Sealing.{Sealed}
 use Rattle.ciphers.proofs.Growing.{fixed_grows, ciphertext_grows}
 use Rattle.keys.specs.Keys.{OctetKey}
-use Rattle.keys.proofs.UrlTexts.{url_texts_are_json}
-use Rattle.objects.specs.Jwe.{Recipient, EncryptedObject, put_text, put_header, put_recipient, put_recipients, put_shared, json_text, joined, key_of_first, is_compact, jwe_compact_text, built}
+use Rattle.keys.specs.Limits.{limits}
+use Rattle.objects.specs.Jwe.{Recipient, EncryptedObject, put_recipient, put_recipients, put_shared, json_text, joined, key_of_first, is_compact, jwe_compact_text, built}
+use Rattle.objects.specs.Texts.{put_text, put_header}
 use Rattle.objects.proofs.Characters.{IsUrlText}
+use Rattle.objects.proofs.EachRead.{all_passed}
+use Rattle.objects.proofs.Steps.{steps, same_answer}
 use Rattle.tokens.specs.Algorithms.{content_alg}
 use Rattle.tokens.specs.Decrypting.{authenticated}
 use Rattle.tokens.specs.Encrypting.{Encryption, octets_drawn, salt_by, cek_by, iv_by, header_by, sealing_by, parts_by, encrypted, text_of, aad_member, text_before, within_longest, plan_by, EncryptingGrows}
+use Rattle.tokens.proofs.Beginnings.{begins_behind, begins_all, groups_grow, text_grows, member_text}
 use Rattle.tokens.proofs.EncryptedRoundTrip.{OctetLaws, object_by, header_of, recipient_by_header, object_is, is_encrypted, plan_is}
 use Rattle.tokens.proofs.EncryptedTemplates.{Encrypts, encrypts, HeaderReads}
-use Rattle.tokens.proofs.RoundTrip.{steps, both, same_answer}
-
--- ---- lists that begin others
-
--- behind a list they still do
-begins_behind : (front x y : List ℕ) → Begins x y → Begins (front ++ x) (front ++ y)
-begins_behind front x y b = record { rest = b.rest; continues = ap (λ l. front ++ l) b.continues ∙ sym (append_assoc front x b.rest) }
-
--- what begins a beginning of a list begins the list
-begins_all : (x y z : List ℕ) → Begins x y → Begins y z → Begins x z
-begins_all x y z a b = record { rest = a.rest ++ b.rest; continues = b.continues ∙ ap (λ l. l ++ b.rest) a.continues ∙ append_assoc x a.rest b.rest }
-
--- the text of whole groups goes on
-groups_grow : (x y : List ℕ) → Begins x y → Begins (base64url (whole_groups x)) (base64url (whole_groups y))
-groups_grow x y b = record {
-  rest = base64url (whole_groups (part_group x ++ b.rest));
-  continues = ap (λ l. base64url (whole_groups l)) b.continues ∙ base64url_whole-append x b.rest;
-}
-
--- and begins the text of all
-text_grows : (x y : List ℕ) → Begins x y → Begins (base64url (whole_groups x)) (base64url y)
-text_grows x y b =
-    begins_all (base64url (whole_groups x)) (base64url (whole_groups y)) (base64url y) (groups_grow x y b)
-    (record { rest = base64url (part_group y); continues = base64url_whole_part y })
 
 -- ---- what is fixed of the ciphertext
 
@@ -165,22 +144,6 @@ members_are o r =
 
 -- ---- the JSON text
 
--- a name of letters, digits, `-` and `_`
-url_name : (name : List ℕ) → list_all is_url_character name ≡ true → IsUrlText name
-url_name [] h = tt
-url_name (c ∷ name) h = let parts = both (is_url_character c) (list_all is_url_character name) h in (parts.0, url_name name parts.1)
-
--- a member of such a name and such a text stands between quotes as it is
-member_text : (later : Bool) (name text : List ℕ) (rest : Members) → IsUrlText name → IsUrlText text
-    → members_text later (member name (string text) rest) ≡ comma_if later ++ (34 ∷ (name ++ 34 ∷ 58 ∷ 34 ∷ (text ++ 34 ∷ members_text true rest)))
-member_text later name text rest is_name is_text =
-    let comma : List ℕ = comma_if later in
-    let more : List ℕ = members_text true rest in
-    ap (λ t. comma ++ (t ++ 58 ∷ (compact_text (string text) ++ more))) (url_texts_are_json name is_name).1
-    ∙ ap (λ t. comma ++ ((34 ∷ (name ++ 34 ∷ [])) ++ 58 ∷ (t ++ more))) (url_texts_are_json text is_text).1
-    ∙ ap (λ t. comma ++ (34 ∷ t)) (append_assoc name (34 ∷ []) (58 ∷ 34 ∷ ((text ++ 34 ∷ []) ++ more)))
-    ∙ ap (λ t. comma ++ (34 ∷ (name ++ 34 ∷ 58 ∷ 34 ∷ t))) (append_assoc text (34 ∷ []) more)
-
 -- the text of the member of the additional data
 abbrev aad_text : List ℕ → List ℕ
 aad_text [] = []
@@ -200,7 +163,7 @@ first_text : (aad ciphertext : List ℕ) (later : Members) → IsUrlText aad →
     → Begins (codes "{" ++ aad_text aad ++ codes "\"ciphertext\":\"" ++ ciphertext) (compact_text (object (first_members aad ciphertext later)))
 first_text [] ciphertext later is_aad is_ciphertext = record {
   rest = 34 ∷ members_text true later;
-  continues = ap (λ t. 123 ∷ t) (member_text false (codes "ciphertext") ciphertext later (url_name (codes "ciphertext") refl) is_ciphertext);
+  continues = ap (λ t. 123 ∷ t) (member_text false (codes "ciphertext") ciphertext later (all_passed is_url_character (codes "ciphertext") refl) is_ciphertext);
 }
 first_text (c ∷ aad) ciphertext later is_aad is_ciphertext =
     let rest : List ℕ = 34 ∷ members_text true later in
@@ -208,8 +171,8 @@ first_text (c ∷ aad) ciphertext later is_aad is_ciphertext =
     ≡ (codes "{" ++ (codes "\"aad\":\"" ++ (c ∷ aad) ++ codes "\",") ++ codes "\"ciphertext\":\"" ++ ciphertext) ++ rest = simp append_assoc in
     record {
       rest = rest;
-      continues = ap (λ t. 123 ∷ t) (member_text false (codes "aad") (c ∷ aad) (member (codes "ciphertext") (string ciphertext) later) (url_name (codes "aad") refl) is_aad)
-          ∙ ap (λ t. codes "{\"aad\":\"" ++ ((c ∷ aad) ++ 34 ∷ t)) (member_text true (codes "ciphertext") ciphertext later (url_name (codes "ciphertext") refl) is_ciphertext)
+      continues = ap (λ t. 123 ∷ t) (member_text false (codes "aad") (c ∷ aad) (member (codes "ciphertext") (string ciphertext) later) (all_passed is_url_character (codes "aad") refl) is_aad)
+          ∙ ap (λ t. codes "{\"aad\":\"" ++ ((c ∷ aad) ++ 34 ∷ t)) (member_text true (codes "ciphertext") ciphertext later (all_passed is_url_character (codes "ciphertext") refl) is_ciphertext)
           ∙ regrouped;
     }
 
@@ -230,7 +193,7 @@ json_begins o r alone aad_octets ciphertext_octets =
 
 -- the text begins with what stands before the ciphertext, and with the ciphertext's text
 text_begins : (compact : Bool) (e : Encryption) (random : List ℕ) (s : Sealed) (o : EncryptedObject) (text : List ℕ) → HeaderReads e (salt_by e random) → IsOctets e.aad
-    → IsOctets s.ciphertext → built (parts_by e random s) ≡ Ok o → text_of compact o ≡ Ok text → Begins (text_before compact e random ++ base64url s.ciphertext) text
+    → IsOctets s.ciphertext → built limits (parts_by e random s) ≡ Ok o → text_of compact o ≡ Ok text → Begins (text_before compact e random ++ base64url s.ciphertext) text
 text_begins true e random s o text reads aad_octets ciphertext_octets made h =
     let r : Recipient = recipient_by_header e random reads in
     compact_begins (object_by e random s (header_of e random) (r ∷ [])) r text refl (ap jwe_compact_text (object_is e random s o reads made) ∙ h)

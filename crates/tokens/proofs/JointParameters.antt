@@ -1,6 +1,6 @@
 -- The parameters of a joint header: what is put into the protected header, the names of the algorithms, and the count of iterations.
 use Rattle.std.proofs.Common.{◌≡◌, ℕ, zero, suc, ◌<◌, ◌≤◌, Bool, true, false, not, nat_le, nat_lt, List, [], ◌∷◌, ◌&&◌, codes, slice_index, if◌then◌else◌, Option, Some, None, option_and_then, is_some, Result, Ok, Err, IsUtf8, refl, sym, ◌∙◌, ap, subst, arith}
-use Rattle.std.proofs.lemmas.Bool.{leb-true, ltb-true}
+use Rattle.std.proofs.lemmas.Bool.{and_parts, leb-true, ltb-true}
 use Rattle.std.proofs.lemmas.Str.{IsUtf8-from_ascii}
 use Rattle.std.specs.Option.{option_or}
 use Rattle.std.specs.Prelude.{◌||◌}
@@ -21,8 +21,8 @@ use Rattle.keys.proofs.UrlTexts.{url_texts_are_json}
 use Rattle.objects.specs.Headers.{all_members, string_parameter, number_parameter, if_there}
 use Rattle.objects.proofs.Names.{get_member-all_members}
 use Rattle.objects.proofs.Spelling.{name_is_json}
+use Rattle.objects.proofs.Steps.{same_answer}
 use Rattle.tokens.specs.Encrypting.{chosen_p2c, is_written, with_name, is_given, with_p2c}
-use Rattle.tokens.proofs.RoundTrip.{both, same_answer}
 
 -- ---- what is put into the protected header
 
@@ -135,8 +135,8 @@ ascii_is_text text h = IsUtf8-from_ascii text (all_below text h)
   where
     all_below : (cs : List ℕ) → list_all (λ c. nat_lt c 128) cs ≡ true → (i : ℕ) → slice_index cs i < 128
     all_below [] h i = omega arith
-    all_below (c ∷ cs) h zero = ltb-true c 128 (both (nat_lt c 128) (list_all (λ c. nat_lt c 128) cs) h).0
-    all_below (c ∷ cs) h (suc i) = all_below cs (both (nat_lt c 128) (list_all (λ c. nat_lt c 128) cs) h).1 i
+    all_below (c ∷ cs) h zero = ltb-true c 128 (and_parts (nat_lt c 128) (list_all (λ c. nat_lt c 128) cs) h).0
+    all_below (c ∷ cs) h (suc i) = all_below cs (and_parts (nat_lt c 128) (list_all (λ c. nat_lt c 128) cs) h).1 i
 
 -- the name of a key management is text
 pub management_is_text : (alg : ManagementAlg) → IsUtf8 (management_name alg)
@@ -183,7 +183,7 @@ few_iterations false p u n is = omega (arith, is)
 -- a count that may be written
 written_count : (p u : Members) (n : ℕ) → number_parameter (codes "p2c") (all_members p u no_members) ≡ Ok (Some n) → (nat_le 1000 n && nat_le n 1000000) ≡ true → Counted p u n
 written_count p u n there h =
-    let within = both (nat_le 1000 n) (nat_le n 1000000) h in
+    let within = and_parts (nat_le 1000 n) (nat_le n 1000000) h in
     let least : 1000 ≤ n = leb-true 1000 n within.0 in
     record { is_there = there; some = omega (arith, least); few = leb-true n 1000000 within.1 }
 

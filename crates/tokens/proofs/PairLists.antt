@@ -1,8 +1,7 @@
 -- Lists of pairs beside the lists of recipients and keys that they are made of.
-use Rattle.std.proofs.Common.{◌≡◌, ℕ, suc, ◌*◌, ◌≤◌, Bool, true, false, List, [], ◌∷◌, ◌++◌, length, map, Option, Some, None, is_some, cond, refl, sym, ap, ◌∙◌, arith, append_assoc}
+use Rattle.std.proofs.Common.{◌≡◌, ℕ, suc, ◌*◌, ◌≤◌, Bool, true, false, List, [], ◌∷◌, ◌++◌, length, map, Option, Some, None, cond, refl, sym, ap, ◌∙◌, arith, append_assoc}
 use Rattle.std.proofs.lemmas.List.{length-append, length-map}
-use Rattle.std.specs.List.{filter, list_any}
-use Rattle.std.specs.Prelude.{◌||◌}
+use Rattle.std.specs.List.{filter}
 use Rattle.keys.specs.declared.key.Key.{Key}
 use Rattle.keys.specs.Keys.{OctetKey}
 use Rattle.keys.specs.Views.{key_view}
@@ -13,11 +12,6 @@ use Rattle.tokens.specs.declared.pair.Pair.{Pair as CodePair}
 use Rattle.tokens.specs.Algorithms.{Algorithms}
 use Rattle.tokens.specs.Decrypting.{Pair, algorithms_of, is_candidate, pairs_with, pairs_by, pairs_of, all_pairs, has_pairs}
 use Rattle.tokens.specs.Views.{pair_view}
-
--- whether some recipient's algorithms are supported
-pub any_recipient : (recipients : List Code) → list_any (λ (r : Recipient). is_some (algorithms_of r)) (map recipient_view recipients) ≡ list_any (λ (r : Code). is_some (algorithms_of (recipient_view r))) recipients
-any_recipient [] = refl
-any_recipient (r ∷ recipients) = ap (λ rest. is_some (algorithms_of (recipient_view r)) || rest) (any_recipient recipients)
 
 -- whether there are pairs
 pub some_pairs : (pairs : List CodePair) → 1 ≤ length pairs → has_pairs (map pair_view pairs) ≡ true

@@ -22,10 +22,10 @@ use Rattle.keys.specs.Json.{json_value, is_object, has_only}
 use Rattle.keys.specs.Keys.{OctetKey, allows, fits}
 use Rattle.keys.specs.Limits.{Limits, limits}
 use Rattle.objects.specs.Headers.{header_at, joint_header, string_parameter, number_parameter}
-use Rattle.objects.specs.Jwe.{JweParts, EncryptedObject, text_at, is_plain, built, json_text, jwe_compact_text, jwe_of}
+use Rattle.objects.specs.Jwe.{JweParts, EncryptedObject, is_plain, built, json_text, jwe_compact_text, jwe_of}
+use Rattle.objects.specs.Texts.{text_at}
 use Rattle.tokens.specs.Algorithms.{content_alg, key_alg}
 use Rattle.tokens.specs.Decrypting.{authenticated, decrypted}
-use Rattle.tokens.specs.Signing.{only_key}
 use Rattle.tokens.specs.Template.{is_shallow, is_empty, header_text}
 
 -- ---- the template
@@ -220,6 +220,12 @@ encryption_by limits compact key t = do
     aad = t.aad;
   })
 
+-- so far one key encrypts
+abbrev pub only_key : List OctetKey → Result OctetKey Refusal
+only_key [] = Err Limit
+only_key (key ∷ []) = Ok key
+only_key (key ∷ (other ∷ keys)) = Err Limit
+
 -- that of keys and a template's text, or the first refusal
 unfoldable pub encryption_of : Limits → Bool → List OctetKey → List ℕ → Result Encryption Refusal
 encryption_of limits compact keys text = do
@@ -315,7 +321,7 @@ parts_by e random s = record {
 unfoldable pub encrypted : Encryption → List ℕ → List ℕ → Result EncryptedObject Refusal
 encrypted e random plaintext = do
   s ← sealed_by (sealing_by e random) plaintext
-  built (parts_by e random s)
+  built limits (parts_by e random s)
 
 -- ---- its text
 
@@ -366,4 +372,4 @@ abbrev pub EncryptedDecrypts : Type 0
 EncryptedDecrypts = (compact : Bool) (key : OctetKey) (template random plaintext text : List ℕ)
     → IsOctets key.octets → IsOctets random → IsOctets plaintext → MayDecrypt compact key template
     → planned (plan_from (encrypting_by limits compact (key ∷ []) template) random) plaintext ≡ Ok text
-    → (jwe_of text >>= decrypted limits (key ∷ [])) ≡ Ok plaintext
+    → (jwe_of limits text >>= decrypted limits (key ∷ [])) ≡ Ok plaintext

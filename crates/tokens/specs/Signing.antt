@@ -1,8 +1,11 @@
--- Signing with one key, in compact form (RFC 7515 sections 5.1 and 7.1).
-use Rattle.std.specs.Prelude.{ℕ, ◌&&◌, List, [], ◌∷◌, length, nat_le, if◌then◌else◌, Option, Some, None, Result, Ok, Err}
+-- Signing with each key of a set (RFC 7515 section 5.1), in compact form (section 7.1) or in JSON form (section 7.2).
+use Rattle.std.specs.Prelude.{◌≡◌, ℕ, ◌&&◌, Bool, true, false, List, [], ◌∷◌, ◌++◌, length, map, codes, nat_le, if◌then◌else◌, Option, Some, None, Result, Ok}
+use Rattle.std.specs.List.{list_all}
 use Rattle.std.specs.Option.{ok_or}
+use Rattle.serde_json.specs.Data.{Members, no_members, member, object}
+use Rattle.serde_json.specs.Written.{compact_text}
 use Rattle.octets.specs.declared.refusal.Refusal.{Refusal}
-use Rattle.octets.specs.declared.refusal.Refusal.TheVariants.{NoAlgorithm, KeyDoesNotFit, Limit}
+use Rattle.octets.specs.declared.refusal.Refusal.TheVariants.{NoAlgorithm, KeyDoesNotFit, Limit, NotCompact}
 use Rattle.octets.specs.Outcomes.{◌>>=◌, needs}
 use Rattle.octets.specs.Base64url.{base64url, whole_groups}
 use Rattle.octets.specs.Plan.{Plan, Grows}
@@ -12,17 +15,12 @@ use Rattle.keys.specs.declared.algorithm.SignatureAlg.TheVariants.{Hs256, Hs384,
 use Rattle.keys.specs.declared.operation.Operation.TheVariants.{Sign}
 use Rattle.keys.specs.Algorithms.{signature_alg_of}
 use Rattle.keys.specs.Json.{json_value}
-use Rattle.keys.specs.Limits.{Limits}
+use Rattle.keys.specs.Limits.{Limits, limits}
 use Rattle.keys.specs.Keys.{OctetKey, allows, fits}
-use Rattle.objects.specs.Jws.{CompactParts, compact_text}
-use Rattle.tokens.specs.Template.{SignatureTemplate, template_of, compact_header}
-use Rattle.tokens.specs.Signatures.{signing_input, signature_of, supported}
-
--- the algorithm, the octets of the key, and those of the protected header
-pub record Signer : Type 0 where
-  pub alg : SignatureAlg
-  pub key : List ℕ
-  pub header : List ℕ
+use Rattle.objects.specs.Jws.{SignatureParts, JwsParts, SignedObject, built, json_text, jws_compact_text}
+use Rattle.objects.specs.Texts.{each}
+use Rattle.tokens.specs.Template.{SignatureTemplate, template_of, with_alg, header_text, is_shallow, is_empty}
+use Rattle.tokens.specs.Signatures.{signature_of}
 
 -- ---- the algorithm of a key
 
@@ -44,56 +42,104 @@ abbrev pub chosen_alg : Option SignatureAlg → OctetKey → Result SignatureAlg
 chosen_alg (Some alg) key = Ok alg
 chosen_alg None key = alg_of_key key.alg (length key.octets)
 
--- ---- the signer
+-- ---- the signers
 
--- so far one key signs
-abbrev pub only_key : List OctetKey → Result OctetKey Refusal
-only_key [] = Err Limit
-only_key (key ∷ []) = Ok key
-only_key (key ∷ (other ∷ keys)) = Err Limit
+-- a key, the algorithm that it signs by, and the protected header of its signature
+pub record Signer : Type 0 where
+  pub key : OctetKey
+  pub alg : SignatureAlg
+  pub protected : Members
 
--- the signer that a key makes by a template
-unfoldable pub signer_by : Limits → OctetKey → SignatureTemplate → Result Signer Refusal
-signer_by limits key template = do
-  chosen ← chosen_alg template.alg key
-  alg ← supported (Some chosen)
-  fit ← needs (allows key Sign && fits key (Signature alg)) KeyDoesNotFit
-  header ← compact_header limits template alg
-  Ok (record { alg = alg; key = key.octets; header = header })
+unfoldable pub signer_by : SignatureTemplate → OctetKey → Result Signer Refusal
+signer_by template key = do
+  alg ← chosen_alg template.alg key
+  Ok (record { key = key; alg = alg; protected = with_alg template alg })
 
--- the signer of keys and a template's text, or the first refusal
-unfoldable pub signer_of : Limits → List OctetKey → List ℕ → Result Signer Refusal
-signer_of limits keys text = do
+-- the key may sign, and fits
+abbrev pub may_sign : Signer → Bool
+may_sign s = allows s.key Sign && fits s.key (Signature s.alg)
+
+-- all that keys and a template settle: the signers in order, and the unprotected header of each signature
+pub record Signing : Type 0 where
+  pub signers : List Signer
+  pub header : Members
+
+-- a compact text holds one signature, and no unprotected header
+abbrev pub has_no_more : Bool → Signing → Bool
+has_no_more compact s = if compact then nat_le (length s.signers) 1 && is_empty s.header else true
+
+-- Each step is taken for every key before the next.
+unfoldable pub signing_with : Limits → Bool → List OctetKey → SignatureTemplate → Result Signing Refusal
+signing_with limits compact keys template = do
+  signers ← each (signer_by template) keys
+  fit ← needs (list_all may_sign signers) KeyDoesNotFit
+  shallow ← needs (list_all (λ s. is_shallow limits s.protected) signers && is_shallow limits template.per_signature) Limit
+  alone ← needs (has_no_more compact (record { signers = signers; header = template.per_signature })) NotCompact
+  Ok (record { signers = signers; header = template.per_signature })
+
+-- that of keys and a template's text, or the first refusal
+unfoldable pub signing_of : Limits → Bool → List OctetKey → List ℕ → Result Signing Refusal
+signing_of limits compact keys text = do
   value ← json_value text
   template ← template_of value
-  key ← only_key keys
-  signer_by limits key template
+  signing_with limits compact keys template
 
--- ---- the object
+-- ---- the object of a payload
 
--- the object of a payload: its signature is that of the texts of its header and its payload
-abbrev pub signed : Signer → List ℕ → CompactParts
-signed signer payload = record {
-  protected = base64url signer.header;
-  payload_text = base64url payload;
-  header = signer.header;
-  payload = payload;
-  signature = signature_of signer.alg signer.key (base64url signer.header) (base64url payload);
+-- the text of the protected header
+abbrev pub protected_by : Signer → List ℕ
+protected_by s = base64url (header_text s.protected)
+
+-- the signature is that of this text and the payload
+abbrev pub signature_by : Members → List ℕ → Signer → SignatureParts
+signature_by header payload s = record {
+  protected = protected_by s;
+  header = header;
+  signature = signature_of s.alg s.key.octets (protected_by s) payload;
 }
 
--- the compact text of a payload; the whole groups of its beginning fix the header's text and their own
-abbrev pub plan_by : Signer → Plan (List ℕ)
-plan_by signer = record {
-  whole = λ payload. Ok (compact_text (signed signer payload));
-  fixed = λ front. signing_input (base64url signer.header) (base64url (whole_groups front));
+abbrev pub parts_by : Signing → List ℕ → JwsParts
+parts_by s payload = record { payload = payload; signatures = map (signature_by s.header payload) s.signers }
+
+unfoldable pub signed : Signing → List ℕ → Result SignedObject Refusal
+signed s payload = built limits (parts_by s payload)
+
+-- ---- its text
+
+abbrev pub text_of : Bool → SignedObject → Result (List ℕ) Refusal
+text_of true o = jws_compact_text o
+text_of false o = Ok (json_text o)
+
+-- a header that stands before the other members
+abbrev pub header_member : Members → List ℕ
+header_member no_members = []
+header_member (member k d rest) = codes "\"header\":" ++ compact_text (object (member k d rest)) ++ codes ","
+
+-- what stands before the payload's text: the first part of a compact text, or the first members of a JSON text
+abbrev pub text_before : Bool → Members → List Signer → List ℕ
+text_before compact header [] = codes "{\"payload\":\""
+text_before true header (s ∷ rest) = protected_by s ++ codes "."
+text_before false header (s ∷ []) = codes "{" ++ header_member header ++ codes "\"payload\":\""
+text_before false header (s ∷ (other ∷ rest)) = codes "{\"payload\":\""
+
+-- the text of the object; the whole groups of a beginning of the payload fix the text before it and their own
+abbrev pub plan_by : Bool → Signing → Plan (List ℕ)
+plan_by compact s = record {
+  whole = λ payload. signed s payload >>= text_of compact;
+  fixed = λ front. text_before compact s.header s.signers ++ base64url (whole_groups front);
 }
 
--- that of the signer of keys and a template's text, or the first refusal
-unfoldable pub signing_by : Limits → List OctetKey → List ℕ → Result (Plan (List ℕ)) Refusal
-signing_by limits set template = do
-  signer ← signer_of limits set template
-  Ok (plan_by signer)
+-- that of the signers of keys and a template's text, or the first refusal
+unfoldable pub signing_by : Limits → Bool → List OctetKey → List ℕ → Result (Plan (List ℕ)) Refusal
+signing_by limits compact keys template = do
+  s ← signing_of limits compact keys template
+  Ok (plan_by compact s)
 
--- the plan of every signer goes on as its payload does
+-- the plan of every signing goes on as its payload does
 abbrev pub SigningGrows : Type 0
-SigningGrows = (signer : Signer) → Grows (plan_by signer)
+SigningGrows = (compact : Bool) (s : Signing) → Grows (plan_by compact s)
+
+-- What keys and a template settle makes an object of every payload, and its text.
+abbrev pub SigningMakesTexts : Type 0
+SigningMakesTexts = (compact : Bool) (keys : List OctetKey) (template payload : List ℕ) (plan : Plan (List ℕ)) → nat_le 1 (length keys) ≡ true → nat_le (length keys) limits.recipients ≡ true
+    → signing_by limits compact keys template ≡ Ok plan → (text : List ℕ) × (plan.whole payload ≡ Ok text)

@@ -1,17 +1,16 @@
 -- Templates of signatures: the members `protected` and `header` of a signature in JSON form (RFC 7515 section 7.2.1), as objects.
-use Rattle.std.specs.Prelude.{ℕ, ◌&&◌, Bool, true, false, List, [], ◌∷◌, codes, is_some, is_none, nat_le, if◌then◌else◌, Option, Some, None, Result, Ok, Err}
+use Rattle.std.specs.Prelude.{ℕ, Bool, true, false, List, [], ◌∷◌, codes, is_some, is_none, nat_le, if◌then◌else◌, Option, Some, None, Result, Ok, Err}
 use Rattle.serde_json.specs.Data.{Data, Members, no_members, member, string, object, put, depth}
 use Rattle.serde_json.specs.Find.{get_member}
 use Rattle.serde_json.specs.Written.{compact_text}
 use Rattle.octets.specs.declared.refusal.Refusal.{Refusal}
-use Rattle.octets.specs.declared.refusal.Refusal.TheVariants.{Form, Unsupported, Limit, NotCompact}
+use Rattle.octets.specs.declared.refusal.Refusal.TheVariants.{Form, Unsupported}
 use Rattle.octets.specs.Outcomes.{◌>>=◌, needs}
 use Rattle.keys.specs.declared.algorithm.SignatureAlg.{SignatureAlg}
 use Rattle.keys.specs.Algorithms.{signature_name, signature_alg_of}
 use Rattle.keys.specs.Json.{is_object, has_only}
 use Rattle.keys.specs.Limits.{Limits}
 use Rattle.objects.specs.Headers.{header_at, joint_header, string_parameter}
-use Rattle.tokens.specs.Signatures.{supported}
 
 -- ---- the form
 
@@ -32,13 +31,13 @@ template_headers value = do
 
 -- ---- the algorithm
 
-abbrev pub some_alg : Result SignatureAlg Refusal → Result (Option SignatureAlg) Refusal
-some_alg (Ok alg) = Ok (Some alg)
-some_alg (Err refusal) = Err refusal
+abbrev pub supported : Option SignatureAlg → Result (Option SignatureAlg) Refusal
+supported None = Err Unsupported
+supported (Some alg) = Ok (Some alg)
 
 abbrev pub supported_if_there : Option (List ℕ) → Result (Option SignatureAlg) Refusal
 supported_if_there None = Ok None
-supported_if_there (Some name) = some_alg (supported (signature_alg_of name))
+supported_if_there (Some name) = supported (signature_alg_of name)
 
 -- the algorithm that two headers name together, which have no `crit`
 unfoldable pub named_alg : Members → Members → Result (Option SignatureAlg) Refusal
@@ -73,10 +72,3 @@ is_shallow limits members = nat_le (depth (object members)) limits.depth
 abbrev pub is_empty : Members → Bool
 is_empty no_members = true
 is_empty (member name value rest) = false
-
--- the text of the protected header of a compact text, which holds no other header
-unfoldable pub compact_header : Limits → SignatureTemplate → SignatureAlg → Result (List ℕ) Refusal
-compact_header limits template alg = do
-  shallow ← needs (is_shallow limits (with_alg template alg) && is_shallow limits template.per_signature) Limit
-  alone ← needs (is_empty template.per_signature) NotCompact
-  Ok (header_text (with_alg template alg))

@@ -1,52 +1,73 @@
--- Verifying with any key of a set (RFC 7515 section 5.2).
-use Rattle.std.specs.Prelude.{◌≡◌, ℕ, ◌&&◌, Bool, true, List, [], ◌∷◌, if◌then◌else◌, Result, Ok}
-use Rattle.std.specs.List.{list_any}
+-- Verifying with the keys of a set (RFC 7515 section 5.2).
+use Rattle.std.specs.Prelude.{◌≡◌, ℕ, ◌&&◌, Bool, true, false, List, [], ◌∷◌, ◌++◌, is_some, if◌then◌else◌, Option, Some, None, Result, Ok}
+use Rattle.std.specs.List.{list_any, list_all}
 use Rattle.std.specs.Str.{bytes_eq}
 use Rattle.octets.specs.declared.refusal.Refusal.{Refusal}
-use Rattle.octets.specs.declared.refusal.Refusal.TheVariants.{KeyDoesNotFit, NotOpened}
+use Rattle.octets.specs.declared.refusal.Refusal.TheVariants.{Unsupported, KeyDoesNotFit, NotOpened}
 use Rattle.octets.specs.Outcomes.{◌>>=◌, needs}
 use Rattle.octets.specs.Octets.{IsOctets}
 use Rattle.octets.specs.Plan.{planned}
-use Rattle.keys.specs.declared.algorithm.Algorithm.TheVariants.{Signature}
+use Rattle.keys.specs.declared.algorithm.Algorithm.TheVariants.{Signature as SignedWith}
 use Rattle.keys.specs.declared.algorithm.SignatureAlg.{SignatureAlg}
 use Rattle.keys.specs.declared.operation.Operation.TheVariants.{Verify}
 use Rattle.keys.specs.Algorithms.{signature_alg_of}
 use Rattle.keys.specs.Limits.{limits}
 use Rattle.keys.specs.Keys.{OctetKey, allows, fits}
-use Rattle.objects.specs.Jws.{SignedObject, signed_object}
-use Rattle.tokens.specs.Signatures.{signature_of, supported}
+use Rattle.objects.specs.Jws.{Signature, SignedObject, jws_of}
+use Rattle.tokens.specs.Signatures.{signature_of}
 use Rattle.tokens.specs.Signing.{signing_by}
 
--- the key may verify, and fits
+-- ---- the pairs of a signature and a key
+
+-- the key may verify by the algorithm, and fits
 abbrev pub is_candidate : SignatureAlg → OctetKey → Bool
-is_candidate alg key = allows key Verify && fits key (Signature alg)
+is_candidate alg key = allows key Verify && fits key (SignedWith alg)
 
--- the signature is that of the received texts of the protected header and the payload
-abbrev pub is_signed : SignatureAlg → SignedObject → OctetKey → Bool
-is_signed alg jws key = bytes_eq jws.signature (signature_of alg key.octets jws.protected jws.payload_text)
+-- the signature is that of the received text of the protected header and of the payload
+abbrev pub is_signed : SignatureAlg → List ℕ → Signature → OctetKey → Bool
+is_signed alg payload s key = bytes_eq s.signature (signature_of alg key.octets s.protected payload)
 
--- the key is a candidate, and it signed the object
-abbrev pub verifies : SignatureAlg → SignedObject → OctetKey → Bool
-verifies alg jws key = is_candidate alg key && is_signed alg jws key
+-- the pair is a candidate: the algorithm is supported, and the key may verify by it
+abbrev pub may_verify_by : Option SignatureAlg → OctetKey → Bool
+may_verify_by None key = false
+may_verify_by (Some alg) key = is_candidate alg key
 
--- the payload of an object that verifies with some key, or the first refusal
-unfoldable pub verified_payload : List OctetKey → SignedObject → Result (List ℕ) Refusal
-verified_payload keys jws = do
-  alg ← supported (signature_alg_of jws.alg)
-  candidates ← needs (list_any (is_candidate alg) keys) KeyDoesNotFit
-  verified ← needs (list_any (verifies alg jws) keys) NotOpened
-  Ok jws.payload
+abbrev pub may_verify : Signature → OctetKey → Bool
+may_verify s key = may_verify_by (signature_alg_of s.alg) key
+
+-- the pair is a candidate, and the key signed the object
+abbrev pub verifies_by : Option SignatureAlg → List ℕ → Signature → OctetKey → Bool
+verifies_by None payload s key = false
+verifies_by (Some alg) payload s key = is_candidate alg key && is_signed alg payload s key
+
+abbrev pub verifies : List ℕ → Signature → OctetKey → Bool
+verifies payload s key = verifies_by (signature_alg_of s.alg) payload s key
+
+-- ---- the object
+
+-- each key made a signature, where that is asked for, or else some key made some
+abbrev pub are_verified : Bool → List OctetKey → SignedObject → Bool
+are_verified true keys o = list_all (λ key. list_any (λ s. verifies o.payload s key) o.signatures) keys
+are_verified false keys o = list_any (λ s. list_any (verifies o.payload s) keys) o.signatures
+
+-- the payload of an object that verifies, or the first refusal
+unfoldable pub verified_payload : Bool → List OctetKey → SignedObject → Result (List ℕ) Refusal
+verified_payload all keys o = do
+  supported ← needs (list_any (λ s. is_some (signature_alg_of s.alg)) o.signatures) Unsupported
+  candidates ← needs (list_any (λ s. list_any (may_verify s) keys) o.signatures) KeyDoesNotFit
+  verified ← needs (are_verified all keys o) NotOpened
+  Ok o.payload
 
 -- what is written: the payload, where it is asked for
-unfoldable pub verifying_by : Bool → List OctetKey → SignedObject → Result (List ℕ) Refusal
-verifying_by wanted keys jws = do
-  payload ← verified_payload keys jws
+unfoldable pub verifying_by : Bool → Bool → List OctetKey → SignedObject → Result (List ℕ) Refusal
+verifying_by all wanted keys o = do
+  payload ← verified_payload all keys o
   Ok (if wanted then payload else [])
 
 -- ---- what is signed
 
--- Where a key signs as the template asks and may verify, what is written verifies with it, and gives the payload.
+-- Where keys sign as the template asks, and one of them may verify, what is written verifies with this one alone, and gives the payload.
 abbrev pub SignedVerifies : Type 0
-SignedVerifies = (key : OctetKey) (template payload text : List ℕ) → IsOctets payload → allows key Verify ≡ true
-    → planned (signing_by limits (key ∷ []) template) payload ≡ Ok text
-    → (signed_object text >>= λ jws. verifying_by true (key ∷ []) jws) ≡ Ok payload
+SignedVerifies = (compact all : Bool) (before : List OctetKey) (key : OctetKey) (after : List OctetKey) (template payload text : List ℕ) → IsOctets payload → allows key Verify ≡ true
+    → planned (signing_by limits compact (before ++ key ∷ after) template) payload ≡ Ok text
+    → (jws_of limits text >>= verifying_by all true (key ∷ [])) ≡ Ok payload

@@ -1,11 +1,12 @@
 -- What values of the code hold.
-use Rattle.std.specs.Prelude.{ℕ, List, string_bytes}
+use Rattle.std.specs.Prelude.{ℕ, List, map}
 use Rattle.ciphers.specs.Sealing as ciphers
 use Rattle.serde_json.specs.View.{members_view}
 use Rattle.keys.specs.Views.{key_view}
 use Rattle.objects.specs.Views.{part_view, recipient_view}
 use Rattle.tokens.specs.declared.template.Template.{Template}
-use Rattle.tokens.specs.declared.sign.Signer.{Signer as Code}
+use Rattle.tokens.specs.declared.signer.Signer.{Signer as CodeSigner}
+use Rattle.tokens.specs.declared.sign.Signing.{Signing as CodeSigning}
 use Rattle.tokens.specs.declared.algorithms.Algorithms.{Algorithms as CodeAlgorithms}
 use Rattle.tokens.specs.declared.pair.Pair.{Pair as CodePair}
 use Rattle.tokens.specs.declared.decrypt.Sealed.{Sealed}
@@ -19,13 +20,16 @@ use Rattle.tokens.specs.Algorithms.{Algorithms}
 use Rattle.tokens.specs.Encrypting.{TemplateTexts, AlgorithmsAsked, EncryptionTemplate, Encryption}
 use Rattle.tokens.specs.Decrypting.{Pair, SealedContent, Counts}
 use Rattle.tokens.specs.Template.{SignatureTemplate}
-use Rattle.tokens.specs.Signing.{Signer}
+use Rattle.tokens.specs.Signing.{Signer, Signing}
 
 abbrev pub template_view : Template → SignatureTemplate
 template_view t = record { protected = part_view t.protected; per_signature = part_view t.per_signature; alg = t.alg }
 
-abbrev pub signer_view : Code → Signer
-signer_view s = record { alg = s.alg; key = (key_view s.key.now).octets; header = string_bytes s.header }
+abbrev pub signer_view : CodeSigner → Signer
+signer_view s = record { key = key_view s.key.now; alg = s.alg; protected = members_view s.protected.entries }
+
+abbrev pub signing_view : CodeSigning → Signing
+signing_view s = record { signers = map signer_view s.signers.items; header = members_view s.header.entries }
 
 abbrev pub algorithms_view : CodeAlgorithms → Algorithms
 algorithms_view a = record { management = a.management; encryption = a.encryption }

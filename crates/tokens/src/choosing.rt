@@ -1,6 +1,6 @@
 //! The choice of algorithms by a template and a key, and all else that they settle before anything is drawn. It sees no
 //! content.
-ghost use Rattle.std.specs.Prelude.{◌≡◌, ◌==◌, Some, true, false, is_some, length, option_map, IfOk, IfErr, string_bytes};
+ghost use Rattle.std.specs.Prelude.{◌≡◌, ◌==◌, Some, true, false, is_some, length, map, option_map, IfOk, IfErr, string_bytes};
 ghost use Rattle.serde_json.specs.View.{members_view};
 ghost use Rattle.serde_json.specs.Written.{members_have_float};
 ghost use Rattle.octets.specs.Outcomes.{AgreesUnlessMemory};
@@ -9,12 +9,11 @@ ghost use Rattle.keys.specs.Keys.{fits};
 ghost use Rattle.keys.specs.Limits.{limits};
 ghost use Rattle.keys.specs.Views.{key_view};
 ghost use Rattle.objects.specs.Views.{part_view};
-ghost use Rattle.tokens.specs.Encrypting.{encryption_of, encryption_by, chosen_management, management_of_key, management_by_name, management_by_length, chosen_encryption, encryption_by_management, encryption_by_name, encryption_by_length, may_encrypt, has_no_more, chosen_p2c, is_written, is_given, with_parameters, with_name, with_p2c};
+ghost use Rattle.tokens.specs.Encrypting.{encryption_of, encryption_by, only_key, chosen_management, management_of_key, management_by_name, management_by_length, chosen_encryption, encryption_by_management, encryption_by_name, encryption_by_length, may_encrypt, has_no_more, chosen_p2c, is_written, is_given, with_parameters, with_name, with_p2c};
 ghost use Rattle.tokens.specs.Views.{encryption_view, encryption_template_view};
 
 use crate::encryption::Encryption;
 use crate::encryption_template::{EncryptionTemplate, read_encryption_template};
-use crate::sign::only_key;
 use crate::template::{copy, is_empty, is_shallow};
 use keys::{
     Algorithm, EncryptionAlg, GREATEST_P2C, Key, KeySet, LEAST_P2C, MOST_DEPTH, ManagementAlg,
@@ -39,6 +38,16 @@ pub(crate) fn read_encryption<'k>(
     let template = read_encryption_template(alloc, &value)?;
     let key = only_key(keys.keys())?;
     encryption_by(alloc, compact, key, template)
+}
+
+/// The one key that encrypts.
+fn only_key(keys: &[Key]) -> Result<&Key, Refusal>
+    ensures { AgreesUnlessMemory (λ key. key_view key.now) result (only_key (map key_view keys.now)) }
+{
+    match keys {
+        [key] => Ok(key),
+        _ => Err(Refusal::Limit),
+    }
 }
 
 /// What a key and a template settle. Refused, in this order, with `NoAlgorithm` where nothing says the algorithm of key

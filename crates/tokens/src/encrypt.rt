@@ -19,6 +19,7 @@ ghost use Rattle.tokens.specs.Views.{encryption_view};
 
 use crate::algorithms::{content_alg, key_alg};
 use crate::choosing::read_encryption;
+use crate::copies::copied;
 use crate::decrypt::authenticated;
 use crate::encryption::Encryption;
 use crate::sealing::{SealedOctets, seal};
@@ -264,14 +265,4 @@ fn recipient(
         encrypted_key,
     })?;
     Ok(list)
-}
-
-/// A copy of the octets.
-fn copied(alloc: Global, octets: &[u8]) -> Result<Vec<u8>, Refusal>
-    ensures copy { IfOk result (λ copy. copy.items ≡ octets.now) }
-    ensures memory { IfErr result (λ e. e ≡ Refusal.Memory) }
-{
-    let mut copy = Vec::new(alloc);
-    copy.extend_from_slice(octets)?;
-    Ok(copy)
 }

@@ -1,22 +1,29 @@
 //! Laws of the definitions, each the contract of a function that does nothing.
 ghost use Rattle.tokens.specs.Encrypting.{EncryptedDecrypts, EncryptingGrows};
-ghost use Rattle.tokens.specs.Signing.{SigningGrows};
+ghost use Rattle.tokens.specs.Signing.{SigningGrows, SigningMakesTexts};
 ghost use Rattle.tokens.specs.Verifying.{SignedVerifies};
 
 use ciphers::laws::{
     delivers_exactly, opens_exactly, what_delivers_is_octets, what_is_opened_is_octets,
 };
-use objects::laws::texts_spell_objects;
+use objects::laws::{jwe_texts_spell_objects, jws_texts_spell_objects};
 
-/// What a beginning of the payload fixes of the compact text goes on as more is read, and begins the whole text.
+/// What a beginning of the payload fixes of the text of a signed object goes on as more is read, and begins the whole text.
 pub fn signing_grows()
     ensures { SigningGrows }
 {}
 
-/// What a key signs as a template asks verifies with this key, where it may verify, and gives the payload back.
+/// What keys and a template settle makes an object of every payload, and its text.
+pub fn signing_makes_texts()
+    ensures { SigningMakesTexts }
+{}
+
+/// What keys sign as a template asks verifies with each key alone that may verify, and gives the payload back.
 pub fn what_is_signed_verifies()
     ensures { SignedVerifies }
-{}
+{
+    jws_texts_spell_objects();
+}
 
 /// What a beginning of the plaintext fixes of the text of an encrypted object goes on as more is read, and begins the whole
 /// text.
@@ -35,5 +42,5 @@ pub fn what_is_encrypted_decrypts()
     delivers_exactly();
     what_is_opened_is_octets();
     what_delivers_is_octets();
-    texts_spell_objects();
+    jwe_texts_spell_objects();
 }

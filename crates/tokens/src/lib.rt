@@ -3,15 +3,16 @@
 //!
 //! ```rust
 //! let keys = KeySet::read(alloc, b"{\"kty\":\"oct\",\"k\":\"AAECAwQFBgcICQoLDA0ODxAREhMUFRYXGBkaGxwdHh8\"}", true)?;
-//! jws_sign(alloc, &keys, b"{}", &mut payload, &mut text)?; // in compact form, by HS256
+//! jws_sign(alloc, &keys, b"{}", true, &mut payload, &mut text)?; // in compact form, by HS256
 //!
 //! let jws = Jws::read(alloc, text.octets())?;
-//! jws_verify(&keys, &jws, true, &mut content)?; // writes the payload
+//! jws_verify(&keys, &jws, false, true, &mut content)?; // writes the payload
 //! ```
 #![tactic(auto)]
 
 mod algorithms;
 mod choosing;
+mod copies;
 mod decrypt;
 mod encrypt;
 mod encryption;
@@ -22,6 +23,7 @@ mod pairs;
 mod sealing;
 mod sign;
 mod signature;
+mod signer;
 mod template;
 mod verify;
 

@@ -21,7 +21,7 @@ use std::alloc::Global;
 /// The pairs of a recipient and a key: the recipients in order, and for each of them the keys in order, those that may
 /// decrypt by its algorithms and fit. Refused with `Unsupported` where no recipient's algorithms are supported; then with
 /// `KeyDoesNotFit` where there is no pair; and then with `Limit` where a pair, or all of them, take too many iterations.
-#[tactic(auto, unfolding(crate::specs::Decrypting::pairs_to_try), using(crate::proofs::PairLists::any_recipient, crate::proofs::PairLists::no_pairs, crate::proofs::PairLists::some_pairs))]
+#[tactic(auto, unfolding(crate::specs::Decrypting::pairs_to_try), using(crate::proofs::Tests::views, crate::proofs::PairLists::no_pairs, crate::proofs::PairLists::some_pairs))]
 pub(crate) fn pairs_to_try<'a>(
     alloc: Global,
     keys: &'a [Key],

@@ -7,6 +7,7 @@ ghost use Rattle.ciphers.specs.Sealing.{Sealing, sealing, cek_len, iv_len};
 ghost use Rattle.tokens.specs.Encrypting.{sealed_by};
 ghost use Rattle.tokens.specs.Views.{sealed_octets_view};
 
+use crate::copies::copied;
 use ciphers::{ContentAlg, Sealer};
 use octets::Refusal;
 use std::alloc::Global;
@@ -42,11 +43,9 @@ pub(crate) fn seal(
     let mut tag = [0; 32];
     let (last_len, tag_len) = sealer.finish(&mut last, &mut tag);
     ciphertext.extend_from_slice(&last[..last_len])?;
-    let mut tag_octets = Vec::new(alloc);
-    tag_octets.extend_from_slice(&tag[..tag_len])?;
     Ok(SealedOctets {
         ciphertext,
-        tag: tag_octets,
+        tag: copied(alloc, &tag[..tag_len])?,
     })
 }
 

@@ -1,6 +1,8 @@
-//! Signing with one key, in compact form (RFC 7515 sections 5.1 and 7.1).
-ghost use Rattle.std.specs.Prelude.{◌≡◌, ◌≢◌, ℕ, List, [], ◌∷◌, false, Err, IfOk, IfErr, IsTrue, OnOk, OnErr, map, option_map, string_bytes};
+//! Signing with each key of a set (RFC 7515 section 5.1), in compact or in JSON form.
+ghost use Rattle.std.specs.Prelude.{◌≡◌, ◌≢◌, ℕ, List, [], ◌∷◌, false, length, Err, IfOk, IfErr, IsTrue, OnOk, OnErr, map, option_map, string_bytes};
 ghost use Rattle.std.specs.Iterator.{IsFinite};
+ghost use Rattle.std.specs.List.{list_all};
+ghost use Rattle.serde_json.specs.View.{members_view};
 ghost use Rattle.serde_json.specs.Written.{members_have_float};
 ghost use Rattle.octets.specs.Devices.{appended, observed, IsPossibleInput, AppendsPrefixOf};
 ghost use Rattle.octets.specs.Faults.{TellsFaults, counts};
@@ -9,105 +11,166 @@ ghost use Rattle.octets.specs.Plan.{begun, planned};
 ghost use Rattle.octets.specs.declared.refusal.Refusal.{Refusal};
 ghost use Rattle.keys.specs.Limits.{limits};
 ghost use Rattle.keys.specs.Views.{key_view};
-ghost use Rattle.objects.specs.Jws.{compact_text};
-ghost use Rattle.tokens.specs.Signing.{signing_by, signer_of, signer_by, only_key, chosen_alg, alg_of_key, alg_by_length, signed};
-ghost use Rattle.tokens.specs.Views.{signer_view, template_view};
+ghost use Rattle.objects.specs.Texts.{each};
+ghost use Rattle.objects.specs.Views.{part_view, jws_view, signature_parts_view};
+ghost use Rattle.tokens.specs.Signing.{signing_by, signing_of, signing_with as signing_with_keys, signer_by as signer_by_key, may_sign as may_sign_key, has_no_more, chosen_alg, alg_of_key, alg_by_length, signature_by as signature_parts_by, signed, plan_by};
+ghost use Rattle.tokens.specs.Template.{is_shallow as is_shallow_header};
+ghost use Rattle.tokens.specs.Views.{signer_view, signing_view, template_view};
 
-use crate::signature::{Signature, supported};
-use crate::template::{Template, compact_header, read_template};
-use keys::{Algorithm, Key, KeySet, Operation, SignatureAlg, read_json};
-use octets::{Input, Output, Refusal, b64_append, b64_encode, emit, needs, read_to_end};
+use crate::copies::copied;
+use crate::signature::Signature;
+use crate::signer::Signer;
+use crate::template::{Template, copy, header_text, is_empty, is_shallow, read_template, with_alg};
+use keys::{
+    Algorithm, Key, KeySet, MOST_DEPTH, Operation, SignatureAlg, object_nests_at_most, read_json,
+};
+use objects::{Jws, JwsParts, SignatureParts};
+use octets::{Input, Output, Refusal, b64_encode, emit, needs, read_to_end};
+use serde_json::{Map, Value};
 use std::alloc::Global;
 
-/// Signs all that the content gives with the key (RFC 7515 section 5.1), as the template asks, and writes
-/// the compact text (RFC 7515 section 7.1).
+/// Signs all that the content gives with each key in order (RFC 7515 section 5.1), as the template asks, and writes the
+/// object's text: its compact text (RFC 7515 section 7.1) where that is asked for, or else its JSON text, flattened where there
+/// is one key (RFC 7515 section 7.2).
 ///
-/// The template is a JSON object with no member but `protected` and `header`, each an object. The
-/// algorithm is the one of their `alg`; or else the one of the key's `alg`; or else the one with the
-/// longest hash that the key is long enough for. The protected header that is written names it.
+/// The template is a JSON object with no member but `protected` and `header`, each an object, and serves every signature. The
+/// algorithm is the one of their `alg`; or else the one of the key's `alg`; or else the one with the longest hash that the key
+/// is long enough for. The protected header that is written names it, where the template does not.
 ///
-/// Refused, in this order, with `Json`; `Number`; `Form` where the template has another form; `Header`
-/// where a name stands in both headers, or `alg` is no string; `Unsupported` where there is a `crit`, or
-/// an `alg` that is not supported; `Limit` where there are several keys; `NoAlgorithm` where nothing says
-/// the algorithm; `KeyDoesNotFit` where the key's `alg` is no signature's; `Unsupported` where the
-/// algorithm is not supported; `KeyDoesNotFit` where the key may not sign, or does not fit; `Limit` where
-/// a header nests more than 64 deep; `NotCompact` where the template has members that are not protected;
-/// and then with `Read` where the content fails, and `Write` where the output fails.
+/// Refused, in this order, each step for every key before the next, with `Json`; `Number`; `Form` where the template has
+/// another form; `Header` where a name stands in both headers, or `alg` is no string; `Unsupported` where there is a `crit`, or
+/// an `alg` that is not supported; `NoAlgorithm` where nothing says the algorithm, and `KeyDoesNotFit` where the key's `alg` is
+/// no signature's; `KeyDoesNotFit` where a key may not sign, or does not fit; `Limit` where a header nests more than 64 deep;
+/// `NotCompact` where a compact text is asked for, and there are several keys or the template has members that are not
+/// protected; and then with `Read` where the content fails, and `Write` where the output fails.
 #[tactic(auto, unfolding(crate::specs::Signing::signing_by))]
 pub fn jws_sign<I: Input, O: Output>(
     alloc: Global,
     keys: &KeySet,
     template: &[u8],
+    compact: bool,
     content: &mut I,
     out: &mut O,
 ) -> Result<(), Refusal>
     requires { IsFinite (I.remaining content.old) }
     ensures answer { (payload : List ℕ)
         → IsPossibleInput (observed I.consumed I.is_at_end content.old content.new) payload
-        → AgreesUnlessExternal (planned (signing_by limits keys.now template.now) payload) (appended (O.written out.old) (O.written out.new)) result }
+        → AgreesUnlessExternal (planned (signing_by limits compact keys.now template.now) payload) (appended (O.written out.old) (O.written out.new)) result }
     ensures beginning { OnErr result (AppendsPrefixOf
-        (begun (signing_by limits keys.now template.now) (observed I.consumed I.is_at_end content.old content.new))
+        (begun (signing_by limits compact keys.now template.now) (observed I.consumed I.is_at_end content.old content.new))
         (O.written out.old) (O.written out.new)) }
     ensures finished { OnOk result (IsTrue (O.is_finished out.new)) }
 
     // What the template and the keys refuse is refused before the content is touched; an output on which nothing was
     // written is as it was, unless it failed.
-    ensures content_last { (refusal : Refusal) → signing_by limits keys.now template.now ≡ Err refusal
+    ensures content_last { (refusal : Refusal) → signing_by limits compact keys.now template.now ≡ Err refusal
         → content.new ≡ content.old }
     ensures uncut { IfErr result (λ refusal. refusal ≢ Refusal.Write
         → O.written out.new ≡ O.written out.old → out.new ≡ out.old) }
     ensures faults { TellsFaults (counts I.failures content.old content.new ∷ []) (counts O.failures out.old out.new ∷ []) result }
 {
-    let signer = read_signer(alloc, keys, template)?;
+    let signing = read_signing(alloc, keys, template, compact)?;
     let payload = read_to_end(alloc, content)?;
-    let text = sign_compact(alloc, &signer, &payload)?;
+    let text = signed_text(alloc, signing, payload, compact)?;
     emit(out, text.as_bytes())
 }
 
-/// What signs: an algorithm, a key that allows it and fits it, and the protected header.
+/// All that keys and a template settle: the signers in order, and the unprotected header of each signature.
 #[derive(Drop)]
-struct Signer<'k> {
-    alg: SignatureAlg,
-    key: &'k Key,
-    header: String,
+struct Signing<'k> {
+    signers: Vec<Signer<'k>>,
+    header: Map<String, Value>,
 }
 
-/// The signer of keys and a template's text. Refused, in this order, with the causes of `read_json`
-/// and `read_template`; with `Limit` where there are several keys; with those of `signer_by`.
-#[tactic(auto, unfolding(crate::specs::Signing::signer_of))]
-fn read_signer<'k>(alloc: Global, keys: &'k KeySet, template: &[u8]) -> Result<Signer<'k>, Refusal>
-    ensures { AgreesUnlessMemory signer_view result (signer_of limits keys.now template.now) }
+/// What keys and a template's text settle. Refused, in this order, with the causes of `read_json` and `read_template`, and
+/// with those of `signing_with`.
+#[tactic(auto, unfolding(crate::specs::Signing::signing_of))]
+fn read_signing<'k>(
+    alloc: Global,
+    keys: &'k KeySet,
+    template: &[u8],
+    compact: bool,
+) -> Result<Signing<'k>, Refusal>
+    ensures { AgreesUnlessMemory signing_view result (signing_of limits compact keys.now template.now) }
 {
     let value = read_json(alloc, template)?;
     let template = read_template(&value)?;
-    let key = only_key(keys.keys())?;
-    signer_by(alloc, key, template)
+    signing_with(alloc, keys.keys(), template, compact)
 }
 
-/// The one key that signs.
-pub(crate) fn only_key(keys: &[Key]) -> Result<&Key, Refusal>
-    ensures { AgreesUnlessMemory (λ key. key_view key.now) result (only_key (map key_view keys.now)) }
-{
-    match keys {
-        [key] => Ok(key),
-        _ => Err(Refusal::Limit),
-    }
-}
-
-/// The signer that a key makes by a template. Refused with `NoAlgorithm` where neither the template,
-/// nor the key's `alg` or length says the algorithm; `Unsupported`; `KeyDoesNotFit`; and those of
-/// `compact_header`.
-#[tactic(auto, unfolding(crate::specs::Signing::signer_by))]
-fn signer_by<'k>(alloc: Global, key: &'k Key, template: Template<'_>) -> Result<Signer<'k>, Refusal>
+/// What keys and a template settle. Refused, each step for every key before the next, with the causes of `signer_by`;
+/// `KeyDoesNotFit`; `Limit`; and `NotCompact`.
+#[tactic(auto, unfolding(crate::specs::Signing::signing_with))]
+fn signing_with<'k>(
+    alloc: Global,
+    keys: &'k [Key],
+    template: Template<'_>,
+    compact: bool,
+) -> Result<Signing<'k>, Refusal>
     requires { members_have_float (template_view template).protected ≡ false }
-    ensures { AgreesUnlessMemory signer_view result (signer_by limits (key_view key.now) (template_view template.entry)) }
+    ensures { AgreesUnlessMemory signing_view result (signing_with_keys limits compact (map key_view keys.now) (template_view template.entry)) }
 {
-    let chosen = chosen_alg(template.alg, key)?;
-    let alg = supported(Some(chosen))?;
-    let fits = key.allows(Operation::Sign) && key.fits(Algorithm::Signature(alg));
-    needs(fits, Refusal::KeyDoesNotFit)?;
-    let header = compact_header(alloc, template, alg)?;
-    Ok(Signer { alg, key, header })
+    let signers = signers_by(alloc, template, keys)?;
+    needs(all_may_sign(&signers), Refusal::KeyDoesNotFit)?;
+    let shallow = are_shallow(&signers) && is_shallow(template.per_signature);
+    needs(shallow, Refusal::Limit)?;
+    let alone = signers.len() <= 1 && is_empty(template.per_signature);
+    needs(!compact || alone, Refusal::NotCompact)?;
+    let header = copy(alloc, template.per_signature)?;
+    Ok(Signing { signers, header })
+}
+
+/// The signers that the keys make by a template.
+#[tactic(auto, using(objects::proofs::Each::reading))]
+fn signers_by<'k>(
+    alloc: Global,
+    template: Template<'_>,
+    keys: &'k [Key],
+) -> Result<Vec<Signer<'k>>, Refusal>
+    requires { members_have_float (template_view template).protected ≡ false }
+    ensures { AgreesUnlessMemory (λ signers. map signer_view signers.items) result (each (signer_by_key (template_view template.entry)) (map key_view keys.now)) }
+{
+    let mut signers = Vec::new(alloc);
+    for key in keys {
+        signers.push(signer_by(alloc, template, key)?)?;
+    }
+    Ok(signers)
+}
+
+/// The signer that a key makes by a template. Refused with `NoAlgorithm` where neither the template, nor the key's `alg` or
+/// length says the algorithm, and with `KeyDoesNotFit` where the key's `alg` is no signature's.
+#[tactic(auto, unfolding(crate::specs::Signing::signer_by))]
+fn signer_by<'k>(alloc: Global, template: Template<'_>, key: &'k Key) -> Result<Signer<'k>, Refusal>
+    requires { members_have_float (template_view template).protected ≡ false }
+    ensures { AgreesUnlessMemory signer_view result (signer_by_key (template_view template.entry) (key_view key.now)) }
+{
+    let alg = chosen_alg(template.alg, key)?;
+    let protected = with_alg(alloc, template, alg)?;
+    Ok(Signer {
+        key,
+        alg,
+        protected,
+    })
+}
+
+/// Each key may sign, and fits.
+fn all_may_sign(signers: &[Signer<'_>]) -> bool
+    ensures { result ≡ list_all may_sign_key (map signer_view signers.now) }
+{
+    signers.iter().all(|signer| may_sign(signer))
+}
+
+fn may_sign(signer: &Signer<'_>) -> bool
+    ensures { result ≡ may_sign_key (signer_view signer.now) }
+{
+    signer.key.allows(Operation::Sign) && signer.key.fits(Algorithm::Signature(signer.alg))
+}
+
+/// Each protected header nests at most 64 deep.
+fn are_shallow(signers: &[Signer<'_>]) -> bool
+    ensures { result ≡ list_all (λ s. is_shallow_header limits s.protected) (map signer_view signers.now) }
+{
+    signers.iter().all(|signer| object_nests_at_most(&signer.protected, MOST_DEPTH))
 }
 
 /// The algorithm of the template, or else that of the key.
@@ -145,25 +208,79 @@ fn alg_by_length(len: usize) -> Option<SignatureAlg>
     }
 }
 
-/// The compact text of the payload and its signature. The signing input is its beginning.
-#[tactic(auto, unfolding(crate::specs::Signatures::signature_of))]
-fn sign_compact(alloc: Global, signer: &Signer<'_>, payload: &[u8]) -> Result<String, Refusal>
-    ensures text { IfOk result (λ text. string_bytes text
-        ≡ compact_text (signed (signer_view signer.now) payload.now)) }
+/// The text of the object of the payload.
+fn signed_text(
+    alloc: Global,
+    signing: Signing<'_>,
+    payload: Vec<u8>,
+    compact: bool,
+) -> Result<String, Refusal>
+    ensures { AgreesUnlessMemory string_bytes result ((plan_by compact (signing_view signing.entry)).whole payload.items) }
+{
+    let jws = signed(alloc, signing, payload)?;
+    if compact {
+        jws.to_compact(alloc)
+    } else {
+        jws.to_json(alloc)
+    }
+}
+
+/// The object of the payload.
+#[tactic(auto, unfolding(crate::specs::Signing::signed))]
+fn signed(alloc: Global, signing: Signing<'_>, payload: Vec<u8>) -> Result<Jws, Refusal>
+    ensures { AgreesUnlessMemory jws_view result (signed (signing_view signing.entry) payload.items) }
+{
+    let signatures = signatures_by(alloc, signing, &payload)?;
+    Jws::build(
+        alloc,
+        JwsParts {
+            payload,
+            signatures,
+        },
+    )
+}
+
+/// The signatures of the payload, in order.
+fn signatures_by(
+    alloc: Global,
+    signing: Signing<'_>,
+    payload: &[u8],
+) -> Result<Vec<SignatureParts>, Refusal>
+    ensures signatures { IfOk result (λ signatures. map signature_parts_view signatures.items
+        ≡ map (signature_parts_by (members_view signing.entry.header.entries) payload.now) (map signer_view signing.entry.signers.items)) }
     ensures memory { IfErr result (λ e. e ≡ Refusal.Memory) }
 {
-    let mut text = b64_encode(alloc, signer.header.as_bytes())?;
-    let protected_len = text.len();
-    text.push('.')?;
-    b64_append(&mut text, payload)?;
-    let (protected, payload_text) = text.as_bytes().split_at(protected_len);
-    let signature = Signature::compute(
-        signer.alg,
-        signer.key.octets(),
+    let Signing { signers, header } = signing;
+    let mut signatures = Vec::new(alloc);
+    for signer in signers {
+        signatures.push(signature_by(alloc, &header, payload, signer)?)?;
+    }
+    Ok(signatures)
+}
+
+/// The signature of the payload under the signer's protected header.
+#[tactic(auto, unfolding(crate::specs::Signatures::signature_of))]
+fn signature_by(
+    alloc: Global,
+    header: &Map<String, Value>,
+    payload: &[u8],
+    signer: Signer<'_>,
+) -> Result<SignatureParts, Refusal>
+    ensures signature { IfOk result (λ parts. signature_parts_view parts
+        ≡ signature_parts_by (members_view header.now.entries) payload.now (signer_view signer.entry)) }
+    ensures memory { IfErr result (λ e. e ≡ Refusal.Memory) }
+{
+    let Signer {
+        key,
+        alg,
         protected,
-        &payload_text[1..],
-    );
-    text.push('.')?;
-    b64_append(&mut text, signature.octets())?;
-    Ok(text)
+    } = signer;
+    let text = header_text(alloc, protected)?;
+    let protected = b64_encode(alloc, text.as_bytes())?;
+    let signature = Signature::compute(alg, key.octets(), protected.as_bytes(), payload);
+    Ok(SignatureParts {
+        protected,
+        header: copy(alloc, Some(header))?,
+        signature: copied(alloc, signature.octets())?,
+    })
 }

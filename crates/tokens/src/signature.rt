@@ -1,13 +1,17 @@
 //! The signature of a payload under a protected header (RFC 7515 section 5.1).
-ghost use Rattle.std.specs.Prelude.{◌≡◌};
+ghost use Rattle.std.specs.Prelude.{◌≡◌, ◌++◌, ℕ, List};
+ghost use Rattle.octets.specs.Base64url.{base64url};
 ghost use Rattle.prf.specs.Hmac.{hmac};
-ghost use Rattle.octets.specs.Outcomes.{AgreesUnlessMemory};
-ghost use Rattle.tokens.specs.Signatures.{signature_hash, signing_input, supported};
+ghost use Rattle.prf.specs.Views.{HoldsHmac};
+ghost use Rattle.tokens.specs.Signatures.{signature_hash, signing_input};
 
 use keys::SignatureAlg;
-use octets::Refusal;
+use octets::B64Writer;
 use prf::{Hash, Hmac, Sha256, Sha384, Sha512};
 use std::marker::Model;
+
+/// How many octets of a payload are encoded at a time.
+const PIECE: usize = 4096;
 
 /// A whole HMAC. It is seen as its octets.
 #[derive(Drop)]
@@ -27,7 +31,7 @@ impl Model for Signature {
 }
 
 impl Signature {
-    /// The signature of the texts of the protected header and of the payload, with a dot between.
+    /// The signature of the text of the protected header, a dot, and the base64url text of the payload.
     pub(crate) fn compute(
         alg: SignatureAlg,
         key: &[u8],
@@ -56,18 +60,24 @@ fn mac<H: Hash>(key: &[u8], protected: &[u8], payload: &[u8]) -> Signature
     let mut mac = Hmac::<H>::new(key);
     mac.update(protected);
     mac.update(b".");
-    mac.update(payload);
+    update_text(&mut mac, payload);
     let mut octets = [0u8; 64];
     let len = mac.finish(&mut octets);
     Signature { octets, len }
 }
 
-/// The algorithm, where it is one and it is supported: so far HS256 alone. Else `Unsupported`.
-pub(crate) fn supported(alg: Option<SignatureAlg>) -> Result<SignatureAlg, Refusal>
-    ensures { AgreesUnlessMemory (λ alg. alg) result (supported alg) }
+/// Takes the base64url text of the octets, in pieces.
+fn update_text<H: Hash>(mac: &mut Hmac<H>, octets: &[u8])
+    ensures { (key text : List ℕ) → HoldsHmac H.function H.holds mac.old key text
+        → HoldsHmac H.function H.holds mac.new key (text ++ base64url octets.now) }
 {
-    match alg {
-        Some(SignatureAlg::Hs256) => Ok(SignatureAlg::Hs256),
-        _ => Err(Refusal::Unsupported),
+    let mut writer = B64Writer::start();
+    let mut text = [0; 5488];
+    for piece in octets.chunks(PIECE) {
+        let len = writer.feed(piece, &mut text);
+        mac.update(&text[..len]);
     }
+    let mut last = [0; 4];
+    let len = writer.finish(&mut last);
+    mac.update(&last[..len]);
 }

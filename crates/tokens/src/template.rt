@@ -5,10 +5,9 @@ ghost use Rattle.serde_json.specs.Written.{has_float, members_have_float};
 ghost use Rattle.octets.specs.Outcomes.{AgreesUnlessMemory};
 ghost use Rattle.keys.specs.Limits.{limits};
 ghost use Rattle.objects.specs.Views.{part_view};
-ghost use Rattle.tokens.specs.Template.{template_of, template_headers, named_alg, supported_if_there, with_alg, header_text, compact_header, is_shallow, is_empty};
+ghost use Rattle.tokens.specs.Template.{template_of, template_headers, named_alg, supported_if_there, with_alg, header_text, is_shallow, is_empty};
 ghost use Rattle.tokens.specs.Views.{template_view};
 
-use crate::signature::supported;
 use keys::{MOST_DEPTH, SignatureAlg, has_only, is_object, laws, object_nests_at_most};
 use objects::{Header, header_at};
 use octets::{Refusal, needs};
@@ -19,7 +18,7 @@ use std::alloc::{AllocError, Global};
 #[derive(Clone, Copy)]
 pub(crate) struct Template<'v> {
     protected: Option<&'v Map<String, Value>>,
-    per_signature: Option<&'v Map<String, Value>>,
+    pub(crate) per_signature: Option<&'v Map<String, Value>>,
     pub(crate) alg: Option<SignatureAlg>,
 }
 
@@ -78,32 +77,15 @@ fn supported_if_there(name: Option<&str>) -> Result<Option<SignatureAlg>, Refusa
 {
     match name {
         None => Ok(None),
-        Some(name) => Ok(Some(supported(SignatureAlg::named(name))?)),
+        Some(name) => match SignatureAlg::named(name) {
+            None => Err(Refusal::Unsupported),
+            Some(alg) => Ok(Some(alg)),
+        },
     }
 }
 
-/// The text of the protected header of a compact text, with the algorithm. Refused with `Limit` where
-/// a header nests more than 64 deep, and then with `NotCompact` where the template has members that
-/// are not protected.
-#[tactic(auto, unfolding(crate::specs::Template::compact_header))]
-pub(crate) fn compact_header(
-    alloc: Global,
-    template: Template<'_>,
-    alg: SignatureAlg,
-) -> Result<String, Refusal>
-    requires { members_have_float (template_view template).protected ≡ false }
-    ensures { AgreesUnlessMemory string_bytes result (compact_header limits (template_view template.entry) alg) }
-{
-    let protected = with_alg(alloc, template, alg)?;
-    let shallow = object_nests_at_most(&protected, MOST_DEPTH)
-        && is_shallow(template.per_signature);
-    needs(shallow, Refusal::Limit)?;
-    needs(is_empty(template.per_signature), Refusal::NotCompact)?;
-    Ok(header_text(alloc, protected)?)
-}
-
 /// The protected header of a template, with the algorithm where the template names none.
-fn with_alg(
+pub(crate) fn with_alg(
     alloc: Global,
     template: Template<'_>,
     alg: SignatureAlg,

@@ -1,88 +1,155 @@
-//! Verifying with any key of a set (RFC 7515 section 5.2).
-ghost use Rattle.std.specs.Prelude.{◌≡◌, ◌≢◌, [], ◌∷◌, false, OnOk, OnErr, IfErr, IsTrue};
+//! Verifying with the keys of a set (RFC 7515 section 5.2).
+ghost use Rattle.std.specs.Prelude.{◌≡◌, ◌≢◌, [], ◌∷◌, false, is_some, map, OnOk, OnErr, IfErr, IsTrue};
 ghost use Rattle.std.specs.List.{list_any};
 ghost use Rattle.std.specs.Result.{result_unwrap_or};
 ghost use Rattle.octets.specs.Devices.{appended, AppendsPrefixOf};
 ghost use Rattle.octets.specs.Faults.{TellsFaults, counts};
 ghost use Rattle.octets.specs.Outcomes.{AgreesUnlessMemory, AgreesUnlessExternal};
+ghost use Rattle.keys.specs.Algorithms.{signature_alg_of};
 ghost use Rattle.keys.specs.Views.{key_view};
-ghost use Rattle.objects.specs.Views.{jws_view};
-ghost use Rattle.tokens.specs.Verifying.{verifying_by, verified_payload, is_candidate as is_candidate_key, is_signed as is_signed_by, verifies as verifies_by};
+ghost use Rattle.objects.specs.Views.{jws_view, signature_view};
+ghost use Rattle.tokens.specs.Verifying.{verifying_by, verified_payload, are_verified as are_verified_by, may_verify as may_verify_pair, verifies as verifies_pair, is_candidate as is_candidate_key, is_signed as is_signed_by};
 
-use crate::signature::{Signature, supported};
+use crate::signature::Signature as Mac;
 use keys::{Algorithm, Key, KeySet, Operation, SignatureAlg};
-use objects::Jws;
+use objects::{Jws, Signature};
 use octets::{Output, Refusal, emit, needs, same_octets};
 
-/// Verifies the object with the keys (RFC 7515 section 5.2), and writes its payload where it is wanted. Some
-/// key that may verify and fits must have signed the texts that were received.
+/// Verifies the object with the keys (RFC 7515 section 5.2), and writes its payload where it is wanted. Some key that may
+/// verify by the algorithm of a signature, and fits, must have made this signature; with `all`, each key must have made one.
 ///
-/// Refused, in this order, with `Unsupported` where the object's algorithm is not supported; `KeyDoesNotFit`
-/// where no key may verify and fits; `NotOpened` where none of those verifies; and then with `Write` where the
-/// output fails.
+/// Refused, in this order, with `Unsupported` where no signature's algorithm is supported; `KeyDoesNotFit` where for none of
+/// the others a key may verify and fits; `NotOpened` where none of those verifies, or with `all` for some key none does; and
+/// then with `Write` where the output fails.
 #[tactic(auto, unfolding(crate::specs::Verifying::verifying_by))]
 pub fn jws_verify<O: Output>(
     keys: &KeySet,
-    jws: &Jws<'_>,
+    jws: &Jws,
+    all: bool,
     wanted: bool,
     out: &mut O,
 ) -> Result<(), Refusal>
-    ensures answer { AgreesUnlessExternal (verifying_by wanted keys.now (jws_view jws.now))
+    ensures answer { AgreesUnlessExternal (verifying_by all wanted keys.now (jws_view jws.now))
         (appended (O.written out.old) (O.written out.new)) result }
 
     // The output is not touched before all is accepted.
     ensures held_back { IfErr result (λ refusal. refusal ≢ Refusal.Write → out.new ≡ out.old) }
     ensures beginning { OnErr result (AppendsPrefixOf
-        (result_unwrap_or (verifying_by wanted keys.now (jws_view jws.now)) [])
+        (result_unwrap_or (verifying_by all wanted keys.now (jws_view jws.now)) [])
         (O.written out.old) (O.written out.new)) }
     ensures finished { OnOk result (IsTrue wanted → IsTrue (O.is_finished out.new)) }
     ensures untouched { wanted ≡ false → out.new ≡ out.old }
+    ensures no_memory { IfErr result (λ refusal. refusal ≢ Refusal.Memory) }
     ensures faults { TellsFaults [] (counts O.failures out.old out.new ∷ []) result }
 {
-    let payload = verified(keys, jws)?;
+    let payload = verified(keys, jws, all)?;
     if wanted { emit(out, payload) } else { Ok(()) }
 }
 
-/// The payload of an object that verifies with some of the keys. Refused with `Unsupported` where its
-/// algorithm is not supported, with `KeyDoesNotFit` where no key may verify and fits, and with
-/// `NotOpened` where none of those verifies.
-#[tactic(auto, unfolding(crate::specs::Verifying::verified_payload), using(crate::proofs::Keys::any_key))]
-fn verified<'j>(keys: &KeySet, jws: &'j Jws<'_>) -> Result<&'j [u8], Refusal>
-    ensures { AgreesUnlessMemory (λ payload. payload.now) result (verified_payload keys.now (jws_view jws.now)) }
+/// The payload of an object that verifies with some of the keys, or with all. Refused with `Unsupported` where no algorithm is
+/// supported, with `KeyDoesNotFit` where no key may verify and fits, and with `NotOpened` where it does not verify.
+#[tactic(auto, unfolding(crate::specs::Verifying::verified_payload), using(crate::proofs::Tests::views))]
+fn verified<'j>(keys: &KeySet, jws: &'j Jws, all: bool) -> Result<&'j [u8], Refusal>
+    ensures exact { AgreesUnlessMemory (λ payload. payload.now) result (verified_payload all keys.now (jws_view jws.now)) }
+    ensures no_memory { IfErr result (λ refusal. refusal ≢ Refusal.Memory) }
 {
-    let alg = supported(SignatureAlg::named(jws.alg()))?;
-    needs(has_candidate(keys.keys(), alg), Refusal::KeyDoesNotFit)?;
-    needs(is_verified(keys.keys(), alg, jws), Refusal::NotOpened)?;
+    needs(has_supported(jws.signatures()), Refusal::Unsupported)?;
+    needs(
+        has_candidate(jws.signatures(), keys.keys()),
+        Refusal::KeyDoesNotFit,
+    )?;
+    needs(are_verified(all, keys.keys(), jws), Refusal::NotOpened)?;
     Ok(jws.payload())
 }
 
-/// Some key may verify, and fits.
-fn has_candidate(keys: &[Key], alg: SignatureAlg) -> bool
-    ensures { result ≡ list_any (λ key. is_candidate_key alg (key_view key)) keys.now }
+/// The algorithm of some signature is supported.
+fn has_supported(signatures: &[Signature]) -> bool
+    ensures { result ≡ list_any (λ s. is_some (signature_alg_of (signature_view s).alg)) signatures.now }
 {
-    keys.iter().any(|key| is_candidate(key, alg))
+    signatures
+        .iter()
+        .any(|signature| SignatureAlg::named(signature.alg()).is_some())
 }
 
-/// Some candidate signed the object.
-fn is_verified(keys: &[Key], alg: SignatureAlg, jws: &Jws<'_>) -> bool
-    ensures { result ≡ list_any (λ key. verifies_by alg (jws_view jws.now) (key_view key)) keys.now }
+/// For some signature a key may verify, and fits.
+fn has_candidate(signatures: &[Signature], keys: &[Key]) -> bool
+    ensures { result ≡ list_any (λ s. list_any (λ key. may_verify_pair (signature_view s) (key_view key)) keys.now) signatures.now }
 {
-    keys.iter()
-        .any(|key| is_candidate(key, alg) && is_signed(key, alg, jws))
+    signatures
+        .iter()
+        .any(|signature| is_for_some(signature, keys))
 }
 
-/// The key may verify, and fits.
+/// For this one a key may verify, and fits.
+fn is_for_some(signature: &Signature, keys: &[Key]) -> bool
+    ensures { result ≡ list_any (λ key. may_verify_pair (signature_view signature.now) (key_view key)) keys.now }
+{
+    keys.iter().any(|key| may_verify(signature, key))
+}
+
+/// Some signature verifies with some key, or for each key some does.
+fn are_verified(all: bool, keys: &[Key], jws: &Jws) -> bool
+    ensures { result ≡ are_verified_by all (map key_view keys.now) (jws_view jws.now) }
+{
+    let signatures = jws.signatures();
+    if all {
+        keys.iter()
+            .all(|key| has_signed(key, signatures, jws.payload()))
+    } else {
+        signatures
+            .iter()
+            .any(|signature| is_verified(signature, jws.payload(), keys))
+    }
+}
+
+/// Some key made the signature.
+fn is_verified(signature: &Signature, payload: &[u8], keys: &[Key]) -> bool
+    ensures { result ≡ list_any (λ key. verifies_pair payload.now (signature_view signature.now) (key_view key)) keys.now }
+{
+    keys.iter().any(|key| verifies(signature, payload, key))
+}
+
+/// The key made one of the signatures.
+fn has_signed(key: &Key, signatures: &[Signature], payload: &[u8]) -> bool
+    ensures { result ≡ list_any (λ s. verifies_pair payload.now (signature_view s) (key_view key.now)) signatures.now }
+{
+    signatures
+        .iter()
+        .any(|signature| verifies(signature, payload, key))
+}
+
+/// The key may verify the signature by its algorithm, and fits.
+fn may_verify(signature: &Signature, key: &Key) -> bool
+    ensures { result ≡ may_verify_pair (signature_view signature.now) (key_view key.now) }
+{
+    match SignatureAlg::named(signature.alg()) {
+        None => false,
+        Some(alg) => is_candidate(key, alg),
+    }
+}
+
+/// And made it.
+fn verifies(signature: &Signature, payload: &[u8], key: &Key) -> bool
+    ensures { result ≡ verifies_pair payload.now (signature_view signature.now) (key_view key.now) }
+{
+    match SignatureAlg::named(signature.alg()) {
+        None => false,
+        Some(alg) => is_candidate(key, alg) && is_signed(signature, payload, key, alg),
+    }
+}
+
+/// The key may verify by the algorithm, and fits.
 fn is_candidate(key: &Key, alg: SignatureAlg) -> bool
     ensures { result ≡ is_candidate_key alg (key_view key.now) }
 {
     key.allows(Operation::Verify) && key.fits(Algorithm::Signature(alg))
 }
 
-/// The signature is that of the received texts of the protected header and the payload.
+/// The signature is that of the received text of the protected header and of the payload.
 #[tactic(auto, unfolding(crate::specs::Signatures::signature_of))]
-fn is_signed(key: &Key, alg: SignatureAlg, jws: &Jws<'_>) -> bool
-    ensures { result ≡ is_signed_by alg (jws_view jws.now) (key_view key.now) }
+fn is_signed(signature: &Signature, payload: &[u8], key: &Key, alg: SignatureAlg) -> bool
+    ensures { result ≡ is_signed_by alg payload.now (signature_view signature.now) (key_view key.now) }
 {
-    let signature = Signature::compute(alg, key.octets(), jws.protected(), jws.payload_text());
-    same_octets(signature.octets(), jws.signature())
+    let mac = Mac::compute(alg, key.octets(), signature.protected().as_bytes(), payload);
+    same_octets(mac.octets(), signature.signature())
 }

@@ -1,16 +1,16 @@
-//! The commands `jwe enc` and `jwe dec`, from devices to devices.
-ghost use Rattle.std.specs.Prelude.{◌≡◌, ◌≢◌, ◌≤◌, false, ◌&&◌, ℕ, List, [], ◌∷◌, length, Err, OnOk, OnErr, IfErr, IsTrue};
+//! The commands `jwe enc`, `jwe dec` and `jwe fmt`, from devices to devices.
+ghost use Rattle.std.specs.Prelude.{◌≡◌, ◌≢◌, ◌≤◌, false, ◌&&◌, ℕ, List, [], ◌∷◌, length, Err, OnOk, OnErr, IfErr, IsTrue, string_bytes};
 ghost use Rattle.std.specs.Iterator.{IsFinite};
 ghost use Rattle.octets.specs.Devices.{appended, observed, IsPossibleInput, AppendsPrefixOf};
 ghost use Rattle.octets.specs.declared.refusal.Refusal.{Refusal};
 ghost use Rattle.octets.specs.Faults.{TellsFaults, counts};
-ghost use Rattle.octets.specs.Outcomes.{AgreesUnlessExternal};
+ghost use Rattle.octets.specs.Outcomes.{AgreesUnlessExternal, AgreesUnlessMemory};
 ghost use Rattle.octets.specs.Plan.{accepted, drawn_of, plan_from, planned, planned_beginning};
-ghost use Rattle.jose.specs.Jwe.{enc_answer, dec_answer};
+ghost use Rattle.jose.specs.Jwe.{enc_answer, dec_answer, jwe_fmt_answer};
 
 use crate::commands::read_with_keys;
 use objects::Jwe;
-use octets::{Input, Output, Refusal};
+use octets::{Input, Output, Refusal, emit, read_to_end};
 use std::alloc::Global;
 use tokens::{jwe_decrypt, jwe_encrypt};
 
@@ -95,4 +95,41 @@ pub(crate) fn decrypt<I: Input, O: Output>(
     let (text, set) = read_with_keys(alloc, text, keys, false)?;
     let jwe = Jwe::read(alloc, &text)?;
     jwe_decrypt(alloc, &set, jwe, out).1
+}
+
+/// Writes the text of the object in compact form, or else in JSON form.
+pub(crate) fn format<I: Input, O: Output>(
+    alloc: Global,
+    text: &mut I,
+    compact: bool,
+    out: &mut O,
+) -> Result<(), Refusal>
+    requires { IsFinite (I.remaining text.old) }
+    ensures answer { (whole : List ℕ) → IsPossibleInput (observed I.consumed I.is_at_end text.old text.new) whole
+        → AgreesUnlessExternal (jwe_fmt_answer compact whole) (appended (O.written out.old) (O.written out.new)) result }
+
+    // The output is not touched before all is accepted.
+    ensures held_back { IfErr result (λ refusal. refusal ≢ Refusal.Write → out.new ≡ out.old) }
+    ensures beginning { OnErr result (AppendsPrefixOf
+        (accepted (jwe_fmt_answer compact (appended (I.consumed text.old) (I.consumed text.new))) (I.is_at_end text.new))
+        (O.written out.old) (O.written out.new)) }
+    ensures finished { OnOk result (IsTrue (O.is_finished out.new)) }
+    ensures faults { TellsFaults (counts I.failures text.old text.new ∷ []) (counts O.failures out.old out.new ∷ []) result }
+{
+    let text = read_to_end(alloc, text)?;
+    let formed = formatted(alloc, &text, compact)?;
+    emit(out, formed.as_bytes())
+}
+
+/// The text of the object in the form that is asked for.
+#[tactic(auto, unfolding(crate::specs::Jwe::jwe_fmt_answer))]
+fn formatted(alloc: Global, text: &[u8], compact: bool) -> Result<String, Refusal>
+    ensures { AgreesUnlessMemory string_bytes result (jwe_fmt_answer compact text.now) }
+{
+    let object = Jwe::read(alloc, text)?;
+    if compact {
+        object.to_compact(alloc)
+    } else {
+        object.to_json(alloc)
+    }
 }

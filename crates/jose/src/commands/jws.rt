@@ -1,24 +1,25 @@
-//! The commands `jws sig` and `jws ver`, from devices to devices.
-ghost use Rattle.std.specs.Prelude.{◌≡◌, ◌≢◌, false, ◌&&◌, ℕ, List, [], ◌∷◌, Err, OnOk, OnErr, IfErr, IsTrue};
+//! The commands `jws sig`, `jws ver` and `jws fmt`, from devices to devices.
+ghost use Rattle.std.specs.Prelude.{◌≡◌, ◌≢◌, false, ◌&&◌, ℕ, List, [], ◌∷◌, Err, OnOk, OnErr, IfErr, IsTrue, string_bytes};
 ghost use Rattle.std.specs.Iterator.{IsFinite};
 ghost use Rattle.octets.specs.Devices.{appended, observed, IsPossibleInput, AppendsPrefixOf};
 ghost use Rattle.octets.specs.declared.refusal.Refusal.{Refusal};
 ghost use Rattle.octets.specs.Faults.{TellsFaults, counts};
-ghost use Rattle.octets.specs.Outcomes.{AgreesUnlessExternal};
+ghost use Rattle.octets.specs.Outcomes.{AgreesUnlessExternal, AgreesUnlessMemory};
 ghost use Rattle.octets.specs.Plan.{accepted, planned, planned_beginning};
-ghost use Rattle.jose.specs.Jws.{sig_answer, ver_answer};
+ghost use Rattle.jose.specs.Jws.{sig_answer, ver_answer, jws_fmt_answer};
 
 use crate::commands::read_with_keys;
 use objects::Jws;
-use octets::{Input, Output, Refusal};
+use octets::{Input, Output, Refusal, emit, read_to_end};
 use std::alloc::Global;
 use tokens::{jws_sign, jws_verify};
 
-/// Signs the content with the key, as the template asks, and writes the compact text.
+/// Signs the content with the keys, as the template asks, and writes the text of the object.
 pub(crate) fn sign<I: Input, O: Output>(
     alloc: Global,
     template: &mut I,
     keys: &mut I,
+    compact: bool,
     content: &mut I,
     out: &mut O,
 ) -> Result<(), Refusal>
@@ -29,10 +30,10 @@ pub(crate) fn sign<I: Input, O: Output>(
         → IsPossibleInput (observed I.consumed I.is_at_end template.old template.new) whole_template
         → IsPossibleInput (observed I.consumed I.is_at_end keys.old keys.new) whole_keys
         → IsPossibleInput (observed I.consumed I.is_at_end content.old content.new) payload
-        → AgreesUnlessExternal (planned (sig_answer whole_keys whole_template) payload) (appended (O.written out.old) (O.written out.new)) result }
+        → AgreesUnlessExternal (planned (sig_answer compact whole_keys whole_template) payload) (appended (O.written out.old) (O.written out.new)) result }
     ensures beginning { OnErr result (AppendsPrefixOf
         (planned_beginning (I.is_at_end keys.new && I.is_at_end template.new)
-        (sig_answer (appended (I.consumed keys.old) (I.consumed keys.new)) (appended (I.consumed template.old) (I.consumed template.new)))
+        (sig_answer compact (appended (I.consumed keys.old) (I.consumed keys.new)) (appended (I.consumed template.old) (I.consumed template.new)))
         (observed I.consumed I.is_at_end content.old content.new)) (O.written out.old) (O.written out.new)) }
     ensures finished { OnOk result (IsTrue (O.is_finished out.new)) }
 
@@ -40,7 +41,7 @@ pub(crate) fn sign<I: Input, O: Output>(
     ensures in_order { (I.is_at_end template.new ≡ false → keys.new ≡ keys.old)
         × (I.is_at_end keys.new && I.is_at_end template.new ≡ false → content.new ≡ content.old) }
     ensures content_last { (refusal : Refusal)
-        → sig_answer (appended (I.consumed keys.old) (I.consumed keys.new)) (appended (I.consumed template.old) (I.consumed template.new)) ≡ Err refusal
+        → sig_answer compact (appended (I.consumed keys.old) (I.consumed keys.new)) (appended (I.consumed template.old) (I.consumed template.new)) ≡ Err refusal
         → content.new ≡ content.old }
     ensures uncut { IfErr result (λ refusal. refusal ≢ Refusal.Write
         → O.written out.new ≡ O.written out.old → out.new ≡ out.old) }
@@ -48,14 +49,15 @@ pub(crate) fn sign<I: Input, O: Output>(
         (counts O.failures out.old out.new ∷ []) result }
 {
     let (template, set) = read_with_keys(alloc, template, keys, true)?;
-    jws_sign(alloc, &set, &template, content, out)
+    jws_sign(alloc, &set, &template, compact, content, out)
 }
 
-/// Verifies the text with the keys, and writes the payload where it is wanted.
+/// Verifies the text with some of the keys, or with all, and writes the payload where it is wanted.
 pub(crate) fn verify<I: Input, O: Output>(
     alloc: Global,
     text: &mut I,
     keys: &mut I,
+    all: bool,
     wanted: bool,
     out: &mut O,
 ) -> Result<(), Refusal>
@@ -64,12 +66,12 @@ pub(crate) fn verify<I: Input, O: Output>(
     ensures answer { (whole_text whole_keys : List ℕ)
         → IsPossibleInput (observed I.consumed I.is_at_end text.old text.new) whole_text
         → IsPossibleInput (observed I.consumed I.is_at_end keys.old keys.new) whole_keys
-        → AgreesUnlessExternal (ver_answer wanted whole_keys whole_text) (appended (O.written out.old) (O.written out.new)) result }
+        → AgreesUnlessExternal (ver_answer all wanted whole_keys whole_text) (appended (O.written out.old) (O.written out.new)) result }
 
     // The output is not touched before all is accepted.
     ensures held_back { IfErr result (λ refusal. refusal ≢ Refusal.Write → out.new ≡ out.old) }
     ensures beginning { OnErr result (AppendsPrefixOf
-        (accepted (ver_answer wanted (appended (I.consumed keys.old) (I.consumed keys.new)) (appended (I.consumed text.old) (I.consumed text.new)))
+        (accepted (ver_answer all wanted (appended (I.consumed keys.old) (I.consumed keys.new)) (appended (I.consumed text.old) (I.consumed text.new)))
         (I.is_at_end keys.new && I.is_at_end text.new)) (O.written out.old) (O.written out.new)) }
     ensures finished { OnOk result (IsTrue wanted → IsTrue (O.is_finished out.new)) }
     ensures untouched { wanted ≡ false → out.new ≡ out.old }
@@ -79,5 +81,42 @@ pub(crate) fn verify<I: Input, O: Output>(
 {
     let (text, set) = read_with_keys(alloc, text, keys, false)?;
     let jws = Jws::read(alloc, &text)?;
-    jws_verify(&set, &jws, wanted, out)
+    jws_verify(&set, &jws, all, wanted, out)
+}
+
+/// Writes the text of the object in compact form, or else in JSON form.
+pub(crate) fn format<I: Input, O: Output>(
+    alloc: Global,
+    text: &mut I,
+    compact: bool,
+    out: &mut O,
+) -> Result<(), Refusal>
+    requires { IsFinite (I.remaining text.old) }
+    ensures answer { (whole : List ℕ) → IsPossibleInput (observed I.consumed I.is_at_end text.old text.new) whole
+        → AgreesUnlessExternal (jws_fmt_answer compact whole) (appended (O.written out.old) (O.written out.new)) result }
+
+    // The output is not touched before all is accepted.
+    ensures held_back { IfErr result (λ refusal. refusal ≢ Refusal.Write → out.new ≡ out.old) }
+    ensures beginning { OnErr result (AppendsPrefixOf
+        (accepted (jws_fmt_answer compact (appended (I.consumed text.old) (I.consumed text.new))) (I.is_at_end text.new))
+        (O.written out.old) (O.written out.new)) }
+    ensures finished { OnOk result (IsTrue (O.is_finished out.new)) }
+    ensures faults { TellsFaults (counts I.failures text.old text.new ∷ []) (counts O.failures out.old out.new ∷ []) result }
+{
+    let text = read_to_end(alloc, text)?;
+    let formed = formatted(alloc, &text, compact)?;
+    emit(out, formed.as_bytes())
+}
+
+/// The text of the object in the form that is asked for.
+#[tactic(auto, unfolding(crate::specs::Jws::jws_fmt_answer))]
+fn formatted(alloc: Global, text: &[u8], compact: bool) -> Result<String, Refusal>
+    ensures { AgreesUnlessMemory string_bytes result (jws_fmt_answer compact text.now) }
+{
+    let object = Jws::read(alloc, text)?;
+    if compact {
+        object.to_compact(alloc)
+    } else {
+        object.to_json(alloc)
+    }
 }

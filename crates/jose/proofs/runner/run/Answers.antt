@@ -13,9 +13,9 @@ use Rattle.keys.specs.Limits.{limits}
 use Rattle.jose.specs.Invocations.{invocation_view, hash_asked}
 use Rattle.jose.specs.Ports.{as_text, as_content}
 use Rattle.jose.specs.Jwk.{making, thp_answer}
-use Rattle.jose.specs.Jwe.{enc_answer, dec_answer}
-use Rattle.jose.specs.Jws.{sig_answer, ver_answer}
-use Rattle.jose.specs.Meanings.{is_compact_asked, is_content_wanted}
+use Rattle.jose.specs.Jwe.{enc_answer, dec_answer, jwe_fmt_answer}
+use Rattle.jose.specs.Jws.{sig_answer, ver_answer, jws_fmt_answer}
+use Rattle.jose.specs.Meanings.{is_all_asked, is_compact_asked, is_content_wanted}
 use Rattle.jose.proofs.Agreement.{agrees_as_text, agrees_as_content, plan_of_making, begun_by_plan, begun_by_text, on_success}
 use Rattle.jose.proofs.Draws.{nothing_drawn, none_drawn, placed_drawn, placed_refused, by_plan_drawn, by_plan_refused, by_text_drawn}
 use Rattle.jose.proofs.runner.run.Goals as goal
@@ -124,10 +124,10 @@ returns-in-B64Dec-clause-at_most g c inputs may = none_drawn (g.I.Input.consumed
 
 pub returns-in-JwsSig-clause-answer : goal.returns-in-JwsSig-clause-answer
 returns-in-JwsSig-clause-answer g c inputs may =
-    let plan = sig_answer inputs.keys inputs.text in
+    let plan = sig_answer (is_compact_asked (invocation_view c.args.invocation.now).options) inputs.keys inputs.text in
     let h = c.sign.ensures.answer inputs.text inputs.keys inputs.content may.text may.keys may.content in
     rw (c.in-JwsSig.is, plan_of_plan as_text plan inputs.random, planned_map as_text plan inputs.content)
-    (agrees_as_text (planned plan inputs.content) _ _ _ (drop-length (g.O.Output.written c.args.outputs.now.content)) h)
+    (agrees_as_text (planned plan inputs.content) _ _ _ (drop-length (g.O.Output.written c.args.outputs.now.content)) (rw (← c.has-compact.ensures) h))
 
 pub returns-in-JwsSig-clause-beginning : goal.returns-in-JwsSig-clause-beginning
 returns-in-JwsSig-clause-beginning g c =
@@ -135,15 +135,15 @@ returns-in-JwsSig-clause-beginning g c =
     let at_end = g.I.Input.is_at_end in
     let old = c.args.inputs.now in
     let random = consumed old.random in
-    let plan = sig_answer (appended (consumed old.keys) (consumed c.sign.new.keys)) (appended (consumed old.text) (consumed c.sign.new.template)) in
+    let plan = sig_answer (is_compact_asked (invocation_view c.args.invocation.now).options) (appended (consumed old.keys) (consumed c.sign.new.keys)) (appended (consumed old.text) (consumed c.sign.new.template)) in
     let others = at_end c.sign.new.keys && at_end c.sign.new.template in
     let content = observed consumed at_end old.content c.sign.new.content in
-    on_refusal c.sign.result c.sign.ensures.beginning
+    on_refusal c.sign.result (rw (← c.has-compact.ensures) c.sign.ensures.beginning)
     (λ h. rw (c.in-JwsSig.is, plan_of_plan as_text plan (appended random random), begun_by_plan as_text refl others plan content) (record { text = h; content = AppendsPrefixOf-none _ _ refl }))
 
 pub returns-in-JwsSig-clause-drawn : goal.returns-in-JwsSig-clause-drawn
 returns-in-JwsSig-clause-drawn g c =
-    on_success c.sign.result c.sign.ensures.finished (λ done inputs may. rw (c.in-JwsSig.is, by_plan_drawn as_text (sig_answer inputs.keys inputs.text)) (nothing_drawn (g.I.Input.consumed c.args.inputs.now.random)))
+    on_success c.sign.result c.sign.ensures.finished (λ done inputs may. rw (c.in-JwsSig.is, by_plan_drawn as_text (sig_answer (is_compact_asked (invocation_view c.args.invocation.now).options) inputs.keys inputs.text)) (nothing_drawn (g.I.Input.consumed c.args.inputs.now.random)))
 
 pub returns-in-JwsSig-clause-at_most : goal.returns-in-JwsSig-clause-at_most
 returns-in-JwsSig-clause-at_most g c inputs may = none_drawn (g.I.Input.consumed c.args.inputs.now.random) _
@@ -154,16 +154,16 @@ returns-in-JwsSig-clause-in_order g c =
 
 pub returns-in-JwsSig-clause-content_last : goal.returns-in-JwsSig-clause-content_last
 returns-in-JwsSig-clause-content_last g c refusal is =
-    (refl, c.sign.ensures.content_last refusal (by_plan_refused as_text _ refusal (rw c.in-JwsSig.is at is)))
+    (refl, c.sign.ensures.content_last refusal (by_plan_refused as_text _ refusal (rw (c.in-JwsSig.is, ← c.has-compact.ensures) at is)))
 
 -- ---- jws ver
 
 pub returns-in-JwsVer-clause-answer : goal.returns-in-JwsVer-clause-answer
 returns-in-JwsVer-clause-answer g c inputs may =
-    let a = ver_answer (is_content_wanted (invocation_view c.args.invocation.now).options) inputs.keys inputs.text in
+    let a = ver_answer (is_all_asked (invocation_view c.args.invocation.now).options) (is_content_wanted (invocation_view c.args.invocation.now).options) inputs.keys inputs.text in
     let h = c.verify.ensures.answer inputs.text inputs.keys may.text may.keys in
     rw (c.in-JwsVer.is, plan_of_text as_content a inputs.random, planned_without_content as_content a [])
-    (agrees_as_content a _ _ _ (drop-length (g.O.Output.written c.args.outputs.now.text)) (rw (← c.has-wanted.ensures) h))
+    (agrees_as_content a _ _ _ (drop-length (g.O.Output.written c.args.outputs.now.text)) (rw (← c.has-all.ensures, ← c.has-wanted.ensures) h))
 
 pub returns-in-JwsVer-clause-beginning : goal.returns-in-JwsVer-clause-beginning
 returns-in-JwsVer-clause-beginning g c =
@@ -171,14 +171,14 @@ returns-in-JwsVer-clause-beginning g c =
     let at_end = g.I.Input.is_at_end in
     let old = c.args.inputs.now in
     let random = consumed old.random in
-    let a = ver_answer (is_content_wanted (invocation_view c.args.invocation.now).options) (appended (consumed old.keys) (consumed c.verify.new.keys)) (appended (consumed old.text) (consumed c.verify.new.text)) in
+    let a = ver_answer (is_all_asked (invocation_view c.args.invocation.now).options) (is_content_wanted (invocation_view c.args.invocation.now).options) (appended (consumed old.keys) (consumed c.verify.new.keys)) (appended (consumed old.text) (consumed c.verify.new.text)) in
     let others = at_end c.verify.new.keys && at_end c.verify.new.text in
-    on_refusal c.verify.result (rw (← c.has-wanted.ensures) c.verify.ensures.beginning)
+    on_refusal c.verify.result (rw (← c.has-all.ensures, ← c.has-wanted.ensures) c.verify.ensures.beginning)
     (λ h. rw (c.in-JwsVer.is, plan_of_text as_content a (appended random random), begun_by_text as_content refl others a) (record { text = AppendsPrefixOf-none _ _ refl; content = h }))
 
 pub returns-in-JwsVer-clause-drawn : goal.returns-in-JwsVer-clause-drawn
 returns-in-JwsVer-clause-drawn g c =
-    on_success c.verify.result c.verify.ensures.finished (λ done inputs may. rw (c.in-JwsVer.is, by_text_drawn as_content (ver_answer (is_content_wanted (invocation_view c.args.invocation.now).options) inputs.keys inputs.text)) (nothing_drawn (g.I.Input.consumed c.args.inputs.now.random)))
+    on_success c.verify.result c.verify.ensures.finished (λ done inputs may. rw (c.in-JwsVer.is, by_text_drawn as_content (ver_answer (is_all_asked (invocation_view c.args.invocation.now).options) (is_content_wanted (invocation_view c.args.invocation.now).options) inputs.keys inputs.text)) (nothing_drawn (g.I.Input.consumed c.args.inputs.now.random)))
 
 pub returns-in-JwsVer-clause-at_most : goal.returns-in-JwsVer-clause-at_most
 returns-in-JwsVer-clause-at_most g c inputs may = none_drawn (g.I.Input.consumed c.args.inputs.now.random) _
@@ -189,6 +189,38 @@ returns-in-JwsVer-clause-in_order g c = rw c.in-JwsVer.is (record { keys = c.ver
 pub returns-in-JwsVer-clause-content_last : goal.returns-in-JwsVer-clause-content_last
 returns-in-JwsVer-clause-content_last g c refusal is = (refl, refl)
 
+-- ---- jws fmt
+
+pub returns-in-JwsFmt-clause-answer : goal.returns-in-JwsFmt-clause-answer
+returns-in-JwsFmt-clause-answer g c inputs may =
+    let a = jws_fmt_answer (is_compact_asked (invocation_view c.args.invocation.now).options) inputs.text in
+    let h = c.format.ensures.answer inputs.text may.text in
+    rw (c.in-JwsFmt.is, plan_of_text as_text a inputs.random, planned_without_content as_text a [])
+    (agrees_as_text a _ _ _ (drop-length (g.O.Output.written c.args.outputs.now.content)) (rw (← c.has-compact-in-JwsFmt.ensures) h))
+
+pub returns-in-JwsFmt-clause-beginning : goal.returns-in-JwsFmt-clause-beginning
+returns-in-JwsFmt-clause-beginning g c =
+    let consumed = g.I.Input.consumed in
+    let old = c.args.inputs.now in
+    let random = consumed old.random in
+    let a = jws_fmt_answer (is_compact_asked (invocation_view c.args.invocation.now).options) (appended (consumed old.text) (consumed c.format.new.text)) in
+    let others = g.I.Input.is_at_end c.format.new.text in
+    on_refusal c.format.result (rw (← c.has-compact-in-JwsFmt.ensures) c.format.ensures.beginning)
+    (λ h. rw (c.in-JwsFmt.is, plan_of_text as_text a (appended random random), begun_by_text as_text refl others a) (record { text = h; content = AppendsPrefixOf-none _ _ refl }))
+
+pub returns-in-JwsFmt-clause-drawn : goal.returns-in-JwsFmt-clause-drawn
+returns-in-JwsFmt-clause-drawn g c =
+    on_success c.format.result c.format.ensures.finished (λ done inputs may. rw (c.in-JwsFmt.is, by_text_drawn as_text (jws_fmt_answer (is_compact_asked (invocation_view c.args.invocation.now).options) inputs.text)) (nothing_drawn (g.I.Input.consumed c.args.inputs.now.random)))
+
+pub returns-in-JwsFmt-clause-at_most : goal.returns-in-JwsFmt-clause-at_most
+returns-in-JwsFmt-clause-at_most g c inputs may = none_drawn (g.I.Input.consumed c.args.inputs.now.random) _
+
+pub returns-in-JwsFmt-clause-in_order : goal.returns-in-JwsFmt-clause-in_order
+returns-in-JwsFmt-clause-in_order g c = rw c.in-JwsFmt.is (record { keys = λ _. refl; random = λ _. refl; content = λ _. refl })
+
+pub returns-in-JwsFmt-clause-content_last : goal.returns-in-JwsFmt-clause-content_last
+returns-in-JwsFmt-clause-content_last g c refusal is = (refl, refl)
+
 -- ---- jwe enc
 
 pub returns-in-JweEnc-clause-answer : goal.returns-in-JweEnc-clause-answer
@@ -197,7 +229,7 @@ returns-in-JweEnc-clause-answer g c inputs may =
     let plan = plan_from draft inputs.random in
     let h = c.encrypt.ensures.answer inputs.text inputs.keys inputs.random inputs.content may.text may.keys may.random may.content in
     rw (c.in-JweEnc.is, plan_from-placed as_text draft inputs.random, planned_map as_text plan inputs.content)
-    (agrees_as_text (planned plan inputs.content) _ _ _ (drop-length (g.O.Output.written c.args.outputs.now.content)) (rw (← c.has-compact.ensures) h))
+    (agrees_as_text (planned plan inputs.content) _ _ _ (drop-length (g.O.Output.written c.args.outputs.now.content)) (rw (← c.has-compact-in-JweEnc.ensures) h))
 
 pub returns-in-JweEnc-clause-beginning : goal.returns-in-JweEnc-clause-beginning
 returns-in-JweEnc-clause-beginning g c =
@@ -208,17 +240,17 @@ returns-in-JweEnc-clause-beginning g c =
     let draft = enc_answer (is_compact_asked (invocation_view c.args.invocation.now).options) (appended (consumed old.keys) (consumed c.encrypt.new.keys)) (appended (consumed old.text) (consumed c.encrypt.new.template)) in
     let others = at_end c.encrypt.new.keys && at_end c.encrypt.new.template in
     let content = observed consumed at_end old.content c.encrypt.new.content in
-    on_refusal c.encrypt.result (rw (← c.has-compact.ensures) c.encrypt.ensures.beginning)
+    on_refusal c.encrypt.result (rw (← c.has-compact-in-JweEnc.ensures) c.encrypt.ensures.beginning)
     (λ h. rw (c.in-JweEnc.is, plan_from-placed as_text draft random, begun_by_plan as_text refl others (plan_from draft random) content) (record { text = h; content = AppendsPrefixOf-none _ _ refl }))
 
 pub returns-in-JweEnc-clause-drawn : goal.returns-in-JweEnc-clause-drawn
 returns-in-JweEnc-clause-drawn g c =
     on_success c.encrypt.result c.encrypt.ensures.drawn (λ h inputs may.
-    rw (c.in-JweEnc.is, placed_drawn as_text (enc_answer (is_compact_asked (invocation_view c.args.invocation.now).options) inputs.keys inputs.text)) (rw (← c.has-compact.ensures) (h inputs.text inputs.keys may.text may.keys)))
+    rw (c.in-JweEnc.is, placed_drawn as_text (enc_answer (is_compact_asked (invocation_view c.args.invocation.now).options) inputs.keys inputs.text)) (rw (← c.has-compact-in-JweEnc.ensures) (h inputs.text inputs.keys may.text may.keys)))
 
 pub returns-in-JweEnc-clause-at_most : goal.returns-in-JweEnc-clause-at_most
 returns-in-JweEnc-clause-at_most g c inputs may =
-    rw (c.in-JweEnc.is, placed_drawn as_text (enc_answer (is_compact_asked (invocation_view c.args.invocation.now).options) inputs.keys inputs.text)) (rw (← c.has-compact.ensures) (c.encrypt.ensures.at_most inputs.text inputs.keys may.text may.keys))
+    rw (c.in-JweEnc.is, placed_drawn as_text (enc_answer (is_compact_asked (invocation_view c.args.invocation.now).options) inputs.keys inputs.text)) (rw (← c.has-compact-in-JweEnc.ensures) (c.encrypt.ensures.at_most inputs.text inputs.keys may.text may.keys))
 
 pub returns-in-JweEnc-clause-in_order : goal.returns-in-JweEnc-clause-in_order
 returns-in-JweEnc-clause-in_order g c =
@@ -226,7 +258,7 @@ returns-in-JweEnc-clause-in_order g c =
 
 pub returns-in-JweEnc-clause-content_last : goal.returns-in-JweEnc-clause-content_last
 returns-in-JweEnc-clause-content_last g c refusal is =
-    c.encrypt.ensures.content_last refusal (placed_refused as_text _ refusal (rw (c.in-JweEnc.is, ← c.has-compact.ensures) at is))
+    c.encrypt.ensures.content_last refusal (placed_refused as_text _ refusal (rw (c.in-JweEnc.is, ← c.has-compact-in-JweEnc.ensures) at is))
 
 -- ---- jwe dec
 
@@ -260,3 +292,35 @@ returns-in-JweDec-clause-in_order g c = rw c.in-JweDec.is (record { keys = c.dec
 
 pub returns-in-JweDec-clause-content_last : goal.returns-in-JweDec-clause-content_last
 returns-in-JweDec-clause-content_last g c refusal is = (refl, refl)
+
+-- ---- jwe fmt
+
+pub returns-in-JweFmt-clause-answer : goal.returns-in-JweFmt-clause-answer
+returns-in-JweFmt-clause-answer g c inputs may =
+    let a = jwe_fmt_answer (is_compact_asked (invocation_view c.args.invocation.now).options) inputs.text in
+    let h = c.format-in-JweFmt.ensures.answer inputs.text may.text in
+    rw (c.in-JweFmt.is, plan_of_text as_text a inputs.random, planned_without_content as_text a [])
+    (agrees_as_text a _ _ _ (drop-length (g.O.Output.written c.args.outputs.now.content)) (rw (← c.has-compact-in-JweFmt.ensures) h))
+
+pub returns-in-JweFmt-clause-beginning : goal.returns-in-JweFmt-clause-beginning
+returns-in-JweFmt-clause-beginning g c =
+    let consumed = g.I.Input.consumed in
+    let old = c.args.inputs.now in
+    let random = consumed old.random in
+    let a = jwe_fmt_answer (is_compact_asked (invocation_view c.args.invocation.now).options) (appended (consumed old.text) (consumed c.format-in-JweFmt.new.text)) in
+    let others = g.I.Input.is_at_end c.format-in-JweFmt.new.text in
+    on_refusal c.format-in-JweFmt.result (rw (← c.has-compact-in-JweFmt.ensures) c.format-in-JweFmt.ensures.beginning)
+    (λ h. rw (c.in-JweFmt.is, plan_of_text as_text a (appended random random), begun_by_text as_text refl others a) (record { text = h; content = AppendsPrefixOf-none _ _ refl }))
+
+pub returns-in-JweFmt-clause-drawn : goal.returns-in-JweFmt-clause-drawn
+returns-in-JweFmt-clause-drawn g c =
+    on_success c.format-in-JweFmt.result c.format-in-JweFmt.ensures.finished (λ done inputs may. rw (c.in-JweFmt.is, by_text_drawn as_text (jwe_fmt_answer (is_compact_asked (invocation_view c.args.invocation.now).options) inputs.text)) (nothing_drawn (g.I.Input.consumed c.args.inputs.now.random)))
+
+pub returns-in-JweFmt-clause-at_most : goal.returns-in-JweFmt-clause-at_most
+returns-in-JweFmt-clause-at_most g c inputs may = none_drawn (g.I.Input.consumed c.args.inputs.now.random) _
+
+pub returns-in-JweFmt-clause-in_order : goal.returns-in-JweFmt-clause-in_order
+returns-in-JweFmt-clause-in_order g c = rw c.in-JweFmt.is (record { keys = λ _. refl; random = λ _. refl; content = λ _. refl })
+
+pub returns-in-JweFmt-clause-content_last : goal.returns-in-JweFmt-clause-content_last
+returns-in-JweFmt-clause-content_last g c refusal is = (refl, refl)

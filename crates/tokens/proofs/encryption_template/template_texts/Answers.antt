@@ -2,7 +2,7 @@ use Rattle.std.proofs.Common.{rules, codes}
 use Rattle.serde_json.specs.View.{view}
 use Rattle.octets.specs.Outcomes.{AgreesUnlessMemory}
 use Rattle.objects.specs.Headers.{header_at}
-use Rattle.objects.specs.Jwe.{text_at}
+use Rattle.objects.specs.Texts.{text_at}
 use Rattle.objects.specs.Views.{part_view}
 use Rattle.tokens.specs.Encrypting.{template_texts}
 use Rattle.tokens.proofs.encryption_template.template_texts.Goals as goal
@@ -19,5 +19,5 @@ unfolding template_texts
 returns-clause-exact c =
     let first : AgreesUnlessMemory part_view c.header_at.result (header_at (codes "protected") (view c.args.value.now)) = c.header_at.ensures.exact in
     let second : AgreesUnlessMemory part_view c.header_at-2.result (header_at (codes "unprotected") (view c.args.value.now)) = c.header_at-2.ensures.exact in
-    let third : AgreesUnlessMemory (λ t. t.now) c.text_at.result (text_at (codes "aad") (view c.args.value.now)) = c.text_at.ensures in
+    let third : AgreesUnlessMemory (λ t. t.now) c.text_at.result (text_at (codes "aad") (view c.args.value.now)) = c.text_at.ensures.exact in
     search (rules, first, second, third)

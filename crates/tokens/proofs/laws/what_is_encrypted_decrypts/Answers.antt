@@ -7,5 +7,5 @@ returns c =
       octets = record { opened = c.what_is_opened_is_octets.ensures; delivering = c.what_delivers_is_octets.ensures };
       opens = c.opens_exactly.ensures;
       delivers = c.delivers_exactly.ensures;
-      spells = c.texts_spell_objects.ensures;
+      spells = c.jwe_texts_spell_objects.ensures;
     })

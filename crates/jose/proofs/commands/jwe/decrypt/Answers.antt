@@ -16,13 +16,13 @@ returns-in_err-jwe-clause-answer g c whole_text whole_keys text_may keys_may =
     let t : whole_text ≡ c.deref.result.now = c.in_ok-text.ensures.text whole_text text_may ∙ sym c.deref.ensures.value in
     let k : key_set limits whole_keys false ≡ Ok c.in_ok-text.set = c.in_ok-text.ensures.keys whole_keys keys_may in
     refused _ _ c.in_err-jwe.field-0.0 c.from_residual-in_err-jwe.result c.from_residual-in_err-jwe.ensures.1
-    (λ inside. rw (k, ap jwe_of t ∙ (c.in_err-jwe.ensures (not_memory _ inside)).0))
+    (λ inside. rw (k, ap (jwe_of limits) t ∙ (c.in_err-jwe.ensures (not_memory _ inside)).0))
 
 pub returns-clause-answer : goal.returns-clause-answer
 returns-clause-answer g c whole_text whole_keys text_may keys_may =
     let t : whole_text ≡ c.deref.result.now = c.in_ok-text.ensures.text whole_text text_may ∙ sym c.deref.ensures.value in
     let k : key_set limits whole_keys false ≡ Ok c.in_ok-text.set = c.in_ok-text.ensures.keys whole_keys keys_may in
-    let object : jwe_of whole_text ≡ Ok (jwe_view c.in_ok-jwe.jwe) = ap jwe_of t ∙ c.in_ok-jwe.ensures in
+    let object : jwe_of limits whole_text ≡ Ok (jwe_view c.in_ok-jwe.jwe) = ap (jwe_of limits) t ∙ c.in_ok-jwe.ensures in
     rw (k, object) c.jwe_decrypt.ensures.answer
 
 pub returns-clause-beginning : goal.returns-clause-beginning
@@ -35,5 +35,5 @@ returns-clause-beginning g c =
     let keys = appended (consumed old.keys.now) (consumed new.keys) in
     let t : text ≡ c.deref.result.now = c.in_ok-text.ensures.text text (seen_possible consumed at_end old.text.now new.text) ∙ sym c.deref.ensures.value in
     let k : key_set limits keys false ≡ Ok c.in_ok-text.set = c.in_ok-text.ensures.keys keys (seen_possible consumed at_end old.keys.now new.keys) in
-    let object : jwe_of text ≡ Ok (jwe_view c.in_ok-jwe.jwe) = ap jwe_of t ∙ c.in_ok-jwe.ensures in
+    let object : jwe_of limits text ≡ Ok (jwe_view c.in_ok-jwe.jwe) = ap (jwe_of limits) t ∙ c.in_ok-jwe.ensures in
     rw (c.in_ok-text.ensures.ends.0, c.in_ok-text.ensures.ends.1, k, object) c.jwe_decrypt.ensures.beginning

@@ -1,7 +1,7 @@
 use Rattle.std.proofs.Common.{◌≡◌, ◌∙◌, sym, ap, false, Ok}
 use Rattle.keys.specs.KeySets.{key_set}
 use Rattle.keys.specs.Limits.{limits}
-use Rattle.objects.specs.Jws.{signed_object}
+use Rattle.objects.specs.Jws.{jws_of}
 use Rattle.objects.specs.Views.{jws_view}
 use Rattle.octets.specs.Devices.{appended}
 use Rattle.jose.proofs.Agreement.{not_memory, refused, seen_possible}
@@ -16,13 +16,13 @@ returns-in_err-jws-clause-answer g c whole_text whole_keys text_may keys_may =
     let t : whole_text ≡ c.deref.result.now = c.in_ok-text.ensures.text whole_text text_may ∙ sym c.deref.ensures.value in
     let k : key_set limits whole_keys false ≡ Ok c.in_ok-text.set = c.in_ok-text.ensures.keys whole_keys keys_may in
     refused _ _ c.in_err-jws.field-0.0 c.from_residual-in_err-jws.result c.from_residual-in_err-jws.ensures.1
-    (λ inside. rw (k, ap signed_object t ∙ (c.in_err-jws.ensures.exact (not_memory _ inside)).0))
+    (λ inside. rw (k, ap (jws_of limits) t ∙ (c.in_err-jws.ensures (not_memory _ inside)).0))
 
 pub returns-clause-answer : goal.returns-clause-answer
 returns-clause-answer g c whole_text whole_keys text_may keys_may =
     let t : whole_text ≡ c.deref.result.now = c.in_ok-text.ensures.text whole_text text_may ∙ sym c.deref.ensures.value in
     let k : key_set limits whole_keys false ≡ Ok c.in_ok-text.set = c.in_ok-text.ensures.keys whole_keys keys_may in
-    let object : signed_object whole_text ≡ Ok (jws_view c.in_ok-jws.jws) = ap signed_object t ∙ c.in_ok-jws.ensures.exact in
+    let object : jws_of limits whole_text ≡ Ok (jws_view c.in_ok-jws.jws) = ap (jws_of limits) t ∙ c.in_ok-jws.ensures in
     rw (k, object) c.jws_verify.ensures.answer
 
 pub returns-clause-beginning : goal.returns-clause-beginning
@@ -35,5 +35,5 @@ returns-clause-beginning g c =
     let keys = appended (consumed old.keys.now) (consumed new.keys) in
     let t : text ≡ c.deref.result.now = c.in_ok-text.ensures.text text (seen_possible consumed at_end old.text.now new.text) ∙ sym c.deref.ensures.value in
     let k : key_set limits keys false ≡ Ok c.in_ok-text.set = c.in_ok-text.ensures.keys keys (seen_possible consumed at_end old.keys.now new.keys) in
-    let object : signed_object text ≡ Ok (jws_view c.in_ok-jws.jws) = ap signed_object t ∙ c.in_ok-jws.ensures.exact in
+    let object : jws_of limits text ≡ Ok (jws_view c.in_ok-jws.jws) = ap (jws_of limits) t ∙ c.in_ok-jws.ensures in
     rw (c.in_ok-text.ensures.ends.0, c.in_ok-text.ensures.ends.1, k, object) c.jws_verify.ensures.beginning

@@ -1,0 +1,142 @@
+//! Objects in general form, and signed ones, that other programs made of the same octets: latchset's `jose` 11, jwcrypto 1.1.0
+//! and go-jose 2.6.0, as Debian 12 has them (`jose` 11-2, `python3-jwcrypto` 1.1.0-1, `golang-gopkg-square-go-jose.v2-dev`
+//! 2.6.0-2). Above each stands the command or the calls that made it. The keys are the octets from 101 on.
+use crate::peer_tests::{KEY_16, KEY_24, KEY_32, KEY_48, KEY_64};
+use crate::tests::{Answer, Given, expect};
+use octets::Refusal;
+use std::process::Abort;
+use std::test::Fail;
+
+const LINE: &[u8] = b"Live long and prosper.";
+
+const DECRYPT: [&str; 6] = ["jwe", "dec", "-k", "keys", "-O", "plaintext"];
+
+const VERIFY_ALL: [&str; 7] = ["jws", "ver", "-a", "-k", "keys", "-O", "payload"];
+
+/// Encrypted objects, and the keys of which each alone opens one.
+const ENCRYPTED: &[(&str, &[&str])] = &[
+    // jose jwe enc -i '{"protected":{"enc":"A128CBC-HS256"}}' -k k16 -k k32
+    (
+        "{\"ciphertext\":\"5EhDFmiDzpZQdVRhkpoYfYmHMX-qtZgeWfMaENIvbgk\",\"iv\":\"e1L8oixUv2YCVkUt8FB3Tg\",\"protected\":\"eyJlbmMiOiJBMTI4Q0JDLUhTMjU2In0\",\"recipients\":[{\"encrypted_key\":\"6ebZSWQIxRx0g6S3atVNWzRJi8SwLW0cbCBfZJIzP8yoQ4XoGgMDkg\",\"header\":{\"alg\":\"A128KW\"}},{\"encrypted_key\":\"9BEIxwgHdmKqhHeiAKUfj7mHZnJzo43rpRmM5fAZTz1bvGEu97ISOA\",\"header\":{\"alg\":\"A256KW\"}}],\"tag\":\"SqkKzAmr6dQ-uV-5Vt3lzg\"}",
+        &[KEY_16, KEY_32],
+    ),
+    // jose jwe enc -i '{"protected":{"enc":"A256GCM"}}' -r '{"header":{"alg":"A128KW"}}' -k k16 -r '{"header":{"alg":"PBES2-HS256+A128KW","p2c":1000}}' -k k24
+    (
+        "{\"ciphertext\":\"sCp6DXOdqGm1u3X_bjwYIXPgjYoqmQ\",\"iv\":\"gnVGVWknw8aaYK2m\",\"protected\":\"eyJlbmMiOiJBMjU2R0NNIn0\",\"recipients\":[{\"encrypted_key\":\"l83r-n_-GfLecC8Uul4OTGWC4eM1yZyXsl_kAoj9eJTWFJ_CumkQqg\",\"header\":{\"alg\":\"A128KW\"}},{\"encrypted_key\":\"7iJ0vjhJHwC8dRWWTQ0uUGx6bxKUOzkHHs4Pt9XFuJgtqFCtkagsUg\",\"header\":{\"alg\":\"PBES2-HS256+A128KW\",\"p2c\":1000,\"p2s\":\"i8eaAUsWpeYx_qBlF8yH0A\"}}],\"tag\":\"jj3hqCL-mf_Z1QoNpJMhgQ\"}",
+        &[KEY_16, KEY_24],
+    ),
+    // jose jwe enc -i '{"protected":{"enc":"A256CBC-HS512"},"aad":"YQ","unprotected":{"x":1}}' -k k16 -k k24 -k k32
+    (
+        "{\"ciphertext\":\"5U1yxxRyiFGsEJSMvtq2tdJx9kkVtO5ZPBb4hu5-yq0\",\"aad\":\"YQ\",\"iv\":\"09R5irFuPmhY3EtjIr-p7g\",\"protected\":\"eyJlbmMiOiJBMjU2Q0JDLUhTNTEyIn0\",\"recipients\":[{\"encrypted_key\":\"ip4FhXeKIpApRZSQ0SKYxmeCeh3SJ-JQyNkRVmm_0BjHleVDcf9xd_HSRU6eyvO2LBOVIkvF6a_5zU4BDld7IDBNy5KUR3As\",\"header\":{\"alg\":\"A128KW\"}},{\"encrypted_key\":\"qTlPm9y2cf_Xcw3Yf0-n__ji_xov6hBvCr4EgTcrGRg3p0-2_yyx1rCACfPiCmT7hVeLuL0Nw7nC3pBEn0AN02WpgcFcpJzR\",\"header\":{\"alg\":\"A192KW\"}},{\"encrypted_key\":\"JSBrHeKBvD1PdsaiNLko4z6HOY1d2ZGWzAYpu-ua0I1oWQIoqNybge7fq4AtbYOp6HI1g-ZLUAQbw3hU5PbSGLAMewfzmOTg\",\"header\":{\"alg\":\"A256KW\"}}],\"tag\":\"EeVYpqXO2iLb-KcrPsLZw4YI-54Hhg9CYKrikj0DmpE\",\"unprotected\":{\"x\":1}}",
+        &[KEY_16, KEY_24, KEY_32],
+    ),
+    // go-jose: NewMultiEncrypter(A128CBC-HS256, [A128KW, A256KW, PBES2_HS256_A128KW]).EncryptWithAuthData(.., "a").FullSerialize(), without the `encrypted_key` beside the list
+    (
+        "{\"protected\":\"eyJlbmMiOiJBMTI4Q0JDLUhTMjU2In0\",\"recipients\":[{\"header\":{\"alg\":\"A128KW\"},\"encrypted_key\":\"JN-IzD2ZoEXsqnFFnOgIKLbWQeB_2GfPBVfCqjb35w1gTkaW6P52jA\"},{\"header\":{\"alg\":\"A256KW\"},\"encrypted_key\":\"Zn4LheyQjNIFeMmaANf1Dzowu5OTQARDjJa9GNk8eQY-rmtg7wkjGw\"},{\"header\":{\"alg\":\"PBES2-HS256+A128KW\",\"p2c\":1000,\"p2s\":\"MDEyMzQ1Njc4OWFiY2RlZg\"},\"encrypted_key\":\"UGZOEWu1oQHyeF6e5ZA0Cfk6IfQiw_e6MOAURBElzhGlmY3O0f8n1A\"}],\"aad\":\"YQ\",\"iv\":\"AWDBj0WjWp7zwyiCn4VM7w\",\"ciphertext\":\"oAZppv7SS5kIQaO4v6A54qjEnExUvdFIGENb3xdOA-c\",\"tag\":\"l9PolbUt4rlr8rDfP48crg\"}",
+        &[KEY_16, KEY_32, KEY_24],
+    ),
+    // go-jose: NewMultiEncrypter(A256GCM, [A128KW, A256KW, PBES2_HS256_A128KW]).EncryptWithAuthData(.., "a").FullSerialize(), without the `encrypted_key` beside the list
+    (
+        "{\"protected\":\"eyJlbmMiOiJBMjU2R0NNIn0\",\"recipients\":[{\"header\":{\"alg\":\"A128KW\"},\"encrypted_key\":\"Nz_foOVf91D1Fx_4T8bV43SqRgAklF_NTbcnNY4Xyla7whftiXLQ_g\"},{\"header\":{\"alg\":\"A256KW\"},\"encrypted_key\":\"DFCuYoFlZ1cO3SAKxp43mCjurqWHpolpiEdSpnKjD8VRLOwvhsrYjw\"},{\"header\":{\"alg\":\"PBES2-HS256+A128KW\",\"p2c\":1000,\"p2s\":\"MDEyMzQ1Njc4OWFiY2RlZg\"},\"encrypted_key\":\"2Xlaoojrv2B3U2E1Up9NbBQbwrHWylwmElVxMiIhIrCAKsxHOptTdw\"}],\"aad\":\"YQ\",\"iv\":\"BCItIxP2DNYEYzxi\",\"ciphertext\":\"N54u5N1-kaUBO57imS42gGY-I_FNUQ\",\"tag\":\"XxK8whVz5KsUTWvkyYc6gw\"}",
+        &[KEY_16, KEY_32, KEY_24],
+    ),
+    // jwcrypto: JWE(.., protected='{"enc":"A128CBC-HS256"}'), add_recipient(KEY_16, '{"alg":"A128KW"}'), add_recipient(KEY_32, '{"alg":"A256KW"}'), serialize()
+    (
+        "{\"ciphertext\":\"4d2ZB1mkCjiqG3zw-ZjmdcGLDOwaKq8-JrE6toxeHxk\",\"iv\":\"2MMWZF7BELXGTn5jFEbJLQ\",\"protected\":\"eyJlbmMiOiAiQTEyOENCQy1IUzI1NiJ9\",\"recipients\":[{\"encrypted_key\":\"_VUfUyaggUQkbgbRUD2GNCu2FiqBKUp-2b0iSxyTHFxKc2DWIzoIGw\",\"header\":{\"alg\":\"A128KW\"}},{\"encrypted_key\":\"Aiq5ivw9vB59taqSvT3LNulq-xf2XfwcQDps9AlvpTuQ481PlpOXnA\",\"header\":{\"alg\":\"A256KW\"}}],\"tag\":\"RLSWpkNdNDXLpI1Zm6KE_Q\"}",
+        &[KEY_16, KEY_32],
+    ),
+    // jwcrypto: JWE(.., protected='{"enc":"A256GCM"}', unprotected='{"kid":"x"}', aad='a'), add_recipient(KEY_24, '{"alg":"A192KW"}'), add_recipient(KEY_16, '{"alg":"A128KW"}'), serialize()
+    (
+        "{\"aad\":\"YQ\",\"ciphertext\":\"ZfZLiAII6eAX8DizjMx8Ikq5A4eJQw\",\"iv\":\"M1f2TMAeuP_QjYIA\",\"protected\":\"eyJlbmMiOiAiQTI1NkdDTSJ9\",\"recipients\":[{\"encrypted_key\":\"moaaNtha-pk7-VGQtGI2C_SHEGJB1yjbjugPGOl8mAi5NMBkd-Nh4g\",\"header\":{\"alg\":\"A192KW\"}},{\"encrypted_key\":\"8ds6HePCGrh21SpVsPT_IPDVi38-9NgboBuyLh5MRZxX57Fa0OT-zQ\",\"header\":{\"alg\":\"A128KW\"}}],\"tag\":\"OCPPvEhLgWRTzQZ6oDwPbw\",\"unprotected\":{\"kid\":\"x\"}}",
+        &[KEY_24, KEY_16],
+    ),
+];
+
+/// Signed objects, and the keys of which each alone verifies one.
+const SIGNED: &[(&str, &[&str])] = &[
+    // jose jws sig -s '{"protected":{"alg":"HS256"}}' -k k32 -s '{"protected":{"alg":"HS512"},"header":{"kid":"1"}}' -k k64
+    (
+        "{\"payload\":\"TGl2ZSBsb25nIGFuZCBwcm9zcGVyLg\",\"signatures\":[{\"protected\":\"eyJhbGciOiJIUzI1NiJ9\",\"signature\":\"H7kZinQeSdwhPPVYG057HxFQqAw3nIRDAQ3AGtKgAxs\"},{\"header\":{\"kid\":\"1\"},\"protected\":\"eyJhbGciOiJIUzUxMiJ9\",\"signature\":\"WlymYH4R0PDthXnMIdQnBRhWfQPYOd0kYa8XAc21SQkro86pM_wbd_uZaDQYzc8lNGLy2SUz2NdpDiuEMVqSXw\"}]}",
+        &[KEY_32, KEY_64],
+    ),
+    // jose jws sig -s '{"protected":{"alg":"HS384"},"header":{"kid":"1"}}' -k k48
+    (
+        "{\"payload\":\"TGl2ZSBsb25nIGFuZCBwcm9zcGVyLg\",\"header\":{\"kid\":\"1\"},\"protected\":\"eyJhbGciOiJIUzM4NCJ9\",\"signature\":\"6SslDoqxLn7b_aPu55IgdQZmuenfzYnglheTUrXwXVtFP7dPeSphs9EkTG2bDtAy\"}",
+        &[KEY_48],
+    ),
+    // jose jws sig -c -s '{"protected":{"alg":"HS512"}}' -k k64
+    (
+        "eyJhbGciOiJIUzUxMiJ9.TGl2ZSBsb25nIGFuZCBwcm9zcGVyLg.WlymYH4R0PDthXnMIdQnBRhWfQPYOd0kYa8XAc21SQkro86pM_wbd_uZaDQYzc8lNGLy2SUz2NdpDiuEMVqSXw",
+        &[KEY_64],
+    ),
+    // go-jose: NewMultiSigner([HS256, HS384, HS512]).Sign(..).FullSerialize()
+    (
+        "{\"payload\":\"TGl2ZSBsb25nIGFuZCBwcm9zcGVyLg\",\"signatures\":[{\"protected\":\"eyJhbGciOiJIUzI1NiJ9\",\"signature\":\"H7kZinQeSdwhPPVYG057HxFQqAw3nIRDAQ3AGtKgAxs\"},{\"protected\":\"eyJhbGciOiJIUzM4NCJ9\",\"signature\":\"6SslDoqxLn7b_aPu55IgdQZmuenfzYnglheTUrXwXVtFP7dPeSphs9EkTG2bDtAy\"},{\"protected\":\"eyJhbGciOiJIUzUxMiJ9\",\"signature\":\"WlymYH4R0PDthXnMIdQnBRhWfQPYOd0kYa8XAc21SQkro86pM_wbd_uZaDQYzc8lNGLy2SUz2NdpDiuEMVqSXw\"}]}",
+        &[KEY_32, KEY_48, KEY_64],
+    ),
+    // go-jose: NewSigner(HS384).Sign(..).FullSerialize()
+    (
+        "{\"payload\":\"TGl2ZSBsb25nIGFuZCBwcm9zcGVyLg\",\"protected\":\"eyJhbGciOiJIUzM4NCJ9\",\"signature\":\"6SslDoqxLn7b_aPu55IgdQZmuenfzYnglheTUrXwXVtFP7dPeSphs9EkTG2bDtAy\"}",
+        &[KEY_48],
+    ),
+    // jwcrypto: JWS(..), add_signature(KEY_32, 'HS256', ..), add_signature(KEY_64, 'HS512', .., header='{"kid":"1"}'), serialize()
+    (
+        "{\"payload\":\"TGl2ZSBsb25nIGFuZCBwcm9zcGVyLg\",\"signatures\":[{\"protected\":\"eyJhbGciOiAiSFMyNTYifQ\",\"signature\":\"vyQaFOT7yvEcsrMYUQ41genOCobQwZ8jYZMmhPSKqZk\"},{\"header\":{\"kid\":\"1\"},\"protected\":\"eyJhbGciOiAiSFM1MTIifQ\",\"signature\":\"h6JIZbWXJ_p99t9gps-40bTZeSt_W24AiMQuVV4lVzc1a5AJsu9Pb022Hvv3P1XZEtFpXoSGRtl-9i6FPFj71Q\"}]}",
+        &[KEY_32, KEY_64],
+    ),
+    // jwcrypto: JWS(..), add_signature(KEY_48, 'HS384', ..), serialize()
+    (
+        "{\"payload\":\"TGl2ZSBsb25nIGFuZCBwcm9zcGVyLg\",\"protected\":\"eyJhbGciOiAiSFMzODQifQ\",\"signature\":\"GT1ZsAtle7d1zBwK1Bp8XMtPpl9tK9qjwRzE9iY1KlgX5aW58yV24nJO6z9jkgga\"}",
+        &[KEY_48],
+    ),
+];
+
+/// What go-jose writes for several recipients has the encrypted key of the first beside the list once more, against RFC 7516
+/// section 7.2.1: refused.
+const WITH_A_KEY_BESIDE: &[&str] = &[
+    "{\"protected\":\"eyJlbmMiOiJBMTI4Q0JDLUhTMjU2In0\",\"recipients\":[{\"header\":{\"alg\":\"A128KW\"},\"encrypted_key\":\"JN-IzD2ZoEXsqnFFnOgIKLbWQeB_2GfPBVfCqjb35w1gTkaW6P52jA\"},{\"header\":{\"alg\":\"A256KW\"},\"encrypted_key\":\"Zn4LheyQjNIFeMmaANf1Dzowu5OTQARDjJa9GNk8eQY-rmtg7wkjGw\"},{\"header\":{\"alg\":\"PBES2-HS256+A128KW\",\"p2c\":1000,\"p2s\":\"MDEyMzQ1Njc4OWFiY2RlZg\"},\"encrypted_key\":\"UGZOEWu1oQHyeF6e5ZA0Cfk6IfQiw_e6MOAURBElzhGlmY3O0f8n1A\"}],\"aad\":\"YQ\",\"encrypted_key\":\"JN-IzD2ZoEXsqnFFnOgIKLbWQeB_2GfPBVfCqjb35w1gTkaW6P52jA\",\"iv\":\"AWDBj0WjWp7zwyiCn4VM7w\",\"ciphertext\":\"oAZppv7SS5kIQaO4v6A54qjEnExUvdFIGENb3xdOA-c\",\"tag\":\"l9PolbUt4rlr8rDfP48crg\"}",
+    "{\"protected\":\"eyJlbmMiOiJBMjU2R0NNIn0\",\"recipients\":[{\"header\":{\"alg\":\"A128KW\"},\"encrypted_key\":\"Nz_foOVf91D1Fx_4T8bV43SqRgAklF_NTbcnNY4Xyla7whftiXLQ_g\"},{\"header\":{\"alg\":\"A256KW\"},\"encrypted_key\":\"DFCuYoFlZ1cO3SAKxp43mCjurqWHpolpiEdSpnKjD8VRLOwvhsrYjw\"},{\"header\":{\"alg\":\"PBES2-HS256+A128KW\",\"p2c\":1000,\"p2s\":\"MDEyMzQ1Njc4OWFiY2RlZg\"},\"encrypted_key\":\"2Xlaoojrv2B3U2E1Up9NbBQbwrHWylwmElVxMiIhIrCAKsxHOptTdw\"}],\"aad\":\"YQ\",\"encrypted_key\":\"Nz_foOVf91D1Fx_4T8bV43SqRgAklF_NTbcnNY4Xyla7whftiXLQ_g\",\"iv\":\"BCItIxP2DNYEYzxi\",\"ciphertext\":\"N54u5N1-kaUBO57imS42gGY-I_FNUQ\",\"tag\":\"XxK8whVz5KsUTWvkyYc6gw\"}",
+];
+
+fn each_answers<R: Abort + AllocGlobal>(
+    rt: &R,
+    words: &[&str],
+    rows: &[(&str, &[&str])],
+) -> Result<(), Fail> {
+    for (text, keys) in rows {
+        for key in *keys {
+            let given = Given {
+                text,
+                content: b"",
+                keys: key,
+                random: b"",
+            };
+            expect(rt, words, &given, Answer::Content(LINE))?;
+        }
+    }
+    Ok(())
+}
+
+#[test]
+fn what_others_encrypt_is_decrypted_with_each_key(rt: HostRuntime) -> Result<(), Fail> {
+    each_answers(&rt, &DECRYPT, ENCRYPTED)
+}
+
+#[test]
+fn what_others_sign_is_verified_with_each_key(rt: HostRuntime) -> Result<(), Fail> {
+    each_answers(&rt, &VERIFY_ALL, SIGNED)
+}
+
+#[test]
+fn an_encrypted_key_beside_the_list_is_refused(rt: HostRuntime) -> Result<(), Fail> {
+    for text in WITH_A_KEY_BESIDE {
+        let given = Given {
+            text,
+            content: b"",
+            keys: KEY_16,
+            random: b"",
+        };
+        expect(&rt, &DECRYPT, &given, Answer::Refusal(Refusal::Form))?;
+    }
+    Ok(())
+}

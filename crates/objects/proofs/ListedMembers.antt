@@ -1,0 +1,118 @@
+-- The members of one beside the others, and those of several as a list of objects: they are read as they were put in, and are as JSON has them.
+use Rattle.std.proofs.Common.{◌≡◌, ◌≤◌, ℕ, suc, List, [], ◌∷◌, ◌++◌, length, map, true, false, nat_le, Option, Some, None, Result, Ok, IsUtf8, if◌then◌else◌, refl, ap, ap₂, ◌∙◌, subst, arith}
+use Rattle.std.proofs.Math.Dec.{leb-suc-suc, leb-suc-zero}
+use Rattle.std.specs.List.{AllByRecursion}
+use Rattle.std.specs.Option.{option_or}
+use Rattle.std.specs.Str.{bytes_eq}
+use Rattle.serde_json.specs.Data.{Data, Items, no_items, item, Members, no_members, put, array, object, items_depth}
+use Rattle.serde_json.specs.Find.{get}
+use Rattle.octets.specs.declared.refusal.Refusal.{Refusal}
+use Rattle.octets.specs.Outcomes.{◌>>=◌}
+use Rattle.keys.specs.JsonTexts.{AreJsonItems, KeepJson}
+use Rattle.keys.specs.KeySets.{are_objects}
+use Rattle.objects.specs.Texts.{each_item, object_list, objects_of, put_each, header_depth, listed_header_depth, depth_of_each}
+use Rattle.objects.proofs.Members.{Entries, put_all, first_there, AreJsonEntries, all_json}
+
+-- the members of each as an object
+abbrev pub listed : {T : Type 0} → (T → Entries) → List T → Items
+listed entries ts = objects_of (λ t. put_all (entries t)) ts
+
+-- those of one, or under the name the list of several
+abbrev pub each_entries : {T : Type 0} → List ℕ → (T → Entries) → List T → Entries
+each_entries name entries [] = []
+each_entries name entries (t ∷ []) = entries t
+each_entries name entries (t ∷ (other ∷ rest)) = (name, Some (array (listed entries (t ∷ (other ∷ rest))))) ∷ []
+
+-- ---- what is put in
+
+-- members that are equal make equal objects
+objects_of-map : {X T : Type 0} (members : X → Members) (others : T → Members) (text : X → T) → ((x : X) → members x ≡ others (text x))
+    → (xs : List X) → objects_of members xs ≡ objects_of others (map text xs)
+objects_of-map members others text same [] = refl
+objects_of-map members others text same (x ∷ xs) = ap₂ (λ ms ds. item (object ms) ds) (same x) (objects_of-map members others text same xs)
+
+-- what is put in for each is what its texts say
+pub put_each_is : {X T : Type 0} (name : List ℕ) (put_one : X → Members → Members) (text : X → T) (entries : T → Entries) → ((x : X) → put_one x no_members ≡ put_all (entries (text x)))
+    → (xs : List X) → put_each name put_one xs no_members ≡ put_all (each_entries name entries (map text xs))
+put_each_is name put_one text entries same [] = refl
+put_each_is name put_one text entries same (x ∷ []) = same x
+put_each_is name put_one text entries same (x ∷ (other ∷ rest)) =
+    ap (λ ds. put name (array ds) no_members) (objects_of-map (λ x. put_one x no_members) (λ t. put_all (entries t)) text same (x ∷ (other ∷ rest)))
+
+-- ---- what is read
+
+-- under a name that neither the list has nor one, only what stands in front is found
+pub in_front : {T : Type 0} (name : List ℕ) (entries : T → Entries) (ts : List T) (other : List ℕ) (d : Option Data) → bytes_eq other name ≡ false
+    → ((t : T) → first_there other (entries t) ≡ None) → option_or d (first_there other (each_entries name entries ts)) ≡ option_or d None
+in_front name entries [] other d differs none = refl
+in_front name entries (t ∷ []) other d differs none = ap (option_or d) (none t)
+in_front name entries (t ∷ (second ∷ rest)) other d differs none = rw differs refl
+
+-- where the object of each is read as it was made, so is the list
+items_read : {T : Type 0} (read : Data → Result T Refusal) (members : T → Members) → ((t : T) → read (object (members t)) ≡ Ok t)
+    → (ts : List T) → each_item read (objects_of members ts) ≡ Ok ts
+items_read read members reads [] = refl
+items_read read members reads (t ∷ ts) = rw (reads t, items_read read members reads ts) refl
+
+-- it is a list of objects
+objects_are_objects : {T : Type 0} (members : T → Members) (ts : List T) → are_objects (objects_of members ts) ≡ true
+objects_are_objects members [] = refl
+objects_are_objects members (t ∷ ts) = objects_are_objects members ts
+
+list_read : {T : Type 0} (members : T → Members) (t : T) (ts : List T) → object_list (array (objects_of members (t ∷ ts))) ≡ Ok (objects_of members (t ∷ ts))
+unfolding object_list
+list_read members t ts = rw (objects_are_objects members ts) refl
+
+-- the objects of a value: itself, or those of its list, beside which nothing of one may stand
+abbrev pub objects_by : (Data → Result (Unit {0}) Refusal) → Data → Option Data → Result Items Refusal
+objects_by nothing_at value None = Ok (item value no_items)
+objects_by nothing_at value (Some list) = nothing_at value >>= λ alone. object_list list
+
+-- behind the members in front, those of one are read, and so is a list; and those of one are read alone, as they stand in a list
+pub record ReadsEach {T : Type 0} (name : List ℕ) (entries : T → Entries) (read : Data → Result T Refusal) (nothing_at : Data → Result (Unit {0}) Refusal) (front : Entries) : Type 0 where
+  pub has_no_list : (t : T) → get name (object (put_all (front ++ entries t))) ≡ None
+  pub beside : (t : T) → read (object (put_all (front ++ entries t))) ≡ Ok t
+  pub alone : (t : T) → read (object (put_all (entries t))) ≡ Ok t
+  pub has_list : (list : Data) → get name (object (put_all (front ++ (name, Some list) ∷ []))) ≡ Some list
+  pub nothing : (list : Data) → nothing_at (object (put_all (front ++ (name, Some list) ∷ []))) ≡ Ok tt
+
+-- so all are read
+pub each_read : {T : Type 0} (name : List ℕ) (entries : T → Entries) (read : Data → Result T Refusal) (nothing_at : Data → Result (Unit {0}) Refusal) (front : Entries)
+    → ReadsEach name entries read nothing_at front → (ts : List T) → nat_le 1 (length ts) ≡ true
+    → let value = object (put_all (front ++ each_entries name entries ts)) in
+    (items : Items) × (objects_by nothing_at value (get name value) ≡ Ok items) × (each_item read items ≡ Ok ts)
+each_read name entries read nothing_at front is [] some = cc some
+each_read name entries read nothing_at front is (t ∷ []) some =
+    let value = object (put_all (front ++ entries t)) in
+    (item value no_items, ap (objects_by nothing_at value) (is.has_no_list t), rw (is.beside t) refl)
+each_read name entries read nothing_at front is (t ∷ (other ∷ rest)) some =
+    let items = listed entries (t ∷ (other ∷ rest)) in
+    let value = object (put_all (front ++ (name, Some (array items)) ∷ [])) in (
+      items,
+      ap (objects_by nothing_at value) (is.has_list (array items)) ∙ rw (is.nothing (array items)) (list_read (λ t. put_all (entries t)) t (other ∷ rest)),
+      items_read read (λ t. put_all (entries t)) is.alone (t ∷ (other ∷ rest)),
+    )
+
+-- ---- as JSON has it
+
+depth_of_several : (n : ℕ) → depth_of_each (suc (suc n)) ≡ listed_header_depth
+depth_of_several n = ap (λ few. if few then header_depth else listed_header_depth) (leb-suc-suc (suc n) 0 ∙ leb-suc-zero n)
+
+-- where the members of each are as JSON has them, so is the list, which nests two deeper
+items_json : {X T : Type 0} → KeepJson → (n : ℕ) (text : X → T) (entries : T → Entries) (xs : List X) → AllByRecursion (λ x. AreJsonEntries n (entries (text x))) xs
+    → AreJsonItems (listed entries (map text xs)) × (items_depth (listed entries (map text xs)) ≤ suc n)
+items_json keep n text entries [] all = (tt, omega arith)
+items_json keep n text entries (x ∷ xs) all =
+    let first = all_json keep n (entries (text x)) all.0 in
+    let others = items_json keep n text entries xs all.1 in
+    ((first.0, others.0), omega (arith, first.1, others.1))
+
+-- so the members of all nest no deeper than a header at the top may, where those of each nest no deeper than its header may
+pub each_json : {X T : Type 0} → KeepJson → (name : List ℕ) (text : X → T) (entries : T → Entries) (xs : List X) → IsUtf8 name
+    → AllByRecursion (λ x. AreJsonEntries (depth_of_each (length xs)) (entries (text x))) xs → AreJsonEntries header_depth (each_entries name entries (map text xs))
+each_json keep name text entries [] named all = tt
+each_json keep name text entries (x ∷ []) named all = all.0
+each_json keep name text entries (x ∷ (other ∷ rest)) named all =
+    let deep = λ (n : ℕ). AllByRecursion (λ x. AreJsonEntries n (entries (text x))) (x ∷ (other ∷ rest)) in
+    let items = items_json keep listed_header_depth text entries (x ∷ (other ∷ rest)) (subst deep (depth_of_several (length rest)) all) in
+    ((named, (items.0, omega (arith, items.1))), tt)

@@ -1,0 +1,220 @@
+-- An encrypted object that is read can be made of its members.
+use Rattle.std.proofs.Common.{◌≡◌, ◌≤◌, ℕ, suc, List, [], ◌∷◌, length, codes, true, nat_le, Option, Some, None, Ok, refl, sym, ap, ◌∙◌, subst, arith}
+use Rattle.std.proofs.lemmas.Bool.{and_from, le-leb}
+use Rattle.std.specs.List.{AllByRecursion}
+use Rattle.serde_json.specs.Data.{Data, Items, no_members}
+use Rattle.serde_json.specs.Find.{get}
+use Rattle.octets.specs.declared.refusal.Refusal.TheVariants.{Limit}
+use Rattle.octets.specs.Base64url.{decoded}
+use Rattle.octets.specs.Octets.{IsOctets}
+use Rattle.octets.specs.Outcomes.{needs}
+use Rattle.octets.proofs.Decoded.{IsOctets-nil}
+use Rattle.keys.specs.JsonTexts.{IsJson, KeepJson}
+use Rattle.keys.specs.Limits.{Limits}
+use Rattle.objects.specs.Headers.{header_at}
+use Rattle.objects.specs.Jwe.{RecipientTexts, RecipientParts, SharedTexts, ContentTexts, JweTexts, JweParts, EncryptedObject, shared_texts, recipient_texts, content_texts, no_recipient_at, recipients_by, recipient_objects, json_texts, compact_texts, jwe_texts, recipient_parts, parts_of_texts, object_of_texts, jwe_of, is_shallow, have_whole_numbers, built, AreMembers, ObjectsAreMade}
+use Rattle.objects.specs.Texts.{each, each_item, is_json_form, split_at_dot, three_parts, text_at, required_text, header_depth, depth_of_each}
+use Rattle.objects.proofs.Each.{as_many}
+use Rattle.objects.proofs.EachRead.{all_read, all_pass, all_then}
+use Rattle.objects.proofs.Joined.{split_octets, three_octets}
+use Rattle.objects.proofs.ReadJson.{ReadingLaws, IsShallow, IsHeader, AreObjects, no_header, header_whole, text_octets, required_octets, header_shallow, alone, listed, each_is, of_text}
+use Rattle.objects.proofs.Steps.{steps, passed, same_answer}
+
+-- ---- the texts are octets, and the headers are as JSON has them
+
+pub record IsRecipient (n : ℕ) (t : RecipientTexts) : Type 0 where
+  pub header : IsHeader n t.header
+  pub encrypted_key : IsOctets t.encrypted_key
+
+pub record AreShared (t : SharedTexts) : Type 0 where
+  pub protected : IsOctets t.protected
+  pub unprotected : IsHeader header_depth t.unprotected
+  pub aad : IsOctets t.aad
+
+pub record AreContent (t : ContentTexts) : Type 0 where
+  pub iv : IsOctets t.iv
+  pub ciphertext : IsOctets t.ciphertext
+  pub tag : IsOctets t.tag
+
+pub record AreTexts (t : JweTexts) : Type 0 where
+  pub shared : AreShared t.shared
+  pub recipients : AllByRecursion (IsRecipient (depth_of_each (length t.recipients))) t.recipients
+  pub some : 1 ≤ length t.recipients
+  pub content : AreContent t.content
+
+-- ---- in JSON form
+
+recipient_is : KeepJson → (n : ℕ) (d : Data) (t : RecipientTexts) → 1 ≤ n → IsShallow (suc n) d → recipient_texts d ≡ Ok t → IsRecipient n t
+unfolding recipient_texts
+recipient_is keep n d t some is h =
+    let a = steps (text_at (codes "encrypted_key") d) _ t h in
+    let b = steps (header_at (codes "header") d) _ t a.2 in
+    subst (IsRecipient n) (same_answer _ t b.2)
+    (record { header = header_shallow keep n (codes "header") d b.0 some is b.1; encrypted_key = text_octets keep (codes "encrypted_key") d a.0 is.json a.1 })
+
+shared_are : KeepJson → (d : Data) (t : SharedTexts) → IsShallow 127 d → shared_texts d ≡ Ok t → AreShared t
+unfolding shared_texts
+shared_are keep d t is h =
+    let a = steps (text_at (codes "protected") d) _ t h in
+    let b = steps (header_at (codes "unprotected") d) _ t a.2 in
+    let c = steps (text_at (codes "aad") d) _ t b.2 in
+    subst AreShared (same_answer _ t c.2)
+    (record {
+      protected = text_octets keep (codes "protected") d a.0 is.json a.1;
+      unprotected = header_shallow keep header_depth (codes "unprotected") d b.0 (omega arith) is b.1;
+      aad = text_octets keep (codes "aad") d c.0 is.json c.1;
+    })
+
+content_are : KeepJson → (d : Data) (t : ContentTexts) → IsJson d → content_texts d ≡ Ok t → AreContent t
+unfolding content_texts
+content_are keep d t is h =
+    let a = steps (text_at (codes "iv") d) _ t h in
+    let b = steps (required_text (codes "ciphertext") d) _ t a.2 in
+    let c = steps (text_at (codes "tag") d) _ t b.2 in
+    subst AreContent (same_answer _ t c.2)
+    (record {
+      iv = text_octets keep (codes "iv") d a.0 is a.1;
+      ciphertext = required_octets keep (codes "ciphertext") d b.0 is b.1;
+      tag = text_octets keep (codes "tag") d c.0 is c.1;
+    })
+
+objects_by : KeepJson → (d : Data) (o : Option Data) (items : Items) → IsShallow 127 d → get (codes "recipients") d ≡ o → recipients_by d o ≡ Ok items → AreObjects items
+objects_by keep d None items is e h = subst AreObjects (same_answer _ items h) (alone d is)
+objects_by keep d (Some list) items is e h =
+    let a = steps (no_recipient_at d) _ items h in
+    listed keep (codes "recipients") d list items is e a.2
+
+objects_are : KeepJson → (d : Data) (items : Items) → IsShallow 127 d → recipient_objects d ≡ Ok items → AreObjects items
+unfolding recipient_objects
+objects_are keep d items is h = objects_by keep d (get (codes "recipients") d) items is refl h
+
+json_are : KeepJson → (d : Data) (t : JweTexts) → IsShallow 127 d → json_texts d ≡ Ok t → AreTexts t
+unfolding json_texts
+json_are keep d t is h =
+    let a = steps (shared_texts d) _ t h in
+    let b = steps (recipient_objects d) _ t a.2 in
+    let c = steps (each_item recipient_texts b.0) _ t b.2 in
+    let e = steps (content_texts d) _ t c.2 in
+    let recipients = each_is IsRecipient recipient_texts (recipient_is keep) b.0 c.0 (objects_are keep d b.0 is b.1) c.1 in
+    subst AreTexts (same_answer _ t e.2)
+    (record { shared = shared_are keep d a.0 is a.1; recipients = recipients.0; some = recipients.1; content = content_are keep d e.0 is.json e.1 })
+
+-- ---- in compact form
+
+-- the texts of these parts of a compact text
+abbrev pub compact : List ℕ → List ℕ → List ℕ → List ℕ → List ℕ → JweTexts
+compact protected encrypted_key iv ciphertext tag = record {
+  shared = record { protected = protected; unprotected = no_members; aad = [] };
+  recipients = record { header = no_members; encrypted_key = encrypted_key } ∷ [];
+  content = record { iv = iv; ciphertext = ciphertext; tag = tag };
+}
+
+pub compact_are : (text : List ℕ) (t : JweTexts) → IsOctets text → compact_texts text ≡ Ok t → AreTexts t
+unfolding compact_texts
+compact_are text t octets h =
+    let a = steps (split_at_dot text) _ t h in
+    let b = steps (split_at_dot a.0.1) _ t a.2 in
+    let c = steps (three_parts b.0.1) _ t b.2 in
+    let first = split_octets text a.0 octets a.1 in
+    let second = split_octets a.0.1 b.0 first.1 b.1 in
+    let others = three_octets b.0.1 c.0 second.1 c.1 in
+    let none : IsHeader header_depth no_members = no_header header_depth (omega arith) in
+    let texts : JweTexts = compact a.0.0 b.0.0 c.0.0 c.0.1 c.0.2 in
+    subst AreTexts {x = texts} (same_answer texts t c.2)
+    (record {
+      shared = record { protected = first.0; unprotected = none; aad = IsOctets-nil };
+      recipients = (record { header = none; encrypted_key = second.0 }, tt);
+      some = omega arith;
+      content = record { iv = others.0; ciphertext = others.1; tag = others.2 };
+    })
+
+-- ---- in either form
+
+texts_are : ReadingLaws → (text : List ℕ) (t : JweTexts) → IsOctets text → jwe_texts text ≡ Ok t → AreTexts t
+unfolding jwe_texts
+texts_are laws text t octets h = of_text AreTexts json_texts compact_texts laws.reads (json_are laws.keep) compact_are (is_json_form text) text t octets h
+
+-- ---- the members
+
+-- a recipient has the header and the encrypted key that its texts spell
+pub record IsSpelled (t : RecipientTexts) (r : RecipientParts) : Type 0 where
+  pub header : r.header ≡ t.header
+  pub encrypted_key : decoded t.encrypted_key ≡ Ok r.encrypted_key
+
+pub recipient_spelled : (t : RecipientTexts) (r : RecipientParts) → recipient_parts t ≡ Ok r → IsSpelled t r
+unfolding recipient_parts
+recipient_spelled t r h =
+    let a = steps (decoded t.encrypted_key) _ r h in
+    subst (IsSpelled t) (same_answer _ r a.2) (record { header = refl; encrypted_key = a.1 })
+
+-- an object has the members that its texts spell
+pub record AreSpelled (t : JweTexts) (parts : JweParts) : Type 0 where
+  pub protected : parts.protected ≡ t.shared.protected
+  pub unprotected : parts.unprotected ≡ t.shared.unprotected
+  pub aad : decoded t.shared.aad ≡ Ok parts.aad
+  pub recipients : each recipient_parts t.recipients ≡ Ok parts.recipients
+  pub iv : decoded t.content.iv ≡ Ok parts.iv
+  pub ciphertext : decoded t.content.ciphertext ≡ Ok parts.ciphertext
+  pub tag : decoded t.content.tag ≡ Ok parts.tag
+
+pub parts_spelled : (t : JweTexts) (parts : JweParts) → parts_of_texts t ≡ Ok parts → AreSpelled t parts
+unfolding parts_of_texts
+parts_spelled t parts h =
+    let a = steps (decoded t.shared.aad) _ parts h in
+    let b = steps (each recipient_parts t.recipients) _ parts a.2 in
+    let c = steps (decoded t.content.iv) _ parts b.2 in
+    let d = steps (decoded t.content.ciphertext) _ parts c.2 in
+    let e = steps (decoded t.content.tag) _ parts d.2 in
+    subst (AreSpelled t) (same_answer _ parts e.2) (record { protected = refl; unprotected = refl; aad = a.1; recipients = b.1; iv = c.1; ciphertext = d.1; tag = e.1 })
+
+-- the members of a recipient are as JSON and octets have them
+abbrev IsMade : ℕ → RecipientParts → Type 0
+IsMade n r = IsHeader n r.header × IsOctets r.encrypted_key
+
+recipient_made : ReadingLaws → (n : ℕ) (t : RecipientTexts) (r : RecipientParts) → IsRecipient n t → recipient_parts t ≡ Ok r → IsMade n r
+recipient_made laws n t r is h =
+    let spelled = recipient_spelled t r h in
+    (subst (IsHeader n) (sym spelled.header) is.header, laws.octets t.encrypted_key r.encrypted_key is.encrypted_key spelled.encrypted_key)
+
+-- and so they are of all
+recipients_made : ReadingLaws → (ts : List RecipientTexts) (rs : List RecipientParts) → AllByRecursion (IsRecipient (depth_of_each (length ts))) ts → each recipient_parts ts ≡ Ok rs
+    → AllByRecursion (IsMade (depth_of_each (length rs))) rs
+recipients_made laws ts rs are h =
+    let n : ℕ = depth_of_each (length ts) in
+    let all : AllByRecursion (IsMade n) rs = all_read (IsRecipient n) (IsMade n) recipient_parts (recipient_made laws n) ts rs are h in
+    subst (λ k. AllByRecursion (IsMade (depth_of_each k)) rs) (sym (as_many recipient_parts ts rs h)) all
+
+object_made : ReadingLaws → (limits : Limits) (t : JweTexts) (o : EncryptedObject) → AreTexts t → object_of_texts limits t ≡ Ok o → (parts : JweParts) × (AreMembers parts × (built limits parts ≡ Ok o))
+unfolding object_of_texts built
+object_made laws limits t o are h =
+    let a = steps (needs (nat_le (length t.recipients) limits.recipients) Limit) _ o h in
+    let b = steps (decoded t.shared.protected) _ o a.2 in
+    let c = steps (parts_of_texts t) _ o b.2 in
+    let parts : JweParts = c.0 in
+    let spelled = parts_spelled t parts c.1 in
+    let many = as_many recipient_parts t.recipients parts.recipients spelled.recipients in
+    let n : ℕ = depth_of_each (length parts.recipients) in
+    let all : AllByRecursion (IsMade n) parts.recipients = recipients_made laws t.recipients parts.recipients are.recipients spelled.recipients in
+    let unprotected : IsHeader header_depth parts.unprotected = subst (IsHeader header_depth) (sym spelled.unprotected) are.shared.unprotected in
+    let members : AreMembers parts = record {
+      protected = subst IsOctets (sym spelled.protected) are.shared.protected;
+      unprotected = unprotected.json;
+      iv = laws.octets t.content.iv parts.iv are.content.iv spelled.iv;
+      aad = laws.octets t.shared.aad parts.aad are.shared.aad spelled.aad;
+      ciphertext = laws.octets t.content.ciphertext parts.ciphertext are.content.ciphertext spelled.ciphertext;
+      tag = laws.octets t.content.tag parts.tag are.content.tag spelled.tag;
+      recipients = all_then (IsMade n) _ (λ r is. (is.0.json, is.1)) parts.recipients all;
+    } in
+    let shallow : is_shallow parts ≡ true = and_from _ _ (le-leb _ header_depth unprotected.shallow) (all_pass (IsMade n) _ (λ r is. le-leb _ n is.0.shallow) parts.recipients all) in
+    let whole : have_whole_numbers parts ≡ true =
+    and_from _ _ (header_whole header_depth parts.unprotected unprotected) (all_pass (IsMade n) _ (λ r is. header_whole n r.header is.0) parts.recipients all) in
+    let some : nat_le 1 (length parts.recipients) ≡ true = le-leb 1 _ (omega (arith, are.some, many)) in
+    let few : nat_le (length parts.recipients) limits.recipients ≡ true = ap (λ k. nat_le k limits.recipients) many ∙ passed _ Limit a.0 a.1 in
+    let octets : decoded parts.protected ≡ Ok b.0 = ap decoded spelled.protected ∙ b.1 in
+    (parts, (members, rw (shallow, whole, some, few, octets) c.2))
+
+pub objects_are_made : ReadingLaws → ObjectsAreMade
+unfolding jwe_of
+objects_are_made laws limits text o octets h =
+    let a = steps (jwe_texts text) (object_of_texts limits) o h in
+    object_made laws limits a.0 o (texts_are laws text a.0 octets a.1) a.2

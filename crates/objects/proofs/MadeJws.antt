@@ -1,0 +1,146 @@
+-- A signed object that is read can be made of its members.
+use Rattle.std.proofs.Common.{◌≡◌, ◌≤◌, ℕ, suc, List, length, map, codes, true, nat_le, Option, Some, None, Ok, refl, sym, ap, ◌∙◌, subst, arith}
+use Rattle.std.proofs.lemmas.Bool.{le-leb}
+use Rattle.std.proofs.lemmas.List.{length-map}
+use Rattle.std.specs.List.{AllByRecursion}
+use Rattle.serde_json.specs.Data.{Data, Items}
+use Rattle.serde_json.specs.Find.{get}
+use Rattle.octets.specs.declared.refusal.Refusal.TheVariants.{Limit}
+use Rattle.octets.specs.Base64url.{decoded}
+use Rattle.octets.specs.Octets.{IsOctets}
+use Rattle.octets.specs.Outcomes.{◌>>=◌, needs}
+use Rattle.keys.specs.JsonTexts.{KeepJson}
+use Rattle.keys.specs.Limits.{Limits}
+use Rattle.objects.specs.Headers.{header_at}
+use Rattle.objects.specs.Jws.{SignatureTexts, SignatureParts, JwsTexts, JwsParts, DecodedSignature, SignedObject, signature_texts, no_signature_at, signatures_by, signature_objects, json_texts, compact_texts, jws_texts, decoded_signature, decoded_texts, object_of_texts, jws_of, nest_at_most, have_whole_numbers, built, AreMembers, ObjectsAreMade}
+use Rattle.objects.specs.Texts.{each, each_item, is_json_form, three_parts, text_at, required_text, depth_of_each}
+use Rattle.objects.proofs.Each.{as_many}
+use Rattle.objects.proofs.EachRead.{all_read, read_again, all_pass, all_then, all_images}
+use Rattle.objects.proofs.Joined.{three_octets}
+use Rattle.objects.proofs.ReadJson.{ReadingLaws, IsShallow, IsHeader, AreObjects, no_header, header_whole, text_octets, required_octets, header_shallow, alone, listed, each_is, of_text}
+use Rattle.objects.proofs.Steps.{steps, passed, same_answer}
+
+-- ---- the texts are octets, and the headers are as JSON has them
+
+pub record IsSignature (n : ℕ) (t : SignatureTexts) : Type 0 where
+  pub protected : IsOctets t.protected
+  pub header : IsHeader n t.header
+  pub signature : IsOctets t.signature
+
+pub record AreTexts (t : JwsTexts) : Type 0 where
+  pub payload : IsOctets t.payload
+  pub signatures : AllByRecursion (IsSignature (depth_of_each (length t.signatures))) t.signatures
+  pub some : 1 ≤ length t.signatures
+
+-- ---- in JSON form
+
+signature_is : KeepJson → (n : ℕ) (d : Data) (t : SignatureTexts) → 1 ≤ n → IsShallow (suc n) d → signature_texts d ≡ Ok t → IsSignature n t
+unfolding signature_texts
+signature_is keep n d t some is h =
+    let a = steps (text_at (codes "protected") d) _ t h in
+    let b = steps (header_at (codes "header") d) _ t a.2 in
+    let c = steps (required_text (codes "signature") d) _ t b.2 in
+    subst (IsSignature n) (same_answer _ t c.2)
+    (record {
+      protected = text_octets keep (codes "protected") d a.0 is.json a.1;
+      header = header_shallow keep n (codes "header") d b.0 some is b.1;
+      signature = required_octets keep (codes "signature") d c.0 is.json c.1;
+    })
+
+objects_by : KeepJson → (d : Data) (o : Option Data) (items : Items) → IsShallow 127 d → get (codes "signatures") d ≡ o → signatures_by d o ≡ Ok items → AreObjects items
+objects_by keep d None items is e h = subst AreObjects (same_answer _ items h) (alone d is)
+objects_by keep d (Some list) items is e h =
+    let a = steps (no_signature_at d) _ items h in
+    listed keep (codes "signatures") d list items is e a.2
+
+objects_are : KeepJson → (d : Data) (items : Items) → IsShallow 127 d → signature_objects d ≡ Ok items → AreObjects items
+unfolding signature_objects
+objects_are keep d items is h = objects_by keep d (get (codes "signatures") d) items is refl h
+
+json_are : KeepJson → (d : Data) (t : JwsTexts) → IsShallow 127 d → json_texts d ≡ Ok t → AreTexts t
+unfolding json_texts
+json_are keep d t is h =
+    let a = steps (required_text (codes "payload") d) _ t h in
+    let b = steps (signature_objects d) _ t a.2 in
+    let c = steps (each_item signature_texts b.0) _ t b.2 in
+    let signatures = each_is IsSignature signature_texts (signature_is keep) b.0 c.0 (objects_are keep d b.0 is b.1) c.1 in
+    subst AreTexts (same_answer _ t c.2) (record { payload = required_octets keep (codes "payload") d a.0 is.json a.1; signatures = signatures.0; some = signatures.1 })
+
+-- ---- in compact form
+
+pub compact_are : (text : List ℕ) (t : JwsTexts) → IsOctets text → compact_texts text ≡ Ok t → AreTexts t
+unfolding compact_texts
+compact_are text t octets h =
+    let a = steps (three_parts text) _ t h in
+    let parts = three_octets text a.0 octets a.1 in
+    subst AreTexts (same_answer _ t a.2)
+    (record {
+      payload = parts.1;
+      signatures = (record { protected = parts.0; header = no_header 126 (omega arith); signature = parts.2 }, tt);
+      some = omega arith;
+    })
+
+-- ---- in either form
+
+texts_are : ReadingLaws → (text : List ℕ) (t : JwsTexts) → IsOctets text → jws_texts text ≡ Ok t → AreTexts t
+unfolding jws_texts
+texts_are laws text t octets h = of_text AreTexts json_texts compact_texts laws.reads (json_are laws.keep) compact_are (is_json_form text) text t octets h
+
+-- ---- the members
+
+-- a signature has the members that its texts spell, and is decoded from them as from its texts
+pub record IsSpelled (t : SignatureTexts) (s : DecodedSignature) : Type 0 where
+  pub protected : s.parts.protected ≡ t.protected
+  pub header : s.parts.header ≡ t.header
+  pub signature : decoded t.signature ≡ Ok s.parts.signature
+  pub again : decoded_signature s.parts ≡ Ok s
+
+pub signature_spelled : (t : SignatureTexts) (s : DecodedSignature) → decoded_texts t ≡ Ok s → IsSpelled t s
+unfolding decoded_texts decoded_signature
+signature_spelled t s h =
+    let a = steps (decoded t.signature) _ s h in
+    let b = steps (decoded t.protected) _ s a.2 in
+    let parts : SignatureParts = record { protected = t.protected; header = t.header; signature = a.0 } in
+    subst (IsSpelled t) (same_answer _ s b.2) (record { protected = refl; header = refl; signature = a.1; again = ap (λ r. r >>= λ octets. Ok (record { octets = octets; parts = parts })) b.1 })
+
+-- the members of a signature are as JSON and octets have them
+abbrev IsMade : ℕ → SignatureParts → Type 0
+IsMade n s = IsOctets s.protected × IsHeader n s.header × IsOctets s.signature
+
+signature_made : ReadingLaws → (n : ℕ) (t : SignatureTexts) (s : DecodedSignature) → IsSignature n t → decoded_texts t ≡ Ok s → IsMade n s.parts
+signature_made laws n t s is h =
+    let spelled = signature_spelled t s h in (
+      subst IsOctets (sym spelled.protected) is.protected,
+      subst (IsHeader n) (sym spelled.header) is.header,
+      laws.octets t.signature s.parts.signature is.signature spelled.signature,
+    )
+
+object_made : ReadingLaws → (limits : Limits) (t : JwsTexts) (o : SignedObject) → AreTexts t → object_of_texts limits t ≡ Ok o → (parts : JwsParts) × (AreMembers parts × (built limits parts ≡ Ok o))
+unfolding object_of_texts built
+object_made laws limits t o are h =
+    let a = steps (needs (nat_le (length t.signatures) limits.recipients) Limit) _ o h in
+    let b = steps (decoded t.payload) _ o a.2 in
+    let c = steps (each decoded_texts t.signatures) _ o b.2 in
+    let members_of : DecodedSignature → SignatureParts = λ s. s.parts in
+    let signatures : List SignatureParts = map members_of c.0 in
+    let many : length signatures ≡ length t.signatures = length-map c.0 members_of ∙ as_many decoded_texts t.signatures c.0 c.1 in
+    let n : ℕ = depth_of_each (length signatures) in
+    let texts : AllByRecursion (IsSignature n) t.signatures = subst (λ k. AllByRecursion (IsSignature (depth_of_each k)) t.signatures) (sym many) are.signatures in
+    let all : AllByRecursion (IsMade n) signatures =
+    all_images (IsMade n) members_of (λ s is. is) c.0 (all_read (IsSignature n) (λ s. IsMade n s.parts) decoded_texts (signature_made laws n) t.signatures c.0 texts c.1) in
+    let members : AreMembers (record { payload = b.0; signatures = signatures }) = record {
+      payload = laws.octets t.payload b.0 are.payload b.1;
+      signatures = all_then (IsMade n) _ (λ s is. (is.0, (is.1.json, is.2))) signatures all;
+    } in
+    let shallow : nest_at_most n signatures ≡ true = all_pass (IsMade n) _ (λ s is. le-leb _ n is.1.shallow) signatures all in
+    let whole : have_whole_numbers signatures ≡ true = all_pass (IsMade n) _ (λ s is. header_whole n s.header is.1) signatures all in
+    let some : nat_le 1 (length signatures) ≡ true = le-leb 1 _ (omega (arith, are.some, many)) in
+    let few : nat_le (length signatures) limits.recipients ≡ true = ap (λ k. nat_le k limits.recipients) many ∙ passed _ Limit a.0 a.1 in
+    let again : each decoded_signature signatures ≡ Ok c.0 = read_again decoded_texts members_of decoded_signature (λ t s h. (signature_spelled t s h).again) t.signatures c.0 c.1 in
+    (record { payload = b.0; signatures = signatures }, (members, rw (shallow, whole, some, few, again) c.2))
+
+pub objects_are_made : ReadingLaws → ObjectsAreMade
+unfolding jws_of
+objects_are_made laws limits text o octets h =
+    let a = steps (jws_texts text) (object_of_texts limits) o h in
+    object_made laws limits a.0 o (texts_are laws text a.0 octets a.1) a.2

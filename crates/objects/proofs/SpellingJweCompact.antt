@@ -1,0 +1,81 @@
+-- What the compact text of an encrypted object spells is the object, and so is what its JSON text spells.
+use Rattle.std.proofs.Common.{◌≡◌, ◌==◌, ◌&&◌, ℕ, List, [], ◌∷◌, length, true, not, Ok, refl, sym, ap, ◌∙◌, subst, arith, append_assoc}
+use Rattle.std.proofs.lemmas.Bool.{and_parts, eqb-true}
+use Rattle.serde_json.specs.Data.{no_members}
+use Rattle.octets.specs.declared.refusal.Refusal.TheVariants.{NotCompact}
+use Rattle.octets.specs.Base64url.{base64url, SpellsSixBits}
+use Rattle.octets.specs.Outcomes.{needs}
+use Rattle.keys.specs.Limits.{Limits}
+use Rattle.objects.specs.Jwe.{JweParts, Recipient, EncryptedObject, JweTexts, compact_texts, jwe_texts, object_of_texts, jwe_of, is_compact, key_of_first, jwe_compact_text, AreMembers, TextsSpellObjects}
+use Rattle.objects.specs.Texts.{has_members}
+use Rattle.objects.proofs.Characters.{between_dots, joined_characters, no_json_form, no_line_end}
+use Rattle.objects.proofs.CompactTexts.{all_no_dot, split_of_joined, three_of_joined}
+use Rattle.objects.proofs.Spelling.{Laws, no_member}
+use Rattle.objects.proofs.SpellingJwe.{spelled, parts_spelled, object_keeps, IsBuilt, is_built, object_read, HasUrlTexts, url_texts, json_text_spells}
+use Rattle.objects.proofs.Steps.{steps, same_answer, passed}
+
+-- the texts of a compact text with these parts
+abbrev compact : List ℕ → List ℕ → List ℕ → List ℕ → List ℕ → JweTexts
+compact protected key iv ciphertext tag = record {
+  shared = record { protected = protected; unprotected = no_members; aad = [] };
+  recipients = record { header = no_members; encrypted_key = key } ∷ [];
+  content = record { iv = iv; ciphertext = ciphertext; tag = tag };
+}
+
+-- such parts are read as they were joined
+split_in_five : (protected key iv ciphertext tag : List ℕ) → HasUrlTexts (compact protected key iv ciphertext tag)
+    → compact_texts (between_dots (protected ∷ key ∷ iv ∷ ciphertext ∷ tag ∷ [])) ≡ Ok (compact protected key iv ciphertext tag)
+unfolding compact_texts
+split_in_five protected key iv ciphertext tag h =
+    let first = split_of_joined protected (between_dots (key ∷ iv ∷ ciphertext ∷ tag ∷ [])) (all_no_dot protected h.protected) in
+    let second = split_of_joined key (between_dots (iv ∷ ciphertext ∷ tag ∷ [])) (all_no_dot key h.keys.0) in
+    let others = three_of_joined iv ciphertext tag (all_no_dot iv h.iv) (all_no_dot ciphertext h.ciphertext) (all_no_dot tag h.tag) in
+    rw (first, second, others) refl
+
+-- no octets have no text
+no_text : SpellsSixBits → (xs : List ℕ) → (length xs == 0) ≡ true → base64url xs ≡ []
+no_text spells [] h = spells [] (λ i. omega arith)
+no_text spells (x ∷ xs) h = absurd (omega (arith, eqb-true _ 0 h))
+
+-- an object that a compact text can hold has one recipient, and no other texts than such a text
+only_recipient : SpellsSixBits → (o : EncryptedObject) (rs : List Recipient) → o.recipients ≡ rs → is_compact o rs ≡ true
+    → spelled o ≡ compact o.protected (base64url (key_of_first rs)) (base64url o.iv) (base64url o.ciphertext) (base64url o.tag)
+only_recipient spells o [] is fits = cc fits
+only_recipient spells o (r ∷ []) is fits =
+    let first = and_parts (not (has_members o.unprotected)) (not (has_members r.header) && (length o.aad == 0)) fits in
+    let others = and_parts (not (has_members r.header)) (length o.aad == 0) first.1 in
+    rw (is, no_member o.unprotected first.0, no_member r.header others.0, no_text spells o.aad others.1) refl
+only_recipient spells o (r ∷ (other ∷ rest)) is fits = cc fits
+
+-- a compact text is read by its parts
+read_compact : (limits : Limits) (protected key iv ciphertext tag : List ℕ) (o : EncryptedObject) → HasUrlTexts (compact protected key iv ciphertext tag)
+    → object_of_texts limits (compact protected key iv ciphertext tag) ≡ Ok o → jwe_of limits (between_dots (protected ∷ key ∷ iv ∷ ciphertext ∷ tag ∷ [])) ≡ Ok o
+unfolding jwe_of jwe_texts
+read_compact limits protected key iv ciphertext tag o url h =
+    let text : List ℕ = between_dots (protected ∷ key ∷ iv ∷ ciphertext ∷ tag ∷ []) in
+    let all = joined_characters (protected ∷ key ∷ iv ∷ ciphertext ∷ tag ∷ []) (url.protected, (url.keys.0, (url.iv, (url.ciphertext, (url.tag, tt))))) in
+    rw (no_json_form text all, no_line_end text all, split_in_five protected key iv ciphertext tag url) h
+
+-- an object is what its compact text spells
+compact_text_spells : Laws → SpellsSixBits → (limits : Limits) (parts : JweParts) (o : EncryptedObject) → AreMembers parts → IsBuilt limits parts o
+    → (text : List ℕ) → jwe_compact_text o ≡ Ok text → jwe_of limits text ≡ Ok o
+unfolding jwe_compact_text
+compact_text_spells laws spells limits parts o members is text h =
+    let a = steps (needs (is_compact o o.recipients) NotCompact) _ text h in
+    let protected : List ℕ = o.protected in
+    let key : List ℕ = base64url (key_of_first o.recipients) in
+    let iv : List ℕ = base64url o.iv in
+    let ciphertext : List ℕ = base64url o.ciphertext in
+    let tag : List ℕ = base64url o.tag in
+    let texts : parts_spelled parts ≡ compact protected key iv ciphertext tag =
+    sym (object_keeps is.octets parts o is.made) ∙ only_recipient spells o o.recipients refl (passed _ NotCompact a.0 a.1) in
+    let joined : text ≡ between_dots (protected ∷ key ∷ iv ∷ ciphertext ∷ tag ∷ []) = sym (same_answer _ text a.2) ∙ simp append_assoc in
+    ap (jwe_of limits) joined
+    ∙ read_compact limits protected key iv ciphertext tag o (subst HasUrlTexts texts (url_texts laws limits parts o members is))
+    (ap (object_of_texts limits) (sym texts) ∙ object_read laws limits parts o members is)
+
+-- an object that is made of its members is what its texts spell
+pub texts_spell_objects : Laws → SpellsSixBits → TextsSpellObjects
+texts_spell_objects laws spells limits parts o members h =
+    let is = is_built limits parts o h in
+    (json_text_spells laws limits parts o members is, compact_text_spells laws spells limits parts o members is)

@@ -1,0 +1,134 @@
+-- The texts of JWS and JWE objects (RFC 7515 section 7, RFC 7516 section 7): which form they have, the parts of a compact text, and
+-- the members of a JSON text, as they are read and written.
+use Rattle.std.specs.Prelude.{ℕ, ◌+◌, ◌==◌, ◌||◌, ◌&&◌, Bool, true, false, not, List, [], ◌∷◌, take, drop, is_none, position, nat_le, if◌then◌else◌, Option, Some, None, option_and_then, Result, Ok, Err}
+use Rattle.std.specs.List.{find}
+use Rattle.std.specs.Option.{ok_or}
+use Rattle.std.specs.Str.{byte}
+use Rattle.serde_json.specs.Data.{Data, Items, no_items, item, Members, no_members, member, string, array, object, put}
+use Rattle.serde_json.specs.Find.{get, as_str, as_array}
+use Rattle.octets.specs.declared.refusal.Refusal.{Refusal}
+use Rattle.octets.specs.declared.refusal.Refusal.TheVariants.{Form}
+use Rattle.octets.specs.Outcomes.{◌>>=◌, needs}
+use Rattle.keys.specs.KeySets.{are_objects}
+
+-- ---- each of a list
+
+-- what each is read as, in order, or the first refusal
+abbrev pub each : {X Y : Type 0} → (X → Result Y Refusal) → List X → Result (List Y) Refusal
+each read [] = Ok []
+each read (x ∷ rest) = do
+  first ← read x
+  others ← each read rest
+  Ok (first ∷ others)
+
+-- what each item is read as
+abbrev pub each_item : {Y : Type 0} → (Data → Result Y Refusal) → Items → Result (List Y) Refusal
+each_item read no_items = Ok []
+each_item read (item x rest) = do
+  first ← read x
+  others ← each_item read rest
+  Ok (first ∷ others)
+
+-- ---- the form of a text
+
+-- white space of JSON (RFC 8259 section 2)
+abbrev pub is_json_space : ℕ → Bool
+is_json_space c = c == byte " " || c == byte "\t" || c == byte "\n" || c == byte "\r"
+
+abbrev pub is_brace : Option ℕ → Bool
+is_brace None = false
+is_brace (Some c) = c == byte "{"
+
+-- the text is in JSON form: but for white space it begins with a brace
+unfoldable pub is_json_form : List ℕ → Bool
+is_json_form text = is_brace (find (λ c. not (is_json_space c)) text)
+
+-- ---- the parts of a compact text
+
+abbrev pub is_dot : ℕ → Bool
+is_dot c = c == byte "."
+
+abbrev pub parts_at : List ℕ → Option ℕ → Result (List ℕ × List ℕ) Refusal
+parts_at text None = Err Form
+parts_at text (Some i) = Ok (take i text, drop (i + 1) text)
+
+-- what stands before and after the first dot
+unfoldable pub split_at_dot : List ℕ → Result (List ℕ × List ℕ) Refusal
+split_at_dot text = parts_at text (position is_dot text)
+
+-- exactly three parts between dots
+unfoldable pub three_parts : List ℕ → Result (List ℕ × List ℕ × List ℕ) Refusal
+three_parts text = do
+  first ← split_at_dot text
+  second ← split_at_dot first.1
+  last ← needs (is_none (position is_dot second.1)) Form
+  Ok (first.0, second.0, second.1)
+
+-- ---- the members of a JSON text
+
+abbrev pub text_if_there : Option Data → Result (List ℕ) Refusal
+text_if_there None = Ok []
+text_if_there (Some value) = ok_or (as_str value) Form
+
+-- a string, and the empty text where it is absent
+unfoldable pub text_at : List ℕ → Data → Result (List ℕ) Refusal
+text_at name value = text_if_there (get name value)
+
+-- a string that must be there
+unfoldable pub required_text : List ℕ → Data → Result (List ℕ) Refusal
+required_text name value = ok_or (option_and_then as_str (get name value)) Form
+
+abbrev pub has_items : Items → Bool
+has_items no_items = false
+has_items (item value values) = true
+
+-- a list of at least one object
+unfoldable pub object_list : Data → Result Items Refusal
+object_list value = do
+  items ← ok_or (as_array value) Form
+  objects ← needs (has_items items && are_objects items) Form
+  Ok items
+
+abbrev pub has_text : List ℕ → Bool
+has_text [] = false
+has_text (c ∷ text) = true
+
+abbrev pub has_members : Members → Bool
+has_members no_members = false
+has_members (member k d rest) = true
+
+-- ---- the members that are written
+
+-- a member that is there where its text is not empty
+abbrev pub put_text : List ℕ → List ℕ → Members → Members
+put_text name [] members = members
+put_text name (c ∷ text) members = put name (string (c ∷ text)) members
+
+-- a header that is there where it has members
+abbrev pub put_header : List ℕ → Members → Members → Members
+put_header name header members = if has_members header then put name (object header) members else members
+
+-- the members of each, as an object
+abbrev pub objects_of : {X : Type 0} → (X → Members) → List X → Items
+objects_of members_of [] = no_items
+objects_of members_of (x ∷ rest) = item (object (members_of x)) (objects_of members_of rest)
+
+-- Those of one stand beside the others; several are a list of objects.
+abbrev pub put_each : {X : Type 0} → List ℕ → (X → Members → Members) → List X → Members → Members
+put_each name put_one [] members = members
+put_each name put_one (x ∷ []) members = put_one x members
+put_each name put_one (x ∷ (other ∷ rest)) members = put name (array (objects_of (λ each. put_one each no_members) (x ∷ (other ∷ rest)))) members
+
+-- ---- how deep a header may nest
+
+-- A text is read where it nests at most 127 deep, and so is a header in it where that nests one less deep.
+abbrev pub header_depth : ℕ
+header_depth = 126
+
+-- one in a list of objects stands two deeper
+abbrev pub listed_header_depth : ℕ
+listed_header_depth = 124
+
+-- that of each of so many
+abbrev pub depth_of_each : ℕ → ℕ
+depth_of_each n = if nat_le n 1 then header_depth else listed_header_depth

@@ -1,0 +1,131 @@
+-- What is signed verifies with each key alone that may verify.
+use Rattle.std.proofs.Common.{◌≡◌, ℕ, nat_le, Bool, true, false, List, [], ◌∷◌, ◌++◌, length, map, is_some, Ok, refl, sym, ap, ◌∙◌}
+use Rattle.std.proofs.lemmas.Bool.{and_parts, and_from, or_left}
+use Rattle.std.proofs.lemmas.List.{length-map}
+use Rattle.std.proofs.lemmas.Slice.Eq.{bytes_eq-Decides}
+use Rattle.std.specs.List.{AllByRecursion, list_any}
+use Rattle.std.specs.Str.{bytes_eq}
+use Rattle.serde_json.specs.Data.{Members}
+use Rattle.octets.specs.Octets.{IsOctets}
+use Rattle.octets.specs.Outcomes.{◌>>=◌}
+use Rattle.octets.specs.Plan.{Plan}
+use Rattle.octets.proofs.Characters.{has_url_characters}
+use Rattle.prf.specs.Hmac.{hmac}
+use Rattle.prf.specs.Sha2Octets.{IsOctets-sha256, IsOctets-sha384, IsOctets-sha512}
+use Rattle.keys.specs.declared.algorithm.SignatureAlg.{SignatureAlg}
+use Rattle.keys.specs.declared.algorithm.SignatureAlg.TheVariants.{Hs256, Hs384, Hs512}
+use Rattle.keys.specs.declared.algorithm.Algorithm.TheVariants.{Signature as SignedWith}
+use Rattle.keys.specs.declared.operation.Operation.TheVariants.{Sign, Verify}
+use Rattle.keys.specs.Algorithms.{signature_alg_of}
+use Rattle.keys.specs.JsonTexts.{AreJsonMembers}
+use Rattle.keys.specs.Keys.{OctetKey, allows, fits}
+use Rattle.keys.specs.Limits.{limits}
+use Rattle.keys.proofs.UrlTexts.{url_texts_are_json}
+use Rattle.objects.specs.Jws.{SignatureParts, Signature, SignedObject, AreMembers, TextsSpellObjects, json_text, jws_compact_text, jws_of}
+use Rattle.objects.proofs.EachRead.{all_images}
+use Rattle.objects.proofs.SpellingJws.{is_built}
+use Rattle.objects.proofs.Steps.{steps, same_answer}
+use Rattle.tokens.specs.Signatures.{signature_of}
+use Rattle.tokens.specs.Signing.{Signer, Signing, signer_by, signing_of, protected_by, signature_by, parts_by, signed, text_of, plan_by, signing_by}
+use Rattle.tokens.specs.Template.{SignatureTemplate, header_text}
+use Rattle.tokens.specs.Verifying.{may_verify, verifies, are_verified, verified_payload, verifying_by, SignedVerifies}
+use Rattle.objects.proofs.TextOctets.{octets_of_utf8}
+use Rattle.tokens.proofs.ReadLists.{some_passes}
+use Rattle.tokens.proofs.SignedObjects.{Signs, IsSigning, is_signing, made_by, object_by, signed_is}
+use Rattle.tokens.proofs.SigningTemplates.{named_itself, key_is}
+
+-- ---- the object is what its text spells
+
+-- a signature is octets
+signature_octets : (alg : SignatureAlg) (key protected payload : List ℕ) → IsOctets (signature_of alg key protected payload)
+unfolding signature_of hmac
+signature_octets Hs256 key protected payload = IsOctets-sha256 _
+signature_octets Hs384 key protected payload = IsOctets-sha384 _
+signature_octets Hs512 key protected payload = IsOctets-sha512 _
+
+-- the members of a signature are as they have to be
+signature_members : (header : Members) (payload : List ℕ) → AreJsonMembers header → (s : Signer) → Signs header s
+    → (let p = signature_by header payload s in IsOctets p.protected × (AreJsonMembers p.header × IsOctets p.signature))
+signature_members header payload json s is =
+    let url = has_url_characters (header_text s.protected) is.back.octets in
+    (octets_of_utf8 (protected_by s) (url_texts_are_json (protected_by s) url).0, (json, signature_octets s.alg s.key.octets (protected_by s) payload))
+
+-- so are those of the object
+are_members : (s : Signing) (payload : List ℕ) → IsOctets payload → AreJsonMembers s.header → AllByRecursion (Signs s.header) s.signers → AreMembers (parts_by s payload)
+are_members s payload octets json signs = record {
+  payload = octets;
+  signatures = all_images (λ (p : SignatureParts). IsOctets p.protected × (AreJsonMembers p.header × IsOctets p.signature)) (signature_by s.header payload) (signature_members s.header payload json) s.signers signs;
+}
+
+-- so its text is read as the object that signing makes
+text_is_read : TextsSpellObjects → (compact : Bool) (keys : List OctetKey) (s : Signing) (payload text : List ℕ) → IsOctets payload → IsSigning compact keys s → (signed s payload >>= text_of compact) ≡ Ok text
+    → jws_of limits text ≡ Ok (object_by s payload)
+unfolding signed
+text_is_read spells compact keys s payload text octets is h =
+    let o = steps (signed s payload) (text_of compact) text h in
+    let built = is_built limits (parts_by s payload) o.0 o.1 in
+    let long : length (map (signature_by s.header payload) s.signers) ≡ length s.signers = length-map s.signers (signature_by s.header payload) in
+    let some : nat_le 1 (length s.signers) ≡ true = ap (nat_le 1) (sym long) ∙ built.some in
+    let few : nat_le (length s.signers) limits.recipients ≡ true = ap (λ n. nat_le n limits.recipients) (sym long) ∙ built.few in
+    let spelled = spells limits (parts_by s payload) o.0 (are_members s payload octets is.json is.signs) o.1 in
+    by_form compact o.0 text spelled.0 spelled.1 o.2 ∙ sym o.1 ∙ signed_is compact keys s payload is some few
+  where
+    by_form : (compact : Bool) (o : SignedObject) (text : List ℕ) → jws_of limits (json_text o) ≡ Ok o → ((text : List ℕ) → jws_compact_text o ≡ Ok text → jws_of limits text ≡ Ok o)
+        → text_of compact o ≡ Ok text → jws_of limits text ≡ Ok o
+    by_form true o text json compact is = compact text is
+    by_form false o text json compact is = ap (jws_of limits) (sym (same_answer (json_text o) text is)) ∙ json
+
+-- ---- and the key verifies it
+
+-- a key that may verify, and the signature of its signer
+module _ (template : SignatureTemplate) (header : Members) (key : OctetKey) (payload : List ℕ) (may : allows key Verify ≡ true) where
+  -- the signature names the algorithm
+  supported : (s : Signer) → signer_by template key ≡ Ok s → Signs header s → is_some (signature_alg_of (made_by header payload s).alg) ≡ true
+  supported s by is = rw (named_itself s.alg) refl
+
+  -- which the key fits, since it signed by it
+  fits_alg : (s : Signer) → signer_by template key ≡ Ok s → Signs header s → fits key (SignedWith s.alg) ≡ true
+  fits_alg s by is =
+      ap (λ k. fits k (SignedWith s.alg)) (sym (key_is template key s by)) ∙ (and_parts (allows s.key Sign) (fits s.key (SignedWith s.alg)) is.may).1
+
+  -- so they are a candidate
+  candidate : (s : Signer) → signer_by template key ≡ Ok s → Signs header s → may_verify (made_by header payload s) key ≡ true
+  candidate s by is = rw (named_itself s.alg, may, fits_alg s by is) refl
+
+  -- and the key verifies the signature
+  verified : (s : Signer) → signer_by template key ≡ Ok s → Signs header s → verifies payload (made_by header payload s) key ≡ true
+  verified s by is =
+      let same : bytes_eq (signature_of s.alg s.key.octets (protected_by s) payload) (signature_of s.alg key.octets (protected_by s) payload) ≡ true =
+      (bytes_eq-Decides _ _).1 (ap (λ (k : OctetKey). signature_of s.alg k.octets (protected_by s) payload) (key_is template key s by)) in
+      rw (named_itself s.alg, may, fits_alg s by is, same) refl
+
+-- so the object is verified with this key alone, and gives the payload
+payload_verified : (compact all : Bool) (before : List OctetKey) (key : OctetKey) (after : List OctetKey) (s : Signing) (payload : List ℕ) → allows key Verify ≡ true
+    → IsSigning compact (before ++ key ∷ after) s → verifying_by all true (key ∷ []) (object_by s payload) ≡ Ok payload
+unfolding verifying_by verified_payload
+payload_verified compact all before key after s payload may is =
+    let t = is.template in
+    let made = made_by s.header payload in
+    let some : (test : Signature → Bool) → ((g : Signer) → signer_by t key ≡ Ok g → Signs s.header g → test (made g) ≡ true) → list_any test (map made s.signers) ≡ true =
+    λ test holds. some_passes (signer_by t) made test key holds before after s.signers is.by_keys is.signs in
+    let any = some (λ g. is_some (signature_alg_of g.alg)) (supported t s.header key payload may) in
+    let candidates = some (λ g. list_any (may_verify g) (key ∷ [])) (λ g by signs. or_left _ false (candidate t s.header key payload may g by signs)) in
+    let one = some (λ g. verifies payload g key) (verified t s.header key payload may) in
+    let each = some (λ g. list_any (verifies payload g) (key ∷ [])) (λ g by signs. or_left _ false (verified t s.header key payload may g by signs)) in
+    rw (any, candidates, by_all all one each) refl
+  where
+    by_all : (all : Bool) → list_any (λ g. verifies payload g key) (map (made_by s.header payload) s.signers) ≡ true
+        → list_any (λ g. list_any (verifies payload g) (key ∷ [])) (map (made_by s.header payload) s.signers) ≡ true → are_verified all (key ∷ []) (object_by s payload) ≡ true
+    by_all true one each = and_from _ true one refl
+    by_all false one each = each
+
+pub signed_verifies : TextsSpellObjects → SignedVerifies
+unfolding signing_by
+signed_verifies spells compact all before key after template payload text octets may h =
+    let keys : List OctetKey = before ++ key ∷ after in
+    let plan = steps (signing_by limits compact keys template) (λ plan. plan.whole payload) text h in
+    let s = steps (signing_of limits compact keys template) (λ s. Ok (plan_by compact s)) plan.0 plan.1 in
+    let whole : (signed s.0 payload >>= text_of compact) ≡ Ok text = ap (λ (p : Plan (List ℕ)). p.whole payload) (same_answer (plan_by compact s.0) plan.0 s.2) ∙ plan.2 in
+    let is = is_signing compact keys template s.0 s.1 in
+    ap (λ r. r >>= verifying_by all true (key ∷ [])) (text_is_read spells compact keys s.0 payload text octets is whole)
+    ∙ payload_verified compact all before key after s.0 payload may is

@@ -1,0 +1,44 @@
+-- What keys and a template settle makes an object of every payload, and its text.
+use Rattle.std.proofs.Common.{◌≡◌, ℕ, suc, ◌≤◌, ◌&&◌, nat_le, Bool, true, false, not, List, [], ◌∷◌, length, map, Ok, refl, sym, ap, ◌∙◌, arith}
+use Rattle.std.proofs.lemmas.Bool.{and_parts, leb-true}
+use Rattle.serde_json.specs.Data.{Members, no_members, member}
+use Rattle.octets.specs.Outcomes.{◌>>=◌}
+use Rattle.octets.specs.Plan.{Plan}
+use Rattle.keys.specs.Limits.{limits}
+use Rattle.objects.specs.Jws.{is_compact, joined_first, json_text, jws_compact_text}
+use Rattle.objects.specs.Texts.{has_members}
+use Rattle.objects.proofs.Each.{as_many}
+use Rattle.objects.proofs.Steps.{steps, same_answer}
+use Rattle.tokens.specs.Signing.{Signer, Signing, signer_by, has_no_more, signing_of, text_of, plan_by, signing_by, SigningMakesTexts}
+use Rattle.tokens.specs.Template.{is_empty}
+use Rattle.tokens.proofs.SignedObjects.{is_signing, made_by, object_by, signed_is}
+
+-- where compact form can hold what is settled, it can hold the object
+no_members_there : (header : Members) → is_empty header ≡ true → not (has_members header) ≡ true
+no_members_there no_members h = refl
+no_members_there (member k d rest) h = cc h
+
+fits : (header : Members) (payload : List ℕ) (signers : List Signer) → (nat_le (length signers) 1 && is_empty header) ≡ true → nat_le 1 (length signers) ≡ true → is_compact (map (made_by header payload) signers) ≡ true
+fits header payload [] alone some = cc some
+fits header payload (s ∷ []) alone some = no_members_there header (and_parts (nat_le 1 1) (is_empty header) alone).1
+fits header payload (s ∷ (other ∷ rest)) alone some =
+    let few : suc (suc (length rest)) ≤ 1 = leb-true (suc (suc (length rest))) 1 (and_parts (nat_le (suc (suc (length rest))) 1) (is_empty header) alone).0 in
+    absurd (omega arith)
+
+-- so the object has a text
+has_text : (compact : Bool) (s : Signing) (payload : List ℕ) → has_no_more compact s ≡ true → nat_le 1 (length s.signers) ≡ true → (text : List ℕ) × (text_of compact (object_by s payload) ≡ Ok text)
+unfolding jws_compact_text
+has_text true s payload alone some = (joined_first payload (map (made_by s.header payload) s.signers), rw (fits s.header payload s.signers alone some) refl)
+has_text false s payload alone some = (json_text (object_by s payload), refl)
+
+pub signing_makes_texts : SigningMakesTexts
+unfolding signing_by
+signing_makes_texts compact keys template payload plan some few h =
+    let s = steps (signing_of limits compact keys template) _ plan h in
+    let is = is_signing compact keys template s.0 s.1 in
+    let long : length s.0.signers ≡ length keys = as_many (signer_by is.template) keys s.0.signers is.by_keys in
+    let some_signers : nat_le 1 (length s.0.signers) ≡ true = ap (nat_le 1) long ∙ some in
+    let few_signers : nat_le (length s.0.signers) limits.recipients ≡ true = ap (λ n. nat_le n limits.recipients) long ∙ few in
+    let made = signed_is compact keys s.0 payload is some_signers few_signers in
+    let text = has_text compact s.0 payload is.alone some_signers in
+    (text.0, ap (λ (p : Plan (List ℕ)). p.whole payload) (sym (same_answer (plan_by compact s.0) plan s.2)) ∙ ap (λ r. r >>= text_of compact) made ∙ text.1)
