@@ -97,7 +97,7 @@ const REFUSED: &[(&str, Refusal)] = &[
         Refusal::Json,
     ),
     (
-        "{\"payload\":\"YWJj\",\"signatures\":[{\"protected\":\"W10\",\"signature\":\"\"},{\"protected\":\"eA\",\"signature\":\"\"}]}",
+        "{\"payload\":\"YWJj\",\"signatures\":[{\"protected\":\"WzFd\",\"signature\":\"\"},{\"protected\":\"eA\",\"signature\":\"\"}]}",
         Refusal::Header,
     ),
     (
