@@ -381,13 +381,14 @@ fn rfc7516_appendix_a4(rt: HostRuntime) -> Result<(), Fail> {
     )
 }
 
-/// A text with `n` times one element in a list, and then another.
-fn with_many<R: Abort + AllocGlobal>(
+/// A text with `n` times one element in a list, then another, and what stands after it.
+pub(crate) fn with_many<R: Abort + AllocGlobal>(
     rt: &R,
     before: &str,
     element: &str,
     n: usize,
     last: &str,
+    after: &str,
 ) -> Result<String, Fail> {
     let mut text = String::from_str(rt.alloc(), before)?;
     for _ in 0..n {
@@ -395,7 +396,7 @@ fn with_many<R: Abort + AllocGlobal>(
         text.push(',')?;
     }
     text.push_str(last)?;
-    text.push_str("]}")?;
+    text.push_str(after)?;
     Ok(text)
 }
 
@@ -411,6 +412,7 @@ fn verifies_last_of<R: Abort + AllocGlobal>(
         "{\"header\":{\"alg\":\"HS256\"},\"signature\":\"AA\"}",
         before,
         "{\"protected\":\"eyJhbGciOiJIUzI1NiJ9\",\"signature\":\"sxvqVTS8XjHJPVB24OsGa2pZqgR8ZX_Ab4pTTtgI47Y\"}",
+        "]}",
     )?;
     verifies(rt, &VERIFY, &text, KEY, answer)
 }
@@ -433,6 +435,7 @@ fn decrypts_for_last_of<R: Abort + AllocGlobal>(
         "{}",
         before,
         "{\"encrypted_key\":\"6KB707dM9YTIgHtLvtgWQ8mKwboJW3of9locizkDTHzBC2IlrT1oOQ\"}",
+        "]}",
     )?;
     verifies(rt, &DECRYPT, &text, ENCRYPTED_KEY, answer)
 }

@@ -524,11 +524,6 @@ const NOT_ENCRYPTED: &[(&str, &str, Refusal)] = &[
     // The keys.
     (
         "{}",
-        "{\"keys\":[{\"kty\":\"oct\",\"k\":\"GawgguFyGrWKav7AX4VKUg\"},{\"kty\":\"oct\",\"k\":\"GawgguFyGrWKav7AX4VKUg\"}]}",
-        Refusal::Limit,
-    ),
-    (
-        "{}",
         "{\"kty\":\"oct\",\"k\":\"AAAAAAAAAAAAAAAAAAAAAAAAAAA\"}",
         Refusal::NoAlgorithm,
     ),

@@ -75,6 +75,8 @@ mod password_tests;
 #[cfg(test)]
 mod peer_tests;
 #[cfg(test)]
+mod several_keys_tests;
+#[cfg(test)]
 mod tests;
 #[cfg(test)]
 mod tokens_tests;

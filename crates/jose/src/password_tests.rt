@@ -449,7 +449,7 @@ fn work_is_told_exactly(rt: HostRuntime) -> Result<(), Fail> {
     Ok(())
 }
 
-fn expect_work<R: Abort + AllocGlobal>(
+pub(crate) fn expect_work<R: Abort + AllocGlobal>(
     rt: &R,
     text: &str,
     keys: &str,

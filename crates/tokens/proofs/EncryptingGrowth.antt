@@ -1,5 +1,5 @@
 -- The plan of encrypting, which goes on as its plaintext does.
-use Rattle.std.proofs.Common.{◌≡◌, ℕ, zero, suc, ◌<◌, ◌≤◌, Bool, true, false, List, [], ◌∷◌, ◌++◌, length, take, codes, Option, Some, None, Ok, Greater, nat_cmp, refl, sym, ◌∙◌, ap, subst, arith, append_assoc, length-append, ⊎_elim, take_all}
+use Rattle.std.proofs.Common.{◌≡◌, ℕ, zero, suc, ◌<◌, ◌≤◌, Bool, true, false, List, [], ◌∷◌, ◌++◌, length, take, codes, Option, Some, None, Ok, Less, Greater, nat_cmp, refl, sym, ◌∙◌, ap, subst, arith, append_assoc, length-append, ⊎_elim, take_all}
 use Rattle.std.proofs.lemmas.Bool.{cases_lt}
 use Rattle.std.proofs.lemmas.List.{nil_from_length}
 use Rattle.std.specs.Cmp.Lexicographic.{slice_cmp}
@@ -17,18 +17,17 @@ use Rattle.octets.proofs.Groups.{length-base64url}
 use Rattle.ciphers.specs.Sealing.{Sealed}
 use Rattle.ciphers.proofs.Growing.{fixed_grows, ciphertext_grows}
 use Rattle.keys.specs.Keys.{OctetKey}
-use Rattle.keys.specs.Limits.{limits}
-use Rattle.objects.specs.Jwe.{Recipient, EncryptedObject, put_recipient, put_recipients, put_shared, json_text, joined, key_of_first, is_compact, jwe_compact_text, built}
+use Rattle.objects.specs.Jwe.{Recipient, EncryptedObject, put_recipients, put_shared, json_text, key_of_first, is_compact, jwe_compact_text}
 use Rattle.objects.specs.Texts.{put_text, put_header}
 use Rattle.objects.proofs.Characters.{IsUrlText}
 use Rattle.objects.proofs.EachRead.{all_passed}
 use Rattle.objects.proofs.Steps.{steps, same_answer}
 use Rattle.tokens.specs.Algorithms.{content_alg}
+use Rattle.tokens.specs.Choosing.{Encryption}
 use Rattle.tokens.specs.Decrypting.{authenticated}
-use Rattle.tokens.specs.Encrypting.{Encryption, octets_drawn, salt_by, cek_by, iv_by, header_by, sealing_by, parts_by, encrypted, text_of, aad_member, text_before, within_longest, plan_by, EncryptingGrows}
+use Rattle.tokens.specs.Encrypting.{AreOctetKeys, octets_drawn, cek_by, iv_by, header_by, sealing_by, encrypted, text_of, aad_member, text_before, within_longest, plan_by, EncryptingGrows}
 use Rattle.tokens.proofs.Beginnings.{begins_behind, begins_all, groups_grow, text_grows, member_text}
-use Rattle.tokens.proofs.EncryptedRoundTrip.{OctetLaws, object_by, header_of, recipient_by_header, object_is, is_encrypted, plan_is}
-use Rattle.tokens.proofs.EncryptedTemplates.{Encrypts, encrypts, HeaderReads}
+use Rattle.tokens.proofs.EncryptedObjects.{OctetLaws, Settles, Has, is_encrypted, plan_is, settles}
 
 -- ---- what is fixed of the ciphertext
 
@@ -63,15 +62,15 @@ more_fixed e random p q =
 -- ---- the compact text
 
 -- it begins with the parts up to the ciphertext
-compact_begins : (o : EncryptedObject) (r : Recipient) (text : List ℕ) → o.recipients ≡ r ∷ [] → jwe_compact_text o ≡ Ok text
-    → Begins (o.protected ++ codes "." ++ base64url r.encrypted_key ++ codes "." ++ base64url o.iv ++ codes "." ++ base64url o.ciphertext) text
+compact_begins : (o : EncryptedObject) (text : List ℕ) → jwe_compact_text o ≡ Ok text
+    → Begins (o.protected ++ codes "." ++ base64url (key_of_first o.recipients) ++ codes "." ++ base64url o.iv ++ codes "." ++ base64url o.ciphertext) text
 unfolding jwe_compact_text
-compact_begins o r text alone h =
+compact_begins o text h =
     let fits = steps (needs (is_compact o o.recipients) NotCompact) _ text h in
     record {
       rest = codes "." ++ base64url o.tag;
-      continues = sym (same_answer _ text fits.2) ∙ ap (λ rs. joined o.protected (key_of_first rs) o.iv o.ciphertext o.tag) alone
-          ∙ append_assoc (o.protected ++ codes "." ++ base64url r.encrypted_key ++ codes "." ++ base64url o.iv ++ codes "." ++ base64url o.ciphertext) (codes ".") (base64url o.tag);
+      continues = sym (same_answer _ text fits.2)
+          ∙ append_assoc (o.protected ++ codes "." ++ base64url (key_of_first o.recipients) ++ codes "." ++ base64url o.iv ++ codes "." ++ base64url o.ciphertext) (codes ".") (base64url o.tag);
     }
 
 -- ---- the members of the JSON text
@@ -104,40 +103,54 @@ put_header_later : (name : List ℕ) (header : Members) (aad ciphertext : List �
 put_header_later name no_members aad ciphertext later is = refl
 put_header_later name (member k value rest) aad ciphertext later is = put_later name (object (member k value rest)) aad ciphertext later is
 
--- both are put in before the members of a recipient
-put_first : (header : Members) (key aad ciphertext : List ℕ)
-    → put (codes "ciphertext") (string ciphertext) (put_text (codes "aad") aad (put_header (codes "header") header (put_text (codes "encrypted_key") key no_members)))
-    ≡ first_members aad ciphertext (put_header (codes "header") header (put_text (codes "encrypted_key") key no_members))
-put_first no_members [] [] ciphertext = refl
-put_first no_members [] (a ∷ aad) ciphertext = refl
-put_first no_members (k ∷ key) [] ciphertext = refl
-put_first no_members (k ∷ key) (a ∷ aad) ciphertext = refl
-put_first (member name value rest) [] [] ciphertext = refl
-put_first (member name value rest) [] (a ∷ aad) ciphertext = refl
-put_first (member name value rest) (k ∷ key) [] ciphertext = refl
-put_first (member name value rest) (k ∷ key) (a ∷ aad) ciphertext = refl
+-- members whose first name stands behind both of theirs
+abbrev AreLater : Members → Type 0
+AreLater no_members = Unit {0}
+AreLater (member name value rest) = (slice_cmp nat_cmp (codes "aad") name ≡ Less) × (slice_cmp nat_cmp (codes "ciphertext") name ≡ Less)
+
+-- both are put in before such members
+put_first : (aad ciphertext : List ℕ) (later : Members) → AreLater later
+    → put (codes "ciphertext") (string ciphertext) (put_text (codes "aad") aad later) ≡ first_members aad ciphertext later
+put_first [] ciphertext no_members are = refl
+put_first [] ciphertext (member name value rest) are = rw are.1 refl
+put_first (a ∷ aad) ciphertext no_members are = refl
+put_first (a ∷ aad) ciphertext (member name value rest) are = rw (are.0, are.1) refl
+
+-- the members of one recipient are such
+one_later : (header : Members) (key : List ℕ) → AreLater (put_header (codes "header") header (put_text (codes "encrypted_key") key no_members))
+one_later no_members [] = tt
+one_later no_members (k ∷ key) = (refl, refl)
+one_later (member name value rest) [] = (refl, refl)
+one_later (member name value rest) (k ∷ key) = (refl, refl)
+
+-- so are those of any number, as the list of several is
+recipients_later : (recipients : List Recipient) → AreLater (put_recipients recipients no_members)
+recipients_later [] = tt
+recipients_later (r ∷ []) = one_later r.header (base64url r.encrypted_key)
+recipients_later (r ∷ (other ∷ rest)) = (refl, refl)
 
 -- the members behind them
-abbrev later_members : EncryptedObject → Recipient → Members
-later_members o r =
+abbrev later_members : EncryptedObject → Members
+later_members o =
     put_header (codes "unprotected") o.unprotected
-    (put_text (codes "tag") (base64url o.tag) (put_text (codes "protected") o.protected (put_text (codes "iv") (base64url o.iv) (put_recipient r no_members))))
+    (put_text (codes "tag") (base64url o.tag)
+    (put_text (codes "protected") o.protected (put_text (codes "iv") (base64url o.iv) (put_recipients o.recipients no_members))))
 
 -- the members of an object begin with them
-members_are : (o : EncryptedObject) (r : Recipient) → put_shared o (put_recipient r no_members) ≡ first_members (base64url o.aad) (base64url o.ciphertext) (later_members o r)
-members_are o r =
+members_are : (o : EncryptedObject) → put_shared o (put_recipients o.recipients no_members) ≡ first_members (base64url o.aad) (base64url o.ciphertext) (later_members o)
+members_are o =
     let aad : List ℕ = base64url o.aad in
     let ciphertext : List ℕ = base64url o.ciphertext in
-    let with_recipient : Members = put_recipient r no_members in
-    let with_iv : Members = put_text (codes "iv") (base64url o.iv) with_recipient in
+    let with_recipients : Members = put_recipients o.recipients no_members in
+    let with_iv : Members = put_text (codes "iv") (base64url o.iv) with_recipients in
     let with_protected : Members = put_text (codes "protected") o.protected with_iv in
     let with_tag : Members = put_text (codes "tag") (base64url o.tag) with_protected in
     let unprotected : Members → Members = λ ms. put_header (codes "unprotected") o.unprotected ms in
     let tag : Members → Members = λ ms. put_text (codes "tag") (base64url o.tag) ms in
     let protected : Members → Members = λ ms. put_text (codes "protected") o.protected ms in
     let iv : Members → Members = λ ms. put_text (codes "iv") (base64url o.iv) ms in
-    ap (λ ms. unprotected (tag (protected (iv ms)))) (put_first r.header (base64url r.encrypted_key) aad ciphertext)
-    ∙ ap (λ ms. unprotected (tag (protected ms))) (put_text_later (codes "iv") (base64url o.iv) aad ciphertext with_recipient (record { than_aad = refl; than_ciphertext = refl }))
+    ap (λ ms. unprotected (tag (protected (iv ms)))) (put_first aad ciphertext with_recipients (recipients_later o.recipients))
+    ∙ ap (λ ms. unprotected (tag (protected ms))) (put_text_later (codes "iv") (base64url o.iv) aad ciphertext with_recipients (record { than_aad = refl; than_ciphertext = refl }))
     ∙ ap (λ ms. unprotected (tag ms)) (put_text_later (codes "protected") o.protected aad ciphertext with_iv (record { than_aad = refl; than_ciphertext = refl }))
     ∙ ap unprotected (put_text_later (codes "tag") (base64url o.tag) aad ciphertext with_protected (record { than_aad = refl; than_ciphertext = refl }))
     ∙ put_header_later (codes "unprotected") o.unprotected aad ciphertext with_tag (record { than_aad = refl; than_ciphertext = refl })
@@ -177,36 +190,37 @@ first_text (c ∷ aad) ciphertext later is_aad is_ciphertext =
     }
 
 -- so the JSON text of an object begins with the members up to the ciphertext
-json_begins : (o : EncryptedObject) (r : Recipient) → o.recipients ≡ r ∷ [] → IsOctets o.aad → IsOctets o.ciphertext
+json_begins : (o : EncryptedObject) → IsOctets o.aad → IsOctets o.ciphertext
     → Begins (codes "{" ++ aad_member o.aad ++ codes "\"ciphertext\":\"" ++ base64url o.ciphertext) (json_text o)
 unfolding json_text
-json_begins o r alone aad_octets ciphertext_octets =
+json_begins o aad_octets ciphertext_octets =
     let ciphertext : List ℕ = base64url o.ciphertext in
-    let first = first_text (base64url o.aad) ciphertext (later_members o r) (has_url_characters o.aad aad_octets) (has_url_characters o.ciphertext ciphertext_octets) in
+    let first = first_text (base64url o.aad) ciphertext (later_members o) (has_url_characters o.aad aad_octets) (has_url_characters o.ciphertext ciphertext_octets) in
     record {
       rest = first.rest;
-      continues = ap (λ rs. compact_text (object (put_shared o (put_recipients rs no_members)))) alone ∙ ap (λ ms. compact_text (object ms)) (members_are o r) ∙ first.continues
+      continues = ap (λ ms. compact_text (object ms)) (members_are o) ∙ first.continues
           ∙ ap (λ t. (codes "{" ++ t ++ codes "\"ciphertext\":\"" ++ ciphertext) ++ first.rest) (aad_text_is o.aad);
     }
 
 -- ---- what is encrypted
 
 -- the text begins with what stands before the ciphertext, and with the ciphertext's text
-text_begins : (compact : Bool) (e : Encryption) (random : List ℕ) (s : Sealed) (o : EncryptedObject) (text : List ℕ) → HeaderReads e (salt_by e random) → IsOctets e.aad
-    → IsOctets s.ciphertext → built limits (parts_by e random s) ≡ Ok o → text_of compact o ≡ Ok text → Begins (text_before compact e random ++ base64url s.ciphertext) text
-text_begins true e random s o text reads aad_octets ciphertext_octets made h =
-    let r : Recipient = recipient_by_header e random reads in
-    compact_begins (object_by e random s (header_of e random) (r ∷ [])) r text refl (ap jwe_compact_text (object_is e random s o reads made) ∙ h)
-text_begins false e random s o text reads aad_octets ciphertext_octets made h =
-    let r : Recipient = recipient_by_header e random reads in
-    let all : EncryptedObject = object_by e random s (header_of e random) (r ∷ []) in
-    let is : json_text all ≡ text = ap json_text (object_is e random s o reads made) ∙ same_answer (json_text o) text h in
-    subst (Begins (text_before false e random ++ base64url s.ciphertext)) is (json_begins all r refl aad_octets ciphertext_octets)
+text_begins : (compact : Bool) (e : Encryption) (random : List ℕ) (s : Sealed) (o : EncryptedObject) (text : List ℕ) → IsOctets e.aad → IsOctets s.ciphertext → Has e random s o
+    → text_of compact o ≡ Ok text → Begins (text_before compact e random ++ base64url s.ciphertext) text
+text_begins true e random s o text aad_octets ciphertext_octets has h =
+    let first : o.protected ++ codes "." ++ base64url (key_of_first o.recipients) ++ codes "." ++ base64url o.iv ++ codes "." ++ base64url o.ciphertext
+    ≡ text_before true e random ++ base64url s.ciphertext = rw (has.protected, has.key, has.iv, has.ciphertext) refl in
+    subst (λ front. Begins front text) first (compact_begins o text h)
+text_begins false e random s o text aad_octets ciphertext_octets has h =
+    let first : codes "{" ++ aad_member o.aad ++ codes "\"ciphertext\":\"" ++ base64url o.ciphertext ≡ text_before false e random ++ base64url s.ciphertext =
+    rw (has.aad, has.ciphertext) refl in
+    let begins = json_begins o (subst IsOctets (sym has.aad) aad_octets) (subst IsOctets (sym has.ciphertext) ciphertext_octets) in
+    subst (λ front. Begins front text) first (subst (Begins _) (same_answer (json_text o) text h) begins)
 
 -- by just as many random octets as are drawn, the plan grows
-plan_grows : OctetLaws → (compact : Bool) (key : OctetKey) (e : Encryption) (random : List ℕ) → IsOctets key.octets → IsOctets random → length random ≡ octets_drawn e
-    → Encrypts key e → Grows (plan_by compact e random)
-plan_grows laws compact key e random key_octets random_octets long by = record {
+plan_grows : OctetLaws → (compact : Bool) (keys : List OctetKey) (e : Encryption) (random : List ℕ) → AreOctetKeys keys → IsOctets random → length random ≡ octets_drawn e
+    → Settles keys e → Grows (plan_by compact e random)
+plan_grows laws compact keys e random key_octets random_octets long by = record {
   more = λ p q.
       let s = sealing_by e random in
       begins_behind (text_before compact e random) _ _ (groups_grow (s.fixed (within_longest s.longest p)) (s.fixed (within_longest s.longest (p ++ q))) (more_fixed e random p q));
@@ -214,20 +228,20 @@ plan_grows laws compact key e random key_octets random_octets long by = record {
       let s = sealing_by e random in
       let before : List ℕ = text_before compact e random in
       let o = steps (encrypted e random (p ++ q)) (text_of compact) text h in
-      let is = is_encrypted laws key e random (p ++ q) o.0 key_octets random_octets octets long by o.1 in
+      let is = is_encrypted laws keys e random (p ++ q) o.0 key_octets random_octets octets long by o.1 in
       let ciphertext : List ℕ = is.sealed.ciphertext in
       let fixed : Begins (s.fixed p) ciphertext =
-      subst (Begins (s.fixed p)) is.opens.ciphertext
+      subst (Begins (s.fixed p)) (ap (λ (x : Sealed). x.ciphertext) is.same)
       (ciphertext_grows (content_alg e.encryption) (cek_by e random) (iv_by e random) (authenticated (base64url (header_by e random)) e.aad) p q) in
-      let front : Begins (s.fixed (within_longest s.longest p)) ciphertext = subst (λ l. Begins (s.fixed l) ciphertext) (sym (all_within s.longest p q is.opens.short)) fixed in
+      let front : Begins (s.fixed (within_longest s.longest p)) ciphertext = subst (λ l. Begins (s.fixed l) ciphertext) (sym (all_within s.longest p q is.short)) fixed in
       begins_all (before ++ base64url (whole_groups (s.fixed (within_longest s.longest p)))) (before ++ base64url ciphertext) text
       (begins_behind before _ _ (text_grows (s.fixed (within_longest s.longest p)) ciphertext front))
-      (text_begins compact e random is.sealed o.0 text is.reads by.aad is.members.ciphertext is.made o.2);
+      (text_begins compact e random is.sealed o.0 text is.aad is.octets is.has o.2);
 }
 
--- so does each plan that a template and a key settle
+-- so does each plan that a template and keys settle
 pub encrypting_grows : OctetLaws → EncryptingGrows
-encrypting_grows laws compact key template random plan key_octets random_octets h =
-    let is = plan_is compact key template random plan h in
+encrypting_grows laws compact keys template random plan key_octets random_octets h =
+    let is = plan_is compact keys template random plan h in
     let drawn : List ℕ = take (octets_drawn is.0) random in
-    subst Grows is.3 (plan_grows laws compact key is.0 drawn key_octets (IsOctets-take (octets_drawn is.0) random random_octets) is.2 (encrypts compact key template is.0 is.1))
+    subst Grows is.3 (plan_grows laws compact keys is.0 drawn key_octets (IsOctets-take (octets_drawn is.0) random random_octets) is.2 (settles compact keys template is.0 is.1))

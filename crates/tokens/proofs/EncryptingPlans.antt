@@ -7,7 +7,8 @@ use Rattle.octets.specs.Devices.{Observed}
 use Rattle.octets.specs.Plan.{Plan, begun, plan_from}
 use Rattle.keys.specs.Keys.{OctetKey}
 use Rattle.keys.specs.Limits.{Limits}
-use Rattle.tokens.specs.Encrypting.{Encryption, encryption_of, encrypting_by, octets_drawn, plan_by}
+use Rattle.tokens.specs.Choosing.{Encryption, encryption_of}
+use Rattle.tokens.specs.Encrypting.{encrypting_by, octets_drawn, plan_by}
 
 -- by exactly the octets that are drawn, the plan is theirs
 pub plan_of_drawn : (limits : Limits) (compact : Bool) (keys : List OctetKey) (template : List ℕ) (e : Encryption) (random : List ℕ)

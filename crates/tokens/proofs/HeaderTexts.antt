@@ -1,6 +1,6 @@
 -- The texts of headers are octets, and read back as their members.
-use Rattle.std.proofs.Common.{◌≡◌, ◌≤◌, ℕ, nat_le, Bool, true, false, cond, List, length, Option, Some, None, Ok, refl, subst, arith}
-use Rattle.std.proofs.lemmas.Bool.{leb-true}
+use Rattle.std.proofs.Common.{◌≡◌, ◌≤◌, ℕ, nat_le, Bool, true, false, cond, if◌then◌else◌, List, length, Option, Some, None, Ok, refl, subst, arith}
+use Rattle.std.proofs.lemmas.Bool.{leb-true, le-leb}
 use Rattle.serde_json.specs.Data.{Data, Members, no_members, member, object, depth}
 use Rattle.serde_json.specs.Find.{get, as_object}
 use Rattle.serde_json.specs.Written.{compact_text}
@@ -13,6 +13,7 @@ use Rattle.keys.proofs.CompactTexts.{text_is_utf8}
 use Rattle.keys.proofs.JsonParts.{keep_json}
 use Rattle.keys.proofs.ReadingBack.{reads_back}
 use Rattle.objects.specs.Headers.{header_at, members_if_there, some_members, protected_members, members_of_json}
+use Rattle.objects.specs.Texts.{header_depth, listed_header_depth, depth_of_each}
 use Rattle.objects.proofs.Steps.{same_answer}
 use Rattle.objects.proofs.TextOctets.{octets_of_utf8}
 use Rattle.tokens.specs.Template.{header_text, is_shallow}
@@ -56,3 +57,11 @@ read_back (member k value rest) json shallow =
         → cond b (Ok no_members) (members_of_json (compact_text (object (member k value rest)))) ≡ Ok (member k value rest)
     by_length false e back = rw back refl
     by_length true e back = absurd (omega (arith, leb-true _ 0 e))
+
+-- a header that may be written may stand in a text, among those of so many recipients or signatures
+pub shallow_enough : (d n : ℕ) → nat_le d 64 ≡ true → nat_le d (depth_of_each n) ≡ true
+shallow_enough d n h = by_few (nat_le n 1)
+  where
+    by_few : (few : Bool) → nat_le d (if few then header_depth else listed_header_depth) ≡ true
+    by_few true = let deep : d ≤ 64 = leb-true d 64 h in le-leb d 126 (omega arith)
+    by_few false = let deep : d ≤ 64 = leb-true d 64 h in le-leb d 124 (omega arith)

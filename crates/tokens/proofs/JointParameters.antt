@@ -1,227 +1,241 @@
--- The parameters of a joint header: what is put into the protected header, the names of the algorithms, and the count of iterations.
-use Rattle.std.proofs.Common.{◌≡◌, ℕ, zero, suc, ◌<◌, ◌≤◌, Bool, true, false, not, nat_le, nat_lt, List, [], ◌∷◌, ◌&&◌, codes, slice_index, if◌then◌else◌, Option, Some, None, option_and_then, is_some, Result, Ok, Err, IsUtf8, refl, sym, ◌∙◌, ap, subst, arith}
-use Rattle.std.proofs.lemmas.Bool.{and_parts, leb-true, ltb-true}
-use Rattle.std.proofs.lemmas.Str.{IsUtf8-from_ascii}
+-- The parameters that are written for a receiver, as entries: the joint header with them names the algorithms, and has the salt and
+-- the count of iterations of a password.
+use Rattle.std.proofs.Common.{◌≡◌, ℕ, ◌≤◌, ◌||◌, Bool, true, false, not, nat_le, List, [], ◌∷◌, length, codes, if◌then◌else◌, Option, Some, None, option_and_then, option_map, is_some, Result, Ok, IsUtf8, refl, sym, ◌∙◌, ap, arith}
+use Rattle.std.proofs.lemmas.Bool.{or_parts, not-false, le-leb}
+use Rattle.std.proofs.lemmas.List.{nil_from_length}
 use Rattle.std.specs.Option.{option_or}
-use Rattle.std.specs.Prelude.{◌||◌}
-use Rattle.std.specs.List.{list_all}
-use Rattle.serde_json.specs.Data.{Data, unsigned, number, string, Members, no_members, put}
+use Rattle.serde_json.specs.Data.{Data, unsigned, number, string, Members, put}
 use Rattle.serde_json.specs.Find.{get_member, as_str, as_number, as_u64}
-use Rattle.serde_json.proofs.Views.{get_member-put, get_member-put_other}
 use Rattle.octets.specs.declared.refusal.Refusal.{Refusal}
+use Rattle.octets.specs.Octets.{IsOctets}
+use Rattle.octets.specs.Base64url.{base64url}
+use Rattle.octets.proofs.Characters.{has_url_characters}
+use Rattle.octets.proofs.Meanings.{decodes_exactly}
 use Rattle.keys.specs.declared.algorithm.EncryptionAlg.{EncryptionAlg}
-use Rattle.keys.specs.declared.algorithm.EncryptionAlg.TheVariants.{A128CbcHs256, A192CbcHs384, A256CbcHs512, A128Gcm, A192Gcm, A256Gcm}
 use Rattle.keys.specs.declared.algorithm.ManagementAlg.{ManagementAlg}
-use Rattle.keys.specs.declared.algorithm.ManagementAlg.TheVariants.{Dir, A128Kw, A192Kw, A256Kw, Pbes2Hs256A128Kw, Pbes2Hs384A192Kw, Pbes2Hs512A256Kw}
-use Rattle.keys.specs.Algorithms.{management_name, encryption_name, management_alg_of, encryption_alg_of, is_password_based}
-use Rattle.keys.specs.JsonTexts.{AreJsonMembers}
-use Rattle.keys.specs.Limits.{limits}
-use Rattle.keys.proofs.JsonParts.{keep_json}
+use Rattle.keys.specs.Algorithms.{management_name, encryption_name, is_password_based}
 use Rattle.keys.proofs.UrlTexts.{url_texts_are_json}
-use Rattle.objects.specs.Headers.{all_members, string_parameter, number_parameter, if_there}
-use Rattle.objects.proofs.Names.{get_member-all_members}
+use Rattle.objects.specs.Headers.{all_members, joint_header, required, if_there, string_parameter, string_there, number_parameter, salt_parameter}
+use Rattle.objects.specs.Jwe.{Recipient, PasswordParameters, password_parameters, parameters_of, recipient_by, recipient_of}
+use Rattle.objects.proofs.Members.{Entries, put_if_there, first_there, IsJsonIfThere, AreJsonEntries}
 use Rattle.objects.proofs.Spelling.{name_is_json}
-use Rattle.objects.proofs.Steps.{same_answer}
-use Rattle.tokens.specs.Encrypting.{chosen_p2c, is_written, with_name, is_given, with_p2c}
+use Rattle.tokens.specs.Choosing.{with_name, with_p2c, Given}
+use Rattle.tokens.specs.Encrypting.{salt_len, with_parameters}
+use Rattle.tokens.proofs.AlgorithmNames.{management_named, management_is_text, encryption_is_text}
+use Rattle.tokens.proofs.JointHeaders.{put_onto, IsFree, AreFree, IsJoint, IsHeader, header_onto}
 
--- ---- what is put into the protected header
+-- ---- entries that are there unless the template gives them
 
--- it stands in the joint header
-put_there : (name : List ℕ) (value : Data) (p u : Members) → get_member name (all_members (put name value p) u no_members) ≡ Some value
-put_there name value p u =
-    get_member-all_members name (put name value p) u no_members ∙ ap (λ o. option_or o (option_or (get_member name u) None)) (get_member-put name value p)
+-- a value, unless something is given
+abbrev pub unless : Bool → Data → Option Data
+unless true value = None
+unless false value = Some value
 
--- the other members stay
-kept_there : (name other : List ℕ) (value : Data) (p u : Members) → (name ≡ other → ⊥)
-    → get_member name (all_members (put other value p) u no_members) ≡ get_member name (all_members p u no_members)
-kept_there name other value p u differ =
-    get_member-all_members name (put other value p) u no_members
-    ∙ ap (λ o. option_or o (option_or (get_member name u) None)) (get_member-put_other name other value p differ)
-    ∙ sym (get_member-all_members name p u no_members)
+-- the name of an entry is free where it is free if the entry is there
+pub free_unless : (given : Bool) (header : Members) (name : List ℕ) (value : Data) → (given ≡ false → get_member name header ≡ None) → IsFree header name (unless given value)
+free_unless true header name value free = tt
+free_unless false header name value free = free refl
 
--- a string is read back
-pub put_parameter : (parameter text : List ℕ) (p u : Members) → string_parameter parameter (all_members (put parameter (string text) p) u no_members) ≡ Ok (Some text)
-unfolding string_parameter
-put_parameter parameter text p u = ap (if_there as_str) (put_there parameter (string text) p u)
+-- and its value is JSON where it is JSON if it is there
+json_unless : (given : Bool) (value : Data) → (given ≡ false → IsJsonIfThere 0 (Some value)) → IsJsonIfThere 0 (unless given value)
+json_unless true value json = tt
+json_unless false value json = json refl
 
--- so is a number
-put_number : (parameter : List ℕ) (n : ℕ) (p u : Members) → number_parameter parameter (all_members (put parameter (number (unsigned n)) p) u no_members) ≡ Ok (Some n)
-unfolding number_parameter
-put_number parameter n p u = ap (if_there (λ value. option_and_then as_u64 (as_number value))) (put_there parameter (number (unsigned n)) p u)
+-- What a header has under a name, by a reading: it is given and read so, or it is not there.
+abbrev pub IsGiven : {X : Type 0} → (Data → Option X) → Bool → Option Data → X → Type 0
+IsGiven read true found x = if_there read found ≡ Ok (Some x)
+IsGiven read false found x = found ≡ None
 
--- the other numbers stay
-pub kept_number : (parameter other : List ℕ) (value : Data) (p u : Members) → (parameter ≡ other → ⊥)
-    → number_parameter parameter (all_members (put other value p) u no_members) ≡ number_parameter parameter (all_members p u no_members)
-unfolding number_parameter
-kept_number parameter other value p u differ = ap (if_there (λ value. option_and_then as_u64 (as_number value))) (kept_there parameter other value p u differ)
+-- what is not given is not there
+pub not_given : {X : Type 0} (read : Data → Option X) (given : Bool) (found : Option Data) (x : X) → IsGiven read given found x → given ≡ false → found ≡ None
+not_given read true found x is h = cc h
+not_given read false found x is h = is
 
--- the names of the parameters differ
-pub enc_is_not_alg : codes "enc" ≡ codes "alg" → ⊥
-enc_is_not_alg e = absurd (omega (arith, ap (λ (s : List ℕ). slice_index s 0) e))
-
-pub alg_is_not_p2c : codes "alg" ≡ codes "p2c" → ⊥
-alg_is_not_p2c e = absurd (omega (arith, ap (λ (s : List ℕ). slice_index s 0) e))
-
-pub enc_is_not_p2c : codes "enc" ≡ codes "p2c" → ⊥
-enc_is_not_p2c e = absurd (omega (arith, ap (λ (s : List ℕ). slice_index s 0) e))
-
-pub alg_is_not_p2s : codes "alg" ≡ codes "p2s" → ⊥
-alg_is_not_p2s e = absurd (omega (arith, ap (λ (s : List ℕ). slice_index s 0) e))
-
-pub enc_is_not_p2s : codes "enc" ≡ codes "p2s" → ⊥
-enc_is_not_p2s e = absurd (omega (arith, ap (λ (s : List ℕ). slice_index s 0) e))
-
-pub p2c_is_not_p2s : codes "p2c" ≡ codes "p2s" → ⊥
-p2c_is_not_p2s e = absurd (omega (arith, ap (λ (s : List ℕ). slice_index s 2) e))
-
--- ---- a parameter that names an algorithm
-
--- the parameter of the joint header is a string, which names the algorithm
-pub record Named {A : Type 0} (of : List ℕ → Option A) (parameter : List ℕ) (protected unprotected : Members) (alg : A) : Type 0 where
-  pub name : List ℕ
-  pub is_there : string_parameter parameter (all_members protected unprotected no_members) ≡ Ok (Some name)
-  pub names : of name ≡ Some alg
-
--- the same of an algorithm that may not be named
-abbrev pub IsAsked : {A : Type 0} → (List ℕ → Option A) → List ℕ → Members → Members → Option A → Type 0
-IsAsked of parameter protected unprotected None = Unit {0}
-IsAsked of parameter protected unprotected (Some alg) = Named of parameter protected unprotected alg
-
--- it stays named where another parameter is put in
-pub still_named : {A : Type 0} (of : List ℕ → Option A) (parameter other : List ℕ) (value : Data) (p u : Members) (alg : A) → (parameter ≡ other → ⊥)
-    → Named of parameter p u alg → Named of parameter (put other value p) u alg
-unfolding string_parameter
-still_named of parameter other value p u alg differ is =
-    record { name = is.name; is_there = ap (if_there as_str) (kept_there parameter other value p u differ) ∙ is.is_there; names = is.names }
-
--- an algorithm that was not asked for is named by what is put in
-pub named : {A : Type 0} (of : List ℕ → Option A) (name_of : A → List ℕ) (parameter : List ℕ) (p u : Members) (asked : Option A) (alg : A)
-    → of (name_of alg) ≡ Some alg → IsAsked of parameter p u asked → ((a : A) → asked ≡ Some a → a ≡ alg)
-    → Named of parameter (with_name (is_some asked) parameter (name_of alg) p) u alg
-named of name_of parameter p u None alg own is same = record { name = name_of alg; is_there = put_parameter parameter (name_of alg) p u; names = own }
-named of name_of parameter p u (Some a) alg own is same = subst (Named of parameter p u) (same a refl) is
-
--- what is asked for stays so where another parameter is put in
-pub still_asked : {A : Type 0} (of : List ℕ → Option A) (parameter other name : List ℕ) (there : Bool) (p u : Members) (asked : Option A) → (parameter ≡ other → ⊥)
-    → IsAsked of parameter p u asked → IsAsked of parameter (with_name there other name p) u asked
-still_asked of parameter other name true p u asked differ is = is
-still_asked of parameter other name false p u None differ is = tt
-still_asked of parameter other name false p u (Some a) differ is = still_named of parameter other (string name) p u a differ is
-
--- the name of a key management names it
-pub management_named : (alg : ManagementAlg) → management_alg_of (management_name alg) ≡ Some alg
-unfolding management_alg_of
-management_named Dir = refl
-management_named A128Kw = refl
-management_named A192Kw = refl
-management_named A256Kw = refl
-management_named Pbes2Hs256A128Kw = refl
-management_named Pbes2Hs384A192Kw = refl
-management_named Pbes2Hs512A256Kw = refl
-
--- so does that of a content encryption
-pub encryption_named : (enc : EncryptionAlg) → encryption_alg_of (encryption_name enc) ≡ Some enc
-unfolding encryption_alg_of
-encryption_named A128CbcHs256 = refl
-encryption_named A192CbcHs384 = refl
-encryption_named A256CbcHs512 = refl
-encryption_named A128Gcm = refl
-encryption_named A192Gcm = refl
-encryption_named A256Gcm = refl
-
--- ASCII characters are text
-ascii_is_text : (text : List ℕ) → list_all (λ c. nat_lt c 128) text ≡ true → IsUtf8 text
-ascii_is_text text h = IsUtf8-from_ascii text (all_below text h)
+-- where nothing is read, nothing is there
+pub nothing_there : {X : Type 0} (read : Data → Option X) (found : Option Data) → if_there read found ≡ Ok None → found ≡ None
+nothing_there read None h = refl
+nothing_there read (Some d) h = by_value (read d) h
   where
-    all_below : (cs : List ℕ) → list_all (λ c. nat_lt c 128) cs ≡ true → (i : ℕ) → slice_index cs i < 128
-    all_below [] h i = omega arith
-    all_below (c ∷ cs) h zero = ltb-true c 128 (and_parts (nat_lt c 128) (list_all (λ c. nat_lt c 128) cs) h).0
-    all_below (c ∷ cs) h (suc i) = all_below cs (and_parts (nat_lt c 128) (list_all (λ c. nat_lt c 128) cs) h).1 i
+    by_value : {Y : Type 0} (o : Option Y) → required o ≡ Ok None → Some d ≡ None
+    by_value None h = cc h
+    by_value (Some y) h = cc h
 
--- the name of a key management is text
-pub management_is_text : (alg : ManagementAlg) → IsUtf8 (management_name alg)
-management_is_text Dir = name_is_json url_texts_are_json (codes "dir") refl
-management_is_text A128Kw = name_is_json url_texts_are_json (codes "A128KW") refl
-management_is_text A192Kw = name_is_json url_texts_are_json (codes "A192KW") refl
-management_is_text A256Kw = name_is_json url_texts_are_json (codes "A256KW") refl
-management_is_text Pbes2Hs256A128Kw = ascii_is_text (codes "PBES2-HS256+A128KW") refl
-management_is_text Pbes2Hs384A192Kw = ascii_is_text (codes "PBES2-HS384+A192KW") refl
-management_is_text Pbes2Hs512A256Kw = ascii_is_text (codes "PBES2-HS512+A256KW") refl
+-- what may be asked for, and is what is chosen if it is, is given so
+pub given_if_asked : {A X : Type 0} (read : Data → Option X) (name_of : A → X) (found : Option Data) (asked : Option A) (chosen : A) → if_there read found ≡ Ok (option_map name_of asked)
+    → ((a : A) → asked ≡ Some a → a ≡ chosen) → IsGiven read (is_some asked) found (name_of chosen)
+given_if_asked read name_of found None chosen is same = nothing_there read found is
+given_if_asked read name_of found (Some a) chosen is same = is ∙ ap (λ a. Ok (Some (name_of a))) (same a refl)
 
--- so is that of a content encryption
-pub encryption_is_text : (enc : EncryptionAlg) → IsUtf8 (encryption_name enc)
-encryption_is_text A128CbcHs256 = name_is_json url_texts_are_json (codes "A128CBC-HS256") refl
-encryption_is_text A192CbcHs384 = name_is_json url_texts_are_json (codes "A192CBC-HS384") refl
-encryption_is_text A256CbcHs512 = name_is_json url_texts_are_json (codes "A256CBC-HS512") refl
-encryption_is_text A128Gcm = name_is_json url_texts_are_json (codes "A128GCM") refl
-encryption_is_text A192Gcm = name_is_json url_texts_are_json (codes "A192GCM") refl
-encryption_is_text A256Gcm = name_is_json url_texts_are_json (codes "A256GCM") refl
+-- what is given, or else put in, is read
+pub there_with : {X : Type 0} (read : Data → Option X) (given : Bool) (value : Data) (x : X) (found : Option Data) → read value ≡ Some x → IsGiven read given found x
+    → if_there read (option_or (option_or (unless given value) None) found) ≡ Ok (Some x)
+there_with read true value x found reads is = is
+there_with read false value x found reads is = rw reads refl
 
--- a header stays JSON where a name is put in
-pub with_name_json : (there : Bool) (parameter name : List ℕ) (p : Members) → IsUtf8 parameter → IsUtf8 name → AreJsonMembers p → AreJsonMembers (with_name there parameter name p)
-with_name_json true parameter name p key text json = json
-with_name_json false parameter name p key text json = (keep_json.put_in parameter (string name) p key text json).0
+-- ---- the parameters of a receiver
 
--- ---- the count of iterations
+-- a value as a count of iterations
+abbrev pub as_count : Data → Option ℕ
+as_count value = option_and_then as_u64 (as_number value)
 
--- the joint header has it, and it is neither 0 nor more than are read
-pub record Counted (protected unprotected : Members) (n : ℕ) : Type 0 where
-  pub is_there : number_parameter (codes "p2c") (all_members protected unprotected no_members) ≡ Ok (Some n)
-  pub some : 1 ≤ n
-  pub few : n ≤ 1000000
+-- the name of the algorithm and the count of iterations, unless they are given, and for a password the salt
+abbrev pub parameters : Bool → Bool → Bool → List ℕ → ℕ → List ℕ → Entries
+parameters named counted password alg p2c salt =
+    (codes "p2s", unless (not password) (string (base64url salt)))
+    ∷ (codes "p2c", unless (not password || counted) (number (unsigned p2c)))
+    ∷ (codes "alg", unless named (string alg))
+    ∷ []
 
--- so it is for a password, and else it is 0
-abbrev pub IsCount : Bool → Members → Members → ℕ → Type 0
-IsCount true protected unprotected n = Counted protected unprotected n
-IsCount false protected unprotected n = n ≡ 0
+-- those of a receiver's algorithm
+abbrev pub parameters_by : Given → ℕ → ManagementAlg → List ℕ → Entries
+parameters_by given p2c alg salt = parameters given.alg given.p2c (is_password_based alg) (management_name alg) p2c salt
 
--- it is no more than are read
-pub few_iterations : (password : Bool) (p u : Members) (n : ℕ) → IsCount password p u n → n ≤ 1000000
-few_iterations true p u n is = is.few
-few_iterations false p u n is = omega (arith, is)
+-- a name is put in unless it is given
+pub with_name_is : (given : Bool) (parameter name : List ℕ) (header : Members) → with_name given parameter name header ≡ put_if_there parameter (unless given (string name)) header
+with_name_is true parameter name header = refl
+with_name_is false parameter name header = refl
 
--- a count that may be written
-written_count : (p u : Members) (n : ℕ) → number_parameter (codes "p2c") (all_members p u no_members) ≡ Ok (Some n) → (nat_le 1000 n && nat_le n 1000000) ≡ true → Counted p u n
-written_count p u n there h =
-    let within = and_parts (nat_le 1000 n) (nat_le n 1000000) h in
-    let least : 1000 ≤ n = leb-true 1000 n within.0 in
-    record { is_there = there; some = omega (arith, least); few = leb-true n 1000000 within.1 }
+-- so is the count of iterations
+with_p2c_is : (given : Bool) (p2c : ℕ) (header : Members) → with_p2c given p2c header ≡ put_if_there (codes "p2c") (unless given (number (unsigned p2c))) header
+with_p2c_is true p2c header = refl
+with_p2c_is false p2c header = refl
 
--- the header has the count that is chosen, once it is put in where it has none
-pub counted : (alg : ManagementAlg) (asked : Result (Option ℕ) Refusal) (n : ℕ) (p u : Members) → number_parameter (codes "p2c") (all_members p u no_members) ≡ asked
-    → chosen_p2c limits alg asked ≡ Ok n → is_written limits alg n ≡ true
-    → IsCount (is_password_based alg) (with_p2c (not (is_password_based alg) || is_given asked) n p) u n
-counted alg (Err refusal) n p u is chosen written = by_password (is_password_based alg) chosen
-  where
-    by_password : (password : Bool) → (if password then Err refusal else Ok 0) ≡ Ok n → IsCount password (with_p2c (not password || true) n p) u n
-    by_password true h = cc h
-    by_password false h = sym (same_answer 0 n h)
-counted alg (Ok None) n p u is chosen written = by_password (is_password_based alg) chosen written
-  where
-    by_password : (password : Bool) → (let r : Result ℕ Refusal = if password then Ok 10000 else Ok 0 in r) ≡ Ok n
-        → (if password then nat_le 1000 n && nat_le n 1000000 else true) ≡ true → IsCount password (with_p2c (not password || false) n p) u n
-    by_password true h w = written_count (put (codes "p2c") (number (unsigned n)) p) u n (put_number (codes "p2c") n p u) w
-    by_password false h w = sym (same_answer 0 n h)
-counted alg (Ok (Some m)) n p u is chosen written = by_password (is_password_based alg) chosen written
-  where
-    by_password : (password : Bool) → (let r : Result ℕ Refusal = if password then Ok m else Ok 0 in r) ≡ Ok n
-        → (if password then nat_le 1000 n && nat_le n 1000000 else true) ≡ true → IsCount password (with_p2c (not password || true) n p) u n
-    by_password true h w = written_count p u n (is ∙ ap (λ k. Ok (Some k)) (same_answer m n h)) w
-    by_password false h w = sym (same_answer 0 n h)
+-- and for a password the salt
+with_salt_is : (password : Bool) (salt : List ℕ) (header : Members)
+    → (if password then put (codes "p2s") (string (base64url salt)) header else header) ≡ put_if_there (codes "p2s") (unless (not password) (string (base64url salt))) header
+with_salt_is true salt header = refl
+with_salt_is false salt header = refl
 
--- a name that is put in leaves it
-pub named_count : (there : Bool) (other name : List ℕ) (p u : Members) → (codes "p2c" ≡ other → ⊥)
-    → number_parameter (codes "p2c") (all_members (with_name there other name p) u no_members) ≡ number_parameter (codes "p2c") (all_members p u no_members)
-named_count true other name p u differ = refl
-named_count false other name p u differ = kept_number (codes "p2c") other (string name) p u differ
+-- so the parameters are put in
+pub with_parameters_is : (given : Given) (p2c : ℕ) (alg : ManagementAlg) (salt : List ℕ) (header : Members) → with_parameters given p2c alg salt header ≡ put_onto header (parameters_by given p2c alg salt)
+with_parameters_is given p2c alg salt header =
+    let password : Bool = is_password_based alg in
+    let named : Members = with_name given.alg (codes "alg") (management_name alg) header in
+    let put_name : Members = put_onto header ((codes "alg", unless given.alg (string (management_name alg))) ∷ []) in
+    let put_p2c : Members → Members = put_if_there (codes "p2c") (unless (not password || given.p2c) (number (unsigned p2c))) in
+    let put_salt : Members → Members = put_if_there (codes "p2s") (unless (not password) (string (base64url salt))) in
+    let same : named ≡ put_name = with_name_is given.alg (codes "alg") (management_name alg) header in
+    with_salt_is password salt (with_p2c (not password || given.p2c) p2c named)
+    ∙ ap put_salt (with_p2c_is (not password || given.p2c) p2c named ∙ ap put_p2c same)
 
--- and where it is put in, the algorithms stay named
-pub counted_name : {A : Type 0} (of : List ℕ → Option A) (parameter : List ℕ) (there : Bool) (n : ℕ) (p u : Members) (alg : A) → (parameter ≡ codes "p2c" → ⊥)
-    → Named of parameter p u alg → Named of parameter (with_p2c there n p) u alg
-counted_name of parameter true n p u alg differ is = is
-counted_name of parameter false n p u alg differ is = still_named of parameter (codes "p2c") (number (unsigned n)) p u alg differ is
+-- the count of iterations that a header gives or lacks; it is neither 0 nor more than are read
+pub record Counted (counted : Bool) (p2c : ℕ) (header : Members) : Type 0 where
+  pub there : IsGiven as_count counted (get_member (codes "p2c") header) p2c
+  pub some : 1 ≤ p2c
+  pub few : p2c ≤ 1000000
 
--- and the header stays JSON
-pub with_p2c_json : (there : Bool) (n : ℕ) (p : Members) → n ≤ 1000000 → AreJsonMembers p → AreJsonMembers (with_p2c there n p)
-with_p2c_json true n p few json = json
-with_p2c_json false n p few json = (keep_json.put_in (codes "p2c") (number (unsigned n)) p (name_is_json url_texts_are_json (codes "p2c") refl) (omega (arith, few)) json).0
+-- A joint header gives, or lacks, the name of the algorithm and, for a password, the count of iterations; and it lacks the salt.
+pub record Awaits (named counted password : Bool) (alg : List ℕ) (p2c : ℕ) (header : Members) : Type 0 where
+  pub alg_there : IsGiven as_str named (get_member (codes "alg") header) alg
+  pub count : password ≡ true → Counted counted p2c header
+  pub unsalted : get_member (codes "p2s") header ≡ None
+
+-- so does another that has the same under their names
+pub still_awaits : (named counted password : Bool) (alg : List ℕ) (p2c : ℕ) (before after : Members) → get_member (codes "alg") after ≡ get_member (codes "alg") before
+    → get_member (codes "p2c") after ≡ get_member (codes "p2c") before → get_member (codes "p2s") after ≡ get_member (codes "p2s") before
+    → Awaits named counted password alg p2c before → Awaits named counted password alg p2c after
+still_awaits named counted password alg p2c before after same_alg same_p2c same_p2s is = record {
+  alg_there = rw same_alg is.alg_there;
+  count = λ e. let c = is.count e in record { there = rw same_p2c c.there; some = c.some; few = c.few };
+  unsalted = same_p2s ∙ is.unsalted;
+}
+
+-- the names of the parameters are free
+pub free_names : (named counted password : Bool) (alg : List ℕ) (p2c : ℕ) (salt : List ℕ) (header : Members) → Awaits named counted password alg p2c header
+    → AreFree header (parameters named counted password alg p2c salt)
+free_names named counted password alg p2c salt header is =
+    let lacks_count : (not password || counted) ≡ false → get_member (codes "p2c") header ≡ None =
+    λ e.
+    let both = or_parts (not password) counted e in
+    not_given as_count counted (get_member (codes "p2c") header) p2c (is.count (not-false password both.0)).there both.1 in
+    let count = free_unless (not password || counted) header (codes "p2c") (number (unsigned p2c)) lacks_count in
+    let name = free_unless named header (codes "alg") (string alg) (not_given as_str named (get_member (codes "alg") header) alg is.alg_there) in
+    (free_unless (not password) header (codes "p2s") (string (base64url salt)) (λ e. is.unsalted), (count, (name, tt)))
+
+-- and they are JSON
+json_parameters : (named counted password : Bool) (alg : List ℕ) (p2c : ℕ) (salt : List ℕ) → IsUtf8 alg → IsOctets salt → (password ≡ true → p2c ≤ 1000000)
+    → AreJsonEntries 0 (parameters named counted password alg p2c salt)
+json_parameters named counted password alg p2c salt text octets few =
+    let salt_text : IsUtf8 (base64url salt) = (url_texts_are_json (base64url salt) (has_url_characters salt octets)).0 in
+    let whole : (not password || counted) ≡ false → IsJsonIfThere 0 (Some (number (unsigned p2c))) =
+    λ e. let most : p2c ≤ 1000000 = few (not-false password (or_parts (not password) counted e).0) in (omega arith, omega arith) in
+    let salt_json = json_unless (not password) (string (base64url salt)) (λ e. (salt_text, omega arith)) in
+    let count_json = json_unless (not password || counted) (number (unsigned p2c)) whole in
+    let name_json = json_unless named (string alg) (λ e. (text, omega arith)) in
+    let is_name = name_is_json url_texts_are_json in
+    ((is_name (codes "p2s") refl, salt_json), ((is_name (codes "p2c") refl, count_json), ((is_name (codes "alg") refl, name_json), tt)))
+
+-- so a header stays one that may be written
+pub header_with : (given : Given) (p2c : ℕ) (alg : ManagementAlg) (salt : List ℕ) (header : Members) → IsHeader header → IsOctets salt → (is_password_based alg ≡ true → p2c ≤ 1000000)
+    → IsHeader (with_parameters given p2c alg salt header)
+header_with given p2c alg salt header is octets few =
+    rw with_parameters_is (header_onto header (parameters_by given p2c alg salt) is
+    (json_parameters given.alg given.p2c (is_password_based alg) (management_name alg) p2c salt (management_is_text alg) octets few) refl refl)
+
+-- as with the name of a content encryption
+pub header_with_enc : (given : Bool) (enc : EncryptionAlg) (header : Members) → IsHeader header → IsHeader (put_onto header ((codes "enc", unless given (string (encryption_name enc))) ∷ []))
+header_with_enc given enc header is =
+    let value : Data = string (encryption_name enc) in
+    header_onto header ((codes "enc", unless given value) ∷ []) is
+    ((name_is_json url_texts_are_json (codes "enc") refl, json_unless given value (λ e. (encryption_is_text enc, omega arith))), tt) refl refl
+
+-- ---- the recipient that is read
+
+-- a header has the salt of a password, and the count of iterations, which is not 0
+record HasPassword (salt : List ℕ) (p2c : ℕ) (header : Members) : Type 0 where
+  salt_there : if_there as_str (get_member (codes "p2s") header) ≡ Ok (Some (base64url salt))
+  count_there : if_there as_count (get_member (codes "p2c") header) ≡ Ok (Some p2c)
+  some : 1 ≤ p2c
+
+-- so the parameters are read
+read_parameters : (password : Bool) (salt : List ℕ) (p2c : ℕ) (header : Members) → (password ≡ true → HasPassword salt p2c header) → IsOctets salt → length salt ≡ (if password then salt_len else 0)
+    → (if password then password_parameters header else Ok (record { p2s = []; p2c = 0 })) ≡ Ok (record { p2s = salt; p2c = if password then p2c else 0 })
+unfolding password_parameters salt_parameter string_parameter number_parameter
+read_parameters true salt p2c header there octets long =
+    let is = there refl in
+    let enough : nat_le 8 (length salt) ≡ true = le-leb 8 (length salt) (omega (arith, long)) in
+    let some : nat_le 1 p2c ≡ true = le-leb 1 p2c is.some in
+    rw (is.salt_there, decodes_exactly.round_trip salt octets, enough, is.count_there, some) refl
+read_parameters false salt p2c header there octets long = ap (λ (s : List ℕ). let r : Result PasswordParameters Refusal = Ok (record { p2s = s; p2c = 0 }) in r) (sym (nil_from_length salt long))
+
+-- the recipient with these headers, of a receiver with this algorithm
+abbrev pub recipient : Members → List ℕ → ManagementAlg → EncryptionAlg → List ℕ → ℕ → Recipient
+recipient own key alg enc salt p2c = record {
+  header = own;
+  encrypted_key = key;
+  alg = management_name alg;
+  enc = encryption_name enc;
+  p2s = salt;
+  p2c = if is_password_based alg then p2c else 0;
+}
+
+-- a joint header with the parameters of a password has them, beside what awaited them
+password_there : (named counted password : Bool) (alg : List ℕ) (p2c : ℕ) (salt : List ℕ) (header before : Members)
+    → ((name : List ℕ) → get_member name header ≡ option_or (first_there name (parameters named counted password alg p2c salt)) (get_member name before))
+    → Awaits named counted password alg p2c before → password ≡ true → HasPassword salt p2c header
+password_there named counted true alg p2c salt header before members is e =
+    let count = is.count refl in
+    record {
+      salt_there = ap (if_there as_str) (members (codes "p2s"));
+      count_there = ap (if_there as_count) (members (codes "p2c")) ∙ there_with as_count counted (number (unsigned p2c)) p2c (get_member (codes "p2c") before) refl count.there;
+      some = count.some;
+    }
+password_there named counted false alg p2c salt header before members is e = cc e
+
+-- it is read where the joint header has the parameters beside what awaits them
+pub recipient_is_read : (given : Given) (p2c : ℕ) (alg : ManagementAlg) (enc : EncryptionAlg) (salt : List ℕ) (p u own before : Members) (key : List ℕ)
+    → IsJoint p u own (parameters_by given p2c alg salt) before → Awaits given.alg given.p2c (is_password_based alg) (management_name alg) p2c before
+    → if_there as_str (get_member (codes "enc") before) ≡ Ok (Some (encryption_name enc)) → IsOctets salt → length salt ≡ (if is_password_based alg then salt_len else 0)
+    → recipient_of p u (record { header = own; encrypted_key = key }) ≡ Ok (recipient own key alg enc salt p2c)
+unfolding recipient_of joint_header recipient_by string_there string_parameter
+recipient_is_read given p2c alg enc salt p u own before key joint awaits enc_there octets long =
+    let header : Members = all_members p u own in
+    let password : Bool = is_password_based alg in
+    let alg_read : if_there as_str (get_member (codes "alg") header) ≡ Ok (Some (management_name alg)) =
+    ap (if_there as_str) (joint.members (codes "alg"))
+    ∙ there_with as_str given.alg (string (management_name alg)) (management_name alg) (get_member (codes "alg") before) refl awaits.alg_there in
+    let enc_read : if_there as_str (get_member (codes "enc") header) ≡ Ok (Some (encryption_name enc)) = ap (if_there as_str) (joint.members (codes "enc")) ∙ enc_there in
+    let read : parameters_of (management_name alg) header ≡ Ok (record { p2s = salt; p2c = if password then p2c else 0 }) =
+    rw management_named (read_parameters password salt p2c header
+    (password_there given.alg given.p2c password (management_name alg) p2c salt header before joint.members awaits) octets long) in
+    rw (joint.disjoint, alg_read, enc_read, read) refl

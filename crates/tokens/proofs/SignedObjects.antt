@@ -1,6 +1,6 @@
 -- The signing that keys and a template settle, and the object that it makes of every payload.
-use Rattle.std.proofs.Common.{◌≡◌, ℕ, ◌≤◌, ◌&&◌, nat_le, Bool, true, false, List, length, map, if◌then◌else◌, Ok, refl, ap, ◌∙◌, subst, arith}
-use Rattle.std.proofs.lemmas.Bool.{and_parts, and_from, leb-true, le-leb}
+use Rattle.std.proofs.Common.{◌≡◌, ℕ, ◌&&◌, nat_le, Bool, true, List, length, map, Ok, refl, ap, ◌∙◌, subst}
+use Rattle.std.proofs.lemmas.Bool.{and_parts, and_from}
 use Rattle.std.proofs.lemmas.List.{length-map}
 use Rattle.std.specs.List.{AllByRecursion, list_all}
 use Rattle.serde_json.specs.Data.{Members, object, depth}
@@ -17,13 +17,13 @@ use Rattle.keys.proofs.ValuesRead.{reads_json}
 use Rattle.objects.specs.Headers.{joint_header, string_there, has_no_crit}
 use Rattle.objects.specs.Jws as jws
 use Rattle.objects.specs.Jws.{SignatureParts, Signature, SignedObject, DecodedSignature, HeadedSignature, decoded_signature, headed_signature, is_plain, signatures_of, signed_object, built}
-use Rattle.objects.specs.Texts.{each, header_depth, listed_header_depth, depth_of_each}
+use Rattle.objects.specs.Texts.{each, depth_of_each}
 use Rattle.objects.proofs.EachRead.{all_passed, all_both}
 use Rattle.objects.proofs.Steps.{steps, same_answer, passed}
 use Rattle.tokens.specs.Signatures.{signature_of}
 use Rattle.tokens.specs.Signing.{Signer, Signing, signer_by, may_sign, has_no_more, signing_with, signing_of, protected_by, signature_by, signed}
 use Rattle.tokens.specs.Template.{SignatureTemplate, template_of, header_text, is_shallow}
-use Rattle.tokens.proofs.HeaderTexts.{ReadsBack, read_back}
+use Rattle.tokens.proofs.HeaderTexts.{ReadsBack, read_back, shallow_enough}
 use Rattle.tokens.proofs.ReadLists.{each_gives, each_made, all_pass}
 use Rattle.tokens.proofs.SigningTemplates.{IsTemplate, is_template, IsSettled, settled_signer}
 
@@ -108,14 +108,6 @@ reads header payload s is = rw is.back.members refl
 makes : (header : Members) (payload : List ℕ) (s : Signer) → Signs header s → jws.signature_by (headed_by header payload s) ≡ Ok (made_by header payload s)
 unfolding jws.signature_by joint_header string_there
 makes header payload s is = rw (is.settled.disjoint, is.settled.alg) refl
-
--- a header that is shallow enough for a template may stand in a text
-shallow_enough : (d n : ℕ) → nat_le d 64 ≡ true → nat_le d (depth_of_each n) ≡ true
-shallow_enough d n h = by_few (nat_le n 1)
-  where
-    by_few : (few : Bool) → nat_le d (if few then header_depth else listed_header_depth) ≡ true
-    by_few true = let deep : d ≤ 64 = leb-true d 64 h in le-leb d 126 (omega arith)
-    by_few false = let deep : d ≤ 64 = leb-true d 64 h in le-leb d 124 (omega arith)
 
 -- so signing makes the object of its signers' signatures
 pub signed_is : (compact : Bool) (keys : List OctetKey) (s : Signing) (payload : List ℕ) → IsSigning compact keys s → nat_le 1 (length s.signers) ≡ true → nat_le (length s.signers) limits.recipients ≡ true

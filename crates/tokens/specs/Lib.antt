@@ -4,5 +4,7 @@ pub mod Signing
 pub mod Verifying
 pub mod Algorithms
 pub mod Decrypting
+pub mod EncryptionTemplate
+pub mod Choosing
 pub mod Encrypting
 pub mod Views

@@ -12,12 +12,15 @@ use Rattle.tokens.specs.declared.pair.Pair.{Pair as CodePair}
 use Rattle.tokens.specs.declared.decrypt.Sealed.{Sealed}
 use Rattle.tokens.specs.declared.decrypt.Work.{Work}
 use Rattle.tokens.specs.declared.sealing.SealedOctets.{SealedOctets}
+use Rattle.tokens.specs.declared.receiver.Receiver.{Receiver as CodeReceiver}
+use Rattle.tokens.specs.declared.encryption.Given.{Given as CodeGiven}
 use Rattle.tokens.specs.declared.encryption.Encryption.{Encryption as CodeEncryption}
 use Rattle.tokens.specs.declared.encryption_template.AlgorithmsAsked.{AlgorithmsAsked as CodeAsked}
 use Rattle.tokens.specs.declared.encryption_template.EncryptionTemplate.{EncryptionTemplate as CodeTemplate}
 use Rattle.tokens.specs.declared.encryption_template.TemplateTexts.{TemplateTexts as CodeTexts}
 use Rattle.tokens.specs.Algorithms.{Algorithms}
-use Rattle.tokens.specs.Encrypting.{TemplateTexts, AlgorithmsAsked, EncryptionTemplate, Encryption}
+use Rattle.tokens.specs.EncryptionTemplate.{TemplateTexts, AlgorithmsAsked, EncryptionTemplate}
+use Rattle.tokens.specs.Choosing.{Receiver, Given, Encryption}
 use Rattle.tokens.specs.Decrypting.{Pair, SealedContent, Counts}
 use Rattle.tokens.specs.Template.{SignatureTemplate}
 use Rattle.tokens.specs.Signing.{Signer, Signing}
@@ -56,11 +59,17 @@ asked_view a = record { management = a.management; encryption = a.encryption; p2
 abbrev pub encryption_template_view : CodeTemplate → EncryptionTemplate
 encryption_template_view t = record { protected = part_view t.protected; unprotected = part_view t.unprotected; aad = t.aad.items; asked = asked_view t.asked }
 
+abbrev pub receiver_view : CodeReceiver → Receiver
+receiver_view r = record { key = key_view r.key.now; management = r.management }
+
+abbrev pub given_view : CodeGiven → Given
+given_view g = record { alg = g.alg; p2c = g.p2c }
+
 abbrev pub encryption_view : CodeEncryption → Encryption
 encryption_view e = record {
-  management = e.management;
   encryption = e.encryption;
-  key = (key_view e.key.now).octets;
+  receivers = map receiver_view e.receivers.items;
+  given = given_view e.given;
   p2c = e.p2c;
   protected = members_view e.protected.entries;
   unprotected = members_view e.unprotected.entries;

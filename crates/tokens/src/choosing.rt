@@ -1,31 +1,32 @@
-//! The choice of algorithms by a template and a key, and all else that they settle before anything is drawn. It sees no
+//! The choice of algorithms by a template and keys, and all else that they settle before anything is drawn. It sees no
 //! content.
-ghost use Rattle.std.specs.Prelude.{◌≡◌, ◌==◌, Some, true, false, is_some, length, map, option_map, IfOk, IfErr, string_bytes};
+ghost use Rattle.std.specs.Prelude.{◌≡◌, ◌≤◌, ◌==◌, ◌*◌, Some, true, false, is_some, length, map, option_map, IfOk, IfErr, string_bytes};
+ghost use Rattle.std.specs.List.{list_all, list_any};
 ghost use Rattle.serde_json.specs.View.{members_view};
 ghost use Rattle.serde_json.specs.Written.{members_have_float};
 ghost use Rattle.octets.specs.Outcomes.{AgreesUnlessMemory};
-ghost use Rattle.keys.specs.declared.algorithm.Algorithm.TheVariants.{Encryption as EncryptionWith};
-ghost use Rattle.keys.specs.Keys.{fits};
 ghost use Rattle.keys.specs.Limits.{limits};
 ghost use Rattle.keys.specs.Views.{key_view};
+ghost use Rattle.objects.specs.Texts.{each};
 ghost use Rattle.objects.specs.Views.{part_view};
-ghost use Rattle.tokens.specs.Encrypting.{encryption_of, encryption_by, only_key, chosen_management, management_of_key, management_by_name, management_by_length, chosen_encryption, encryption_by_management, encryption_by_name, encryption_by_length, may_encrypt, has_no_more, chosen_p2c, is_written, is_given, with_parameters, with_name, with_p2c};
-ghost use Rattle.tokens.specs.Views.{encryption_view, encryption_template_view};
+ghost use Rattle.tokens.specs.Choosing.{encryption_of, encryption_with as encryption_with_keys, receiver_by as receiver_by_key, stand_together, is_direct, encryption_for, chosen_management, management_of_key, management_by_name, management_by_length, chosen_encryption, encryption_by_management, encryption_by_name, encryption_by_length, may_encrypt, has_no_more, passwords, chosen_p2c, is_written, is_given, with_name};
+ghost use Rattle.tokens.specs.Views.{receiver_view, encryption_view, encryption_template_view};
 
-use crate::encryption::Encryption;
+use crate::encryption::{Encryption, Given};
 use crate::encryption_template::{EncryptionTemplate, read_encryption_template};
+use crate::receiver::Receiver;
 use crate::template::{copy, is_empty, is_shallow};
 use keys::{
-    Algorithm, EncryptionAlg, GREATEST_P2C, Key, KeySet, LEAST_P2C, MOST_DEPTH, ManagementAlg,
-    USUAL_P2C, laws, object_nests_at_most, read_json,
+    Algorithm, EncryptionAlg, GREATEST_P2C, Key, KeySet, LEAST_P2C, MOST_ITERATIONS, ManagementAlg,
+    USUAL_P2C, laws, read_json,
 };
 use octets::{Refusal, needs};
 use serde_json::{Map, Value};
 use std::alloc::{AllocError, Global};
 
-/// What the keys and the template's text settle. Refused, in this order, with the causes of `read_json` and
-/// `read_encryption_template`; with `Limit` where there are several keys; with those of `encryption_by`.
-#[tactic(auto, unfolding(crate::specs::Encrypting::encryption_of))]
+/// What the keys and the template's text settle. Refused, in this order, with the causes of `read_json`,
+/// `read_encryption_template` and `encryption_with`.
+#[tactic(auto, unfolding(crate::specs::Choosing::encryption_of))]
 pub(crate) fn read_encryption<'k>(
     alloc: Global,
     keys: &'k KeySet,
@@ -36,60 +37,94 @@ pub(crate) fn read_encryption<'k>(
 {
     let value = read_json(alloc, template)?;
     let template = read_encryption_template(alloc, &value)?;
-    let key = only_key(keys.keys())?;
-    encryption_by(alloc, compact, key, template)
+    encryption_with(alloc, compact, keys.keys(), template)
 }
 
-/// The one key that encrypts.
-fn only_key(keys: &[Key]) -> Result<&Key, Refusal>
-    ensures { AgreesUnlessMemory (λ key. key_view key.now) result (only_key (map key_view keys.now)) }
-{
-    match keys {
-        [key] => Ok(key),
-        _ => Err(Refusal::Limit),
-    }
-}
-
-/// What a key and a template settle. Refused, in this order, with `NoAlgorithm` where nothing says the algorithm of key
-/// management; `KeyDoesNotFit` where the key's `alg` is none of encryption; `NoAlgorithm` where nothing says that of content
-/// encryption; `KeyDoesNotFit` where the key may not encrypt, or does not fit; where it is a password, `Header` where `p2c` is
-/// no whole number; `Limit` where a header nests more than 64 deep, or the `p2c` of a password is not from 1,000 to 1,000,000;
-/// and `NotCompact` where a compact text has no room for what the template gives.
-#[tactic(auto, unfolding(crate::specs::Encrypting::encryption_by))]
-fn encryption_by<'k>(
+/// What keys and a template settle. Refused, each step for every key before the next, with the causes of `receiver_by`;
+/// `Header` where a key of several is used directly; `NoAlgorithm` where nothing says the algorithm of content encryption;
+/// `KeyDoesNotFit` where a key may not encrypt, or does not fit; where one is a password, `Header` where `p2c` is no whole
+/// number; `Limit` where a header nests more than 64 deep, the `p2c` of a password is not from 1,000 to 1,000,000, or those of
+/// all passwords are more than 4,000,000; and `NotCompact` where a compact text has no room for what the keys and the template
+/// give.
+#[tactic(auto, unfolding(crate::specs::Choosing::encryption_with))]
+fn encryption_with<'k>(
     alloc: Global,
     compact: bool,
-    key: &'k Key,
+    keys: &'k [Key],
     template: EncryptionTemplate<'_>,
 ) -> Result<Encryption<'k>, Refusal>
+    requires few { length keys.now ≤ limits.keys }
     requires no_float { members_have_float (part_view template.protected) ≡ false }
     requires p2c { IfErr template.asked.p2c (λ e. e ≡ Refusal.Header) }
-    ensures { AgreesUnlessMemory encryption_view result (encryption_by limits compact (key_view key.now) (encryption_template_view template.entry)) }
+    ensures { AgreesUnlessMemory encryption_view result (encryption_with_keys limits compact (map key_view keys.now) (encryption_template_view template.entry)) }
 {
     let asked = template.asked;
-    let management = chosen_management(asked.management, key)?;
-    let encryption = chosen_encryption(asked.encryption, management, key)?;
+    let receivers = receivers_by(alloc, asked.management, keys)?;
+    needs(stand_together(&receivers), Refusal::Header)?;
+    let encryption = encryption_for(asked.encryption, &receivers)?;
     needs(
-        may_encrypt(key, management, encryption),
+        all_may_encrypt(encryption, &receivers),
         Refusal::KeyDoesNotFit,
     )?;
-    let p2c = chosen_p2c(management, asked.p2c)?;
-    let protected = with_parameters(alloc, &template, management, encryption, p2c)?;
-    let shallow = object_nests_at_most(&protected, MOST_DEPTH) && is_shallow(template.unprotected);
+    let passwords = passwords(&receivers);
+    let p2c = chosen_p2c(passwords, asked.p2c)?;
+    let shallow = is_shallow(template.protected) && is_shallow(template.unprotected);
     needs(shallow, Refusal::Limit)?;
-    needs(is_written(management, p2c), Refusal::Limit)?;
-    needs(has_no_more(compact, &template), Refusal::NotCompact)?;
+    needs(is_written(passwords, p2c), Refusal::Limit)?;
+    needs(
+        has_no_more(compact, &receivers, &template),
+        Refusal::NotCompact,
+    )?;
+    let given = Given {
+        alg: asked.management.is_some(),
+        p2c: is_given(asked.p2c),
+    };
+    let protected = copy(alloc, template.protected)?;
+    let protected = with_name(
+        alloc,
+        asked.encryption.is_some(),
+        "enc",
+        encryption.name(),
+        protected,
+    )?;
     let unprotected = copy(alloc, template.unprotected)?;
     let EncryptionTemplate { aad, .. } = template;
     Ok(Encryption {
-        management,
         encryption,
-        key,
+        receivers,
+        given,
         p2c: p2c as u32,
         protected,
         unprotected,
         aad,
     })
+}
+
+/// The receivers that the keys are.
+#[tactic(auto, using(objects::proofs::Each::reading))]
+fn receivers_by<'k>(
+    alloc: Global,
+    asked: Option<ManagementAlg>,
+    keys: &'k [Key],
+) -> Result<Vec<Receiver<'k>>, Refusal>
+    ensures exact { AgreesUnlessMemory (λ receivers. map receiver_view receivers.items) result (each (receiver_by_key asked) (map key_view keys.now)) }
+    ensures as_many { IfOk result (λ receivers. length receivers.items ≡ length keys.now) }
+{
+    let mut receivers = Vec::new(alloc);
+    for key in keys {
+        receivers.push(receiver_by(asked, key)?)?;
+    }
+    Ok(receivers)
+}
+
+/// The receiver that a key is. Refused with `NoAlgorithm` where nothing says the algorithm of key management, and with
+/// `KeyDoesNotFit` where the key's `alg` is none of encryption.
+#[tactic(auto, unfolding(crate::specs::Choosing::receiver_by))]
+fn receiver_by<'k>(asked: Option<ManagementAlg>, key: &'k Key) -> Result<Receiver<'k>, Refusal>
+    ensures { AgreesUnlessMemory receiver_view result (receiver_by_key asked (key_view key.now)) }
+{
+    let management = chosen_management(asked, key)?;
+    Ok(Receiver { key, management })
 }
 
 /// The algorithm of key management of the template, or else that of the key.
@@ -138,6 +173,45 @@ fn management_by_name(
         (Some(alg), _) => Some(alg),
         (None, Some(_)) => Some(ManagementAlg::Dir),
         (None, None) => None,
+    }
+}
+
+/// A key that is used directly is the only one.
+fn stand_together(receivers: &[Receiver<'_>]) -> bool
+    ensures { result ≡ stand_together (map receiver_view receivers.now) }
+{
+    receivers.len() <= 1 || !any_is_direct(receivers)
+}
+
+/// Some key is used directly.
+fn any_is_direct(receivers: &[Receiver<'_>]) -> bool
+    ensures { result ≡ list_any (λ r. is_direct r.management) (map receiver_view receivers.now) }
+{
+    receivers
+        .iter()
+        .any(|receiver| is_direct(receiver.management))
+}
+
+/// The key is used directly.
+pub(crate) fn is_direct(alg: ManagementAlg) -> bool
+    ensures { result ≡ is_direct alg }
+{
+    match alg {
+        ManagementAlg::Dir => true,
+        _ => false,
+    }
+}
+
+/// The algorithm of content encryption of the template, or else the one that goes with the first receiver.
+fn encryption_for(
+    asked: Option<EncryptionAlg>,
+    receivers: &[Receiver<'_>],
+) -> Result<EncryptionAlg, Refusal>
+    ensures { AgreesUnlessMemory (λ alg. alg) result (encryption_for asked (map receiver_view receivers.now)) }
+{
+    match receivers.first() {
+        None => Err(Refusal::NoAlgorithm),
+        Some(first) => chosen_encryption(asked, first.management, first.key),
     }
 }
 
@@ -195,31 +269,43 @@ fn encryption_by_length(len: usize) -> Option<EncryptionAlg>
     }
 }
 
-/// The key may encrypt by the algorithms, and fits.
-fn may_encrypt(key: &Key, management: ManagementAlg, encryption: EncryptionAlg) -> bool
-    ensures may { result ≡ may_encrypt (key_view key.now) management encryption }
-    ensures fits { result ≡ true → fits (key_view key.now) (EncryptionWith management encryption) ≡ true }
+/// Each key may encrypt, and fits.
+fn all_may_encrypt(encryption: EncryptionAlg, receivers: &[Receiver<'_>]) -> bool
+    ensures { result ≡ list_all (may_encrypt encryption) (map receiver_view receivers.now) }
 {
+    receivers
+        .iter()
+        .all(|receiver| may_encrypt(encryption, receiver))
+}
+
+/// The key may encrypt by the algorithms, and fits.
+fn may_encrypt(encryption: EncryptionAlg, receiver: &Receiver<'_>) -> bool
+    ensures { result ≡ may_encrypt encryption (receiver_view receiver.now) }
+{
+    let Receiver { key, management } = *receiver;
     key.allows(management.operations().0) && key.fits(Algorithm::Encryption(management, encryption))
 }
 
-/// The form has room for what the template gives: a compact text holds a protected header alone.
-fn has_no_more(compact: bool, template: &EncryptionTemplate<'_>) -> bool
-    ensures { result ≡ has_no_more compact (encryption_template_view template.now) }
+/// How many receivers are passwords.
+fn passwords(receivers: &[Receiver<'_>]) -> usize
+    ensures count { result ≡ passwords (map receiver_view receivers.now) }
+    ensures few { result ≤ length receivers.now }
 {
-    !compact || is_empty(template.unprotected) && template.aad.is_empty()
+    let mut count = 0;
+    for receiver in receivers {
+        if receiver.management.is_password_based() {
+            count += 1;
+        }
+    }
+    count
 }
 
-/// The iterations of PBKDF2: those of the template, or else the usual number. There are none where the algorithm does not
-/// derive a key from a password.
-fn chosen_p2c(
-    management: ManagementAlg,
-    asked: Result<Option<u64>, Refusal>,
-) -> Result<u64, Refusal>
+/// The iterations for so many passwords: those of the template, or else the usual number. There are none for no password.
+fn chosen_p2c(passwords: usize, asked: Result<Option<u64>, Refusal>) -> Result<u64, Refusal>
     requires { IfErr asked (λ e. e ≡ Refusal.Header) }
-    ensures exact { AgreesUnlessMemory (λ p2c. p2c) result (chosen_p2c limits management asked) }
+    ensures { AgreesUnlessMemory (λ p2c. p2c) result (chosen_p2c limits passwords asked) }
 {
-    if !management.is_password_based() {
+    if passwords == 0 {
         return Ok(0);
     }
     match asked? {
@@ -228,11 +314,13 @@ fn chosen_p2c(
     }
 }
 
-/// They are as many as may be written.
-fn is_written(management: ManagementAlg, p2c: u64) -> bool
-    ensures { result ≡ is_written limits management p2c }
+/// The iterations are as many as may be written, and for so many passwords together not too many.
+fn is_written(passwords: usize, p2c: u64) -> bool
+    requires { passwords ≤ limits.keys }
+    ensures { result ≡ is_written limits passwords p2c }
 {
-    !management.is_password_based() || LEAST_P2C <= p2c && p2c <= GREATEST_P2C
+    passwords == 0
+        || LEAST_P2C <= p2c && p2c <= GREATEST_P2C && passwords as u64 * p2c <= MOST_ITERATIONS
 }
 
 /// The template gives the iterations.
@@ -245,58 +333,15 @@ fn is_given(asked: Result<Option<u64>, Refusal>) -> bool
     }
 }
 
-/// The protected header of a template, with the algorithms that it does not name, and with the iterations.
-fn with_parameters(
-    alloc: Global,
-    template: &EncryptionTemplate<'_>,
-    management: ManagementAlg,
-    encryption: EncryptionAlg,
-    p2c: u64,
-) -> Result<Map<String, Value>, AllocError>
-    ensures members { IfOk result (λ header. members_view header.entries ≡ with_parameters (encryption_template_view template.now) management encryption p2c) }
-    ensures no_float { IfOk result (λ header. members_have_float (part_view template.now.protected) ≡ false
-        → members_have_float (members_view header.entries) ≡ false) }
+/// The form has room for what the keys and the template give: a compact text holds one recipient, and a protected header alone.
+fn has_no_more(compact: bool, receivers: &[Receiver<'_>], template: &EncryptionTemplate<'_>) -> bool
+    ensures { result ≡ has_no_more compact (map receiver_view receivers.now) (encryption_template_view template.now) }
 {
-    let header = copy(alloc, template.protected)?;
-    let asked = template.asked;
-    let header = with_name(
-        alloc,
-        asked.management.is_some(),
-        "alg",
-        management.name(),
-        header,
-    )?;
-    let header = with_name(
-        alloc,
-        asked.encryption.is_some(),
-        "enc",
-        encryption.name(),
-        header,
-    )?;
-    let given = !management.is_password_based() || is_given(asked.p2c);
-    with_p2c(alloc, given, p2c, header)
-}
-
-/// The header with the iterations, where they are needed and the template does not give them.
-fn with_p2c(
-    alloc: Global,
-    given: bool,
-    p2c: u64,
-    mut header: Map<String, Value>,
-) -> Result<Map<String, Value>, AllocError>
-    ensures members { IfOk result (λ made. members_view made.entries ≡ with_p2c given p2c (members_view header.entries)) }
-    ensures no_float { IfOk result (λ made. members_have_float (members_view header.entries) ≡ false
-        → members_have_float (members_view made.entries) ≡ false) }
-{
-    laws::members_keep_floats_out();
-    if !given {
-        serde_json::put(&mut header, alloc, "p2c", Value::from(p2c))?;
-    }
-    Ok(header)
+    !compact || receivers.len() <= 1 && is_empty(template.unprotected) && template.aad.is_empty()
 }
 
 /// The header with a parameter, where the template does not name its algorithm.
-fn with_name(
+pub(crate) fn with_name(
     alloc: Global,
     named: bool,
     parameter: &str,

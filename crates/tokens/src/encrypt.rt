@@ -1,67 +1,76 @@
-//! Encrypting to one key (RFC 7516 section 5.1), in compact or in flattened JSON form.
-ghost use Rattle.std.specs.Prelude.{◌≡◌, ◌≢◌, ◌≤◌, ◌<◌, ℕ, false, List, [], ◌∷◌, length, map, Err, IfOk, IfErr, OnOk, OnErr, IsTrue, string_bytes};
+//! Encrypting to each key of a set (RFC 7516 section 5.1), in compact or in JSON form.
+ghost use Rattle.std.specs.Prelude.{◌≡◌, ◌≢◌, ◌≤◌, ◌<◌, ◌*◌, ◌||◌, ℕ, true, false, not, nat_le, List, [], ◌∷◌, length, map, Err, option_map, IfOk, IfErr, OnOk, OnErr, IsTrue, string_bytes};
 ghost use Rattle.std.specs.Iterator.{IsFinite};
+ghost use Rattle.std.specs.List.{AllByRecursion};
+ghost use Rattle.std.specs.Option.{unwrap_or};
 ghost use Rattle.octets.specs.Devices.{appended, observed, IsPossibleInput, AppendsPrefixOf};
 ghost use Rattle.octets.specs.Faults.{TellsFaults, counts};
 ghost use Rattle.octets.specs.Outcomes.{AgreesUnlessMemory, AgreesUnlessExternal};
 ghost use Rattle.octets.specs.Plan.{begun, planned, plan_from, drawn_of};
 ghost use Rattle.octets.specs.declared.refusal.Refusal.{Refusal};
-ghost use Rattle.serde_json.specs.Data.{no_members};
 ghost use Rattle.serde_json.specs.View.{members_view};
 ghost use Rattle.serde_json.specs.Written.{members_have_float};
-ghost use Rattle.ciphers.specs.Delivery.{encrypted_key_of};
 ghost use Rattle.ciphers.specs.Sealing.{cek_len};
+ghost use Rattle.keys.specs.declared.algorithm.Algorithm.TheVariants.{Encryption as EncryptionWith};
+ghost use Rattle.keys.specs.Algorithms.{is_password_based};
+ghost use Rattle.keys.specs.Keys.{fits};
 ghost use Rattle.keys.specs.Limits.{limits};
+ghost use Rattle.keys.specs.Views.{key_view};
 ghost use Rattle.objects.specs.Views.{jwe_view, recipient_parts_view};
-ghost use Rattle.tokens.specs.Algorithms.{content_alg as content_alg_of, key_alg as key_alg_of};
-ghost use Rattle.tokens.specs.Encrypting.{encrypting_by, plan_by, encrypted, octets_drawn, salt_drawn, cek_drawn, cek_among, with_salt};
-ghost use Rattle.tokens.specs.Views.{encryption_view};
+ghost use Rattle.tokens.specs.Algorithms.{content_alg as content_alg_of};
+ghost use Rattle.tokens.specs.Choosing.{with_p2c};
+ghost use Rattle.tokens.specs.Encrypting.{encrypting_by, plan_by, encrypted, octets_drawn, salt_drawn, salts_drawn, direct_key, cek_drawn, cek_by, with_salt, with_parameters, protected_header, own_header, recipient_by, recipients_by};
+ghost use Rattle.tokens.specs.Views.{receiver_view, given_view, encryption_view};
 
 use crate::algorithms::{content_alg, key_alg};
-use crate::choosing::read_encryption;
+use crate::choosing::{is_direct, read_encryption, with_name};
 use crate::copies::copied;
 use crate::decrypt::authenticated;
-use crate::encryption::Encryption;
+use crate::encryption::{Encryption, Given};
+use crate::receiver::Receiver;
 use crate::sealing::{SealedOctets, seal};
 use crate::template::header_text;
 use ciphers::{Cek, KeyParameters};
-use keys::{KeySet, ManagementAlg, laws};
+use keys::{KeySet, MOST_KEYS, ManagementAlg, laws};
 use objects::{Jwe, JweParts, RecipientParts};
 use octets::{Input, Output, Refusal, b64_encode, draw, emit, read_to_end};
 use serde_json::{Map, Value};
-use std::alloc::Global;
+use std::alloc::{AllocError, Global};
 
 /// The octets of a salt.
 const SALT_LEN: usize = 16;
 
-/// The most octets that are drawn: a salt, a content encryption key of 64, and an initialization vector of 16.
-const MOST_DRAWN: usize = SALT_LEN + 80;
+/// The most octets that are drawn: a salt for each key, a content encryption key of 64, and an initialization vector of 16.
+const MOST_DRAWN: usize = MOST_KEYS * SALT_LEN + 80;
 
-/// Encrypts all that the content gives to the key (RFC 7516 section 5.1), as the template asks, and writes the object's
-/// text: its compact text (RFC 7516 section 7.1) where that is asked for, or else its flattened JSON text (RFC 7516 section
-/// 7.2.2).
+/// Encrypts all that the content gives to each key in order (RFC 7516 section 5.1), as the template asks, and writes the
+/// object's text: its compact text (RFC 7516 section 7.1) where that is asked for, or else its JSON text, flattened where there
+/// is one key (RFC 7516 section 7.2).
 ///
 /// The template is a JSON object with no member but `protected` and `unprotected`, each an object, and `aad`, a base64url
 /// text. The algorithm of key management is the one of the headers' `alg`; or else the one of the key's `alg`, where a
 /// content encryption means direct use; or else A128KW, A192KW or A256KW by the key's length. That of content encryption is
 /// the one of the headers' `enc`; or else, of a key that is used directly, the one of its `alg` or the CBC one of its length;
-/// or else the CBC one that goes with key management. What the headers do not name is written into the protected header.
+/// or else the CBC one that goes with the key management of the first key. For a password `p2c` is that of the headers, or else
+/// 10,000, and `p2s`, of 16 octets, is drawn.
 ///
-/// Where the key is a password, `p2c` is that of the headers, or else 10,000 is written into the protected header, and `p2s`,
-/// of 16 octets, is drawn and written there.
+/// What the headers do not give is written: `enc` into the protected header; `alg`, `p2c` and `p2s` into the protected header
+/// where there is one key, and else into the header of each recipient.
 ///
-/// The random input gives the salt of a password, the content encryption key, unless the key is it, and then the
-/// initialization vector, and exactly these octets are read, after every refusal that the template and the key give.
+/// The random input gives the salts of the passwords in order, the content encryption key, unless a key is it, and then the
+/// initialization vector, and exactly these octets are read, after every refusal that the template and the keys give.
 ///
-/// Refused, in this order, with `Json`; `Number`; `Form` where the template has another form; `Base64` where `aad` is no
-/// base64url text; `Header` where a name stands in both headers, `alg` or `enc` is no string, or there is a `p2s`;
-/// `Unsupported` where there is a `crit` or a `zip`, or an algorithm that is not supported; `Limit` where there are several
-/// keys; `NoAlgorithm` where nothing says the algorithm of key management; `KeyDoesNotFit` where the key's `alg` is none of
-/// encryption; `NoAlgorithm` where nothing says that of content encryption; `KeyDoesNotFit` where the key may not encrypt, or
-/// does not fit; where it is a password, `Header` where `p2c` is no whole number; `Limit` where a header nests more than 64
-/// deep, or the `p2c` of a password is not from 1,000 to 1,000,000; `NotCompact` where a compact text has no room for what the
-/// template gives; then with `Read` where the random input fails, and `Random` where it ends too early; then with `Read` where
-/// the content fails, and `Limit` where it is too long; and with `Write` where the output fails.
+/// Refused, in this order, each step for every key before the next, with `Json`; `Number`; `Form` where the template has
+/// another form; `Base64` where `aad` is no base64url text; `Header` where a name stands in both headers, `alg` or `enc` is no
+/// string, or there is a `p2s`; `Unsupported` where there is a `crit` or a `zip`, or an algorithm that is not supported;
+/// `NoAlgorithm` where nothing says the algorithm of key management, and `KeyDoesNotFit` where a key's `alg` is none of
+/// encryption; `Header` where a key of several is used directly; `NoAlgorithm` where nothing says the algorithm of content
+/// encryption; `KeyDoesNotFit` where a key may not encrypt, or does not fit; where one is a password, `Header` where `p2c` is
+/// no whole number; `Limit` where a header nests more than 64 deep, the `p2c` of a password is not from 1,000 to 1,000,000, or
+/// those of all passwords are more than 4,000,000; `NotCompact` where a compact text is asked for, and there are several keys
+/// or the template gives more than a protected header; then with `Read` where the random input fails, and `Random` where it
+/// ends too early; then with `Read` where the content fails, and `Limit` where it is too long; and with `Write` where the
+/// output fails.
 #[tactic(auto, unfolding(crate::specs::Encrypting::encrypting_by))]
 pub fn jwe_encrypt<I: Input, O: Output>(
     alloc: Global,
@@ -79,7 +88,7 @@ pub fn jwe_encrypt<I: Input, O: Output>(
         → AgreesUnlessExternal (planned (plan_from (encrypting_by limits compact keys.now template.now) octets) plaintext)
         (appended (O.written out.old) (O.written out.new)) result }
 
-    // Exactly the octets of the salt, the key and the vector are read of the random input, and no more before a refusal.
+    // Exactly the octets of the salts, the key and the vector are read of the random input, and no more before a refusal.
     ensures drawn { OnOk result (length (appended (I.consumed random.old) (I.consumed random.new))
         ≡ drawn_of (encrypting_by limits compact keys.now template.now)) }
     ensures at_most { length (appended (I.consumed random.old) (I.consumed random.new))
@@ -111,17 +120,31 @@ pub fn jwe_encrypt<I: Input, O: Output>(
 /// How many octets are drawn.
 fn octets_drawn(encryption: &Encryption<'_>) -> usize
     ensures count { result ≡ octets_drawn (encryption_view encryption.now) }
-    ensures bound { result ≤ 96 }
+    ensures bound { result ≤ 1104 }
 {
-    salt_drawn(encryption) + cek_drawn(encryption) + content_alg(encryption.encryption).iv_len()
+    let salts = salts_drawn(&encryption.receivers);
+    salts + cek_drawn(encryption) + content_alg(encryption.encryption).iv_len()
 }
 
-/// How many of them the salt takes: none where the key is no password.
-fn salt_drawn(encryption: &Encryption<'_>) -> usize
-    ensures count { result ≡ salt_drawn (encryption_view encryption.now) }
+/// How many of them the salts take.
+fn salts_drawn(receivers: &[Receiver<'_>]) -> usize
+    requires { length receivers.now ≤ limits.keys }
+    ensures count { result ≡ salts_drawn (map receiver_view receivers.now) }
+    ensures bound { result ≤ 16 * length receivers.now }
+{
+    let mut count = 0;
+    for receiver in receivers {
+        count += salt_drawn(receiver);
+    }
+    count
+}
+
+/// How many of them the salt of a receiver takes: none where the key is no password.
+fn salt_drawn(receiver: &Receiver<'_>) -> usize
+    ensures count { result ≡ salt_drawn (receiver_view receiver.now) }
     ensures bound { result ≤ 16 }
 {
-    if encryption.management.is_password_based() {
+    if receiver.management.is_password_based() {
         SALT_LEN
     } else {
         0
@@ -133,9 +156,21 @@ fn cek_drawn(encryption: &Encryption<'_>) -> usize
     ensures count { result ≡ cek_drawn (encryption_view encryption.now) }
     ensures bound { result ≤ 64 }
 {
-    match encryption.management {
-        ManagementAlg::Dir => 0,
-        _ => content_alg(encryption.encryption).cek_len(),
+    match direct_key(&encryption.receivers) {
+        Some(_) => 0,
+        None => content_alg(encryption.encryption).cek_len(),
+    }
+}
+
+/// The key that is used directly, if one is: it is the only one.
+fn direct_key<'k>(receivers: &[Receiver<'k>]) -> Option<&'k [u8]>
+    ensures { option_map (λ key. key.now) result ≡ direct_key (map receiver_view receivers.now) }
+{
+    let first = receivers.first()?;
+    if is_direct(first.management) {
+        Some(first.key.octets())
+    } else {
+        None
     }
 }
 
@@ -169,19 +204,22 @@ fn encrypted(
     requires { length random.now ≡ octets_drawn (encryption_view encryption) }
     ensures { AgreesUnlessMemory jwe_view result (encrypted (encryption_view encryption.entry) random.now plaintext.now) }
 {
-    let (salt, random) = random.split_at(salt_drawn(&encryption));
+    let (salts, random) = random.split_at(salts_drawn(&encryption.receivers));
     let (drawn, iv) = random.split_at(cek_drawn(&encryption));
-    let cek = cek_among(&encryption, drawn);
-    let recipients = recipient(alloc, &encryption, salt, &cek)?;
+    let cek = content_key(&encryption, drawn);
+    let recipients = recipients(alloc, &encryption, salts, &cek)?;
     let alg = content_alg(encryption.encryption);
     let Encryption {
-        management,
+        receivers,
+        given,
+        p2c,
         protected,
         unprotected,
         aad,
         ..
     } = encryption;
-    let header = header_text(alloc, with_salt(alloc, management, salt, protected)?)?;
+    let header = protected_header(alloc, given, p2c, &receivers, salts, protected)?;
+    let header = header_text(alloc, header)?;
     let protected = b64_encode(alloc, header.as_bytes())?;
     let data = authenticated(alloc, &protected, &aad)?;
     let SealedOctets { ciphertext, tag } = seal(
@@ -204,65 +242,170 @@ fn encrypted(
     Jwe::build(alloc, parts)
 }
 
-/// The content encryption key: what was drawn, or the key itself where it is used directly.
-#[tactic(auto, using(crate::proofs::Candidates::direct_key_fits, crate::proofs::Candidates::same_cek_len))]
-fn cek_among(encryption: &Encryption<'_>, drawn: &[u8]) -> Cek
+/// The content encryption key: what was drawn, or the key that is used directly.
+fn content_key(encryption: &Encryption<'_>, drawn: &[u8]) -> Cek
     requires { length drawn.now ≡ cek_drawn (encryption_view encryption.now) }
-    ensures cek { result ≡ cek_among (encryption_view encryption.now).management (encryption_view encryption.now).key drawn.now }
+    ensures cek { result ≡ unwrap_or (direct_key (encryption_view encryption.now).receivers) drawn.now }
     ensures fits { length result ≡ cek_len (content_alg_of (encryption_view encryption.now).encryption) }
 {
-    match encryption.management {
-        ManagementAlg::Dir => Cek::new(encryption.key.octets()),
-        _ => Cek::new(drawn),
+    match direct_key(&encryption.receivers) {
+        Some(key) => Cek::new(key),
+        None => Cek::new(drawn),
     }
 }
 
-/// The protected header, with the salt where the key is a password (RFC 7518 section 4.8.1.1).
+/// The protected header, with what is written for a receiver that is the only one.
+fn protected_header(
+    alloc: Global,
+    given: Given,
+    p2c: u32,
+    receivers: &[Receiver<'_>],
+    salts: &[u8],
+    header: Map<String, Value>,
+) -> Result<Map<String, Value>, Refusal>
+    ensures members { IfOk result (λ made. members_view made.entries
+        ≡ protected_header (given_view given) p2c (map receiver_view receivers.now) salts.now (members_view header.entries)) }
+    ensures no_float { IfOk result (λ made. members_have_float (members_view header.entries) ≡ false
+        → members_have_float (members_view made.entries) ≡ false) }
+    ensures memory { IfErr result (λ e. e ≡ Refusal.Memory) }
+{
+    match receivers {
+        [receiver] => with_parameters(alloc, given, p2c, receiver.management, salts, header),
+        _ => Ok(header),
+    }
+}
+
+/// The header with what is written for a receiver, unless the template gives it: the name of the algorithm, and for a password
+/// the iterations and the salt (RFC 7518 sections 4.8.1.1 and 4.8.1.2).
+fn with_parameters(
+    alloc: Global,
+    given: Given,
+    p2c: u32,
+    alg: ManagementAlg,
+    salt: &[u8],
+    header: Map<String, Value>,
+) -> Result<Map<String, Value>, Refusal>
+    ensures members { IfOk result (λ made. members_view made.entries
+        ≡ with_parameters (given_view given) p2c alg salt.now (members_view header.entries)) }
+    ensures no_float { IfOk result (λ made. members_have_float (members_view header.entries) ≡ false
+        → members_have_float (members_view made.entries) ≡ false) }
+    ensures memory { IfErr result (λ e. e ≡ Refusal.Memory) }
+{
+    let header = with_name(alloc, given.alg, "alg", alg.name(), header)?;
+    let counted = !alg.is_password_based() || given.p2c;
+    let header = with_p2c(alloc, counted, p2c, header)?;
+    with_salt(alloc, alg, salt, header)
+}
+
+/// The header with the iterations, where they are needed and the template does not give them.
+fn with_p2c(
+    alloc: Global,
+    given: bool,
+    p2c: u32,
+    mut header: Map<String, Value>,
+) -> Result<Map<String, Value>, AllocError>
+    ensures members { IfOk result (λ made. members_view made.entries ≡ with_p2c given p2c (members_view header.entries)) }
+    ensures no_float { IfOk result (λ made. members_have_float (members_view header.entries) ≡ false
+        → members_have_float (members_view made.entries) ≡ false) }
+{
+    laws::members_keep_floats_out();
+    if !given {
+        serde_json::put(&mut header, alloc, "p2c", Value::from(p2c as u64))?;
+    }
+    Ok(header)
+}
+
+/// The header with the salt of a password (RFC 7518 section 4.8.1.1).
 fn with_salt(
     alloc: Global,
-    management: ManagementAlg,
+    alg: ManagementAlg,
     salt: &[u8],
     mut header: Map<String, Value>,
 ) -> Result<Map<String, Value>, Refusal>
-    ensures members { IfOk result (λ made. members_view made.entries ≡ with_salt management salt.now (members_view header.entries)) }
+    ensures members { IfOk result (λ made. members_view made.entries ≡ with_salt alg salt.now (members_view header.entries)) }
     ensures no_float { IfOk result (λ made. members_have_float (members_view header.entries) ≡ false
         → members_have_float (members_view made.entries) ≡ false) }
     ensures memory { IfErr result (λ e. e ≡ Refusal.Memory) }
 {
     laws::members_keep_floats_out();
-    if management.is_password_based() {
+    if alg.is_password_based() {
         let text = b64_encode(alloc, salt)?;
         serde_json::put(&mut header, alloc, "p2s", Value::from(text))?;
     }
     Ok(header)
 }
 
-/// The one recipient, with its encrypted key.
-#[tactic(auto, using(crate::proofs::Candidates::is_key_of, crate::proofs::Candidates::counts))]
+/// The recipients that the receivers are, with their encrypted keys.
+fn recipients(
+    alloc: Global,
+    encryption: &Encryption<'_>,
+    salts: &[u8],
+    cek: &Cek,
+) -> Result<Vec<RecipientParts>, Refusal>
+    requires salts { length salts.now ≡ salts_drawn (encryption_view encryption.now).receivers }
+    requires fits { length cek.now ≡ cek_len (content_alg_of encryption.now.encryption) }
+    requires direct { AllByRecursion (λ r. r.management ≡ ManagementAlg.Dir → cek.now ≡ (key_view r.key.now).octets) encryption.now.receivers.items }
+    ensures recipients { IfOk result (λ list. map recipient_parts_view list.items
+        ≡ recipients_by (encryption_view encryption.now) cek.now (encryption_view encryption.now).receivers salts.now) }
+    ensures memory { IfErr result (λ e. e ≡ Refusal.Memory) }
+{
+    let mut list = Vec::new(alloc);
+    let mut left = salts;
+    for receiver in &encryption.receivers {
+        let (salt, rest) = left.split_at(salt_drawn(receiver));
+        list.push(recipient(alloc, encryption, receiver, salt, cek)?)?;
+        left = rest;
+    }
+    Ok(list)
+}
+
+/// The recipient that a receiver is, with its encrypted key.
+#[tactic(auto, using(crate::proofs::Candidates::is_key_of, crate::proofs::Receivers::counts_where_password))]
 fn recipient(
     alloc: Global,
     encryption: &Encryption<'_>,
+    receiver: &Receiver<'_>,
     salt: &[u8],
     cek: &Cek,
-) -> Result<Vec<RecipientParts>, Refusal>
-    requires fits { length cek.now ≡ cek_len (content_alg_of (encryption_view encryption.now).encryption) }
-    requires direct { encryption.now.management ≡ ManagementAlg.Dir → cek.now ≡ (encryption_view encryption.now).key }
-    ensures recipient { IfOk result (λ list. map recipient_parts_view list.items
-        ≡ record { header = no_members; encrypted_key = encrypted_key_of (key_alg_of (encryption_view encryption.now).management) (encryption_view encryption.now).key salt.now encryption.now.p2c cek.now } ∷ []) }
+) -> Result<RecipientParts, Refusal>
+    requires fits { length cek.now ≡ cek_len (content_alg_of encryption.now.encryption) }
+    requires key_fits { fits (key_view receiver.now.key.now) (EncryptionWith receiver.now.management encryption.now.encryption) ≡ true }
+    requires counted { (not (is_password_based receiver.now.management) || nat_le 1 encryption.now.p2c) ≡ true }
+    requires direct { receiver.now.management ≡ ManagementAlg.Dir → cek.now ≡ (key_view receiver.now.key.now).octets }
+    ensures recipient { IfOk result (λ made. recipient_parts_view made
+        ≡ recipient_by (encryption_view encryption.now) cek.now (receiver_view receiver.now) salt.now) }
     ensures memory { IfErr result (λ e. e ≡ Refusal.Memory) }
 {
-    let mut buf = [0; 72];
+    let Receiver { key, management } = *receiver;
     let parameters = KeyParameters {
         p2s: salt,
         p2c: encryption.p2c,
     };
-    let alg = key_alg(encryption.management);
-    let len = alg.wrap_cek(encryption.key.octets(), parameters, cek, &mut buf);
+    let mut buf = [0; 72];
+    let len = key_alg(management).wrap_cek(key.octets(), parameters, cek, &mut buf);
     let encrypted_key = copied(alloc, &buf[..len])?;
-    let mut list = Vec::new(alloc);
-    list.push(RecipientParts {
-        header: Map::new(alloc),
+    let header = own_header(alloc, encryption, management, salt)?;
+    Ok(RecipientParts {
+        header,
         encrypted_key,
-    })?;
-    Ok(list)
+    })
+}
+
+/// The header of a recipient: what is written for the receiver, where it is not the only one.
+fn own_header(
+    alloc: Global,
+    encryption: &Encryption<'_>,
+    alg: ManagementAlg,
+    salt: &[u8],
+) -> Result<Map<String, Value>, Refusal>
+    ensures members { IfOk result (λ made. members_view made.entries
+        ≡ own_header (encryption_view encryption.now) alg salt.now) }
+    ensures no_float { IfOk result (λ made. members_have_float (members_view made.entries) ≡ false) }
+    ensures memory { IfErr result (λ e. e ≡ Refusal.Memory) }
+{
+    let header = Map::new(alloc);
+    if encryption.receivers.len() <= 1 {
+        return Ok(header);
+    }
+    with_parameters(alloc, encryption.given, encryption.p2c, alg, salt, header)
 }

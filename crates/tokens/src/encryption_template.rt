@@ -4,7 +4,7 @@ ghost use Rattle.serde_json.specs.View.{view};
 ghost use Rattle.serde_json.specs.Written.{has_float, members_have_float};
 ghost use Rattle.octets.specs.Outcomes.{AgreesUnlessMemory};
 ghost use Rattle.objects.specs.Views.{part_view};
-ghost use Rattle.tokens.specs.Encrypting.{template_texts, management_asked, encryption_asked, supported_management, algorithms_asked, encryption_template};
+ghost use Rattle.tokens.specs.EncryptionTemplate.{template_texts, management_asked, encryption_asked, supported_management, algorithms_asked, encryption_template};
 ghost use Rattle.tokens.specs.Views.{template_texts_view, asked_view, encryption_template_view};
 
 use keys::{EncryptionAlg, ManagementAlg, has_only, is_object};
@@ -43,7 +43,7 @@ struct TemplateTexts<'v> {
 /// `protected`, `unprotected` and `aad`, or one of these has a wrong type; `Base64` where `aad` is no base64url text;
 /// `Header` where a name stands in both headers, `alg` or `enc` is no string, or there is a `p2s`; and `Unsupported` where
 /// there is a `crit` or a `zip`, or an algorithm that is not supported.
-#[tactic(auto, unfolding(crate::specs::Encrypting::encryption_template))]
+#[tactic(auto, unfolding(crate::specs::EncryptionTemplate::encryption_template))]
 pub(crate) fn read_encryption_template(
     alloc: Global,
     value: &Value,
@@ -68,7 +68,7 @@ pub(crate) fn read_encryption_template(
     })
 }
 
-#[tactic(auto, unfolding(crate::specs::Encrypting::template_texts))]
+#[tactic(auto, unfolding(crate::specs::EncryptionTemplate::template_texts))]
 fn template_texts(value: &Value) -> Result<TemplateTexts<'_>, Refusal>
     ensures exact { AgreesUnlessMemory template_texts_view result (template_texts (view value.now)) }
     ensures no_float { IfOk result (λ t. has_float (view value.now) ≡ false
@@ -90,7 +90,7 @@ fn template_texts(value: &Value) -> Result<TemplateTexts<'_>, Refusal>
 }
 
 /// The algorithms that both headers name together, where they do.
-#[tactic(auto, unfolding(crate::specs::Encrypting::algorithms_asked))]
+#[tactic(auto, unfolding(crate::specs::EncryptionTemplate::algorithms_asked))]
 fn algorithms_asked<'v>(
     protected: Option<&'v Map<String, Value>>,
     unprotected: Option<&'v Map<String, Value>>,

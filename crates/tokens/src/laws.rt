@@ -1,5 +1,5 @@
 //! Laws of the definitions, each the contract of a function that does nothing.
-ghost use Rattle.tokens.specs.Encrypting.{EncryptedDecrypts, EncryptingGrows};
+ghost use Rattle.tokens.specs.Encrypting.{EncryptedDecrypts, EncryptingGrows, EncryptingMakesTexts};
 ghost use Rattle.tokens.specs.Signing.{SigningGrows, SigningMakesTexts};
 ghost use Rattle.tokens.specs.Verifying.{SignedVerifies};
 
@@ -34,7 +34,13 @@ pub fn encrypting_grows()
     what_delivers_is_octets();
 }
 
-/// What is encrypted to a key as a template asks is decrypted with this key alone, where it may decrypt, to the plaintext.
+/// What keys and a template settle makes an object of every plaintext that is not too long, and its text.
+pub fn encrypting_makes_texts()
+    ensures { EncryptingMakesTexts }
+{}
+
+/// What is encrypted to keys as a template asks is decrypted with each key alone, where it may decrypt, to the plaintext, unless
+/// the key opens something else at the recipient of a key before it.
 pub fn what_is_encrypted_decrypts()
     ensures { EncryptedDecrypts }
 {

@@ -20,6 +20,7 @@ mod encryption_template;
 pub mod laws;
 mod pair;
 mod pairs;
+mod receiver;
 mod sealing;
 mod sign;
 mod signature;

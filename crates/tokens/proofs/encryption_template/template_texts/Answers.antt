@@ -4,7 +4,7 @@ use Rattle.octets.specs.Outcomes.{AgreesUnlessMemory}
 use Rattle.objects.specs.Headers.{header_at}
 use Rattle.objects.specs.Texts.{text_at}
 use Rattle.objects.specs.Views.{part_view}
-use Rattle.tokens.specs.Encrypting.{template_texts}
+use Rattle.tokens.specs.EncryptionTemplate.{template_texts}
 use Rattle.tokens.proofs.encryption_template.template_texts.Goals as goal
 
 pub returns-in_err-unprotected-clause-exact : goal.returns-in_err-unprotected-clause-exact

@@ -1,0 +1,138 @@
+-- The pairs of a key and the recipients that encrypting makes: they take no more iterations than the limits allow, and the first that
+-- opens gives the plaintext.
+use Rattle.std.proofs.Common.{◌≡◌, ℕ, suc, ◌+◌, ◌*◌, ◌≤◌, nat_le, Bool, true, false, if◌then◌else◌, List, [], ◌∷◌, ◌++◌, length, map, take, drop, Option, Some, None, is_some, Ok, refl, ap, arith}
+use Rattle.std.proofs.lemmas.Bool.{and_from, or_left, le-leb}
+use Rattle.std.specs.List.{AllByRecursion, list_all, list_any}
+use Rattle.std.specs.Option.{option_or}
+use Rattle.keys.specs.Algorithms.{is_password_based}
+use Rattle.keys.specs.Keys.{OctetKey}
+use Rattle.keys.specs.Limits.{limits}
+use Rattle.objects.specs.Jwe.{EncryptedObject}
+use Rattle.tokens.specs.Algorithms.{Algorithms}
+use Rattle.tokens.specs.Choosing.{Receiver, passwords, Encryption}
+use Rattle.tokens.specs.Decrypting.{algorithms_of, is_candidate, Pair, pairs_of, all_pairs, has_pairs, iterations_of, all_iterations, pairs_to_try, SealedContent, sealed_content, opened_by, first_opened, decrypted}
+use Rattle.tokens.specs.Encrypting.{salt_drawn}
+use Rattle.tokens.proofs.AlgorithmNames.{management_named, encryption_named}
+use Rattle.tokens.proofs.EncryptedHeaders.{salted, made_by}
+
+-- ---- the pairs
+
+-- the algorithms by which a receiver is delivered the content encryption key
+abbrev pub algorithms_by : Encryption → Receiver → Algorithms
+algorithms_by e r = record { management = r.management; encryption = e.encryption }
+
+-- its recipient, with a key
+abbrev pub pair_by : Encryption → List ℕ → OctetKey → Receiver × List ℕ → Pair
+pair_by e cek key x = record { recipient = made_by e cek x; algorithms = algorithms_by e x.0; key = key }
+
+-- the recipient names them
+algorithms_are : (e : Encryption) (cek : List ℕ) (x : Receiver × List ℕ) → algorithms_of (made_by e cek x) ≡ Some (algorithms_by e x.0)
+unfolding algorithms_of
+algorithms_are e cek x = rw (management_named, encryption_named) refl
+
+-- so the key and the recipient are a pair where the key is a candidate
+pairs_are : (e : Encryption) (cek : List ℕ) (key : OctetKey) (x : Receiver × List ℕ)
+    → pairs_of (key ∷ []) (made_by e cek x) ≡ (if is_candidate (algorithms_by e x.0) key then pair_by e cek key x ∷ [] else [])
+pairs_are e cek key x = rw algorithms_are (by_test (is_candidate (algorithms_by e x.0) key))
+  where
+    by_test : (candidate : Bool) → map (λ k. record { recipient = made_by e cek x; algorithms = algorithms_by e x.0; key = k }) (if candidate then key ∷ [] else [])
+        ≡ (if candidate then pair_by e cek key x ∷ [] else [])
+    by_test true = refl
+    by_test false = refl
+
+-- ---- their iterations
+
+-- each pair takes no more than are read, and all together take at most n
+pub record TakeAtMost (n : ℕ) (pairs : List Pair) : Type 0 where
+  pub each_few : list_all (λ pair. nat_le (iterations_of pair) limits.greatest_p2c_read) pairs ≡ true
+  pub all_few : all_iterations pairs ≤ n
+
+-- one more receiver counts for the iterations of its pair
+one_more : (password : Bool) (n p2c : ℕ) → (password ≡ true → p2c ≤ 1000000)
+    → (let i : ℕ = if password then (if password then p2c else 0) else 0 in (i ≤ 1000000) × (i + n * p2c ≤ (if password then suc n else n) * p2c))
+one_more true n p2c few = (few refl, omega arith)
+one_more false n p2c few = (omega arith, omega arith)
+
+-- so the pairs of all recipients take as many for each password
+pub take_at_most : (e : Encryption) (cek : List ℕ) (key : OctetKey) (receivers : List Receiver) (salts : List ℕ)
+    → AllByRecursion (λ r. is_password_based r.management ≡ true → e.p2c ≤ 1000000) receivers
+    → TakeAtMost (passwords receivers * e.p2c) (all_pairs (key ∷ []) (map (made_by e cek) (salted receivers salts)))
+take_at_most e cek key [] salts few = record { each_few = refl; all_few = omega arith }
+take_at_most e cek key (r ∷ rest) salts few =
+    rw (pairs_are e cek key (r, take (salt_drawn r) salts))
+    (by_test (is_candidate (algorithms_by e r) key) (take_at_most e cek key rest (drop (salt_drawn r) salts) few.1))
+  where
+    by_test : (candidate : Bool) → TakeAtMost (passwords rest * e.p2c) (all_pairs (key ∷ []) (map (made_by e cek) (salted rest (drop (salt_drawn r) salts))))
+        → TakeAtMost (passwords (r ∷ rest) * e.p2c)
+        ((if candidate then pair_by e cek key (r, take (salt_drawn r) salts) ∷ [] else []) ++ all_pairs (key ∷ []) (map (made_by e cek) (salted rest (drop (salt_drawn r) salts))))
+    by_test true all =
+        let here = one_more (is_password_based r.management) (passwords rest) e.p2c few.0 in
+        record { each_few = and_from _ _ (le-leb _ 1000000 here.0) all.each_few; all_few = omega (arith, here.1, all.all_few) }
+    by_test false all =
+        let here = one_more (is_password_based r.management) (passwords rest) e.p2c few.0 in
+        record { each_few = all.each_few; all_few = omega (arith, here.1, all.all_few) }
+
+-- ---- what they open
+
+-- what holds of all elements of two lists holds of those of each
+all_of_both : {X : Type 0} (P : X → Type 0) (xs ys : List X) → AllByRecursion P (xs ++ ys) → AllByRecursion P xs × AllByRecursion P ys
+all_of_both P [] ys all = (tt, all)
+all_of_both P (x ∷ xs) ys all = let both = all_of_both P xs ys all.1 in ((all.0, both.0), both.1)
+
+-- the pair opens nothing but a plaintext
+abbrev OpensOnly : SealedContent → List ℕ → Pair → Type 0
+OpensOnly s plaintext pair = (other : List ℕ) → opened_by s pair ≡ Some other → other ≡ plaintext
+
+-- pairs that open nothing else may stand before one that opens it
+opened_later : (s : SealedContent) (plaintext : List ℕ) (pairs later : List Pair) → AllByRecursion (OpensOnly s plaintext) pairs → first_opened s later ≡ Some plaintext
+    → first_opened s (pairs ++ later) ≡ Some plaintext
+opened_later s plaintext [] later only h = h
+opened_later s plaintext (pair ∷ pairs) later only h = by_opened (opened_by s pair) refl (opened_later s plaintext pairs later only.1 h)
+  where
+    by_opened : (opened : Option (List ℕ)) → opened_by s pair ≡ opened → first_opened s (pairs ++ later) ≡ Some plaintext → option_or opened (first_opened s (pairs ++ later)) ≡ Some plaintext
+    by_opened None is rest = rest
+    by_opened (Some other) is rest = ap Some (only.0 other is)
+
+-- what a receiver with this key opens, by which it is a candidate
+abbrev pub Opens : Encryption → List ℕ → OctetKey → SealedContent → List ℕ → Receiver × List ℕ → Type 0
+Opens e cek key s plaintext x = x.0.key ≡ key → (is_candidate (algorithms_by e x.0) key ≡ true) × (opened_by s (pair_by e cek key x) ≡ Some plaintext)
+
+-- so the first pair that opens gives the plaintext, where the key opens nothing else at the recipient of a key before it
+pub first_opens : (e : Encryption) (cek : List ℕ) (key : OctetKey) (s : SealedContent) (plaintext : List ℕ) (before after : List OctetKey) (xs : List (Receiver × List ℕ))
+    → map (λ x. x.0.key) xs ≡ before ++ key ∷ after → AllByRecursion (Opens e cek key s plaintext) xs
+    → AllByRecursion (OpensOnly s plaintext) (all_pairs (key ∷ []) (take (length before) (map (made_by e cek) xs)))
+    → first_opened s (all_pairs (key ∷ []) (map (made_by e cek) xs)) ≡ Some plaintext
+first_opens e cek key s plaintext [] after [] keys all only = cc keys
+first_opens e cek key s plaintext [] after (x ∷ rest) keys all only =
+    let same : x.0.key ≡ key = cc keys in
+    let own = all.0 same in
+    rw (pairs_are e cek key x, own.0, own.1) refl
+first_opens e cek key s plaintext (k ∷ before) after [] keys all only = cc keys
+first_opens e cek key s plaintext (k ∷ before) after (x ∷ rest) keys all only =
+    let later : map (λ x. x.0.key) rest ≡ before ++ key ∷ after = cc keys in
+    let both = all_of_both (OpensOnly s plaintext) (pairs_of (key ∷ []) (made_by e cek x)) (all_pairs (key ∷ []) (take (length before) (map (made_by e cek) rest))) only in
+    opened_later s plaintext (pairs_of (key ∷ []) (made_by e cek x)) (all_pairs (key ∷ []) (map (made_by e cek) rest)) both.0
+    (first_opens e cek key s plaintext before after rest later all.1 both.1)
+
+-- ---- what is decrypted
+
+-- a recipient that is made is supported
+pub supported : (e : Encryption) (cek : List ℕ) (xs : List (Receiver × List ℕ)) → 1 ≤ length xs → list_any (λ r. is_some (algorithms_of r)) (map (made_by e cek) xs) ≡ true
+supported e cek [] some = absurd (omega arith)
+supported e cek (x ∷ rest) some =
+    or_left (is_some (algorithms_of (made_by e cek x))) (list_any (λ r. is_some (algorithms_of r)) (map (made_by e cek) rest)) (ap is_some (algorithms_are e cek x))
+
+-- pairs of which one opens are some
+some_pairs : (s : SealedContent) (plaintext : List ℕ) (pairs : List Pair) → first_opened s pairs ≡ Some plaintext → has_pairs pairs ≡ true
+some_pairs s plaintext [] h = cc h
+some_pairs s plaintext (pair ∷ pairs) h = refl
+
+-- so the object is decrypted to the plaintext
+pub opened_is_decrypted : (key : OctetKey) (o : EncryptedObject) (plaintext : List ℕ) → list_any (λ r. is_some (algorithms_of r)) o.recipients ≡ true
+    → TakeAtMost 4000000 (all_pairs (key ∷ []) o.recipients) → first_opened (sealed_content o) (all_pairs (key ∷ []) o.recipients) ≡ Some plaintext
+    → decrypted limits (key ∷ []) o ≡ Ok plaintext
+unfolding decrypted pairs_to_try
+opened_is_decrypted key o plaintext supported few opens =
+    let pairs : List Pair = all_pairs (key ∷ []) o.recipients in
+    let sum : nat_le (all_iterations pairs) 4000000 ≡ true = le-leb (all_iterations pairs) 4000000 few.all_few in
+    rw (supported, some_pairs (sealed_content o) plaintext pairs opens, few.each_few, sum, opens) refl

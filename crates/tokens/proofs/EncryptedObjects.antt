@@ -1,0 +1,261 @@
+-- What is encrypted: the object that keys and a template settle for a plaintext by the random octets that are drawn.
+use Rattle.std.proofs.Common.{◌≡◌, ℕ, ◌<◌, Bool, true, not, nat_le, List, [], ◌∷◌, length, take, map, Option, Some, None, Ok, refl, sym, ◌∙◌, ap, subst, arith, length-drop}
+use Rattle.std.proofs.lemmas.Bool.{and_from, leb-true, le-leb}
+use Rattle.std.proofs.lemmas.Bool.Decides.{Decides-not, Decides-ltb}
+use Rattle.std.proofs.lemmas.List.{length-take-le, length-map}
+use Rattle.std.proofs.lemmas.Slice.Eq.{bytes_eq-Decides}
+use Rattle.std.specs.List.{AllByRecursion, list_all}
+use Rattle.std.specs.Option.{IsSomeAnd}
+use Rattle.std.specs.Str.{bytes_eq}
+use Rattle.serde_json.specs.Data.{Members, object, depth}
+use Rattle.octets.specs.declared.refusal.Refusal.TheVariants.{Limit, Random}
+use Rattle.octets.specs.Base64url.{base64url}
+use Rattle.octets.specs.Octets.{IsOctets}
+use Rattle.octets.specs.Outcomes.{needs}
+use Rattle.octets.specs.Plan.{Plan, Draft, plan_from}
+use Rattle.octets.proofs.Characters.{has_url_characters}
+use Rattle.octets.proofs.Decoded.{IsOctets-drop}
+use Rattle.octets.proofs.Meanings.{meaning_of_text}
+use Rattle.ciphers.specs.Delivery.{IsDelivered}
+use Rattle.ciphers.specs.Openings.{is_longer}
+use Rattle.ciphers.specs.Sealing.{Sealed, Sealing, IsTooLong, IsOpening}
+use Rattle.ciphers.specs.declared.content_alg.ContentAlg.{ContentAlg}
+use Rattle.ciphers.specs.declared.key_alg.KeyAlg.{KeyAlg}
+use Rattle.keys.specs.Algorithms.{encryption_name}
+use Rattle.keys.specs.Json.{member_numbers_are_whole}
+use Rattle.keys.specs.JsonTexts.{AreJsonMembers}
+use Rattle.keys.specs.Keys.{OctetKey}
+use Rattle.keys.specs.Limits.{limits}
+use Rattle.keys.proofs.ReadingBack.{numbers_whole}
+use Rattle.keys.proofs.UrlTexts.{url_texts_are_json}
+use Rattle.objects.specs.Jwe.{RecipientParts, EncryptedObject, have_one_enc, is_plain, encrypted_object, built, key_of_first, AreMembers, recipients_of_one_enc}
+use Rattle.objects.specs.Texts.{header_depth, depth_of_each}
+use Rattle.objects.proofs.EachRead.{all_both, all_images}
+use Rattle.objects.proofs.SpellingJwe.{is_built}
+use Rattle.objects.proofs.Steps.{steps, passed, same_answer}
+use Rattle.objects.proofs.TextOctets.{octets_of_utf8}
+use Rattle.tokens.specs.Algorithms.{content_alg, key_alg}
+use Rattle.tokens.specs.Choosing.{Receiver, Encryption, encryption_of}
+use Rattle.tokens.specs.Decrypting.{authenticated}
+use Rattle.tokens.specs.Encrypting.{salts_drawn, cek_drawn, octets_drawn, salts_by, after_salts, cek_by, iv_by, header_of, header_by, recipients_by, sealing_by, sealed_by, parts_by, encrypted, first_key, plan_by, encrypting_by, AreOctetKeys}
+use Rattle.tokens.proofs.DeliveredKeys.{IsCek, Delivers, after_long, cek_by_is, each_delivered}
+use Rattle.tokens.proofs.HeaderTexts.{shallow_enough}
+use Rattle.tokens.proofs.EncryptedHeaders.{salted_by, IsWritten, Writes, writes, given_by, made_by, recipients_are, as_many_salted, recipients_are_read}
+use Rattle.tokens.proofs.ReadLists.{all_pass}
+pub use Rattle.tokens.proofs.SettledEncryptions.{Settles, settles}
+
+-- the laws of ciphers that say what is octets
+pub record OctetLaws : Type 0 where
+  pub opened : (alg : ContentAlg) (cek iv aad c tag p : List ℕ) → IsOctets cek → IsOctets iv → IsOpening alg cek iv aad c tag p → IsOctets c × IsOctets tag
+  pub delivering : (alg : KeyAlg) (enc : ContentAlg) (key p2s : List ℕ) (p2c : ℕ) (encrypted cek : List ℕ) → IsOctets key
+      → IsDelivered alg enc key p2s p2c encrypted cek → IsOctets encrypted
+
+-- ---- the object
+
+-- what is made of the members
+abbrev pub object_by : Encryption → List ℕ → Sealed → EncryptedObject
+object_by e random s = record {
+  protected = base64url (header_by e random);
+  protected_members = header_of e random;
+  unprotected = e.unprotected;
+  iv = iv_by e random;
+  aad = e.aad;
+  ciphertext = s.ciphertext;
+  tag = s.tag;
+  recipients = map (made_by e (cek_by e random)) (salted_by e random);
+}
+
+-- all recipients that are made have the content encryption that was chosen
+all_have_enc : (e : Encryption) (cek : List ℕ) (xs : List (Receiver × List ℕ)) → list_all (λ r. bytes_eq r.enc (encryption_name e.encryption)) (map (made_by e cek) xs) ≡ true
+all_have_enc e cek [] = refl
+all_have_enc e cek (x ∷ rest) = and_from _ _ ((bytes_eq-Decides (encryption_name e.encryption) (encryption_name e.encryption)).1 refl) (all_have_enc e cek rest)
+
+-- so it is the same for all
+one_enc : (e : Encryption) (cek : List ℕ) (xs : List (Receiver × List ℕ)) → have_one_enc (map (made_by e cek) xs) ≡ true
+one_enc e cek [] = refl
+one_enc e cek (x ∷ rest) = all_have_enc e cek (x ∷ rest)
+
+-- as many recipients are given as there are receivers
+as_many : (e : Encryption) (random : List ℕ) → length (map (given_by e (cek_by e random)) (salted_by e random)) ≡ length e.receivers
+as_many e random = length-map (salted_by e random) (given_by e (cek_by e random)) ∙ as_many_salted e.receivers (salts_by e random)
+
+-- so the object is built of its members
+pub built_is : (keys : List OctetKey) (e : Encryption) (random : List ℕ) (s : Sealed) → Settles keys e → Writes e random → nat_le (length e.receivers) limits.recipients ≡ true
+    → built limits (parts_by e random s) ≡ Ok (object_by e random s)
+unfolding built encrypted_object recipients_of_one_enc
+built_is keys e random s by is few =
+    let cek : List ℕ = cek_by e random in
+    let xs : List (Receiver × List ℕ) = salted_by e random in
+    let header : Members = header_of e random in
+    let given : Receiver × List ℕ → RecipientParts = given_by e cek in
+    let n : ℕ = depth_of_each (length (map given xs)) in
+    let unprotected_shallow : nat_le (depth (object e.unprotected)) header_depth ≡ true = shallow_enough (depth (object e.unprotected)) 1 by.unprotected.shallow in
+    let unprotected_whole : member_numbers_are_whole e.unprotected ≡ true = numbers_whole (object e.unprotected) by.unprotected.json in
+    let shallow : list_all (λ r. nat_le (depth (object r.header)) n) (map given xs) ≡ true =
+    all_pass {P = IsWritten e random} (λ r. nat_le (depth (object r.header)) n) given
+    (λ x w. shallow_enough (depth (object (given x).header)) (length (map given xs)) w.headed.written.shallow) xs is.each_written in
+    let whole : list_all (λ r. member_numbers_are_whole r.header) (map given xs) ≡ true =
+    all_pass {P = IsWritten e random} (λ r. member_numbers_are_whole r.header) given (λ x w. numbers_whole (object (given x).header) w.headed.written.json) xs is.each_written in
+    let plain : list_all (λ r. is_plain r.header) (map given xs) ≡ true =
+    all_pass {P = IsWritten e random} (λ r. is_plain r.header) given (λ x w. w.headed.written.plain) xs is.each_written in
+    let some : nat_le 1 (length (map given xs)) ≡ true = ap (nat_le 1) (as_many e random) ∙ le-leb 1 (length e.receivers) by.some in
+    let few_given : nat_le (length (map given xs)) 64 ≡ true = ap (λ k. nat_le k 64) (as_many e random) ∙ few in
+    rw (
+      recipients_are e cek e.receivers (salts_by e random),
+      unprotected_shallow,
+      shallow,
+      unprotected_whole,
+      whole,
+      some,
+      few_given,
+      meaning_of_text (header_by e random) is.back.octets,
+      is.back.members,
+      recipients_are_read keys e random cek by is,
+      one_enc e cek xs,
+      is.header.plain,
+      by.unprotected.plain,
+      plain,
+    ) refl
+
+-- what an object has of the members that it is made of, as far as its texts begin with them
+pub record Has (e : Encryption) (random : List ℕ) (s : Sealed) (o : EncryptedObject) : Type 0 where
+  pub protected : o.protected ≡ base64url (header_by e random)
+  pub iv : o.iv ≡ iv_by e random
+  pub aad : o.aad ≡ e.aad
+  pub ciphertext : o.ciphertext ≡ s.ciphertext
+  pub key : key_of_first o.recipients ≡ first_key (recipients_by e (cek_by e random) e.receivers (salts_by e random))
+
+-- so it is of what is made
+has : (e : Encryption) (random : List ℕ) (s : Sealed) → Has e random s (object_by e random s)
+has e random s = record {
+  protected = refl;
+  iv = refl;
+  aad = refl;
+  ciphertext = refl;
+  key = first_alike (salted_by e random) ∙ ap first_key (sym (recipients_are e (cek_by e random) e.receivers (salts_by e random)));
+}
+  where
+    first_alike : (xs : List (Receiver × List ℕ)) → key_of_first (map (made_by e (cek_by e random)) xs) ≡ first_key (map (given_by e (cek_by e random)) xs)
+    first_alike [] = refl
+    first_alike (x ∷ rest) = refl
+
+-- ---- what is sealed
+
+-- a plaintext that passes the test is not too long
+short_enough : (longest : Option ℕ) (n : ℕ) → not (is_longer n longest) ≡ true → IsSomeAnd longest (λ most. most < n) → ⊥
+short_enough None n h long = absurd long
+short_enough (Some most) n h long = (Decides-not _ (Decides-ltb most n)).0 h long
+
+-- what is sealed is of a plaintext that is not too long
+sealed_is : (s : Sealing) (p : List ℕ) (made : Sealed) → sealed_by s p ≡ Ok made → (IsTooLong s p → ⊥) × (s.sealed p ≡ made)
+unfolding sealed_by
+sealed_is s p made h =
+    let a = steps (needs (not (is_longer (length p) s.longest)) Limit) (λ short. Ok (s.sealed p)) made h in
+    (short_enough s.longest (length p) (passed _ Limit a.0 a.1), same_answer (s.sealed p) made a.2)
+
+-- ---- what is encrypted
+
+-- What is encrypted by just as many random octets as are drawn: what the plaintext is sealed to, which is octets, and an object that
+-- has it. The headers are written, the content encryption key is delivered to each receiver, the plaintext opens what is sealed, and
+-- the object is made of members that are as JSON has them, or octets.
+pub record IsEncrypted (e : Encryption) (random plaintext : List ℕ) (o : EncryptedObject) : Type 0 where
+  pub sealed : Sealed
+  pub short : IsTooLong (sealing_by e random) plaintext → ⊥
+  pub same : (sealing_by e random).sealed plaintext ≡ sealed
+  pub octets : IsOctets sealed.ciphertext
+  pub aad : IsOctets e.aad
+  pub has : Has e random sealed o
+  pub writes : Writes e random
+  pub delivers : AllByRecursion (Delivers e (cek_by e random)) (salted_by e random)
+  pub opens : IsOpening (content_alg e.encryption) (cek_by e random) (iv_by e random) (authenticated (base64url (header_by e random)) e.aad) sealed.ciphertext sealed.tag plaintext
+  pub members : AreMembers (parts_by e random sealed)
+  pub made : built limits (parts_by e random sealed) ≡ Ok o
+  pub is : object_by e random sealed ≡ o
+
+-- a base64url text is octets
+text_is_octets : (x : List ℕ) → IsOctets x → IsOctets (base64url x)
+text_is_octets x octets = octets_of_utf8 (base64url x) (url_texts_are_json (base64url x) (has_url_characters x octets)).0
+
+-- the members are as JSON has them, or octets
+are_members : OctetLaws → (keys : List OctetKey) (e : Encryption) (random : List ℕ) (s : Sealed) → Settles keys e → Writes e random → IsOctets random
+    → AllByRecursion (Delivers e (cek_by e random)) (salted_by e random) → IsOctets s.ciphertext → IsOctets s.tag → AreMembers (parts_by e random s)
+are_members laws keys e random s by w random_octets delivers ciphertext tag =
+    let cek : List ℕ = cek_by e random in
+    let later : List ℕ = after_salts e random in
+    let P : RecipientParts → Type 0 = λ r. AreJsonMembers r.header × IsOctets r.encrypted_key in
+    record {
+      protected = text_is_octets (header_by e random) w.back.octets;
+      unprotected = by.unprotected.json;
+      iv = IsOctets-drop (cek_drawn e) later (IsOctets-drop (salts_drawn e.receivers) random random_octets);
+      aad = by.aad;
+      ciphertext = ciphertext;
+      tag = tag;
+      recipients = rw recipients_are (all_images {P = λ x. IsWritten e random x × Delivers e cek x} P (given_by e cek)
+          (λ x is. (is.0.headed.written.json, laws.delivering (key_alg x.0.management) (content_alg e.encryption) x.0.key.octets x.1 _ _ cek is.1.key is.1.delivers))
+          (salted_by e random) (all_both (λ x written delivers. (written, delivers)) (salted_by e random) w.each_written delivers));
+    }
+
+-- the steps of encrypting
+encrypting_steps : (e : Encryption) (random plaintext : List ℕ) (o : EncryptedObject) → encrypted e random plaintext ≡ Ok o
+    → (s : Sealed) × (sealed_by (sealing_by e random) plaintext ≡ Ok s) × (built limits (parts_by e random s) ≡ Ok o)
+unfolding encrypted
+encrypting_steps e random plaintext o h = steps (sealed_by (sealing_by e random) plaintext) (λ s. built limits (parts_by e random s)) o h
+
+-- all this holds of it
+pub is_encrypted : OctetLaws → (keys : List OctetKey) (e : Encryption) (random plaintext : List ℕ) (o : EncryptedObject) → AreOctetKeys keys → IsOctets random → IsOctets plaintext
+    → length random ≡ octets_drawn e → Settles keys e → encrypted e random plaintext ≡ Ok o → IsEncrypted e random plaintext o
+is_encrypted laws keys e random plaintext o key_octets random_octets octets long by h =
+    let enc = content_alg e.encryption in
+    let cek : List ℕ = cek_by e random in
+    let iv : List ℕ = iv_by e random in
+    let authentic : List ℕ = authenticated (base64url (header_by e random)) e.aad in
+    let made = encrypting_steps e random plaintext o h in
+    let s : Sealed = made.0 in
+    let sealed = sealed_is (sealing_by e random) plaintext s made.1 in
+    let w : Writes e random = writes keys e random by random_octets long in
+    let is_cek : IsCek e.encryption e.receivers cek = cek_by_is keys e random by key_octets random_octets long in
+    let delivers = each_delivered keys e random by key_octets random_octets long in
+    let later : List ℕ = after_salts e random in
+    let start : IsOctets iv = IsOctets-drop (cek_drawn e) later (IsOctets-drop (salts_drawn e.receivers) random random_octets) in
+    let opens : IsOpening enc cek iv authentic s.ciphertext s.tag plaintext = record {
+      cek_fits = is_cek.fits;
+      iv_fits = length-drop (cek_drawn e) later ∙ omega (arith, after_long e random long);
+      octets = octets;
+      short = sealed.0;
+      ciphertext = ap (λ (x : Sealed). x.ciphertext) sealed.1;
+      is_tag = ap (λ (x : Sealed). x.tag) sealed.1;
+    } in
+    let both = laws.opened enc cek iv authentic s.ciphertext s.tag plaintext is_cek.octets start opens in
+    let given : length (recipients_by e cek e.receivers (salts_by e random)) ≡ length e.receivers = rw recipients_are (as_many e random) in
+    let few : nat_le (length e.receivers) limits.recipients ≡ true = ap (λ k. nat_le k 64) (sym given) ∙ (is_built limits (parts_by e random s) o made.2).few in
+    let same : object_by e random s ≡ o = same_answer (object_by e random s) o (sym (built_is keys e random s by w few) ∙ made.2) in
+    record {
+      sealed = s;
+      short = sealed.0;
+      same = sealed.1;
+      octets = both.0;
+      aad = by.aad;
+      has = subst (Has e random s) same (has e random s);
+      writes = w;
+      delivers = delivers;
+      opens = opens;
+      members = are_members laws keys e random s by w random_octets delivers both.0 both.1;
+      made = made.2;
+      is = same;
+    }
+
+-- what a template and keys settle, and the plan by the random octets that are drawn
+pub plan_is : (compact : Bool) (keys : List OctetKey) (template random : List ℕ) (plan : Plan (List ℕ)) → plan_from (encrypting_by limits compact keys template) random ≡ Ok plan
+    → (e : Encryption) × (encryption_of limits compact keys template ≡ Ok e) × (length (take (octets_drawn e) random) ≡ octets_drawn e)
+    × (plan_by compact e (take (octets_drawn e) random) ≡ plan)
+unfolding encrypting_by
+plan_is compact keys template random plan h =
+    let draft = steps (encrypting_by limits compact keys template) _ plan h in
+    let enough = steps (needs (nat_le draft.0.drawn (length random)) Random) _ plan draft.2 in
+    let settled = steps (encryption_of limits compact keys template) _ draft.0 draft.1 in
+    let e : Encryption = settled.0 in
+    let made : Draft (List ℕ) = record { drawn = octets_drawn e; plan = plan_by compact e } in
+    let same : made ≡ draft.0 = same_answer made draft.0 settled.2 in
+    let room : nat_le (octets_drawn e) (length random) ≡ true = ap (λ (d : Draft (List ℕ)). nat_le d.drawn (length random)) same ∙ passed _ Random enough.0 enough.1 in
+    let whole : plan_by compact e (take (octets_drawn e) random) ≡ plan = ap (λ (d : Draft (List ℕ)). d.plan (take d.drawn random)) same ∙ same_answer _ plan enough.2 in
+    (e, settled.1, length-take-le (octets_drawn e) random (leb-true (octets_drawn e) (length random) room), whole)

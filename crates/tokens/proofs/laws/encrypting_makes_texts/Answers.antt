@@ -1,0 +1,5 @@
+use Rattle.tokens.proofs.EncryptedTexts.{encrypting_makes_texts}
+use Rattle.tokens.proofs.laws.encrypting_makes_texts.Goals as goal
+
+pub returns : goal.returns
+returns c = encrypting_makes_texts

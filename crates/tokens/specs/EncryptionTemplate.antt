@@ -1,0 +1,81 @@
+-- Templates of encrypted objects: the members `protected`, `unprotected` and `aad` of one in JSON form (RFC 7516 section 7.2.1), as
+-- objects and a string.
+use Rattle.std.specs.Prelude.{ℕ, List, [], ◌∷◌, codes, is_none, Option, Some, None, Result, Ok, Err}
+use Rattle.serde_json.specs.Data.{Data, Members, no_members}
+use Rattle.serde_json.specs.Find.{get_member}
+use Rattle.octets.specs.declared.refusal.Refusal.{Refusal}
+use Rattle.octets.specs.declared.refusal.Refusal.TheVariants.{Form, Header, Unsupported}
+use Rattle.octets.specs.Outcomes.{◌>>=◌, needs}
+use Rattle.octets.specs.Base64url.{decoded}
+use Rattle.keys.specs.declared.algorithm.EncryptionAlg.{EncryptionAlg}
+use Rattle.keys.specs.declared.algorithm.ManagementAlg.{ManagementAlg}
+use Rattle.keys.specs.Algorithms.{management_alg_of, encryption_alg_of}
+use Rattle.keys.specs.Json.{is_object, has_only}
+use Rattle.objects.specs.Headers.{header_at, joint_header, string_parameter, number_parameter}
+use Rattle.objects.specs.Jwe.{is_plain}
+use Rattle.objects.specs.Texts.{text_at}
+
+-- its headers and the text of its additional data
+pub record TemplateTexts : Type 0 where
+  pub protected : Members
+  pub unprotected : Members
+  pub aad : List ℕ
+
+-- an object with no member but `protected` and `unprotected`, which are objects, and `aad`, which is a string
+unfoldable pub template_texts : Data → Result TemplateTexts Refusal
+template_texts value = do
+  an_object ← needs (is_object value) Form
+  known ← needs (has_only (codes "protected" ∷ codes "unprotected" ∷ codes "aad" ∷ []) value) Form
+  protected ← header_at (codes "protected") value
+  unprotected ← header_at (codes "unprotected") value
+  aad ← text_at (codes "aad") value
+  Ok (record { protected = protected; unprotected = unprotected; aad = aad })
+
+-- The algorithms that the headers name, if they do, and the count of iterations that they give, if they do. It is refused where
+-- it is no whole number, but only for an algorithm that reads it.
+pub record AlgorithmsAsked : Type 0 where
+  pub management : Option ManagementAlg
+  pub encryption : Option EncryptionAlg
+  pub p2c : Result (Option ℕ) Refusal
+
+abbrev pub supported_management : Option ManagementAlg → Result (Option ManagementAlg) Refusal
+supported_management None = Err Unsupported
+supported_management (Some alg) = Ok (Some alg)
+
+abbrev pub management_asked : Option (List ℕ) → Result (Option ManagementAlg) Refusal
+management_asked None = Ok None
+management_asked (Some name) = supported_management (management_alg_of name)
+
+abbrev pub supported_encryption : Option EncryptionAlg → Result (Option EncryptionAlg) Refusal
+supported_encryption None = Err Unsupported
+supported_encryption (Some alg) = Ok (Some alg)
+
+abbrev pub encryption_asked : Option (List ℕ) → Result (Option EncryptionAlg) Refusal
+encryption_asked None = Ok None
+encryption_asked (Some name) = supported_encryption (encryption_alg_of name)
+
+-- of headers without `p2s`, which is drawn, and with neither `crit` nor `zip`
+unfoldable pub algorithms_asked : Members → Members → Result AlgorithmsAsked Refusal
+algorithms_asked protected unprotected = do
+  header ← joint_header protected unprotected no_members
+  alg ← string_parameter (codes "alg") header
+  enc ← string_parameter (codes "enc") header
+  unsalted ← needs (is_none (get_member (codes "p2s") header)) Header
+  plain ← needs (is_plain header) Unsupported
+  management ← management_asked alg
+  encryption ← encryption_asked enc
+  Ok (record { management = management; encryption = encryption; p2c = number_parameter (codes "p2c") header })
+
+pub record EncryptionTemplate : Type 0 where
+  pub protected : Members
+  pub unprotected : Members
+  pub aad : List ℕ
+  pub asked : AlgorithmsAsked
+
+-- the template that a value is
+unfoldable pub encryption_template : Data → Result EncryptionTemplate Refusal
+encryption_template value = do
+  texts ← template_texts value
+  aad ← decoded texts.aad
+  asked ← algorithms_asked texts.protected texts.unprotected
+  Ok (record { protected = texts.protected; unprotected = texts.unprotected; aad = aad; asked = asked })
