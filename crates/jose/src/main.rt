@@ -55,6 +55,8 @@ mod general_peer_tests;
 #[cfg(test)]
 mod general_tests;
 #[cfg(test)]
+mod growth_tests;
+#[cfg(test)]
 mod header_tests;
 #[cfg(test)]
 mod jwe_tests;

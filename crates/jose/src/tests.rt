@@ -1,5 +1,4 @@
 //! The commands over memory: worked examples of the standards, and what is refused with which cause.
-use crate::jwe_tests::{DECRYPT, ENCRYPT, LINE, RFC7516_KEY, RFC7516_RANDOM, WITH_AAD};
 use crate::{Inputs, Outputs, parse, report, run};
 use octets::{MemoryInput, MemoryOutput, ReaderInput, Refusal};
 use std::alloc::{AllocError, Global};
@@ -23,13 +22,14 @@ const CLAIMS: &str =
 pub(crate) const TEMPLATE: &str = "{\"protected\":{\"alg\":\"HS256\"}}";
 
 /// `abc` signed with `KEY`.
-const ABC: &str = "eyJhbGciOiJIUzI1NiJ9.YWJj.sxvqVTS8XjHJPVB24OsGa2pZqgR8ZX_Ab4pTTtgI47Y";
+pub(crate) const ABC: &str =
+    "eyJhbGciOiJIUzI1NiJ9.YWJj.sxvqVTS8XjHJPVB24OsGa2pZqgR8ZX_Ab4pTTtgI47Y";
 
-const SIGN: [&str; 9] = [
+pub(crate) const SIGN: [&str; 9] = [
     "jws", "sig", "-c", "-s", "template", "-I", "payload", "-k", "keys",
 ];
 
-const VERIFY: [&str; 6] = ["jws", "ver", "-k", "keys", "-O", "payload"];
+pub(crate) const VERIFY: [&str; 6] = ["jws", "ver", "-k", "keys", "-O", "payload"];
 
 /// How many octets each output takes, where there is room enough.
 pub(crate) const ROOM: usize = 100_000;
@@ -910,138 +910,4 @@ fn words_that_are_no_command_are_told(rt: HostRuntime) -> Result<(), Fail> {
     expect_usage(&rt, &["jwk", "pub"])?;
     expect_usage(&rt, &["jws", "sig", "-c", "-k", "-"])?;
     expect_told(&rt, Ok(()), 0, b"")
-}
-
-/// Signs, verifies, makes a key, names keys, encrypts and decrypts, after so many growths of its own. Each growth may be
-/// refused: then the answer is `Memory`, and nothing was written.
-fn works<R: Abort + AllocGlobal>(rt: &R, before: usize, may_be_refused: bool) {
-    for _ in 0..before {
-        drop(Vec::<u8>::with_capacity(rt.alloc(), 1));
-    }
-    let signing = Given {
-        text: TEMPLATE,
-        content: b"abc",
-        keys: KEY,
-        random: b"",
-    };
-    let verifying = Given {
-        text: ABC,
-        content: b"",
-        keys: KEY,
-        random: b"",
-    };
-    let signed = outcome(rt.alloc(), &SIGN, &signing, 4096, ROOM);
-    answers(rt, signed, Answer::Text(ABC), may_be_refused);
-    let verified = outcome(rt.alloc(), &VERIFY, &verifying, 4096, ROOM);
-    answers(rt, verified, Answer::Content(b"abc"), may_be_refused);
-    makes_and_names(rt, may_be_refused);
-    encrypts_and_decrypts(rt, may_be_refused);
-}
-
-fn encrypts_and_decrypts<R: Abort + AllocGlobal>(rt: &R, may_be_refused: bool) {
-    let encrypting = Given {
-        text: "{\"aad\":\"YQ\"}",
-        content: LINE,
-        keys: RFC7516_KEY,
-        random: RFC7516_RANDOM,
-    };
-    let decrypting = Given {
-        text: WITH_AAD,
-        content: b"",
-        keys: RFC7516_KEY,
-        random: b"",
-    };
-    let encrypted = outcome(rt.alloc(), &ENCRYPT, &encrypting, 4096, ROOM);
-    answers(rt, encrypted, Answer::Text(WITH_AAD), may_be_refused);
-    let decrypted = outcome(rt.alloc(), &DECRYPT, &decrypting, 4096, ROOM);
-    answers(rt, decrypted, Answer::Content(LINE), may_be_refused);
-}
-
-fn makes_and_names<R: Abort + AllocGlobal>(rt: &R, may_be_refused: bool) {
-    let making = Given {
-        text: "{\"alg\":\"A128KW\"}",
-        content: b"",
-        keys: "",
-        random: b"0123456789abcdef",
-    };
-    let key =
-        "{\"alg\":\"A128KW\",\"k\":\"MDEyMzQ1Njc4OWFiY2RlZg\",\"key_ops\":[\"wrapKey\",\"unwrapKey\"],\"kty\":\"oct\"}";
-    let naming = Given {
-        text: "{\"keys\":[{\"kty\":\"oct\",\"k\":\"MDEyMzQ1Njc4OWFiY2RlZg\"},{\"kty\":\"EC\"}]}",
-        content: b"",
-        keys: "",
-        random: b"",
-    };
-    let made = outcome(rt.alloc(), &["jwk", "gen", "-i", "t"], &making, 4096, ROOM);
-    answers(rt, made, Answer::Text(key), may_be_refused);
-    let named = outcome(rt.alloc(), &["jwk", "thp"], &naming, 4096, ROOM);
-    let name = "v1ILoKSndMgSbgGCnD1FaJtavl1L3pU4wgD_Xg_R6QQ";
-    answers(rt, named, Answer::Text(name), may_be_refused);
-}
-
-fn answers<R: Abort>(
-    rt: &R,
-    done: Result<Done, Refusal>,
-    answer: Answer<'_>,
-    may_be_refused: bool,
-) {
-    match done {
-        Ok(done) => expect_answer(rt, &done, answer, may_be_refused),
-        Err(refusal) => assert!(rt; may_be_refused && refusal == Refusal::Memory),
-    }
-}
-
-fn expect_answer<R: Abort>(rt: &R, done: &Done, answer: Answer<'_>, may_be_refused: bool) {
-    let is_refused = may_be_refused && matches!(done.result, Err(Refusal::Memory));
-    let answer = if is_refused {
-        Answer::Refusal(Refusal::Memory)
-    } else {
-        answer
-    };
-    expect_done(rt, done, "growths", answer);
-}
-
-#[test]
-fn a_refused_growth_0(rt: HostRuntime) {
-    works(&rt, 0, true);
-}
-
-#[test]
-fn a_refused_growth_1(rt: HostRuntime) {
-    works(&rt, 1, true);
-}
-
-#[test]
-fn a_refused_growth_2(rt: HostRuntime) {
-    works(&rt, 2, true);
-}
-
-#[test]
-fn a_refused_growth_3(rt: HostRuntime) {
-    works(&rt, 3, true);
-}
-
-#[test]
-fn a_refused_growth_4(rt: HostRuntime) {
-    works(&rt, 4, true);
-}
-
-#[test]
-fn a_refused_growth_5(rt: HostRuntime) {
-    works(&rt, 5, true);
-}
-
-#[test]
-fn a_refused_growth_6(rt: HostRuntime) {
-    works(&rt, 6, true);
-}
-
-#[test]
-fn a_refused_growth_7(rt: HostRuntime) {
-    works(&rt, 7, true);
-}
-
-#[test]
-fn ample_memory_refuses_no_growth(rt: HostRuntime) {
-    works(&rt, 7, false);
 }
