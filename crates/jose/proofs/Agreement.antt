@@ -1,6 +1,6 @@
 -- What a command did on one output, seen on both.
 use Rattle.std.proofs.Common.{◌≡◌, ℕ, List, [], length, take, nat_le, Bool, true, false, cond, Result, Ok, Err, refl, sym, ap, ◌∙◌, append-nil, rules}
-use Rattle.std.specs.Result.{result_unwrap_or, OnOk, IsErrAnd}
+use Rattle.std.specs.Result.{result_unwrap_or, OnOk, OnErr, IsErrAnd}
 use Rattle.octets.specs.declared.refusal.Refusal.{Refusal}
 use Rattle.octets.specs.declared.refusal.Refusal.TheVariants.{Memory, Random}
 use Rattle.octets.specs.Devices.{Observed, observed, appended, IsPossibleInput}
@@ -70,6 +70,11 @@ seen_possible consumed is_at_end old new = record { rest = []; continues = sym (
 pub on_success : {P Q : Type 0} (r : Result (Unit {0}) Refusal) → OnOk r P → (P → Q) → OnOk r Q
 on_success (Ok done) p f = f p
 on_success (Err e) p f = tt
+
+-- a fact at a refusal, as everywhere
+pub at_refusal : {P : Type 0} (r : Result (Unit {0}) Refusal) → P → OnErr r P
+at_refusal (Ok done) p = tt
+at_refusal (Err e) p = p
 
 -- a refusal that stands in the answer, unless it is external
 pub refused : {W : Type 0} (answer : Result W Refusal) (wrote : W) (e : Refusal) (r : Result (Unit {0}) Refusal) → IsErrAnd r (λ refusal. refusal ≡ e)

@@ -5,3 +5,4 @@ pub mod Settings
 pub mod Table
 pub mod Agreement
 pub mod Draws
+pub mod Objects

@@ -29,7 +29,7 @@ draft_of invocation text keys = (meaning_of invocation.command).draft invocation
 abbrev pub answer : InvocationView → InputTexts → Result OutputTexts Refusal
 answer invocation inputs =
     planned (plan_from (draft_of invocation inputs.text inputs.keys) inputs.random)
-    (content_of (meaning_of invocation.command).content inputs.text inputs.content [])
+    (content_of ((meaning_of invocation.command).content invocation.options) inputs.text inputs.content [])
 
 -- Whatever the inputs go on to give, the run did as the answer says.
 abbrev pub Answers : InvocationView → ObservedInputs → OutputTexts → Result (Unit {0}) Refusal → Type 0
@@ -54,28 +54,28 @@ has_text_input command = has_option "i" command || has_option "s" command
 abbrev pub has_keys_input : Command → Bool
 has_keys_input command = has_option "k" command
 
-abbrev pub has_content_input : Command → Bool
-has_content_input command = has_option "I" command
-
 abbrev pub has_random_input : Command → Bool
 has_random_input command = has_option "R" command
 
--- An output that need not be named is there where it is.
+-- A device that need not be named is there where it is.
 abbrev pub is_there : Takes → Option Text → Bool
 is_there flag value = true
 is_there required value = true
 is_there optional value = is_some value
 is_there (default text) value = true
 
-abbrev pub has_output : Option OptionEntry → Settings → Bool
-has_output None settings = false
-has_output (Some entry) settings = is_there entry.takes (value_at entry.letter settings)
+abbrev pub has_device : Option OptionEntry → Settings → Bool
+has_device None settings = false
+has_device (Some entry) settings = is_there entry.takes (value_at entry.letter settings)
+
+abbrev pub has_content_input : InvocationView → Bool
+has_content_input invocation = has_device (option_at "I" invocation.command) invocation.options
 
 abbrev pub has_text_output : InvocationView → Bool
-has_text_output invocation = has_output (option_at "o" invocation.command) invocation.options
+has_text_output invocation = has_device (option_at "o" invocation.command) invocation.options
 
 abbrev pub has_content_output : InvocationView → Bool
-has_content_output invocation = has_output (option_at "O" invocation.command) invocation.options
+has_content_output invocation = has_device (option_at "O" invocation.command) invocation.options
 
 -- ---- what stands after a refusal
 
@@ -92,8 +92,10 @@ has_template the_content has = has
 
 -- The inputs beside the content have given all that is taken of them. Of a random input the octets so far decide:
 -- where they are too few, nothing is made of them.
-abbrev pub others_read : Command → ObservedInputs → Bool
-others_read command seen = was_read (has_keys_input command) seen.keys && was_read (has_template (meaning_of command).content (has_text_input command)) seen.text
+abbrev pub others_read : InvocationView → ObservedInputs → Bool
+others_read invocation seen =
+    was_read (has_keys_input invocation.command) seen.keys
+    && was_read (has_template ((meaning_of invocation.command).content invocation.options) (has_text_input invocation.command)) seen.text
 
 abbrev pub beginning_under : Result (Plan OutputTexts) Refusal → Observed → OutputTexts
 beginning_under (Ok plan) content = beginning_of plan content
@@ -102,9 +104,9 @@ beginning_under (Err r) content = nothing
 -- the outputs hold a beginning of these texts: of none before the other inputs are read and accepted
 abbrev pub beginning : InvocationView → ObservedInputs → OutputTexts
 beginning invocation seen =
-    if others_read invocation.command seen
+    if others_read invocation seen
     then beginning_under (plan_from (draft_of invocation seen.text.octets seen.keys.octets) seen.random.octets)
-    (content_of (meaning_of invocation.command).content seen.text seen.content (record { octets = []; ended = true }))
+    (content_of ((meaning_of invocation.command).content invocation.options) seen.text seen.content (record { octets = []; ended = true }))
     else nothing
 
 -- A command that holds back has touched an output only where it failed.
@@ -123,8 +125,8 @@ AreUncut written old new refusal = refusal ≢ Write
 -- and the content.
 pub record AreInOrder {D : Type 0} (invocation : InvocationView) (seen : ObservedInputs) (old new : Inputs D) : Type 0 where
   pub keys : was_read (has_text_input invocation.command) seen.text ≡ false → new.keys ≡ old.keys
-  pub random : others_read invocation.command seen ≡ false → new.random ≡ old.random
-  pub content : others_read invocation.command seen ≡ false → new.content ≡ old.content
+  pub random : others_read invocation seen ≡ false → new.random ≡ old.random
+  pub content : others_read invocation seen ≡ false → new.content ≡ old.content
 
 -- What the text and the keys refuse is refused before the random input and the content are touched.
 abbrev pub RefusesFirst : {D : Type 0} → InvocationView → ObservedInputs → Inputs D → Inputs D → Type 0
@@ -142,7 +144,7 @@ AreFinished is_finished invocation outputs =
 -- the devices that it has no option for are as they were
 pub record AreUntouched {D E : Type 0} (invocation : InvocationView) (old_inputs new_inputs : Inputs D) (old_outputs new_outputs : Outputs E) : Type 0 where
   pub text : has_text_input invocation.command ≡ false → new_inputs.text ≡ old_inputs.text
-  pub content : has_content_input invocation.command ≡ false → new_inputs.content ≡ old_inputs.content
+  pub content : has_content_input invocation ≡ false → new_inputs.content ≡ old_inputs.content
   pub keys : has_keys_input invocation.command ≡ false → new_inputs.keys ≡ old_inputs.keys
   pub random : has_random_input invocation.command ≡ false → new_inputs.random ≡ old_inputs.random
   pub text_out : has_text_output invocation ≡ false → new_outputs.text ≡ old_outputs.text

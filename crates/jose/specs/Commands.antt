@@ -67,6 +67,7 @@ jws_sig_options =
 abbrev pub jws_ver_options : List OptionEntry
 jws_ver_options =
     option "i" "object" (else_value "-") Input ∷
+    option "I" "detached" optional Input ∷
     option "k" "keys" required Input ∷
     option "a" "all" flag Neither ∷
     option "O" "payload" optional Output ∷ []
@@ -74,7 +75,9 @@ jws_ver_options =
 abbrev pub jws_fmt_options : List OptionEntry
 jws_fmt_options =
     option "i" "object" (else_value "-") Input ∷
+    option "I" "detached" optional Input ∷
     option "o" "text" (else_value "-") Output ∷
+    option "O" "payload" optional Output ∷
     option "c" "compact" flag Neither ∷ []
 
 abbrev pub jwe_enc_options : List OptionEntry
@@ -89,13 +92,16 @@ jwe_enc_options =
 abbrev pub jwe_dec_options : List OptionEntry
 jwe_dec_options =
     option "i" "object" (else_value "-") Input ∷
+    option "I" "detached" optional Input ∷
     option "k" "keys" required Input ∷
     option "O" "plaintext" (else_value "-") Output ∷ []
 
 abbrev pub jwe_fmt_options : List OptionEntry
 jwe_fmt_options =
     option "i" "object" (else_value "-") Input ∷
+    option "I" "detached" optional Input ∷
     option "o" "text" (else_value "-") Output ∷
+    option "O" "ciphertext" optional Output ∷
     option "c" "compact" flag Neither ∷ []
 
 abbrev pub options_of : Command → List OptionEntry

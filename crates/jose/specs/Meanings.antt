@@ -1,16 +1,16 @@
 -- What each command means, in one record for each.
-use Rattle.std.specs.Prelude.{ℕ, Bool, true, false, List, is_some, Result, Ok}
+use Rattle.std.specs.Prelude.{ℕ, Bool, true, false, List, [], is_some, if◌then◌else◌, Option, Some, None, Result, Ok}
 use Rattle.std.specs.Option.{ok_or}
 use Rattle.std.specs.Str.{byte}
 use Rattle.octets.specs.declared.refusal.Refusal.{Refusal}
 use Rattle.octets.specs.declared.refusal.Refusal.TheVariants.{Usage}
 use Rattle.octets.specs.Outcomes.{◌>>=◌}
-use Rattle.octets.specs.Plan.{Draft, placed, by_plan, by_text}
+use Rattle.octets.specs.Plan.{Draft, without_random, placed, by_plan, by_text}
 use Rattle.octets.specs.Encoding.{encoding, decoding}
 use Rattle.jose.specs.declared.command.Command.{Command}
 use Rattle.jose.specs.declared.command.Command.TheVariants.{JwkGen, JwkThp, B64Enc, B64Dec, JwsSig, JwsVer, JwsFmt, JweEnc, JweDec, JweFmt}
 use Rattle.jose.specs.Invocations.{Settings, value_at, hash_asked}
-use Rattle.jose.specs.Ports.{OutputTexts, as_text, as_content}
+use Rattle.jose.specs.Ports.{OutputTexts, nothing, as_text, as_content}
 use Rattle.jose.specs.Jwk.{making, thp_answer}
 use Rattle.jose.specs.Jwe.{enc_answer, dec_answer, jwe_fmt_answer}
 use Rattle.jose.specs.Jws.{sig_answer, ver_answer, jws_fmt_answer}
@@ -22,11 +22,24 @@ pub data Content : Type 0 where
   the_content : Content
 
 pub record Meaning : Type 0 where
-  pub content : Content
+  pub content : Settings → Content
   -- no output is touched before all is accepted
   pub holds_back : Bool
   -- what the settings, the text and the keys settle, or the first refusal; a text that is the content settles nothing
   pub draft : Settings → List ℕ → List ℕ → Result (Draft OutputTexts) Refusal
+
+-- `-I` was given
+abbrev pub is_content_given : Settings → Bool
+is_content_given settings = is_some (value_at (byte "I") settings)
+
+-- the content of an object that is read: what is handed in beside it, if it is
+abbrev pub content_beside : Settings → Content
+content_beside settings = if is_content_given settings then the_content else none
+
+-- What is written of an object, as a whole: by the content too, where that is handed in, and else by the text alone.
+abbrev pub of_object : {W : Type 0} → Bool → W → (Option (List ℕ) → Result W Refusal) → Result (Draft W) Refusal
+of_object true none_of_it answer = Ok (without_random (record { whole = λ content. answer (Some content); fixed = λ front. none_of_it }))
+of_object false none_of_it answer = by_text (answer None)
 
 -- `-O` was given
 abbrev pub is_content_wanted : Settings → Bool
@@ -42,72 +55,73 @@ is_all_asked settings = is_some (value_at (byte "a") settings)
 
 abbrev pub jwk_gen : Meaning
 jwk_gen = record {
-  content = none;
+  content = λ settings. none;
   holds_back = true;
   draft = λ settings text keys. placed as_text (making text);
 }
 
 abbrev pub jwk_thp : Meaning
 jwk_thp = record {
-  content = none;
+  content = λ settings. none;
   holds_back = true;
   draft = λ settings text keys. placed as_text (by_text (ok_or (hash_asked settings) Usage >>= λ hash. thp_answer hash text));
 }
 
 abbrev pub b64_enc : Meaning
 b64_enc = record {
-  content = the_content;
+  content = λ settings. the_content;
   holds_back = false;
   draft = λ settings text keys. placed as_text (by_plan (Ok encoding));
 }
 
 abbrev pub b64_dec : Meaning
 b64_dec = record {
-  content = the_text;
+  content = λ settings. the_text;
   holds_back = false;
   draft = λ settings text keys. placed as_content (by_plan (Ok decoding));
 }
 
 abbrev pub jws_sig : Meaning
 jws_sig = record {
-  content = the_content;
+  content = λ settings. the_content;
   holds_back = false;
   draft = λ settings text keys. placed as_text (by_plan (sig_answer (is_compact_asked settings) keys text));
 }
 
 abbrev pub jws_ver : Meaning
 jws_ver = record {
-  content = none;
+  content = content_beside;
   holds_back = true;
-  draft = λ settings text keys. placed as_content (by_text (ver_answer (is_all_asked settings) (is_content_wanted settings) keys text));
+  draft = λ settings text keys.
+      placed as_content (of_object (is_content_given settings) [] (λ detached. ver_answer (is_all_asked settings) (is_content_wanted settings) keys detached text));
 }
 
 abbrev pub jws_fmt : Meaning
 jws_fmt = record {
-  content = none;
+  content = content_beside;
   holds_back = true;
-  draft = λ settings text keys. placed as_text (by_text (jws_fmt_answer (is_compact_asked settings) text));
+  draft = λ settings text keys. of_object (is_content_given settings) nothing (λ detached. jws_fmt_answer (is_compact_asked settings) (is_content_wanted settings) detached text);
 }
 
 abbrev pub jwe_enc : Meaning
 jwe_enc = record {
-  content = the_content;
+  content = λ settings. the_content;
   holds_back = false;
   draft = λ settings text keys. placed as_text (enc_answer (is_compact_asked settings) keys text);
 }
 
 abbrev pub jwe_dec : Meaning
 jwe_dec = record {
-  content = none;
+  content = content_beside;
   holds_back = true;
-  draft = λ settings text keys. placed as_content (by_text (dec_answer keys text));
+  draft = λ settings text keys. placed as_content (of_object (is_content_given settings) [] (λ detached. dec_answer keys detached text));
 }
 
 abbrev pub jwe_fmt : Meaning
 jwe_fmt = record {
-  content = none;
+  content = content_beside;
   holds_back = true;
-  draft = λ settings text keys. placed as_text (by_text (jwe_fmt_answer (is_compact_asked settings) text));
+  draft = λ settings text keys. of_object (is_content_given settings) nothing (λ detached. jwe_fmt_answer (is_compact_asked settings) (is_content_wanted settings) detached text);
 }
 
 abbrev pub meaning_of : Command → Meaning

@@ -1,6 +1,7 @@
 -- The devices of a run, each by the option that names it, and what a run read from them and wrote to them.
-use Rattle.std.specs.Prelude.{ℕ, Bool, List, [], ◌∷◌}
+use Rattle.std.specs.Prelude.{ℕ, Bool, true, List, [], ◌∷◌, Result, Ok}
 use Rattle.std.specs.Iterator.{Count, IsFinite}
+use Rattle.octets.specs.declared.refusal.Refusal.{Refusal}
 use Rattle.octets.specs.Devices.{Observed, observed, appended, AppendsPrefixOf, IsPossibleInput}
 use Rattle.octets.specs.Faults.{Counts, counts}
 use Rattle.jose.specs.declared.ports.Inputs.{Inputs}
@@ -22,6 +23,11 @@ pub record OutputTexts : Type 0 where
 
 abbrev pub nothing : OutputTexts
 nothing = record { text = []; content = [] }
+
+-- what may stand written of an answer, as a whole: nothing before its inputs are read and accepted
+abbrev pub formed : Result OutputTexts Refusal → Bool → OutputTexts
+formed (Ok texts) true = texts
+formed answer read = nothing
 
 -- the octets of `-o`
 abbrev pub as_text : List ℕ → OutputTexts

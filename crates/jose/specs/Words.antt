@@ -1,7 +1,7 @@
 -- What the program's arguments ask for.
 use Rattle.std.specs.Prelude.{ℕ, ◌&&◌, Bool, true, false, nat_le, List, ◌∷◌, Option, count_by, is_some, codes, Result, Ok, Err}
 use Rattle.std.specs.Option.{ok_or, option_map_or}
-use Rattle.std.specs.Str.{byte, bytes_eq}
+use Rattle.std.specs.Str.{bytes_eq}
 use Rattle.clap.specs.Words.{Text}
 use Rattle.octets.specs.declared.refusal.Refusal.{Refusal}
 use Rattle.octets.specs.declared.refusal.Refusal.TheVariants.{Usage}

@@ -130,6 +130,7 @@ static COMMANDS: [CommandRow; 10] = [
         verb: "ver",
         options: &[
             OptionRow('i', "object", Kind::Default("-"), Role::Input),
+            OptionRow('I', "detached", Kind::Optional, Role::Input),
             OptionRow('k', "keys", Kind::Required, Role::Input),
             OptionRow('a', "all", Kind::Flag, Role::Neither),
             OptionRow('O', "payload", Kind::Optional, Role::Output),
@@ -141,7 +142,9 @@ static COMMANDS: [CommandRow; 10] = [
         verb: "fmt",
         options: &[
             OptionRow('i', "object", Kind::Default("-"), Role::Input),
+            OptionRow('I', "detached", Kind::Optional, Role::Input),
             OptionRow('o', "text", Kind::Default("-"), Role::Output),
+            OptionRow('O', "payload", Kind::Optional, Role::Output),
             OptionRow('c', "compact", Kind::Flag, Role::Neither),
         ],
     },
@@ -164,6 +167,7 @@ static COMMANDS: [CommandRow; 10] = [
         verb: "dec",
         options: &[
             OptionRow('i', "object", Kind::Default("-"), Role::Input),
+            OptionRow('I', "detached", Kind::Optional, Role::Input),
             OptionRow('k', "keys", Kind::Required, Role::Input),
             OptionRow('O', "plaintext", Kind::Default("-"), Role::Output),
         ],
@@ -174,7 +178,9 @@ static COMMANDS: [CommandRow; 10] = [
         verb: "fmt",
         options: &[
             OptionRow('i', "object", Kind::Default("-"), Role::Input),
+            OptionRow('I', "detached", Kind::Optional, Role::Input),
             OptionRow('o', "text", Kind::Default("-"), Role::Output),
+            OptionRow('O', "ciphertext", Kind::Optional, Role::Output),
             OptionRow('c', "compact", Kind::Flag, Role::Neither),
         ],
     },

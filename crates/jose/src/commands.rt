@@ -1,11 +1,12 @@
 //! What each command does, from devices to devices. They are given an option's value where a device does not say it all.
-ghost use Rattle.std.specs.Prelude.{◌≡◌, false, ℕ, List, [], ◌∷◌, OnOk, IfOk, IsTrue};
+ghost use Rattle.std.specs.Prelude.{◌≡◌, ◌&&◌, false, ℕ, List, [], ◌∷◌, option_map, OnOk, IfOk, IfErr, IsTrue};
 ghost use Rattle.std.specs.Iterator.{IsFinite};
 ghost use Rattle.octets.specs.Devices.{observed, IsPossibleInput};
 ghost use Rattle.octets.specs.Faults.{TellsFaults, counts};
-ghost use Rattle.octets.specs.Outcomes.{GivesUnlessExternal};
+ghost use Rattle.octets.specs.Outcomes.{IsReadingFailure, GivesUnlessExternal};
 ghost use Rattle.keys.specs.KeySets.{key_set};
 ghost use Rattle.keys.specs.Limits.{limits};
+ghost use Rattle.objects.specs.Texts.{handed_in};
 
 pub(crate) mod b64;
 pub(crate) mod jwe;
@@ -37,4 +38,58 @@ fn read_with_keys<I: Input>(
     let keys = read_to_end(alloc, keys)?;
     let set = KeySet::read(alloc, &keys, strict)?;
     Ok((text, set))
+}
+
+/// Reads the text to its end, then the keys, and then the content, where one is handed in.
+fn read_object<I: Input>(
+    alloc: Global,
+    text: &mut I,
+    keys: &mut I,
+    given: bool,
+    content: &mut I,
+) -> Result<(Vec<u8>, KeySet, Option<Vec<u8>>), Refusal>
+    requires text { IsFinite (I.remaining text.old) }
+    requires keys { IsFinite (I.remaining keys.old) }
+    requires content { IsFinite (I.remaining content.old) }
+    ensures ends { OnOk result (IsTrue (I.is_at_end text.new) × IsTrue (I.is_at_end keys.new)) }
+    ensures text { IfOk result (λ read. (whole : List ℕ)
+        → IsPossibleInput (observed I.consumed I.is_at_end text.old text.new) whole → whole ≡ read.0.items) }
+    ensures keys { (whole : List ℕ) → IsPossibleInput (observed I.consumed I.is_at_end keys.old keys.new) whole
+        → GivesUnlessExternal (λ read. read.1) result (key_set limits whole false) }
+    ensures content { IfOk result (λ read. (whole : List ℕ)
+        → IsPossibleInput (observed I.consumed I.is_at_end content.old content.new) whole
+        → handed_in given whole ≡ option_map (λ c. c.items) read.2) }
+    ensures content_ends { OnOk result (IsTrue given → IsTrue (I.is_at_end content.new)) }
+    ensures in_order { (I.is_at_end text.new ≡ false → keys.new ≡ keys.old)
+        × (I.is_at_end keys.new && I.is_at_end text.new ≡ false → content.new ≡ content.old) }
+    ensures untouched { given ≡ false → content.new ≡ content.old }
+    ensures faults { TellsFaults (counts I.failures text.old text.new ∷ counts I.failures keys.old keys.new ∷ counts I.failures content.old content.new ∷ []) [] result }
+{
+    let text = read_to_end(alloc, text)?;
+    let keys = read_to_end(alloc, keys)?;
+    let detached = read_beside(alloc, given, content)?;
+    let set = KeySet::read(alloc, &keys, false)?;
+    Ok((text, set, detached))
+}
+
+/// Reads the content to its end, where it is handed in beside an object.
+fn read_beside<I: Input>(
+    alloc: Global,
+    given: bool,
+    content: &mut I,
+) -> Result<Option<Vec<u8>>, Refusal>
+    requires { IsFinite (I.remaining content.old) }
+    ensures content { IfOk result (λ read. (whole : List ℕ)
+        → IsPossibleInput (observed I.consumed I.is_at_end content.old content.new) whole
+        → handed_in given whole ≡ option_map (λ c. c.items) read) }
+    ensures ends { OnOk result (IsTrue given → IsTrue (I.is_at_end content.new)) }
+    ensures untouched { given ≡ false → content.new ≡ content.old }
+    ensures works { OnOk result (I.failures content.new ≡ I.failures content.old) }
+    ensures fails { IfErr result (IsReadingFailure (I.failures content.old) (I.failures content.new)) }
+{
+    if given {
+        Ok(Some(read_to_end(alloc, content)?))
+    } else {
+        Ok(None)
+    }
 }

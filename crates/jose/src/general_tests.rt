@@ -27,7 +27,7 @@ const COMPACT_JWE: [&str; 3] = ["jwe", "fmt", "-c"];
 const DECRYPT: [&str; 6] = ["jwe", "dec", "-k", "keys", "-O", "plaintext"];
 
 /// A key of 64 octets.
-const KEY: &str =
+pub(crate) const KEY: &str =
     "{\"kty\":\"oct\",\"k\":\"AyM1SysPpbyDfgZld3umj1qzKObwVMkoqQ-EstJQLr_T-1qS0gZH75aKtMN3Yj0iPS4hcgUuTwjAzZr1Z9CAow\"}";
 
 /// A key of 32 octets.
@@ -38,7 +38,7 @@ const MIDDLE_KEY: &str =
     "{\"kty\":\"oct\",\"k\":\"AAECAwQFBgcICQoLDA0ODxAREhMUFRYXGBkaGxwdHh8gISIjJCUmJygpKissLS4v\"}";
 
 /// The longest and the shortest.
-const KEYS: &str =
+pub(crate) const KEYS: &str =
     "{\"keys\":[{\"kty\":\"oct\",\"k\":\"AyM1SysPpbyDfgZld3umj1qzKObwVMkoqQ-EstJQLr_T-1qS0gZH75aKtMN3Yj0iPS4hcgUuTwjAzZr1Z9CAow\"},{\"kty\":\"oct\",\"k\":\"AAECAwQFBgcICQoLDA0ODxAREhMUFRYXGBkaGxwdHh8\"}]}";
 
 /// The longest, and another as long.

@@ -37,7 +37,7 @@ fn expect_parts(rt: &impl Abort, jwe: &Jwe, tag: &[u8]) {
 
 #[test]
 fn rfc7516_appendix_a3(rt: HostRuntime) {
-    let jwe = Jwe::read(rt.alloc(), COMPACT.as_bytes()).expect(&rt, "an object");
+    let jwe = Jwe::read(rt.alloc(), COMPACT.as_bytes(), None).expect(&rt, "an object");
     expect_parts(
         &rt,
         &jwe,
@@ -47,7 +47,7 @@ fn rfc7516_appendix_a3(rt: HostRuntime) {
 
 #[test]
 fn rfc7516_appendix_a5(rt: HostRuntime) {
-    let jwe = Jwe::read(rt.alloc(), FLATTENED.as_bytes()).expect(&rt, "an object");
+    let jwe = Jwe::read(rt.alloc(), FLATTENED.as_bytes(), None).expect(&rt, "an object");
     expect_parts(
         &rt,
         &jwe,
@@ -58,7 +58,7 @@ fn rfc7516_appendix_a5(rt: HostRuntime) {
 /// These texts are refused, and why.
 fn expect_refused<R: Abort + AllocGlobal>(rt: &R, rows: &[(&str, Refusal)]) {
     for (text, refusal) in rows {
-        match Jwe::read(rt.alloc(), text.as_bytes()) {
+        match Jwe::read(rt.alloc(), text.as_bytes(), None) {
             Ok(_) => assert!(rt; false, "at {text}"),
             Err(refused) => expect_refusal(rt, refused, *refusal, text),
         }
@@ -221,14 +221,14 @@ const WRITTEN: &[(&str, &str, Option<&str>)] = &[
 ];
 
 fn expect_written<R: Abort + AllocGlobal>(rt: &R, text: &str, json: &str, compact: Option<&str>) {
-    let jwe = Jwe::read(rt.alloc(), text.as_bytes()).expect(rt, "an object");
-    let written = jwe.to_json(rt.alloc()).expect(rt, "memory");
+    let jwe = Jwe::read(rt.alloc(), text.as_bytes(), None).expect(rt, "an object");
+    let written = jwe.to_json(rt.alloc(), false).expect(rt, "memory");
     expect_octets(rt, written.as_bytes(), json.as_bytes(), text);
     expect_compact(rt, &jwe, compact, text);
 }
 
 fn expect_compact<R: Abort + AllocGlobal>(rt: &R, jwe: &Jwe, compact: Option<&str>, at: &str) {
-    match (jwe.to_compact(rt.alloc()), compact) {
+    match (jwe.to_compact(rt.alloc(), false), compact) {
         (Ok(text), Some(compact)) => expect_octets(rt, text.as_bytes(), compact.as_bytes(), at),
         (Err(refused), None) => expect_refusal(rt, refused, Refusal::NotCompact, at),
         _ => assert!(rt; false, "at {at}"),

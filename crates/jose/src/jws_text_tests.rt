@@ -40,7 +40,7 @@ fn expect_parts(rt: &impl Abort, jws: &Jws) {
 
 #[test]
 fn rfc7515_appendix_a1(rt: HostRuntime) {
-    let jws = Jws::read(rt.alloc(), TOKEN).expect(&rt, "an object");
+    let jws = Jws::read(rt.alloc(), TOKEN, None).expect(&rt, "an object");
     expect_parts(&rt, &jws);
 }
 
@@ -54,9 +54,11 @@ const JSON_TOKENS: &[&str] = &[
 #[test]
 fn rfc7515_appendix_a1_in_json(rt: HostRuntime) {
     for text in JSON_TOKENS {
-        let jws = Jws::read(rt.alloc(), text.as_bytes()).expect(&rt, "an object");
+        let jws = Jws::read(rt.alloc(), text.as_bytes(), None).expect(&rt, "an object");
         expect_parts(&rt, &jws);
-        let compact = jws.to_compact(rt.alloc()).expect(&rt, "a compact text");
+        let compact = jws
+            .to_compact(rt.alloc(), false)
+            .expect(&rt, "a compact text");
         expect_octets(&rt, compact.as_bytes(), TOKEN, "the compact text");
     }
 }
@@ -138,7 +140,7 @@ const REFUSED: &[(&str, Refusal)] = &[
 ];
 
 fn expect_refused<R: Abort + AllocGlobal>(rt: &R, text: &str, refusal: Refusal) {
-    match Jws::read(rt.alloc(), text.as_bytes()) {
+    match Jws::read(rt.alloc(), text.as_bytes(), None) {
         Ok(_) => assert!(rt; false, "at {text}"),
         Err(refused) => expect_refusal(rt, refused, refusal, text),
     }

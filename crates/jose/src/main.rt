@@ -51,6 +51,8 @@ fn main(rt: HostRuntime) -> ExitCode {
 #[cfg(test)]
 mod algorithm_tests;
 #[cfg(test)]
+mod detached_tests;
+#[cfg(test)]
 mod general_peer_tests;
 #[cfg(test)]
 mod general_tests;

@@ -457,7 +457,7 @@ pub(crate) fn expect_work<R: Abort + AllocGlobal>(
     answer: Result<(), Refusal>,
 ) -> Result<(), Fail> {
     let set = KeySet::read(rt.alloc(), keys.as_bytes(), false)?;
-    let jwe = Jwe::read(rt.alloc(), text.as_bytes())?;
+    let jwe = Jwe::read(rt.alloc(), text.as_bytes(), None)?;
     let mut out = MemoryOutput::new(rt.alloc(), 64)?;
     let (told, ended) = jwe_decrypt(rt.alloc(), &set, jwe, &mut out);
     expect_ended(rt, ended, answer, text);

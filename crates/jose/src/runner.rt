@@ -70,20 +70,34 @@ pub fn run<I: Input, O: Output>(
             )
         }
         Command::JwsVer => {
+            let given = invocation.has('I');
             let all = invocation.has('a');
             let wanted = invocation.has('O');
             jws::verify(
                 alloc,
                 &mut inputs.text,
                 &mut inputs.keys,
+                given,
+                &mut inputs.content,
                 all,
                 wanted,
                 &mut outputs.content,
             )
         }
         Command::JwsFmt => {
+            let given = invocation.has('I');
             let compact = invocation.has('c');
-            jws::format(alloc, &mut inputs.text, compact, &mut outputs.text)
+            let detach = invocation.has('O');
+            jws::format(
+                alloc,
+                &mut inputs.text,
+                given,
+                &mut inputs.content,
+                compact,
+                detach,
+                &mut outputs.text,
+                &mut outputs.content,
+            )
         }
         Command::JweEnc => {
             let compact = invocation.has('c');
@@ -97,15 +111,31 @@ pub fn run<I: Input, O: Output>(
                 &mut outputs.text,
             )
         }
-        Command::JweDec => jwe::decrypt(
-            alloc,
-            &mut inputs.text,
-            &mut inputs.keys,
-            &mut outputs.content,
-        ),
+        Command::JweDec => {
+            let given = invocation.has('I');
+            jwe::decrypt(
+                alloc,
+                &mut inputs.text,
+                &mut inputs.keys,
+                given,
+                &mut inputs.content,
+                &mut outputs.content,
+            )
+        }
         Command::JweFmt => {
+            let given = invocation.has('I');
             let compact = invocation.has('c');
-            jwe::format(alloc, &mut inputs.text, compact, &mut outputs.text)
+            let detach = invocation.has('O');
+            jwe::format(
+                alloc,
+                &mut inputs.text,
+                given,
+                &mut inputs.content,
+                compact,
+                detach,
+                &mut outputs.text,
+                &mut outputs.content,
+            )
         }
     }
 }

@@ -101,6 +101,8 @@ pub(crate) enum Answer<'a> {
     Text(&'a str),
     /// Write this to `-O`, and nothing to `-o`.
     Content(&'a [u8]),
+    /// Write the first to `-o`, and the second to `-O`.
+    Both(&'a str, &'a [u8]),
     /// Write nothing, and say this.
     Refusal(Refusal),
 }
@@ -129,6 +131,11 @@ pub(crate) fn expect_done<R: Abort>(rt: &R, done: &Done, at: &str, answer: Answe
         Answer::Content(content) => {
             expect_ended(rt, done.result, Ok(()), at);
             expect_written(rt, &done.text, b"", false, at);
+            expect_written(rt, &done.content, content, true, at);
+        }
+        Answer::Both(text, content) => {
+            expect_ended(rt, done.result, Ok(()), at);
+            expect_written(rt, &done.text, text.as_bytes(), true, at);
             expect_written(rt, &done.content, content, true, at);
         }
         Answer::Refusal(refusal) => {

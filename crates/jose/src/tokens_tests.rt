@@ -35,7 +35,7 @@ fn expect_verified<R: Abort + AllocGlobal>(
     written: &[u8],
 ) -> Result<(), Fail> {
     let keys = KeySet::read(rt.alloc(), keys, false)?;
-    let jws = Jws::read(rt.alloc(), ABC)?;
+    let jws = Jws::read(rt.alloc(), ABC, None)?;
     let mut content = MemoryOutput::new(rt.alloc(), 16)?;
     let verified = jws_verify(&keys, &jws, false, wanted, &mut content);
     expect_ended(rt, verified, answer, "verifying");

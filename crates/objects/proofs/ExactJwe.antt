@@ -1,5 +1,5 @@
 -- A compact text of an encrypted object that is read is the compact text of the object, but for a line end.
-use Rattle.std.proofs.Common.{◌≡◌, ℕ, List, [], ◌∷◌, ◌++◌, length, nat_le, map, Ok, refl, sym, ap, ◌∙◌, subst, append_assoc}
+use Rattle.std.proofs.Common.{◌≡◌, ℕ, List, [], ◌∷◌, ◌++◌, length, Bool, nat_le, map, Option, Ok, is_some, refl, sym, ap, ◌∙◌, subst, append_assoc}
 use Rattle.std.specs.List.{AllByRecursion}
 use Rattle.octets.specs.declared.refusal.Refusal.TheVariants.{Limit}
 use Rattle.octets.specs.Base64url.{base64url, decoded}
@@ -10,33 +10,61 @@ use Rattle.octets.proofs.Decoded.{decoded-nil}
 use Rattle.keys.specs.Limits.{Limits}
 use Rattle.serde_json.specs.Data.{no_members}
 use Rattle.objects.specs.Jwe.{RecipientTexts, JweTexts, RecipientParts, EncryptedObject, compact_texts, jwe_texts, recipient_parts, parts_of_texts, object_of_texts, jwe_of, joined, jwe_compact_text, CompactTextsAreExact}
-use Rattle.objects.specs.Texts.{each, split_at_dot, three_parts, depth_of_each}
+use Rattle.objects.specs.Texts.{each, split_at_dot, three_parts, content_by, AreOctetsHandedIn, kept, depth_of_each}
+use Rattle.objects.proofs.DetachedContent.{part_is}
 use Rattle.objects.proofs.EachRead.{one_read, one_kept}
-use Rattle.objects.proofs.Joined.{joined_of_split, joined_of_three, line_octets}
+use Rattle.objects.proofs.Joined.{joined_of_split, joined_of_three, split_octets, three_octets, line_octets}
 use Rattle.objects.proofs.MadeJwe.{IsRecipient, AreSpelled, compact, compact_are, recipient_spelled, parts_spelled}
 use Rattle.objects.proofs.MadeOf.{recipient_made_of, made_of, object_is}
 use Rattle.objects.proofs.Steps.{steps, same_answer}
 use Rattle.objects.proofs.TextOctets.{TextLaws, text_is}
 
--- the texts of a compact text stand in it between dots: those of one recipient, and no header but the protected one
-pub record IsCompact (text : List ℕ) (t : JweTexts) : Type 0 where
+-- the texts of a compact text stand in it between dots: those of one recipient, no header but the protected one, and a part of which the ciphertext is read
+pub record IsCompact (detached : Option (List ℕ)) (text : List ℕ) (t : JweTexts) : Type 0 where
   pub unprotected : t.shared.unprotected ≡ no_members
   pub aad : t.shared.aad ≡ []
   pub recipient : RecipientTexts
   pub alone : t.recipients ≡ recipient ∷ []
   pub header : recipient.header ≡ no_members
-  pub between_dots : text ≡ t.shared.protected ++ 46 ∷ (recipient.encrypted_key ++ 46 ∷ (t.content.iv ++ 46 ∷ (t.content.ciphertext ++ 46 ∷ t.content.tag)))
+  pub part : List ℕ
+  pub octets : IsOctets part
+  pub ciphertext : content_by detached part ≡ Ok t.content.ciphertext
+  pub between_dots : text ≡ t.shared.protected ++ 46 ∷ (recipient.encrypted_key ++ 46 ∷ (t.content.iv ++ 46 ∷ (part ++ 46 ∷ t.content.tag)))
 
-texts_of_compact : (text : List ℕ) (t : JweTexts) → compact_texts text ≡ Ok t → IsCompact text t
+-- so they do where they are joined to the text
+of_parts : (detached : Option (List ℕ)) (text protected key iv part ciphertext tag : List ℕ) → IsOctets part → content_by detached part ≡ Ok ciphertext
+    → text ≡ protected ++ 46 ∷ (key ++ 46 ∷ (iv ++ 46 ∷ (part ++ 46 ∷ tag))) → IsCompact detached text (compact protected key iv ciphertext tag)
+of_parts detached text protected key iv part ciphertext tag octets read whole = record {
+  unprotected = refl;
+  aad = refl;
+  recipient = record { header = no_members; encrypted_key = key };
+  alone = refl;
+  header = refl;
+  part = part;
+  octets = octets;
+  ciphertext = read;
+  between_dots = whole;
+}
+
+-- a text that is split in five is its parts with dots between them
+joined_of_five : (text : List ℕ) (first second : List ℕ × List ℕ) (others : List ℕ × List ℕ × List ℕ) → split_at_dot text ≡ Ok first → split_at_dot first.1 ≡ Ok second
+    → three_parts second.1 ≡ Ok others → text ≡ first.0 ++ 46 ∷ (second.0 ++ 46 ∷ (others.0 ++ 46 ∷ (others.1 ++ 46 ∷ others.2)))
+joined_of_five text first second others a b c =
+    let behind = joined_of_split first.1 second b ∙ ap (λ rest. second.0 ++ 46 ∷ rest) (joined_of_three second.1 others c) in
+    joined_of_split text first a ∙ ap (λ rest. first.0 ++ 46 ∷ rest) behind
+
+texts_of_compact : (detached : Option (List ℕ)) (text : List ℕ) (t : JweTexts) → IsOctets text → compact_texts detached text ≡ Ok t → IsCompact detached text t
 unfolding compact_texts
-texts_of_compact text t h =
+texts_of_compact detached text t octets h =
     let a = steps (split_at_dot text) _ t h in
     let b = steps (split_at_dot a.0.1) _ t a.2 in
     let c = steps (three_parts b.0.1) _ t b.2 in
-    let others = joined_of_split a.0.1 b.0 b.1 ∙ ap (λ rest. b.0.0 ++ 46 ∷ rest) (joined_of_three b.0.1 c.0 c.1) in
-    let whole = joined_of_split text a.0 a.1 ∙ ap (λ rest. a.0.0 ++ 46 ∷ rest) others in
-    subst (IsCompact text) (same_answer (compact a.0.0 b.0.0 c.0.0 c.0.1 c.0.2) t c.2)
-    (record { unprotected = refl; aad = refl; recipient = record { header = no_members; encrypted_key = b.0.0 }; alone = refl; header = refl; between_dots = whole })
+    let d = steps (content_by detached c.0.1) (λ ciphertext. Ok (compact a.0.0 b.0.0 c.0.0 ciphertext c.0.2)) t c.2 in
+    let behind = split_octets a.0.1 b.0 (split_octets text a.0 octets a.1).1 b.1 in
+    let others = three_octets b.0.1 c.0 behind.1 c.1 in
+    let texts : JweTexts = compact a.0.0 b.0.0 c.0.0 d.0 c.0.2 in
+    subst (IsCompact detached text) {x = texts} (same_answer texts t d.2)
+    (of_parts detached text a.0.0 b.0.0 c.0.0 c.0.1 d.0 c.0.2 others.1 d.1 (joined_of_five text a.0 b.0 c.0 a.1 b.1 c.1))
 
 -- an object that is read has the members that its texts spell
 object_spelled : (limits : Limits) (t : JweTexts) (o : EncryptedObject) → object_of_texts limits t ≡ Ok o → AreSpelled t (made_of o)
@@ -48,39 +76,40 @@ object_spelled limits t o h =
     parts_spelled t (made_of o) (c.1 ∙ ap Ok (sym (object_is b.0 c.0 o c.2)))
 
 -- one recipient without a header stands in a compact text, where nothing is shared that is not protected
-compact_text_is : (o : EncryptedObject) (r : RecipientParts) → map recipient_made_of o.recipients ≡ r ∷ [] → o.unprotected ≡ no_members → r.header ≡ no_members → o.aad ≡ []
-    → jwe_compact_text o ≡ Ok (joined o.protected r.encrypted_key o.iv o.ciphertext o.tag)
+compact_text_is : (detach : Bool) (o : EncryptedObject) (r : RecipientParts) → map recipient_made_of o.recipients ≡ r ∷ [] → o.unprotected ≡ no_members → r.header ≡ no_members → o.aad ≡ []
+    → jwe_compact_text detach o ≡ Ok (joined o.protected r.encrypted_key o.iv (kept detach o.ciphertext) o.tag)
 unfolding jwe_compact_text
-compact_text_is o r alone unprotected header aad =
+compact_text_is detach o r alone unprotected header aad =
     let one = one_kept recipient_made_of o.recipients r alone in
     let no_header : one.0.header ≡ no_members = ap (λ (r : RecipientParts). r.header) one.2 ∙ header in
-    rw (one.1, unprotected, no_header, aad) (ap (λ (r : RecipientParts). Ok (joined o.protected r.encrypted_key o.iv o.ciphertext o.tag)) one.2)
+    rw (one.1, unprotected, no_header, aad) (ap (λ (r : RecipientParts). Ok (joined o.protected r.encrypted_key o.iv (kept detach o.ciphertext) o.tag)) one.2)
 
 -- its parts with dots between them are that text
-joined_is : (a b c d e : List ℕ) (o : EncryptedObject) (r : RecipientParts) → o.protected ≡ a → b ≡ base64url r.encrypted_key → c ≡ base64url o.iv → d ≡ base64url o.ciphertext → e ≡ base64url o.tag
-    → joined o.protected r.encrypted_key o.iv o.ciphertext o.tag ≡ a ++ 46 ∷ (b ++ 46 ∷ (c ++ 46 ∷ (d ++ 46 ∷ e)))
-joined_is a b c d e o r protected key iv ciphertext tag = rw (protected, key, iv, ciphertext, tag) (simp append_assoc)
+joined_is : (a b c d e ciphertext : List ℕ) (o : EncryptedObject) (r : RecipientParts) → o.protected ≡ a → b ≡ base64url r.encrypted_key → c ≡ base64url o.iv → d ≡ base64url ciphertext → e ≡ base64url o.tag
+    → joined o.protected r.encrypted_key o.iv ciphertext o.tag ≡ a ++ 46 ∷ (b ++ 46 ∷ (c ++ 46 ∷ (d ++ 46 ∷ e)))
+joined_is a b c d e ciphertext o r protected key iv part tag = rw (protected, key, iv, part, tag) (simp append_assoc)
 
-exact : TextLaws → (limits : Limits) (line : List ℕ) (t : JweTexts) (o : EncryptedObject) → IsOctets line → compact_texts line ≡ Ok t → object_of_texts limits t ≡ Ok o → jwe_compact_text o ≡ Ok line
-exact laws limits line t o octets split h =
-    let is = texts_of_compact line t split in
-    let are = compact_are line t octets split in
+exact : TextLaws → (limits : Limits) (detached : Option (List ℕ)) (line : List ℕ) (t : JweTexts) (o : EncryptedObject) → AreOctetsHandedIn detached → IsOctets line
+    → compact_texts detached line ≡ Ok t → object_of_texts limits t ≡ Ok o → jwe_compact_text (is_some detached) o ≡ Ok line
+exact laws limits detached line t o handed octets split h =
+    let is = texts_of_compact detached line t octets split in
+    let are = compact_are laws detached handed line t octets split in
     let spelled = object_spelled limits t o h in
     let one = one_read recipient_parts is.recipient (map recipient_made_of o.recipients) (ap (each recipient_parts) (sym is.alone) ∙ spelled.recipients) in
     let recipient = recipient_spelled is.recipient one.0 one.1 in
     let texts = subst (AllByRecursion (IsRecipient (depth_of_each (length t.recipients)))) is.alone are.recipients in
     let key = text_is laws is.recipient.encrypted_key one.0.encrypted_key texts.0.encrypted_key recipient.encrypted_key in
     let iv = text_is laws t.content.iv o.iv are.content.iv spelled.iv in
-    let ciphertext = text_is laws t.content.ciphertext o.ciphertext are.content.ciphertext spelled.ciphertext in
+    let part = part_is laws detached is.part t.content.ciphertext o.ciphertext is.octets is.ciphertext spelled.ciphertext in
     let tag = text_is laws t.content.tag o.tag are.content.tag spelled.tag in
     let no_aad : o.aad ≡ [] = same_answer o.aad [] (sym spelled.aad ∙ ap decoded is.aad ∙ decoded-nil) in
-    compact_text_is o one.0 one.2 (spelled.unprotected ∙ is.unprotected) (recipient.header ∙ is.header) no_aad
-    ∙ ap Ok (joined_is t.shared.protected is.recipient.encrypted_key t.content.iv t.content.ciphertext t.content.tag o one.0 spelled.protected key iv ciphertext tag ∙ sym is.between_dots)
+    compact_text_is (is_some detached) o one.0 one.2 (spelled.unprotected ∙ is.unprotected) (recipient.header ∙ is.header) no_aad
+    ∙ ap Ok (joined_is t.shared.protected is.recipient.encrypted_key t.content.iv is.part t.content.tag (kept (is_some detached) o.ciphertext) o one.0 spelled.protected key iv part tag ∙ sym is.between_dots)
 
 pub compact_texts_are_exact : TextLaws → CompactTextsAreExact
 unfolding jwe_of jwe_texts
-compact_texts_are_exact laws limits text o octets form h =
+compact_texts_are_exact laws limits detached text o handed octets form h =
     let line : List ℕ = without_line_end text in
-    let read : (compact_texts line >>= object_of_texts limits) ≡ Ok o = rw form at h in
-    let a = steps (compact_texts line) (object_of_texts limits) o read in
-    exact laws limits line a.0 o (line_octets text octets) a.1 a.2
+    let read : (compact_texts detached line >>= object_of_texts limits) ≡ Ok o = rw form at h in
+    let a = steps (compact_texts detached line) (object_of_texts limits) o read in
+    exact laws limits detached line a.0 o handed (line_octets text octets) a.1 a.2

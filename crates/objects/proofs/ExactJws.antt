@@ -1,5 +1,5 @@
 -- A compact text of a signed object that is read is the compact text of the object, but for a line end.
-use Rattle.std.proofs.Common.{◌≡◌, ℕ, List, [], ◌∷◌, ◌++◌, length, nat_le, map, Ok, refl, sym, ap, ◌∙◌, subst, append_assoc}
+use Rattle.std.proofs.Common.{◌≡◌, ℕ, List, [], ◌∷◌, ◌++◌, length, Bool, nat_le, map, Option, Ok, is_some, refl, sym, ap, ◌∙◌, subst, append_assoc}
 use Rattle.std.specs.List.{AllByRecursion}
 use Rattle.octets.specs.declared.refusal.Refusal.TheVariants.{Limit}
 use Rattle.octets.specs.Base64url.{base64url, decoded}
@@ -9,27 +9,40 @@ use Rattle.octets.specs.Outcomes.{◌>>=◌, needs}
 use Rattle.keys.specs.Limits.{Limits}
 use Rattle.serde_json.specs.Data.{no_members}
 use Rattle.objects.specs.Jws.{SignatureTexts, JwsTexts, SignatureParts, DecodedSignature, SignedObject, compact_texts, jws_texts, decoded_texts, object_of_texts, jws_of, joined, jws_compact_text, CompactTextsAreExact}
-use Rattle.objects.specs.Texts.{each, three_parts, depth_of_each}
+use Rattle.objects.specs.Texts.{each, three_parts, content_by, AreOctetsHandedIn, kept, depth_of_each}
+use Rattle.objects.proofs.DetachedContent.{part_is}
 use Rattle.objects.proofs.EachRead.{one_read, one_kept}
-use Rattle.objects.proofs.Joined.{joined_of_three, line_octets}
+use Rattle.objects.proofs.Joined.{joined_of_three, three_octets, line_octets}
 use Rattle.objects.proofs.MadeJws.{IsSignature, compact_are, signature_spelled}
 use Rattle.objects.proofs.MadeOf.{signature_made_of, signed_is}
 use Rattle.objects.proofs.Steps.{steps, same_answer}
 use Rattle.objects.proofs.TextOctets.{TextLaws, text_is}
 
--- the texts of a compact text stand in it between dots: those of one signature without an unprotected header
-pub record IsCompact (text : List ℕ) (t : JwsTexts) : Type 0 where
+-- the texts of a compact text stand in it between dots: those of one signature without an unprotected header, and a part of which the payload is read
+pub record IsCompact (detached : Option (List ℕ)) (text : List ℕ) (t : JwsTexts) : Type 0 where
   pub signature : SignatureTexts
   pub alone : t.signatures ≡ signature ∷ []
   pub header : signature.header ≡ no_members
-  pub between_dots : text ≡ signature.protected ++ 46 ∷ (t.payload ++ 46 ∷ signature.signature)
+  pub part : List ℕ
+  pub octets : IsOctets part
+  pub payload : content_by detached part ≡ Ok t.payload
+  pub between_dots : text ≡ signature.protected ++ 46 ∷ (part ++ 46 ∷ signature.signature)
 
-texts_of_compact : (text : List ℕ) (t : JwsTexts) → compact_texts text ≡ Ok t → IsCompact text t
+texts_of_compact : (detached : Option (List ℕ)) (text : List ℕ) (t : JwsTexts) → IsOctets text → compact_texts detached text ≡ Ok t → IsCompact detached text t
 unfolding compact_texts
-texts_of_compact text t h =
+texts_of_compact detached text t octets h =
     let a = steps (three_parts text) _ t h in
-    subst (IsCompact text) (same_answer _ t a.2)
-    (record { signature = record { protected = a.0.0; header = no_members; signature = a.0.2 }; alone = refl; header = refl; between_dots = joined_of_three text a.0 a.1 })
+    let b = steps (content_by detached a.0.1) _ t a.2 in
+    subst (IsCompact detached text) (same_answer _ t b.2)
+    (record {
+      signature = record { protected = a.0.0; header = no_members; signature = a.0.2 };
+      alone = refl;
+      header = refl;
+      part = a.0.1;
+      octets = (three_octets text a.0 octets a.1).1;
+      payload = b.1;
+      between_dots = joined_of_three text a.0 a.1;
+    })
 
 -- an object that is read has the payload and the signatures that its texts spell
 pub record IsSpelled (t : JwsTexts) (o : SignedObject) : Type 0 where
@@ -48,34 +61,36 @@ object_spelled limits t o h =
     record { payload = b.1 ∙ ap Ok (sym is.payload); decoded_signatures = c.0; decodes = c.1; signatures = is.signatures }
 
 -- one signature without an unprotected header stands in a compact text
-compact_text_is : (o : SignedObject) (s : SignatureParts) → map signature_made_of o.signatures ≡ s ∷ [] → s.header ≡ no_members → jws_compact_text o ≡ Ok (joined s.protected o.payload s.signature)
+compact_text_is : (detach : Bool) (o : SignedObject) (s : SignatureParts) → map signature_made_of o.signatures ≡ s ∷ [] → s.header ≡ no_members
+    → jws_compact_text detach o ≡ Ok (joined s.protected (kept detach o.payload) s.signature)
 unfolding jws_compact_text
-compact_text_is o s alone header =
+compact_text_is detach o s alone header =
     let one = one_kept signature_made_of o.signatures s alone in
     let no_header : one.0.header ≡ no_members = ap (λ (s : SignatureParts). s.header) one.2 ∙ header in
-    rw (one.1, no_header) (ap (λ (s : SignatureParts). Ok (joined s.protected o.payload s.signature)) one.2)
+    rw (one.1, no_header) (ap (λ (s : SignatureParts). Ok (joined s.protected (kept detach o.payload) s.signature)) one.2)
 
 -- its parts with dots between them are that text
-joined_is : (a b c : List ℕ) (o : SignedObject) (s : SignatureParts) → s.protected ≡ a → b ≡ base64url o.payload → c ≡ base64url s.signature → joined s.protected o.payload s.signature ≡ a ++ 46 ∷ (b ++ 46 ∷ c)
-joined_is a b c o s protected payload signature = rw (protected, payload, signature) (simp append_assoc)
+joined_is : (a b c payload : List ℕ) (s : SignatureParts) → s.protected ≡ a → b ≡ base64url payload → c ≡ base64url s.signature → joined s.protected payload s.signature ≡ a ++ 46 ∷ (b ++ 46 ∷ c)
+joined_is a b c payload s protected part signature = rw (protected, part, signature) (simp append_assoc)
 
-exact : TextLaws → (limits : Limits) (line : List ℕ) (t : JwsTexts) (o : SignedObject) → IsOctets line → compact_texts line ≡ Ok t → object_of_texts limits t ≡ Ok o → jws_compact_text o ≡ Ok line
-exact laws limits line t o octets split h =
-    let is = texts_of_compact line t split in
-    let are = compact_are line t octets split in
+exact : TextLaws → (limits : Limits) (detached : Option (List ℕ)) (line : List ℕ) (t : JwsTexts) (o : SignedObject) → AreOctetsHandedIn detached → IsOctets line
+    → compact_texts detached line ≡ Ok t → object_of_texts limits t ≡ Ok o → jws_compact_text (is_some detached) o ≡ Ok line
+exact laws limits detached line t o handed octets split h =
+    let is = texts_of_compact detached line t octets split in
+    let are = compact_are laws detached handed line t octets split in
     let spelled = object_spelled limits t o h in
     let one = one_read decoded_texts is.signature spelled.decoded_signatures (ap (each decoded_texts) (sym is.alone) ∙ spelled.decodes) in
     let s = signature_spelled is.signature one.0 one.1 in
     let texts = subst (AllByRecursion (IsSignature (depth_of_each (length t.signatures)))) is.alone are.signatures in
-    let payload = text_is laws t.payload o.payload are.payload spelled.payload in
+    let part = part_is laws detached is.part t.payload o.payload is.octets is.payload spelled.payload in
     let signature = text_is laws is.signature.signature one.0.parts.signature texts.0.signature s.signature in
-    compact_text_is o one.0.parts (spelled.signatures ∙ ap (map (λ (s : DecodedSignature). s.parts)) one.2) (s.header ∙ is.header)
-    ∙ ap Ok (joined_is is.signature.protected t.payload is.signature.signature o one.0.parts s.protected payload signature ∙ sym is.between_dots)
+    compact_text_is (is_some detached) o one.0.parts (spelled.signatures ∙ ap (map (λ (s : DecodedSignature). s.parts)) one.2) (s.header ∙ is.header)
+    ∙ ap Ok (joined_is is.signature.protected is.part is.signature.signature (kept (is_some detached) o.payload) one.0.parts s.protected part signature ∙ sym is.between_dots)
 
 pub compact_texts_are_exact : TextLaws → CompactTextsAreExact
 unfolding jws_of jws_texts
-compact_texts_are_exact laws limits text o octets form h =
+compact_texts_are_exact laws limits detached text o handed octets form h =
     let line : List ℕ = without_line_end text in
-    let read : (compact_texts line >>= object_of_texts limits) ≡ Ok o = rw form at h in
-    let a = steps (compact_texts line) (object_of_texts limits) o read in
-    exact laws limits line a.0 o (line_octets text octets) a.1 a.2
+    let read : (compact_texts detached line >>= object_of_texts limits) ≡ Ok o = rw form at h in
+    let a = steps (compact_texts detached line) (object_of_texts limits) o read in
+    exact laws limits detached line a.0 o handed (line_octets text octets) a.1 a.2

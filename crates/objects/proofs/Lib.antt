@@ -10,13 +10,14 @@ pub mod Characters
 pub mod CompactTexts
 pub mod ListedMembers
 pub mod Spelling
+pub mod TextOctets
+pub mod Joined
+pub mod ReadJson
+pub mod DetachedContent
 pub mod SpellingJwe
 pub mod SpellingJweCompact
 pub mod SpellingJws
 pub mod SpellingJwsCompact
-pub mod TextOctets
-pub mod Joined
-pub mod ReadJson
 pub mod MadeJwe
 pub mod MadeJws
 pub mod MadeOf

@@ -5,7 +5,7 @@ use Rattle.std.specs.List.{AllByRecursion}
 use Rattle.serde_json.specs.Data.{Data, Items, no_members}
 use Rattle.serde_json.specs.Find.{get}
 use Rattle.octets.specs.declared.refusal.Refusal.TheVariants.{Limit}
-use Rattle.octets.specs.Base64url.{decoded}
+use Rattle.octets.specs.Base64url.{decoded, DecodesExactly}
 use Rattle.octets.specs.Octets.{IsOctets}
 use Rattle.octets.specs.Outcomes.{needs}
 use Rattle.octets.proofs.Decoded.{IsOctets-nil}
@@ -13,14 +13,16 @@ use Rattle.keys.specs.JsonTexts.{IsJson, KeepJson}
 use Rattle.keys.specs.Limits.{Limits}
 use Rattle.objects.specs.Headers.{header_at}
 use Rattle.objects.specs.Jwe.{RecipientTexts, RecipientParts, SharedTexts, ContentTexts, JweTexts, JweParts, EncryptedObject, shared_texts, recipient_texts, content_texts, no_recipient_at, recipients_by, recipient_objects, json_texts, compact_texts, jwe_texts, recipient_parts, parts_of_texts, object_of_texts, jwe_of, is_shallow, have_whole_numbers, built, AreMembers, ObjectsAreMade}
-use Rattle.objects.specs.Texts.{each, each_item, is_json_form, split_at_dot, three_parts, text_at, required_text, header_depth, depth_of_each}
+use Rattle.objects.specs.Texts.{each, each_item, is_json_form, split_at_dot, three_parts, text_at, content_by, content_text, AreOctetsHandedIn, header_depth, depth_of_each}
+use Rattle.objects.proofs.DetachedContent.{MeansOctets, part_octets, member_octets}
 use Rattle.objects.proofs.Each.{as_many}
 use Rattle.objects.proofs.EachRead.{all_read, all_pass, all_then}
 use Rattle.objects.proofs.Joined.{split_octets, three_octets}
-use Rattle.objects.proofs.ReadJson.{ReadingLaws, IsShallow, IsHeader, AreObjects, no_header, header_whole, text_octets, required_octets, header_shallow, alone, listed, each_is, of_text}
+use Rattle.objects.proofs.ReadJson.{ReadingLaws, IsShallow, IsHeader, AreObjects, no_header, header_whole, text_octets, header_shallow, alone, listed, each_is, of_text}
 use Rattle.objects.proofs.Steps.{steps, passed, same_answer}
+use Rattle.objects.proofs.TextOctets.{TextLaws}
 
--- ---- the texts are octets, and the headers are as JSON has them
+-- ---- the texts are octets, but that of the ciphertext, which decodes to octets, and the headers are as JSON has them
 
 pub record IsRecipient (n : ℕ) (t : RecipientTexts) : Type 0 where
   pub header : IsHeader n t.header
@@ -33,7 +35,7 @@ pub record AreShared (t : SharedTexts) : Type 0 where
 
 pub record AreContent (t : ContentTexts) : Type 0 where
   pub iv : IsOctets t.iv
-  pub ciphertext : IsOctets t.ciphertext
+  pub ciphertext : MeansOctets t.ciphertext
   pub tag : IsOctets t.tag
 
 pub record AreTexts (t : JweTexts) : Type 0 where
@@ -65,16 +67,16 @@ shared_are keep d t is h =
       aad = text_octets keep (codes "aad") d c.0 is.json c.1;
     })
 
-content_are : KeepJson → (d : Data) (t : ContentTexts) → IsJson d → content_texts d ≡ Ok t → AreContent t
+content_are : KeepJson → TextLaws → (detached : Option (List ℕ)) → AreOctetsHandedIn detached → (d : Data) (t : ContentTexts) → IsJson d → content_texts detached d ≡ Ok t → AreContent t
 unfolding content_texts
-content_are keep d t is h =
+content_are keep laws detached handed d t is h =
     let a = steps (text_at (codes "iv") d) _ t h in
-    let b = steps (required_text (codes "ciphertext") d) _ t a.2 in
+    let b = steps (content_text detached (codes "ciphertext") d) _ t a.2 in
     let c = steps (text_at (codes "tag") d) _ t b.2 in
     subst AreContent (same_answer _ t c.2)
     (record {
       iv = text_octets keep (codes "iv") d a.0 is a.1;
-      ciphertext = required_octets keep (codes "ciphertext") d b.0 is b.1;
+      ciphertext = member_octets keep laws detached (codes "ciphertext") d b.0 handed is b.1;
       tag = text_octets keep (codes "tag") d c.0 is c.1;
     })
 
@@ -88,16 +90,16 @@ objects_are : KeepJson → (d : Data) (items : Items) → IsShallow 127 d → re
 unfolding recipient_objects
 objects_are keep d items is h = objects_by keep d (get (codes "recipients") d) items is refl h
 
-json_are : KeepJson → (d : Data) (t : JweTexts) → IsShallow 127 d → json_texts d ≡ Ok t → AreTexts t
+json_are : KeepJson → TextLaws → (detached : Option (List ℕ)) → AreOctetsHandedIn detached → (d : Data) (t : JweTexts) → IsShallow 127 d → json_texts detached d ≡ Ok t → AreTexts t
 unfolding json_texts
-json_are keep d t is h =
+json_are keep laws detached handed d t is h =
     let a = steps (shared_texts d) _ t h in
     let b = steps (recipient_objects d) _ t a.2 in
     let c = steps (each_item recipient_texts b.0) _ t b.2 in
-    let e = steps (content_texts d) _ t c.2 in
+    let e = steps (content_texts detached d) _ t c.2 in
     let recipients = each_is IsRecipient recipient_texts (recipient_is keep) b.0 c.0 (objects_are keep d b.0 is b.1) c.1 in
     subst AreTexts (same_answer _ t e.2)
-    (record { shared = shared_are keep d a.0 is a.1; recipients = recipients.0; some = recipients.1; content = content_are keep d e.0 is.json e.1 })
+    (record { shared = shared_are keep d a.0 is a.1; recipients = recipients.0; some = recipients.1; content = content_are keep laws detached handed d e.0 is.json e.1 })
 
 -- ---- in compact form
 
@@ -109,30 +111,32 @@ compact protected encrypted_key iv ciphertext tag = record {
   content = record { iv = iv; ciphertext = ciphertext; tag = tag };
 }
 
-pub compact_are : (text : List ℕ) (t : JweTexts) → IsOctets text → compact_texts text ≡ Ok t → AreTexts t
+pub compact_are : TextLaws → (detached : Option (List ℕ)) → AreOctetsHandedIn detached → (text : List ℕ) (t : JweTexts) → IsOctets text → compact_texts detached text ≡ Ok t → AreTexts t
 unfolding compact_texts
-compact_are text t octets h =
+compact_are laws detached handed text t octets h =
     let a = steps (split_at_dot text) _ t h in
     let b = steps (split_at_dot a.0.1) _ t a.2 in
     let c = steps (three_parts b.0.1) _ t b.2 in
+    let d = steps (content_by detached c.0.1) (λ ciphertext. Ok (compact a.0.0 b.0.0 c.0.0 ciphertext c.0.2)) t c.2 in
     let first = split_octets text a.0 octets a.1 in
     let second = split_octets a.0.1 b.0 first.1 b.1 in
     let others = three_octets b.0.1 c.0 second.1 c.1 in
     let none : IsHeader header_depth no_members = no_header header_depth (omega arith) in
-    let texts : JweTexts = compact a.0.0 b.0.0 c.0.0 c.0.1 c.0.2 in
-    subst AreTexts {x = texts} (same_answer texts t c.2)
+    let texts : JweTexts = compact a.0.0 b.0.0 c.0.0 d.0 c.0.2 in
+    subst AreTexts {x = texts} (same_answer texts t d.2)
     (record {
       shared = record { protected = first.0; unprotected = none; aad = IsOctets-nil };
       recipients = (record { header = none; encrypted_key = second.0 }, tt);
       some = omega arith;
-      content = record { iv = others.0; ciphertext = others.1; tag = others.2 };
+      content = record { iv = others.0; ciphertext = part_octets laws detached c.0.1 d.0 handed others.1 d.1; tag = others.2 };
     })
 
 -- ---- in either form
 
-texts_are : ReadingLaws → (text : List ℕ) (t : JweTexts) → IsOctets text → jwe_texts text ≡ Ok t → AreTexts t
+texts_are : ReadingLaws → TextLaws → (detached : Option (List ℕ)) → AreOctetsHandedIn detached → (text : List ℕ) (t : JweTexts) → IsOctets text → jwe_texts detached text ≡ Ok t → AreTexts t
 unfolding jwe_texts
-texts_are laws text t octets h = of_text AreTexts json_texts compact_texts laws.reads (json_are laws.keep) compact_are (is_json_form text) text t octets h
+texts_are reading laws detached handed text t octets h =
+    of_text AreTexts (json_texts detached) (compact_texts detached) reading.reads (json_are reading.keep laws detached handed) (compact_are laws detached handed) (is_json_form text) text t octets h
 
 -- ---- the members
 
@@ -201,7 +205,7 @@ object_made laws limits t o are h =
       unprotected = unprotected.json;
       iv = laws.octets t.content.iv parts.iv are.content.iv spelled.iv;
       aad = laws.octets t.shared.aad parts.aad are.shared.aad spelled.aad;
-      ciphertext = laws.octets t.content.ciphertext parts.ciphertext are.content.ciphertext spelled.ciphertext;
+      ciphertext = are.content.ciphertext parts.ciphertext spelled.ciphertext;
       tag = laws.octets t.content.tag parts.tag are.content.tag spelled.tag;
       recipients = all_then (IsMade n) _ (λ r is. (is.0.json, is.1)) parts.recipients all;
     } in
@@ -213,8 +217,9 @@ object_made laws limits t o are h =
     let octets : decoded parts.protected ≡ Ok b.0 = ap decoded spelled.protected ∙ b.1 in
     (parts, (members, rw (shallow, whole, some, few, octets) c.2))
 
-pub objects_are_made : ReadingLaws → ObjectsAreMade
+pub objects_are_made : ReadingLaws → DecodesExactly → ObjectsAreMade
 unfolding jwe_of
-objects_are_made laws limits text o octets h =
-    let a = steps (jwe_texts text) (object_of_texts limits) o h in
-    object_made laws limits a.0 o (texts_are laws text a.0 octets a.1) a.2
+objects_are_made laws exact limits detached text o handed octets h =
+    let a = steps (jwe_texts detached text) (object_of_texts limits) o h in
+    let are = texts_are laws (record { exact = exact; octets = laws.octets }) detached handed text a.0 octets a.1 in
+    object_made laws limits a.0 o are a.2

@@ -6,21 +6,23 @@ use Rattle.std.specs.List.{AllByRecursion}
 use Rattle.serde_json.specs.Data.{Data, Items}
 use Rattle.serde_json.specs.Find.{get}
 use Rattle.octets.specs.declared.refusal.Refusal.TheVariants.{Limit}
-use Rattle.octets.specs.Base64url.{decoded}
+use Rattle.octets.specs.Base64url.{decoded, DecodesExactly}
 use Rattle.octets.specs.Octets.{IsOctets}
 use Rattle.octets.specs.Outcomes.{◌>>=◌, needs}
 use Rattle.keys.specs.JsonTexts.{KeepJson}
 use Rattle.keys.specs.Limits.{Limits}
 use Rattle.objects.specs.Headers.{header_at}
 use Rattle.objects.specs.Jws.{SignatureTexts, SignatureParts, JwsTexts, JwsParts, DecodedSignature, SignedObject, signature_texts, no_signature_at, signatures_by, signature_objects, json_texts, compact_texts, jws_texts, decoded_signature, decoded_texts, object_of_texts, jws_of, nest_at_most, have_whole_numbers, built, AreMembers, ObjectsAreMade}
-use Rattle.objects.specs.Texts.{each, each_item, is_json_form, three_parts, text_at, required_text, depth_of_each}
+use Rattle.objects.specs.Texts.{each, each_item, is_json_form, three_parts, text_at, required_text, content_by, content_text, AreOctetsHandedIn, depth_of_each}
+use Rattle.objects.proofs.DetachedContent.{MeansOctets, part_octets, member_octets}
 use Rattle.objects.proofs.Each.{as_many}
 use Rattle.objects.proofs.EachRead.{all_read, read_again, all_pass, all_then, all_images}
 use Rattle.objects.proofs.Joined.{three_octets}
 use Rattle.objects.proofs.ReadJson.{ReadingLaws, IsShallow, IsHeader, AreObjects, no_header, header_whole, text_octets, required_octets, header_shallow, alone, listed, each_is, of_text}
 use Rattle.objects.proofs.Steps.{steps, passed, same_answer}
+use Rattle.objects.proofs.TextOctets.{TextLaws}
 
--- ---- the texts are octets, and the headers are as JSON has them
+-- ---- the texts are octets, but that of the payload, which decodes to octets, and the headers are as JSON has them
 
 pub record IsSignature (n : ℕ) (t : SignatureTexts) : Type 0 where
   pub protected : IsOctets t.protected
@@ -28,7 +30,7 @@ pub record IsSignature (n : ℕ) (t : SignatureTexts) : Type 0 where
   pub signature : IsOctets t.signature
 
 pub record AreTexts (t : JwsTexts) : Type 0 where
-  pub payload : IsOctets t.payload
+  pub payload : MeansOctets t.payload
   pub signatures : AllByRecursion (IsSignature (depth_of_each (length t.signatures))) t.signatures
   pub some : 1 ≤ length t.signatures
 
@@ -57,34 +59,37 @@ objects_are : KeepJson → (d : Data) (items : Items) → IsShallow 127 d → si
 unfolding signature_objects
 objects_are keep d items is h = objects_by keep d (get (codes "signatures") d) items is refl h
 
-json_are : KeepJson → (d : Data) (t : JwsTexts) → IsShallow 127 d → json_texts d ≡ Ok t → AreTexts t
+json_are : KeepJson → TextLaws → (detached : Option (List ℕ)) → AreOctetsHandedIn detached → (d : Data) (t : JwsTexts) → IsShallow 127 d → json_texts detached d ≡ Ok t → AreTexts t
 unfolding json_texts
-json_are keep d t is h =
-    let a = steps (required_text (codes "payload") d) _ t h in
+json_are keep laws detached handed d t is h =
+    let a = steps (content_text detached (codes "payload") d) _ t h in
     let b = steps (signature_objects d) _ t a.2 in
     let c = steps (each_item signature_texts b.0) _ t b.2 in
     let signatures = each_is IsSignature signature_texts (signature_is keep) b.0 c.0 (objects_are keep d b.0 is b.1) c.1 in
-    subst AreTexts (same_answer _ t c.2) (record { payload = required_octets keep (codes "payload") d a.0 is.json a.1; signatures = signatures.0; some = signatures.1 })
+    subst AreTexts (same_answer _ t c.2)
+    (record { payload = member_octets keep laws detached (codes "payload") d a.0 handed is.json a.1; signatures = signatures.0; some = signatures.1 })
 
 -- ---- in compact form
 
-pub compact_are : (text : List ℕ) (t : JwsTexts) → IsOctets text → compact_texts text ≡ Ok t → AreTexts t
+pub compact_are : TextLaws → (detached : Option (List ℕ)) → AreOctetsHandedIn detached → (text : List ℕ) (t : JwsTexts) → IsOctets text → compact_texts detached text ≡ Ok t → AreTexts t
 unfolding compact_texts
-compact_are text t octets h =
+compact_are laws detached handed text t octets h =
     let a = steps (three_parts text) _ t h in
+    let b = steps (content_by detached a.0.1) _ t a.2 in
     let parts = three_octets text a.0 octets a.1 in
-    subst AreTexts (same_answer _ t a.2)
+    subst AreTexts (same_answer _ t b.2)
     (record {
-      payload = parts.1;
+      payload = part_octets laws detached a.0.1 b.0 handed parts.1 b.1;
       signatures = (record { protected = parts.0; header = no_header 126 (omega arith); signature = parts.2 }, tt);
       some = omega arith;
     })
 
 -- ---- in either form
 
-texts_are : ReadingLaws → (text : List ℕ) (t : JwsTexts) → IsOctets text → jws_texts text ≡ Ok t → AreTexts t
+texts_are : ReadingLaws → TextLaws → (detached : Option (List ℕ)) → AreOctetsHandedIn detached → (text : List ℕ) (t : JwsTexts) → IsOctets text → jws_texts detached text ≡ Ok t → AreTexts t
 unfolding jws_texts
-texts_are laws text t octets h = of_text AreTexts json_texts compact_texts laws.reads (json_are laws.keep) compact_are (is_json_form text) text t octets h
+texts_are reading laws detached handed text t octets h =
+    of_text AreTexts (json_texts detached) (compact_texts detached) reading.reads (json_are reading.keep laws detached handed) (compact_are laws detached handed) (is_json_form text) text t octets h
 
 -- ---- the members
 
@@ -129,7 +134,7 @@ object_made laws limits t o are h =
     let all : AllByRecursion (IsMade n) signatures =
     all_images (IsMade n) members_of (λ s is. is) c.0 (all_read (IsSignature n) (λ s. IsMade n s.parts) decoded_texts (signature_made laws n) t.signatures c.0 texts c.1) in
     let members : AreMembers (record { payload = b.0; signatures = signatures }) = record {
-      payload = laws.octets t.payload b.0 are.payload b.1;
+      payload = are.payload b.0 b.1;
       signatures = all_then (IsMade n) _ (λ s is. (is.0, (is.1.json, is.2))) signatures all;
     } in
     let shallow : nest_at_most n signatures ≡ true = all_pass (IsMade n) _ (λ s is. le-leb _ n is.1.shallow) signatures all in
@@ -139,8 +144,9 @@ object_made laws limits t o are h =
     let again : each decoded_signature signatures ≡ Ok c.0 = read_again decoded_texts members_of decoded_signature (λ t s h. (signature_spelled t s h).again) t.signatures c.0 c.1 in
     (record { payload = b.0; signatures = signatures }, (members, rw (shallow, whole, some, few, again) c.2))
 
-pub objects_are_made : ReadingLaws → ObjectsAreMade
+pub objects_are_made : ReadingLaws → DecodesExactly → ObjectsAreMade
 unfolding jws_of
-objects_are_made laws limits text o octets h =
-    let a = steps (jws_texts text) (object_of_texts limits) o h in
-    object_made laws limits a.0 o (texts_are laws text a.0 octets a.1) a.2
+objects_are_made laws exact limits detached text o handed octets h =
+    let a = steps (jws_texts detached text) (object_of_texts limits) o h in
+    let are = texts_are laws (record { exact = exact; octets = laws.octets }) detached handed text a.0 octets a.1 in
+    object_made laws limits a.0 o are a.2

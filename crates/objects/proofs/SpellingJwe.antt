@@ -1,10 +1,10 @@
 -- What the JSON text of an encrypted object spells is the object.
-use Rattle.std.proofs.Common.{◌≡◌, ℕ, List, [], ◌∷◌, ◌++◌, length, map, codes, true, nat_le, Option, Some, None, Ok, refl, sym, ap, ◌∙◌}
+use Rattle.std.proofs.Common.{◌≡◌, ℕ, List, [], ◌∷◌, ◌++◌, length, map, codes, Bool, true, nat_le, Option, Some, None, Ok, refl, sym, ap, ◌∙◌}
 use Rattle.std.proofs.lemmas.Bool.{and_parts}
 use Rattle.std.proofs.lemmas.List.{length-map}
 use Rattle.std.specs.List.{AllByRecursion}
 use Rattle.std.specs.Option.{option_or}
-use Rattle.serde_json.specs.Data.{Data, Members, no_members, string, object, depth}
+use Rattle.serde_json.specs.Data.{Data, Members, no_members, object, depth}
 use Rattle.serde_json.specs.Find.{get}
 use Rattle.serde_json.specs.Written.{compact_text}
 use Rattle.octets.specs.declared.refusal.Refusal.TheVariants.{Json, Number, Form, Header, Unsupported, Limit}
@@ -16,12 +16,13 @@ use Rattle.keys.specs.JsonTexts.{AreJsonMembers}
 use Rattle.keys.specs.Limits.{Limits}
 use Rattle.objects.specs.Headers.{protected_members, joint_header, string_there}
 use Rattle.objects.specs.Jwe.{JweParts, RecipientParts, Recipient, EncryptedObject, JweTexts, RecipientTexts, shared_texts, recipient_texts, content_texts, no_recipient_at, recipients_by, recipient_objects, json_texts, jwe_texts, recipient_parts, parts_of_texts, parameters_of, recipient_by, recipient_of, recipients_of, recipients_of_one_enc, have_one_enc, are_plain, encrypted_object, object_of_texts, jwe_of, nest_at_most, is_shallow, have_whole_numbers, built, put_shared, put_recipient, put_recipients, json_text, AreMembers}
-use Rattle.objects.specs.Texts.{header_depth, depth_of_each}
+use Rattle.objects.specs.Texts.{handed_in, header_depth, depth_of_each}
 use Rattle.objects.proofs.Characters.{IsUrlText}
+use Rattle.objects.proofs.DetachedContent.{content_there, put_content_is, content_entry, content_found}
 use Rattle.objects.proofs.EachRead.{all_passed, all_both, all_images, each_keeps, each_alike, each_itself}
 use Rattle.objects.proofs.ListedMembers.{each_entries, put_each_is, in_front, objects_by, ReadsEach, each_read, each_json}
 use Rattle.objects.proofs.Members.{Entries, put_all, first_there, get_member-put_all, AreJsonEntries}
-use Rattle.objects.proofs.Spelling.{Laws, text_there, header_there, put_text_is, put_header_is, text_found, header_found, required_found, decoded_characters, name_is_json, required_entry, text_entry, header_entry, object_form, object_value}
+use Rattle.objects.proofs.Spelling.{Laws, text_there, header_there, put_text_is, put_header_is, text_found, header_found, decoded_characters, name_is_json, text_entry, header_entry, object_form, object_value}
 use Rattle.objects.proofs.Steps.{steps, same_answer, passed}
 
 -- ---- the members of the JSON text
@@ -31,13 +32,13 @@ abbrev recipient_entries : RecipientTexts → Entries
 recipient_entries t = (codes "header", header_there t.header) ∷ (codes "encrypted_key", text_there t.encrypted_key) ∷ []
 
 -- those beside the recipients
-abbrev own_entries : JweTexts → Entries
-own_entries t =
+abbrev own_entries : Bool → JweTexts → Entries
+own_entries detach t =
     (codes "unprotected", header_there t.shared.unprotected) ∷ (codes "tag", text_there t.content.tag) ∷ (codes "protected", text_there t.shared.protected)
-    ∷ (codes "iv", text_there t.content.iv) ∷ (codes "ciphertext", Some (string t.content.ciphertext)) ∷ (codes "aad", text_there t.shared.aad) ∷ []
+    ∷ (codes "iv", text_there t.content.iv) ∷ (codes "ciphertext", content_there detach t.content.ciphertext) ∷ (codes "aad", text_there t.shared.aad) ∷ []
 
-abbrev entries : JweTexts → Entries
-entries t = own_entries t ++ each_entries (codes "recipients") recipient_entries t.recipients
+abbrev entries : Bool → JweTexts → Entries
+entries detach t = own_entries detach t ++ each_entries (codes "recipients") recipient_entries t.recipients
 
 -- a recipient is read where its members stand
 recipient_found : (es : Entries) (t : RecipientTexts) → first_there (codes "encrypted_key") es ≡ option_or (text_there t.encrypted_key) None
@@ -46,18 +47,18 @@ unfolding recipient_texts
 recipient_found es t key header = rw (text_found (codes "encrypted_key") es t.encrypted_key key, header_found (codes "header") es t.header header) refl
 
 -- beside a list of recipients stand no members of one
-nothing_beside : (t : JweTexts) (list : Data) → no_recipient_at (object (put_all (own_entries t ++ (codes "recipients", Some list) ∷ []))) ≡ Ok tt
+nothing_beside : (detach : Bool) (t : JweTexts) (list : Data) → no_recipient_at (object (put_all (own_entries detach t ++ (codes "recipients", Some list) ∷ []))) ≡ Ok tt
 unfolding no_recipient_at
-nothing_beside t list = rw (recipient_found (own_entries t ++ (codes "recipients", Some list) ∷ []) (record { header = no_members; encrypted_key = [] }) refl refl) refl
+nothing_beside detach t list = rw (recipient_found (own_entries detach t ++ (codes "recipients", Some list) ∷ []) (record { header = no_members; encrypted_key = [] }) refl refl) refl
 
 -- so recipients are read, one or a list of them
-recipients_are_read : (t : JweTexts) → ReadsEach (codes "recipients") recipient_entries recipient_texts no_recipient_at (own_entries t)
-recipients_are_read t = record {
-  has_no_list = λ r. get_member-put_all (codes "recipients") (own_entries t ++ recipient_entries r);
-  beside = λ r. recipient_found (own_entries t ++ recipient_entries r) r refl refl;
+recipients_are_read : (detach : Bool) (t : JweTexts) → ReadsEach (codes "recipients") recipient_entries recipient_texts no_recipient_at (own_entries detach t)
+recipients_are_read detach t = record {
+  has_no_list = λ r. get_member-put_all (codes "recipients") (own_entries detach t ++ recipient_entries r);
+  beside = λ r. recipient_found (own_entries detach t ++ recipient_entries r) r refl refl;
   alone = λ r. recipient_found (recipient_entries r) r refl refl;
-  has_list = λ list. get_member-put_all (codes "recipients") (own_entries t ++ (codes "recipients", Some list) ∷ []);
-  nothing = nothing_beside t;
+  has_list = λ list. get_member-put_all (codes "recipients") (own_entries detach t ++ (codes "recipients", Some list) ∷ []);
+  nothing = nothing_beside detach t;
 }
 
 -- the objects of recipients are found so
@@ -65,14 +66,15 @@ by_list : (value : Data) (list : Option Data) → recipients_by value list ≡ o
 by_list value None = refl
 by_list value (Some list) = refl
 
--- all texts are read as they were put in
-texts_read : (t : JweTexts) → nat_le 1 (length t.recipients) ≡ true → json_texts (object (put_all (entries t))) ≡ Ok t
+-- all texts are read as they were put in, beside a ciphertext that is handed in where it is detached
+texts_read : (detach : Bool) (ciphertext : List ℕ) (t : JweTexts) → base64url ciphertext ≡ t.content.ciphertext → nat_le 1 (length t.recipients) ≡ true
+    → json_texts (handed_in detach ciphertext) (object (put_all (entries detach t))) ≡ Ok t
 unfolding json_texts shared_texts recipient_objects content_texts
-texts_read t some =
-    let es = entries t in
+texts_read detach ciphertext t same some =
+    let es = entries detach t in
     let value = object (put_all es) in
     let front = in_front (codes "recipients") recipient_entries t.recipients in
-    let found = each_read (codes "recipients") recipient_entries recipient_texts no_recipient_at (own_entries t) (recipients_are_read t) t.recipients some in
+    let found = each_read (codes "recipients") recipient_entries recipient_texts no_recipient_at (own_entries detach t) (recipients_are_read detach t) t.recipients some in
     rw (
       text_found (codes "protected") es t.shared.protected (front (codes "protected") _ refl (λ r. refl)),
       header_found (codes "unprotected") es t.shared.unprotected (front (codes "unprotected") _ refl (λ r. refl)),
@@ -81,7 +83,7 @@ texts_read t some =
       found.1,
       found.2,
       text_found (codes "iv") es t.content.iv (front (codes "iv") _ refl (λ r. refl)),
-      required_found (codes "ciphertext") es t.content.ciphertext refl,
+      content_found detach (codes "ciphertext") es ciphertext t.content.ciphertext same (front (codes "ciphertext") _ refl (λ r. refl)),
       text_found (codes "tag") es t.content.tag (front (codes "tag") _ refl (λ r. refl)),
     ) refl
 
@@ -111,13 +113,13 @@ parts_spelled p = record {
 recipient_is_put : (r : Recipient) → put_recipient r no_members ≡ put_all (recipient_entries (recipient_spelled r))
 recipient_is_put r = simp (put_text_is, put_header_is)
 
-shared_are_put : (o : EncryptedObject) (later : Entries) → put_shared o (put_all later) ≡ put_all (own_entries (spelled o) ++ later)
-shared_are_put o later = simp (put_text_is, put_header_is)
+shared_are_put : (detach : Bool) (o : EncryptedObject) (later : Entries) → put_shared detach o (put_all later) ≡ put_all (own_entries detach (spelled o) ++ later)
+shared_are_put detach o later = simp (put_text_is, put_header_is, put_content_is)
 
-members_are_put : (o : EncryptedObject) → put_shared o (put_recipients o.recipients no_members) ≡ put_all (entries (spelled o))
-members_are_put o =
-    ap (put_shared o) (put_each_is (codes "recipients") put_recipient recipient_spelled recipient_entries recipient_is_put o.recipients)
-    ∙ shared_are_put o (each_entries (codes "recipients") recipient_entries (map recipient_spelled o.recipients))
+members_are_put : (detach : Bool) (o : EncryptedObject) → put_shared detach o (put_recipients o.recipients no_members) ≡ put_all (entries detach (spelled o))
+members_are_put detach o =
+    ap (put_shared detach o) (put_each_is (codes "recipients") put_recipient recipient_spelled recipient_entries recipient_is_put o.recipients)
+    ∙ shared_are_put detach o (each_entries (codes "recipients") recipient_entries (map recipient_spelled o.recipients))
 
 -- ---- the members of which an object is made
 
@@ -224,8 +226,9 @@ recipient_json laws n p members shallow = (
 )
 
 -- so are all members
-members_json : Laws → (limits : Limits) (parts : JweParts) (o : EncryptedObject) → AreMembers parts → IsBuilt limits parts o → AreJsonEntries header_depth (entries (parts_spelled parts))
-members_json laws limits parts o members is =
+members_json : Laws → (limits : Limits) (parts : JweParts) (o : EncryptedObject) → AreMembers parts → IsBuilt limits parts o → (detach : Bool)
+    → AreJsonEntries header_depth (entries detach (parts_spelled parts))
+members_json laws limits parts o members is detach =
     let url = laws.url in
     let texts = url_texts laws limits parts o members is in
     let n : ℕ = depth_of_each (length parts.recipients) in
@@ -234,24 +237,28 @@ members_json laws limits parts o members is =
     let tag = text_entry url header_depth (codes "tag") (base64url parts.tag) refl texts.tag in
     let protected = text_entry url header_depth (codes "protected") parts.protected refl texts.protected in
     let iv = text_entry url header_depth (codes "iv") (base64url parts.iv) refl texts.iv in
-    let ciphertext = required_entry url header_depth (codes "ciphertext") (base64url parts.ciphertext) refl texts.ciphertext in
+    let ciphertext = content_entry url detach header_depth (codes "ciphertext") (base64url parts.ciphertext) refl texts.ciphertext in
     let aad = text_entry url header_depth (codes "aad") (base64url parts.aad) refl texts.aad in
     let each = all_both (recipient_json laws n) parts.recipients members.recipients (all_passed (λ p. nat_le (depth (object p.header)) n) parts.recipients shallow.1) in
     let recipients = each_json laws.keep (codes "recipients") recipient_parts_spelled recipient_entries parts.recipients (name_is_json url (codes "recipients") refl) each in
     (unprotected, (tag, (protected, (iv, (ciphertext, (aad, recipients))))))
 
 -- an object is read by its members
-read_json : (limits : Limits) (members : Members) (t : JweTexts) (o : EncryptedObject) → json_value (compact_text (object members)) ≡ Ok (object members)
-    → json_texts (object members) ≡ Ok t → object_of_texts limits t ≡ Ok o → jwe_of limits (compact_text (object members)) ≡ Ok o
+read_json : (limits : Limits) (detached : Option (List ℕ)) (members : Members) (t : JweTexts) (o : EncryptedObject) → json_value (compact_text (object members)) ≡ Ok (object members)
+    → json_texts detached (object members) ≡ Ok t → object_of_texts limits t ≡ Ok o → jwe_of limits detached (compact_text (object members)) ≡ Ok o
 unfolding jwe_of jwe_texts
-read_json limits ms t o value texts h = rw (object_form ms, value, texts) h
+read_json limits detached ms t o value texts h = rw (object_form ms, value, texts) h
 
 -- an object is what its JSON text spells
-pub json_text_spells : Laws → (limits : Limits) (parts : JweParts) (o : EncryptedObject) → AreMembers parts → IsBuilt limits parts o → jwe_of limits (json_text o) ≡ Ok o
+pub json_text_spells : Laws → (limits : Limits) (parts : JweParts) (o : EncryptedObject) → AreMembers parts → IsBuilt limits parts o → (detach : Bool)
+    → jwe_of limits (handed_in detach o.ciphertext) (json_text detach o) ≡ Ok o
 unfolding json_text
-json_text_spells laws limits parts o members is =
+json_text_spells laws limits parts o members is detach =
     let t : JweTexts = parts_spelled parts in
-    let put : put_shared o (put_recipients o.recipients no_members) ≡ put_all (entries t) = members_are_put o ∙ ap (λ t. put_all (entries t)) (object_keeps is.octets parts o is.made) in
+    let keeps : spelled o ≡ t = object_keeps is.octets parts o is.made in
+    let ciphertext : base64url o.ciphertext ≡ t.content.ciphertext = ap (λ (t : JweTexts). t.content.ciphertext) keeps in
+    let detached : Option (List ℕ) = handed_in detach o.ciphertext in
     let some : nat_le 1 (length t.recipients) ≡ true = ap (nat_le 1) (length-map parts.recipients recipient_parts_spelled) ∙ is.some in
-    let value = object_value laws (entries t) (members_json laws limits parts o members is) in
-    ap (λ ms. jwe_of limits (compact_text (object ms))) put ∙ read_json limits (put_all (entries t)) t o value (texts_read t some) (object_read laws limits parts o members is)
+    let value = object_value laws (entries detach t) (members_json laws limits parts o members is detach) in
+    ap (λ ms. jwe_of limits detached (compact_text (object ms))) (members_are_put detach o ∙ ap (λ t. put_all (entries detach t)) keeps)
+    ∙ read_json limits detached (put_all (entries detach t)) t o value (texts_read detach o.ciphertext t ciphertext some) (object_read laws limits parts o members is)

@@ -1,5 +1,5 @@
 -- What the compact text of an encrypted object spells is the object, and so is what its JSON text spells.
-use Rattle.std.proofs.Common.{◌≡◌, ◌==◌, ◌&&◌, ℕ, List, [], ◌∷◌, length, true, not, Ok, refl, sym, ap, ◌∙◌, subst, arith, append_assoc}
+use Rattle.std.proofs.Common.{◌≡◌, ◌==◌, ◌&&◌, ℕ, List, [], ◌∷◌, length, Bool, true, not, Ok, refl, sym, ap, ◌∙◌, subst, arith, append_assoc}
 use Rattle.std.proofs.lemmas.Bool.{and_parts, eqb-true}
 use Rattle.serde_json.specs.Data.{no_members}
 use Rattle.octets.specs.declared.refusal.Refusal.TheVariants.{NotCompact}
@@ -7,9 +7,10 @@ use Rattle.octets.specs.Base64url.{base64url, SpellsSixBits}
 use Rattle.octets.specs.Outcomes.{needs}
 use Rattle.keys.specs.Limits.{Limits}
 use Rattle.objects.specs.Jwe.{JweParts, Recipient, EncryptedObject, JweTexts, compact_texts, jwe_texts, object_of_texts, jwe_of, is_compact, key_of_first, jwe_compact_text, AreMembers, TextsSpellObjects}
-use Rattle.objects.specs.Texts.{has_members}
+use Rattle.objects.specs.Texts.{has_members, handed_in, kept}
 use Rattle.objects.proofs.Characters.{between_dots, joined_characters, no_json_form, no_line_end}
 use Rattle.objects.proofs.CompactTexts.{all_no_dot, split_of_joined, three_of_joined}
+use Rattle.objects.proofs.DetachedContent.{kept_read, kept_characters, kept_text}
 use Rattle.objects.proofs.Spelling.{Laws, no_member}
 use Rattle.objects.proofs.SpellingJwe.{spelled, parts_spelled, object_keeps, IsBuilt, is_built, object_read, HasUrlTexts, url_texts, json_text_spells}
 use Rattle.objects.proofs.Steps.{steps, same_answer, passed}
@@ -22,15 +23,17 @@ compact protected key iv ciphertext tag = record {
   content = record { iv = iv; ciphertext = ciphertext; tag = tag };
 }
 
--- such parts are read as they were joined
-split_in_five : (protected key iv ciphertext tag : List ℕ) → HasUrlTexts (compact protected key iv ciphertext tag)
-    → compact_texts (between_dots (protected ∷ key ∷ iv ∷ ciphertext ∷ tag ∷ [])) ≡ Ok (compact protected key iv ciphertext tag)
+-- such parts are read as they were joined, beside a ciphertext that is handed in where it is detached
+split_in_five : (detach : Bool) (protected key iv ciphertext tag : List ℕ) → HasUrlTexts (compact protected key iv (base64url ciphertext) tag)
+    → compact_texts (handed_in detach ciphertext) (between_dots (protected ∷ key ∷ iv ∷ kept detach (base64url ciphertext) ∷ tag ∷ [])) ≡ Ok (compact protected key iv (base64url ciphertext) tag)
 unfolding compact_texts
-split_in_five protected key iv ciphertext tag h =
-    let first = split_of_joined protected (between_dots (key ∷ iv ∷ ciphertext ∷ tag ∷ [])) (all_no_dot protected h.protected) in
-    let second = split_of_joined key (between_dots (iv ∷ ciphertext ∷ tag ∷ [])) (all_no_dot key h.keys.0) in
-    let others = three_of_joined iv ciphertext tag (all_no_dot iv h.iv) (all_no_dot ciphertext h.ciphertext) (all_no_dot tag h.tag) in
-    rw (first, second, others) refl
+split_in_five detach protected key iv ciphertext tag h =
+    let part : List ℕ = kept detach (base64url ciphertext) in
+    let no_dot = all_no_dot part (kept_characters detach (base64url ciphertext) h.ciphertext) in
+    let first = split_of_joined protected (between_dots (key ∷ iv ∷ part ∷ tag ∷ [])) (all_no_dot protected h.protected) in
+    let second = split_of_joined key (between_dots (iv ∷ part ∷ tag ∷ [])) (all_no_dot key h.keys.0) in
+    let others = three_of_joined iv part tag (all_no_dot iv h.iv) no_dot (all_no_dot tag h.tag) in
+    rw (first, second, others, kept_read detach ciphertext) refl
 
 -- no octets have no text
 no_text : SpellsSixBits → (xs : List ℕ) → (length xs == 0) ≡ true → base64url xs ≡ []
@@ -48,19 +51,21 @@ only_recipient spells o (r ∷ []) is fits =
 only_recipient spells o (r ∷ (other ∷ rest)) is fits = cc fits
 
 -- a compact text is read by its parts
-read_compact : (limits : Limits) (protected key iv ciphertext tag : List ℕ) (o : EncryptedObject) → HasUrlTexts (compact protected key iv ciphertext tag)
-    → object_of_texts limits (compact protected key iv ciphertext tag) ≡ Ok o → jwe_of limits (between_dots (protected ∷ key ∷ iv ∷ ciphertext ∷ tag ∷ [])) ≡ Ok o
+read_compact : (limits : Limits) (detach : Bool) (protected key iv ciphertext tag : List ℕ) (o : EncryptedObject) → HasUrlTexts (compact protected key iv (base64url ciphertext) tag)
+    → object_of_texts limits (compact protected key iv (base64url ciphertext) tag) ≡ Ok o
+    → jwe_of limits (handed_in detach ciphertext) (between_dots (protected ∷ key ∷ iv ∷ kept detach (base64url ciphertext) ∷ tag ∷ [])) ≡ Ok o
 unfolding jwe_of jwe_texts
-read_compact limits protected key iv ciphertext tag o url h =
-    let text : List ℕ = between_dots (protected ∷ key ∷ iv ∷ ciphertext ∷ tag ∷ []) in
-    let all = joined_characters (protected ∷ key ∷ iv ∷ ciphertext ∷ tag ∷ []) (url.protected, (url.keys.0, (url.iv, (url.ciphertext, (url.tag, tt))))) in
-    rw (no_json_form text all, no_line_end text all, split_in_five protected key iv ciphertext tag url) h
+read_compact limits detach protected key iv ciphertext tag o url h =
+    let parts : List (List ℕ) = protected ∷ key ∷ iv ∷ kept detach (base64url ciphertext) ∷ tag ∷ [] in
+    let text : List ℕ = between_dots parts in
+    let all = joined_characters parts (url.protected, (url.keys.0, (url.iv, (kept_characters detach (base64url ciphertext) url.ciphertext, (url.tag, tt))))) in
+    rw (no_json_form text all, no_line_end text all, split_in_five detach protected key iv ciphertext tag url) h
 
 -- an object is what its compact text spells
-compact_text_spells : Laws → SpellsSixBits → (limits : Limits) (parts : JweParts) (o : EncryptedObject) → AreMembers parts → IsBuilt limits parts o
-    → (text : List ℕ) → jwe_compact_text o ≡ Ok text → jwe_of limits text ≡ Ok o
+compact_text_spells : Laws → SpellsSixBits → (limits : Limits) (parts : JweParts) (o : EncryptedObject) → AreMembers parts → IsBuilt limits parts o → (detach : Bool)
+    → (text : List ℕ) → jwe_compact_text detach o ≡ Ok text → jwe_of limits (handed_in detach o.ciphertext) text ≡ Ok o
 unfolding jwe_compact_text
-compact_text_spells laws spells limits parts o members is text h =
+compact_text_spells laws spells limits parts o members is detach text h =
     let a = steps (needs (is_compact o o.recipients) NotCompact) _ text h in
     let protected : List ℕ = o.protected in
     let key : List ℕ = base64url (key_of_first o.recipients) in
@@ -69,13 +74,14 @@ compact_text_spells laws spells limits parts o members is text h =
     let tag : List ℕ = base64url o.tag in
     let texts : parts_spelled parts ≡ compact protected key iv ciphertext tag =
     sym (object_keeps is.octets parts o is.made) ∙ only_recipient spells o o.recipients refl (passed _ NotCompact a.0 a.1) in
-    let joined : text ≡ between_dots (protected ∷ key ∷ iv ∷ ciphertext ∷ tag ∷ []) = sym (same_answer _ text a.2) ∙ simp append_assoc in
-    ap (jwe_of limits) joined
-    ∙ read_compact limits protected key iv ciphertext tag o (subst HasUrlTexts texts (url_texts laws limits parts o members is))
+    let part = kept_text laws.exact detach o.ciphertext in
+    let joined : text ≡ between_dots (protected ∷ key ∷ iv ∷ kept detach ciphertext ∷ tag ∷ []) = sym (same_answer _ text a.2) ∙ rw part (simp append_assoc) in
+    ap (jwe_of limits (handed_in detach o.ciphertext)) joined
+    ∙ read_compact limits detach protected key iv o.ciphertext tag o (subst HasUrlTexts texts (url_texts laws limits parts o members is))
     (ap (object_of_texts limits) (sym texts) ∙ object_read laws limits parts o members is)
 
 -- an object that is made of its members is what its texts spell
 pub texts_spell_objects : Laws → SpellsSixBits → TextsSpellObjects
-texts_spell_objects laws spells limits parts o members h =
+texts_spell_objects laws spells limits parts o members h detach =
     let is = is_built limits parts o h in
-    (json_text_spells laws limits parts o members is, compact_text_spells laws spells limits parts o members is)
+    (json_text_spells laws limits parts o members is detach, compact_text_spells laws spells limits parts o members is detach)

@@ -1,9 +1,9 @@
 -- What the JSON text of a signed object spells is the object.
-use Rattle.std.proofs.Common.{◌≡◌, ℕ, List, [], ◌∷◌, ◌++◌, length, map, codes, true, nat_le, Option, Some, None, Ok, refl, sym, ap, ◌∙◌}
+use Rattle.std.proofs.Common.{◌≡◌, ℕ, List, [], ◌∷◌, ◌++◌, length, map, codes, Bool, true, nat_le, Option, Some, None, Ok, refl, sym, ap, ◌∙◌}
 use Rattle.std.proofs.lemmas.List.{length-map}
 use Rattle.std.specs.List.{AllByRecursion, list_all}
 use Rattle.std.specs.Option.{option_or}
-use Rattle.serde_json.specs.Data.{Data, Members, no_members, string, object, depth, put}
+use Rattle.serde_json.specs.Data.{Data, Members, no_members, string, object, depth}
 use Rattle.serde_json.specs.Find.{get}
 use Rattle.serde_json.specs.Written.{compact_text}
 use Rattle.octets.specs.declared.refusal.Refusal.TheVariants.{Json, Number, Form, Unsupported, Limit}
@@ -15,11 +15,12 @@ use Rattle.keys.specs.JsonTexts.{AreJsonMembers}
 use Rattle.keys.specs.Limits.{Limits}
 use Rattle.objects.specs.Headers.{protected_members, joint_header, string_there}
 use Rattle.objects.specs.Jws.{JwsParts, SignatureParts, Signature, SignedObject, DecodedSignature, HeadedSignature, JwsTexts, SignatureTexts, signature_texts, no_signature_at, signatures_by, signature_objects, json_texts, jws_texts, decoded_signature, decoded_texts, headed_signature, signature_by, is_plain, signatures_of, signed_object, object_of_texts, jws_of, nest_at_most, have_whole_numbers, built, put_signature, json_text, AreMembers}
-use Rattle.objects.specs.Texts.{each, put_each, header_depth, depth_of_each}
+use Rattle.objects.specs.Texts.{each, handed_in, put_content, put_each, header_depth, depth_of_each}
 use Rattle.objects.proofs.Characters.{IsUrlText}
+use Rattle.objects.proofs.DetachedContent.{content_there, put_content_is, content_entry, content_found}
 use Rattle.objects.proofs.EachRead.{all_passed, all_both, all_images, each_keeps, each_all, each_alike}
-use Rattle.objects.proofs.ListedMembers.{each_entries, put_each_is, objects_by, ReadsEach, each_read, each_json}
-use Rattle.objects.proofs.Members.{Entries, put_all, first_there, get_member-put_all, AreJsonEntries}
+use Rattle.objects.proofs.ListedMembers.{each_entries, put_each_is, in_front, objects_by, ReadsEach, each_read, each_json}
+use Rattle.objects.proofs.Members.{Entries, put_if_there, put_all, first_there, get_member-put_all, AreJsonEntries}
 use Rattle.objects.proofs.Spelling.{Laws, text_there, header_there, put_text_is, put_header_is, text_found, header_found, required_found, decoded_characters, name_is_json, required_entry, text_entry, header_entry, object_form, object_value}
 use Rattle.objects.proofs.Steps.{steps, same_answer, passed}
 
@@ -30,11 +31,11 @@ abbrev signature_entries : SignatureTexts → Entries
 signature_entries t = (codes "header", header_there t.header) ∷ (codes "signature", Some (string t.signature)) ∷ (codes "protected", text_there t.protected) ∷ []
 
 -- that beside the signatures
-abbrev own_entries : JwsTexts → Entries
-own_entries t = (codes "payload", Some (string t.payload)) ∷ []
+abbrev own_entries : Bool → JwsTexts → Entries
+own_entries detach t = (codes "payload", content_there detach t.payload) ∷ []
 
-abbrev entries : JwsTexts → Entries
-entries t = own_entries t ++ each_entries (codes "signatures") signature_entries t.signatures
+abbrev entries : Bool → JwsTexts → Entries
+entries detach t = own_entries detach t ++ each_entries (codes "signatures") signature_entries t.signatures
 
 -- a signature is read where its members stand
 signature_found : (es : Entries) (t : SignatureTexts) → first_there (codes "protected") es ≡ option_or (text_there t.protected) None
@@ -44,20 +45,21 @@ signature_found es t protected header signature =
     rw (text_found (codes "protected") es t.protected protected, header_found (codes "header") es t.header header, required_found (codes "signature") es t.signature signature) refl
 
 -- beside a list of signatures stand no members of one
-nothing_beside : (t : JwsTexts) (list : Data) → no_signature_at (object (put_all (own_entries t ++ (codes "signatures", Some list) ∷ []))) ≡ Ok tt
+nothing_beside : (detach : Bool) (t : JwsTexts) (list : Data) → no_signature_at (object (put_all (own_entries detach t ++ (codes "signatures", Some list) ∷ []))) ≡ Ok tt
 unfolding no_signature_at
-nothing_beside t list =
-    let es : Entries = own_entries t ++ (codes "signatures", Some list) ∷ [] in
-    rw (text_found (codes "protected") es [] refl, header_found (codes "header") es no_members refl) refl
+nothing_beside detach t list =
+    let es : Entries = own_entries detach t ++ (codes "signatures", Some list) ∷ [] in
+    let no_signature : get (codes "signature") (object (put_all es)) ≡ None = get_member-put_all (codes "signature") es in
+    rw (text_found (codes "protected") es [] refl, header_found (codes "header") es no_members refl, no_signature) refl
 
 -- so signatures are read, one or a list of them
-signatures_are_read : (t : JwsTexts) → ReadsEach (codes "signatures") signature_entries signature_texts no_signature_at (own_entries t)
-signatures_are_read t = record {
-  has_no_list = λ s. get_member-put_all (codes "signatures") (own_entries t ++ signature_entries s);
-  beside = λ s. signature_found (own_entries t ++ signature_entries s) s refl refl refl;
+signatures_are_read : (detach : Bool) (t : JwsTexts) → ReadsEach (codes "signatures") signature_entries signature_texts no_signature_at (own_entries detach t)
+signatures_are_read detach t = record {
+  has_no_list = λ s. get_member-put_all (codes "signatures") (own_entries detach t ++ signature_entries s);
+  beside = λ s. signature_found (own_entries detach t ++ signature_entries s) s refl refl refl;
   alone = λ s. signature_found (signature_entries s) s refl refl refl;
-  has_list = λ list. get_member-put_all (codes "signatures") (own_entries t ++ (codes "signatures", Some list) ∷ []);
-  nothing = nothing_beside t;
+  has_list = λ list. get_member-put_all (codes "signatures") (own_entries detach t ++ (codes "signatures", Some list) ∷ []);
+  nothing = nothing_beside detach t;
 }
 
 -- the objects of signatures are found so
@@ -65,13 +67,15 @@ by_list : (value : Data) (list : Option Data) → signatures_by value list ≡ o
 by_list value None = refl
 by_list value (Some list) = refl
 
--- all texts are read as they were put in
-texts_read : (t : JwsTexts) → nat_le 1 (length t.signatures) ≡ true → json_texts (object (put_all (entries t))) ≡ Ok t
+-- all texts are read as they were put in, beside a payload that is handed in where it is detached
+texts_read : (detach : Bool) (payload : List ℕ) (t : JwsTexts) → base64url payload ≡ t.payload → nat_le 1 (length t.signatures) ≡ true
+    → json_texts (handed_in detach payload) (object (put_all (entries detach t))) ≡ Ok t
 unfolding json_texts signature_objects
-texts_read t some =
-    let value = object (put_all (entries t)) in
-    let found = each_read (codes "signatures") signature_entries signature_texts no_signature_at (own_entries t) (signatures_are_read t) t.signatures some in
-    rw (required_found (codes "payload") (entries t) t.payload refl, by_list value (get (codes "signatures") value), found.1, found.2) refl
+texts_read detach payload t same some =
+    let value = object (put_all (entries detach t)) in
+    let front = in_front (codes "signatures") signature_entries t.signatures in
+    let found = each_read (codes "signatures") signature_entries signature_texts no_signature_at (own_entries detach t) (signatures_are_read detach t) t.signatures some in
+    rw (content_found detach (codes "payload") (entries detach t) payload t.payload same (front (codes "payload") _ refl (λ s. refl)), by_list value (get (codes "signatures") value), found.1, found.2) refl
 
 -- the texts of a signature, and of the parts of one
 abbrev signature_spelled : Signature → SignatureTexts
@@ -91,9 +95,12 @@ parts_spelled p = record { payload = base64url p.payload; signatures = map signa
 signature_is_put : (s : Signature) → put_signature s no_members ≡ put_all (signature_entries (signature_spelled s))
 signature_is_put s = simp (put_text_is, put_header_is)
 
-members_are_put : (o : SignedObject) → put (codes "payload") (string (base64url o.payload)) (put_each (codes "signatures") put_signature o.signatures no_members) ≡ put_all (entries (spelled o))
-members_are_put o =
-    ap (put (codes "payload") (string (base64url o.payload))) (put_each_is (codes "signatures") put_signature signature_spelled signature_entries signature_is_put o.signatures)
+members_are_put : (detach : Bool) (o : SignedObject)
+    → put_content detach (codes "payload") o.payload (put_each (codes "signatures") put_signature o.signatures no_members) ≡ put_all (entries detach (spelled o))
+members_are_put detach o =
+    put_content_is detach (codes "payload") o.payload (put_each (codes "signatures") put_signature o.signatures no_members)
+    ∙ ap (put_if_there (codes "payload") (content_there detach (base64url o.payload)))
+    (put_each_is (codes "signatures") put_signature signature_spelled signature_entries signature_is_put o.signatures)
 
 -- ---- the members of which an object is made
 
@@ -206,26 +213,31 @@ signature_json laws n p are shallow =
     (header, (signature, (protected, tt)))
 
 -- so are all members
-members_json : Laws → (limits : Limits) (parts : JwsParts) (o : SignedObject) → AreMembers parts → IsBuilt limits parts o → AreJsonEntries header_depth (entries (parts_spelled parts))
-members_json laws limits parts o members is =
+members_json : Laws → (limits : Limits) (parts : JwsParts) (o : SignedObject) → AreMembers parts → IsBuilt limits parts o → (detach : Bool)
+    → AreJsonEntries header_depth (entries detach (parts_spelled parts))
+members_json laws limits parts o members is detach =
     let n : ℕ = depth_of_each (length parts.signatures) in
-    let payload = required_entry laws.url header_depth (codes "payload") (base64url parts.payload) refl (laws.characters parts.payload members.payload) in
+    let payload = content_entry laws.url detach header_depth (codes "payload") (base64url parts.payload) refl (laws.characters parts.payload members.payload) in
     let shallow = all_passed (λ p. nat_le (depth (object p.header)) n) parts.signatures is.shallow in
     let each = all_both (signature_json laws n) parts.signatures (signatures_are laws limits parts o members is) shallow in
     (payload, each_json laws.keep (codes "signatures") signature_parts_spelled signature_entries parts.signatures (name_is_json laws.url (codes "signatures") refl) each)
 
 -- an object is read by its members
-read_json : (limits : Limits) (members : Members) (t : JwsTexts) (o : SignedObject) → json_value (compact_text (object members)) ≡ Ok (object members)
-    → json_texts (object members) ≡ Ok t → object_of_texts limits t ≡ Ok o → jws_of limits (compact_text (object members)) ≡ Ok o
+read_json : (limits : Limits) (detached : Option (List ℕ)) (members : Members) (t : JwsTexts) (o : SignedObject) → json_value (compact_text (object members)) ≡ Ok (object members)
+    → json_texts detached (object members) ≡ Ok t → object_of_texts limits t ≡ Ok o → jws_of limits detached (compact_text (object members)) ≡ Ok o
 unfolding jws_of jws_texts
-read_json limits ms t o value texts h = rw (object_form ms, value, texts) h
+read_json limits detached ms t o value texts h = rw (object_form ms, value, texts) h
 
 -- an object is what its JSON text spells
-pub json_text_spells : Laws → (limits : Limits) (parts : JwsParts) (o : SignedObject) → AreMembers parts → IsBuilt limits parts o → jws_of limits (json_text o) ≡ Ok o
+pub json_text_spells : Laws → (limits : Limits) (parts : JwsParts) (o : SignedObject) → AreMembers parts → IsBuilt limits parts o → (detach : Bool)
+    → jws_of limits (handed_in detach o.payload) (json_text detach o) ≡ Ok o
 unfolding json_text
-json_text_spells laws limits parts o members is =
+json_text_spells laws limits parts o members is detach =
     let t : JwsTexts = parts_spelled parts in
+    let keeps : spelled o ≡ t = object_keeps limits parts o is in
+    let payload : base64url o.payload ≡ t.payload = ap (λ (t : JwsTexts). t.payload) keeps in
+    let detached : Option (List ℕ) = handed_in detach o.payload in
     let some : nat_le 1 (length t.signatures) ≡ true = ap (nat_le 1) (length-map parts.signatures signature_parts_spelled) ∙ is.some in
-    let value = object_value laws (entries t) (members_json laws limits parts o members is) in
-    ap (λ ms. jws_of limits (compact_text (object ms))) (members_are_put o ∙ ap (λ t. put_all (entries t)) (object_keeps limits parts o is))
-    ∙ read_json limits (put_all (entries t)) t o value (texts_read t some) (object_read laws limits parts o members is)
+    let value = object_value laws (entries detach t) (members_json laws limits parts o members is detach) in
+    ap (λ ms. jws_of limits detached (compact_text (object ms))) (members_are_put detach o ∙ ap (λ t. put_all (entries detach t)) keeps)
+    ∙ read_json limits detached (put_all (entries detach t)) t o value (texts_read detach o.payload t payload some) (object_read laws limits parts o members is)

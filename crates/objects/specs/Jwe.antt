@@ -1,9 +1,9 @@
 -- JWE objects (RFC 7516): their compact texts (section 7.1) and their JSON texts, general and flattened (section 7.2).
-use Rattle.std.specs.Prelude.{◌≡◌, ℕ, ◌&&◌, ◌==◌, Bool, true, false, not, List, [], ◌∷◌, ◌++◌, length, codes, nat_le, is_none, if◌then◌else◌, Option, Some, None, Result, Ok}
+use Rattle.std.specs.Prelude.{◌≡◌, ℕ, ◌&&◌, ◌==◌, Bool, true, false, not, List, [], ◌∷◌, ◌++◌, length, codes, nat_le, is_some, is_none, if◌then◌else◌, Option, Some, None, Result, Ok}
 use Rattle.std.specs.List.{AllByRecursion, list_all}
 use Rattle.std.specs.Option.{ok_or}
 use Rattle.std.specs.Str.{bytes_eq}
-use Rattle.serde_json.specs.Data.{Data, Items, no_items, item, Members, no_members, string, object, put, depth}
+use Rattle.serde_json.specs.Data.{Data, Items, no_items, item, Members, no_members, object, depth}
 use Rattle.serde_json.specs.Find.{get, get_member}
 use Rattle.serde_json.specs.Written.{compact_text}
 use Rattle.octets.specs.declared.refusal.Refusal.{Refusal}
@@ -18,7 +18,7 @@ use Rattle.keys.specs.Json.{json_value, member_numbers_are_whole}
 use Rattle.keys.specs.JsonTexts.{AreJsonMembers}
 use Rattle.keys.specs.Limits.{Limits}
 use Rattle.objects.specs.Headers.{header_at, protected_members, joint_header, string_there, number_parameter, salt_parameter, has_no_crit}
-use Rattle.objects.specs.Texts.{each, each_item, is_json_form, split_at_dot, three_parts, text_at, required_text, object_list, has_text, has_members, put_text, put_header, put_each, header_depth, depth_of_each}
+use Rattle.objects.specs.Texts.{each, each_item, is_json_form, split_at_dot, three_parts, text_at, content_by, content_text, handed_in, AreOctetsHandedIn, object_list, has_text, has_members, kept, put_text, put_content, put_header, put_each, header_depth, depth_of_each}
 
 -- ---- the members of an object
 
@@ -73,11 +73,10 @@ recipient_texts value = do
   header ← header_at (codes "header") value
   Ok (record { header = header; encrypted_key = encrypted_key })
 
--- the ciphertext must be there
-unfoldable pub content_texts : Data → Result ContentTexts Refusal
-content_texts value = do
+unfoldable pub content_texts : Option (List ℕ) → Data → Result ContentTexts Refusal
+content_texts detached value = do
   iv ← text_at (codes "iv") value
-  ciphertext ← required_text (codes "ciphertext") value
+  ciphertext ← content_text detached (codes "ciphertext") value
   tag ← text_at (codes "tag") value
   Ok (record { iv = iv; ciphertext = ciphertext; tag = tag })
 
@@ -97,29 +96,30 @@ recipients_by value (Some list) = do
 unfoldable pub recipient_objects : Data → Result Items Refusal
 recipient_objects value = recipients_by value (get (codes "recipients") value)
 
-unfoldable pub json_texts : Data → Result JweTexts Refusal
-json_texts value = do
+unfoldable pub json_texts : Option (List ℕ) → Data → Result JweTexts Refusal
+json_texts detached value = do
   shared ← shared_texts value
   objects ← recipient_objects value
   recipients ← each_item recipient_texts objects
-  content ← content_texts value
+  content ← content_texts detached value
   Ok (record { shared = shared; recipients = recipients; content = content })
 
 -- exactly five parts between dots
-unfoldable pub compact_texts : List ℕ → Result JweTexts Refusal
-compact_texts text = do
+unfoldable pub compact_texts : Option (List ℕ) → List ℕ → Result JweTexts Refusal
+compact_texts detached text = do
   protected ← split_at_dot text
   encrypted_key ← split_at_dot protected.1
   content ← three_parts encrypted_key.1
+  ciphertext ← content_by detached content.1
   Ok (record {
     shared = record { protected = protected.0; unprotected = no_members; aad = [] };
     recipients = record { header = no_members; encrypted_key = encrypted_key.0 } ∷ [];
-    content = record { iv = content.0; ciphertext = content.1; tag = content.2 };
+    content = record { iv = content.0; ciphertext = ciphertext; tag = content.2 };
   })
 
--- those of a JSON text, or of a compact text, with a line end or without
-unfoldable pub jwe_texts : List ℕ → Result JweTexts Refusal
-jwe_texts text = if is_json_form text then (json_value text >>= json_texts) else compact_texts (without_line_end text)
+-- Those of a JSON text, or of a compact text, with a line end or without. The ciphertext may have been handed in beside it.
+unfoldable pub jwe_texts : Option (List ℕ) → List ℕ → Result JweTexts Refusal
+jwe_texts detached text = if is_json_form text then (json_value text >>= json_texts detached) else compact_texts detached (without_line_end text)
 
 -- the octets that they are the base64url texts of, the text of the protected header aside
 unfoldable pub recipient_parts : RecipientTexts → Result RecipientParts Refusal
@@ -265,10 +265,10 @@ object_of_texts limits texts = do
   parts ← parts_of_texts texts
   encrypted_object octets parts
 
--- the object of a text, or the first refusal
-unfoldable pub jwe_of : Limits → List ℕ → Result EncryptedObject Refusal
-jwe_of limits text = do
-  texts ← jwe_texts text
+-- the object of a text, and of a ciphertext where one was handed in, or the first refusal
+unfoldable pub jwe_of : Limits → Option (List ℕ) → List ℕ → Result EncryptedObject Refusal
+jwe_of limits detached text = do
+  texts ← jwe_texts detached text
   object_of_texts limits texts
 
 -- ---- an object that is made of its members
@@ -302,19 +302,19 @@ put_recipient r members = put_header (codes "header") r.header (put_text (codes 
 abbrev pub put_recipients : List Recipient → Members → Members
 put_recipients recipients members = put_each (codes "recipients") put_recipient recipients members
 
--- the headers that all recipients share, and the content with its tag; the ciphertext is always there
-abbrev pub put_shared : EncryptedObject → Members → Members
-put_shared o members =
+-- the headers that all recipients share, and the content with its tag; the ciphertext is there unless it is detached
+abbrev pub put_shared : Bool → EncryptedObject → Members → Members
+put_shared detach o members =
     put_header (codes "unprotected") o.unprotected (
     put_text (codes "tag") (base64url o.tag) (
     put_text (codes "protected") o.protected (
     put_text (codes "iv") (base64url o.iv) (
-    put (codes "ciphertext") (string (base64url o.ciphertext)) (
+    put_content detach (codes "ciphertext") o.ciphertext (
     put_text (codes "aad") (base64url o.aad) members)))))
 
 -- The JSON text, whose members stand in byte order of their names: flattened where there is one recipient, and else general.
-unfoldable pub json_text : EncryptedObject → List ℕ
-json_text o = compact_text (object (put_shared o (put_recipients o.recipients no_members)))
+unfoldable pub json_text : Bool → EncryptedObject → List ℕ
+json_text detach o = compact_text (object (put_shared detach o (put_recipients o.recipients no_members)))
 
 -- the parts of a compact text between dots
 abbrev pub joined : List ℕ → List ℕ → List ℕ → List ℕ → List ℕ → List ℕ
@@ -331,11 +331,11 @@ abbrev pub key_of_first : List Recipient → List ℕ
 key_of_first [] = []
 key_of_first (r ∷ rest) = r.encrypted_key
 
--- the compact text (RFC 7516 section 7.1), where it can hold the object
-unfoldable pub jwe_compact_text : EncryptedObject → Result (List ℕ) Refusal
-jwe_compact_text o = do
+-- the compact text (RFC 7516 section 7.1), where it can hold the object; the part of a detached ciphertext is empty
+unfoldable pub jwe_compact_text : Bool → EncryptedObject → Result (List ℕ) Refusal
+jwe_compact_text detach o = do
   fits ← needs (is_compact o o.recipients) NotCompact
-  Ok (joined o.protected (key_of_first o.recipients) o.iv o.ciphertext o.tag)
+  Ok (joined o.protected (key_of_first o.recipients) o.iv (kept detach o.ciphertext) o.tag)
 
 -- ---- what is written is read, and what is read can be written
 
@@ -349,17 +349,19 @@ pub record AreMembers (parts : JweParts) : Type 0 where
   pub tag : IsOctets parts.tag
   pub recipients : AllByRecursion (λ r. AreJsonMembers r.header × IsOctets r.encrypted_key) parts.recipients
 
--- An object that is made of its members is what its JSON text spells, and its compact text where it has one.
+-- An object that is made of its members is what its JSON text spells, and its compact text where it has one; a detached ciphertext is
+-- handed in beside them.
 abbrev pub TextsSpellObjects : Type 0
-TextsSpellObjects = (limits : Limits) (parts : JweParts) (o : EncryptedObject) → AreMembers parts → built limits parts ≡ Ok o
-    → (jwe_of limits (json_text o) ≡ Ok o) × ((text : List ℕ) → jwe_compact_text o ≡ Ok text → jwe_of limits text ≡ Ok o)
+TextsSpellObjects = (limits : Limits) (parts : JweParts) (o : EncryptedObject) → AreMembers parts → built limits parts ≡ Ok o → (detach : Bool)
+    → (jwe_of limits (handed_in detach o.ciphertext) (json_text detach o) ≡ Ok o)
+    × ((text : List ℕ) → jwe_compact_text detach o ≡ Ok text → jwe_of limits (handed_in detach o.ciphertext) text ≡ Ok o)
 
 -- An object that is read can be made of its members.
 abbrev pub ObjectsAreMade : Type 0
-ObjectsAreMade = (limits : Limits) (text : List ℕ) (o : EncryptedObject) → IsOctets text → jwe_of limits text ≡ Ok o
+ObjectsAreMade = (limits : Limits) (detached : Option (List ℕ)) (text : List ℕ) (o : EncryptedObject) → AreOctetsHandedIn detached → IsOctets text → jwe_of limits detached text ≡ Ok o
     → (parts : JweParts) × (AreMembers parts × (built limits parts ≡ Ok o))
 
 -- A compact text that is read is the compact text of the object, but for a line end.
 abbrev pub CompactTextsAreExact : Type 0
-CompactTextsAreExact = (limits : Limits) (text : List ℕ) (o : EncryptedObject) → IsOctets text → is_json_form text ≡ false → jwe_of limits text ≡ Ok o
-    → jwe_compact_text o ≡ Ok (without_line_end text)
+CompactTextsAreExact = (limits : Limits) (detached : Option (List ℕ)) (text : List ℕ) (o : EncryptedObject) → AreOctetsHandedIn detached → IsOctets text → is_json_form text ≡ false
+    → jwe_of limits detached text ≡ Ok o → jwe_compact_text (is_some detached) o ≡ Ok (without_line_end text)

@@ -1,5 +1,5 @@
 -- JWS objects (RFC 7515): their compact texts (section 7.1) and their JSON texts, general and flattened (section 7.2).
-use Rattle.std.specs.Prelude.{◌≡◌, ℕ, ◌&&◌, Bool, false, not, List, [], ◌∷◌, ◌++◌, length, codes, nat_le, is_none, if◌then◌else◌, Option, Some, None, Result, Ok}
+use Rattle.std.specs.Prelude.{◌≡◌, ℕ, ◌&&◌, Bool, false, not, List, [], ◌∷◌, ◌++◌, length, codes, nat_le, is_some, is_none, if◌then◌else◌, Option, Some, None, Result, Ok}
 use Rattle.std.specs.List.{AllByRecursion, list_all}
 use Rattle.serde_json.specs.Data.{Data, Items, no_items, item, Members, no_members, string, object, put, depth}
 use Rattle.serde_json.specs.Find.{get}
@@ -14,7 +14,7 @@ use Rattle.keys.specs.Json.{json_value, member_numbers_are_whole}
 use Rattle.keys.specs.JsonTexts.{AreJsonMembers}
 use Rattle.keys.specs.Limits.{Limits}
 use Rattle.objects.specs.Headers.{header_at, protected_members, joint_header, string_there, has_no_crit}
-use Rattle.objects.specs.Texts.{each, each_item, is_json_form, three_parts, text_at, required_text, object_list, has_text, has_members, put_text, put_header, put_each, depth_of_each}
+use Rattle.objects.specs.Texts.{each, each_item, is_json_form, three_parts, text_at, required_text, content_by, content_text, handed_in, AreOctetsHandedIn, object_list, has_text, has_members, kept, put_text, put_content, put_header, put_each, depth_of_each}
 
 -- ---- the members of an object
 
@@ -65,23 +65,23 @@ signatures_by value (Some list) = do
 unfoldable pub signature_objects : Data → Result Items Refusal
 signature_objects value = signatures_by value (get (codes "signatures") value)
 
--- the payload must be there
-unfoldable pub json_texts : Data → Result JwsTexts Refusal
-json_texts value = do
-  payload ← required_text (codes "payload") value
+unfoldable pub json_texts : Option (List ℕ) → Data → Result JwsTexts Refusal
+json_texts detached value = do
+  payload ← content_text detached (codes "payload") value
   objects ← signature_objects value
   signatures ← each_item signature_texts objects
   Ok (record { payload = payload; signatures = signatures })
 
 -- exactly three parts between dots
-unfoldable pub compact_texts : List ℕ → Result JwsTexts Refusal
-compact_texts text = do
+unfoldable pub compact_texts : Option (List ℕ) → List ℕ → Result JwsTexts Refusal
+compact_texts detached text = do
   parts ← three_parts text
-  Ok (record { payload = parts.1; signatures = record { protected = parts.0; header = no_members; signature = parts.2 } ∷ [] })
+  payload ← content_by detached parts.1
+  Ok (record { payload = payload; signatures = record { protected = parts.0; header = no_members; signature = parts.2 } ∷ [] })
 
--- those of a JSON text, or of a compact text, with a line end or without
-unfoldable pub jws_texts : List ℕ → Result JwsTexts Refusal
-jws_texts text = if is_json_form text then (json_value text >>= json_texts) else compact_texts (without_line_end text)
+-- Those of a JSON text, or of a compact text, with a line end or without. The payload may have been handed in beside it.
+unfoldable pub jws_texts : Option (List ℕ) → List ℕ → Result JwsTexts Refusal
+jws_texts detached text = if is_json_form text then (json_value text >>= json_texts detached) else compact_texts detached (without_line_end text)
 
 -- ---- the object
 
@@ -155,10 +155,10 @@ object_of_texts limits texts = do
   signatures ← each decoded_texts texts.signatures
   signed_object payload signatures
 
--- the object of a text, or the first refusal
-unfoldable pub jws_of : Limits → List ℕ → Result SignedObject Refusal
-jws_of limits text = do
-  texts ← jws_texts text
+-- the object of a text, and of a payload where one was handed in, or the first refusal
+unfoldable pub jws_of : Limits → Option (List ℕ) → List ℕ → Result SignedObject Refusal
+jws_of limits detached text = do
+  texts ← jws_texts detached text
   object_of_texts limits texts
 
 -- ---- an object that is made of its members
@@ -186,9 +186,10 @@ abbrev pub put_signature : Signature → Members → Members
 put_signature s members =
     put_header (codes "header") s.header (put (codes "signature") (string (base64url s.signature)) (put_text (codes "protected") s.protected members))
 
--- The JSON text, whose members stand in byte order of their names: flattened where there is one signature, and else general.
-unfoldable pub json_text : SignedObject → List ℕ
-json_text o = compact_text (object (put (codes "payload") (string (base64url o.payload)) (put_each (codes "signatures") put_signature o.signatures no_members)))
+-- The JSON text, whose members stand in byte order of their names: flattened where there is one signature, and else general. A detached
+-- payload has no place in it.
+unfoldable pub json_text : Bool → SignedObject → List ℕ
+json_text detach o = compact_text (object (put_content detach (codes "payload") o.payload (put_each (codes "signatures") put_signature o.signatures no_members)))
 
 -- the parts of a compact text between dots
 abbrev pub joined : List ℕ → List ℕ → List ℕ → List ℕ
@@ -204,11 +205,11 @@ abbrev pub joined_first : List ℕ → List Signature → List ℕ
 joined_first payload [] = []
 joined_first payload (s ∷ rest) = joined s.protected payload s.signature
 
--- the compact text (section 7.1), where it can hold the object
-unfoldable pub jws_compact_text : SignedObject → Result (List ℕ) Refusal
-jws_compact_text o = do
+-- the compact text (section 7.1), where it can hold the object; the part of a detached payload is empty
+unfoldable pub jws_compact_text : Bool → SignedObject → Result (List ℕ) Refusal
+jws_compact_text detach o = do
   fits ← needs (is_compact o.signatures) NotCompact
-  Ok (joined_first o.payload o.signatures)
+  Ok (joined_first (kept detach o.payload) o.signatures)
 
 -- ---- what is written is read, and what is read can be written
 
@@ -217,17 +218,19 @@ pub record AreMembers (parts : JwsParts) : Type 0 where
   pub payload : IsOctets parts.payload
   pub signatures : AllByRecursion (λ s. IsOctets s.protected × (AreJsonMembers s.header × IsOctets s.signature)) parts.signatures
 
--- An object that is made of its members is what its JSON text spells, and its compact text where it has one.
+-- An object that is made of its members is what its JSON text spells, and its compact text where it has one; a detached payload is
+-- handed in beside them.
 abbrev pub TextsSpellObjects : Type 0
-TextsSpellObjects = (limits : Limits) (parts : JwsParts) (o : SignedObject) → AreMembers parts → built limits parts ≡ Ok o
-    → (jws_of limits (json_text o) ≡ Ok o) × ((text : List ℕ) → jws_compact_text o ≡ Ok text → jws_of limits text ≡ Ok o)
+TextsSpellObjects = (limits : Limits) (parts : JwsParts) (o : SignedObject) → AreMembers parts → built limits parts ≡ Ok o → (detach : Bool)
+    → (jws_of limits (handed_in detach o.payload) (json_text detach o) ≡ Ok o)
+    × ((text : List ℕ) → jws_compact_text detach o ≡ Ok text → jws_of limits (handed_in detach o.payload) text ≡ Ok o)
 
 -- An object that is read can be made of its members.
 abbrev pub ObjectsAreMade : Type 0
-ObjectsAreMade = (limits : Limits) (text : List ℕ) (o : SignedObject) → IsOctets text → jws_of limits text ≡ Ok o
+ObjectsAreMade = (limits : Limits) (detached : Option (List ℕ)) (text : List ℕ) (o : SignedObject) → AreOctetsHandedIn detached → IsOctets text → jws_of limits detached text ≡ Ok o
     → (parts : JwsParts) × (AreMembers parts × (built limits parts ≡ Ok o))
 
 -- A compact text that is read is the compact text of the object, but for a line end.
 abbrev pub CompactTextsAreExact : Type 0
-CompactTextsAreExact = (limits : Limits) (text : List ℕ) (o : SignedObject) → IsOctets text → is_json_form text ≡ false → jws_of limits text ≡ Ok o
-    → jws_compact_text o ≡ Ok (without_line_end text)
+CompactTextsAreExact = (limits : Limits) (detached : Option (List ℕ)) (text : List ℕ) (o : SignedObject) → AreOctetsHandedIn detached → IsOctets text → is_json_form text ≡ false
+    → jws_of limits detached text ≡ Ok o → jws_compact_text (is_some detached) o ≡ Ok (without_line_end text)

@@ -1,6 +1,6 @@
 -- The texts of JWS and JWE objects (RFC 7515 section 7, RFC 7516 section 7): which form they have, the parts of a compact text, and
 -- the members of a JSON text, as they are read and written.
-use Rattle.std.specs.Prelude.{ℕ, ◌+◌, ◌==◌, ◌||◌, ◌&&◌, Bool, true, false, not, List, [], ◌∷◌, take, drop, is_none, position, nat_le, if◌then◌else◌, Option, Some, None, option_and_then, Result, Ok, Err}
+use Rattle.std.specs.Prelude.{ℕ, ◌+◌, ◌==◌, ◌||◌, ◌&&◌, Bool, true, false, not, List, [], ◌∷◌, take, drop, is_none, position, nat_le, if◌then◌else◌, Option, Some, None, option_and_then, IfSome, Result, Ok, Err}
 use Rattle.std.specs.List.{find}
 use Rattle.std.specs.Option.{ok_or}
 use Rattle.std.specs.Str.{byte}
@@ -9,6 +9,8 @@ use Rattle.serde_json.specs.Find.{get, as_str, as_array}
 use Rattle.octets.specs.declared.refusal.Refusal.{Refusal}
 use Rattle.octets.specs.declared.refusal.Refusal.TheVariants.{Form}
 use Rattle.octets.specs.Outcomes.{◌>>=◌, needs}
+use Rattle.octets.specs.Base64url.{base64url}
+use Rattle.octets.specs.Octets.{IsOctets}
 use Rattle.keys.specs.KeySets.{are_objects}
 
 -- ---- each of a list
@@ -78,6 +80,45 @@ text_at name value = text_if_there (get name value)
 unfoldable pub required_text : List ℕ → Data → Result (List ℕ) Refusal
 required_text name value = ok_or (option_and_then as_str (get name value)) Form
 
+abbrev pub has_text : List ℕ → Bool
+has_text [] = false
+has_text (c ∷ text) = true
+
+-- ---- the content, which may be handed in beside the object (RFC 7515 appendix F)
+
+-- what stands in its place: its own text; or nothing, and then the content that was handed in counts as its text
+abbrev pub content_by : Option (List ℕ) → List ℕ → Result (List ℕ) Refusal
+content_by None text = Ok text
+content_by (Some content) text = do
+  empty ← needs (not (has_text text)) Form
+  Ok (base64url content)
+
+-- a member, which must be there where no content was handed in
+abbrev pub content_text : Option (List ℕ) → List ℕ → Data → Result (List ℕ) Refusal
+content_text None name value = required_text name value
+content_text (Some content) name value = text_at name value >>= content_by (Some content)
+
+-- the content that is handed in beside an object, where it is detached
+abbrev pub handed_in : Bool → List ℕ → Option (List ℕ)
+handed_in false content = None
+handed_in true content = Some content
+
+-- which is octets
+abbrev pub AreOctetsHandedIn : Option (List ℕ) → Type 0
+AreOctetsHandedIn detached = IfSome detached IsOctets
+
+-- what goes out beside the text
+abbrev pub handed_out : Bool → List ℕ → List ℕ
+handed_out false content = []
+handed_out true content = content
+
+-- what is left of the content in the text
+abbrev pub kept : Bool → List ℕ → List ℕ
+kept false content = content
+kept true content = []
+
+-- ---- lists
+
 abbrev pub has_items : Items → Bool
 has_items no_items = false
 has_items (item value values) = true
@@ -89,10 +130,6 @@ object_list value = do
   objects ← needs (has_items items && are_objects items) Form
   Ok items
 
-abbrev pub has_text : List ℕ → Bool
-has_text [] = false
-has_text (c ∷ text) = true
-
 abbrev pub has_members : Members → Bool
 has_members no_members = false
 has_members (member k d rest) = true
@@ -103,6 +140,11 @@ has_members (member k d rest) = true
 abbrev pub put_text : List ℕ → List ℕ → Members → Members
 put_text name [] members = members
 put_text name (c ∷ text) members = put name (string (c ∷ text)) members
+
+-- the content, unless it is detached
+abbrev pub put_content : Bool → List ℕ → List ℕ → Members → Members
+put_content true name content members = members
+put_content false name content members = put name (string (base64url content)) members
 
 -- a header that is there where it has members
 abbrev pub put_header : List ℕ → Members → Members → Members

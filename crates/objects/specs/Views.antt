@@ -1,14 +1,17 @@
 -- What values of the code hold, as contracts see it.
 use Rattle.std.specs.Borrow.{Bor}
 use Rattle.std.specs.BTreeMap.{BTreeMap}
-use Rattle.std.specs.Prelude.{Option, Some, None, String, map, string_bytes}
+use Rattle.std.specs.Prelude.{ℕ, List, Option, Some, None, String, map, string_bytes}
 use Rattle.std.specs.declared.alloc.Global.{Global}
 use Rattle.serde_json.specs.Data.{Members, no_members}
 use Rattle.serde_json.specs.View.{members_view}
 use Rattle.serde_json.specs.declared.value.Value.{Value}
+use Rattle.octets.specs.Base64url.{base64url}
 use Rattle.objects.specs.Headers.{all_members}
 use Rattle.objects.specs.Jwe.{RecipientParts, Recipient, PasswordParameters, SharedTexts, RecipientTexts, ContentTexts, JweTexts, JweParts, EncryptedObject}
 use Rattle.objects.specs.Jws.{SignatureParts, JwsParts, SignatureTexts, JwsTexts, Signature, DecodedSignature, HeadedSignature, SignedObject}
+use Rattle.objects.specs.declared.content.Content.{Content}
+use Rattle.objects.specs.declared.content.Content.TheVariants.{Text, Octets}
 use Rattle.objects.specs.declared.header.Header as header
 use Rattle.objects.specs.declared.jwe.Jwe as jwe
 use Rattle.objects.specs.declared.jwe.JweMembers as jwe_members
@@ -42,13 +45,20 @@ part_view (Some part) = members_view part.now.entries
 abbrev pub header_view : header.Header → Members
 header_view h = all_members (part_view h.protected) (part_view h.unprotected) (part_view h.per_recipient)
 
+-- ---- the content
+
+-- what stands for its text
+abbrev pub content_text_view : Content → List ℕ
+content_text_view (Text text) = text.now
+content_text_view (Octets octets) = base64url octets.items
+
 -- ---- signed objects
 
 abbrev pub signature_texts_view : signature_texts.SignatureTexts → SignatureTexts
 signature_texts_view t = record { protected = t.protected.now; header = members_view t.header.map.entries; signature = t.signature.now }
 
 abbrev pub jws_texts_view : jws_texts.JwsTexts → JwsTexts
-jws_texts_view t = record { payload = t.payload.now; signatures = map signature_texts_view t.signatures.items }
+jws_texts_view t = record { payload = content_text_view t.payload; signatures = map signature_texts_view t.signatures.items }
 
 abbrev pub signature_parts_view : signature_parts.SignatureParts → SignatureParts
 signature_parts_view p = record { protected = string_bytes p.protected; header = members_view p.header.entries; signature = p.signature.items }
@@ -99,7 +109,7 @@ abbrev pub recipient_texts_view : recipient_texts.RecipientTexts → RecipientTe
 recipient_texts_view t = record { header = members_view t.header.map.entries; encrypted_key = t.encrypted_key.now }
 
 abbrev pub content_view : content.ContentTexts → ContentTexts
-content_view t = record { iv = t.iv.now; ciphertext = t.ciphertext.now; tag = t.tag.now }
+content_view t = record { iv = t.iv.now; ciphertext = content_text_view t.ciphertext; tag = t.tag.now }
 
 abbrev pub texts_view : texts.JweTexts → JweTexts
 texts_view t = record { shared = shared_view t.shared; recipients = map recipient_texts_view t.recipients.items; content = content_view t.content }

@@ -1,5 +1,5 @@
 //! Encrypted objects (RFC 7516). It is given an object's text or its members, and sees no key.
-ghost use Rattle.std.specs.Prelude.{◌≡◌, ◌≤◌, length, map, IfOk};
+ghost use Rattle.std.specs.Prelude.{◌≡◌, ◌≤◌, length, map, option_map, IfOk};
 ghost use Rattle.std.specs.List.{list_all};
 ghost use Rattle.std.specs.Str.{bytes_eq};
 ghost use Rattle.serde_json.specs.View.{members_view};
@@ -64,21 +64,21 @@ pub struct Jwe {
 
 impl Jwe {
     /// The object of a text in compact form, with an LF or a CR LF at its end or without, or in JSON form, general or
-    /// flattened (RFC 7516 section 7). Its causes of refusal, each over the whole text before the next: `Json` and `Number`
+    /// flattened (RFC 7516 section 7). A detached ciphertext is handed in; then the text's own has to be absent or empty. Its causes of refusal, each over the whole text before the next: `Json` and `Number`
     /// of a JSON text; `Form`; `Limit` where there are more than 64 recipients; `Base64`; then, of the protected header,
     /// `Json`, `Number`, and `Header` where it is no object; `Header` where a joint header is none, or what it says of the
     /// algorithms is wrong, or their `enc` is not the same; and `Unsupported` where a header has a `crit` or a `zip`. Whether
     /// the algorithms are supported is not asked.
     #[tactic(auto, unfolding(crate::specs::Jwe::jwe_of, crate::specs::Jwe::jwe_texts))]
-    pub fn read(alloc: Global, text: &[u8]) -> Result<Jwe, Refusal>
-        ensures { AgreesUnlessMemory jwe_view result (jwe_of limits text.now) }
+    pub fn read(alloc: Global, text: &[u8], detached: Option<Vec<u8>>) -> Result<Jwe, Refusal>
+        ensures { AgreesUnlessMemory jwe_view result (jwe_of limits (option_map (λ c. c.items) detached) text.now) }
     {
         if is_json_form(text) {
             let value = read_json(alloc, text)?;
-            let texts = json_texts(alloc, &value)?;
+            let texts = json_texts(alloc, &value, detached)?;
             object_of_texts(alloc, texts)
         } else {
-            let texts = compact_texts(alloc, without_line_end(text))?;
+            let texts = compact_texts(alloc, without_line_end(text), detached)?;
             object_of_texts(alloc, texts)
         }
     }

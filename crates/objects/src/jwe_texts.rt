@@ -1,6 +1,6 @@
 //! The members of an encrypted object as texts, by its compact or its JSON serialization (RFC 7516 section 7). It decodes
 //! them, and reads no header.
-ghost use Rattle.std.specs.Prelude.{◌≡◌, ◌∷◌, [], false, length, map, IfOk, IfErr};
+ghost use Rattle.std.specs.Prelude.{◌≡◌, ◌∷◌, [], false, length, map, option_map, IfOk, IfErr};
 ghost use Rattle.serde_json.specs.View.{view, items_view};
 ghost use Rattle.serde_json.specs.Written.{has_float, items_have_float};
 ghost use Rattle.octets.specs.Base64url.{base64url};
@@ -9,11 +9,12 @@ ghost use Rattle.objects.specs.Views.{shared_view, recipient_texts_view, content
 ghost use Rattle.objects.specs.Jwe.{shared_texts, recipient_texts, content_texts, no_recipient_at, recipient_objects, json_texts, compact_texts, recipient_parts, parts_of_texts};
 ghost use Rattle.objects.specs.Texts.{each, each_item};
 
+use crate::content::Content;
 use crate::header::{copy_header, has_some_members, header_at, no_members};
 use crate::header_members::HeaderMembers;
 use crate::jwe::JweMembers;
 use crate::recipient::RecipientMembers;
-use crate::texts::{object_list, required_text, split_at_dot, text_at, three_parts_of};
+use crate::texts::{object_list, split_at_dot, text_at, three_parts_of};
 use keys::laws::members_keep_floats_out;
 use octets::{Refusal, b64_decode, b64_encode, needs};
 use serde_json::Value;
@@ -42,10 +43,10 @@ pub(crate) struct RecipientTexts<'t> {
     encrypted_key: &'t [u8],
 }
 
-#[derive(Clone, Copy)]
+#[derive(Drop)]
 struct ContentTexts<'t> {
     iv: &'t [u8],
-    ciphertext: &'t [u8],
+    ciphertext: Content<'t>,
     tag: &'t [u8],
 }
 
@@ -58,17 +59,21 @@ impl<'t> JweTexts<'t> {
     }
 }
 
-/// The members of an object in JSON form (RFC 7516 section 7.2). Refused with `Form` where one has a wrong type, there is no
-/// `ciphertext`, or what is there of recipients is neither one nor a list of at least one.
+/// The members of an object in JSON form (RFC 7516 section 7.2). Refused with `Form` where one has a wrong type, `ciphertext`
+/// is there and was handed in too, or is neither, or what is there of recipients is neither one nor a list of at least one.
 #[tactic(auto, unfolding(crate::specs::Jwe::json_texts))]
-pub(crate) fn json_texts(alloc: Global, value: &Value) -> Result<JweTexts<'_>, Refusal>
+pub(crate) fn json_texts(
+    alloc: Global,
+    value: &Value,
+    detached: Option<Vec<u8>>,
+) -> Result<JweTexts<'_>, Refusal>
     requires { has_float (view value.now) ≡ false }
-    ensures { AgreesUnlessMemory texts_view result (json_texts (view value.now)) }
+    ensures { AgreesUnlessMemory texts_view result (json_texts (option_map (λ c. c.items) detached) (view value.now)) }
 {
     let shared = shared_texts(alloc, value)?;
     let objects = recipient_objects(value)?;
     let recipients = texts_of_recipients(alloc, objects)?;
-    let content = content_texts(value)?;
+    let content = content_texts(value, detached)?;
     Ok(JweTexts {
         shared,
         recipients,
@@ -148,11 +153,11 @@ fn texts_of_recipient(alloc: Global, value: &Value) -> Result<RecipientTexts<'_>
 }
 
 #[tactic(auto, unfolding(crate::specs::Jwe::content_texts))]
-fn content_texts(value: &Value) -> Result<ContentTexts<'_>, Refusal>
-    ensures { AgreesUnlessMemory content_view result (content_texts (view value.now)) }
+fn content_texts(value: &Value, detached: Option<Vec<u8>>) -> Result<ContentTexts<'_>, Refusal>
+    ensures { AgreesUnlessMemory content_view result (content_texts (option_map (λ c. c.items) detached) (view value.now)) }
 {
     let iv = text_at(value, "iv")?;
-    let ciphertext = required_text(value, "ciphertext")?;
+    let ciphertext = Content::of_member(value, "ciphertext", detached)?;
     let tag = text_at(value, "tag")?;
     Ok(ContentTexts {
         iv,
@@ -161,14 +166,20 @@ fn content_texts(value: &Value) -> Result<ContentTexts<'_>, Refusal>
     })
 }
 
-/// The five parts of a compact text (RFC 7516 section 7.1). Refused with `Form` where there are more or fewer.
+/// The five parts of a compact text (RFC 7516 section 7.1). Refused with `Form` where there are more or fewer, or a ciphertext
+/// was handed in and its part is not empty.
 #[tactic(auto, unfolding(crate::specs::Jwe::compact_texts))]
-pub(crate) fn compact_texts(alloc: Global, text: &[u8]) -> Result<JweTexts<'_>, Refusal>
-    ensures { AgreesUnlessMemory texts_view result (compact_texts text.now) }
+pub(crate) fn compact_texts(
+    alloc: Global,
+    text: &[u8],
+    detached: Option<Vec<u8>>,
+) -> Result<JweTexts<'_>, Refusal>
+    ensures { AgreesUnlessMemory texts_view result (compact_texts (option_map (λ c. c.items) detached) text.now) }
 {
     let (protected, rest) = split_at_dot(text)?;
     let (encrypted_key, rest) = split_at_dot(rest)?;
     let (iv, ciphertext, tag) = three_parts_of(rest)?;
+    let ciphertext = Content::of_part(ciphertext, detached)?;
     let shared = SharedTexts {
         protected,
         unprotected: no_members(alloc),
@@ -215,9 +226,14 @@ pub(crate) fn read_members(
     } = shared;
     let aad = b64_decode(alloc, aad)?;
     let recipients = members_of_recipients(alloc, recipients)?;
-    let iv = b64_decode(alloc, content.iv)?;
-    let ciphertext = b64_decode(alloc, content.ciphertext)?;
-    let tag = b64_decode(alloc, content.tag)?;
+    let ContentTexts {
+        iv,
+        ciphertext,
+        tag,
+    } = content;
+    let iv = b64_decode(alloc, iv)?;
+    let ciphertext = ciphertext.octets(alloc)?;
+    let tag = b64_decode(alloc, tag)?;
     Ok(JweMembers {
         protected: b64_encode(alloc, protected)?,
         unprotected,

@@ -12,7 +12,7 @@ ghost use Rattle.objects.specs.Views.{jwe_view, recipient_view};
 use crate::header::has_members;
 use crate::jwe::Jwe;
 use crate::recipient::Recipient;
-use crate::written::{append_part, put_content, put_header, put_octets, put_text};
+use crate::written::{append_part, kept, put_content, put_header, put_octets, put_text};
 use keys::laws;
 use octets::{Refusal, needs};
 use serde_json::{Map, Value};
@@ -20,25 +20,27 @@ use std::alloc::Global;
 
 impl Jwe {
     /// The JSON text, its members in byte order of their names: flattened where there is one recipient, and else general
-    /// (RFC 7516 section 7.2). An optional member that is empty is left out.
+    /// (RFC 7516 section 7.2). An optional member that is empty is left out, and so is the ciphertext where it is detached.
     #[tactic(auto, unfolding(crate::specs::Jwe::json_text))]
-    pub fn to_json(&self, alloc: Global) -> Result<String, Refusal>
-        ensures { AgreesUnlessMemory string_bytes result (Ok (json_text (jwe_view self.now))) }
+    pub fn to_json(&self, alloc: Global, detach: bool) -> Result<String, Refusal>
+        ensures { AgreesUnlessMemory string_bytes result (Ok (json_text detach (jwe_view self.now))) }
     {
         let mut members = Map::new(alloc);
         put_recipients(alloc, &mut members, self.recipients())?;
-        put_shared(alloc, &mut members, self)?;
+        put_shared(alloc, &mut members, self, detach)?;
         Ok(Value::Object(members).to_string(alloc)?)
     }
 
-    /// The compact text (RFC 7516 section 7.1). Refused with `NotCompact` where the object has more than one recipient,
-    /// a header that is not protected, or additional data of its own.
+    /// The compact text (RFC 7516 section 7.1), in which the part of a detached ciphertext is empty. Refused with
+    /// `NotCompact` where the object has more than one recipient, a header that is not protected, or additional data of its
+    /// own.
     #[tactic(auto, unfolding(crate::specs::Jwe::jwe_compact_text))]
-    pub fn to_compact(&self, alloc: Global) -> Result<String, Refusal>
-        ensures { AgreesUnlessMemory string_bytes result (jwe_compact_text (jwe_view self.now)) }
+    pub fn to_compact(&self, alloc: Global, detach: bool) -> Result<String, Refusal>
+        ensures { AgreesUnlessMemory string_bytes result (jwe_compact_text detach (jwe_view self.now)) }
     {
         needs(is_compact(self), Refusal::NotCompact)?;
-        compact_text(alloc, self, key_of_first(self.recipients()))
+        let ciphertext = kept(detach, self.ciphertext());
+        compact_text(alloc, self, key_of_first(self.recipients()), ciphertext)
     }
 }
 
@@ -117,14 +119,19 @@ fn put_recipient(
     put_header(alloc, members, "header", &recipient.header)
 }
 
-/// Puts in what all recipients share. The ciphertext is always there.
-fn put_shared(alloc: Global, members: &mut Map<String, Value>, jwe: &Jwe) -> Result<(), Refusal>
-    ensures put { OnOk result (members_view members.new.entries ≡ shared_put (jwe_view jwe.now) (members_view members.old.entries)) }
+/// Puts in what all recipients share. The ciphertext is there unless it is detached.
+fn put_shared(
+    alloc: Global,
+    members: &mut Map<String, Value>,
+    jwe: &Jwe,
+    detach: bool,
+) -> Result<(), Refusal>
+    ensures put { OnOk result (members_view members.new.entries ≡ shared_put detach (jwe_view jwe.now) (members_view members.old.entries)) }
     ensures no_float { OnOk result (members_have_float (members_view members.old.entries) ≡ false → members_have_float (members_view members.new.entries) ≡ false) }
     ensures memory { OnErr result (result ≡ Err Refusal.Memory) }
 {
     put_octets(alloc, members, "aad", jwe.aad())?;
-    put_content(alloc, members, "ciphertext", jwe.ciphertext())?;
+    put_content(alloc, members, detach, "ciphertext", jwe.ciphertext())?;
     put_octets(alloc, members, "iv", jwe.iv())?;
     put_text(
         alloc,
@@ -137,13 +144,18 @@ fn put_shared(alloc: Global, members: &mut Map<String, Value>, jwe: &Jwe) -> Res
 }
 
 /// The parts of a compact text, with dots between.
-fn compact_text(alloc: Global, jwe: &Jwe, encrypted_key: &[u8]) -> Result<String, Refusal>
-    ensures { AgreesUnlessMemory string_bytes result (Ok (joined (jwe_view jwe.now).protected encrypted_key.now (jwe_view jwe.now).iv (jwe_view jwe.now).ciphertext (jwe_view jwe.now).tag)) }
+fn compact_text(
+    alloc: Global,
+    jwe: &Jwe,
+    encrypted_key: &[u8],
+    ciphertext: &[u8],
+) -> Result<String, Refusal>
+    ensures { AgreesUnlessMemory string_bytes result (Ok (joined (jwe_view jwe.now).protected encrypted_key.now (jwe_view jwe.now).iv ciphertext.now (jwe_view jwe.now).tag)) }
 {
     let mut text = String::from_str(alloc, jwe.protected())?;
     append_part(&mut text, encrypted_key)?;
     append_part(&mut text, jwe.iv())?;
-    append_part(&mut text, jwe.ciphertext())?;
+    append_part(&mut text, ciphertext)?;
     append_part(&mut text, jwe.tag())?;
     Ok(text)
 }

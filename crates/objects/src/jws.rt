@@ -1,5 +1,5 @@
 //! Signed objects (RFC 7515). It is given an object's text or its members, and sees no key.
-ghost use Rattle.std.specs.Prelude.{◌≡◌, ◌≤◌, length, map, IfOk};
+ghost use Rattle.std.specs.Prelude.{◌≡◌, ◌≤◌, length, map, option_map, IfOk};
 ghost use Rattle.std.specs.List.{list_all};
 ghost use Rattle.serde_json.specs.View.{members_view};
 ghost use Rattle.octets.specs.Outcomes.{AgreesUnlessMemory};
@@ -15,7 +15,7 @@ use crate::signature_list::SignatureList;
 use crate::texts::is_json_form;
 use crate::{Header, read_protected};
 use keys::{MOST_RECIPIENTS, read_json};
-use octets::{Refusal, b64_decode, needs, without_line_end};
+use octets::{Refusal, needs, without_line_end};
 use serde_json::{Map, Value};
 use std::alloc::Global;
 
@@ -106,22 +106,23 @@ impl Signature {
 
 impl Jws {
     /// The object of a text in compact form, with an LF or a CR LF at its end or without, or in JSON form, general or
-    /// flattened (RFC 7515 section 7). Nothing is verified, and whether the algorithms are supported is not asked.
+    /// flattened (RFC 7515 section 7). A detached payload (RFC 7515 appendix F) is handed in; then the text's own has to be
+    /// absent or empty. Nothing is verified, and whether the algorithms are supported is not asked.
     ///
     /// Its causes of refusal, each over the whole text before the next: `Json` and `Number` of a JSON text; `Form`; `Limit`
     /// where there are more than 64 signatures; `Base64`; then, of each protected header in order, `Json`, `Number`, and
     /// `Header` where it is no object; `Header` where a joint header is none, or has no `alg` or one that is no string; and
     /// `Unsupported` where a header has a `crit`, whatever that holds (RFC 7515 section 4.1.11).
     #[tactic(auto, unfolding(crate::specs::Jws::jws_of, crate::specs::Jws::jws_texts))]
-    pub fn read(alloc: Global, text: &[u8]) -> Result<Jws, Refusal>
-        ensures { AgreesUnlessMemory jws_view result (jws_of limits text.now) }
+    pub fn read(alloc: Global, text: &[u8], detached: Option<Vec<u8>>) -> Result<Jws, Refusal>
+        ensures { AgreesUnlessMemory jws_view result (jws_of limits (option_map (λ c. c.items) detached) text.now) }
     {
         if is_json_form(text) {
             let value = read_json(alloc, text)?;
-            let texts = json_texts(alloc, &value)?;
+            let texts = json_texts(alloc, &value, detached)?;
             object_of_texts(alloc, texts)
         } else {
-            let texts = compact_texts(alloc, without_line_end(text))?;
+            let texts = compact_texts(alloc, without_line_end(text), detached)?;
             object_of_texts(alloc, texts)
         }
     }
@@ -152,7 +153,7 @@ fn object_of_texts(alloc: Global, texts: JwsTexts<'_>) -> Result<Jws, Refusal>
         payload,
         signatures,
     } = texts;
-    let payload = b64_decode(alloc, payload)?;
+    let payload = payload.octets(alloc)?;
     let signatures = decoded_signatures(alloc, signatures)?;
     signed_object(alloc, payload, signatures)
 }

@@ -1,6 +1,6 @@
 //! The members of a signed object as texts, by its compact or its JSON serialization (RFC 7515 section 7). It decodes them, and
 //! reads no header.
-ghost use Rattle.std.specs.Prelude.{◌≡◌, false, length, map, IfOk};
+ghost use Rattle.std.specs.Prelude.{◌≡◌, false, length, map, option_map, IfOk};
 ghost use Rattle.serde_json.specs.View.{view, items_view};
 ghost use Rattle.serde_json.specs.Written.{has_float, items_have_float};
 ghost use Rattle.octets.specs.Outcomes.{AgreesUnlessMemory};
@@ -8,6 +8,7 @@ ghost use Rattle.objects.specs.Jws.{signature_texts, no_signature_at, signature_
 ghost use Rattle.objects.specs.Texts.{each, each_item};
 ghost use Rattle.objects.specs.Views.{jws_texts_view, signature_texts_view, decoded_view};
 
+use crate::content::Content;
 use crate::header::{copy_header, has_some_members, header_at, no_members};
 use crate::header_members::HeaderMembers;
 use crate::jws::{DecodedSignature, SignatureMembers};
@@ -22,7 +23,7 @@ use std::slice;
 /// The members of a signed object, with the texts that they have.
 #[derive(Drop)]
 pub(crate) struct JwsTexts<'t> {
-    pub(crate) payload: &'t [u8],
+    pub(crate) payload: Content<'t>,
     pub(crate) signatures: Vec<SignatureTexts<'t>>,
 }
 
@@ -34,14 +35,18 @@ pub(crate) struct SignatureTexts<'t> {
     signature: &'t [u8],
 }
 
-/// The members of an object in JSON form (RFC 7515 section 7.2). Refused with `Form` where one has a wrong type, there is no
-/// `payload`, or what is there of signatures is neither one nor a list of at least one.
+/// The members of an object in JSON form (RFC 7515 section 7.2). Refused with `Form` where one has a wrong type, `payload` is
+/// there and was handed in too, or is neither, or what is there of signatures is neither one nor a list of at least one.
 #[tactic(auto, unfolding(crate::specs::Jws::json_texts))]
-pub(crate) fn json_texts(alloc: Global, value: &Value) -> Result<JwsTexts<'_>, Refusal>
+pub(crate) fn json_texts(
+    alloc: Global,
+    value: &Value,
+    detached: Option<Vec<u8>>,
+) -> Result<JwsTexts<'_>, Refusal>
     requires { has_float (view value.now) ≡ false }
-    ensures { AgreesUnlessMemory jws_texts_view result (json_texts (view value.now)) }
+    ensures { AgreesUnlessMemory jws_texts_view result (json_texts (option_map (λ c. c.items) detached) (view value.now)) }
 {
-    let payload = required_text(value, "payload")?;
+    let payload = Content::of_member(value, "payload", detached)?;
     let objects = signature_objects(value)?;
     let signatures = texts_of_signatures(alloc, objects)?;
     Ok(JwsTexts {
@@ -108,12 +113,18 @@ fn texts_of_signature(alloc: Global, value: &Value) -> Result<SignatureTexts<'_>
     })
 }
 
-/// The three parts of a compact text (RFC 7515 section 7.1). Refused with `Form` where there are more or fewer.
+/// The three parts of a compact text (RFC 7515 section 7.1). Refused with `Form` where there are more or fewer, or a payload
+/// was handed in and its part is not empty.
 #[tactic(auto, unfolding(crate::specs::Jws::compact_texts))]
-pub(crate) fn compact_texts(alloc: Global, text: &[u8]) -> Result<JwsTexts<'_>, Refusal>
-    ensures { AgreesUnlessMemory jws_texts_view result (compact_texts text.now) }
+pub(crate) fn compact_texts(
+    alloc: Global,
+    text: &[u8],
+    detached: Option<Vec<u8>>,
+) -> Result<JwsTexts<'_>, Refusal>
+    ensures { AgreesUnlessMemory jws_texts_view result (compact_texts (option_map (λ c. c.items) detached) text.now) }
 {
     let (protected, payload, signature) = three_parts_of(text)?;
+    let payload = Content::of_part(payload, detached)?;
     let mut signatures = Vec::new(alloc);
     signatures.push(SignatureTexts {
         protected,

@@ -11,7 +11,7 @@ ghost use Rattle.objects.specs.Views.{jws_view, signature_view};
 
 use crate::header::has_members;
 use crate::jws::{Jws, Signature};
-use crate::written::{append_part, put_content, put_header, put_text};
+use crate::written::{append_part, kept, put_content, put_encoded, put_header, put_text};
 use keys::laws;
 use octets::{Refusal, needs};
 use serde_json::{Map, Value};
@@ -19,25 +19,26 @@ use std::alloc::Global;
 
 impl Jws {
     /// The JSON text, its members in byte order of their names: flattened where there is one signature, and else general
-    /// (RFC 7515 section 7.2). An optional member that is empty is left out.
+    /// (RFC 7515 section 7.2). An optional member that is empty is left out, and so is the payload where it is detached.
     #[tactic(auto, unfolding(crate::specs::Jws::json_text))]
-    pub fn to_json(&self, alloc: Global) -> Result<String, Refusal>
-        ensures { AgreesUnlessMemory string_bytes result (Ok (json_text (jws_view self.now))) }
+    pub fn to_json(&self, alloc: Global, detach: bool) -> Result<String, Refusal>
+        ensures { AgreesUnlessMemory string_bytes result (Ok (json_text detach (jws_view self.now))) }
     {
         let mut members = Map::new(alloc);
         put_signatures(alloc, &mut members, self.signatures())?;
-        put_content(alloc, &mut members, "payload", self.payload())?;
+        put_content(alloc, &mut members, detach, "payload", self.payload())?;
         Ok(Value::Object(members).to_string(alloc)?)
     }
 
-    /// The compact text (RFC 7515 section 7.1). Refused with `NotCompact` where the object has more than one signature, or a
-    /// header that is not protected.
+    /// The compact text (RFC 7515 section 7.1), in which the part of a detached payload is empty. Refused with `NotCompact`
+    /// where the object has more than one signature, or a header that is not protected.
     #[tactic(auto, unfolding(crate::specs::Jws::jws_compact_text))]
-    pub fn to_compact(&self, alloc: Global) -> Result<String, Refusal>
-        ensures { AgreesUnlessMemory string_bytes result (jws_compact_text (jws_view self.now)) }
+    pub fn to_compact(&self, alloc: Global, detach: bool) -> Result<String, Refusal>
+        ensures { AgreesUnlessMemory string_bytes result (jws_compact_text detach (jws_view self.now)) }
     {
         needs(is_compact(self.signatures()), Refusal::NotCompact)?;
-        joined_first(alloc, self.payload(), self.signatures())
+        let payload = kept(detach, self.payload());
+        joined_first(alloc, payload, self.signatures())
     }
 }
 
@@ -126,6 +127,6 @@ fn put_signature(
         "protected",
         String::from_str(alloc, signature.protected())?,
     )?;
-    put_content(alloc, members, "signature", signature.signature())?;
+    put_encoded(alloc, members, "signature", signature.signature())?;
     put_header(alloc, members, "header", &signature.header)
 }

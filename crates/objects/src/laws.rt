@@ -35,6 +35,7 @@ pub fn jws_objects_are_made()
 {
     what_is_read_is_json();
     members_keep_json();
+    base64url_decodes_exactly();
     base64url_decodes_to_octets();
 }
 
@@ -66,6 +67,7 @@ pub fn jwe_objects_are_made()
 {
     what_is_read_is_json();
     members_keep_json();
+    base64url_decodes_exactly();
     base64url_decodes_to_octets();
 }
 

@@ -15,6 +15,7 @@
 //! ```
 #![tactic(auto)]
 
+mod content;
 mod header;
 mod header_members;
 mod jwe;

@@ -5,7 +5,7 @@ ghost use Rattle.serde_json.specs.Data.{object, string, put as put_data};
 ghost use Rattle.serde_json.specs.View.{view, members_view};
 ghost use Rattle.serde_json.specs.Written.{members_have_float};
 ghost use Rattle.octets.specs.Base64url.{base64url};
-ghost use Rattle.objects.specs.Texts.{put_text as text_put, put_header as header_put};
+ghost use Rattle.objects.specs.Texts.{kept, put_content as content_put, put_text as text_put, put_header as header_put};
 
 use crate::header::{copy, has_members};
 use crate::header_members::HeaderMembers;
@@ -14,8 +14,26 @@ use octets::{Refusal, b64_append, b64_encode};
 use serde_json::{Map, Value};
 use std::alloc::Global;
 
-/// Puts in the base64url text of the octets.
+/// Puts in the base64url text of the content, unless it is detached.
 pub(crate) fn put_content(
+    alloc: Global,
+    members: &mut Map<String, Value>,
+    detach: bool,
+    name: &str,
+    content: &[u8],
+) -> Result<(), Refusal>
+    ensures put { OnOk result (members_view members.new.entries ≡ content_put detach name.now content.now (members_view members.old.entries)) }
+    ensures no_float { OnOk result (members_have_float (members_view members.old.entries) ≡ false → members_have_float (members_view members.new.entries) ≡ false) }
+    ensures memory { OnErr result (result ≡ Err Refusal.Memory) }
+{
+    if detach {
+        return Ok(());
+    }
+    put_encoded(alloc, members, name, content)
+}
+
+/// Puts in the base64url text of the octets.
+pub(crate) fn put_encoded(
     alloc: Global,
     members: &mut Map<String, Value>,
     name: &str,
@@ -89,6 +107,13 @@ fn header_value(alloc: Global, header: &HeaderMembers) -> Result<Value, Refusal>
     ensures memory { IfErr result (λ e. e ≡ Refusal.Memory) }
 {
     Ok(Value::Object(copy(alloc, Some(&header.map))?))
+}
+
+/// What is left of the content in the text: nothing where it is detached.
+pub(crate) fn kept(detach: bool, content: &[u8]) -> &[u8]
+    ensures { result.now ≡ kept detach content.now }
+{
+    if detach { b"" } else { content }
 }
 
 /// Appends a dot and the base64url text of the octets.

@@ -1,5 +1,5 @@
 -- What is encrypted decrypts with each key alone that may decrypt.
-use Rattle.std.proofs.Common.{◌≡◌, ℕ, ◌*◌, ◌≤◌, Bool, true, false, List, [], ◌∷◌, ◌++◌, length, map, take, drop, Some, Ok, refl, sym, ◌∙◌, ap, subst, arith}
+use Rattle.std.proofs.Common.{◌≡◌, ℕ, ◌*◌, ◌≤◌, Bool, true, false, List, [], ◌∷◌, ◌++◌, length, map, take, drop, Some, Ok, refl, sym, ◌∙◌, ap, subst, arith, None}
 use Rattle.std.proofs.lemmas.List.{length-take-le}
 use Rattle.std.specs.List.{AllByRecursion}
 use Rattle.octets.specs.Octets.{IsOctets}
@@ -33,9 +33,9 @@ pub record Laws : Type 0 where
   pub spells : TextsSpellObjects
 
 -- the object is read from its text in either form
-text_is_read : Laws → (compact : Bool) (parts : JweParts) (o : EncryptedObject) (text : List ℕ) → AreMembers parts → built limits parts ≡ Ok o → text_of compact o ≡ Ok text → jwe_of limits text ≡ Ok o
-text_is_read laws true parts o text members is h = (laws.spells limits parts o members is).1 text h
-text_is_read laws false parts o text members is h = ap (jwe_of limits) (sym (same_answer (json_text o) text h)) ∙ (laws.spells limits parts o members is).0
+text_is_read : Laws → (compact : Bool) (parts : JweParts) (o : EncryptedObject) (text : List ℕ) → AreMembers parts → built limits parts ≡ Ok o → text_of compact false o ≡ Ok text → jwe_of limits None text ≡ Ok o
+text_is_read laws true parts o text members is h = (laws.spells limits parts o members is false).1 text h
+text_is_read laws false parts o text members is h = ap (jwe_of limits None) (sym (same_answer (json_text false o) text h)) ∙ (laws.spells limits parts o members is false).0
 
 -- a key that may decrypt and fits is a candidate
 candidate_is : (e : Encryption) (r : Receiver) → allows r.key (management_operations r.management).1 ≡ true → fits r.key (EncryptionWith r.management e.encryption) ≡ true
@@ -93,10 +93,10 @@ decrypts laws before after key e random plaintext o by random_octets long may is
 -- so its text is that of an object which is decrypted
 read_and_decrypted : Laws → (compact : Bool) (before after : List OctetKey) (key : OctetKey) (e : Encryption) (random plaintext text : List ℕ) → AreOctetKeys (before ++ key ∷ after)
     → IsOctets random → IsOctets plaintext → length random ≡ octets_drawn e → Settles (before ++ key ∷ after) e
-    → AllByRecursion (λ r. r.key ≡ key → allows key (management_operations r.management).1 ≡ true) e.receivers → (encrypted e random plaintext >>= text_of compact) ≡ Ok text
-    → (o : EncryptedObject) × ((jwe_of limits text ≡ Ok o) × (OpensNoOther (length before) key o plaintext → decrypted limits (key ∷ []) o ≡ Ok plaintext))
+    → AllByRecursion (λ r. r.key ≡ key → allows key (management_operations r.management).1 ≡ true) e.receivers → (encrypted e random plaintext >>= text_of compact false) ≡ Ok text
+    → (o : EncryptedObject) × ((jwe_of limits None text ≡ Ok o) × (OpensNoOther (length before) key o plaintext → decrypted limits (key ∷ []) o ≡ Ok plaintext))
 read_and_decrypted laws compact before after key e random plaintext text key_octets random_octets octets long by may h =
-    let o = steps (encrypted e random plaintext) (text_of compact) text h in
+    let o = steps (encrypted e random plaintext) (text_of compact false) text h in
     let is : IsEncrypted e random plaintext o.0 = is_encrypted laws.octets (before ++ key ∷ after) e random plaintext o.0 key_octets random_octets octets long by o.1 in
     let decrypted_if : OpensNoOther (length before) key o.0 plaintext → decrypted limits (key ∷ []) o.0 ≡ Ok plaintext =
     subst (λ o. OpensNoOther (length before) key o plaintext → decrypted limits (key ∷ []) o ≡ Ok plaintext) is.is

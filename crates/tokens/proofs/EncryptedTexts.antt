@@ -34,7 +34,7 @@ fits e cek o (x ∷ (other ∷ rest)) alone long some unprotected aad = absurd (
 
 -- so the object has a text
 has_text : (compact : Bool) (e : Encryption) (random : List ℕ) (s : Sealed) → holds_no_more compact e ≡ true → 1 ≤ length e.receivers
-    → (text : List ℕ) × (text_of compact (object_by e random s) ≡ Ok text)
+    → (text : List ℕ) × (text_of compact false (object_by e random s) ≡ Ok text)
 unfolding jwe_compact_text
 has_text true e random s alone some =
     let o : EncryptedObject = object_by e random s in
@@ -43,7 +43,7 @@ has_text true e random s alone some =
     let held : is_compact o o.recipients ≡ true =
     fits e (cek_by e random) o (salted_by e random) first.0 (as_many_salted e.receivers (salts_by e random)) some (no_members_there e.unprotected second.0) second.1 in
     (joined o.protected (key_of_first o.recipients) o.iv o.ciphertext o.tag, rw held refl)
-has_text false e random s alone some = (json_text (object_by e random s), refl)
+has_text false e random s alone some = (json_text false (object_by e random s), refl)
 
 -- and every plaintext that is not too long
 whole_text : (compact : Bool) (keys : List OctetKey) (e : Encryption) (random plaintext : List ℕ) → Settles keys e → Writes e random → nat_le (length e.receivers) limits.recipients ≡ true
@@ -52,7 +52,7 @@ unfolding encrypted sealed_by
 whole_text compact keys e random plaintext by w few alone = by_test (not (is_longer (length plaintext) (sealing_by e random).longest))
   where
     by_test : (short : Bool)
-        → IfErr (((needs short Limit >>= λ passed. Ok ((sealing_by e random).sealed plaintext)) >>= λ s. built limits (parts_by e random s)) >>= text_of compact) (λ refusal. refusal ≡ Limit)
+        → IfErr (((needs short Limit >>= λ passed. Ok ((sealing_by e random).sealed plaintext)) >>= λ s. built limits (parts_by e random s)) >>= text_of compact false) (λ refusal. refusal ≡ Limit)
     by_test false = refl
     by_test true =
         let s : Sealed = (sealing_by e random).sealed plaintext in

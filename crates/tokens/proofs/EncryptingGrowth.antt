@@ -62,7 +62,7 @@ more_fixed e random p q =
 -- ---- the compact text
 
 -- it begins with the parts up to the ciphertext
-compact_begins : (o : EncryptedObject) (text : List ℕ) → jwe_compact_text o ≡ Ok text
+compact_begins : (o : EncryptedObject) (text : List ℕ) → jwe_compact_text false o ≡ Ok text
     → Begins (o.protected ++ codes "." ++ base64url (key_of_first o.recipients) ++ codes "." ++ base64url o.iv ++ codes "." ++ base64url o.ciphertext) text
 unfolding jwe_compact_text
 compact_begins o text h =
@@ -137,7 +137,7 @@ later_members o =
     (put_text (codes "protected") o.protected (put_text (codes "iv") (base64url o.iv) (put_recipients o.recipients no_members))))
 
 -- the members of an object begin with them
-members_are : (o : EncryptedObject) → put_shared o (put_recipients o.recipients no_members) ≡ first_members (base64url o.aad) (base64url o.ciphertext) (later_members o)
+members_are : (o : EncryptedObject) → put_shared false o (put_recipients o.recipients no_members) ≡ first_members (base64url o.aad) (base64url o.ciphertext) (later_members o)
 members_are o =
     let aad : List ℕ = base64url o.aad in
     let ciphertext : List ℕ = base64url o.ciphertext in
@@ -191,7 +191,7 @@ first_text (c ∷ aad) ciphertext later is_aad is_ciphertext =
 
 -- so the JSON text of an object begins with the members up to the ciphertext
 json_begins : (o : EncryptedObject) → IsOctets o.aad → IsOctets o.ciphertext
-    → Begins (codes "{" ++ aad_member o.aad ++ codes "\"ciphertext\":\"" ++ base64url o.ciphertext) (json_text o)
+    → Begins (codes "{" ++ aad_member o.aad ++ codes "\"ciphertext\":\"" ++ base64url o.ciphertext) (json_text false o)
 unfolding json_text
 json_begins o aad_octets ciphertext_octets =
     let ciphertext : List ℕ = base64url o.ciphertext in
@@ -206,7 +206,7 @@ json_begins o aad_octets ciphertext_octets =
 
 -- the text begins with what stands before the ciphertext, and with the ciphertext's text
 text_begins : (compact : Bool) (e : Encryption) (random : List ℕ) (s : Sealed) (o : EncryptedObject) (text : List ℕ) → IsOctets e.aad → IsOctets s.ciphertext → Has e random s o
-    → text_of compact o ≡ Ok text → Begins (text_before compact e random ++ base64url s.ciphertext) text
+    → text_of compact false o ≡ Ok text → Begins (text_before compact e random ++ base64url s.ciphertext) text
 text_begins true e random s o text aad_octets ciphertext_octets has h =
     let first : o.protected ++ codes "." ++ base64url (key_of_first o.recipients) ++ codes "." ++ base64url o.iv ++ codes "." ++ base64url o.ciphertext
     ≡ text_before true e random ++ base64url s.ciphertext = rw (has.protected, has.key, has.iv, has.ciphertext) refl in
@@ -215,7 +215,7 @@ text_begins false e random s o text aad_octets ciphertext_octets has h =
     let first : codes "{" ++ aad_member o.aad ++ codes "\"ciphertext\":\"" ++ base64url o.ciphertext ≡ text_before false e random ++ base64url s.ciphertext =
     rw (has.aad, has.ciphertext) refl in
     let begins = json_begins o (subst IsOctets (sym has.aad) aad_octets) (subst IsOctets (sym has.ciphertext) ciphertext_octets) in
-    subst (λ front. Begins front text) first (subst (Begins _) (same_answer (json_text o) text h) begins)
+    subst (λ front. Begins front text) first (subst (Begins _) (same_answer (json_text false o) text h) begins)
 
 -- by just as many random octets as are drawn, the plan grows
 plan_grows : OctetLaws → (compact : Bool) (keys : List OctetKey) (e : Encryption) (random : List ℕ) → AreOctetKeys keys → IsOctets random → length random ≡ octets_drawn e
@@ -227,7 +227,7 @@ plan_grows laws compact keys e random key_octets random_octets long by = record 
   whole = λ p q text octets h.
       let s = sealing_by e random in
       let before : List ℕ = text_before compact e random in
-      let o = steps (encrypted e random (p ++ q)) (text_of compact) text h in
+      let o = steps (encrypted e random (p ++ q)) (text_of compact false) text h in
       let is = is_encrypted laws keys e random (p ++ q) o.0 key_octets random_octets octets long by o.1 in
       let ciphertext : List ℕ = is.sealed.ciphertext in
       let fixed : Begins (s.fixed p) ciphertext =

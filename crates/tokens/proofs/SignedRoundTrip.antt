@@ -1,5 +1,5 @@
 -- What is signed verifies with each key alone that may verify.
-use Rattle.std.proofs.Common.{◌≡◌, ℕ, nat_le, Bool, true, false, List, [], ◌∷◌, ◌++◌, length, map, is_some, Ok, refl, sym, ap, ◌∙◌}
+use Rattle.std.proofs.Common.{◌≡◌, ℕ, nat_le, Bool, true, false, List, [], ◌∷◌, ◌++◌, length, map, is_some, Ok, refl, sym, ap, ◌∙◌, None}
 use Rattle.std.proofs.lemmas.Bool.{and_parts, and_from, or_left}
 use Rattle.std.proofs.lemmas.List.{length-map}
 use Rattle.std.proofs.lemmas.Slice.Eq.{bytes_eq-Decides}
@@ -58,22 +58,22 @@ are_members s payload octets json signs = record {
 }
 
 -- so its text is read as the object that signing makes
-text_is_read : TextsSpellObjects → (compact : Bool) (keys : List OctetKey) (s : Signing) (payload text : List ℕ) → IsOctets payload → IsSigning compact keys s → (signed s payload >>= text_of compact) ≡ Ok text
-    → jws_of limits text ≡ Ok (object_by s payload)
+text_is_read : TextsSpellObjects → (compact : Bool) (keys : List OctetKey) (s : Signing) (payload text : List ℕ) → IsOctets payload → IsSigning compact keys s → (signed s payload >>= text_of compact false) ≡ Ok text
+    → jws_of limits None text ≡ Ok (object_by s payload)
 unfolding signed
 text_is_read spells compact keys s payload text octets is h =
-    let o = steps (signed s payload) (text_of compact) text h in
+    let o = steps (signed s payload) (text_of compact false) text h in
     let built = is_built limits (parts_by s payload) o.0 o.1 in
     let long : length (map (signature_by s.header payload) s.signers) ≡ length s.signers = length-map s.signers (signature_by s.header payload) in
     let some : nat_le 1 (length s.signers) ≡ true = ap (nat_le 1) (sym long) ∙ built.some in
     let few : nat_le (length s.signers) limits.recipients ≡ true = ap (λ n. nat_le n limits.recipients) (sym long) ∙ built.few in
-    let spelled = spells limits (parts_by s payload) o.0 (are_members s payload octets is.json is.signs) o.1 in
+    let spelled = spells limits (parts_by s payload) o.0 (are_members s payload octets is.json is.signs) o.1 false in
     by_form compact o.0 text spelled.0 spelled.1 o.2 ∙ sym o.1 ∙ signed_is compact keys s payload is some few
   where
-    by_form : (compact : Bool) (o : SignedObject) (text : List ℕ) → jws_of limits (json_text o) ≡ Ok o → ((text : List ℕ) → jws_compact_text o ≡ Ok text → jws_of limits text ≡ Ok o)
-        → text_of compact o ≡ Ok text → jws_of limits text ≡ Ok o
+    by_form : (compact : Bool) (o : SignedObject) (text : List ℕ) → jws_of limits None (json_text false o) ≡ Ok o → ((text : List ℕ) → jws_compact_text false o ≡ Ok text → jws_of limits None text ≡ Ok o)
+        → text_of compact false o ≡ Ok text → jws_of limits None text ≡ Ok o
     by_form true o text json compact is = compact text is
-    by_form false o text json compact is = ap (jws_of limits) (sym (same_answer (json_text o) text is)) ∙ json
+    by_form false o text json compact is = ap (jws_of limits None) (sym (same_answer (json_text false o) text is)) ∙ json
 
 -- ---- and the key verifies it
 
@@ -125,7 +125,7 @@ signed_verifies spells compact all before key after template payload text octets
     let keys : List OctetKey = before ++ key ∷ after in
     let plan = steps (signing_by limits compact keys template) (λ plan. plan.whole payload) text h in
     let s = steps (signing_of limits compact keys template) (λ s. Ok (plan_by compact s)) plan.0 plan.1 in
-    let whole : (signed s.0 payload >>= text_of compact) ≡ Ok text = ap (λ (p : Plan (List ℕ)). p.whole payload) (same_answer (plan_by compact s.0) plan.0 s.2) ∙ plan.2 in
+    let whole : (signed s.0 payload >>= text_of compact false) ≡ Ok text = ap (λ (p : Plan (List ℕ)). p.whole payload) (same_answer (plan_by compact s.0) plan.0 s.2) ∙ plan.2 in
     let is = is_signing compact keys template s.0 s.1 in
     ap (λ r. r >>= verifying_by all true (key ∷ [])) (text_is_read spells compact keys s.0 payload text octets is whole)
     ∙ payload_verified compact all before key after s.0 payload may is

@@ -26,10 +26,10 @@ fits header payload (s ∷ (other ∷ rest)) alone some =
     absurd (omega arith)
 
 -- so the object has a text
-has_text : (compact : Bool) (s : Signing) (payload : List ℕ) → has_no_more compact s ≡ true → nat_le 1 (length s.signers) ≡ true → (text : List ℕ) × (text_of compact (object_by s payload) ≡ Ok text)
+has_text : (compact : Bool) (s : Signing) (payload : List ℕ) → has_no_more compact s ≡ true → nat_le 1 (length s.signers) ≡ true → (text : List ℕ) × (text_of compact false (object_by s payload) ≡ Ok text)
 unfolding jws_compact_text
 has_text true s payload alone some = (joined_first payload (map (made_by s.header payload) s.signers), rw (fits s.header payload s.signers alone some) refl)
-has_text false s payload alone some = (json_text (object_by s payload), refl)
+has_text false s payload alone some = (json_text false (object_by s payload), refl)
 
 pub signing_makes_texts : SigningMakesTexts
 unfolding signing_by
@@ -41,4 +41,4 @@ signing_makes_texts compact keys template payload plan some few h =
     let few_signers : nat_le (length s.0.signers) limits.recipients ≡ true = ap (λ n. nat_le n limits.recipients) long ∙ few in
     let made = signed_is compact keys s.0 payload is some_signers few_signers in
     let text = has_text compact s.0 payload is.alone some_signers in
-    (text.0, ap (λ (p : Plan (List ℕ)). p.whole payload) (sym (same_answer (plan_by compact s.0) plan s.2)) ∙ ap (λ r. r >>= text_of compact) made ∙ text.1)
+    (text.0, ap (λ (p : Plan (List ℕ)). p.whole payload) (sym (same_answer (plan_by compact s.0) plan s.2)) ∙ ap (λ r. r >>= text_of compact false) made ∙ text.1)

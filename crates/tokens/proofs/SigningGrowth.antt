@@ -84,7 +84,7 @@ first_text (member k d ms) payload later url =
 
 -- so the JSON text of an object begins with the members up to the payload
 json_begins : (payload : List ℕ) (signatures : List Signature) → IsUrlText (base64url payload)
-    → Begins (beginning false (spelled (object_of payload signatures))) (json_text (object_of payload signatures))
+    → Begins (beginning false (spelled (object_of payload signatures))) (json_text false (object_of payload signatures))
 unfolding json_text
 json_begins payload [] url = first_text no_members (base64url payload) no_members url
 json_begins payload (s ∷ []) url =
@@ -100,7 +100,7 @@ json_begins payload (s ∷ (other ∷ rest)) url =
 -- ---- what is signed
 
 -- the text of an object begins so, in either form
-object_begins : (compact : Bool) (o : SignedObject) (text : List ℕ) → IsUrlText (base64url o.payload) → text_of compact o ≡ Ok text → Begins (beginning compact (spelled o)) text
+object_begins : (compact : Bool) (o : SignedObject) (text : List ℕ) → IsUrlText (base64url o.payload) → text_of compact false o ≡ Ok text → Begins (beginning compact (spelled o)) text
 unfolding jws_compact_text
 object_begins true o text url h =
     let fits = steps (needs (is_compact o.signatures) NotCompact) _ text h in
@@ -116,7 +116,7 @@ settled false header (s ∷ []) payload = refl
 settled false header (s ∷ (other ∷ rest)) payload = refl
 
 -- so the text begins with what stands before the payload's text, and with this
-text_begins : (compact : Bool) (s : Signing) (payload text : List ℕ) (o : SignedObject) → IsOctets payload → signed s payload ≡ Ok o → text_of compact o ≡ Ok text
+text_begins : (compact : Bool) (s : Signing) (payload text : List ℕ) (o : SignedObject) → IsOctets payload → signed s payload ≡ Ok o → text_of compact false o ≡ Ok text
     → Begins (text_before compact s.header s.signers ++ base64url payload) text
 unfolding signed
 text_begins compact s payload text o octets made h =
@@ -131,7 +131,7 @@ signing_grows compact s =
     record {
       more = λ p q. begins_behind front _ _ (groups_grow p (p ++ q) (record { rest = q; continues = refl }));
       whole = λ p q text octets h.
-          let o = steps (signed s (p ++ q)) (text_of compact) text h in
+          let o = steps (signed s (p ++ q)) (text_of compact false) text h in
           begins_all (front ++ base64url (whole_groups p)) (front ++ base64url (p ++ q)) text
           (begins_behind front _ _ (text_grows p (p ++ q) (record { rest = q; continues = refl })))
           (text_begins compact s (p ++ q) text o.0 octets o.1 o.2);

@@ -141,9 +141,10 @@ encrypted e random plaintext = do
 
 -- ---- its text
 
-abbrev pub text_of : Bool → EncryptedObject → Result (List ℕ) Refusal
-text_of true o = jwe_compact_text o
-text_of false o = Ok (json_text o)
+-- compact or JSON, with the ciphertext or without
+abbrev pub text_of : Bool → Bool → EncryptedObject → Result (List ℕ) Refusal
+text_of true detach o = jwe_compact_text detach o
+text_of false detach o = Ok (json_text detach o)
 
 -- what stands before the ciphertext's text: the parts of a compact text, or the first members of a JSON text
 abbrev pub aad_member : List ℕ → List ℕ
@@ -166,7 +167,7 @@ within_longest (Some most) front = take most front
 -- the text of the object; a beginning of the plaintext fixes the text before the ciphertext, and whole groups of what it fixes of this
 abbrev pub plan_by : Bool → Encryption → List ℕ → Plan (List ℕ)
 plan_by compact e random = record {
-  whole = λ plaintext. encrypted e random plaintext >>= text_of compact;
+  whole = λ plaintext. encrypted e random plaintext >>= text_of compact false;
   fixed = λ front. text_before compact e random ++ base64url (whole_groups ((sealing_by e random).fixed (within_longest (sealing_by e random).longest front)));
 }
 
@@ -211,4 +212,4 @@ abbrev pub EncryptedDecrypts : Type 0
 EncryptedDecrypts = (compact : Bool) (before after : List OctetKey) (key : OctetKey) (template random plaintext text : List ℕ)
     → AreOctetKeys (before ++ key ∷ after) → IsOctets random → IsOctets plaintext → MayDecrypt compact (before ++ key ∷ after) key template
     → planned (plan_from (encrypting_by limits compact (before ++ key ∷ after) template) random) plaintext ≡ Ok text
-    → (o : EncryptedObject) × ((jwe_of limits text ≡ Ok o) × (OpensNoOther (length before) key o plaintext → decrypted limits (key ∷ []) o ≡ Ok plaintext))
+    → (o : EncryptedObject) × ((jwe_of limits None text ≡ Ok o) × (OpensNoOther (length before) key o plaintext → decrypted limits (key ∷ []) o ≡ Ok plaintext))

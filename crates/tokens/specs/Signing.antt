@@ -106,9 +106,10 @@ signed s payload = built limits (parts_by s payload)
 
 -- ---- its text
 
-abbrev pub text_of : Bool → SignedObject → Result (List ℕ) Refusal
-text_of true o = jws_compact_text o
-text_of false o = Ok (json_text o)
+-- compact or JSON, with the payload or without
+abbrev pub text_of : Bool → Bool → SignedObject → Result (List ℕ) Refusal
+text_of true detach o = jws_compact_text detach o
+text_of false detach o = Ok (json_text detach o)
 
 -- a header that stands before the other members
 abbrev pub header_member : Members → List ℕ
@@ -125,7 +126,7 @@ text_before false header (s ∷ (other ∷ rest)) = codes "{\"payload\":\""
 -- the text of the object; the whole groups of a beginning of the payload fix the text before it and their own
 abbrev pub plan_by : Bool → Signing → Plan (List ℕ)
 plan_by compact s = record {
-  whole = λ payload. signed s payload >>= text_of compact;
+  whole = λ payload. signed s payload >>= text_of compact false;
   fixed = λ front. text_before compact s.header s.signers ++ base64url (whole_groups front);
 }
 

@@ -70,4 +70,4 @@ verifying_by all wanted keys o = do
 abbrev pub SignedVerifies : Type 0
 SignedVerifies = (compact all : Bool) (before : List OctetKey) (key : OctetKey) (after : List OctetKey) (template payload text : List ℕ) → IsOctets payload → allows key Verify ≡ true
     → planned (signing_by limits compact (before ++ key ∷ after) template) payload ≡ Ok text
-    → (jws_of limits text >>= verifying_by all true (key ∷ [])) ≡ Ok payload
+    → (jws_of limits None text >>= verifying_by all true (key ∷ [])) ≡ Ok payload

@@ -187,9 +187,9 @@ fn encrypted_text(
 {
     let jwe = encrypted(alloc, encryption, random, plaintext)?;
     if compact {
-        jwe.to_compact(alloc)
+        jwe.to_compact(alloc, false)
     } else {
-        jwe.to_json(alloc)
+        jwe.to_json(alloc, false)
     }
 }
 

@@ -219,9 +219,9 @@ fn signed_text(
 {
     let jws = signed(alloc, signing, payload)?;
     if compact {
-        jws.to_compact(alloc)
+        jws.to_compact(alloc, false)
     } else {
-        jws.to_json(alloc)
+        jws.to_json(alloc, false)
     }
 }
 

@@ -1,14 +1,18 @@
 //! The commands `jws sig`, `jws ver` and `jws fmt`, from devices to devices.
-ghost use Rattle.std.specs.Prelude.{◌≡◌, ◌≢◌, false, ◌&&◌, ℕ, List, [], ◌∷◌, Err, OnOk, OnErr, IfErr, IsTrue, string_bytes};
+ghost use Rattle.std.specs.Prelude.{◌≡◌, ◌≢◌, false, not, ◌&&◌, ◌||◌, ℕ, List, [], ◌∷◌, Err, OnOk, OnErr, IfErr, IsTrue, string_bytes};
 ghost use Rattle.std.specs.Iterator.{IsFinite};
 ghost use Rattle.octets.specs.Devices.{appended, observed, IsPossibleInput, AppendsPrefixOf};
 ghost use Rattle.octets.specs.declared.refusal.Refusal.{Refusal};
 ghost use Rattle.octets.specs.Faults.{TellsFaults, counts};
 ghost use Rattle.octets.specs.Outcomes.{AgreesUnlessExternal, AgreesUnlessMemory};
 ghost use Rattle.octets.specs.Plan.{accepted, planned, planned_beginning};
+ghost use Rattle.objects.specs.Texts.{handed_in};
+ghost use Rattle.objects.specs.Views.{jws_view};
+ghost use Rattle.tokens.specs.Signing.{text_of};
 ghost use Rattle.jose.specs.Jws.{sig_answer, ver_answer, jws_fmt_answer};
+ghost use Rattle.jose.specs.Ports.{formed};
 
-use crate::commands::read_with_keys;
+use crate::commands::{read_beside, read_object, read_with_keys};
 use objects::Jws;
 use octets::{Input, Output, Refusal, emit, read_to_end};
 use std::alloc::Global;
@@ -52,71 +56,96 @@ pub(crate) fn sign<I: Input, O: Output>(
     jws_sign(alloc, &set, &template, compact, content, out)
 }
 
-/// Verifies the text with some of the keys, or with all, and writes the payload where it is wanted.
+/// Verifies the text, and the payload where it is handed in, with some of the keys, or with all, and writes the payload where
+/// it is wanted.
 pub(crate) fn verify<I: Input, O: Output>(
     alloc: Global,
     text: &mut I,
     keys: &mut I,
+    given: bool,
+    content: &mut I,
     all: bool,
     wanted: bool,
     out: &mut O,
 ) -> Result<(), Refusal>
     requires text { IsFinite (I.remaining text.old) }
     requires keys { IsFinite (I.remaining keys.old) }
-    ensures answer { (whole_text whole_keys : List ℕ)
+    requires content { IsFinite (I.remaining content.old) }
+    ensures answer { (whole_text whole_keys whole_content : List ℕ)
         → IsPossibleInput (observed I.consumed I.is_at_end text.old text.new) whole_text
         → IsPossibleInput (observed I.consumed I.is_at_end keys.old keys.new) whole_keys
-        → AgreesUnlessExternal (ver_answer all wanted whole_keys whole_text) (appended (O.written out.old) (O.written out.new)) result }
+        → IsPossibleInput (observed I.consumed I.is_at_end content.old content.new) whole_content
+        → AgreesUnlessExternal (ver_answer all wanted whole_keys (handed_in given whole_content) whole_text) (appended (O.written out.old) (O.written out.new)) result }
 
     // The output is not touched before all is accepted.
     ensures held_back { IfErr result (λ refusal. refusal ≢ Refusal.Write → out.new ≡ out.old) }
     ensures beginning { OnErr result (AppendsPrefixOf
-        (accepted (ver_answer all wanted (appended (I.consumed keys.old) (I.consumed keys.new)) (appended (I.consumed text.old) (I.consumed text.new)))
-        (I.is_at_end keys.new && I.is_at_end text.new)) (O.written out.old) (O.written out.new)) }
+        (accepted (ver_answer all wanted (appended (I.consumed keys.old) (I.consumed keys.new)) (handed_in given (appended (I.consumed content.old) (I.consumed content.new))) (appended (I.consumed text.old) (I.consumed text.new)))
+        (I.is_at_end keys.new && I.is_at_end text.new && (not given || I.is_at_end content.new))) (O.written out.old) (O.written out.new)) }
     ensures finished { OnOk result (IsTrue wanted → IsTrue (O.is_finished out.new)) }
-    ensures untouched { wanted ≡ false → out.new ≡ out.old }
-    ensures in_order { I.is_at_end text.new ≡ false → keys.new ≡ keys.old }
-    ensures faults { TellsFaults (counts I.failures text.old text.new ∷ counts I.failures keys.old keys.new ∷ [])
+    ensures untouched { (wanted ≡ false → out.new ≡ out.old) × (given ≡ false → content.new ≡ content.old) }
+    ensures in_order { (I.is_at_end text.new ≡ false → keys.new ≡ keys.old)
+        × (I.is_at_end keys.new && I.is_at_end text.new ≡ false → content.new ≡ content.old) }
+    ensures faults { TellsFaults (counts I.failures text.old text.new ∷ counts I.failures keys.old keys.new ∷ counts I.failures content.old content.new ∷ [])
         (counts O.failures out.old out.new ∷ []) result }
 {
-    let (text, set) = read_with_keys(alloc, text, keys, false)?;
-    let jws = Jws::read(alloc, &text)?;
+    let (text, set, beside) = read_object(alloc, text, keys, given, content)?;
+    let jws = Jws::read(alloc, &text, beside)?;
     jws_verify(&set, &jws, all, wanted, out)
 }
 
-/// Writes the text of the object in compact form, or else in JSON form.
+/// Writes the text of the object in compact form, or else in JSON form. The payload is handed in beside the text where it is
+/// given, and goes out beside it where it is to be detached.
 pub(crate) fn format<I: Input, O: Output>(
     alloc: Global,
     text: &mut I,
+    given: bool,
+    content: &mut I,
     compact: bool,
+    detach: bool,
     out: &mut O,
+    detached: &mut O,
 ) -> Result<(), Refusal>
-    requires { IsFinite (I.remaining text.old) }
-    ensures answer { (whole : List ℕ) → IsPossibleInput (observed I.consumed I.is_at_end text.old text.new) whole
-        → AgreesUnlessExternal (jws_fmt_answer compact whole) (appended (O.written out.old) (O.written out.new)) result }
+    requires text { IsFinite (I.remaining text.old) }
+    requires content { IsFinite (I.remaining content.old) }
+    ensures answer { (whole whole_content : List ℕ)
+        → IsPossibleInput (observed I.consumed I.is_at_end text.old text.new) whole
+        → IsPossibleInput (observed I.consumed I.is_at_end content.old content.new) whole_content
+        → AgreesUnlessExternal (jws_fmt_answer compact detach (handed_in given whole_content) whole)
+        (record { text = appended (O.written out.old) (O.written out.new); content = appended (O.written detached.old) (O.written detached.new) }) result }
 
-    // The output is not touched before all is accepted.
-    ensures held_back { IfErr result (λ refusal. refusal ≢ Refusal.Write → out.new ≡ out.old) }
-    ensures beginning { OnErr result (AppendsPrefixOf
-        (accepted (jws_fmt_answer compact (appended (I.consumed text.old) (I.consumed text.new))) (I.is_at_end text.new))
-        (O.written out.old) (O.written out.new)) }
-    ensures finished { OnOk result (IsTrue (O.is_finished out.new)) }
-    ensures faults { TellsFaults (counts I.failures text.old text.new ∷ []) (counts O.failures out.old out.new ∷ []) result }
+    // The outputs are not touched before all is accepted.
+    ensures held_back { IfErr result (λ refusal. refusal ≢ Refusal.Write → (out.new ≡ out.old) × (detached.new ≡ detached.old)) }
+    ensures beginning { OnErr result (
+        (AppendsPrefixOf (formed (jws_fmt_answer compact detach (handed_in given (appended (I.consumed content.old) (I.consumed content.new))) (appended (I.consumed text.old) (I.consumed text.new)))
+        (I.is_at_end text.new && (not given || I.is_at_end content.new))).text (O.written out.old) (O.written out.new))
+        × (AppendsPrefixOf (formed (jws_fmt_answer compact detach (handed_in given (appended (I.consumed content.old) (I.consumed content.new))) (appended (I.consumed text.old) (I.consumed text.new)))
+        (I.is_at_end text.new && (not given || I.is_at_end content.new))).content (O.written detached.old) (O.written detached.new))) }
+    ensures finished { OnOk result (IsTrue (O.is_finished out.new) × (IsTrue detach → IsTrue (O.is_finished detached.new))) }
+
+    // No content is read before the text was read to its end, and none where it is not given.
+    ensures in_order { I.is_at_end text.new ≡ false → content.new ≡ content.old }
+    ensures untouched { (given ≡ false → content.new ≡ content.old) × (detach ≡ false → detached.new ≡ detached.old) }
+    ensures faults { TellsFaults (counts I.failures text.old text.new ∷ counts I.failures content.old content.new ∷ [])
+        (counts O.failures out.old out.new ∷ counts O.failures detached.old detached.new ∷ []) result }
 {
     let text = read_to_end(alloc, text)?;
-    let formed = formatted(alloc, &text, compact)?;
+    let beside = read_beside(alloc, given, content)?;
+    let object = Jws::read(alloc, &text, beside)?;
+    let formed = formed(alloc, &object, compact, detach)?;
+    if detach {
+        emit(detached, object.payload())?;
+    }
     emit(out, formed.as_bytes())
 }
 
 /// The text of the object in the form that is asked for.
-#[tactic(auto, unfolding(crate::specs::Jws::jws_fmt_answer))]
-fn formatted(alloc: Global, text: &[u8], compact: bool) -> Result<String, Refusal>
-    ensures { AgreesUnlessMemory string_bytes result (jws_fmt_answer compact text.now) }
+fn formed(alloc: Global, object: &Jws, compact: bool, detach: bool) -> Result<String, Refusal>
+    ensures { AgreesUnlessMemory string_bytes result (text_of compact detach (jws_view object.now)) }
 {
-    let object = Jws::read(alloc, text)?;
     if compact {
-        object.to_compact(alloc)
+        object.to_compact(alloc, detach)
     } else {
-        object.to_json(alloc)
+        object.to_json(alloc, detach)
     }
 }

@@ -1,4 +1,4 @@
-use Rattle.std.proofs.Common.{◌≡◌, ◌&&◌, [], Ok, true, refl, rules}
+use Rattle.std.proofs.Common.{◌≡◌, ◌&&◌, ◌||◌, not, ℕ, List, [], Option, Ok, true, refl, rules}
 use Rattle.std.proofs.Math.Seq.{drop-length}
 use Rattle.std.specs.Option.{ok_or}
 use Rattle.octets.specs.declared.refusal.Refusal.TheVariants.{Usage}
@@ -11,13 +11,15 @@ use Rattle.octets.proofs.Prefixes.{AppendsPrefixOf-none}
 use Rattle.keys.specs.Generating.{gen_answer}
 use Rattle.keys.specs.Limits.{limits}
 use Rattle.jose.specs.Invocations.{invocation_view, hash_asked}
-use Rattle.jose.specs.Ports.{as_text, as_content}
+use Rattle.objects.specs.Texts.{handed_in}
+use Rattle.jose.specs.Ports.{InputTexts, nothing, as_text, as_content}
 use Rattle.jose.specs.Jwk.{making, thp_answer}
 use Rattle.jose.specs.Jwe.{enc_answer, dec_answer, jwe_fmt_answer}
 use Rattle.jose.specs.Jws.{sig_answer, ver_answer, jws_fmt_answer}
-use Rattle.jose.specs.Meanings.{is_all_asked, is_compact_asked, is_content_wanted}
+use Rattle.jose.specs.Meanings.{is_compact_asked, of_object}
 use Rattle.jose.proofs.Agreement.{agrees_as_text, agrees_as_content, plan_of_making, begun_by_plan, begun_by_text, on_success}
 use Rattle.jose.proofs.Draws.{nothing_drawn, none_drawn, placed_drawn, placed_refused, by_plan_drawn, by_plan_refused, by_text_drawn}
+use Rattle.jose.proofs.Objects.{begun_of_object, drawn_of_object, formed_as_content, has_template_beside, placed_of_object, planned_of_object, refused_alone}
 use Rattle.jose.proofs.runner.run.Goals as goal
 
 -- ---- jwk gen
@@ -160,66 +162,90 @@ returns-in-JwsSig-clause-content_last g c refusal is =
 
 pub returns-in-JwsVer-clause-answer : goal.returns-in-JwsVer-clause-answer
 returns-in-JwsVer-clause-answer g c inputs may =
-    let a = ver_answer (is_all_asked (invocation_view c.args.invocation.now).options) (is_content_wanted (invocation_view c.args.invocation.now).options) inputs.keys inputs.text in
-    let h = c.verify.ensures.answer inputs.text inputs.keys may.text may.keys in
-    rw (c.in-JwsVer.is, plan_of_text as_content a inputs.random, planned_without_content as_content a [])
-    (agrees_as_content a _ _ _ (drop-length (g.O.Output.written c.args.outputs.now.text)) (rw (← c.has-all.ensures, ← c.has-wanted.ensures) h))
+    let given = c.has-given.result in
+    let a = λ (detached : Option (List ℕ)). ver_answer c.has-all.result c.has-wanted.result inputs.keys detached inputs.text in
+    let h = c.verify.ensures.answer inputs.text inputs.keys inputs.content may.text may.keys may.content in
+    rw (c.in-JwsVer.is, ← c.has-given.ensures, ← c.has-all.ensures, ← c.has-wanted.ensures, placed_of_object as_content given [] a, planned_of_object given nothing (λ detached. a detached >>= λ content. Ok (as_content content)) inputs.random inputs.text inputs.content)
+    (agrees_as_content (a (handed_in given inputs.content)) _ _ _ (drop-length (g.O.Output.written c.args.outputs.now.text)) h)
 
 pub returns-in-JwsVer-clause-beginning : goal.returns-in-JwsVer-clause-beginning
 returns-in-JwsVer-clause-beginning g c =
     let consumed = g.I.Input.consumed in
     let at_end = g.I.Input.is_at_end in
     let old = c.args.inputs.now in
+    let new = c.verify.new in
+    let given = c.has-given.result in
     let random = consumed old.random in
-    let a = ver_answer (is_all_asked (invocation_view c.args.invocation.now).options) (is_content_wanted (invocation_view c.args.invocation.now).options) (appended (consumed old.keys) (consumed c.verify.new.keys)) (appended (consumed old.text) (consumed c.verify.new.text)) in
-    let others = at_end c.verify.new.keys && at_end c.verify.new.text in
-    on_refusal c.verify.result (rw (← c.has-all.ensures, ← c.has-wanted.ensures) c.verify.ensures.beginning)
-    (λ h. rw (c.in-JwsVer.is, plan_of_text as_content a (appended random random), begun_by_text as_content refl others a) (record { text = AppendsPrefixOf-none _ _ refl; content = h }))
+    let text = observed consumed at_end old.text new.text in
+    let content = observed consumed at_end old.content new.content in
+    let others = at_end new.keys && at_end new.text in
+    let a = λ (detached : Option (List ℕ)). ver_answer c.has-all.result c.has-wanted.result (appended (consumed old.keys) (consumed new.keys)) detached text.octets in
+    on_refusal c.verify.result c.verify.ensures.beginning
+    (λ h. rw (
+      c.in-JwsVer.is,
+      ← c.has-given.ensures,
+      ← c.has-all.ensures,
+      ← c.has-wanted.ensures,
+      has_template_beside given true,
+      placed_of_object as_content given [] a,
+      begun_of_object given others (λ detached. a detached >>= λ content. Ok (as_content content)) (appended random random) text content,
+      formed_as_content (a (handed_in given content.octets)) (others && (not given || content.ended)),
+    ) (record { text = AppendsPrefixOf-none _ _ refl; content = h }))
 
 pub returns-in-JwsVer-clause-drawn : goal.returns-in-JwsVer-clause-drawn
 returns-in-JwsVer-clause-drawn g c =
-    on_success c.verify.result c.verify.ensures.finished (λ done inputs may. rw (c.in-JwsVer.is, by_text_drawn as_content (ver_answer (is_all_asked (invocation_view c.args.invocation.now).options) (is_content_wanted (invocation_view c.args.invocation.now).options) inputs.keys inputs.text)) (nothing_drawn (g.I.Input.consumed c.args.inputs.now.random)))
+    let a = λ (inputs : InputTexts) (detached : Option (List ℕ)). ver_answer c.has-all.result c.has-wanted.result inputs.keys detached inputs.text in
+    on_success c.verify.result c.verify.ensures.finished
+    (λ done inputs may. rw (c.in-JwsVer.is, ← c.has-given.ensures, ← c.has-all.ensures, ← c.has-wanted.ensures, placed_drawn as_content (of_object c.has-given.result [] (a inputs)), drawn_of_object c.has-given.result [] (a inputs)) (nothing_drawn (g.I.Input.consumed c.args.inputs.now.random)))
 
 pub returns-in-JwsVer-clause-at_most : goal.returns-in-JwsVer-clause-at_most
 returns-in-JwsVer-clause-at_most g c inputs may = none_drawn (g.I.Input.consumed c.args.inputs.now.random) _
 
 pub returns-in-JwsVer-clause-in_order : goal.returns-in-JwsVer-clause-in_order
-returns-in-JwsVer-clause-in_order g c = rw c.in-JwsVer.is (record { keys = c.verify.ensures.in_order; random = λ _. refl; content = λ _. refl })
+returns-in-JwsVer-clause-in_order g c =
+    rw c.in-JwsVer.is (record { keys = c.verify.ensures.in_order.0; random = λ _. refl; content = λ unread. c.verify.ensures.in_order.1 (rw (← c.has-given.ensures, has_template_beside c.has-given.result true) at unread) })
 
 pub returns-in-JwsVer-clause-content_last : goal.returns-in-JwsVer-clause-content_last
-returns-in-JwsVer-clause-content_last g c refusal is = (refl, refl)
+returns-in-JwsVer-clause-content_last g c refusal is =
+    (refl, c.verify.ensures.untouched.1 (refused_alone c.has-given.result [] _ refusal (placed_refused as_content _ refusal (rw (c.in-JwsVer.is, ← c.has-given.ensures) at is))))
 
 -- ---- jws fmt
 
 pub returns-in-JwsFmt-clause-answer : goal.returns-in-JwsFmt-clause-answer
 returns-in-JwsFmt-clause-answer g c inputs may =
-    let a = jws_fmt_answer (is_compact_asked (invocation_view c.args.invocation.now).options) inputs.text in
-    let h = c.format.ensures.answer inputs.text may.text in
-    rw (c.in-JwsFmt.is, plan_of_text as_text a inputs.random, planned_without_content as_text a [])
-    (agrees_as_text a _ _ _ (drop-length (g.O.Output.written c.args.outputs.now.content)) (rw (← c.has-compact-in-JwsFmt.ensures) h))
+    let a = λ (detached : Option (List ℕ)). jws_fmt_answer c.has-compact-in-JwsFmt.result c.has-detach.result detached inputs.text in
+    rw (c.in-JwsFmt.is, ← c.has-given-in-JwsFmt.ensures, ← c.has-compact-in-JwsFmt.ensures, ← c.has-detach.ensures, planned_of_object c.has-given-in-JwsFmt.result nothing a inputs.random inputs.text inputs.content)
+    (c.format.ensures.answer inputs.text inputs.content may.text may.content)
 
 pub returns-in-JwsFmt-clause-beginning : goal.returns-in-JwsFmt-clause-beginning
 returns-in-JwsFmt-clause-beginning g c =
     let consumed = g.I.Input.consumed in
+    let at_end = g.I.Input.is_at_end in
     let old = c.args.inputs.now in
+    let new = c.format.new in
+    let given = c.has-given-in-JwsFmt.result in
     let random = consumed old.random in
-    let a = jws_fmt_answer (is_compact_asked (invocation_view c.args.invocation.now).options) (appended (consumed old.text) (consumed c.format.new.text)) in
-    let others = g.I.Input.is_at_end c.format.new.text in
-    on_refusal c.format.result (rw (← c.has-compact-in-JwsFmt.ensures) c.format.ensures.beginning)
-    (λ h. rw (c.in-JwsFmt.is, plan_of_text as_text a (appended random random), begun_by_text as_text refl others a) (record { text = h; content = AppendsPrefixOf-none _ _ refl }))
+    let text = observed consumed at_end old.text new.text in
+    let content = observed consumed at_end old.content new.content in
+    let a = λ (detached : Option (List ℕ)). jws_fmt_answer c.has-compact-in-JwsFmt.result c.has-detach.result detached text.octets in
+    on_refusal c.format.result c.format.ensures.beginning
+    (λ h. rw (c.in-JwsFmt.is, ← c.has-given-in-JwsFmt.ensures, ← c.has-compact-in-JwsFmt.ensures, ← c.has-detach.ensures, has_template_beside given true, begun_of_object given text.ended a (appended random random) text content) (record { text = h.0; content = h.1 }))
 
 pub returns-in-JwsFmt-clause-drawn : goal.returns-in-JwsFmt-clause-drawn
 returns-in-JwsFmt-clause-drawn g c =
-    on_success c.format.result c.format.ensures.finished (λ done inputs may. rw (c.in-JwsFmt.is, by_text_drawn as_text (jws_fmt_answer (is_compact_asked (invocation_view c.args.invocation.now).options) inputs.text)) (nothing_drawn (g.I.Input.consumed c.args.inputs.now.random)))
+    on_success c.format.result c.format.ensures.finished
+    (λ done inputs may. rw (c.in-JwsFmt.is, ← c.has-given-in-JwsFmt.ensures, ← c.has-compact-in-JwsFmt.ensures, ← c.has-detach.ensures, drawn_of_object c.has-given-in-JwsFmt.result nothing (λ detached. jws_fmt_answer c.has-compact-in-JwsFmt.result c.has-detach.result detached inputs.text)) (nothing_drawn (g.I.Input.consumed c.args.inputs.now.random)))
 
 pub returns-in-JwsFmt-clause-at_most : goal.returns-in-JwsFmt-clause-at_most
 returns-in-JwsFmt-clause-at_most g c inputs may = none_drawn (g.I.Input.consumed c.args.inputs.now.random) _
 
 pub returns-in-JwsFmt-clause-in_order : goal.returns-in-JwsFmt-clause-in_order
-returns-in-JwsFmt-clause-in_order g c = rw c.in-JwsFmt.is (record { keys = λ _. refl; random = λ _. refl; content = λ _. refl })
+returns-in-JwsFmt-clause-in_order g c =
+    rw c.in-JwsFmt.is (record { keys = λ _. refl; random = λ _. refl; content = λ unread. c.format.ensures.in_order (rw (← c.has-given-in-JwsFmt.ensures, has_template_beside c.has-given-in-JwsFmt.result true) at unread) })
 
 pub returns-in-JwsFmt-clause-content_last : goal.returns-in-JwsFmt-clause-content_last
-returns-in-JwsFmt-clause-content_last g c refusal is = (refl, refl)
+returns-in-JwsFmt-clause-content_last g c refusal is =
+    (refl, c.format.ensures.untouched.0 (refused_alone c.has-given-in-JwsFmt.result nothing _ refusal (rw (c.in-JwsFmt.is, ← c.has-given-in-JwsFmt.ensures) at is)))
 
 -- ---- jwe enc
 
@@ -264,63 +290,85 @@ returns-in-JweEnc-clause-content_last g c refusal is =
 
 pub returns-in-JweDec-clause-answer : goal.returns-in-JweDec-clause-answer
 returns-in-JweDec-clause-answer g c inputs may =
-    let a = dec_answer inputs.keys inputs.text in
-    let h = c.decrypt.ensures.answer inputs.text inputs.keys may.text may.keys in
-    rw (c.in-JweDec.is, plan_of_text as_content a inputs.random, planned_without_content as_content a [])
-    (agrees_as_content a _ _ _ (drop-length (g.O.Output.written c.args.outputs.now.text)) h)
+    let given = c.has-given-in-JweDec.result in
+    let a = λ (detached : Option (List ℕ)). dec_answer inputs.keys detached inputs.text in
+    let h = c.decrypt.ensures.answer inputs.text inputs.keys inputs.content may.text may.keys may.content in
+    rw (c.in-JweDec.is, ← c.has-given-in-JweDec.ensures, placed_of_object as_content given [] a, planned_of_object given nothing (λ detached. a detached >>= λ content. Ok (as_content content)) inputs.random inputs.text inputs.content)
+    (agrees_as_content (a (handed_in given inputs.content)) _ _ _ (drop-length (g.O.Output.written c.args.outputs.now.text)) h)
 
 pub returns-in-JweDec-clause-beginning : goal.returns-in-JweDec-clause-beginning
 returns-in-JweDec-clause-beginning g c =
     let consumed = g.I.Input.consumed in
     let at_end = g.I.Input.is_at_end in
     let old = c.args.inputs.now in
+    let new = c.decrypt.new in
+    let given = c.has-given-in-JweDec.result in
     let random = consumed old.random in
-    let a = dec_answer (appended (consumed old.keys) (consumed c.decrypt.new.keys)) (appended (consumed old.text) (consumed c.decrypt.new.text)) in
-    let others = at_end c.decrypt.new.keys && at_end c.decrypt.new.text in
+    let text = observed consumed at_end old.text new.text in
+    let content = observed consumed at_end old.content new.content in
+    let others = at_end new.keys && at_end new.text in
+    let a = λ (detached : Option (List ℕ)). dec_answer (appended (consumed old.keys) (consumed new.keys)) detached text.octets in
     on_refusal c.decrypt.result c.decrypt.ensures.beginning
-    (λ h. rw (c.in-JweDec.is, plan_of_text as_content a (appended random random), begun_by_text as_content refl others a) (record { text = AppendsPrefixOf-none _ _ refl; content = h }))
+    (λ h. rw (
+      c.in-JweDec.is,
+      ← c.has-given-in-JweDec.ensures,
+      has_template_beside given true,
+      placed_of_object as_content given [] a,
+      begun_of_object given others (λ detached. a detached >>= λ content. Ok (as_content content)) (appended random random) text content,
+      formed_as_content (a (handed_in given content.octets)) (others && (not given || content.ended)),
+    ) (record { text = AppendsPrefixOf-none _ _ refl; content = h }))
 
 pub returns-in-JweDec-clause-drawn : goal.returns-in-JweDec-clause-drawn
 returns-in-JweDec-clause-drawn g c =
-    on_success c.decrypt.result c.decrypt.ensures.finished (λ done inputs may. rw (c.in-JweDec.is, by_text_drawn as_content (dec_answer inputs.keys inputs.text)) (nothing_drawn (g.I.Input.consumed c.args.inputs.now.random)))
+    let a = λ (inputs : InputTexts) (detached : Option (List ℕ)). dec_answer inputs.keys detached inputs.text in
+    on_success c.decrypt.result c.decrypt.ensures.finished
+    (λ done inputs may. rw (c.in-JweDec.is, ← c.has-given-in-JweDec.ensures, placed_drawn as_content (of_object c.has-given-in-JweDec.result [] (a inputs)), drawn_of_object c.has-given-in-JweDec.result [] (a inputs)) (nothing_drawn (g.I.Input.consumed c.args.inputs.now.random)))
 
 pub returns-in-JweDec-clause-at_most : goal.returns-in-JweDec-clause-at_most
 returns-in-JweDec-clause-at_most g c inputs may = none_drawn (g.I.Input.consumed c.args.inputs.now.random) _
 
 pub returns-in-JweDec-clause-in_order : goal.returns-in-JweDec-clause-in_order
-returns-in-JweDec-clause-in_order g c = rw c.in-JweDec.is (record { keys = c.decrypt.ensures.in_order; random = λ _. refl; content = λ _. refl })
+returns-in-JweDec-clause-in_order g c =
+    rw c.in-JweDec.is (record { keys = c.decrypt.ensures.in_order.0; random = λ _. refl; content = λ unread. c.decrypt.ensures.in_order.1 (rw (← c.has-given-in-JweDec.ensures, has_template_beside c.has-given-in-JweDec.result true) at unread) })
 
 pub returns-in-JweDec-clause-content_last : goal.returns-in-JweDec-clause-content_last
-returns-in-JweDec-clause-content_last g c refusal is = (refl, refl)
+returns-in-JweDec-clause-content_last g c refusal is =
+    (refl, c.decrypt.ensures.untouched (refused_alone c.has-given-in-JweDec.result [] _ refusal (placed_refused as_content _ refusal (rw (c.in-JweDec.is, ← c.has-given-in-JweDec.ensures) at is))))
 
 -- ---- jwe fmt
 
 pub returns-in-JweFmt-clause-answer : goal.returns-in-JweFmt-clause-answer
 returns-in-JweFmt-clause-answer g c inputs may =
-    let a = jwe_fmt_answer (is_compact_asked (invocation_view c.args.invocation.now).options) inputs.text in
-    let h = c.format-in-JweFmt.ensures.answer inputs.text may.text in
-    rw (c.in-JweFmt.is, plan_of_text as_text a inputs.random, planned_without_content as_text a [])
-    (agrees_as_text a _ _ _ (drop-length (g.O.Output.written c.args.outputs.now.content)) (rw (← c.has-compact-in-JweFmt.ensures) h))
+    let a = λ (detached : Option (List ℕ)). jwe_fmt_answer c.has-compact-in-JweFmt.result c.has-detach-in-JweFmt.result detached inputs.text in
+    rw (c.in-JweFmt.is, ← c.has-given-in-JweFmt.ensures, ← c.has-compact-in-JweFmt.ensures, ← c.has-detach-in-JweFmt.ensures, planned_of_object c.has-given-in-JweFmt.result nothing a inputs.random inputs.text inputs.content)
+    (c.format-in-JweFmt.ensures.answer inputs.text inputs.content may.text may.content)
 
 pub returns-in-JweFmt-clause-beginning : goal.returns-in-JweFmt-clause-beginning
 returns-in-JweFmt-clause-beginning g c =
     let consumed = g.I.Input.consumed in
+    let at_end = g.I.Input.is_at_end in
     let old = c.args.inputs.now in
+    let new = c.format-in-JweFmt.new in
+    let given = c.has-given-in-JweFmt.result in
     let random = consumed old.random in
-    let a = jwe_fmt_answer (is_compact_asked (invocation_view c.args.invocation.now).options) (appended (consumed old.text) (consumed c.format-in-JweFmt.new.text)) in
-    let others = g.I.Input.is_at_end c.format-in-JweFmt.new.text in
-    on_refusal c.format-in-JweFmt.result (rw (← c.has-compact-in-JweFmt.ensures) c.format-in-JweFmt.ensures.beginning)
-    (λ h. rw (c.in-JweFmt.is, plan_of_text as_text a (appended random random), begun_by_text as_text refl others a) (record { text = h; content = AppendsPrefixOf-none _ _ refl }))
+    let text = observed consumed at_end old.text new.text in
+    let content = observed consumed at_end old.content new.content in
+    let a = λ (detached : Option (List ℕ)). jwe_fmt_answer c.has-compact-in-JweFmt.result c.has-detach-in-JweFmt.result detached text.octets in
+    on_refusal c.format-in-JweFmt.result c.format-in-JweFmt.ensures.beginning
+    (λ h. rw (c.in-JweFmt.is, ← c.has-given-in-JweFmt.ensures, ← c.has-compact-in-JweFmt.ensures, ← c.has-detach-in-JweFmt.ensures, has_template_beside given true, begun_of_object given text.ended a (appended random random) text content) (record { text = h.0; content = h.1 }))
 
 pub returns-in-JweFmt-clause-drawn : goal.returns-in-JweFmt-clause-drawn
 returns-in-JweFmt-clause-drawn g c =
-    on_success c.format-in-JweFmt.result c.format-in-JweFmt.ensures.finished (λ done inputs may. rw (c.in-JweFmt.is, by_text_drawn as_text (jwe_fmt_answer (is_compact_asked (invocation_view c.args.invocation.now).options) inputs.text)) (nothing_drawn (g.I.Input.consumed c.args.inputs.now.random)))
+    on_success c.format-in-JweFmt.result c.format-in-JweFmt.ensures.finished
+    (λ done inputs may. rw (c.in-JweFmt.is, ← c.has-given-in-JweFmt.ensures, ← c.has-compact-in-JweFmt.ensures, ← c.has-detach-in-JweFmt.ensures, drawn_of_object c.has-given-in-JweFmt.result nothing (λ detached. jwe_fmt_answer c.has-compact-in-JweFmt.result c.has-detach-in-JweFmt.result detached inputs.text)) (nothing_drawn (g.I.Input.consumed c.args.inputs.now.random)))
 
 pub returns-in-JweFmt-clause-at_most : goal.returns-in-JweFmt-clause-at_most
 returns-in-JweFmt-clause-at_most g c inputs may = none_drawn (g.I.Input.consumed c.args.inputs.now.random) _
 
 pub returns-in-JweFmt-clause-in_order : goal.returns-in-JweFmt-clause-in_order
-returns-in-JweFmt-clause-in_order g c = rw c.in-JweFmt.is (record { keys = λ _. refl; random = λ _. refl; content = λ _. refl })
+returns-in-JweFmt-clause-in_order g c =
+    rw c.in-JweFmt.is (record { keys = λ _. refl; random = λ _. refl; content = λ unread. c.format-in-JweFmt.ensures.in_order (rw (← c.has-given-in-JweFmt.ensures, has_template_beside c.has-given-in-JweFmt.result true) at unread) })
 
 pub returns-in-JweFmt-clause-content_last : goal.returns-in-JweFmt-clause-content_last
-returns-in-JweFmt-clause-content_last g c refusal is = (refl, refl)
+returns-in-JweFmt-clause-content_last g c refusal is =
+    (refl, c.format-in-JweFmt.ensures.untouched.0 (refused_alone c.has-given-in-JweFmt.result nothing _ refusal (rw (c.in-JweFmt.is, ← c.has-given-in-JweFmt.ensures) at is)))

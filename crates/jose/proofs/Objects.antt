@@ -1,0 +1,111 @@
+-- What is written of an object that is read, and what is read and written beside it.
+use Rattle.std.proofs.Common.{◌≡◌, ℕ, List, [], ◌++◌, length, Bool, true, false, not, ◌&&◌, ◌||◌, cond, IsTrue, Option, Some, None, Result, Ok, Err, refl, sym, ap, ◌∙◌}
+use lib.Dec.{leb-zero}
+use Rattle.std.specs.Result.{result_unwrap_or}
+use Rattle.octets.specs.declared.refusal.Refusal.{Refusal}
+use Rattle.octets.specs.declared.refusal.Refusal.TheVariants.{Random}
+use Rattle.octets.specs.Devices.{Observed, appended, AppendsPrefixOf}
+use Rattle.octets.specs.Outcomes.{◌>>=◌, needs}
+use Rattle.octets.specs.Plan.{Plan, plan_from, planned, placed, by_text, without_random, without_content, drawn_of, accepted}
+use Rattle.octets.proofs.Agreement.{appended-append}
+use Rattle.octets.proofs.Prefixes.{AppendsPrefixOf-front, AppendsPrefixOf-none}
+use Rattle.objects.specs.Texts.{handed_in}
+use Rattle.jose.specs.Ports.{OutputTexts, nothing, formed, as_content}
+use Rattle.jose.specs.Meanings.{the_content, none, of_object}
+use Rattle.jose.specs.Answer.{beginning_under, content_of, has_template}
+
+-- ---- what is beside it
+
+-- what is handed in was read to its end
+pub beside_ended : (given ended : Bool) → (IsTrue given → IsTrue ended) → (not given || ended) ≡ true
+beside_ended true ended read = read refl
+beside_ended false ended read = refl
+
+-- the text of an object is read before what is beside it
+pub has_template_beside : (given has : Bool) → has_template (cond given the_content none) has ≡ has
+has_template_beside true has = refl
+has_template_beside false has = refl
+
+-- nothing of the text is written yet
+pub none_written : (text old : List ℕ) → AppendsPrefixOf text old old
+none_written text old = AppendsPrefixOf-front [] text old old (AppendsPrefixOf-none old old refl)
+
+-- all of both texts is written
+pub both_written : (texts : OutputTexts) (old new old_beside new_beside : List ℕ) → new ≡ old ++ texts.text → new_beside ≡ old_beside ++ texts.content
+    → texts ≡ record { text = appended old new; content = appended old_beside new_beside }
+both_written texts old new old_beside new_beside text content =
+    ap (λ t. record { text = t; content = texts.content }) (sym (ap (appended old) text ∙ appended-append old texts.text))
+    ∙ ap (λ c. record { text = appended old new; content = c }) (sym (ap (appended old_beside) content ∙ appended-append old_beside texts.content))
+
+-- ---- what is written of it
+
+-- a plan that draws nothing is the plan by any random input
+drawing_nothing : {W : Type 0} (plan : Plan W) (random : List ℕ) → plan_from (Ok (without_random plan)) random ≡ Ok plan
+drawing_nothing plan random = ap (λ test. needs test Random >>= λ u. Ok plan) (leb-zero (length random))
+
+-- the answer of a text alone
+planned_by_text : {W : Type 0} (a : Result W Refusal) (random : List ℕ) → planned (plan_from (by_text a) random) [] ≡ a
+planned_by_text (Ok texts) random = ap (λ plan. planned plan []) (drawing_nothing (without_content texts) random)
+planned_by_text (Err r) random = refl
+
+-- the answer of an object is that by what is handed in
+pub planned_of_object : {W : Type 0} (given : Bool) (none_of_it : W) (answer : Option (List ℕ) → Result W Refusal) (random text content : List ℕ)
+    → planned (plan_from (of_object given none_of_it answer) random) (content_of (cond given the_content none) text content []) ≡ answer (handed_in given content)
+planned_of_object true none_of_it answer random text content =
+    ap (λ plan. planned plan content) (drawing_nothing (record { whole = λ whole. answer (Some whole); fixed = λ front. none_of_it }) random)
+planned_of_object false none_of_it answer random text content = planned_by_text (answer None) random
+
+formed_unread : (a : Result OutputTexts Refusal) → nothing ≡ formed a false
+formed_unread (Ok texts) = refl
+formed_unread (Err r) = refl
+
+formed_by_content : (a : Result OutputTexts Refusal) (ended : Bool) → cond ended (result_unwrap_or a nothing) nothing ≡ formed a ended
+formed_by_content a false = formed_unread a
+formed_by_content (Ok texts) true = refl
+formed_by_content (Err r) true = refl
+
+formed_by_text : (a : Result OutputTexts Refusal) (random : List ℕ) → beginning_under (plan_from (by_text a) random) (record { octets = []; ended = true }) ≡ formed a true
+formed_by_text (Ok texts) random = ap (λ plan. beginning_under plan (record { octets = []; ended = true })) (drawing_nothing (without_content texts) random)
+formed_by_text (Err r) random = refl
+
+-- What may stand of it is all of the answer, and nothing before what is handed in was read.
+pub begun_of_object : (given others : Bool) (answer : Option (List ℕ) → Result OutputTexts Refusal) (random : List ℕ) (text content : Observed)
+    → cond others (beginning_under (plan_from (of_object given nothing answer) random) (content_of (cond given the_content none) text content (record { octets = []; ended = true }))) nothing
+    ≡ formed (answer (handed_in given content.octets)) (others && (not given || content.ended))
+begun_of_object given false answer random text content = formed_unread (answer (handed_in given content.octets))
+begun_of_object true true answer random text content =
+    ap (λ plan. beginning_under plan content) (drawing_nothing (record { whole = λ whole. answer (Some whole); fixed = λ front. nothing }) random)
+    ∙ formed_by_content (answer (Some content.octets)) content.ended
+begun_of_object false true answer random text content = formed_by_text (answer None) random
+
+placed_by_text : {W V : Type 0} (f : W → V) (a : Result W Refusal) → placed f (by_text a) ≡ by_text (a >>= λ texts. Ok (f texts))
+placed_by_text f (Ok texts) = refl
+placed_by_text f (Err r) = refl
+
+-- what is settled of it, put in its place
+pub placed_of_object : {W V : Type 0} (f : W → V) (given : Bool) (none_of_it : W) (answer : Option (List ℕ) → Result W Refusal)
+    → placed f (of_object given none_of_it answer) ≡ of_object given (f none_of_it) (λ detached. answer detached >>= λ texts. Ok (f texts))
+placed_of_object f true none_of_it answer = refl
+placed_of_object f false none_of_it answer = placed_by_text f (answer None)
+
+-- what may stand of a content alone
+pub formed_as_content : (a : Result (List ℕ) Refusal) (read : Bool) → formed (a >>= λ content. Ok (as_content content)) read ≡ as_content (accepted a read)
+formed_as_content (Ok content) true = refl
+formed_as_content (Ok content) false = refl
+formed_as_content (Err r) true = refl
+formed_as_content (Err r) false = refl
+
+drawn_by_text : {W : Type 0} (a : Result W Refusal) → drawn_of (by_text a) ≡ 0
+drawn_by_text (Ok texts) = refl
+drawn_by_text (Err r) = refl
+
+-- nothing is drawn for it
+pub drawn_of_object : {W : Type 0} (given : Bool) (none_of_it : W) (answer : Option (List ℕ) → Result W Refusal) → drawn_of (of_object given none_of_it answer) ≡ 0
+drawn_of_object true none_of_it answer = refl
+drawn_of_object false none_of_it answer = drawn_by_text (answer None)
+
+-- Where the text and the keys alone refuse it, nothing is handed in.
+pub refused_alone : {W : Type 0} (given : Bool) (none_of_it : W) (answer : Option (List ℕ) → Result W Refusal) (refusal : Refusal)
+    → of_object given none_of_it answer ≡ Err refusal → given ≡ false
+refused_alone true none_of_it answer refusal is = cc is
+refused_alone false none_of_it answer refusal is = refl

@@ -1,0 +1,102 @@
+-- The content of an object, which may be detached: how it is put into a text and read of one, and that it decodes to octets.
+use Rattle.std.proofs.Common.{◌≡◌, ℕ, List, [], ◌∷◌, Bool, true, false, not, Option, Some, None, Ok, IsUtf8, is_some, refl, sym, ap, ◌∙◌, subst}
+use Rattle.std.specs.List.{list_all}
+use Rattle.std.specs.Option.{option_or}
+use Rattle.serde_json.specs.Data.{Data, Members, string, object}
+use Rattle.octets.specs.declared.refusal.Refusal.TheVariants.{Form}
+use Rattle.octets.specs.Base64url.{base64url, decoded, is_url_character, DecodesExactly}
+use Rattle.octets.specs.Octets.{IsOctets}
+use Rattle.octets.specs.Outcomes.{needs}
+use Rattle.octets.proofs.Decoded.{IsOctets-nil, decoded-nil}
+use Rattle.keys.specs.JsonTexts.{IsJson, KeepJson, UrlTextsAreJson}
+use Rattle.objects.specs.Texts.{text_at, has_text, content_by, content_text, handed_in, AreOctetsHandedIn, kept, put_content}
+use Rattle.objects.proofs.Characters.{IsUrlText}
+use Rattle.objects.proofs.Members.{Entries, put_if_there, put_all, first_there, IsJsonIfThere}
+use Rattle.objects.proofs.ReadJson.{text_octets, required_octets}
+use Rattle.objects.proofs.Spelling.{name_is_json, text_found, required_found, required_entry}
+use Rattle.objects.proofs.Steps.{steps, passed, same_answer}
+use Rattle.objects.proofs.TextOctets.{TextLaws, text_is}
+
+-- ---- as a member of a JSON text
+
+-- its text is there unless it is detached
+abbrev pub content_there : Bool → List ℕ → Option Data
+content_there false text = Some (string text)
+content_there true text = None
+
+-- a content is put in where it is there
+pub put_content_is : (detach : Bool) (name content : List ℕ) (members : Members)
+    → put_content detach name content members ≡ put_if_there name (content_there detach (base64url content)) members
+put_content_is false name content ms = refl
+put_content_is true name content ms = refl
+
+-- it is as JSON has it
+pub content_entry : UrlTextsAreJson → (detach : Bool) (n : ℕ) (name text : List ℕ) → list_all is_url_character name ≡ true → IsUrlText text
+    → IsUtf8 name × IsJsonIfThere n (content_there detach text)
+content_entry url false n name text is h = required_entry url n name text is h
+content_entry url true n name text is h = (name_is_json url name is, tt)
+
+-- its text is read where it stands, and is that of the content handed in where it is detached
+pub content_found : (detach : Bool) (name : List ℕ) (es : Entries) (content text : List ℕ) → base64url content ≡ text
+    → first_there name es ≡ option_or (content_there detach text) None → content_text (handed_in detach content) name (object (put_all es)) ≡ Ok text
+content_found false name es content text same is = required_found name es text is
+content_found true name es content text same is = rw (text_found name es [] is) (ap Ok same)
+
+-- ---- as a part of a compact text
+
+-- no octets have the empty text
+no_octets : DecodesExactly → base64url [] ≡ []
+no_octets exact = sym ((exact.meaning [] [] IsOctets-nil IsOctets-nil).0 decoded-nil)
+
+-- the text of what is kept of a content is what is kept of its text
+pub kept_text : DecodesExactly → (detach : Bool) (content : List ℕ) → base64url (kept detach content) ≡ kept detach (base64url content)
+kept_text exact false content = refl
+kept_text exact true content = no_octets exact
+
+-- what is kept of letters, digits, `-` and `_` is such characters
+pub kept_characters : (detach : Bool) (text : List ℕ) → IsUrlText text → IsUrlText (kept detach text)
+kept_characters false text h = h
+kept_characters true text h = tt
+
+-- beside what is kept of it, a content is read as its text
+pub kept_read : (detach : Bool) (content : List ℕ) → content_by (handed_in detach content) (kept detach (base64url content)) ≡ Ok (base64url content)
+kept_read false content = refl
+kept_read true content = refl
+
+-- a text without characters is empty
+no_text : (text : List ℕ) → not (has_text text) ≡ true → text ≡ []
+no_text [] h = refl
+no_text (c ∷ text) h = cc h
+
+-- a part is the text of what is kept of the content that is read
+pub part_is : TextLaws → (detached : Option (List ℕ)) (part text content : List ℕ) → IsOctets part → content_by detached part ≡ Ok text → decoded text ≡ Ok content
+    → part ≡ base64url (kept (is_some detached) content)
+part_is laws None part text content is h decodes = text_is laws part content is (ap decoded (same_answer part text h) ∙ decodes)
+part_is laws (Some handed) part text content is h decodes =
+    let a = steps (needs (not (has_text part)) Form) _ text h in
+    no_text part (passed _ Form a.0 a.1) ∙ sym (no_octets laws.exact)
+
+-- ---- what its text decodes to
+
+-- if the text decodes, it decodes to octets
+abbrev pub MeansOctets : List ℕ → Type 0
+MeansOctets text = (octets : List ℕ) → decoded text ≡ Ok octets → IsOctets octets
+
+-- the text of octets decodes to these
+text_means_octets : DecodesExactly → (content : List ℕ) → IsOctets content → MeansOctets (base64url content)
+text_means_octets exact content is octets decodes = subst IsOctets (same_answer content octets (sym (exact.round_trip content is) ∙ decodes)) is
+
+-- what is read of a part decodes to octets
+pub part_octets : TextLaws → (detached : Option (List ℕ)) (part text : List ℕ) → AreOctetsHandedIn detached → IsOctets part → content_by detached part ≡ Ok text → MeansOctets text
+part_octets laws None part text handed is h = subst MeansOctets (same_answer part text h) (λ octets decodes. laws.octets part octets is decodes)
+part_octets laws (Some content) part text handed is h =
+    let a = steps (needs (not (has_text part)) Form) _ text h in
+    subst MeansOctets (same_answer (base64url content) text a.2) (text_means_octets laws.exact content handed)
+
+-- so does what is read of a member
+pub member_octets : KeepJson → TextLaws → (detached : Option (List ℕ)) (name : List ℕ) (d : Data) (text : List ℕ) → AreOctetsHandedIn detached → IsJson d
+    → content_text detached name d ≡ Ok text → MeansOctets text
+member_octets keep laws None name d text handed is h = λ octets decodes. laws.octets text octets (required_octets keep name d text is h) decodes
+member_octets keep laws (Some content) name d text handed is h =
+    let a = steps (text_at name d) (content_by (Some content)) text h in
+    part_octets laws (Some content) a.0 text handed (text_octets keep name d a.0 is a.1) a.2

@@ -1,0 +1,64 @@
+//! The content of an object, which stands in its text or is handed in beside it (RFC 7515 appendix F).
+ghost use Rattle.std.specs.Prelude.{◌≡◌, option_map};
+ghost use Rattle.serde_json.specs.View.{view};
+ghost use Rattle.octets.specs.Base64url.{decoded};
+ghost use Rattle.octets.specs.Outcomes.{AgreesUnlessMemory};
+ghost use Rattle.objects.specs.Texts.{content_by, content_text};
+ghost use Rattle.objects.specs.Views.{content_text_view};
+
+use crate::texts::{required_text, text_at};
+use octets::laws::{are_octets, base64url_decodes_exactly};
+use octets::{Refusal, b64_decode, needs};
+use serde_json::Value;
+use std::alloc::Global;
+
+/// The text that an object has of its content, or the octets that were handed in.
+#[derive(Drop)]
+pub(crate) enum Content<'t> {
+    Text(&'t [u8]),
+    Octets(Vec<u8>),
+}
+
+impl<'t> Content<'t> {
+    /// The content of an object with this part. Refused with `Form` where one was handed in and the part is not empty.
+    pub(crate) fn of_part(part: &'t [u8], detached: Option<Vec<u8>>) -> Result<Content<'t>, Refusal>
+        ensures { AgreesUnlessMemory content_text_view result (content_by (option_map (λ c. c.items) detached) part.now) }
+    {
+        match detached {
+            None => Ok(Content::Text(part)),
+            Some(octets) => {
+                needs(part.is_empty(), Refusal::Form)?;
+                Ok(Content::Octets(octets))
+            }
+        }
+    }
+
+    /// The content of an object with this member, if it is there. Refused with `Form` where the member is no string, where it
+    /// is absent and no content was handed in, and where one was and it is not empty.
+    pub(crate) fn of_member(
+        value: &'t Value,
+        name: &str,
+        detached: Option<Vec<u8>>,
+    ) -> Result<Content<'t>, Refusal>
+        ensures { AgreesUnlessMemory content_text_view result (content_text (option_map (λ c. c.items) detached) name.now (view value.now)) }
+    {
+        match detached {
+            None => Ok(Content::Text(required_text(value, name)?)),
+            Some(octets) => Content::of_part(text_at(value, name)?, Some(octets)),
+        }
+    }
+
+    /// Its octets. Refused with `Base64` where its text is no base64url text.
+    pub(crate) fn octets(self, alloc: Global) -> Result<Vec<u8>, Refusal>
+        ensures { AgreesUnlessMemory (λ octets. octets.items) result (decoded (content_text_view self.entry)) }
+    {
+        base64url_decodes_exactly();
+        match self {
+            Content::Text(text) => b64_decode(alloc, text),
+            Content::Octets(octets) => {
+                are_octets(&octets);
+                Ok(octets)
+            }
+        }
+    }
+}
