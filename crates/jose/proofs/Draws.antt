@@ -58,9 +58,9 @@ pub placed_drawn : {V : Type 0} (f : List ℕ → V) (draft : Result (Draft (Lis
 placed_drawn f (Ok d) = refl
 placed_drawn f (Err r) = refl
 
-pub by_plan_drawn : {V : Type 0} (f : List ℕ → V) (plan : Result (Plan (List ℕ)) Refusal) → drawn_of (placed f (by_plan plan)) ≡ 0
-by_plan_drawn f (Ok p) = refl
-by_plan_drawn f (Err r) = refl
+pub by_plan_drawn : {W : Type 0} (plan : Result (Plan W) Refusal) → drawn_of (by_plan plan) ≡ 0
+by_plan_drawn (Ok p) = refl
+by_plan_drawn (Err r) = refl
 
 pub by_text_drawn : {V : Type 0} (f : List ℕ → V) (answer : Result (List ℕ) Refusal) → drawn_of (placed f (by_text answer)) ≡ 0
 by_text_drawn f (Ok x) = refl
@@ -70,6 +70,6 @@ pub placed_refused : {V : Type 0} (f : List ℕ → V) (draft : Result (Draft (L
 placed_refused f (Ok d) refusal is = cc is
 placed_refused f (Err r) refusal is = ap Err (cc is)
 
-pub by_plan_refused : {V : Type 0} (f : List ℕ → V) (plan : Result (Plan (List ℕ)) Refusal) (refusal : Refusal) → placed f (by_plan plan) ≡ Err refusal → plan ≡ Err refusal
-by_plan_refused f (Ok p) refusal is = cc is
-by_plan_refused f (Err r) refusal is = ap Err (cc is)
+pub by_plan_refused : {W : Type 0} (plan : Result (Plan W) Refusal) (refusal : Refusal) → by_plan plan ≡ Err refusal → plan ≡ Err refusal
+by_plan_refused (Ok p) refusal is = cc is
+by_plan_refused (Err r) refusal is = ap Err (cc is)

@@ -1,18 +1,16 @@
 -- What is written of an object that is read, and what is read and written beside it.
-use Rattle.std.proofs.Common.{◌≡◌, ℕ, List, [], ◌++◌, length, Bool, true, false, not, ◌&&◌, ◌||◌, cond, IsTrue, Option, Some, None, Result, Ok, Err, refl, sym, ap, ◌∙◌}
+use Rattle.std.proofs.Common.{◌≡◌, ℕ, List, [], length, Bool, true, false, not, ◌&&◌, ◌||◌, cond, IsTrue, Option, Some, None, Result, Ok, Err, refl, ap, ◌∙◌}
 use lib.Dec.{leb-zero}
 use Rattle.std.specs.Result.{result_unwrap_or}
 use Rattle.octets.specs.declared.refusal.Refusal.{Refusal}
 use Rattle.octets.specs.declared.refusal.Refusal.TheVariants.{Random}
-use Rattle.octets.specs.Devices.{Observed, appended, AppendsPrefixOf}
+use Rattle.octets.specs.Devices.{Observed}
 use Rattle.octets.specs.Outcomes.{◌>>=◌, needs}
-use Rattle.octets.specs.Plan.{Plan, plan_from, planned, placed, by_text, without_random, without_content, drawn_of, accepted}
-use Rattle.octets.proofs.Agreement.{appended-append}
-use Rattle.octets.proofs.Prefixes.{AppendsPrefixOf-front, AppendsPrefixOf-none}
+use Rattle.octets.specs.Plan.{OutputTexts, nothing, Plan, plan_from, planned, begun, placed, by_text, without_random, without_content, drawn_of, accepted}
 use Rattle.objects.specs.Texts.{handed_in}
-use Rattle.jose.specs.Ports.{OutputTexts, nothing, formed, as_content}
+use Rattle.jose.specs.Ports.{formed, as_content}
 use Rattle.jose.specs.Meanings.{the_content, none, of_object}
-use Rattle.jose.specs.Answer.{beginning_under, content_of, has_template}
+use Rattle.jose.specs.Answer.{content_of, has_template}
 
 -- ---- what is beside it
 
@@ -25,17 +23,6 @@ beside_ended false ended read = refl
 pub has_template_beside : (given has : Bool) → has_template (cond given the_content none) has ≡ has
 has_template_beside true has = refl
 has_template_beside false has = refl
-
--- nothing of the text is written yet
-pub none_written : (text old : List ℕ) → AppendsPrefixOf text old old
-none_written text old = AppendsPrefixOf-front [] text old old (AppendsPrefixOf-none old old refl)
-
--- all of both texts is written
-pub both_written : (texts : OutputTexts) (old new old_beside new_beside : List ℕ) → new ≡ old ++ texts.text → new_beside ≡ old_beside ++ texts.content
-    → texts ≡ record { text = appended old new; content = appended old_beside new_beside }
-both_written texts old new old_beside new_beside text content =
-    ap (λ t. record { text = t; content = texts.content }) (sym (ap (appended old) text ∙ appended-append old texts.text))
-    ∙ ap (λ c. record { text = appended old new; content = c }) (sym (ap (appended old_beside) content ∙ appended-append old_beside texts.content))
 
 -- ---- what is written of it
 
@@ -64,17 +51,17 @@ formed_by_content a false = formed_unread a
 formed_by_content (Ok texts) true = refl
 formed_by_content (Err r) true = refl
 
-formed_by_text : (a : Result OutputTexts Refusal) (random : List ℕ) → beginning_under (plan_from (by_text a) random) (record { octets = []; ended = true }) ≡ formed a true
-formed_by_text (Ok texts) random = ap (λ plan. beginning_under plan (record { octets = []; ended = true })) (drawing_nothing (without_content texts) random)
+formed_by_text : (a : Result OutputTexts Refusal) (random : List ℕ) → begun (plan_from (by_text a) random) (record { octets = []; ended = true }) ≡ formed a true
+formed_by_text (Ok texts) random = ap (λ plan. begun plan (record { octets = []; ended = true })) (drawing_nothing (without_content texts) random)
 formed_by_text (Err r) random = refl
 
 -- What may stand of it is all of the answer, and nothing before what is handed in was read.
 pub begun_of_object : (given others : Bool) (answer : Option (List ℕ) → Result OutputTexts Refusal) (random : List ℕ) (text content : Observed)
-    → cond others (beginning_under (plan_from (of_object given nothing answer) random) (content_of (cond given the_content none) text content (record { octets = []; ended = true }))) nothing
+    → cond others (begun (plan_from (of_object given nothing answer) random) (content_of (cond given the_content none) text content (record { octets = []; ended = true }))) nothing
     ≡ formed (answer (handed_in given content.octets)) (others && (not given || content.ended))
 begun_of_object given false answer random text content = formed_unread (answer (handed_in given content.octets))
 begun_of_object true true answer random text content =
-    ap (λ plan. beginning_under plan content) (drawing_nothing (record { whole = λ whole. answer (Some whole); fixed = λ front. nothing }) random)
+    ap (λ plan. begun plan content) (drawing_nothing (record { whole = λ whole. answer (Some whole); fixed = λ front. nothing }) random)
     ∙ formed_by_content (answer (Some content.octets)) content.ended
 begun_of_object false true answer random text content = formed_by_text (answer None) random
 

@@ -1,17 +1,17 @@
 -- The answer of each command: the octets of each output, or the first refusal, from whole inputs.
-use Rattle.std.specs.Prelude.{◌≡◌, ◌≢◌, ◌≤◌, ℕ, Bool, true, false, ◌&&◌, ◌||◌, IsTrue, List, [], length, is_some, if◌then◌else◌, Option, Some, None, Result, Ok, Err}
+use Rattle.std.specs.Prelude.{◌≡◌, ◌≢◌, ◌≤◌, ℕ, Bool, true, false, ◌&&◌, ◌||◌, IsTrue, List, [], length, is_some, Option, Some, None, Result, Err}
 use Rattle.octets.specs.declared.refusal.Refusal.{Refusal}
 use Rattle.octets.specs.declared.refusal.Refusal.TheVariants.{Write}
 use Rattle.octets.specs.Devices.{Observed}
 use Rattle.octets.specs.Outcomes.{AgreesUnlessExternal}
-use Rattle.octets.specs.Plan.{Plan, Draft, drawn_of, plan_from, planned, beginning_of}
+use Rattle.octets.specs.Plan.{OutputTexts, Draft, drawn_of, plan_from, planned, planned_beginning}
 use Rattle.clap.specs.Words.{Text}
 use Rattle.jose.specs.declared.command.Command.{Command}
 use Rattle.jose.specs.declared.ports.Inputs.{Inputs}
 use Rattle.jose.specs.declared.ports.Outputs.{Outputs}
 use Rattle.jose.specs.Invocations.{InvocationView, Settings, value_at}
 use Rattle.jose.specs.Commands.{Takes, flag, required, optional, default, OptionEntry, option_at, has_option}
-use Rattle.jose.specs.Ports.{InputTexts, OutputTexts, nothing, ObservedInputs, ArePossibleInputs}
+use Rattle.jose.specs.Ports.{InputTexts, ObservedInputs, ArePossibleInputs}
 use Rattle.jose.specs.Meanings.{Content, none, the_text, the_content, meaning_of}
 
 -- ---- the answer
@@ -97,17 +97,11 @@ others_read invocation seen =
     was_read (has_keys_input invocation.command) seen.keys
     && was_read (has_template ((meaning_of invocation.command).content invocation.options) (has_text_input invocation.command)) seen.text
 
-abbrev pub beginning_under : Result (Plan OutputTexts) Refusal → Observed → OutputTexts
-beginning_under (Ok plan) content = beginning_of plan content
-beginning_under (Err r) content = nothing
-
 -- the outputs hold a beginning of these texts: of none before the other inputs are read and accepted
 abbrev pub beginning : InvocationView → ObservedInputs → OutputTexts
 beginning invocation seen =
-    if others_read invocation seen
-    then beginning_under (plan_from (draft_of invocation seen.text.octets seen.keys.octets) seen.random.octets)
+    planned_beginning (others_read invocation seen) (plan_from (draft_of invocation seen.text.octets seen.keys.octets) seen.random.octets)
     (content_of ((meaning_of invocation.command).content invocation.options) seen.text seen.content (record { octets = []; ended = true }))
-    else nothing
 
 -- A command that holds back has touched an output only where it failed.
 abbrev pub HoldsBack : {D : Type 0} → InvocationView → Outputs D → Outputs D → Refusal → Type 0

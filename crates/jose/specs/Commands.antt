@@ -62,6 +62,7 @@ jws_sig_options =
     option "I" "payload" (else_value "-") Input ∷
     option "k" "keys" required Input ∷
     option "o" "object" (else_value "-") Output ∷
+    option "O" "detached" optional Output ∷
     option "c" "compact" flag Neither ∷ []
 
 abbrev pub jws_ver_options : List OptionEntry
@@ -86,6 +87,7 @@ jwe_enc_options =
     option "I" "plaintext" (else_value "-") Input ∷
     option "k" "keys" required Input ∷
     option "o" "object" (else_value "-") Output ∷
+    option "O" "detached" optional Output ∷
     option "c" "compact" flag Neither ∷
     option "R" "random" optional Input ∷ []
 

@@ -1,21 +1,20 @@
 -- The commands `jwe enc`, `jwe dec` and `jwe fmt`.
-use Rattle.std.specs.Prelude.{ℕ, Bool, true, false, List, Option, Result, Ok}
+use Rattle.std.specs.Prelude.{ℕ, Bool, true, false, List, Option, Result}
 use Rattle.octets.specs.declared.refusal.Refusal.{Refusal}
 use Rattle.octets.specs.Outcomes.{◌>>=◌}
-use Rattle.octets.specs.Plan.{Draft}
+use Rattle.octets.specs.Plan.{OutputTexts, Draft}
 use Rattle.keys.specs.KeySets.{key_set}
 use Rattle.keys.specs.Limits.{limits}
 use Rattle.objects.specs.Jwe.{jwe_of}
-use Rattle.objects.specs.Texts.{handed_out}
-use Rattle.tokens.specs.Encrypting.{encrypting_by, text_of}
+use Rattle.tokens.specs.Encrypting.{encrypting_by, written_of}
 use Rattle.tokens.specs.Decrypting.{decrypted}
-use Rattle.jose.specs.Ports.{OutputTexts}
 
--- the text of a plaintext that is encrypted to the keys, as the template asks, by octets of the random input
-abbrev pub enc_answer : Bool → List ℕ → List ℕ → Result (Draft (List ℕ)) Refusal
-enc_answer compact keys template = do
+-- the text of a plaintext that is encrypted to the keys, as the template asks, by octets of the random input, with the ciphertext
+-- or beside it
+abbrev pub enc_answer : Bool → Bool → List ℕ → List ℕ → Result (Draft OutputTexts) Refusal
+enc_answer compact detach keys template = do
   set ← key_set limits keys true
-  encrypting_by limits compact set template
+  encrypting_by limits compact detach set template
 
 -- the plaintext of the object, whose ciphertext may have been handed in
 abbrev pub dec_answer : List ℕ → Option (List ℕ) → List ℕ → Result (List ℕ) Refusal
@@ -28,5 +27,4 @@ dec_answer keys detached text = do
 unfoldable pub jwe_fmt_answer : Bool → Bool → Option (List ℕ) → List ℕ → Result OutputTexts Refusal
 jwe_fmt_answer compact detach detached text = do
   jwe ← jwe_of limits detached text
-  formed ← text_of compact detach jwe
-  Ok (record { text = formed; content = handed_out detach jwe.ciphertext })
+  written_of compact detach jwe

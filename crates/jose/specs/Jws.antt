@@ -1,21 +1,19 @@
 -- The commands `jws sig`, `jws ver` and `jws fmt`.
-use Rattle.std.specs.Prelude.{ℕ, Bool, true, false, List, Option, Result, Ok}
+use Rattle.std.specs.Prelude.{ℕ, Bool, true, false, List, Option, Result}
 use Rattle.octets.specs.declared.refusal.Refusal.{Refusal}
 use Rattle.octets.specs.Outcomes.{◌>>=◌}
-use Rattle.octets.specs.Plan.{Plan}
+use Rattle.octets.specs.Plan.{OutputTexts, Plan}
 use Rattle.keys.specs.KeySets.{key_set}
 use Rattle.keys.specs.Limits.{limits}
 use Rattle.objects.specs.Jws.{jws_of}
-use Rattle.objects.specs.Texts.{handed_out}
-use Rattle.tokens.specs.Signing.{signing_by, text_of}
+use Rattle.tokens.specs.Signing.{signing_by, written_of}
 use Rattle.tokens.specs.Verifying.{verifying_by}
-use Rattle.jose.specs.Ports.{OutputTexts}
 
--- the text of a payload that the keys sign, as the template asks
-abbrev pub sig_answer : Bool → List ℕ → List ℕ → Result (Plan (List ℕ)) Refusal
-sig_answer compact keys template = do
+-- the text of a payload that the keys sign, as the template asks, with the payload or beside it
+abbrev pub sig_answer : Bool → Bool → List ℕ → List ℕ → Result (Plan OutputTexts) Refusal
+sig_answer compact detach keys template = do
   set ← key_set limits keys true
-  signing_by limits compact set template
+  signing_by limits compact detach set template
 
 -- what is written of the object, whose payload may have been handed in: the payload, where it is asked for
 abbrev pub ver_answer : Bool → Bool → List ℕ → Option (List ℕ) → List ℕ → Result (List ℕ) Refusal
@@ -28,5 +26,4 @@ ver_answer all wanted keys detached text = do
 unfoldable pub jws_fmt_answer : Bool → Bool → Option (List ℕ) → List ℕ → Result OutputTexts Refusal
 jws_fmt_answer compact detach detached text = do
   jws ← jws_of limits detached text
-  formed ← text_of compact detach jws
-  Ok (record { text = formed; content = handed_out detach jws.payload })
+  written_of compact detach jws

@@ -5,12 +5,12 @@ use Rattle.std.specs.Str.{byte}
 use Rattle.octets.specs.declared.refusal.Refusal.{Refusal}
 use Rattle.octets.specs.declared.refusal.Refusal.TheVariants.{Usage}
 use Rattle.octets.specs.Outcomes.{◌>>=◌}
-use Rattle.octets.specs.Plan.{Draft, without_random, placed, by_plan, by_text}
+use Rattle.octets.specs.Plan.{OutputTexts, nothing, Draft, without_random, placed, by_plan, by_text}
 use Rattle.octets.specs.Encoding.{encoding, decoding}
 use Rattle.jose.specs.declared.command.Command.{Command}
 use Rattle.jose.specs.declared.command.Command.TheVariants.{JwkGen, JwkThp, B64Enc, B64Dec, JwsSig, JwsVer, JwsFmt, JweEnc, JweDec, JweFmt}
 use Rattle.jose.specs.Invocations.{Settings, value_at, hash_asked}
-use Rattle.jose.specs.Ports.{OutputTexts, nothing, as_text, as_content}
+use Rattle.jose.specs.Ports.{as_text, as_content}
 use Rattle.jose.specs.Jwk.{making, thp_answer}
 use Rattle.jose.specs.Jwe.{enc_answer, dec_answer, jwe_fmt_answer}
 use Rattle.jose.specs.Jws.{sig_answer, ver_answer, jws_fmt_answer}
@@ -85,7 +85,7 @@ abbrev pub jws_sig : Meaning
 jws_sig = record {
   content = λ settings. the_content;
   holds_back = false;
-  draft = λ settings text keys. placed as_text (by_plan (sig_answer (is_compact_asked settings) keys text));
+  draft = λ settings text keys. by_plan (sig_answer (is_compact_asked settings) (is_content_wanted settings) keys text);
 }
 
 abbrev pub jws_ver : Meaning
@@ -107,7 +107,7 @@ abbrev pub jwe_enc : Meaning
 jwe_enc = record {
   content = λ settings. the_content;
   holds_back = false;
-  draft = λ settings text keys. placed as_text (enc_answer (is_compact_asked settings) keys text);
+  draft = λ settings text keys. enc_answer (is_compact_asked settings) (is_content_wanted settings) keys text;
 }
 
 abbrev pub jwe_dec : Meaning

@@ -4,6 +4,7 @@ use Rattle.std.specs.Iterator.{Count, IsFinite}
 use Rattle.octets.specs.declared.refusal.Refusal.{Refusal}
 use Rattle.octets.specs.Devices.{Observed, observed, appended, AppendsPrefixOf, IsPossibleInput}
 use Rattle.octets.specs.Faults.{Counts, counts}
+use Rattle.octets.specs.Plan.{OutputTexts, nothing}
 use Rattle.jose.specs.declared.ports.Inputs.{Inputs}
 use Rattle.jose.specs.declared.ports.Outputs.{Outputs}
 
@@ -15,14 +16,6 @@ pub record InputTexts : Type 0 where
   pub content : List ℕ
   pub keys : List ℕ
   pub random : List ℕ
-
--- the octets for each output
-pub record OutputTexts : Type 0 where
-  pub text : List ℕ
-  pub content : List ℕ
-
-abbrev pub nothing : OutputTexts
-nothing = record { text = []; content = [] }
 
 -- what may stand written of an answer, as a whole: nothing before its inputs are read and accepted
 abbrev pub formed : Result OutputTexts Refusal → Bool → OutputTexts

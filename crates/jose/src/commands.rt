@@ -1,5 +1,5 @@
 //! What each command does, from devices to devices. They are given an option's value where a device does not say it all.
-ghost use Rattle.std.specs.Prelude.{◌≡◌, ◌&&◌, false, ℕ, List, [], ◌∷◌, option_map, OnOk, IfOk, IfErr, IsTrue};
+ghost use Rattle.std.specs.Prelude.{◌≡◌, ◌&&◌, false, ℕ, List, [], ◌∷◌, option_map, None, OnOk, IfOk, IfErr, IsTrue};
 ghost use Rattle.std.specs.Iterator.{IsFinite};
 ghost use Rattle.octets.specs.Devices.{observed, IsPossibleInput};
 ghost use Rattle.octets.specs.Faults.{TellsFaults, counts};
@@ -92,4 +92,11 @@ fn read_beside<I: Input>(
     } else {
         Ok(None)
     }
+}
+
+/// No output, where one like this might be.
+fn no_output<'o, O>(_like: &'o O) -> Option<&'o mut O>
+    ensures { result ≡ None }
+{
+    None
 }

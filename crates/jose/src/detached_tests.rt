@@ -1,15 +1,19 @@
-//! Detached content: `-I` of `jws ver`, `jwe dec` and both `fmt`, and `-O` of both `fmt`. The signatures were made with
-//! Python's `hmac`; the encrypted object is that of RFC 7516 appendix A.3.
+//! Detached content: `-I` of `jws ver`, `jwe dec` and both `fmt`, and `-O` of `jws sig`, `jwe enc` and both `fmt`. The signatures
+//! were made with Python's `hmac`; the encrypted object is that of RFC 7516 appendix A.3.
 use crate::general_tests::{KEY, KEYS};
-use crate::jwe_tests::{LINE, RFC7516_KEY};
-use crate::tests::{Answer, Given, expect};
+use crate::jwe_tests::{DIRECT, LINE, OCTETS, RFC7516_KEY, RFC7516_RANDOM};
+use crate::tests::{
+    Answer, Given, ROOM, expect, expect_ended, expect_octets, expect_written, outcome,
+};
 use octets::Refusal;
 use std::process::Abort;
 use std::test::Fail;
 
 const VERIFY: [&str; 6] = ["jws", "ver", "-k", "keys", "-O", "payload"];
 
-const VERIFY_BESIDE: [&str; 8] = ["jws", "ver", "-I", "beside", "-k", "keys", "-O", "payload"];
+pub(crate) const VERIFY_BESIDE: [&str; 8] = [
+    "jws", "ver", "-I", "beside", "-k", "keys", "-O", "payload",
+];
 
 const VERIFY_ALL_BESIDE: [&str; 9] = [
     "jws", "ver", "-a", "-I", "beside", "-k", "keys", "-O", "payload",
@@ -356,4 +360,194 @@ const FORMED: &[(&[&str], &str, &[u8], Answer<'_>)] = &[
 #[test]
 fn content_goes_out_and_comes_in_beside_the_text(rt: HostRuntime) -> Result<(), Fail> {
     each(&rt, "", FORMED)
+}
+
+const SIGN_BESIDE: [&str; 10] = [
+    "jws", "sig", "-s", "template", "-I", "payload", "-k", "keys", "-O", "beside",
+];
+
+pub(crate) const SIGN_COMPACT_BESIDE: [&str; 11] = [
+    "jws", "sig", "-c", "-s", "template", "-I", "payload", "-k", "keys", "-O", "beside",
+];
+
+pub(crate) const ENCRYPT_BESIDE: [&str; 12] = [
+    "jwe", "enc", "-i", "template", "-I", "plain", "-k", "keys", "-R", "random", "-O", "beside",
+];
+
+pub(crate) const ENCRYPT_COMPACT_BESIDE: [&str; 13] = [
+    "jwe", "enc", "-c", "-i", "template", "-I", "plain", "-k", "keys", "-R", "random", "-O",
+    "beside",
+];
+
+/// Templates and payloads, and what becomes of them with the payload beside the text.
+const SIGNED: &[(&[&str], &str, &[u8], Answer<'_>)] = &[
+    (
+        &SIGN_COMPACT_BESIDE,
+        "{\"protected\":{\"alg\":\"HS256\"}}",
+        b"abc",
+        Answer::Both(
+            "eyJhbGciOiJIUzI1NiJ9..sxvqVTS8XjHJPVB24OsGa2pZqgR8ZX_Ab4pTTtgI47Y",
+            b"abc",
+        ),
+    ),
+    (
+        &SIGN_BESIDE,
+        "{\"protected\":{\"alg\":\"HS256\"}}",
+        b"abc",
+        Answer::Both(
+            "{\"protected\":\"eyJhbGciOiJIUzI1NiJ9\",\"signature\":\"sxvqVTS8XjHJPVB24OsGa2pZqgR8ZX_Ab4pTTtgI47Y\"}",
+            b"abc",
+        ),
+    ),
+    (
+        &SIGN_BESIDE,
+        "{\"header\":{\"kid\":\"x\"}}",
+        b"abc",
+        Answer::Both(
+            "{\"header\":{\"kid\":\"x\"},\"protected\":\"eyJhbGciOiJIUzUxMiJ9\",\"signature\":\"ScK1f_2owqwH0tMhgpVtvopDQ1GhlP2zxdgv400w_wSEXHxwOM2XkeStAhVFb6moKzeC1Z0H00YC8-EWsv84Wg\"}",
+            b"abc",
+        ),
+    ),
+    // An empty payload is a file too.
+    (
+        &SIGN_COMPACT_BESIDE,
+        "{\"protected\":{\"alg\":\"HS256\"}}",
+        b"",
+        Answer::Both(
+            "eyJhbGciOiJIUzI1NiJ9..OseJwguM7Xc9AlxQtHOCBgo6qFRlXh5mw2ZmelT4y44",
+            b"",
+        ),
+    ),
+    // What is refused leaves both outputs as they are.
+    (
+        &SIGN_COMPACT_BESIDE,
+        "{\"protected\":{\"alg\":\"HS1\"}}",
+        b"abc",
+        Answer::Refusal(Refusal::Unsupported),
+    ),
+    (
+        &SIGN_COMPACT_BESIDE,
+        "{\"header\":{\"kid\":\"x\"}}",
+        b"abc",
+        Answer::Refusal(Refusal::NotCompact),
+    ),
+];
+
+#[test]
+fn a_payload_is_signed_beside_the_text(rt: HostRuntime) -> Result<(), Fail> {
+    each(&rt, KEY, SIGNED)
+}
+
+#[test]
+fn two_keys_sign_a_payload_beside_the_text(rt: HostRuntime) -> Result<(), Fail> {
+    let given = Given {
+        text: "{}",
+        content: b"abc",
+        keys: KEYS,
+        random: b"",
+    };
+    let text =
+        "{\"signatures\":[{\"protected\":\"eyJhbGciOiJIUzUxMiJ9\",\"signature\":\"ScK1f_2owqwH0tMhgpVtvopDQ1GhlP2zxdgv400w_wSEXHxwOM2XkeStAhVFb6moKzeC1Z0H00YC8-EWsv84Wg\"},{\"protected\":\"eyJhbGciOiJIUzI1NiJ9\",\"signature\":\"8-sUlaJJTTOyeAYgv-kHNN9tT55A-tUCHOYatGHTJa0\"}]}";
+    expect(&rt, &SIGN_BESIDE, &given, Answer::Both(text, b"abc"))?;
+    let refused = Answer::Refusal(Refusal::NotCompact);
+    expect(&rt, &SIGN_COMPACT_BESIDE, &given, refused)
+}
+
+/// Random octets, and what becomes of `LINE` by them with the ciphertext beside the text.
+const ENCRYPTED: &[(&[&str], &[u8], Answer<'_>)] = &[
+    (
+        &ENCRYPT_COMPACT_BESIDE,
+        RFC7516_RANDOM,
+        Answer::Both(
+            "eyJhbGciOiJBMTI4S1ciLCJlbmMiOiJBMTI4Q0JDLUhTMjU2In0.6KB707dM9YTIgHtLvtgWQ8mKwboJW3of9locizkDTHzBC2IlrT1oOQ.AxY8DCtDaGlsbGljb3RoZQ..U0m_YmjN04DJvceFICbCVQ",
+            CIPHERTEXT,
+        ),
+    ),
+    (
+        &ENCRYPT_BESIDE,
+        RFC7516_RANDOM,
+        Answer::Both(
+            "{\"encrypted_key\":\"6KB707dM9YTIgHtLvtgWQ8mKwboJW3of9locizkDTHzBC2IlrT1oOQ\",\"iv\":\"AxY8DCtDaGlsbGljb3RoZQ\",\"protected\":\"eyJhbGciOiJBMTI4S1ciLCJlbmMiOiJBMTI4Q0JDLUhTMjU2In0\",\"tag\":\"U0m_YmjN04DJvceFICbCVQ\"}",
+            CIPHERTEXT,
+        ),
+    ),
+    // One octet too few leaves both outputs as they are.
+    (
+        &ENCRYPT_COMPACT_BESIDE,
+        b"0123456789abcdef0123456789abcdef0123456789abcde",
+        Answer::Refusal(Refusal::Random),
+    ),
+];
+
+#[test]
+fn a_plaintext_is_encrypted_beside_the_text(rt: HostRuntime) -> Result<(), Fail> {
+    for (words, random, answer) in ENCRYPTED {
+        let given = Given {
+            text: "{}",
+            content: LINE,
+            keys: RFC7516_KEY,
+            random,
+        };
+        expect(&rt, words, &given, *answer)?;
+    }
+    Ok(())
+}
+
+/// What is encrypted by the template, with the ciphertext beside it, is decrypted to the content.
+pub(crate) fn comes_back_from_beside<R: Abort + AllocGlobal>(
+    rt: &R,
+    words: &[&str],
+    row: (&str, &str, &str),
+    content: &[u8],
+) -> Result<(), Fail> {
+    let (template, keys, _) = row;
+    let encrypting = Given {
+        text: template,
+        content,
+        keys,
+        random: OCTETS,
+    };
+    let encrypted = outcome(rt.alloc(), words, &encrypting, 4096, ROOM)?;
+    let text = str::from_utf8(encrypted.text.octets()).unwrap_or("");
+    let decrypting = Given {
+        text,
+        content: encrypted.content.octets(),
+        keys,
+        random: b"",
+    };
+    let decrypted = outcome(rt.alloc(), &DECRYPT_BESIDE, &decrypting, 4096, ROOM)?;
+    expect_octets(rt, decrypted.content.octets(), content, template);
+    assert_eq!(rt; decrypted.result, Ok(()), "at {template}");
+    Ok(())
+}
+
+#[test]
+fn each_content_encryption_comes_back_from_beside(rt: HostRuntime) -> Result<(), Fail> {
+    for row in DIRECT {
+        for content in [b"".as_slice(), b"0123456789abcdef", LINE] {
+            comes_back_from_beside(&rt, &ENCRYPT_COMPACT_BESIDE, *row, content)?;
+            comes_back_from_beside(&rt, &ENCRYPT_BESIDE, *row, content)?;
+        }
+    }
+    Ok(())
+}
+
+/// Where the output of the content fails nothing of the text is written, and where that of the text fails the content stands.
+#[test]
+fn an_output_without_room(rt: HostRuntime) -> Result<(), Fail> {
+    let given = Given {
+        text: "{}",
+        content: b"abc",
+        keys: KEY,
+        random: b"",
+    };
+    let done = outcome(rt.alloc(), &SIGN_COMPACT_BESIDE, &given, 4096, 2)?;
+    expect_ended(&rt, done.result, Err(Refusal::Write), "room for two");
+    expect_written(&rt, &done.content, b"ab", false, "the content");
+    expect_written(&rt, &done.text, b"", false, "no text");
+    let done = outcome(rt.alloc(), &SIGN_COMPACT_BESIDE, &given, 4096, 4)?;
+    expect_ended(&rt, done.result, Err(Refusal::Write), "room for four");
+    expect_written(&rt, &done.content, b"abc", true, "all of the content");
+    expect_written(&rt, &done.text, b"eyJh", false, "a beginning");
+    Ok(())
 }

@@ -1,9 +1,13 @@
 //! Content of more than 64 KiB, which is treated like any other.
+use crate::detached_tests::{
+    ENCRYPT_BESIDE, ENCRYPT_COMPACT_BESIDE, SIGN_COMPACT_BESIDE, VERIFY_BESIDE,
+    comes_back_from_beside,
+};
 use crate::jwe_tests::{
     BY_A128KW, BY_A192KW, BY_A256KW, COMPACT, DIRECT, ENCRYPT, decrypts_what_is_written,
 };
 use crate::jwk_tests::writes;
-use crate::tests::{Answer, KEY, TEMPLATE, decodes, encodes, signs, verifies};
+use crate::tests::{Answer, Given, KEY, TEMPLATE, decodes, encodes, expect, signs, verifies};
 use std::alloc::{AllocError, Global};
 use std::process::Abort;
 use std::test::Fail;
@@ -110,4 +114,36 @@ fn jwe_of_70_000_octets_by_a192gcm(rt: HostRuntime) -> Result<(), Fail> {
 #[test]
 fn jwe_of_70_000_octets_by_a256gcm(rt: HostRuntime) -> Result<(), Fail> {
     comes_back(&rt, &COMPACT, BY_A128KW[5])
+}
+
+#[test]
+fn jws_of_70_000_octets_beside_the_text(rt: HostRuntime) -> Result<(), Fail> {
+    let payload = repeated(rt.alloc(), "", "a", 70_000, "")?;
+    let given = Given {
+        text: TEMPLATE,
+        content: payload.as_bytes(),
+        keys: KEY,
+        random: b"",
+    };
+    let text = "eyJhbGciOiJIUzI1NiJ9..6z0O5j6zwX2ee1VRgV7u7jZOIDY-jdNzwkwNMbHHIYg";
+    let signed = Answer::Both(text, payload.as_bytes());
+    expect(&rt, &SIGN_COMPACT_BESIDE, &given, signed)?;
+    let verified = Answer::Content(payload.as_bytes());
+    expect(&rt, &VERIFY_BESIDE, &Given { text, ..given }, verified)
+}
+
+/// 70,000 octets, whose ciphertext is beside the text, come back by the row.
+fn comes_back_beside<R: Abort + AllocGlobal>(
+    rt: &R,
+    words: &[&str],
+    row: (&str, &str, &str),
+) -> Result<(), Fail> {
+    let content = repeated(rt.alloc(), "", "abcdefg", 10_000, "")?;
+    comes_back_from_beside(rt, words, row, content.as_bytes())
+}
+
+#[test]
+fn jwe_of_70_000_octets_beside_the_text(rt: HostRuntime) -> Result<(), Fail> {
+    comes_back_beside(&rt, &ENCRYPT_BESIDE, DIRECT[0])?;
+    comes_back_beside(&rt, &ENCRYPT_COMPACT_BESIDE, DIRECT[3])
 }

@@ -60,13 +60,16 @@ pub fn run<I: Input, O: Output>(
         Command::B64Dec => b64::decode(alloc, &mut inputs.text, &mut outputs.content),
         Command::JwsSig => {
             let compact = invocation.has('c');
+            let detach = invocation.has('O');
             jws::sign(
                 alloc,
                 &mut inputs.text,
                 &mut inputs.keys,
                 compact,
+                detach,
                 &mut inputs.content,
                 &mut outputs.text,
+                &mut outputs.content,
             )
         }
         Command::JwsVer => {
@@ -101,14 +104,17 @@ pub fn run<I: Input, O: Output>(
         }
         Command::JweEnc => {
             let compact = invocation.has('c');
+            let detach = invocation.has('O');
             jwe::encrypt(
                 alloc,
                 &mut inputs.text,
                 &mut inputs.keys,
                 compact,
+                detach,
                 &mut inputs.random,
                 &mut inputs.content,
                 &mut outputs.text,
+                &mut outputs.content,
             )
         }
         Command::JweDec => {

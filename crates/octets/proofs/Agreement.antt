@@ -1,12 +1,13 @@
 -- What a call did on an output, held against its answer.
-use Rattle.std.proofs.Common.{◌≡◌, List, ◌++◌, ℕ, length, take, nat_le, Bool, true, false, Result, Ok, Err, OnOk, OnErr, IsTrue, refl, ◌∙◌, ap, append-nil}
+use Rattle.std.proofs.Common.{◌≡◌, ◌⊎◌, List, [], ◌++◌, ℕ, length, take, nat_le, Bool, true, false, Option, Some, None, is_some, MutBor, Result, Ok, Err, OnOk, OnErr, IsTrue, refl, sym, ◌∙◌, ap, append-nil, rules}
 use Rattle.std.proofs.Math.Seq.{drop-append_seam}
 use lib.Dec.{leb-zero}
 use Rattle.octets.specs.declared.refusal.Refusal.{Refusal}
 use Rattle.octets.specs.declared.refusal.Refusal.TheVariants.{Write, Random}
-use Rattle.octets.specs.Devices.{observed, appended, IsPossibleInput}
+use Rattle.octets.specs.Devices.{Observed, observed, appended, IsPossibleInput}
+use Rattle.octets.specs.Lent.{lent, wrote_on}
 use Rattle.octets.specs.Outcomes.{◌>>=◌, needs, is_external, AgreesUnlessExternal}
-use Rattle.octets.specs.Plan.{Plan, Draft, plan_map, plan_from, placed, by_plan, by_text, without_random, planned, without_content}
+use Rattle.octets.specs.Plan.{OutputTexts, Plan, Draft, plan_map, plan_from, placed, by_plan, by_text, without_random, planned, without_content, begun}
 
 pub AgreesUnlessExternal-map : {W V : Type 0} (f : W → V) (a : Result W Refusal) (w : W) (v : V) (r : Result (Unit {0}) Refusal) → f w ≡ v
     → AgreesUnlessExternal a w r → AgreesUnlessExternal (a >>= λ x. Ok (f x)) v r
@@ -29,7 +30,8 @@ plan_from-placed f (Ok d) random = by_test (nat_le d.drawn (length random))
 enough : {W : Type 0} (plan : Plan W) (random : List ℕ) → plan_from (Ok (without_random plan)) random ≡ Ok plan
 enough plan random = ap (λ test. needs test Random >>= λ u. Ok plan) (leb-zero (length random))
 
-plan_from-by_plan : {W : Type 0} (plan : Result (Plan W) Refusal) (random : List ℕ) → plan_from (by_plan plan) random ≡ plan
+-- a plan that draws nothing is the plan by any random input
+pub plan_from-by_plan : {W : Type 0} (plan : Result (Plan W) Refusal) (random : List ℕ) → plan_from (by_plan plan) random ≡ plan
 plan_from-by_plan (Ok p) random = enough p random
 plan_from-by_plan (Err r) random = refl
 
@@ -64,10 +66,29 @@ pub planned_without_content : {W : Type 0} (f : List ℕ → W) (a : Result (Lis
 planned_without_content f (Ok x) nil = refl
 planned_without_content f (Err r) nil = refl
 
+-- a fact at an answer, by another
+pub on_success : {P Q : Type 0} (r : Result (Unit {0}) Refusal) → OnOk r P → (P → Q) → OnOk r Q
+on_success (Ok done) p f = f p
+on_success (Err e) p f = tt
+
+-- a fact at a refusal, as everywhere
+pub at_refusal : {P : Type 0} (r : Result (Unit {0}) Refusal) → P → OnErr r P
+at_refusal (Ok done) p = tt
+at_refusal (Err e) p = p
+
 -- a fact at a refusal, by another
 pub on_refusal : {P Q : Type 0} (r : Result (Unit {0}) Refusal) → OnErr r P → (P → Q) → OnErr r Q
 on_refusal (Ok done) p f = tt
 on_refusal (Err e) p f = f p
+
+-- what was seen of an input may be all of it
+pub seen_possible : {D : Type 0} (consumed : D → List ℕ) (is_at_end : D → Bool) (old new : D) → IsPossibleInput (observed consumed is_at_end old new) (appended (consumed old) (consumed new))
+seen_possible consumed is_at_end old new = record { rest = []; continues = sym (append-nil (appended (consumed old) (consumed new))); ends = λ _. refl; octets = search rules }
+
+-- where the content has ended and is accepted, its whole texts may stand
+pub begun_whole : (plan : Result (Plan OutputTexts) Refusal) (seen : Observed) (texts : OutputTexts) → IsTrue seen.ended → planned plan seen.octets ≡ Ok texts → begun plan seen ≡ texts
+begun_whole (Ok p) seen texts ended is = let yes : seen.ended ≡ true = ended in rw (yes, is) refl
+begun_whole (Err r) seen texts ended is = cc is
 
 -- ---- the last call decides: it worked, or an output failed
 
@@ -90,3 +111,18 @@ pub whole_is : {D : Type 0} (consumed : D → List ℕ) (is_at_end : D → Bool)
 whole_is consumed is_at_end old new items whole e at_end possible =
     possible.continues ∙ ap (λ rest. appended (consumed old) (consumed new) ++ rest) (possible.ends at_end) ∙ append-nil (appended (consumed old) (consumed new))
     ∙ ap (appended (consumed old)) e ∙ appended-append (consumed old) items
+
+-- ---- two outputs that were written
+
+-- all of both texts is there
+pub both_written : (texts : OutputTexts) (old new old_beside new_beside : List ℕ) → new ≡ old ++ texts.text → new_beside ≡ old_beside ++ texts.content
+    → texts ≡ record { text = appended old new; content = appended old_beside new_beside }
+both_written texts old new old_beside new_beside text content =
+    ap (λ t. record { text = t; content = texts.content }) (sym (ap (appended old) text ∙ appended-append old texts.text))
+    ∙ ap (λ c. record { text = appended old new; content = c }) (sym (ap (appended old_beside) content ∙ appended-append old_beside texts.content))
+
+-- where no output is lent, nothing is written on it
+pub unlent : {D : Type 0} (written : D → List ℕ) (entry : Option (MutBor D)) (exit : Unit {0} ⊎ ((MutBor D × Unit {0}) ⊎ ⊥)) (P : Bool → List ℕ → Type 0) → entry ≡ None
+    → P (is_some entry) (wrote_on written (lent entry exit)) → P false []
+unlent written None exit P none p = p
+unlent written (Some m) exit P none p = cc none

@@ -7,5 +7,6 @@ pub mod Views
 pub mod LineEnds
 pub mod Plan
 pub mod Faults
+pub mod Lent
 pub mod Encoding
 pub mod Search

@@ -7,6 +7,16 @@ use Rattle.octets.specs.Octets.{IsOctets}
 use Rattle.octets.specs.Devices.{Observed}
 use Rattle.octets.specs.Outcomes.{◌>>=◌, needs}
 
+-- ---- what is written
+
+-- the octets for each output of a call: that of its text, and that of a content which goes out beside it
+pub record OutputTexts : Type 0 where
+  pub text : List ℕ
+  pub content : List ℕ
+
+abbrev pub nothing : OutputTexts
+nothing = record { text = []; content = [] }
+
 -- ---- by the content
 
 -- what is written, W, by the content
@@ -37,6 +47,11 @@ plan_map f plan = record {
   whole = λ content. plan.whole content >>= λ w. Ok (f w);
   fixed = λ front. f (plan.fixed front);
 }
+
+-- What a beginning fixes goes on so on both outputs.
+pub record BothGrow (plan : Plan OutputTexts) : Type 0 where
+  pub text : Grows (plan_map (λ texts. texts.text) plan)
+  pub content : Grows (plan_map (λ texts. texts.content) plan)
 
 -- a call without a content
 abbrev pub without_content : {W : Type 0} → W → Plan W
@@ -85,14 +100,14 @@ by_text answer = answer >>= λ text. Ok (without_random (without_content text))
 abbrev pub planned : {W : Type 0} → Result (Plan W) Refusal → List ℕ → Result W Refusal
 planned plan content = plan >>= λ p. p.whole content
 
--- What may stand of one text: nothing before the other inputs are read to their ends and accepted.
-abbrev pub begun : Result (Plan (List ℕ)) Refusal → Observed → List ℕ
+-- What may stand written: nothing before the other inputs are read to their ends and accepted.
+abbrev pub begun : Result (Plan OutputTexts) Refusal → Observed → OutputTexts
 begun (Ok plan) seen = beginning_of plan seen
-begun (Err r) seen = []
+begun (Err r) seen = nothing
 
-abbrev pub planned_beginning : Bool → Result (Plan (List ℕ)) Refusal → Observed → List ℕ
-planned_beginning others_read plan seen = if others_read then begun plan seen else []
+abbrev pub planned_beginning : Bool → Result (Plan OutputTexts) Refusal → Observed → OutputTexts
+planned_beginning others_read plan seen = if others_read then begun plan seen else nothing
 
--- The same of a text that is written as a whole, without a content.
+-- The same of one text that is written as a whole, without a content.
 abbrev pub accepted : Result (List ℕ) Refusal → Bool → List ℕ
 accepted answer others_read = if others_read then result_unwrap_or answer [] else []

@@ -1,12 +1,15 @@
--- Lists that begin others: behind a list, in base64url texts, and among the members of a JSON text.
-use Rattle.std.proofs.Common.{◌≡◌, ℕ, Bool, true, List, [], ◌∷◌, ◌++◌, sym, ap, ◌∙◌, append_assoc}
+-- Lists that begin others: behind a list, in base64url texts, among the members of a JSON text, and on both outputs of a call.
+use Rattle.std.proofs.Common.{◌≡◌, ℕ, Bool, true, false, List, [], ◌∷◌, ◌++◌, Ok, refl, sym, ap, ◌∙◌, subst, append_assoc}
 use Rattle.serde_json.specs.Data.{Data, string, Members, member}
 use Rattle.serde_json.specs.Written.{comma_if, compact_text, members_text}
 use Rattle.octets.specs.Base64url.{base64url, whole_groups, part_group}
-use Rattle.octets.specs.Plan.{Begins}
+use Rattle.octets.specs.Octets.{IsOctets}
+use Rattle.octets.specs.Plan.{OutputTexts, Plan, Begins, Grows, plan_map, BothGrow}
 use Rattle.octets.proofs.Groups.{base64url_whole-append, base64url_whole_part}
 use Rattle.keys.proofs.UrlTexts.{url_texts_are_json}
+use Rattle.objects.specs.Texts.{handed_in, handed_out}
 use Rattle.objects.proofs.Characters.{IsUrlText}
+use Rattle.objects.proofs.Steps.{steps, same_answer}
 
 -- ---- lists
 
@@ -17,6 +20,10 @@ begins_behind front x y b = record { rest = b.rest; continues = ap (λ l. front 
 -- what begins a beginning of a list begins the list
 pub begins_all : (x y z : List ℕ) → Begins x y → Begins y z → Begins x z
 begins_all x y z a b = record { rest = a.rest ++ b.rest; continues = b.continues ∙ ap (λ l. l ++ b.rest) a.continues ∙ append_assoc x a.rest b.rest }
+
+-- the empty list begins every list
+pub empty_begins : (x : List ℕ) → Begins [] x
+empty_begins x = record { rest = x; continues = refl }
 
 -- ---- base64url texts
 
@@ -49,3 +56,38 @@ member_text later name text rest is_name is_text =
     named_text later name (string text) rest is_name
     ∙ ap (λ t. comma_if later ++ (34 ∷ (name ++ 34 ∷ 58 ∷ (t ++ members_text true rest)))) (url_texts_are_json text is_text).1
     ∙ ap (λ t. comma_if later ++ (34 ∷ (name ++ 34 ∷ 58 ∷ 34 ∷ t))) (append_assoc text (34 ∷ []) (members_text true rest))
+
+-- ---- both outputs
+
+-- where a content begins another, so does what goes out of it beside the text
+pub handed_out_begins : (detach : Bool) (x y : List ℕ) → Begins x y → Begins (handed_out detach x) (handed_out detach y)
+handed_out_begins true x y b = b
+handed_out_begins false x y b = empty_begins []
+
+-- what goes out beside a text is what is handed in beside it
+pub handed_back : (detach : Bool) (content : List ℕ) → handed_in detach (handed_out detach content) ≡ handed_in detach content
+handed_back true content = refl
+handed_back false content = refl
+
+-- on both outputs one begins the other
+pub record BothBegin (front all : OutputTexts) : Type 0 where
+  pub text : Begins front.text all.text
+  pub content : Begins front.content all.content
+
+-- an output grows where what is fixed of it goes on, and begins what is written on it
+output_grows : (plan : Plan OutputTexts) (output : OutputTexts → List ℕ) → ((p q : List ℕ) → Begins (output (plan.fixed p)) (output (plan.fixed (p ++ q))))
+    → ((p q : List ℕ) (texts : OutputTexts) → IsOctets (p ++ q) → plan.whole (p ++ q) ≡ Ok texts → Begins (output (plan.fixed p)) (output texts)) → Grows (plan_map output plan)
+output_grows plan output more whole = record {
+  more = more;
+  whole = λ p q w octets h.
+      let texts = steps (plan.whole (p ++ q)) (λ texts. Ok (output texts)) w h in
+      subst (Begins (output (plan.fixed p))) (same_answer (output texts.0) w texts.2) (whole p q texts.0 octets texts.1);
+}
+
+-- so both grow where this holds of both
+pub both_grow_by_beginnings : (plan : Plan OutputTexts) → ((p q : List ℕ) → BothBegin (plan.fixed p) (plan.fixed (p ++ q)))
+    → ((p q : List ℕ) (texts : OutputTexts) → IsOctets (p ++ q) → plan.whole (p ++ q) ≡ Ok texts → BothBegin (plan.fixed p) texts) → BothGrow plan
+both_grow_by_beginnings plan more whole = record {
+  text = output_grows plan (λ texts. texts.text) (λ p q. (more p q).text) (λ p q texts octets h. (whole p q texts octets h).text);
+  content = output_grows plan (λ texts. texts.content) (λ p q. (more p q).content) (λ p q texts octets h. (whole p q texts octets h).content);
+}

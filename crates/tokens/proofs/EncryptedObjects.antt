@@ -12,7 +12,7 @@ use Rattle.octets.specs.declared.refusal.Refusal.TheVariants.{Limit, Random}
 use Rattle.octets.specs.Base64url.{base64url}
 use Rattle.octets.specs.Octets.{IsOctets}
 use Rattle.octets.specs.Outcomes.{needs}
-use Rattle.octets.specs.Plan.{Plan, Draft, plan_from}
+use Rattle.octets.specs.Plan.{OutputTexts, Plan, Draft, plan_from}
 use Rattle.octets.proofs.Characters.{has_url_characters}
 use Rattle.octets.proofs.Decoded.{IsOctets-drop}
 use Rattle.octets.proofs.Meanings.{meaning_of_text}
@@ -29,7 +29,7 @@ use Rattle.keys.specs.Limits.{limits}
 use Rattle.keys.proofs.ReadingBack.{numbers_whole}
 use Rattle.keys.proofs.UrlTexts.{url_texts_are_json}
 use Rattle.objects.specs.Jwe.{RecipientParts, EncryptedObject, have_one_enc, is_plain, encrypted_object, built, key_of_first, AreMembers, recipients_of_one_enc}
-use Rattle.objects.specs.Texts.{header_depth, depth_of_each}
+use Rattle.objects.specs.Texts.{header_depth, depth_of_each, handed_out}
 use Rattle.objects.proofs.EachRead.{all_both, all_images}
 use Rattle.objects.proofs.SpellingJwe.{is_built}
 use Rattle.objects.proofs.Steps.{steps, passed, same_answer}
@@ -37,7 +37,7 @@ use Rattle.objects.proofs.TextOctets.{octets_of_utf8}
 use Rattle.tokens.specs.Algorithms.{content_alg, key_alg}
 use Rattle.tokens.specs.Choosing.{Receiver, Encryption, encryption_of}
 use Rattle.tokens.specs.Decrypting.{authenticated}
-use Rattle.tokens.specs.Encrypting.{salts_drawn, cek_drawn, octets_drawn, salts_by, after_salts, cek_by, iv_by, header_of, header_by, recipients_by, sealing_by, sealed_by, parts_by, encrypted, first_key, plan_by, encrypting_by, AreOctetKeys}
+use Rattle.tokens.specs.Encrypting.{salts_drawn, cek_drawn, octets_drawn, salts_by, after_salts, cek_by, iv_by, header_of, header_by, recipients_by, sealing_by, sealed_by, parts_by, encrypted, text_of, first_key, written_of, plan_by, encrypting_by, AreOctetKeys}
 use Rattle.tokens.proofs.DeliveredKeys.{IsCek, Delivers, after_long, cek_by_is, each_delivered}
 use Rattle.tokens.proofs.HeaderTexts.{shallow_enough}
 use Rattle.tokens.proofs.EncryptedHeaders.{salted_by, IsWritten, Writes, writes, given_by, made_by, recipients_are, as_many_salted, recipients_are_read}
@@ -244,18 +244,27 @@ is_encrypted laws keys e random plaintext o key_octets random_octets octets long
       is = same;
     }
 
+-- what is written of an object is its text, and its ciphertext beside it where this is detached
+pub written_is : (compact detach : Bool) (o : EncryptedObject) (texts : OutputTexts) → written_of compact detach o ≡ Ok texts
+    → (text_of compact detach o ≡ Ok texts.text) × (handed_out detach o.ciphertext ≡ texts.content)
+written_is compact detach o texts h =
+    let beside : List ℕ → OutputTexts = λ text. record { text = text; content = handed_out detach o.ciphertext } in
+    let text = steps (text_of compact detach o) (λ text. Ok (beside text)) texts h in
+    let same : beside text.0 ≡ texts = same_answer (beside text.0) texts text.2 in
+    (text.1 ∙ ap (λ (t : OutputTexts). Ok t.text) same, ap (λ (t : OutputTexts). t.content) same)
+
 -- what a template and keys settle, and the plan by the random octets that are drawn
-pub plan_is : (compact : Bool) (keys : List OctetKey) (template random : List ℕ) (plan : Plan (List ℕ)) → plan_from (encrypting_by limits compact keys template) random ≡ Ok plan
+pub plan_is : (compact detach : Bool) (keys : List OctetKey) (template random : List ℕ) (plan : Plan OutputTexts) → plan_from (encrypting_by limits compact detach keys template) random ≡ Ok plan
     → (e : Encryption) × (encryption_of limits compact keys template ≡ Ok e) × (length (take (octets_drawn e) random) ≡ octets_drawn e)
-    × (plan_by compact e (take (octets_drawn e) random) ≡ plan)
+    × (plan_by compact detach e (take (octets_drawn e) random) ≡ plan)
 unfolding encrypting_by
-plan_is compact keys template random plan h =
-    let draft = steps (encrypting_by limits compact keys template) _ plan h in
+plan_is compact detach keys template random plan h =
+    let draft = steps (encrypting_by limits compact detach keys template) _ plan h in
     let enough = steps (needs (nat_le draft.0.drawn (length random)) Random) _ plan draft.2 in
     let settled = steps (encryption_of limits compact keys template) _ draft.0 draft.1 in
     let e : Encryption = settled.0 in
-    let made : Draft (List ℕ) = record { drawn = octets_drawn e; plan = plan_by compact e } in
+    let made : Draft OutputTexts = record { drawn = octets_drawn e; plan = plan_by compact detach e } in
     let same : made ≡ draft.0 = same_answer made draft.0 settled.2 in
-    let room : nat_le (octets_drawn e) (length random) ≡ true = ap (λ (d : Draft (List ℕ)). nat_le d.drawn (length random)) same ∙ passed _ Random enough.0 enough.1 in
-    let whole : plan_by compact e (take (octets_drawn e) random) ≡ plan = ap (λ (d : Draft (List ℕ)). d.plan (take d.drawn random)) same ∙ same_answer _ plan enough.2 in
+    let room : nat_le (octets_drawn e) (length random) ≡ true = ap (λ (d : Draft OutputTexts). nat_le d.drawn (length random)) same ∙ passed _ Random enough.0 enough.1 in
+    let whole : plan_by compact detach e (take (octets_drawn e) random) ≡ plan = ap (λ (d : Draft OutputTexts). d.plan (take d.drawn random)) same ∙ same_answer _ plan enough.2 in
     (e, settled.1, length-take-le (octets_drawn e) random (leb-true (octets_drawn e) (length random) room), whole)

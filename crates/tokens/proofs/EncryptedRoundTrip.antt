@@ -1,10 +1,10 @@
 -- What is encrypted decrypts with each key alone that may decrypt.
-use Rattle.std.proofs.Common.{◌≡◌, ℕ, ◌*◌, ◌≤◌, Bool, true, false, List, [], ◌∷◌, ◌++◌, length, map, take, drop, Some, Ok, refl, sym, ◌∙◌, ap, subst, arith, None}
+use Rattle.std.proofs.Common.{◌≡◌, ℕ, ◌*◌, ◌≤◌, Bool, true, false, List, [], ◌∷◌, ◌++◌, length, map, take, drop, Some, Ok, refl, sym, ◌∙◌, ap, subst, arith}
 use Rattle.std.proofs.lemmas.List.{length-take-le}
 use Rattle.std.specs.List.{AllByRecursion}
 use Rattle.octets.specs.Octets.{IsOctets}
 use Rattle.octets.specs.Outcomes.{◌>>=◌}
-use Rattle.octets.specs.Plan.{Plan, plan_from}
+use Rattle.octets.specs.Plan.{OutputTexts, Plan, plan_from}
 use Rattle.octets.proofs.Decoded.{IsOctets-take}
 use Rattle.ciphers.specs.Openings.{OpensExactly, DeliversExactly}
 use Rattle.ciphers.specs.Sealing.{IsOpening}
@@ -13,16 +13,18 @@ use Rattle.keys.specs.Algorithms.{is_password_based, management_operations}
 use Rattle.keys.specs.Keys.{OctetKey, allows, fits}
 use Rattle.keys.specs.Limits.{limits}
 use Rattle.objects.specs.Jwe.{JweParts, EncryptedObject, built, json_text, jwe_of, AreMembers, TextsSpellObjects}
+use Rattle.objects.specs.Texts.{handed_in}
 use Rattle.objects.proofs.EachRead.{all_then, all_both}
 use Rattle.objects.proofs.Steps.{steps, same_answer}
 use Rattle.tokens.specs.Algorithms.{content_alg, key_alg}
 use Rattle.tokens.specs.Choosing.{Receiver, passwords, Encryption}
 use Rattle.tokens.specs.Decrypting.{all_pairs, is_candidate, SealedContent, sealed_content, cek_of, opened_by, decrypted}
-use Rattle.tokens.specs.Encrypting.{salt_drawn, salts_drawn, octets_drawn, salts_by, cek_by, encrypted, text_of, parts_by, encrypting_by, AreOctetKeys, OpensNoOther, EncryptedDecrypts}
+use Rattle.tokens.specs.Encrypting.{salt_drawn, salts_drawn, octets_drawn, salts_by, cek_by, encrypted, text_of, written_of, parts_by, encrypting_by, AreOctetKeys, OpensNoOther, EncryptedDecrypts}
+use Rattle.tokens.proofs.Beginnings.{handed_back}
 use Rattle.tokens.proofs.DecryptedPairs.{algorithms_by, pair_by, TakeAtMost, take_at_most, Opens, first_opens, supported, opened_is_decrypted}
 use Rattle.tokens.proofs.DeliveredKeys.{Delivers}
 use Rattle.tokens.proofs.EncryptedHeaders.{salted, IsSalted, all_salted, salted_by, made_by, as_many_salted}
-use Rattle.tokens.proofs.EncryptedObjects.{OctetLaws, object_by, IsEncrypted, is_encrypted, plan_is}
+use Rattle.tokens.proofs.EncryptedObjects.{OctetLaws, object_by, IsEncrypted, is_encrypted, written_is, plan_is}
 use Rattle.tokens.proofs.SettledEncryptions.{Receives, Settles, settles}
 
 -- the laws of ciphers and of objects
@@ -32,10 +34,20 @@ pub record Laws : Type 0 where
   pub delivers : DeliversExactly
   pub spells : TextsSpellObjects
 
--- the object is read from its text in either form
-text_is_read : Laws → (compact : Bool) (parts : JweParts) (o : EncryptedObject) (text : List ℕ) → AreMembers parts → built limits parts ≡ Ok o → text_of compact false o ≡ Ok text → jwe_of limits None text ≡ Ok o
-text_is_read laws true parts o text members is h = (laws.spells limits parts o members is false).1 text h
-text_is_read laws false parts o text members is h = ap (jwe_of limits None) (sym (same_answer (json_text false o) text h)) ∙ (laws.spells limits parts o members is false).0
+-- the object is read from its text in either form, and from its ciphertext where this is detached
+text_is_read : Laws → (compact detach : Bool) (parts : JweParts) (o : EncryptedObject) (text : List ℕ) → AreMembers parts → built limits parts ≡ Ok o → text_of compact detach o ≡ Ok text
+    → jwe_of limits (handed_in detach o.ciphertext) text ≡ Ok o
+text_is_read laws true detach parts o text members is h = (laws.spells limits parts o members is detach).1 text h
+text_is_read laws false detach parts o text members is h =
+    ap (jwe_of limits (handed_in detach o.ciphertext)) (sym (same_answer (json_text detach o) text h)) ∙ (laws.spells limits parts o members is detach).0
+
+-- so the object is read from what is written of it
+written_is_read : Laws → (compact detach : Bool) (parts : JweParts) (o : EncryptedObject) (texts : OutputTexts) → AreMembers parts → built limits parts ≡ Ok o → written_of compact detach o ≡ Ok texts
+    → jwe_of limits (handed_in detach texts.content) texts.text ≡ Ok o
+written_is_read laws compact detach parts o texts members is h =
+    let written = written_is compact detach o texts h in
+    let beside : handed_in detach texts.content ≡ handed_in detach o.ciphertext = ap (handed_in detach) (sym written.1) ∙ handed_back detach o.ciphertext in
+    ap (λ content. jwe_of limits content texts.text) beside ∙ text_is_read laws compact detach parts o texts.text members is written.0
 
 -- a key that may decrypt and fits is a candidate
 candidate_is : (e : Encryption) (r : Receiver) → allows r.key (management_operations r.management).1 ≡ true → fits r.key (EncryptionWith r.management e.encryption) ≡ true
@@ -90,25 +102,25 @@ decrypts laws before after key e random plaintext o by random_octets long may is
     (record { each_few = most.each_few; all_few = omega (arith, most.all_few, by.few) })
     (first_opens e cek key s plaintext before after xs (keys_of_salted e.receivers (salts_by e random) ∙ by.keys_are) each_opens only)
 
--- so its text is that of an object which is decrypted
-read_and_decrypted : Laws → (compact : Bool) (before after : List OctetKey) (key : OctetKey) (e : Encryption) (random plaintext text : List ℕ) → AreOctetKeys (before ++ key ∷ after)
-    → IsOctets random → IsOctets plaintext → length random ≡ octets_drawn e → Settles (before ++ key ∷ after) e
-    → AllByRecursion (λ r. r.key ≡ key → allows key (management_operations r.management).1 ≡ true) e.receivers → (encrypted e random plaintext >>= text_of compact false) ≡ Ok text
-    → (o : EncryptedObject) × ((jwe_of limits None text ≡ Ok o) × (OpensNoOther (length before) key o plaintext → decrypted limits (key ∷ []) o ≡ Ok plaintext))
-read_and_decrypted laws compact before after key e random plaintext text key_octets random_octets octets long by may h =
-    let o = steps (encrypted e random plaintext) (text_of compact false) text h in
+-- so what is written of it is that of an object which is decrypted
+read_and_decrypted : Laws → (compact detach : Bool) (before after : List OctetKey) (key : OctetKey) (e : Encryption) (random plaintext : List ℕ) (texts : OutputTexts)
+    → AreOctetKeys (before ++ key ∷ after) → IsOctets random → IsOctets plaintext → length random ≡ octets_drawn e → Settles (before ++ key ∷ after) e
+    → AllByRecursion (λ r. r.key ≡ key → allows key (management_operations r.management).1 ≡ true) e.receivers → (encrypted e random plaintext >>= written_of compact detach) ≡ Ok texts
+    → (o : EncryptedObject) × ((jwe_of limits (handed_in detach texts.content) texts.text ≡ Ok o) × (OpensNoOther (length before) key o plaintext → decrypted limits (key ∷ []) o ≡ Ok plaintext))
+read_and_decrypted laws compact detach before after key e random plaintext texts key_octets random_octets octets long by may h =
+    let o = steps (encrypted e random plaintext) (written_of compact detach) texts h in
     let is : IsEncrypted e random plaintext o.0 = is_encrypted laws.octets (before ++ key ∷ after) e random plaintext o.0 key_octets random_octets octets long by o.1 in
     let decrypted_if : OpensNoOther (length before) key o.0 plaintext → decrypted limits (key ∷ []) o.0 ≡ Ok plaintext =
     subst (λ o. OpensNoOther (length before) key o plaintext → decrypted limits (key ∷ []) o ≡ Ok plaintext) is.is
     (decrypts laws before after key e random plaintext o.0 by random_octets long may is) in
-    (o.0, (text_is_read laws compact (parts_by e random is.sealed) o.0 text is.members is.made o.2, decrypted_if))
+    (o.0, (written_is_read laws compact detach (parts_by e random is.sealed) o.0 texts is.members is.made o.2, decrypted_if))
 
 -- and so it is where keys and a template settle what is encrypted
 pub encrypted_decrypts : Laws → EncryptedDecrypts
-encrypted_decrypts laws compact before after key template random plaintext text key_octets random_octets octets may h =
+encrypted_decrypts laws compact detach before after key template random plaintext texts key_octets random_octets octets may h =
     let keys : List OctetKey = before ++ key ∷ after in
-    let plan = steps (plan_from (encrypting_by limits compact keys template) random) (λ p. p.whole plaintext) text h in
-    let settled = plan_is compact keys template random plan.0 plan.1 in
+    let plan = steps (plan_from (encrypting_by limits compact detach keys template) random) (λ p. p.whole plaintext) texts h in
+    let settled = plan_is compact detach keys template random plan.0 plan.1 in
     let e : Encryption = settled.0 in
-    read_and_decrypted laws compact before after key e (take (octets_drawn e) random) plaintext text key_octets (IsOctets-take (octets_drawn e) random random_octets) octets settled.2
-    (settles compact keys template e settled.1) (may e settled.1) (ap (λ (p : Plan (List ℕ)). p.whole plaintext) settled.3 ∙ plan.2)
+    read_and_decrypted laws compact detach before after key e (take (octets_drawn e) random) plaintext texts key_octets (IsOctets-take (octets_drawn e) random random_octets) octets settled.2
+    (settles compact keys template e settled.1) (may e settled.1) (ap (λ (p : Plan OutputTexts). p.whole plaintext) settled.3 ∙ plan.2)

@@ -1,20 +1,20 @@
--- What keys and a template settle makes an object of every plaintext that is not too long, and its text.
+-- What keys and a template settle makes an object of every plaintext that is not too long, and its texts.
 use Rattle.std.proofs.Common.{◌≡◌, ℕ, ◌≤◌, ◌&&◌, ◌==◌, nat_le, Bool, true, false, not, List, [], ◌∷◌, length, map, take, Ok, IfErr, refl, sym, ap, ◌∙◌, subst, arith}
 use Rattle.std.proofs.lemmas.Bool.{and_parts, leb-true}
 use Rattle.std.proofs.lemmas.List.{length-map}
 use Rattle.serde_json.specs.Data.{Members, no_members, member}
 use Rattle.octets.specs.declared.refusal.Refusal.TheVariants.{Limit}
 use Rattle.octets.specs.Outcomes.{◌>>=◌, needs}
-use Rattle.octets.specs.Plan.{Plan}
+use Rattle.octets.specs.Plan.{OutputTexts, Plan}
 use Rattle.octets.proofs.Decoded.{IsOctets-take}
 use Rattle.ciphers.specs.Openings.{is_longer}
 use Rattle.ciphers.specs.Sealing.{Sealed}
 use Rattle.keys.specs.Keys.{OctetKey}
 use Rattle.keys.specs.Limits.{limits}
 use Rattle.objects.specs.Jwe.{EncryptedObject, built, joined, key_of_first, is_compact, json_text, jwe_compact_text}
-use Rattle.objects.specs.Texts.{has_members}
+use Rattle.objects.specs.Texts.{has_members, kept}
 use Rattle.tokens.specs.Choosing.{Receiver, is_alone, Encryption}
-use Rattle.tokens.specs.Encrypting.{octets_drawn, salts_by, cek_by, sealing_by, sealed_by, parts_by, encrypted, text_of, plan_by, EncryptingMakesTexts}
+use Rattle.tokens.specs.Encrypting.{octets_drawn, salts_by, cek_by, sealing_by, sealed_by, parts_by, encrypted, text_of, written_of, plan_by, EncryptingMakesTexts}
 use Rattle.tokens.specs.Template.{is_empty}
 use Rattle.tokens.proofs.EncryptedHeaders.{salted_by, Writes, writes, made_by, as_many_salted}
 use Rattle.tokens.proofs.EncryptedObjects.{object_by, built_is, plan_is}
@@ -33,38 +33,38 @@ fits e cek o (x ∷ []) alone long some unprotected aad = rw (unprotected, alone
 fits e cek o (x ∷ (other ∷ rest)) alone long some unprotected aad = absurd (omega (arith, long, leb-true (length e.receivers) 1 alone))
 
 -- so the object has a text
-has_text : (compact : Bool) (e : Encryption) (random : List ℕ) (s : Sealed) → holds_no_more compact e ≡ true → 1 ≤ length e.receivers
-    → (text : List ℕ) × (text_of compact false (object_by e random s) ≡ Ok text)
+has_text : (compact detach : Bool) (e : Encryption) (random : List ℕ) (s : Sealed) → holds_no_more compact e ≡ true → 1 ≤ length e.receivers
+    → (text : List ℕ) × (text_of compact detach (object_by e random s) ≡ Ok text)
 unfolding jwe_compact_text
-has_text true e random s alone some =
+has_text true detach e random s alone some =
     let o : EncryptedObject = object_by e random s in
     let first = and_parts (is_alone e.receivers) (is_empty e.unprotected && (length e.aad == 0)) alone in
     let second = and_parts (is_empty e.unprotected) (length e.aad == 0) first.1 in
     let held : is_compact o o.recipients ≡ true =
     fits e (cek_by e random) o (salted_by e random) first.0 (as_many_salted e.receivers (salts_by e random)) some (no_members_there e.unprotected second.0) second.1 in
-    (joined o.protected (key_of_first o.recipients) o.iv o.ciphertext o.tag, rw held refl)
-has_text false e random s alone some = (json_text false (object_by e random s), refl)
+    (joined o.protected (key_of_first o.recipients) o.iv (kept detach o.ciphertext) o.tag, rw held refl)
+has_text false detach e random s alone some = (json_text detach (object_by e random s), refl)
 
 -- and every plaintext that is not too long
-whole_text : (compact : Bool) (keys : List OctetKey) (e : Encryption) (random plaintext : List ℕ) → Settles keys e → Writes e random → nat_le (length e.receivers) limits.recipients ≡ true
-    → holds_no_more compact e ≡ true → IfErr ((plan_by compact e random).whole plaintext) (λ refusal. refusal ≡ Limit)
+whole_text : (compact detach : Bool) (keys : List OctetKey) (e : Encryption) (random plaintext : List ℕ) → Settles keys e → Writes e random → nat_le (length e.receivers) limits.recipients ≡ true
+    → holds_no_more compact e ≡ true → IfErr ((plan_by compact detach e random).whole plaintext) (λ refusal. refusal ≡ Limit)
 unfolding encrypted sealed_by
-whole_text compact keys e random plaintext by w few alone = by_test (not (is_longer (length plaintext) (sealing_by e random).longest))
+whole_text compact detach keys e random plaintext by w few alone = by_test (not (is_longer (length plaintext) (sealing_by e random).longest))
   where
     by_test : (short : Bool)
-        → IfErr (((needs short Limit >>= λ passed. Ok ((sealing_by e random).sealed plaintext)) >>= λ s. built limits (parts_by e random s)) >>= text_of compact false) (λ refusal. refusal ≡ Limit)
+        → IfErr (((needs short Limit >>= λ passed. Ok ((sealing_by e random).sealed plaintext)) >>= λ s. built limits (parts_by e random s)) >>= written_of compact detach) (λ refusal. refusal ≡ Limit)
     by_test false = refl
     by_test true =
         let s : Sealed = (sealing_by e random).sealed plaintext in
-        rw (built_is keys e random s by w few, (has_text compact e random s alone by.some).1) tt
+        rw (built_is keys e random s by w few, (has_text compact detach e random s alone by.some).1) tt
 
 -- so it is by every plan that keys and a template settle
 pub encrypting_makes_texts : EncryptingMakesTexts
-encrypting_makes_texts compact keys template random plaintext plan few octets h =
-    let is = plan_is compact keys template random plan h in
+encrypting_makes_texts compact detach keys template random plaintext plan few octets h =
+    let is = plan_is compact detach keys template random plan h in
     let e : Encryption = is.0 in
     let by = settles compact keys template e is.1 in
     let long : length e.receivers ≡ length keys = sym (length-map e.receivers (λ r. r.key)) ∙ ap length by.keys_are in
     let w = writes keys e (take (octets_drawn e) random) by (IsOctets-take (octets_drawn e) random octets) is.2 in
-    subst (λ (p : Plan (List ℕ)). IfErr (p.whole plaintext) (λ refusal. refusal ≡ Limit)) is.3
-    (whole_text compact keys e (take (octets_drawn e) random) plaintext by w (ap (λ n. nat_le n limits.recipients) long ∙ few) (stands_alone compact keys template e is.1))
+    subst (λ (p : Plan OutputTexts). IfErr (p.whole plaintext) (λ refusal. refusal ≡ Limit)) is.3
+    (whole_text compact detach keys e (take (octets_drawn e) random) plaintext by w (ap (λ n. nat_le n limits.recipients) long ∙ few) (stands_alone compact keys template e is.1))

@@ -10,24 +10,24 @@ use Rattle.octets.specs.declared.refusal.Refusal.TheVariants.{NotCompact}
 use Rattle.octets.specs.Base64url.{base64url, whole_groups, is_url_character}
 use Rattle.octets.specs.Octets.{IsOctets}
 use Rattle.octets.specs.Outcomes.{needs}
-use Rattle.octets.specs.Plan.{Begins, Grows}
+use Rattle.octets.specs.Plan.{OutputTexts, Begins, BothGrow}
 use Rattle.octets.proofs.Characters.{has_url_characters}
 use Rattle.octets.proofs.Decoded.{IsOctets-take}
 use Rattle.octets.proofs.Groups.{length-base64url}
-use Rattle.ciphers.specs.Sealing.{Sealed}
+use Rattle.ciphers.specs.Sealing.{Sealed, IsTooLong}
 use Rattle.ciphers.proofs.Growing.{fixed_grows, ciphertext_grows}
 use Rattle.keys.specs.Keys.{OctetKey}
 use Rattle.objects.specs.Jwe.{Recipient, EncryptedObject, put_recipients, put_shared, json_text, key_of_first, is_compact, jwe_compact_text}
-use Rattle.objects.specs.Texts.{put_text, put_header}
+use Rattle.objects.specs.Texts.{handed_out, put_text, put_header}
 use Rattle.objects.proofs.Characters.{IsUrlText}
 use Rattle.objects.proofs.EachRead.{all_passed}
 use Rattle.objects.proofs.Steps.{steps, same_answer}
 use Rattle.tokens.specs.Algorithms.{content_alg}
 use Rattle.tokens.specs.Choosing.{Encryption}
 use Rattle.tokens.specs.Decrypting.{authenticated}
-use Rattle.tokens.specs.Encrypting.{AreOctetKeys, octets_drawn, cek_by, iv_by, header_by, sealing_by, encrypted, text_of, aad_member, text_before, within_longest, plan_by, EncryptingGrows}
-use Rattle.tokens.proofs.Beginnings.{begins_behind, begins_all, groups_grow, text_grows, member_text}
-use Rattle.tokens.proofs.EncryptedObjects.{OctetLaws, Settles, Has, is_encrypted, plan_is, settles}
+use Rattle.tokens.specs.Encrypting.{AreOctetKeys, octets_drawn, cek_by, iv_by, header_by, sealing_by, encrypted, text_of, aad_member, text_before, within_longest, written_of, ciphertext_fixed, text_fixed, plan_by, EncryptingGrows}
+use Rattle.tokens.proofs.Beginnings.{begins_behind, begins_all, empty_begins, groups_grow, text_grows, member_text, handed_out_begins, BothBegin, both_grow_by_beginnings}
+use Rattle.tokens.proofs.EncryptedObjects.{OctetLaws, Settles, Has, is_encrypted, written_is, plan_is, settles}
 
 -- ---- what is fixed of the ciphertext
 
@@ -50,14 +50,20 @@ all_within (Some most) p q short =
     take_all most p (omega (arith, within, length-append p q))
 
 -- what is fixed goes on
-more_fixed : (e : Encryption) (random p q : List ℕ)
-    → Begins ((sealing_by e random).fixed (within_longest (sealing_by e random).longest p)) ((sealing_by e random).fixed (within_longest (sealing_by e random).longest (p ++ q)))
+more_fixed : (e : Encryption) (random p q : List ℕ) → Begins (ciphertext_fixed e random p) (ciphertext_fixed e random (p ++ q))
 more_fixed e random p q =
     let s = sealing_by e random in
     let front : List ℕ = within_longest s.longest p in
     let more = within_grows s.longest p q in
     subst (λ l. Begins (s.fixed front) (s.fixed l)) (sym more.continues)
     (fixed_grows (content_alg e.encryption) (cek_by e random) (iv_by e random) (authenticated (base64url (header_by e random)) e.aad) front more.rest)
+
+-- and begins the ciphertext, where the plaintext is not too long
+fixed_begins : (e : Encryption) (random p q : List ℕ) → (IsTooLong (sealing_by e random) (p ++ q) → ⊥) → Begins (ciphertext_fixed e random p) ((sealing_by e random).sealed (p ++ q)).ciphertext
+fixed_begins e random p q short =
+    let s = sealing_by e random in
+    subst (λ l. Begins (s.fixed l) (s.sealed (p ++ q)).ciphertext) (sym (all_within s.longest p q short))
+    (ciphertext_grows (content_alg e.encryption) (cek_by e random) (iv_by e random) (authenticated (base64url (header_by e random)) e.aad) p q)
 
 -- ---- the compact text
 
@@ -217,31 +223,46 @@ text_begins false e random s o text aad_octets ciphertext_octets has h =
     let begins = json_begins o (subst IsOctets (sym has.aad) aad_octets) (subst IsOctets (sym has.ciphertext) ciphertext_octets) in
     subst (λ front. Begins front text) first (subst (Begins _) (same_answer (json_text false o) text h) begins)
 
--- by just as many random octets as are drawn, the plan grows
-plan_grows : OctetLaws → (compact : Bool) (keys : List OctetKey) (e : Encryption) (random : List ℕ) → AreOctetKeys keys → IsOctets random → length random ≡ octets_drawn e
-    → Settles keys e → Grows (plan_by compact e random)
-plan_grows laws compact keys e random key_octets random_octets long by = record {
-  more = λ p q.
-      let s = sealing_by e random in
-      begins_behind (text_before compact e random) _ _ (groups_grow (s.fixed (within_longest s.longest p)) (s.fixed (within_longest s.longest (p ++ q))) (more_fixed e random p q));
-  whole = λ p q text octets h.
-      let s = sealing_by e random in
-      let before : List ℕ = text_before compact e random in
-      let o = steps (encrypted e random (p ++ q)) (text_of compact false) text h in
-      let is = is_encrypted laws keys e random (p ++ q) o.0 key_octets random_octets octets long by o.1 in
-      let ciphertext : List ℕ = is.sealed.ciphertext in
-      let fixed : Begins (s.fixed p) ciphertext =
-      subst (Begins (s.fixed p)) (ap (λ (x : Sealed). x.ciphertext) is.same)
-      (ciphertext_grows (content_alg e.encryption) (cek_by e random) (iv_by e random) (authenticated (base64url (header_by e random)) e.aad) p q) in
-      let front : Begins (s.fixed (within_longest s.longest p)) ciphertext = subst (λ l. Begins (s.fixed l) ciphertext) (sym (all_within s.longest p q is.short)) fixed in
-      begins_all (before ++ base64url (whole_groups (s.fixed (within_longest s.longest p)))) (before ++ base64url ciphertext) text
-      (begins_behind before _ _ (text_grows (s.fixed (within_longest s.longest p)) ciphertext front))
-      (text_begins compact e random is.sealed o.0 text is.aad is.octets is.has o.2);
-}
+-- what is fixed of the text goes on as what is fixed of the ciphertext does
+text_goes_on : (compact detach : Bool) (e : Encryption) (random x y : List ℕ) → Begins x y → Begins (text_fixed compact detach e random x) (text_fixed compact detach e random y)
+text_goes_on compact true e random x y b = empty_begins []
+text_goes_on compact false e random x y b = begins_behind (text_before compact e random) _ _ (groups_grow x y b)
 
--- so does each plan that a template and keys settle
+-- and begins the text that is written
+text_fixed_begins : (compact detach : Bool) (e : Encryption) (random x : List ℕ) (s : Sealed) (o : EncryptedObject) (text : List ℕ) → IsOctets e.aad → IsOctets s.ciphertext → Has e random s o
+    → Begins x s.ciphertext → text_of compact detach o ≡ Ok text → Begins (text_fixed compact detach e random x) text
+text_fixed_begins compact true e random x s o text aad_octets ciphertext_octets has begins h = empty_begins text
+text_fixed_begins compact false e random x s o text aad_octets ciphertext_octets has begins h =
+    let before : List ℕ = text_before compact e random in
+    begins_all (before ++ base64url (whole_groups x)) (before ++ base64url s.ciphertext) text (begins_behind before _ _ (text_grows x s.ciphertext begins))
+    (text_begins compact e random s o text aad_octets ciphertext_octets has h)
+
+-- by just as many random octets as are drawn, what is fixed begins what is written
+written_begins : OctetLaws → (compact detach : Bool) (keys : List OctetKey) (e : Encryption) (random p q : List ℕ) (texts : OutputTexts) → AreOctetKeys keys → IsOctets random → IsOctets (p ++ q)
+    → length random ≡ octets_drawn e → Settles keys e → (plan_by compact detach e random).whole (p ++ q) ≡ Ok texts → BothBegin ((plan_by compact detach e random).fixed p) texts
+written_begins laws compact detach keys e random p q texts key_octets random_octets octets long by h =
+    let front : List ℕ = ciphertext_fixed e random p in
+    let o = steps (encrypted e random (p ++ q)) (written_of compact detach) texts h in
+    let is = is_encrypted laws keys e random (p ++ q) o.0 key_octets random_octets octets long by o.1 in
+    let written = written_is compact detach o.0 texts o.2 in
+    let ciphertext : List ℕ = is.sealed.ciphertext in
+    let begins : Begins front ciphertext = subst (Begins front) (ap (λ (x : Sealed). x.ciphertext) is.same) (fixed_begins e random p q is.short) in
+    record {
+      text = text_fixed_begins compact detach e random front is.sealed o.0 texts.text is.aad is.octets is.has begins written.0;
+      content = subst (Begins (handed_out detach front)) (ap (handed_out detach) (sym is.has.ciphertext) ∙ written.1) (handed_out_begins detach front ciphertext begins);
+    }
+
+-- so the plan grows
+plan_grows : OctetLaws → (compact detach : Bool) (keys : List OctetKey) (e : Encryption) (random : List ℕ) → AreOctetKeys keys → IsOctets random → length random ≡ octets_drawn e
+    → Settles keys e → BothGrow (plan_by compact detach e random)
+plan_grows laws compact detach keys e random key_octets random_octets long by =
+    both_grow_by_beginnings (plan_by compact detach e random)
+    (λ p q. record { text = text_goes_on compact detach e random _ _ (more_fixed e random p q); content = handed_out_begins detach _ _ (more_fixed e random p q) })
+    (λ p q texts octets h. written_begins laws compact detach keys e random p q texts key_octets random_octets octets long by h)
+
+-- and so does each plan that a template and keys settle
 pub encrypting_grows : OctetLaws → EncryptingGrows
-encrypting_grows laws compact keys template random plan key_octets random_octets h =
-    let is = plan_is compact keys template random plan h in
+encrypting_grows laws compact detach keys template random plan key_octets random_octets h =
+    let is = plan_is compact detach keys template random plan h in
     let drawn : List ℕ = take (octets_drawn is.0) random in
-    subst Grows is.3 (plan_grows laws compact keys is.0 drawn key_octets (IsOctets-take (octets_drawn is.0) random random_octets) is.2 (settles compact keys template is.0 is.1))
+    subst BothGrow is.3 (plan_grows laws compact detach keys is.0 drawn key_octets (IsOctets-take (octets_drawn is.0) random random_octets) is.2 (settles compact keys template is.0 is.1))

@@ -1,11 +1,12 @@
 -- The signing that keys and a template settle, and the object that it makes of every payload.
-use Rattle.std.proofs.Common.{◌≡◌, ℕ, ◌&&◌, nat_le, Bool, true, List, length, map, Ok, refl, ap, ◌∙◌, subst}
+use Rattle.std.proofs.Common.{◌≡◌, ℕ, ◌&&◌, nat_le, Bool, true, List, length, map, Ok, refl, sym, ap, ◌∙◌, subst}
 use Rattle.std.proofs.lemmas.Bool.{and_parts, and_from}
 use Rattle.std.proofs.lemmas.List.{length-map}
 use Rattle.std.specs.List.{AllByRecursion, list_all}
 use Rattle.serde_json.specs.Data.{Members, object, depth}
 use Rattle.octets.specs.declared.refusal.Refusal.TheVariants.{KeyDoesNotFit, Limit, NotCompact}
 use Rattle.octets.specs.Outcomes.{needs}
+use Rattle.octets.specs.Plan.{OutputTexts}
 use Rattle.octets.proofs.Meanings.{meaning_of_text}
 use Rattle.keys.specs.Algorithms.{signature_name}
 use Rattle.keys.specs.Json.{json_value, member_numbers_are_whole}
@@ -17,11 +18,12 @@ use Rattle.keys.proofs.ValuesRead.{reads_json}
 use Rattle.objects.specs.Headers.{joint_header, string_there, has_no_crit}
 use Rattle.objects.specs.Jws as jws
 use Rattle.objects.specs.Jws.{SignatureParts, Signature, SignedObject, DecodedSignature, HeadedSignature, decoded_signature, headed_signature, is_plain, signatures_of, signed_object, built}
-use Rattle.objects.specs.Texts.{each, depth_of_each}
+use Rattle.objects.specs.Texts.{each, handed_out, depth_of_each}
 use Rattle.objects.proofs.EachRead.{all_passed, all_both}
+use Rattle.objects.proofs.SpellingJws.{is_built}
 use Rattle.objects.proofs.Steps.{steps, same_answer, passed}
 use Rattle.tokens.specs.Signatures.{signature_of}
-use Rattle.tokens.specs.Signing.{Signer, Signing, signer_by, may_sign, has_no_more, signing_with, signing_of, protected_by, signature_by, signed}
+use Rattle.tokens.specs.Signing.{Signer, Signing, signer_by, may_sign, has_no_more, signing_with, signing_of, protected_by, signature_by, parts_by, signed, text_of, written_of}
 use Rattle.tokens.specs.Template.{SignatureTemplate, template_of, header_text, is_shallow}
 use Rattle.tokens.proofs.HeaderTexts.{ReadsBack, read_back, shallow_enough}
 use Rattle.tokens.proofs.ReadLists.{each_gives, each_made, all_pass}
@@ -129,3 +131,26 @@ signed_is compact keys s payload is some few =
     let plain : list_all is_plain (map (headed_by s.header payload) s.signers) ≡ true =
     all_pass is_plain (headed_by s.header payload) (λ x h. and_from (has_no_crit x.protected) (has_no_crit s.header) h.settled.plain is.plain) s.signers is.signs in
     rw (shallow, whole, some_parts, few_parts, decoded, headed, made, plain) refl
+
+-- an object that signing makes has the payload
+pub payload_is : (s : Signing) (payload : List ℕ) (o : SignedObject) → signed s payload ≡ Ok o → o.payload ≡ payload
+unfolding signed signed_object
+payload_is s payload o h =
+    let is = is_built limits (parts_by s payload) o h in
+    let signatures = steps (signatures_of is.decoded) _ o is.made in
+    ap (λ (o : SignedObject). o.payload) (sym (same_answer _ o signatures.2))
+
+-- ---- what is written of it
+
+-- an object that has a text is written so
+pub is_written : (compact detach : Bool) (o : SignedObject) (text : List ℕ) → text_of compact detach o ≡ Ok text
+    → written_of compact detach o ≡ Ok (record { text = text; content = handed_out detach o.payload })
+is_written compact detach o text h = rw h refl
+
+-- what is written is the object's text, and its payload where it is detached
+pub written_is : (compact detach : Bool) (o : SignedObject) (texts : OutputTexts) → written_of compact detach o ≡ Ok texts
+    → (text_of compact detach o ≡ Ok texts.text) × (texts.content ≡ handed_out detach o.payload)
+written_is compact detach o texts h =
+    let text = steps (text_of compact detach o) (λ text. Ok (record { text = text; content = handed_out detach o.payload })) texts h in
+    let same = same_answer (record { text = text.0; content = handed_out detach o.payload }) texts text.2 in
+    (text.1 ∙ ap (λ (t : OutputTexts). Ok t.text) same, ap (λ (t : OutputTexts). t.content) (sym same))

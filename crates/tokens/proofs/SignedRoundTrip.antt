@@ -1,5 +1,5 @@
 -- What is signed verifies with each key alone that may verify.
-use Rattle.std.proofs.Common.{◌≡◌, ℕ, nat_le, Bool, true, false, List, [], ◌∷◌, ◌++◌, length, map, is_some, Ok, refl, sym, ap, ◌∙◌, None}
+use Rattle.std.proofs.Common.{◌≡◌, ℕ, nat_le, Bool, true, false, List, [], ◌∷◌, ◌++◌, length, map, is_some, Option, Ok, refl, sym, ap, ◌∙◌}
 use Rattle.std.proofs.lemmas.Bool.{and_parts, and_from, or_left}
 use Rattle.std.proofs.lemmas.List.{length-map}
 use Rattle.std.proofs.lemmas.Slice.Eq.{bytes_eq-Decides}
@@ -8,7 +8,7 @@ use Rattle.std.specs.Str.{bytes_eq}
 use Rattle.serde_json.specs.Data.{Members}
 use Rattle.octets.specs.Octets.{IsOctets}
 use Rattle.octets.specs.Outcomes.{◌>>=◌}
-use Rattle.octets.specs.Plan.{Plan}
+use Rattle.octets.specs.Plan.{OutputTexts, Plan}
 use Rattle.octets.proofs.Characters.{has_url_characters}
 use Rattle.prf.specs.Hmac.{hmac}
 use Rattle.prf.specs.Sha2Octets.{IsOctets-sha256, IsOctets-sha384, IsOctets-sha512}
@@ -22,16 +22,18 @@ use Rattle.keys.specs.Keys.{OctetKey, allows, fits}
 use Rattle.keys.specs.Limits.{limits}
 use Rattle.keys.proofs.UrlTexts.{url_texts_are_json}
 use Rattle.objects.specs.Jws.{SignatureParts, Signature, SignedObject, AreMembers, TextsSpellObjects, json_text, jws_compact_text, jws_of}
+use Rattle.objects.specs.Texts.{handed_in}
 use Rattle.objects.proofs.EachRead.{all_images}
 use Rattle.objects.proofs.SpellingJws.{is_built}
 use Rattle.objects.proofs.Steps.{steps, same_answer}
 use Rattle.tokens.specs.Signatures.{signature_of}
-use Rattle.tokens.specs.Signing.{Signer, Signing, signer_by, signing_of, protected_by, signature_by, parts_by, signed, text_of, plan_by, signing_by}
+use Rattle.tokens.specs.Signing.{Signer, Signing, signer_by, signing_of, protected_by, signature_by, parts_by, signed, text_of, written_of, plan_by, signing_by}
 use Rattle.tokens.specs.Template.{SignatureTemplate, header_text}
 use Rattle.tokens.specs.Verifying.{may_verify, verifies, are_verified, verified_payload, verifying_by, SignedVerifies}
 use Rattle.objects.proofs.TextOctets.{octets_of_utf8}
+use Rattle.tokens.proofs.Beginnings.{handed_back}
 use Rattle.tokens.proofs.ReadLists.{some_passes}
-use Rattle.tokens.proofs.SignedObjects.{Signs, IsSigning, is_signing, made_by, object_by, signed_is}
+use Rattle.tokens.proofs.SignedObjects.{Signs, IsSigning, is_signing, made_by, object_by, signed_is, written_is}
 use Rattle.tokens.proofs.SigningTemplates.{named_itself, key_is}
 
 -- ---- the object is what its text spells
@@ -57,23 +59,29 @@ are_members s payload octets json signs = record {
   signatures = all_images (λ (p : SignatureParts). IsOctets p.protected × (AreJsonMembers p.header × IsOctets p.signature)) (signature_by s.header payload) (signature_members s.header payload json) s.signers signs;
 }
 
--- so its text is read as the object that signing makes
-text_is_read : TextsSpellObjects → (compact : Bool) (keys : List OctetKey) (s : Signing) (payload text : List ℕ) → IsOctets payload → IsSigning compact keys s → (signed s payload >>= text_of compact false) ≡ Ok text
-    → jws_of limits None text ≡ Ok (object_by s payload)
+-- the object is read from its text in either form, where it is read from each
+form_is_read : (compact detach : Bool) (handed : Option (List ℕ)) (o : SignedObject) (text : List ℕ) → jws_of limits handed (json_text detach o) ≡ Ok o
+    → ((text : List ℕ) → jws_compact_text detach o ≡ Ok text → jws_of limits handed text ≡ Ok o) → text_of compact detach o ≡ Ok text → jws_of limits handed text ≡ Ok o
+form_is_read true detach handed o text json compact h = compact text h
+form_is_read false detach handed o text json compact h = ap (jws_of limits handed) (sym (same_answer (json_text detach o) text h)) ∙ json
+
+-- so what is written is read as the object that signing makes
+texts_are_read : TextsSpellObjects → (compact detach : Bool) (keys : List OctetKey) (s : Signing) (payload : List ℕ) (texts : OutputTexts) → IsOctets payload → IsSigning compact keys s
+    → (signed s payload >>= written_of compact detach) ≡ Ok texts → jws_of limits (handed_in detach texts.content) texts.text ≡ Ok (object_by s payload)
 unfolding signed
-text_is_read spells compact keys s payload text octets is h =
-    let o = steps (signed s payload) (text_of compact false) text h in
+texts_are_read spells compact detach keys s payload texts octets is h =
+    let o = steps (signed s payload) (written_of compact detach) texts h in
     let built = is_built limits (parts_by s payload) o.0 o.1 in
     let long : length (map (signature_by s.header payload) s.signers) ≡ length s.signers = length-map s.signers (signature_by s.header payload) in
     let some : nat_le 1 (length s.signers) ≡ true = ap (nat_le 1) (sym long) ∙ built.some in
     let few : nat_le (length s.signers) limits.recipients ≡ true = ap (λ n. nat_le n limits.recipients) (sym long) ∙ built.few in
-    let spelled = spells limits (parts_by s payload) o.0 (are_members s payload octets is.json is.signs) o.1 false in
-    by_form compact o.0 text spelled.0 spelled.1 o.2 ∙ sym o.1 ∙ signed_is compact keys s payload is some few
-  where
-    by_form : (compact : Bool) (o : SignedObject) (text : List ℕ) → jws_of limits None (json_text false o) ≡ Ok o → ((text : List ℕ) → jws_compact_text false o ≡ Ok text → jws_of limits None text ≡ Ok o)
-        → text_of compact false o ≡ Ok text → jws_of limits None text ≡ Ok o
-    by_form true o text json compact is = compact text is
-    by_form false o text json compact is = ap (jws_of limits None) (sym (same_answer (json_text false o) text is)) ∙ json
+    let spelled = spells limits (parts_by s payload) o.0 (are_members s payload octets is.json is.signs) o.1 detach in
+    let written = written_is compact detach o.0 texts o.2 in
+    let handed : handed_in detach texts.content ≡ handed_in detach o.0.payload = ap (handed_in detach) written.1 ∙ handed_back detach o.0.payload in
+    ap (λ content. jws_of limits content texts.text) handed
+    ∙ form_is_read compact detach (handed_in detach o.0.payload) o.0 texts.text spelled.0 spelled.1 written.0
+    ∙ sym o.1
+    ∙ signed_is compact keys s payload is some few
 
 -- ---- and the key verifies it
 
@@ -121,11 +129,12 @@ payload_verified compact all before key after s payload may is =
 
 pub signed_verifies : TextsSpellObjects → SignedVerifies
 unfolding signing_by
-signed_verifies spells compact all before key after template payload text octets may h =
+signed_verifies spells compact detach all before key after template payload texts octets may h =
     let keys : List OctetKey = before ++ key ∷ after in
-    let plan = steps (signing_by limits compact keys template) (λ plan. plan.whole payload) text h in
-    let s = steps (signing_of limits compact keys template) (λ s. Ok (plan_by compact s)) plan.0 plan.1 in
-    let whole : (signed s.0 payload >>= text_of compact false) ≡ Ok text = ap (λ (p : Plan (List ℕ)). p.whole payload) (same_answer (plan_by compact s.0) plan.0 s.2) ∙ plan.2 in
+    let plan = steps (signing_by limits compact detach keys template) (λ plan. plan.whole payload) texts h in
+    let s = steps (signing_of limits compact keys template) (λ s. Ok (plan_by compact detach s)) plan.0 plan.1 in
+    let whole : (signed s.0 payload >>= written_of compact detach) ≡ Ok texts =
+    ap (λ (p : Plan OutputTexts). p.whole payload) (same_answer (plan_by compact detach s.0) plan.0 s.2) ∙ plan.2 in
     let is = is_signing compact keys template s.0 s.1 in
-    ap (λ r. r >>= verifying_by all true (key ∷ [])) (text_is_read spells compact keys s.0 payload text octets is whole)
+    ap (λ r. r >>= verifying_by all true (key ∷ [])) (texts_are_read spells compact detach keys s.0 payload texts octets is whole)
     ∙ payload_verified compact all before key after s.0 payload may is

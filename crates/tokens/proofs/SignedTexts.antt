@@ -1,17 +1,17 @@
--- What keys and a template settle makes an object of every payload, and its text.
+-- What keys and a template settle makes an object of every payload, and its texts.
 use Rattle.std.proofs.Common.{◌≡◌, ℕ, suc, ◌≤◌, ◌&&◌, nat_le, Bool, true, false, not, List, [], ◌∷◌, length, map, Ok, refl, sym, ap, ◌∙◌, arith}
 use Rattle.std.proofs.lemmas.Bool.{and_parts, leb-true}
 use Rattle.serde_json.specs.Data.{Members, no_members, member}
 use Rattle.octets.specs.Outcomes.{◌>>=◌}
-use Rattle.octets.specs.Plan.{Plan}
+use Rattle.octets.specs.Plan.{OutputTexts, Plan}
 use Rattle.keys.specs.Limits.{limits}
 use Rattle.objects.specs.Jws.{is_compact, joined_first, json_text, jws_compact_text}
-use Rattle.objects.specs.Texts.{has_members}
+use Rattle.objects.specs.Texts.{handed_out, kept, has_members}
 use Rattle.objects.proofs.Each.{as_many}
 use Rattle.objects.proofs.Steps.{steps, same_answer}
-use Rattle.tokens.specs.Signing.{Signer, Signing, signer_by, has_no_more, signing_of, text_of, plan_by, signing_by, SigningMakesTexts}
+use Rattle.tokens.specs.Signing.{Signer, Signing, signer_by, has_no_more, signing_of, signed, text_of, written_of, plan_by, signing_by, SigningMakesTexts}
 use Rattle.tokens.specs.Template.{is_empty}
-use Rattle.tokens.proofs.SignedObjects.{is_signing, made_by, object_by, signed_is}
+use Rattle.tokens.proofs.SignedObjects.{is_signing, made_by, object_by, signed_is, is_written}
 
 -- where compact form can hold what is settled, it can hold the object
 no_members_there : (header : Members) → is_empty header ≡ true → not (has_members header) ≡ true
@@ -26,19 +26,23 @@ fits header payload (s ∷ (other ∷ rest)) alone some =
     absurd (omega arith)
 
 -- so the object has a text
-has_text : (compact : Bool) (s : Signing) (payload : List ℕ) → has_no_more compact s ≡ true → nat_le 1 (length s.signers) ≡ true → (text : List ℕ) × (text_of compact false (object_by s payload) ≡ Ok text)
+has_text : (compact detach : Bool) (s : Signing) (payload : List ℕ) → has_no_more compact s ≡ true → nat_le 1 (length s.signers) ≡ true
+    → (text : List ℕ) × (text_of compact detach (object_by s payload) ≡ Ok text)
 unfolding jws_compact_text
-has_text true s payload alone some = (joined_first payload (map (made_by s.header payload) s.signers), rw (fits s.header payload s.signers alone some) refl)
-has_text false s payload alone some = (json_text false (object_by s payload), refl)
+has_text true detach s payload alone some = (joined_first (kept detach payload) (map (made_by s.header payload) s.signers), rw (fits s.header payload s.signers alone some) refl)
+has_text false detach s payload alone some = (json_text detach (object_by s payload), refl)
 
 pub signing_makes_texts : SigningMakesTexts
 unfolding signing_by
-signing_makes_texts compact keys template payload plan some few h =
+signing_makes_texts compact detach keys template payload plan some few h =
     let s = steps (signing_of limits compact keys template) _ plan h in
     let is = is_signing compact keys template s.0 s.1 in
     let long : length s.0.signers ≡ length keys = as_many (signer_by is.template) keys s.0.signers is.by_keys in
     let some_signers : nat_le 1 (length s.0.signers) ≡ true = ap (nat_le 1) long ∙ some in
     let few_signers : nat_le (length s.0.signers) limits.recipients ≡ true = ap (λ n. nat_le n limits.recipients) long ∙ few in
     let made = signed_is compact keys s.0 payload is some_signers few_signers in
-    let text = has_text compact s.0 payload is.alone some_signers in
-    (text.0, ap (λ (p : Plan (List ℕ)). p.whole payload) (sym (same_answer (plan_by compact s.0) plan s.2)) ∙ ap (λ r. r >>= text_of compact false) made ∙ text.1)
+    let text = has_text compact detach s.0 payload is.alone some_signers in
+    let planned : plan.whole payload ≡ (signed s.0 payload >>= written_of compact detach) =
+    ap (λ (p : Plan OutputTexts). p.whole payload) (sym (same_answer (plan_by compact detach s.0) plan s.2)) in
+    let written = is_written compact detach (object_by s.0 payload) text.0 text.1 in
+    (record { text = text.0; content = handed_out detach payload }, planned ∙ ap (λ r. r >>= written_of compact detach) made ∙ written)

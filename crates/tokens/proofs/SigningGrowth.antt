@@ -6,17 +6,18 @@ use Rattle.octets.specs.declared.refusal.Refusal.TheVariants.{NotCompact}
 use Rattle.octets.specs.Base64url.{base64url, whole_groups, is_url_character}
 use Rattle.octets.specs.Octets.{IsOctets}
 use Rattle.octets.specs.Outcomes.{needs}
-use Rattle.octets.specs.Plan.{Begins}
+use Rattle.octets.specs.Plan.{OutputTexts, Begins}
 use Rattle.octets.proofs.Characters.{has_url_characters}
 use Rattle.keys.specs.Limits.{limits}
 use Rattle.objects.specs.Jws.{Signature, SignedObject, JwsTexts, SignatureTexts, put_signature, json_text, is_compact, joined_first, jws_compact_text}
-use Rattle.objects.specs.Texts.{objects_of, put_text, put_header}
+use Rattle.objects.specs.Texts.{objects_of, handed_out, put_text, put_header}
 use Rattle.objects.proofs.Characters.{IsUrlText}
 use Rattle.objects.proofs.EachRead.{all_passed}
 use Rattle.objects.proofs.SpellingJws.{spelled, parts_spelled, is_built, object_keeps}
 use Rattle.objects.proofs.Steps.{steps, same_answer, passed}
-use Rattle.tokens.specs.Signing.{Signer, Signing, parts_by, signed, text_of, header_member, text_before, SigningGrows}
-use Rattle.tokens.proofs.Beginnings.{begins_behind, begins_all, groups_grow, text_grows, named_text, member_text}
+use Rattle.tokens.specs.Signing.{Signer, Signing, parts_by, signed, text_of, header_member, text_before, written_of, text_fixed, plan_by, SigningGrows}
+use Rattle.tokens.proofs.Beginnings.{begins_behind, begins_all, groups_grow, text_grows, named_text, member_text, handed_out_begins, BothBegin, both_grow_by_beginnings}
+use Rattle.tokens.proofs.SignedObjects.{payload_is, written_is}
 
 -- ---- the compact text
 
@@ -124,15 +125,38 @@ text_begins compact s payload text o octets made h =
     let url : IsUrlText (base64url o.payload) = subst IsUrlText (sym (ap (λ (t : JwsTexts). t.payload) kept)) (has_url_characters payload octets) in
     subst (λ front. Begins front text) (ap (beginning compact) kept ∙ settled compact s.header s.signers payload) (object_begins compact o text url h)
 
--- the plan of every signing goes on as its payload does
-pub signing_grows : SigningGrows
-signing_grows compact s =
+-- what is fixed of the text goes on
+text_goes_on : (compact detach : Bool) (s : Signing) (p q : List ℕ) → Begins (text_fixed compact detach s p) (text_fixed compact detach s (p ++ q))
+text_goes_on compact true s p q = record { rest = []; continues = refl }
+text_goes_on compact false s p q = begins_behind (text_before compact s.header s.signers) _ _ (groups_grow p (p ++ q) (record { rest = q; continues = refl }))
+
+-- and begins the whole text
+fixed_begins : (compact detach : Bool) (s : Signing) (p q text : List ℕ) (o : SignedObject) → IsOctets (p ++ q) → signed s (p ++ q) ≡ Ok o → text_of compact detach o ≡ Ok text
+    → Begins (text_fixed compact detach s p) text
+fixed_begins compact true s p q text o octets made h = record { rest = text; continues = refl }
+fixed_begins compact false s p q text o octets made h =
     let front : List ℕ = text_before compact s.header s.signers in
-    record {
-      more = λ p q. begins_behind front _ _ (groups_grow p (p ++ q) (record { rest = q; continues = refl }));
-      whole = λ p q text octets h.
-          let o = steps (signed s (p ++ q)) (text_of compact false) text h in
-          begins_all (front ++ base64url (whole_groups p)) (front ++ base64url (p ++ q)) text
-          (begins_behind front _ _ (text_grows p (p ++ q) (record { rest = q; continues = refl })))
-          (text_begins compact s (p ++ q) text o.0 octets o.1 o.2);
-    }
+    begins_all (front ++ base64url (whole_groups p)) (front ++ base64url (p ++ q)) text
+    (begins_behind front _ _ (text_grows p (p ++ q) (record { rest = q; continues = refl })))
+    (text_begins compact s (p ++ q) text o octets made h)
+
+-- what a beginning of the payload fixes goes on with the payload
+both_go_on : (compact detach : Bool) (s : Signing) (p q : List ℕ) → BothBegin ((plan_by compact detach s).fixed p) ((plan_by compact detach s).fixed (p ++ q))
+both_go_on compact detach s p q = record {
+  text = text_goes_on compact detach s p q;
+  content = handed_out_begins detach p (p ++ q) (record { rest = q; continues = refl });
+}
+
+-- and begins all that is written
+both_begin_all : (compact detach : Bool) (s : Signing) (p q : List ℕ) (texts : OutputTexts) → IsOctets (p ++ q) → (plan_by compact detach s).whole (p ++ q) ≡ Ok texts
+    → BothBegin ((plan_by compact detach s).fixed p) texts
+both_begin_all compact detach s p q texts octets h =
+    let o = steps (signed s (p ++ q)) (written_of compact detach) texts h in
+    let written = written_is compact detach o.0 texts o.2 in
+    let payload : Begins p o.0.payload = record { rest = q; continues = payload_is s (p ++ q) o.0 o.1 } in
+    let content : Begins (handed_out detach p) texts.content = subst (Begins (handed_out detach p)) (sym written.1) (handed_out_begins detach p o.0.payload payload) in
+    record { text = fixed_begins compact detach s p q texts.text o.0 octets o.1 written.0; content = content }
+
+-- so the plan of every signing goes on as its payload does
+pub signing_grows : SigningGrows
+signing_grows compact detach s = both_grow_by_beginnings (plan_by compact detach s) (both_go_on compact detach s) (both_begin_all compact detach s)

@@ -8,7 +8,7 @@ use Rattle.octets.specs.declared.refusal.Refusal.TheVariants.{Limit}
 use Rattle.octets.specs.Outcomes.{◌>>=◌, needs}
 use Rattle.octets.specs.Base64url.{base64url, whole_groups}
 use Rattle.octets.specs.Octets.{IsOctets}
-use Rattle.octets.specs.Plan.{Plan, Grows, Draft, planned, plan_from}
+use Rattle.octets.specs.Plan.{OutputTexts, Plan, BothGrow, Draft, planned, plan_from}
 use Rattle.ciphers.specs.Delivery.{encrypted_key_of}
 use Rattle.ciphers.specs.Openings.{is_longer}
 use Rattle.ciphers.specs.Sealing.{Sealed, Sealing, sealing, cek_len, iv_len}
@@ -17,6 +17,7 @@ use Rattle.keys.specs.Algorithms.{management_name, is_password_based, management
 use Rattle.keys.specs.Keys.{OctetKey, allows}
 use Rattle.keys.specs.Limits.{Limits, limits}
 use Rattle.objects.specs.Jwe.{RecipientParts, JweParts, EncryptedObject, built, json_text, jwe_compact_text, jwe_of}
+use Rattle.objects.specs.Texts.{handed_in, handed_out}
 use Rattle.tokens.specs.Algorithms.{content_alg, key_alg}
 use Rattle.tokens.specs.Choosing.{Receiver, is_direct, is_alone, with_name, with_p2c, Given, Encryption, encryption_of}
 use Rattle.tokens.specs.Decrypting.{authenticated, all_pairs, sealed_content, opened_by, decrypted}
@@ -164,34 +165,50 @@ abbrev pub within_longest : Option ℕ → List ℕ → List ℕ
 within_longest None front = front
 within_longest (Some most) front = take most front
 
--- the text of the object; a beginning of the plaintext fixes the text before the ciphertext, and whole groups of what it fixes of this
-abbrev pub plan_by : Bool → Encryption → List ℕ → Plan (List ℕ)
-plan_by compact e random = record {
-  whole = λ plaintext. encrypted e random plaintext >>= text_of compact false;
-  fixed = λ front. text_before compact e random ++ base64url (whole_groups ((sealing_by e random).fixed (within_longest (sealing_by e random).longest front)));
+-- what is written of the object: its text, and the ciphertext beside it where it is detached
+abbrev pub written_of : Bool → Bool → EncryptedObject → Result OutputTexts Refusal
+written_of compact detach o = do
+  text ← text_of compact detach o
+  Ok (record { text = text; content = handed_out detach o.ciphertext })
+
+-- what a beginning of the plaintext fixes of the ciphertext
+abbrev pub ciphertext_fixed : Encryption → List ℕ → List ℕ → List ℕ
+ciphertext_fixed e random front = (sealing_by e random).fixed (within_longest (sealing_by e random).longest front)
+
+-- It fixes the text before the ciphertext, and whole groups of what it fixes of this; where it is detached, nothing of the text is
+-- written before its end.
+abbrev pub text_fixed : Bool → Bool → Encryption → List ℕ → List ℕ → List ℕ
+text_fixed compact true e random ciphertext = []
+text_fixed compact false e random ciphertext = text_before compact e random ++ base64url (whole_groups ciphertext)
+
+-- what is written by the plaintext
+abbrev pub plan_by : Bool → Bool → Encryption → List ℕ → Plan OutputTexts
+plan_by compact detach e random = record {
+  whole = λ plaintext. encrypted e random plaintext >>= written_of compact detach;
+  fixed = λ front. record { text = text_fixed compact detach e random (ciphertext_fixed e random front); content = handed_out detach (ciphertext_fixed e random front) };
 }
 
 -- what keys and a template's text settle, or the first refusal
-unfoldable pub encrypting_by : Limits → Bool → List OctetKey → List ℕ → Result (Draft (List ℕ)) Refusal
-encrypting_by limits compact keys text = do
+unfoldable pub encrypting_by : Limits → Bool → Bool → List OctetKey → List ℕ → Result (Draft OutputTexts) Refusal
+encrypting_by limits compact detach keys text = do
   e ← encryption_of limits compact keys text
-  Ok (record { drawn = octets_drawn e; plan = plan_by compact e })
+  Ok (record { drawn = octets_drawn e; plan = plan_by compact detach e })
 
 -- ---- what it fixes, and what it makes
 
 abbrev pub AreOctetKeys : List OctetKey → Type 0
 AreOctetKeys keys = AllByRecursion (λ key. IsOctets key.octets) keys
 
--- What a beginning of the plaintext fixes of the text goes on as more is read, and begins the whole text.
+-- What a beginning of the plaintext fixes of both texts goes on as more is read, and begins the whole texts.
 abbrev pub EncryptingGrows : Type 0
-EncryptingGrows = (compact : Bool) (keys : List OctetKey) (template random : List ℕ) (plan : Plan (List ℕ)) → AreOctetKeys keys → IsOctets random
-    → plan_from (encrypting_by limits compact keys template) random ≡ Ok plan → Grows plan
+EncryptingGrows = (compact detach : Bool) (keys : List OctetKey) (template random : List ℕ) (plan : Plan OutputTexts) → AreOctetKeys keys → IsOctets random
+    → plan_from (encrypting_by limits compact detach keys template) random ≡ Ok plan → BothGrow plan
 
--- What keys and a template settle makes an object of every plaintext that is not too long, and its text: no refusal comes after the
+-- What keys and a template settle makes an object of every plaintext that is not too long, and its texts: no refusal comes after the
 -- random octets but Limit.
 abbrev pub EncryptingMakesTexts : Type 0
-EncryptingMakesTexts = (compact : Bool) (keys : List OctetKey) (template random plaintext : List ℕ) (plan : Plan (List ℕ)) → nat_le (length keys) limits.recipients ≡ true
-    → IsOctets random → plan_from (encrypting_by limits compact keys template) random ≡ Ok plan → IfErr (plan.whole plaintext) (λ refusal. refusal ≡ Limit)
+EncryptingMakesTexts = (compact detach : Bool) (keys : List OctetKey) (template random plaintext : List ℕ) (plan : Plan OutputTexts) → nat_le (length keys) limits.recipients ≡ true
+    → IsOctets random → plan_from (encrypting_by limits compact detach keys template) random ≡ Ok plan → IfErr (plan.whole plaintext) (λ refusal. refusal ≡ Limit)
 
 -- ---- what is encrypted is decrypted
 
@@ -206,10 +223,10 @@ abbrev pub OpensNoOther : ℕ → OctetKey → EncryptedObject → List ℕ → 
 OpensNoOther n key o plaintext =
     AllByRecursion (λ pair. (other : List ℕ) → opened_by (sealed_content o) pair ≡ Some other → other ≡ plaintext) (all_pairs (key ∷ []) (take n o.recipients))
 
--- Where a plaintext is encrypted to keys, the text is that of an object, which each of the keys, alone, decrypts to the plaintext,
+-- Where a plaintext is encrypted to keys, what is written is an object, which each of the keys, alone, decrypts to the plaintext,
 -- where it may decrypt and opens nothing else at the recipient of a key before it.
 abbrev pub EncryptedDecrypts : Type 0
-EncryptedDecrypts = (compact : Bool) (before after : List OctetKey) (key : OctetKey) (template random plaintext text : List ℕ)
+EncryptedDecrypts = (compact detach : Bool) (before after : List OctetKey) (key : OctetKey) (template random plaintext : List ℕ) (texts : OutputTexts)
     → AreOctetKeys (before ++ key ∷ after) → IsOctets random → IsOctets plaintext → MayDecrypt compact (before ++ key ∷ after) key template
-    → planned (plan_from (encrypting_by limits compact (before ++ key ∷ after) template) random) plaintext ≡ Ok text
-    → (o : EncryptedObject) × ((jwe_of limits None text ≡ Ok o) × (OpensNoOther (length before) key o plaintext → decrypted limits (key ∷ []) o ≡ Ok plaintext))
+    → planned (plan_from (encrypting_by limits compact detach (before ++ key ∷ after) template) random) plaintext ≡ Ok texts
+    → (o : EncryptedObject) × ((jwe_of limits (handed_in detach texts.content) texts.text ≡ Ok o) × (OpensNoOther (length before) key o plaintext → decrypted limits (key ∷ []) o ≡ Ok plaintext))

@@ -8,7 +8,7 @@ use Rattle.octets.specs.declared.refusal.Refusal.{Refusal}
 use Rattle.octets.specs.declared.refusal.Refusal.TheVariants.{NoAlgorithm, KeyDoesNotFit, Limit, NotCompact}
 use Rattle.octets.specs.Outcomes.{◌>>=◌, needs}
 use Rattle.octets.specs.Base64url.{base64url, whole_groups}
-use Rattle.octets.specs.Plan.{Plan, Grows}
+use Rattle.octets.specs.Plan.{OutputTexts, Plan, BothGrow}
 use Rattle.keys.specs.declared.algorithm.Algorithm.TheVariants.{Signature}
 use Rattle.keys.specs.declared.algorithm.SignatureAlg.{SignatureAlg}
 use Rattle.keys.specs.declared.algorithm.SignatureAlg.TheVariants.{Hs256, Hs384, Hs512}
@@ -18,7 +18,7 @@ use Rattle.keys.specs.Json.{json_value}
 use Rattle.keys.specs.Limits.{Limits, limits}
 use Rattle.keys.specs.Keys.{OctetKey, allows, fits}
 use Rattle.objects.specs.Jws.{SignatureParts, JwsParts, SignedObject, built, json_text, jws_compact_text}
-use Rattle.objects.specs.Texts.{each}
+use Rattle.objects.specs.Texts.{each, handed_out}
 use Rattle.tokens.specs.Template.{SignatureTemplate, template_of, with_alg, header_text, is_shallow, is_empty}
 use Rattle.tokens.specs.Signatures.{signature_of}
 
@@ -123,24 +123,36 @@ text_before true header (s ∷ rest) = protected_by s ++ codes "."
 text_before false header (s ∷ []) = codes "{" ++ header_member header ++ codes "\"payload\":\""
 text_before false header (s ∷ (other ∷ rest)) = codes "{\"payload\":\""
 
--- the text of the object; the whole groups of a beginning of the payload fix the text before it and their own
-abbrev pub plan_by : Bool → Signing → Plan (List ℕ)
-plan_by compact s = record {
-  whole = λ payload. signed s payload >>= text_of compact false;
-  fixed = λ front. text_before compact s.header s.signers ++ base64url (whole_groups front);
+-- what is written of the object: its text, and the payload beside it where it is detached
+abbrev pub written_of : Bool → Bool → SignedObject → Result OutputTexts Refusal
+written_of compact detach o = do
+  text ← text_of compact detach o
+  Ok (record { text = text; content = handed_out detach o.payload })
+
+-- The whole groups of a beginning of the payload fix the text before it and their own; where it is detached, nothing of the text
+-- is written before its end.
+abbrev pub text_fixed : Bool → Bool → Signing → List ℕ → List ℕ
+text_fixed compact true s front = []
+text_fixed compact false s front = text_before compact s.header s.signers ++ base64url (whole_groups front)
+
+-- what is written by the payload
+abbrev pub plan_by : Bool → Bool → Signing → Plan OutputTexts
+plan_by compact detach s = record {
+  whole = λ payload. signed s payload >>= written_of compact detach;
+  fixed = λ front. record { text = text_fixed compact detach s front; content = handed_out detach front };
 }
 
 -- that of the signers of keys and a template's text, or the first refusal
-unfoldable pub signing_by : Limits → Bool → List OctetKey → List ℕ → Result (Plan (List ℕ)) Refusal
-signing_by limits compact keys template = do
+unfoldable pub signing_by : Limits → Bool → Bool → List OctetKey → List ℕ → Result (Plan OutputTexts) Refusal
+signing_by limits compact detach keys template = do
   s ← signing_of limits compact keys template
-  Ok (plan_by compact s)
+  Ok (plan_by compact detach s)
 
 -- the plan of every signing goes on as its payload does
 abbrev pub SigningGrows : Type 0
-SigningGrows = (compact : Bool) (s : Signing) → Grows (plan_by compact s)
+SigningGrows = (compact detach : Bool) (s : Signing) → BothGrow (plan_by compact detach s)
 
--- What keys and a template settle makes an object of every payload, and its text.
+-- What keys and a template settle makes an object of every payload, and its texts.
 abbrev pub SigningMakesTexts : Type 0
-SigningMakesTexts = (compact : Bool) (keys : List OctetKey) (template payload : List ℕ) (plan : Plan (List ℕ)) → nat_le 1 (length keys) ≡ true → nat_le (length keys) limits.recipients ≡ true
-    → signing_by limits compact keys template ≡ Ok plan → (text : List ℕ) × (plan.whole payload ≡ Ok text)
+SigningMakesTexts = (compact detach : Bool) (keys : List OctetKey) (template payload : List ℕ) (plan : Plan OutputTexts) → nat_le 1 (length keys) ≡ true → nat_le (length keys) limits.recipients ≡ true
+    → signing_by limits compact detach keys template ≡ Ok plan → (texts : OutputTexts) × (plan.whole payload ≡ Ok texts)

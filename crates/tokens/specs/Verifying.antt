@@ -6,7 +6,7 @@ use Rattle.octets.specs.declared.refusal.Refusal.{Refusal}
 use Rattle.octets.specs.declared.refusal.Refusal.TheVariants.{Unsupported, KeyDoesNotFit, NotOpened}
 use Rattle.octets.specs.Outcomes.{◌>>=◌, needs}
 use Rattle.octets.specs.Octets.{IsOctets}
-use Rattle.octets.specs.Plan.{planned}
+use Rattle.octets.specs.Plan.{OutputTexts, planned}
 use Rattle.keys.specs.declared.algorithm.Algorithm.TheVariants.{Signature as SignedWith}
 use Rattle.keys.specs.declared.algorithm.SignatureAlg.{SignatureAlg}
 use Rattle.keys.specs.declared.operation.Operation.TheVariants.{Verify}
@@ -14,6 +14,7 @@ use Rattle.keys.specs.Algorithms.{signature_alg_of}
 use Rattle.keys.specs.Limits.{limits}
 use Rattle.keys.specs.Keys.{OctetKey, allows, fits}
 use Rattle.objects.specs.Jws.{Signature, SignedObject, jws_of}
+use Rattle.objects.specs.Texts.{handed_in}
 use Rattle.tokens.specs.Signatures.{signature_of}
 use Rattle.tokens.specs.Signing.{signing_by}
 
@@ -68,6 +69,6 @@ verifying_by all wanted keys o = do
 
 -- Where keys sign as the template asks, and one of them may verify, what is written verifies with this one alone, and gives the payload.
 abbrev pub SignedVerifies : Type 0
-SignedVerifies = (compact all : Bool) (before : List OctetKey) (key : OctetKey) (after : List OctetKey) (template payload text : List ℕ) → IsOctets payload → allows key Verify ≡ true
-    → planned (signing_by limits compact (before ++ key ∷ after) template) payload ≡ Ok text
-    → (jws_of limits None text >>= verifying_by all true (key ∷ [])) ≡ Ok payload
+SignedVerifies = (compact detach all : Bool) (before : List OctetKey) (key : OctetKey) (after : List OctetKey) (template payload : List ℕ) (texts : OutputTexts) → IsOctets payload → allows key Verify ≡ true
+    → planned (signing_by limits compact detach (before ++ key ∷ after) template) payload ≡ Ok texts
+    → (jws_of limits (handed_in detach texts.content) texts.text >>= verifying_by all true (key ∷ [])) ≡ Ok payload

@@ -1,11 +1,12 @@
 //! Encrypting to each key of a set (RFC 7516 section 5.1), in compact or in JSON form.
-ghost use Rattle.std.specs.Prelude.{◌≡◌, ◌≢◌, ◌≤◌, ◌<◌, ◌*◌, ◌||◌, ℕ, true, false, not, nat_le, List, [], ◌∷◌, length, map, Err, option_map, IfOk, IfErr, OnOk, OnErr, IsTrue, string_bytes};
+ghost use Rattle.std.specs.Prelude.{◌≡◌, ◌≢◌, ◌≤◌, ◌<◌, ◌*◌, ◌||◌, ℕ, true, false, not, nat_le, List, [], ◌∷◌, length, map, is_some, Err, option_map, IfOk, IfErr, OnOk, OnErr, IsTrue, string_bytes};
 ghost use Rattle.std.specs.Iterator.{IsFinite};
 ghost use Rattle.std.specs.List.{AllByRecursion};
 ghost use Rattle.std.specs.Option.{unwrap_or};
 ghost use Rattle.octets.specs.Devices.{appended, observed, IsPossibleInput, AppendsPrefixOf};
 ghost use Rattle.octets.specs.Faults.{TellsFaults, counts};
-ghost use Rattle.octets.specs.Outcomes.{AgreesUnlessMemory, AgreesUnlessExternal};
+ghost use Rattle.octets.specs.Lent.{lent, wrote_on, IfLent, counts_of};
+ghost use Rattle.octets.specs.Outcomes.{AgreesUnlessMemory, AgreesUnlessExternal, GivesUnlessExternal};
 ghost use Rattle.octets.specs.Plan.{begun, planned, plan_from, drawn_of};
 ghost use Rattle.octets.specs.declared.refusal.Refusal.{Refusal};
 ghost use Rattle.serde_json.specs.View.{members_view};
@@ -16,6 +17,7 @@ ghost use Rattle.keys.specs.Algorithms.{is_password_based};
 ghost use Rattle.keys.specs.Keys.{fits};
 ghost use Rattle.keys.specs.Limits.{limits};
 ghost use Rattle.keys.specs.Views.{key_view};
+ghost use Rattle.objects.specs.Texts.{handed_out};
 ghost use Rattle.objects.specs.Views.{jwe_view, recipient_parts_view};
 ghost use Rattle.tokens.specs.Algorithms.{content_alg as content_alg_of};
 ghost use Rattle.tokens.specs.Choosing.{with_p2c};
@@ -45,7 +47,8 @@ const MOST_DRAWN: usize = MOST_KEYS * SALT_LEN + 80;
 
 /// Encrypts all that the content gives to each key in order (RFC 7516 section 5.1), as the template asks, and writes the
 /// object's text: its compact text (RFC 7516 section 7.1) where that is asked for, or else its JSON text, flattened where there
-/// is one key (RFC 7516 section 7.2).
+/// is one key (RFC 7516 section 7.2). Where there is an output for it the ciphertext is detached: the text is without it, and
+/// it is written there as it is, before the text.
 ///
 /// The template is a JSON object with no member but `protected` and `unprotected`, each an object, and `aad`, a base64url
 /// text. The algorithm of key management is the one of the headers' `alg`; or else the one of the key's `alg`, where a
@@ -69,7 +72,7 @@ const MOST_DRAWN: usize = MOST_KEYS * SALT_LEN + 80;
 /// no whole number; `Limit` where a header nests more than 64 deep, the `p2c` of a password is not from 1,000 to 1,000,000, or
 /// those of all passwords are more than 4,000,000; `NotCompact` where a compact text is asked for, and there are several keys
 /// or the template gives more than a protected header; then with `Read` where the random input fails, and `Random` where it
-/// ends too early; then with `Read` where the content fails, and `Limit` where it is too long; and with `Write` where the
+/// ends too early; then with `Read` where the content fails, and `Limit` where it is too long; and with `Write` where an
 /// output fails.
 #[tactic(auto, unfolding(crate::specs::Encrypting::encrypting_by))]
 pub fn jwe_encrypt<I: Input, O: Output>(
@@ -80,41 +83,85 @@ pub fn jwe_encrypt<I: Input, O: Output>(
     random: &mut I,
     content: &mut I,
     out: &mut O,
+    detached: Option<&mut O>,
 ) -> Result<(), Refusal>
     requires { IsFinite (I.remaining content.old) }
     ensures answer { (octets plaintext : List ℕ)
         → IsPossibleInput (observed I.consumed I.is_at_end random.old random.new) octets
         → IsPossibleInput (observed I.consumed I.is_at_end content.old content.new) plaintext
-        → AgreesUnlessExternal (planned (plan_from (encrypting_by limits compact keys.now template.now) octets) plaintext)
-        (appended (O.written out.old) (O.written out.new)) result }
+        → AgreesUnlessExternal (planned (plan_from (encrypting_by limits compact (is_some detached.entry) keys.now template.now) octets) plaintext)
+        (record { text = appended (O.written out.old) (O.written out.new); content = wrote_on O.written (lent detached.entry detached.exit) }) result }
 
     // Exactly the octets of the salts, the key and the vector are read of the random input, and no more before a refusal.
     ensures drawn { OnOk result (length (appended (I.consumed random.old) (I.consumed random.new))
-        ≡ drawn_of (encrypting_by limits compact keys.now template.now)) }
+        ≡ drawn_of (encrypting_by limits compact (is_some detached.entry) keys.now template.now)) }
     ensures at_most { length (appended (I.consumed random.old) (I.consumed random.new))
-        ≤ drawn_of (encrypting_by limits compact keys.now template.now) }
+        ≤ drawn_of (encrypting_by limits compact (is_some detached.entry) keys.now template.now) }
     ensures beginning { OnErr result (AppendsPrefixOf
-        (begun (plan_from (encrypting_by limits compact keys.now template.now) (appended (I.consumed random.old) (I.consumed random.new)))
-        (observed I.consumed I.is_at_end content.old content.new)) (O.written out.old) (O.written out.new)) }
-    ensures finished { OnOk result (IsTrue (O.is_finished out.new)) }
+        (begun (plan_from (encrypting_by limits compact (is_some detached.entry) keys.now template.now) (appended (I.consumed random.old) (I.consumed random.new)))
+        (observed I.consumed I.is_at_end content.old content.new)).text (O.written out.old) (O.written out.new)) }
+    ensures beginning_beside { OnErr result (IfLent (lent detached.entry detached.exit) (λ old new. AppendsPrefixOf
+        (begun (plan_from (encrypting_by limits compact (is_some detached.entry) keys.now template.now) (appended (I.consumed random.old) (I.consumed random.new)))
+        (observed I.consumed I.is_at_end content.old content.new)).content (O.written old) (O.written new))) }
+    ensures finished { OnOk result (IsTrue (O.is_finished out.new) × IfLent (lent detached.entry detached.exit) (λ old new. IsTrue (O.is_finished new))) }
 
     // What the template and the keys refuse is refused before anything is drawn, and the content is touched once all is drawn.
-    ensures content_last { (refusal : Refusal) → encrypting_by limits compact keys.now template.now ≡ Err refusal
+    ensures content_last { (refusal : Refusal) → encrypting_by limits compact (is_some detached.entry) keys.now template.now ≡ Err refusal
         → (random.new ≡ random.old) × (content.new ≡ content.old) }
     ensures random_first { length (appended (I.consumed random.old) (I.consumed random.new))
-        < drawn_of (encrypting_by limits compact keys.now template.now) → content.new ≡ content.old }
-    ensures uncut { IfErr result (λ refusal. refusal ≢ Refusal.Write
-        → O.written out.new ≡ O.written out.old → out.new ≡ out.old) }
+        < drawn_of (encrypting_by limits compact (is_some detached.entry) keys.now template.now) → content.new ≡ content.old }
+    ensures uncut { IfErr result (λ refusal. refusal ≢ Refusal.Write → (O.written out.new ≡ O.written out.old → out.new ≡ out.old)
+        × IfLent (lent detached.entry detached.exit) (λ old new. O.written new ≡ O.written old → new ≡ old)) }
     ensures faults { TellsFaults (counts I.failures random.old random.new ∷ counts I.failures content.old content.new ∷ [])
-        (counts O.failures out.old out.new ∷ []) result }
+        (counts O.failures out.old out.new ∷ counts_of O.failures (lent detached.entry detached.exit)) result }
+{
+    match detached {
+        None => {
+            let (_, text) = encrypt(alloc, keys, template, compact, false, random, content)?;
+            emit(out, text.as_bytes())
+        }
+        Some(detached) => {
+            let (jwe, text) = encrypt(alloc, keys, template, compact, true, random, content)?;
+            emit(detached, jwe.ciphertext())?;
+            emit(out, text.as_bytes())
+        }
+    }
+}
+
+/// The object of all that the content gives, and its text, with the ciphertext or without.
+#[tactic(auto, unfolding(crate::specs::Encrypting::encrypting_by))]
+fn encrypt<I: Input>(
+    alloc: Global,
+    keys: &KeySet,
+    template: &[u8],
+    compact: bool,
+    detach: bool,
+    random: &mut I,
+    content: &mut I,
+) -> Result<(Jwe, String), Refusal>
+    requires { IsFinite (I.remaining content.old) }
+    ensures answer { (octets plaintext : List ℕ)
+        → IsPossibleInput (observed I.consumed I.is_at_end random.old random.new) octets
+        → IsPossibleInput (observed I.consumed I.is_at_end content.old content.new) plaintext
+        → GivesUnlessExternal (λ made. record { text = string_bytes made.1; content = handed_out detach (jwe_view made.0).ciphertext }) result
+        (planned (plan_from (encrypting_by limits compact detach keys.now template.now) octets) plaintext) }
+    ensures drawn { OnOk result (length (appended (I.consumed random.old) (I.consumed random.new))
+        ≡ drawn_of (encrypting_by limits compact detach keys.now template.now)) }
+    ensures at_most { length (appended (I.consumed random.old) (I.consumed random.new))
+        ≤ drawn_of (encrypting_by limits compact detach keys.now template.now) }
+    ensures ends { OnOk result (IsTrue (I.is_at_end content.new)) }
+    ensures content_last { (refusal : Refusal) → encrypting_by limits compact detach keys.now template.now ≡ Err refusal
+        → (random.new ≡ random.old) × (content.new ≡ content.old) }
+    ensures random_first { length (appended (I.consumed random.old) (I.consumed random.new))
+        < drawn_of (encrypting_by limits compact detach keys.now template.now) → content.new ≡ content.old }
+    ensures faults { TellsFaults (counts I.failures random.old random.new ∷ counts I.failures content.old content.new ∷ []) [] result }
 {
     let encryption = read_encryption(alloc, keys, template, compact)?;
     let mut buf = [0; MOST_DRAWN];
     let drawn = &mut buf[..octets_drawn(&encryption)];
     draw(random, drawn)?;
     let plaintext = read_to_end(alloc, content)?;
-    let text = encrypted_text(alloc, encryption, drawn, &plaintext, compact)?;
-    emit(out, text.as_bytes())
+    encrypted_text(alloc, encryption, drawn, &plaintext, compact, detach)
 }
 
 /// How many octets are drawn.
@@ -174,23 +221,26 @@ fn direct_key<'k>(receivers: &[Receiver<'k>]) -> Option<&'k [u8]>
     }
 }
 
-/// The text of the object of the plaintext, by what was drawn. Refused with `Limit` where the plaintext is too long.
+/// The object of the plaintext, by what was drawn, and its text. Refused with `Limit` where the plaintext is too long.
 fn encrypted_text(
     alloc: Global,
     encryption: Encryption<'_>,
     random: &[u8],
     plaintext: &[u8],
     compact: bool,
-) -> Result<String, Refusal>
+    detach: bool,
+) -> Result<(Jwe, String), Refusal>
     requires { length random.now ≡ octets_drawn (encryption_view encryption) }
-    ensures { AgreesUnlessMemory string_bytes result ((plan_by compact (encryption_view encryption.entry) random.now).whole plaintext.now) }
+    ensures { AgreesUnlessMemory (λ made. record { text = string_bytes made.1; content = handed_out detach (jwe_view made.0).ciphertext }) result
+        ((plan_by compact detach (encryption_view encryption.entry) random.now).whole plaintext.now) }
 {
     let jwe = encrypted(alloc, encryption, random, plaintext)?;
-    if compact {
-        jwe.to_compact(alloc, false)
+    let text = if compact {
+        jwe.to_compact(alloc, detach)?
     } else {
-        jwe.to_json(alloc, false)
-    }
+        jwe.to_json(alloc, detach)?
+    };
+    Ok((jwe, text))
 }
 
 /// The object of the plaintext.

@@ -3,10 +3,10 @@
 //!
 //! ```rust
 //! let keys = KeySet::read(alloc, b"{\"kty\":\"oct\",\"k\":\"AAECAwQFBgcICQoLDA0ODxAREhMUFRYXGBkaGxwdHh8\"}", true)?;
-//! jws_sign(alloc, &keys, b"{}", true, &mut payload, &mut text)?; // in compact form, by HS256
+//! jws_sign(alloc, &keys, b"{}", true, &mut payload, &mut text, None)?; // in compact form, by HS256
 //!
 //! let jws = Jws::read(alloc, text.octets(), None)?;
-//! jws_verify(&keys, &jws, false, true, &mut content)?; // writes the payload
+//! jws_verify(&keys, &jws, false, Some(&mut content))?; // writes the payload
 //! ```
 #![tactic(auto)]
 

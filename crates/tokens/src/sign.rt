@@ -1,17 +1,18 @@
 //! Signing with each key of a set (RFC 7515 section 5.1), in compact or in JSON form.
-ghost use Rattle.std.specs.Prelude.{◌≡◌, ◌≢◌, ℕ, List, [], ◌∷◌, false, length, Err, IfOk, IfErr, IsTrue, OnOk, OnErr, map, option_map, string_bytes};
+ghost use Rattle.std.specs.Prelude.{◌≡◌, ◌≢◌, ℕ, List, [], ◌∷◌, false, length, is_some, Err, IfOk, IfErr, IsTrue, OnOk, OnErr, map, option_map, string_bytes};
 ghost use Rattle.std.specs.Iterator.{IsFinite};
 ghost use Rattle.std.specs.List.{list_all};
 ghost use Rattle.serde_json.specs.View.{members_view};
 ghost use Rattle.serde_json.specs.Written.{members_have_float};
 ghost use Rattle.octets.specs.Devices.{appended, observed, IsPossibleInput, AppendsPrefixOf};
 ghost use Rattle.octets.specs.Faults.{TellsFaults, counts};
-ghost use Rattle.octets.specs.Outcomes.{AgreesUnlessMemory, AgreesUnlessExternal};
+ghost use Rattle.octets.specs.Lent.{lent, wrote_on, IfLent, counts_of};
+ghost use Rattle.octets.specs.Outcomes.{AgreesUnlessMemory, AgreesUnlessExternal, GivesUnlessExternal};
 ghost use Rattle.octets.specs.Plan.{begun, planned};
 ghost use Rattle.octets.specs.declared.refusal.Refusal.{Refusal};
 ghost use Rattle.keys.specs.Limits.{limits};
 ghost use Rattle.keys.specs.Views.{key_view};
-ghost use Rattle.objects.specs.Texts.{each};
+ghost use Rattle.objects.specs.Texts.{each, handed_out};
 ghost use Rattle.objects.specs.Views.{part_view, jws_view, signature_parts_view};
 ghost use Rattle.tokens.specs.Signing.{signing_by, signing_of, signing_with as signing_with_keys, signer_by as signer_by_key, may_sign as may_sign_key, has_no_more, chosen_alg, alg_of_key, alg_by_length, signature_by as signature_parts_by, signed, plan_by};
 ghost use Rattle.tokens.specs.Template.{is_shallow as is_shallow_header};
@@ -31,7 +32,8 @@ use std::alloc::Global;
 
 /// Signs all that the content gives with each key in order (RFC 7515 section 5.1), as the template asks, and writes the
 /// object's text: its compact text (RFC 7515 section 7.1) where that is asked for, or else its JSON text, flattened where there
-/// is one key (RFC 7515 section 7.2).
+/// is one key (RFC 7515 section 7.2). Where there is an output for it the payload is detached (RFC 7515 appendix F): the text
+/// is without it, and it is written there as it is, before the text.
 ///
 /// The template is a JSON object with no member but `protected` and `header`, each an object, and serves every signature. The
 /// algorithm is the one of their `alg`; or else the one of the key's `alg`; or else the one with the longest hash that the key
@@ -42,7 +44,7 @@ use std::alloc::Global;
 /// an `alg` that is not supported; `NoAlgorithm` where nothing says the algorithm, and `KeyDoesNotFit` where the key's `alg` is
 /// no signature's; `KeyDoesNotFit` where a key may not sign, or does not fit; `Limit` where a header nests more than 64 deep;
 /// `NotCompact` where a compact text is asked for, and there are several keys or the template has members that are not
-/// protected; and then with `Read` where the content fails, and `Write` where the output fails.
+/// protected; and then with `Read` where the content fails, and `Write` where an output fails.
 #[tactic(auto, unfolding(crate::specs::Signing::signing_by))]
 pub fn jws_sign<I: Input, O: Output>(
     alloc: Global,
@@ -51,28 +53,63 @@ pub fn jws_sign<I: Input, O: Output>(
     compact: bool,
     content: &mut I,
     out: &mut O,
+    detached: Option<&mut O>,
 ) -> Result<(), Refusal>
     requires { IsFinite (I.remaining content.old) }
     ensures answer { (payload : List ℕ)
         → IsPossibleInput (observed I.consumed I.is_at_end content.old content.new) payload
-        → AgreesUnlessExternal (planned (signing_by limits compact keys.now template.now) payload) (appended (O.written out.old) (O.written out.new)) result }
-    ensures beginning { OnErr result (AppendsPrefixOf
-        (begun (signing_by limits compact keys.now template.now) (observed I.consumed I.is_at_end content.old content.new))
-        (O.written out.old) (O.written out.new)) }
-    ensures finished { OnOk result (IsTrue (O.is_finished out.new)) }
+        → AgreesUnlessExternal (planned (signing_by limits compact (is_some detached.entry) keys.now template.now) payload)
+        (record { text = appended (O.written out.old) (O.written out.new); content = wrote_on O.written (lent detached.entry detached.exit) }) result }
+    ensures beginning { OnErr result (AppendsPrefixOf (begun (signing_by limits compact (is_some detached.entry) keys.now template.now) (observed I.consumed I.is_at_end content.old content.new)).text (O.written out.old) (O.written out.new)) }
+    ensures beginning_beside { OnErr result (IfLent (lent detached.entry detached.exit) (λ old new.
+        AppendsPrefixOf (begun (signing_by limits compact (is_some detached.entry) keys.now template.now) (observed I.consumed I.is_at_end content.old content.new)).content (O.written old) (O.written new))) }
+    ensures finished { OnOk result (IsTrue (O.is_finished out.new) × IfLent (lent detached.entry detached.exit) (λ old new. IsTrue (O.is_finished new))) }
 
     // What the template and the keys refuse is refused before the content is touched; an output on which nothing was
-    // written is as it was, unless it failed.
-    ensures content_last { (refusal : Refusal) → signing_by limits compact keys.now template.now ≡ Err refusal
+    // written is as it was, unless one failed.
+    ensures content_last { (refusal : Refusal) → signing_by limits compact (is_some detached.entry) keys.now template.now ≡ Err refusal
         → content.new ≡ content.old }
-    ensures uncut { IfErr result (λ refusal. refusal ≢ Refusal.Write
-        → O.written out.new ≡ O.written out.old → out.new ≡ out.old) }
-    ensures faults { TellsFaults (counts I.failures content.old content.new ∷ []) (counts O.failures out.old out.new ∷ []) result }
+    ensures uncut { IfErr result (λ refusal. refusal ≢ Refusal.Write → (O.written out.new ≡ O.written out.old → out.new ≡ out.old)
+        × IfLent (lent detached.entry detached.exit) (λ old new. O.written new ≡ O.written old → new ≡ old)) }
+    ensures faults { TellsFaults (counts I.failures content.old content.new ∷ [])
+        (counts O.failures out.old out.new ∷ counts_of O.failures (lent detached.entry detached.exit)) result }
+{
+    match detached {
+        None => {
+            let (_, text) = sign(alloc, keys, template, compact, false, content)?;
+            emit(out, text.as_bytes())
+        }
+        Some(detached) => {
+            let (jws, text) = sign(alloc, keys, template, compact, true, content)?;
+            emit(detached, jws.payload())?;
+            emit(out, text.as_bytes())
+        }
+    }
+}
+
+/// The object of all that the content gives, and its text, with the payload or without.
+#[tactic(auto, unfolding(crate::specs::Signing::signing_by))]
+fn sign<I: Input>(
+    alloc: Global,
+    keys: &KeySet,
+    template: &[u8],
+    compact: bool,
+    detach: bool,
+    content: &mut I,
+) -> Result<(Jws, String), Refusal>
+    requires { IsFinite (I.remaining content.old) }
+    ensures answer { (payload : List ℕ)
+        → IsPossibleInput (observed I.consumed I.is_at_end content.old content.new) payload
+        → GivesUnlessExternal (λ made. record { text = string_bytes made.1; content = handed_out detach (jws_view made.0).payload }) result
+        (planned (signing_by limits compact detach keys.now template.now) payload) }
+    ensures ends { OnOk result (IsTrue (I.is_at_end content.new)) }
+    ensures content_last { (refusal : Refusal) → signing_by limits compact detach keys.now template.now ≡ Err refusal
+        → content.new ≡ content.old }
+    ensures faults { TellsFaults (counts I.failures content.old content.new ∷ []) [] result }
 {
     let signing = read_signing(alloc, keys, template, compact)?;
     let payload = read_to_end(alloc, content)?;
-    let text = signed_text(alloc, signing, payload, compact)?;
-    emit(out, text.as_bytes())
+    signed_text(alloc, signing, payload, compact, detach)
 }
 
 /// All that keys and a template settle: the signers in order, and the unprotected header of each signature.
@@ -208,21 +245,24 @@ fn alg_by_length(len: usize) -> Option<SignatureAlg>
     }
 }
 
-/// The text of the object of the payload.
+/// The object of the payload, and its text.
 fn signed_text(
     alloc: Global,
     signing: Signing<'_>,
     payload: Vec<u8>,
     compact: bool,
-) -> Result<String, Refusal>
-    ensures { AgreesUnlessMemory string_bytes result ((plan_by compact (signing_view signing.entry)).whole payload.items) }
+    detach: bool,
+) -> Result<(Jws, String), Refusal>
+    ensures { AgreesUnlessMemory (λ made. record { text = string_bytes made.1; content = handed_out detach (jws_view made.0).payload }) result
+        ((plan_by compact detach (signing_view signing.entry)).whole payload.items) }
 {
     let jws = signed(alloc, signing, payload)?;
-    if compact {
-        jws.to_compact(alloc, false)
+    let text = if compact {
+        jws.to_compact(alloc, detach)?
     } else {
-        jws.to_json(alloc, false)
-    }
+        jws.to_json(alloc, detach)?
+    };
+    Ok((jws, text))
 }
 
 /// The object of the payload.

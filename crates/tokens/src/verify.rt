@@ -2,8 +2,9 @@
 ghost use Rattle.std.specs.Prelude.{◌≡◌, ◌≢◌, [], ◌∷◌, false, is_some, map, OnOk, OnErr, IfErr, IsTrue};
 ghost use Rattle.std.specs.List.{list_any};
 ghost use Rattle.std.specs.Result.{result_unwrap_or};
-ghost use Rattle.octets.specs.Devices.{appended, AppendsPrefixOf};
-ghost use Rattle.octets.specs.Faults.{TellsFaults, counts};
+ghost use Rattle.octets.specs.Devices.{AppendsPrefixOf};
+ghost use Rattle.octets.specs.Faults.{TellsFaults};
+ghost use Rattle.octets.specs.Lent.{lent, wrote_on, IfLent, counts_of};
 ghost use Rattle.octets.specs.Outcomes.{AgreesUnlessMemory, AgreesUnlessExternal};
 ghost use Rattle.keys.specs.Algorithms.{signature_alg_of};
 ghost use Rattle.keys.specs.Views.{key_view};
@@ -15,7 +16,7 @@ use keys::{Algorithm, Key, KeySet, Operation, SignatureAlg};
 use objects::{Jws, Signature};
 use octets::{Output, Refusal, emit, needs, same_octets};
 
-/// Verifies the object with the keys (RFC 7515 section 5.2), and writes its payload where it is wanted. Some key that may
+/// Verifies the object with the keys (RFC 7515 section 5.2), and writes its payload where there is an output. Some key that may
 /// verify by the algorithm of a signature, and fits, must have made this signature; with `all`, each key must have made one.
 ///
 /// Refused, in this order, with `Unsupported` where no signature's algorithm is supported; `KeyDoesNotFit` where for none of
@@ -26,24 +27,22 @@ pub fn jws_verify<O: Output>(
     keys: &KeySet,
     jws: &Jws,
     all: bool,
-    wanted: bool,
-    out: &mut O,
+    out: Option<&mut O>,
 ) -> Result<(), Refusal>
-    ensures answer { AgreesUnlessExternal (verifying_by all wanted keys.now (jws_view jws.now))
-        (appended (O.written out.old) (O.written out.new)) result }
+    ensures answer { AgreesUnlessExternal (verifying_by all (is_some out.entry) keys.now (jws_view jws.now)) (wrote_on O.written (lent out.entry out.exit)) result }
 
     // The output is not touched before all is accepted.
-    ensures held_back { IfErr result (λ refusal. refusal ≢ Refusal.Write → out.new ≡ out.old) }
-    ensures beginning { OnErr result (AppendsPrefixOf
-        (result_unwrap_or (verifying_by all wanted keys.now (jws_view jws.now)) [])
-        (O.written out.old) (O.written out.new)) }
-    ensures finished { OnOk result (IsTrue wanted → IsTrue (O.is_finished out.new)) }
-    ensures untouched { wanted ≡ false → out.new ≡ out.old }
+    ensures held_back { IfErr result (λ refusal. refusal ≢ Refusal.Write → IfLent (lent out.entry out.exit) (λ old new. new ≡ old)) }
+    ensures beginning { OnErr result (IfLent (lent out.entry out.exit) (λ old new. AppendsPrefixOf
+        (result_unwrap_or (verifying_by all (is_some out.entry) keys.now (jws_view jws.now)) []) (O.written old) (O.written new))) }
+    ensures finished { OnOk result (IfLent (lent out.entry out.exit) (λ old new. IsTrue (O.is_finished new))) }
     ensures no_memory { IfErr result (λ refusal. refusal ≢ Refusal.Memory) }
-    ensures faults { TellsFaults [] (counts O.failures out.old out.new ∷ []) result }
+    ensures faults { TellsFaults [] (counts_of O.failures (lent out.entry out.exit)) result }
 {
-    let payload = verified(keys, jws, all)?;
-    if wanted { emit(out, payload) } else { Ok(()) }
+    match out {
+        None => verified(keys, jws, all).map(|_| ()),
+        Some(out) => emit(out, verified(keys, jws, all)?),
+    }
 }
 
 /// The payload of an object that verifies with some of the keys, or with all. Refused with `Unsupported` where no algorithm is

@@ -12,21 +12,24 @@ ghost use Rattle.tokens.specs.Encrypting.{text_of};
 ghost use Rattle.jose.specs.Jwe.{enc_answer, dec_answer, jwe_fmt_answer};
 ghost use Rattle.jose.specs.Ports.{formed};
 
-use crate::commands::{read_beside, read_object, read_with_keys};
+use crate::commands::{no_output, read_beside, read_object, read_with_keys};
 use objects::Jwe;
 use octets::{Input, Output, Refusal, emit, read_to_end};
 use std::alloc::Global;
 use tokens::{jwe_decrypt, jwe_encrypt};
 
-/// Encrypts the content to the keys, as the template asks, and writes the object's text.
+/// Encrypts the content to the keys, as the template asks, and writes the object's text. The ciphertext goes out beside it where
+/// it is to be detached.
 pub(crate) fn encrypt<I: Input, O: Output>(
     alloc: Global,
     template: &mut I,
     keys: &mut I,
     compact: bool,
+    detach: bool,
     random: &mut I,
     content: &mut I,
     out: &mut O,
+    detached: &mut O,
 ) -> Result<(), Refusal>
     requires template { IsFinite (I.remaining template.old) }
     requires keys { IsFinite (I.remaining keys.old) }
@@ -36,40 +39,68 @@ pub(crate) fn encrypt<I: Input, O: Output>(
         → IsPossibleInput (observed I.consumed I.is_at_end keys.old keys.new) whole_keys
         → IsPossibleInput (observed I.consumed I.is_at_end random.old random.new) octets
         → IsPossibleInput (observed I.consumed I.is_at_end content.old content.new) plaintext
-        → AgreesUnlessExternal (planned (plan_from (enc_answer compact whole_keys whole_template) octets) plaintext)
-        (appended (O.written out.old) (O.written out.new)) result }
+        → AgreesUnlessExternal (planned (plan_from (enc_answer compact detach whole_keys whole_template) octets) plaintext)
+        (record { text = appended (O.written out.old) (O.written out.new); content = appended (O.written detached.old) (O.written detached.new) }) result }
 
     // Exactly what the answer draws is read of the random input, and no more before a refusal.
     ensures drawn { OnOk result ((whole_template whole_keys : List ℕ)
         → IsPossibleInput (observed I.consumed I.is_at_end template.old template.new) whole_template
         → IsPossibleInput (observed I.consumed I.is_at_end keys.old keys.new) whole_keys
-        → length (appended (I.consumed random.old) (I.consumed random.new)) ≡ drawn_of (enc_answer compact whole_keys whole_template)) }
+        → length (appended (I.consumed random.old) (I.consumed random.new)) ≡ drawn_of (enc_answer compact detach whole_keys whole_template)) }
     ensures at_most { (whole_template whole_keys : List ℕ)
         → IsPossibleInput (observed I.consumed I.is_at_end template.old template.new) whole_template
         → IsPossibleInput (observed I.consumed I.is_at_end keys.old keys.new) whole_keys
-        → length (appended (I.consumed random.old) (I.consumed random.new)) ≤ drawn_of (enc_answer compact whole_keys whole_template) }
+        → length (appended (I.consumed random.old) (I.consumed random.new)) ≤ drawn_of (enc_answer compact detach whole_keys whole_template) }
     ensures beginning { OnErr result (AppendsPrefixOf
         (planned_beginning (I.is_at_end keys.new && I.is_at_end template.new)
-        (plan_from (enc_answer compact (appended (I.consumed keys.old) (I.consumed keys.new)) (appended (I.consumed template.old) (I.consumed template.new)))
+        (plan_from (enc_answer compact detach (appended (I.consumed keys.old) (I.consumed keys.new)) (appended (I.consumed template.old) (I.consumed template.new)))
         (appended (I.consumed random.old) (I.consumed random.new)))
-        (observed I.consumed I.is_at_end content.old content.new)) (O.written out.old) (O.written out.new)) }
-    ensures finished { OnOk result (IsTrue (O.is_finished out.new)) }
+        (observed I.consumed I.is_at_end content.old content.new)).text (O.written out.old) (O.written out.new)) }
+    ensures beginning_beside { OnErr result (AppendsPrefixOf
+        (planned_beginning (I.is_at_end keys.new && I.is_at_end template.new)
+        (plan_from (enc_answer compact detach (appended (I.consumed keys.old) (I.consumed keys.new)) (appended (I.consumed template.old) (I.consumed template.new)))
+        (appended (I.consumed random.old) (I.consumed random.new)))
+        (observed I.consumed I.is_at_end content.old content.new)).content (O.written detached.old) (O.written detached.new)) }
+    ensures finished { OnOk result (IsTrue (O.is_finished out.new) × (IsTrue detach → IsTrue (O.is_finished detached.new))) }
+    ensures untouched { detach ≡ false → detached.new ≡ detached.old }
 
     // No input is touched before the one ahead of it was read to its end, and what is drawn and the content not before the
     // rest is accepted.
     ensures in_order { (I.is_at_end template.new ≡ false → keys.new ≡ keys.old)
         × (I.is_at_end keys.new && I.is_at_end template.new ≡ false → (random.new ≡ random.old) × (content.new ≡ content.old)) }
     ensures content_last { (refusal : Refusal)
-        → enc_answer compact (appended (I.consumed keys.old) (I.consumed keys.new)) (appended (I.consumed template.old) (I.consumed template.new)) ≡ Err refusal
+        → enc_answer compact detach (appended (I.consumed keys.old) (I.consumed keys.new)) (appended (I.consumed template.old) (I.consumed template.new)) ≡ Err refusal
         → (random.new ≡ random.old) × (content.new ≡ content.old) }
-    ensures uncut { IfErr result (λ refusal. refusal ≢ Refusal.Write
-        → O.written out.new ≡ O.written out.old → out.new ≡ out.old) }
+    ensures uncut { IfErr result (λ refusal. refusal ≢ Refusal.Write → (O.written out.new ≡ O.written out.old → out.new ≡ out.old)
+        × (O.written detached.new ≡ O.written detached.old → detached.new ≡ detached.old)) }
     ensures faults { TellsFaults (counts I.failures template.old template.new ∷ counts I.failures keys.old keys.new
         ∷ counts I.failures random.old random.new ∷ counts I.failures content.old content.new ∷ [])
-        (counts O.failures out.old out.new ∷ []) result }
+        (counts O.failures out.old out.new ∷ counts O.failures detached.old detached.new ∷ []) result }
 {
     let (template, set) = read_with_keys(alloc, template, keys, true)?;
-    jwe_encrypt(alloc, &set, &template, compact, random, content, out)
+    if detach {
+        jwe_encrypt(
+            alloc,
+            &set,
+            &template,
+            compact,
+            random,
+            content,
+            out,
+            Some(detached),
+        )
+    } else {
+        jwe_encrypt(
+            alloc,
+            &set,
+            &template,
+            compact,
+            random,
+            content,
+            out,
+            no_output(detached),
+        )
+    }
 }
 
 /// Decrypts the text, and the ciphertext where it is handed in, with the keys, and writes the plaintext.

@@ -12,20 +12,23 @@ ghost use Rattle.tokens.specs.Signing.{text_of};
 ghost use Rattle.jose.specs.Jws.{sig_answer, ver_answer, jws_fmt_answer};
 ghost use Rattle.jose.specs.Ports.{formed};
 
-use crate::commands::{read_beside, read_object, read_with_keys};
+use crate::commands::{no_output, read_beside, read_object, read_with_keys};
 use objects::Jws;
 use octets::{Input, Output, Refusal, emit, read_to_end};
 use std::alloc::Global;
 use tokens::{jws_sign, jws_verify};
 
-/// Signs the content with the keys, as the template asks, and writes the text of the object.
+/// Signs the content with the keys, as the template asks, and writes the text of the object. The payload goes out beside it
+/// where it is to be detached.
 pub(crate) fn sign<I: Input, O: Output>(
     alloc: Global,
     template: &mut I,
     keys: &mut I,
     compact: bool,
+    detach: bool,
     content: &mut I,
     out: &mut O,
+    detached: &mut O,
 ) -> Result<(), Refusal>
     requires template { IsFinite (I.remaining template.old) }
     requires keys { IsFinite (I.remaining keys.old) }
@@ -34,26 +37,52 @@ pub(crate) fn sign<I: Input, O: Output>(
         → IsPossibleInput (observed I.consumed I.is_at_end template.old template.new) whole_template
         → IsPossibleInput (observed I.consumed I.is_at_end keys.old keys.new) whole_keys
         → IsPossibleInput (observed I.consumed I.is_at_end content.old content.new) payload
-        → AgreesUnlessExternal (planned (sig_answer compact whole_keys whole_template) payload) (appended (O.written out.old) (O.written out.new)) result }
+        → AgreesUnlessExternal (planned (sig_answer compact detach whole_keys whole_template) payload)
+        (record { text = appended (O.written out.old) (O.written out.new); content = appended (O.written detached.old) (O.written detached.new) }) result }
     ensures beginning { OnErr result (AppendsPrefixOf
         (planned_beginning (I.is_at_end keys.new && I.is_at_end template.new)
-        (sig_answer compact (appended (I.consumed keys.old) (I.consumed keys.new)) (appended (I.consumed template.old) (I.consumed template.new)))
-        (observed I.consumed I.is_at_end content.old content.new)) (O.written out.old) (O.written out.new)) }
-    ensures finished { OnOk result (IsTrue (O.is_finished out.new)) }
+        (sig_answer compact detach (appended (I.consumed keys.old) (I.consumed keys.new)) (appended (I.consumed template.old) (I.consumed template.new)))
+        (observed I.consumed I.is_at_end content.old content.new)).text (O.written out.old) (O.written out.new)) }
+    ensures beginning_beside { OnErr result (AppendsPrefixOf
+        (planned_beginning (I.is_at_end keys.new && I.is_at_end template.new)
+        (sig_answer compact detach (appended (I.consumed keys.old) (I.consumed keys.new)) (appended (I.consumed template.old) (I.consumed template.new)))
+        (observed I.consumed I.is_at_end content.old content.new)).content (O.written detached.old) (O.written detached.new)) }
+    ensures finished { OnOk result (IsTrue (O.is_finished out.new) × (IsTrue detach → IsTrue (O.is_finished detached.new))) }
+    ensures untouched { detach ≡ false → detached.new ≡ detached.old }
 
     // No input is touched before the one ahead of it was read to its end, and the content not before the rest is accepted.
     ensures in_order { (I.is_at_end template.new ≡ false → keys.new ≡ keys.old)
         × (I.is_at_end keys.new && I.is_at_end template.new ≡ false → content.new ≡ content.old) }
     ensures content_last { (refusal : Refusal)
-        → sig_answer compact (appended (I.consumed keys.old) (I.consumed keys.new)) (appended (I.consumed template.old) (I.consumed template.new)) ≡ Err refusal
+        → sig_answer compact detach (appended (I.consumed keys.old) (I.consumed keys.new)) (appended (I.consumed template.old) (I.consumed template.new)) ≡ Err refusal
         → content.new ≡ content.old }
-    ensures uncut { IfErr result (λ refusal. refusal ≢ Refusal.Write
-        → O.written out.new ≡ O.written out.old → out.new ≡ out.old) }
+    ensures uncut { IfErr result (λ refusal. refusal ≢ Refusal.Write → (O.written out.new ≡ O.written out.old → out.new ≡ out.old)
+        × (O.written detached.new ≡ O.written detached.old → detached.new ≡ detached.old)) }
     ensures faults { TellsFaults (counts I.failures template.old template.new ∷ counts I.failures keys.old keys.new ∷ counts I.failures content.old content.new ∷ [])
-        (counts O.failures out.old out.new ∷ []) result }
+        (counts O.failures out.old out.new ∷ counts O.failures detached.old detached.new ∷ []) result }
 {
     let (template, set) = read_with_keys(alloc, template, keys, true)?;
-    jws_sign(alloc, &set, &template, compact, content, out)
+    if detach {
+        jws_sign(
+            alloc,
+            &set,
+            &template,
+            compact,
+            content,
+            out,
+            Some(detached),
+        )
+    } else {
+        jws_sign(
+            alloc,
+            &set,
+            &template,
+            compact,
+            content,
+            out,
+            no_output(detached),
+        )
+    }
 }
 
 /// Verifies the text, and the payload where it is handed in, with some of the keys, or with all, and writes the payload where
@@ -91,7 +120,11 @@ pub(crate) fn verify<I: Input, O: Output>(
 {
     let (text, set, beside) = read_object(alloc, text, keys, given, content)?;
     let jws = Jws::read(alloc, &text, beside)?;
-    jws_verify(&set, &jws, all, wanted, out)
+    if wanted {
+        jws_verify(&set, &jws, all, Some(out))
+    } else {
+        jws_verify(&set, &jws, all, no_output(out))
+    }
 }
 
 /// Writes the text of the object in compact form, or else in JSON form. The payload is handed in beside the text where it is

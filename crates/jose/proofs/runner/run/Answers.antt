@@ -3,21 +3,21 @@ use Rattle.std.proofs.Math.Seq.{drop-length}
 use Rattle.std.specs.Option.{ok_or}
 use Rattle.octets.specs.declared.refusal.Refusal.TheVariants.{Usage}
 use Rattle.octets.specs.Devices.{appended, observed}
-use Rattle.octets.specs.Plan.{plan_from, planned}
+use Rattle.octets.specs.Plan.{nothing}
 use Rattle.octets.specs.Outcomes.{◌>>=◌}
 use Rattle.octets.specs.Encoding.{encoding, decoding}
-use Rattle.octets.proofs.Agreement.{planned_map, planned_without_content, plan_from-placed, plan_of_plan, plan_of_text, on_refusal}
+use Rattle.octets.proofs.Agreement.{on_refusal, on_success, plan_from-by_plan, plan_of_plan, plan_of_text, planned_without_content}
 use Rattle.octets.proofs.Prefixes.{AppendsPrefixOf-none}
 use Rattle.keys.specs.Generating.{gen_answer}
 use Rattle.keys.specs.Limits.{limits}
 use Rattle.jose.specs.Invocations.{invocation_view, hash_asked}
 use Rattle.objects.specs.Texts.{handed_in}
-use Rattle.jose.specs.Ports.{InputTexts, nothing, as_text, as_content}
+use Rattle.jose.specs.Ports.{InputTexts, as_text, as_content}
 use Rattle.jose.specs.Jwk.{making, thp_answer}
-use Rattle.jose.specs.Jwe.{enc_answer, dec_answer, jwe_fmt_answer}
+use Rattle.jose.specs.Jwe.{dec_answer, jwe_fmt_answer}
 use Rattle.jose.specs.Jws.{sig_answer, ver_answer, jws_fmt_answer}
-use Rattle.jose.specs.Meanings.{is_compact_asked, of_object}
-use Rattle.jose.proofs.Agreement.{agrees_as_text, agrees_as_content, plan_of_making, begun_by_plan, begun_by_text, on_success}
+use Rattle.jose.specs.Meanings.{of_object}
+use Rattle.jose.proofs.Agreement.{agrees_as_text, agrees_as_content, beginning_map, begun_by_text, both_on_refusal, plan_of_making}
 use Rattle.jose.proofs.Draws.{nothing_drawn, none_drawn, placed_drawn, placed_refused, by_plan_drawn, by_plan_refused, by_text_drawn}
 use Rattle.jose.proofs.Objects.{begun_of_object, drawn_of_object, formed_as_content, has_template_beside, placed_of_object, planned_of_object, refused_alone}
 use Rattle.jose.proofs.runner.run.Goals as goal
@@ -92,11 +92,11 @@ returns-in-B64Enc-clause-beginning g c =
     let content = observed g.I.Input.consumed g.I.Input.is_at_end c.args.inputs.now.content c.encode.new.content in
     let random = g.I.Input.consumed c.args.inputs.now.random in
     on_refusal c.encode.result c.encode.ensures.beginning
-    (λ h. rw (c.in-B64Enc.is, plan_of_plan as_text (Ok encoding) (appended random random), begun_by_plan as_text refl true (Ok encoding) content) (record { text = h; content = AppendsPrefixOf-none _ _ refl }))
+    (λ h. rw (c.in-B64Enc.is, plan_of_plan as_text (Ok encoding) (appended random random), beginning_map as_text encoding content.octets content.ended) (record { text = h; content = AppendsPrefixOf-none _ _ refl }))
 
 pub returns-in-B64Enc-clause-drawn : goal.returns-in-B64Enc-clause-drawn
 returns-in-B64Enc-clause-drawn g c =
-    on_success c.encode.result c.encode.ensures.finished (λ done inputs may. rw (c.in-B64Enc.is, by_plan_drawn as_text (Ok encoding)) (nothing_drawn (g.I.Input.consumed c.args.inputs.now.random)))
+    on_success c.encode.result c.encode.ensures.finished (λ done inputs may. rw c.in-B64Enc.is (nothing_drawn (g.I.Input.consumed c.args.inputs.now.random)))
 
 pub returns-in-B64Enc-clause-at_most : goal.returns-in-B64Enc-clause-at_most
 returns-in-B64Enc-clause-at_most g c inputs may = none_drawn (g.I.Input.consumed c.args.inputs.now.random) _
@@ -113,11 +113,11 @@ returns-in-B64Dec-clause-beginning g c =
     let text = observed g.I.Input.consumed g.I.Input.is_at_end c.args.inputs.now.text c.decode.new.text in
     let random = g.I.Input.consumed c.args.inputs.now.random in
     on_refusal c.decode.result c.decode.ensures.beginning
-    (λ h. rw (c.in-B64Dec.is, plan_of_plan as_content (Ok decoding) (appended random random), begun_by_plan as_content refl true (Ok decoding) text) (record { text = AppendsPrefixOf-none _ _ refl; content = h }))
+    (λ h. rw (c.in-B64Dec.is, plan_of_plan as_content (Ok decoding) (appended random random), beginning_map as_content decoding text.octets text.ended) (record { text = AppendsPrefixOf-none _ _ refl; content = h }))
 
 pub returns-in-B64Dec-clause-drawn : goal.returns-in-B64Dec-clause-drawn
 returns-in-B64Dec-clause-drawn g c =
-    on_success c.decode.result c.decode.ensures.finished (λ done inputs may. rw (c.in-B64Dec.is, by_plan_drawn as_content (Ok decoding)) (nothing_drawn (g.I.Input.consumed c.args.inputs.now.random)))
+    on_success c.decode.result c.decode.ensures.finished (λ done inputs may. rw c.in-B64Dec.is (nothing_drawn (g.I.Input.consumed c.args.inputs.now.random)))
 
 pub returns-in-B64Dec-clause-at_most : goal.returns-in-B64Dec-clause-at_most
 returns-in-B64Dec-clause-at_most g c inputs may = none_drawn (g.I.Input.consumed c.args.inputs.now.random) _
@@ -126,26 +126,22 @@ returns-in-B64Dec-clause-at_most g c inputs may = none_drawn (g.I.Input.consumed
 
 pub returns-in-JwsSig-clause-answer : goal.returns-in-JwsSig-clause-answer
 returns-in-JwsSig-clause-answer g c inputs may =
-    let plan = sig_answer (is_compact_asked (invocation_view c.args.invocation.now).options) inputs.keys inputs.text in
-    let h = c.sign.ensures.answer inputs.text inputs.keys inputs.content may.text may.keys may.content in
-    rw (c.in-JwsSig.is, plan_of_plan as_text plan inputs.random, planned_map as_text plan inputs.content)
-    (agrees_as_text (planned plan inputs.content) _ _ _ (drop-length (g.O.Output.written c.args.outputs.now.content)) (rw (← c.has-compact.ensures) h))
+    rw (c.in-JwsSig.is, ← c.has-compact.ensures, ← c.has-detach.ensures, plan_from-by_plan (sig_answer c.has-compact.result c.has-detach.result inputs.keys inputs.text) inputs.random)
+    (c.sign.ensures.answer inputs.text inputs.keys inputs.content may.text may.keys may.content)
 
 pub returns-in-JwsSig-clause-beginning : goal.returns-in-JwsSig-clause-beginning
 returns-in-JwsSig-clause-beginning g c =
     let consumed = g.I.Input.consumed in
-    let at_end = g.I.Input.is_at_end in
     let old = c.args.inputs.now in
     let random = consumed old.random in
-    let plan = sig_answer (is_compact_asked (invocation_view c.args.invocation.now).options) (appended (consumed old.keys) (consumed c.sign.new.keys)) (appended (consumed old.text) (consumed c.sign.new.template)) in
-    let others = at_end c.sign.new.keys && at_end c.sign.new.template in
-    let content = observed consumed at_end old.content c.sign.new.content in
-    on_refusal c.sign.result (rw (← c.has-compact.ensures) c.sign.ensures.beginning)
-    (λ h. rw (c.in-JwsSig.is, plan_of_plan as_text plan (appended random random), begun_by_plan as_text refl others plan content) (record { text = h; content = AppendsPrefixOf-none _ _ refl }))
+    let plan = sig_answer c.has-compact.result c.has-detach.result (appended (consumed old.keys) (consumed c.sign.new.keys)) (appended (consumed old.text) (consumed c.sign.new.template)) in
+    both_on_refusal c.sign.result c.sign.ensures.beginning c.sign.ensures.beginning_beside
+    (λ text content. rw (c.in-JwsSig.is, ← c.has-compact.ensures, ← c.has-detach.ensures, plan_from-by_plan plan (appended random random)) (record { text = text; content = content }))
 
 pub returns-in-JwsSig-clause-drawn : goal.returns-in-JwsSig-clause-drawn
 returns-in-JwsSig-clause-drawn g c =
-    on_success c.sign.result c.sign.ensures.finished (λ done inputs may. rw (c.in-JwsSig.is, by_plan_drawn as_text (sig_answer (is_compact_asked (invocation_view c.args.invocation.now).options) inputs.keys inputs.text)) (nothing_drawn (g.I.Input.consumed c.args.inputs.now.random)))
+    on_success c.sign.result c.sign.ensures.finished
+    (λ done inputs may. rw (c.in-JwsSig.is, ← c.has-compact.ensures, ← c.has-detach.ensures, by_plan_drawn (sig_answer c.has-compact.result c.has-detach.result inputs.keys inputs.text)) (nothing_drawn (g.I.Input.consumed c.args.inputs.now.random)))
 
 pub returns-in-JwsSig-clause-at_most : goal.returns-in-JwsSig-clause-at_most
 returns-in-JwsSig-clause-at_most g c inputs may = none_drawn (g.I.Input.consumed c.args.inputs.now.random) _
@@ -156,7 +152,7 @@ returns-in-JwsSig-clause-in_order g c =
 
 pub returns-in-JwsSig-clause-content_last : goal.returns-in-JwsSig-clause-content_last
 returns-in-JwsSig-clause-content_last g c refusal is =
-    (refl, c.sign.ensures.content_last refusal (by_plan_refused as_text _ refusal (rw (c.in-JwsSig.is, ← c.has-compact.ensures) at is)))
+    (refl, c.sign.ensures.content_last refusal (by_plan_refused _ refusal (rw (c.in-JwsSig.is, ← c.has-compact.ensures, ← c.has-detach.ensures) at is)))
 
 -- ---- jws ver
 
@@ -213,8 +209,8 @@ returns-in-JwsVer-clause-content_last g c refusal is =
 
 pub returns-in-JwsFmt-clause-answer : goal.returns-in-JwsFmt-clause-answer
 returns-in-JwsFmt-clause-answer g c inputs may =
-    let a = λ (detached : Option (List ℕ)). jws_fmt_answer c.has-compact-in-JwsFmt.result c.has-detach.result detached inputs.text in
-    rw (c.in-JwsFmt.is, ← c.has-given-in-JwsFmt.ensures, ← c.has-compact-in-JwsFmt.ensures, ← c.has-detach.ensures, planned_of_object c.has-given-in-JwsFmt.result nothing a inputs.random inputs.text inputs.content)
+    let a = λ (detached : Option (List ℕ)). jws_fmt_answer c.has-compact-in-JwsFmt.result c.has-detach-in-JwsFmt.result detached inputs.text in
+    rw (c.in-JwsFmt.is, ← c.has-given-in-JwsFmt.ensures, ← c.has-compact-in-JwsFmt.ensures, ← c.has-detach-in-JwsFmt.ensures, planned_of_object c.has-given-in-JwsFmt.result nothing a inputs.random inputs.text inputs.content)
     (c.format.ensures.answer inputs.text inputs.content may.text may.content)
 
 pub returns-in-JwsFmt-clause-beginning : goal.returns-in-JwsFmt-clause-beginning
@@ -227,14 +223,14 @@ returns-in-JwsFmt-clause-beginning g c =
     let random = consumed old.random in
     let text = observed consumed at_end old.text new.text in
     let content = observed consumed at_end old.content new.content in
-    let a = λ (detached : Option (List ℕ)). jws_fmt_answer c.has-compact-in-JwsFmt.result c.has-detach.result detached text.octets in
+    let a = λ (detached : Option (List ℕ)). jws_fmt_answer c.has-compact-in-JwsFmt.result c.has-detach-in-JwsFmt.result detached text.octets in
     on_refusal c.format.result c.format.ensures.beginning
-    (λ h. rw (c.in-JwsFmt.is, ← c.has-given-in-JwsFmt.ensures, ← c.has-compact-in-JwsFmt.ensures, ← c.has-detach.ensures, has_template_beside given true, begun_of_object given text.ended a (appended random random) text content) (record { text = h.0; content = h.1 }))
+    (λ h. rw (c.in-JwsFmt.is, ← c.has-given-in-JwsFmt.ensures, ← c.has-compact-in-JwsFmt.ensures, ← c.has-detach-in-JwsFmt.ensures, has_template_beside given true, begun_of_object given text.ended a (appended random random) text content) (record { text = h.0; content = h.1 }))
 
 pub returns-in-JwsFmt-clause-drawn : goal.returns-in-JwsFmt-clause-drawn
 returns-in-JwsFmt-clause-drawn g c =
     on_success c.format.result c.format.ensures.finished
-    (λ done inputs may. rw (c.in-JwsFmt.is, ← c.has-given-in-JwsFmt.ensures, ← c.has-compact-in-JwsFmt.ensures, ← c.has-detach.ensures, drawn_of_object c.has-given-in-JwsFmt.result nothing (λ detached. jws_fmt_answer c.has-compact-in-JwsFmt.result c.has-detach.result detached inputs.text)) (nothing_drawn (g.I.Input.consumed c.args.inputs.now.random)))
+    (λ done inputs may. rw (c.in-JwsFmt.is, ← c.has-given-in-JwsFmt.ensures, ← c.has-compact-in-JwsFmt.ensures, ← c.has-detach-in-JwsFmt.ensures, drawn_of_object c.has-given-in-JwsFmt.result nothing (λ detached. jws_fmt_answer c.has-compact-in-JwsFmt.result c.has-detach-in-JwsFmt.result detached inputs.text)) (nothing_drawn (g.I.Input.consumed c.args.inputs.now.random)))
 
 pub returns-in-JwsFmt-clause-at_most : goal.returns-in-JwsFmt-clause-at_most
 returns-in-JwsFmt-clause-at_most g c inputs may = none_drawn (g.I.Input.consumed c.args.inputs.now.random) _
@@ -251,32 +247,22 @@ returns-in-JwsFmt-clause-content_last g c refusal is =
 
 pub returns-in-JweEnc-clause-answer : goal.returns-in-JweEnc-clause-answer
 returns-in-JweEnc-clause-answer g c inputs may =
-    let draft = enc_answer (is_compact_asked (invocation_view c.args.invocation.now).options) inputs.keys inputs.text in
-    let plan = plan_from draft inputs.random in
-    let h = c.encrypt.ensures.answer inputs.text inputs.keys inputs.random inputs.content may.text may.keys may.random may.content in
-    rw (c.in-JweEnc.is, plan_from-placed as_text draft inputs.random, planned_map as_text plan inputs.content)
-    (agrees_as_text (planned plan inputs.content) _ _ _ (drop-length (g.O.Output.written c.args.outputs.now.content)) (rw (← c.has-compact-in-JweEnc.ensures) h))
+    rw (c.in-JweEnc.is, ← c.has-compact-in-JweEnc.ensures, ← c.has-detach-in-JweEnc.ensures)
+    (c.encrypt.ensures.answer inputs.text inputs.keys inputs.random inputs.content may.text may.keys may.random may.content)
 
 pub returns-in-JweEnc-clause-beginning : goal.returns-in-JweEnc-clause-beginning
 returns-in-JweEnc-clause-beginning g c =
-    let consumed = g.I.Input.consumed in
-    let at_end = g.I.Input.is_at_end in
-    let old = c.args.inputs.now in
-    let random = appended (consumed old.random) (consumed c.encrypt.new.random) in
-    let draft = enc_answer (is_compact_asked (invocation_view c.args.invocation.now).options) (appended (consumed old.keys) (consumed c.encrypt.new.keys)) (appended (consumed old.text) (consumed c.encrypt.new.template)) in
-    let others = at_end c.encrypt.new.keys && at_end c.encrypt.new.template in
-    let content = observed consumed at_end old.content c.encrypt.new.content in
-    on_refusal c.encrypt.result (rw (← c.has-compact-in-JweEnc.ensures) c.encrypt.ensures.beginning)
-    (λ h. rw (c.in-JweEnc.is, plan_from-placed as_text draft random, begun_by_plan as_text refl others (plan_from draft random) content) (record { text = h; content = AppendsPrefixOf-none _ _ refl }))
+    both_on_refusal c.encrypt.result c.encrypt.ensures.beginning c.encrypt.ensures.beginning_beside
+    (λ text content. rw (c.in-JweEnc.is, ← c.has-compact-in-JweEnc.ensures, ← c.has-detach-in-JweEnc.ensures) (record { text = text; content = content }))
 
 pub returns-in-JweEnc-clause-drawn : goal.returns-in-JweEnc-clause-drawn
 returns-in-JweEnc-clause-drawn g c =
-    on_success c.encrypt.result c.encrypt.ensures.drawn (λ h inputs may.
-    rw (c.in-JweEnc.is, placed_drawn as_text (enc_answer (is_compact_asked (invocation_view c.args.invocation.now).options) inputs.keys inputs.text)) (rw (← c.has-compact-in-JweEnc.ensures) (h inputs.text inputs.keys may.text may.keys)))
+    on_success c.encrypt.result c.encrypt.ensures.drawn
+    (λ h inputs may. rw (c.in-JweEnc.is, ← c.has-compact-in-JweEnc.ensures, ← c.has-detach-in-JweEnc.ensures) (h inputs.text inputs.keys may.text may.keys))
 
 pub returns-in-JweEnc-clause-at_most : goal.returns-in-JweEnc-clause-at_most
 returns-in-JweEnc-clause-at_most g c inputs may =
-    rw (c.in-JweEnc.is, placed_drawn as_text (enc_answer (is_compact_asked (invocation_view c.args.invocation.now).options) inputs.keys inputs.text)) (rw (← c.has-compact-in-JweEnc.ensures) (c.encrypt.ensures.at_most inputs.text inputs.keys may.text may.keys))
+    rw (c.in-JweEnc.is, ← c.has-compact-in-JweEnc.ensures, ← c.has-detach-in-JweEnc.ensures) (c.encrypt.ensures.at_most inputs.text inputs.keys may.text may.keys)
 
 pub returns-in-JweEnc-clause-in_order : goal.returns-in-JweEnc-clause-in_order
 returns-in-JweEnc-clause-in_order g c =
@@ -284,7 +270,7 @@ returns-in-JweEnc-clause-in_order g c =
 
 pub returns-in-JweEnc-clause-content_last : goal.returns-in-JweEnc-clause-content_last
 returns-in-JweEnc-clause-content_last g c refusal is =
-    c.encrypt.ensures.content_last refusal (placed_refused as_text _ refusal (rw (c.in-JweEnc.is, ← c.has-compact-in-JweEnc.ensures) at is))
+    c.encrypt.ensures.content_last refusal (rw (c.in-JweEnc.is, ← c.has-compact-in-JweEnc.ensures, ← c.has-detach-in-JweEnc.ensures) at is)
 
 -- ---- jwe dec
 

@@ -4,13 +4,13 @@ use Rattle.objects.specs.Jwe.{EncryptedObject, jwe_of}
 use Rattle.objects.specs.Texts.{handed_in, handed_out}
 use Rattle.objects.specs.Views.{jwe_view}
 use Rattle.octets.specs.Devices.{appended}
-use Rattle.octets.proofs.Agreement.{agrees_last, on_refusal, whole_is}
-use Rattle.octets.proofs.Prefixes.{AppendsPrefixOf-all}
+use Rattle.octets.specs.Plan.{OutputTexts}
+use Rattle.octets.proofs.Agreement.{agrees_last, at_refusal, both_written, on_refusal, seen_possible, whole_is}
+use Rattle.octets.proofs.Prefixes.{AppendsPrefixOf-all, AppendsPrefixOf-kept}
 use Rattle.tokens.specs.Encrypting.{text_of}
 use Rattle.jose.specs.Jwe.{jwe_fmt_answer}
-use Rattle.jose.specs.Ports.{OutputTexts}
-use Rattle.jose.proofs.Agreement.{at_refusal, not_memory, refused, seen_possible}
-use Rattle.jose.proofs.Objects.{beside_ended, both_written, none_written}
+use Rattle.jose.proofs.Agreement.{not_memory, refused}
+use Rattle.jose.proofs.Objects.{beside_ended}
 use Rattle.jose.proofs.commands.jwe.format.Goals as goal
 use Rattle.jose.proofs.commands.jwe.format.Goals.{then-detach+in_ok-emit, else-detach}
 
@@ -49,7 +49,7 @@ returns-in_err-emit-clause-beginning g c =
     let a : jwe_fmt_answer c.args.compact c.args.detach given whole ≡ Ok (formatted c.args.detach (jwe_view c.in_ok-object.object) (string_bytes c.in_ok-formed.formed))
     = answer_is c.args.compact c.args.detach given whole _ _ (rw (t, d) c.in_ok-object.ensures) c.in_ok-formed.ensures in
     at_refusal c.from_residual-in_err-emit.result
-    (rw (c.in_ok-text.ensures.whole.1, beside_ended _ _ c.in_ok-beside.ensures.ends, a) (none_written _ _, rw (c.if-detach.true, ← c.ciphertext.ensures) c.in_err-emit.ensures.part))
+    (rw (c.in_ok-text.ensures.whole.1, beside_ended _ _ c.in_ok-beside.ensures.ends, a) (AppendsPrefixOf-kept _ _, rw (c.if-detach.true, ← c.ciphertext.ensures) c.in_err-emit.ensures.part))
 
 pub returns-clause-answer : goal.returns-clause-answer
 returns-clause-answer g c whole whole_content may content_may =

@@ -1,19 +1,64 @@
 use Rattle.std.proofs.Common.{◌≡◌, ◌∙◌, sym, true, Ok}
+use Rattle.std.proofs.Math.Seq.{drop-length}
 use Rattle.keys.specs.KeySets.{key_set}
 use Rattle.keys.specs.Limits.{limits}
 use Rattle.octets.specs.Devices.{appended}
-use Rattle.jose.proofs.Agreement.{refused, seen_possible}
+use Rattle.octets.specs.Outcomes.{AgreesUnlessExternal}
+use Rattle.octets.specs.Plan.{planned}
+use Rattle.octets.proofs.Agreement.{seen_possible, unlent}
+use Rattle.tokens.specs.Signing.{signing_by}
+use Rattle.jose.proofs.Agreement.{refused}
 use Rattle.jose.proofs.commands.jws.sign.Goals as goal
 
 pub returns-in_err-template-clause-answer : goal.returns-in_err-template-clause-answer
 returns-in_err-template-clause-answer g c whole_template whole_keys payload template_may keys_may payload_may =
     refused _ _ c.in_err-template.field-0.0 c.from_residual.result c.from_residual.ensures.1 (λ inside. rw (c.in_err-template.ensures.keys whole_keys keys_may inside))
 
-pub returns-clause-answer : goal.returns-clause-answer
-returns-clause-answer g c whole_template whole_keys payload template_may keys_may payload_may =
+pub returns-then-detach-clause-answer : goal.returns-then-detach-clause-answer
+returns-then-detach-clause-answer g c whole_template whole_keys payload template_may keys_may payload_may =
     let t : whole_template ≡ c.deref.result.now = c.in_ok-template.ensures.text whole_template template_may ∙ sym c.deref.ensures.value in
     let k : key_set limits whole_keys true ≡ Ok c.in_ok-template.set = c.in_ok-template.ensures.keys whole_keys keys_may in
-    rw (k, t) (c.jws_sign.ensures.answer payload payload_may)
+    rw (k, t, c.if-detach.true) (c.jws_sign.ensures.answer payload payload_may)
+
+pub returns-then-detach-clause-beginning : goal.returns-then-detach-clause-beginning
+returns-then-detach-clause-beginning g c =
+    let consumed = g.I.Input.consumed in
+    let at_end = g.I.Input.is_at_end in
+    let old = c.args in
+    let new = c.read_with_keys.new in
+    let t : appended (consumed old.template.now) (consumed new.text) ≡ c.deref.result.now = c.in_ok-template.ensures.text _ (seen_possible consumed at_end old.template.now new.text) ∙ sym c.deref.ensures.value in
+    let k : key_set limits (appended (consumed old.keys.now) (consumed new.keys)) true ≡ Ok c.in_ok-template.set = c.in_ok-template.ensures.keys _ (seen_possible consumed at_end old.keys.now new.keys) in
+    rw (c.in_ok-template.ensures.ends.0, c.in_ok-template.ensures.ends.1, k, t, c.if-detach.true) c.jws_sign.ensures.beginning
+
+pub returns-then-detach-clause-beginning_beside : goal.returns-then-detach-clause-beginning_beside
+returns-then-detach-clause-beginning_beside g c =
+    let consumed = g.I.Input.consumed in
+    let at_end = g.I.Input.is_at_end in
+    let old = c.args in
+    let new = c.read_with_keys.new in
+    let t : appended (consumed old.template.now) (consumed new.text) ≡ c.deref.result.now = c.in_ok-template.ensures.text _ (seen_possible consumed at_end old.template.now new.text) ∙ sym c.deref.ensures.value in
+    let k : key_set limits (appended (consumed old.keys.now) (consumed new.keys)) true ≡ Ok c.in_ok-template.set = c.in_ok-template.ensures.keys _ (seen_possible consumed at_end old.keys.now new.keys) in
+    rw (c.in_ok-template.ensures.ends.0, c.in_ok-template.ensures.ends.1, k, t, c.if-detach.true) c.jws_sign.ensures.beginning_beside
+
+pub returns-then-detach-clause-content_last : goal.returns-then-detach-clause-content_last
+returns-then-detach-clause-content_last g c refusal is =
+    let consumed = g.I.Input.consumed in
+    let at_end = g.I.Input.is_at_end in
+    let old = c.args in
+    let new = c.read_with_keys.new in
+    let t : appended (consumed old.template.now) (consumed new.text) ≡ c.deref.result.now = c.in_ok-template.ensures.text _ (seen_possible consumed at_end old.template.now new.text) ∙ sym c.deref.ensures.value in
+    let k : key_set limits (appended (consumed old.keys.now) (consumed new.keys)) true ≡ Ok c.in_ok-template.set = c.in_ok-template.ensures.keys _ (seen_possible consumed at_end old.keys.now new.keys) in
+    c.jws_sign.ensures.content_last refusal (rw (k, t, c.if-detach.true) at is)
+
+pub returns-clause-answer : goal.returns-clause-answer
+returns-clause-answer g c whole_template whole_keys payload template_may keys_may payload_may =
+    let t : whole_template ≡ c.deref-else-detach.result.now = c.in_ok-template.ensures.text whole_template template_may ∙ sym c.deref-else-detach.ensures.value in
+    let k : key_set limits whole_keys true ≡ Ok c.in_ok-template.set = c.in_ok-template.ensures.keys whole_keys keys_may in
+    let written = g.O.Output.written in
+    let text = appended (written c.args.out.now) (written c.jws_sign-else-detach.new.out) in
+    rw (k, t, c.if-detach.false, drop-length (written c.args.detached.now))
+    (unlent written c.no_output.result _ (λ detach content. AgreesUnlessExternal (planned (signing_by limits c.args.compact detach c.in_ok-template.set c.deref-else-detach.result.now) payload) (record { text = text; content = content }) c.jws_sign-else-detach.result)
+    c.no_output.ensures (c.jws_sign-else-detach.ensures.answer payload payload_may))
 
 pub returns-clause-beginning : goal.returns-clause-beginning
 returns-clause-beginning g c =
@@ -21,16 +66,16 @@ returns-clause-beginning g c =
     let at_end = g.I.Input.is_at_end in
     let old = c.args in
     let new = c.read_with_keys.new in
-    let t : appended (consumed old.template.now) (consumed new.text) ≡ c.deref.result.now = c.in_ok-template.ensures.text _ (seen_possible consumed at_end old.template.now new.text) ∙ sym c.deref.ensures.value in
+    let t : appended (consumed old.template.now) (consumed new.text) ≡ c.deref-else-detach.result.now = c.in_ok-template.ensures.text _ (seen_possible consumed at_end old.template.now new.text) ∙ sym c.deref-else-detach.ensures.value in
     let k : key_set limits (appended (consumed old.keys.now) (consumed new.keys)) true ≡ Ok c.in_ok-template.set = c.in_ok-template.ensures.keys _ (seen_possible consumed at_end old.keys.now new.keys) in
-    rw (c.in_ok-template.ensures.ends.0, c.in_ok-template.ensures.ends.1, k, t) c.jws_sign.ensures.beginning
+    rw (c.in_ok-template.ensures.ends.0, c.in_ok-template.ensures.ends.1, k, t, c.if-detach.false) (rw (c.no_output.ensures) at c.jws_sign-else-detach.ensures.beginning)
 
 pub returns-clause-content_last : goal.returns-clause-content_last
-returns-clause-content_last g c refusal refused =
+returns-clause-content_last g c refusal is =
     let consumed = g.I.Input.consumed in
     let at_end = g.I.Input.is_at_end in
     let old = c.args in
     let new = c.read_with_keys.new in
-    let t : appended (consumed old.template.now) (consumed new.text) ≡ c.deref.result.now = c.in_ok-template.ensures.text _ (seen_possible consumed at_end old.template.now new.text) ∙ sym c.deref.ensures.value in
+    let t : appended (consumed old.template.now) (consumed new.text) ≡ c.deref-else-detach.result.now = c.in_ok-template.ensures.text _ (seen_possible consumed at_end old.template.now new.text) ∙ sym c.deref-else-detach.ensures.value in
     let k : key_set limits (appended (consumed old.keys.now) (consumed new.keys)) true ≡ Ok c.in_ok-template.set = c.in_ok-template.ensures.keys _ (seen_possible consumed at_end old.keys.now new.keys) in
-    c.jws_sign.ensures.content_last refusal (rw (k, t) at refused)
+    c.jws_sign-else-detach.ensures.content_last refusal (rw (c.no_output.ensures) (rw (k, t, c.if-detach.false) at is))

@@ -1,9 +1,15 @@
 use Rattle.std.proofs.Common.{◌≡◌, ◌∙◌, sym, false, Ok, option_map}
+use Rattle.std.proofs.Math.Seq.{drop-length}
 use Rattle.keys.specs.KeySets.{key_set}
 use Rattle.keys.specs.Limits.{limits}
 use Rattle.objects.specs.Texts.{handed_in}
+use Rattle.objects.specs.Views.{jws_view}
 use Rattle.octets.specs.Devices.{appended}
-use Rattle.jose.proofs.Agreement.{not_memory, refused, seen_possible}
+use Rattle.octets.specs.Outcomes.{AgreesUnlessExternal}
+use Rattle.octets.proofs.Agreement.{at_refusal, seen_possible, unlent}
+use Rattle.octets.proofs.Prefixes.{AppendsPrefixOf-kept}
+use Rattle.tokens.specs.Verifying.{verifying_by}
+use Rattle.jose.proofs.Agreement.{not_memory, refused}
 use Rattle.jose.proofs.Objects.{beside_ended}
 use Rattle.jose.proofs.commands.jws.verify.Goals as goal
 
@@ -18,14 +24,14 @@ returns-in_err-jws-clause-answer g c whole_text whole_keys whole_content text_ma
     refused _ _ c.in_err-jws.field-0.0 c.from_residual-in_err-jws.result c.from_residual-in_err-jws.ensures.1
     (λ inside. rw (k, t, c.in_ok-text.ensures.content whole_content content_may, (c.in_err-jws.ensures (not_memory _ inside)).0))
 
-pub returns-clause-answer : goal.returns-clause-answer
-returns-clause-answer g c whole_text whole_keys whole_content text_may keys_may content_may =
+pub returns-then-wanted-clause-answer : goal.returns-then-wanted-clause-answer
+returns-then-wanted-clause-answer g c whole_text whole_keys whole_content text_may keys_may content_may =
     let t : whole_text ≡ c.deref.result.now = c.in_ok-text.ensures.text whole_text text_may ∙ sym c.deref.ensures.value in
     let k : key_set limits whole_keys false ≡ Ok c.in_ok-text.set = c.in_ok-text.ensures.keys whole_keys keys_may in
-    rw (k, t, c.in_ok-text.ensures.content whole_content content_may, c.in_ok-jws.ensures) c.jws_verify.ensures.answer
+    rw (k, t, c.in_ok-text.ensures.content whole_content content_may, c.in_ok-jws.ensures, c.if-wanted.true) c.jws_verify.ensures.answer
 
-pub returns-clause-beginning : goal.returns-clause-beginning
-returns-clause-beginning g c =
+pub returns-then-wanted-clause-beginning : goal.returns-then-wanted-clause-beginning
+returns-then-wanted-clause-beginning g c =
     let consumed = g.I.Input.consumed in
     let at_end = g.I.Input.is_at_end in
     let old = c.args in
@@ -36,4 +42,16 @@ returns-clause-beginning g c =
     let t : text ≡ c.deref.result.now = c.in_ok-text.ensures.text text (seen_possible consumed at_end old.text.now new.text) ∙ sym c.deref.ensures.value in
     let k : key_set limits keys false ≡ Ok c.in_ok-text.set = c.in_ok-text.ensures.keys keys (seen_possible consumed at_end old.keys.now new.keys) in
     let d : given ≡ option_map (λ v. v.items) c.in_ok-text.beside = c.in_ok-text.ensures.content _ (seen_possible consumed at_end old.content.now new.content) in
-    rw (c.in_ok-text.ensures.ends.0, c.in_ok-text.ensures.ends.1, beside_ended _ _ c.in_ok-text.ensures.content_ends, k, t, d, c.in_ok-jws.ensures) c.jws_verify.ensures.beginning
+    rw (c.in_ok-text.ensures.ends.0, c.in_ok-text.ensures.ends.1, beside_ended _ _ c.in_ok-text.ensures.content_ends, k, t, d, c.in_ok-jws.ensures, c.if-wanted.true) c.jws_verify.ensures.beginning
+
+pub returns-clause-answer : goal.returns-clause-answer
+returns-clause-answer g c whole_text whole_keys whole_content text_may keys_may content_may =
+    let t : whole_text ≡ c.deref.result.now = c.in_ok-text.ensures.text whole_text text_may ∙ sym c.deref.ensures.value in
+    let k : key_set limits whole_keys false ≡ Ok c.in_ok-text.set = c.in_ok-text.ensures.keys whole_keys keys_may in
+    let written = g.O.Output.written in
+    rw (k, t, c.in_ok-text.ensures.content whole_content content_may, c.in_ok-jws.ensures, c.if-wanted.false, drop-length (written c.args.out.now))
+    (unlent written c.no_output.result _ (λ wanted payload. AgreesUnlessExternal (verifying_by c.args.all wanted c.in_ok-text.set (jws_view c.in_ok-jws.jws)) payload c.jws_verify-else-wanted.result)
+    c.no_output.ensures c.jws_verify-else-wanted.ensures.answer)
+
+pub returns-clause-beginning : goal.returns-clause-beginning
+returns-clause-beginning g c = at_refusal c.jws_verify-else-wanted.result (AppendsPrefixOf-kept _ _)
