@@ -1,5 +1,6 @@
 //! The work of each kind of command where a growth is refused: `scripts/faults` refuses them one after another, so many in one
 //! build as there are tests here.
+use crate::detached_tests::VERIFY_BESIDE;
 use crate::jwe_tests::{DECRYPT, ENCRYPT, LINE, RFC7516_KEY, RFC7516_RANDOM, WITH_AAD};
 use crate::tests::{
     ABC, Answer, Done, Given, KEY, ROOM, SIGN, TEMPLATE, VERIFY, expect_done, outcome,
@@ -7,8 +8,8 @@ use crate::tests::{
 use octets::Refusal;
 use std::process::Abort;
 
-/// Signs, verifies, makes a key, names keys, encrypts and decrypts, after so many growths of its own. Each growth may be
-/// refused: then the answer is `Memory`, and nothing was written.
+/// Signs, verifies, takes a payload out of an object and verifies it beside, makes a key, names keys, encrypts and decrypts,
+/// after so many growths of its own. Each growth may be refused: then the answer is `Memory`, and nothing was written.
 fn works<R: Abort + AllocGlobal>(rt: &R, before: usize, may_be_refused: bool) {
     for _ in 0..before {
         drop(Vec::<u8>::with_capacity(rt.alloc(), 1));
@@ -29,8 +30,32 @@ fn works<R: Abort + AllocGlobal>(rt: &R, before: usize, may_be_refused: bool) {
     answers(rt, signed, Answer::Text(ABC), may_be_refused);
     let verified = outcome(rt.alloc(), &VERIFY, &verifying, 4096, ROOM);
     answers(rt, verified, Answer::Content(b"abc"), may_be_refused);
+    detaches_and_verifies(rt, may_be_refused);
     makes_and_names(rt, may_be_refused);
     encrypts_and_decrypts(rt, may_be_refused);
+}
+
+/// The payload of `ABC` is taken out of it, and verified beside it.
+fn detaches_and_verifies<R: Abort + AllocGlobal>(rt: &R, may_be_refused: bool) {
+    let detaching = Given {
+        text: ABC,
+        content: b"",
+        keys: "",
+        random: b"",
+    };
+    let text =
+        "{\"protected\":\"eyJhbGciOiJIUzI1NiJ9\",\"signature\":\"sxvqVTS8XjHJPVB24OsGa2pZqgR8ZX_Ab4pTTtgI47Y\"}";
+    let verifying = Given {
+        text,
+        content: b"abc",
+        keys: KEY,
+        random: b"",
+    };
+    let words = ["jws", "fmt", "-O", "beside"];
+    let detached = outcome(rt.alloc(), &words, &detaching, 4096, ROOM);
+    answers(rt, detached, Answer::Both(text, b"abc"), may_be_refused);
+    let verified = outcome(rt.alloc(), &VERIFY_BESIDE, &verifying, 4096, ROOM);
+    answers(rt, verified, Answer::Content(b"abc"), may_be_refused);
 }
 
 fn encrypts_and_decrypts<R: Abort + AllocGlobal>(rt: &R, may_be_refused: bool) {
