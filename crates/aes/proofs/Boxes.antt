@@ -1,6 +1,5 @@
 -- The S-box's sum of bits, its undoing, and that the two boxes undo one another.
-use Rattle.std.proofs.Common.{◌≡◌, ℕ, zero, suc, ◌*◌, ◌^◌, ◌<◌, bit_xor, refl, sym, ap, subst, ◌∙◌, arith, zero-mul, one-mul}
-use Rattle.std.specs.Int.{rotate_left, w8}
+use Rattle.std.proofs.Common.{◌≡◌, ℕ, zero, suc, ◌*◌, ◌^◌, ◌<◌, refl, sym, ap, subst, ◌∙◌, arith, zero-mul, one-mul}
 use Rattle.std.proofs.lemmas.Nat.{pow_pos, pow_below}
 use Rattle.aes.specs.Polynomial.{polynomial_sum}
 use Rattle.aes.specs.Octet.{octet_inverse}
@@ -9,21 +8,6 @@ use Rattle.aes.specs.InverseCipher.{inverse_s_box_bit, inverse_s_box_sum, invers
 use Rattle.aes.proofs.Xor.{polynomial_sum-lt}
 use Rattle.aes.proofs.Inverses.{inverse-lt, inverse_twice}
 use Rattle.aes.proofs.Below.{all_below, equal_below}
-
--- what the code computes
-abbrev pub rotated_sum : ℕ → ℕ
-rotated_sum b = bit_xor (bit_xor (bit_xor (bit_xor (bit_xor b (rotate_left w8 b 1)) (rotate_left w8 b 2)) (rotate_left w8 b 3)) (rotate_left w8 b 4)) 0x63
-
-abbrev pub inverse_rotated_sum : ℕ → ℕ
-inverse_rotated_sum y = bit_xor (bit_xor (bit_xor (rotate_left w8 y 1) (rotate_left w8 y 3)) (rotate_left w8 y 6)) 0x05
-
-pub s_box_sum_is : (b : ℕ) → b < 256 → rotated_sum b ≡ s_box_sum b
-unfolding all_below s_box_sum s_box_bit polynomial_sum
-s_box_sum_is b h = equal_below rotated_sum s_box_sum 256 b refl h
-
-pub inverse_s_box_sum_is : (y : ℕ) → y < 256 → inverse_rotated_sum y ≡ inverse_s_box_sum y
-unfolding all_below inverse_s_box_sum inverse_s_box_bit polynomial_sum
-inverse_s_box_sum_is y h = equal_below inverse_rotated_sum inverse_s_box_sum 256 y refl h
 
 -- ---- octets
 

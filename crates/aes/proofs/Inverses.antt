@@ -1,5 +1,5 @@
 -- The power 254 is the inverse, and there is no other.
-use Rattle.std.proofs.Common.{◌≡◌, ◌≢◌, ℕ, zero, suc, ◌+◌, ◌-◌, ◌^◌, ◌<◌, ◌≤◌, ◌==◌, ◌&&◌, ◌↔◌, Bool, true, false, cond, refl, sym, ap, ap₂, subst, ◌∙◌, arith, eqb-true, eq-eqb}
+use Rattle.std.proofs.Common.{◌≡◌, ◌≢◌, ℕ, zero, suc, ◌^◌, ◌<◌, ◌≤◌, ◌==◌, ◌&&◌, ◌↔◌, Bool, true, false, cond, refl, sym, ap, subst, ◌∙◌, arith, eqb-true, eq-eqb}
 use Rattle.std.proofs.lemmas.Bool.{and_parts}
 use Rattle.std.proofs.lemmas.Nat.{pow_below}
 use Rattle.aes.specs.Polynomial.{polynomial_remainder}
@@ -30,13 +30,6 @@ quick_powers-lt (suc n) p product h l =
 
 pub power-lt : (x : ℕ) → x < 256 → power x < 256
 power-lt x h = quick_powers-lt 7 x 1 h (omega arith)
-
--- one turn of the loop
-pub powers_more : (n i p product s t : ℕ) → i < n → p < 256 → s < 256 → s ≡ octet_product p p → t ≡ octet_product product s → quick_powers (n - (i + 1)) s t ≡ quick_powers (n - i) p product
-unfolding quick_powers
-powers_more n i p product s t l h k e f =
-    ap₂ (quick_powers (n - (i + 1))) (e ∙ quick_is p p h) (f ∙ quick_is product s k ∙ ap (quick 8 product) (e ∙ quick_is p p h))
-    ∙ ap (λ m. quick_powers m p product) (let m : suc (n - (i + 1)) ≡ n - i = omega arith in m)
 
 -- ---- it undoes the product
 

@@ -7,8 +7,11 @@ pub mod Linear
 pub mod Products
 pub mod Inverses
 pub mod Boxes
+pub mod Words
+pub mod Entries
 pub mod Squares
 pub mod Matrices
+pub mod Columns
 pub mod Steps
 pub mod Rounds
 pub mod KeyWords

@@ -69,10 +69,10 @@ undoes_from n m e r j x hr hj hx = linear_agree 8 (through n m r j) (diagonal r 
 
 -- ---- the two matrices
 
-abbrev mix : ℕ → ℕ → ℕ
+abbrev pub mix : ℕ → ℕ → ℕ
 mix = matrix (2 ∷ 3 ∷ 1 ∷ 1 ∷ 1 ∷ 2 ∷ 3 ∷ 1 ∷ 1 ∷ 1 ∷ 2 ∷ 3 ∷ 3 ∷ 1 ∷ 1 ∷ 2 ∷ [])
 
-abbrev inverse_mix : ℕ → ℕ → ℕ
+abbrev pub inverse_mix : ℕ → ℕ → ℕ
 inverse_mix = matrix (14 ∷ 11 ∷ 13 ∷ 9 ∷ 9 ∷ 14 ∷ 11 ∷ 13 ∷ 13 ∷ 9 ∷ 14 ∷ 11 ∷ 11 ∷ 13 ∷ 9 ∷ 14 ∷ [])
 
 inverse_mix_undoes : Undoes inverse_mix mix

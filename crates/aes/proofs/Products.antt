@@ -3,12 +3,12 @@ use Rattle.std.proofs.Common.{◌≡◌, ℕ, zero, suc, ◌+◌, ◌*◌, ◌^�
 use Rattle.std.proofs.lemmas.Bool.{cond-true, cond-false}
 use Rattle.std.specs.Int.{bit_at}
 use Rattle.std.proofs.lemmas.Nat.{shl_below}
-use Rattle.std.proofs.lemmas.Nat.Bits.{bit_at-suc, bit_at_lowest, shr_and_one}
+use Rattle.std.proofs.lemmas.Nat.Bits.{bit_at-suc, bit_at_lowest}
 use Rattle.aes.specs.Polynomial.{polynomial_sum, polynomial_remainder}
 use Rattle.aes.specs.Octet.{octet_product}
 use Rattle.aes.proofs.Xor.{xor_assoc, xor_zero_l, xor_zero_r, xor_lt, xor_times_pow, polynomial_sum-ext, polynomial_sum-lt, polynomial_sum-map, polynomial_sum-xor, polynomial_sum-zero, bit_cases}
 use Rattle.aes.proofs.Polynomial.{polynomial_remainder-xor, polynomial_remainder-less, polynomial_remainder-shift, polynomial_remainder-zero, polynomial_remainder-small}
-use Rattle.aes.proofs.Rows.{rows_of, row_below, rem_of, next_power, row_taken, row_passed, no_rows, power_none, rows_all}
+use Rattle.aes.proofs.Rows.{rows_of, row_below, rem_of, rows_all}
 use Rattle.aes.proofs.Below.{all_below, all_below_at, equal_below}
 
 abbrev pub rem : ℕ → ℕ
@@ -116,23 +116,3 @@ doubled_low a h z = sym (cond-true (bit_and a 128 == 0) (bit_and a 127 * 2 % 256
 
 pub doubled_high : (a : ℕ) → a < 256 → (bit_and a 128 ≡ 0 → ⊥) → bit_xor (bit_and a 127 * 2 % 256) 27 ≡ octet_product 2 a
 doubled_high a h z = sym (cond-false (bit_and a 128 == 0) (bit_and a 127 * 2 % 256) (bit_xor (bit_and a 127 * 2 % 256) 27) (ne_eqb (bit_and a 128) 0 z)) ∙ doubled_is a h
-
-two_times : (a : ℕ) → a < 256 → octet_product 2 a ≡ x_times a
-unfolding quick x_times polynomial_remainder all_below
-two_times a h = quick_is 2 a h ∙ equal_below (quick 8 2) x_times 256 a refl h
-
-pub power_more : (p b i : ℕ) → p < 256 → b < 256 → i < 8 → p ≡ rem (b * 2 ^ i) → octet_product 2 p ≡ rem (b * 2 ^ (i + 1))
-unfolding x_times
-power_more p b i s h l e = two_times p s ∙ ap x_times e ∙ next_power 8 0x11b b i h l
-
-pub taken : (a b i : ℕ) → bit_and (a / 2 ^ i) 1 ≡ 1 → bit_xor (rem (rows_of a b i)) (rem (b * 2 ^ i)) ≡ rem (rows_of a b (suc i))
-taken a b i e = row_taken 8 0x11b a b i (sym (shr_and_one a i) ∙ e)
-
-pub passed_by : (a b i : ℕ) → (bit_and (a / 2 ^ i) 1 ≡ 1 → ⊥) → rem (rows_of a b i) ≡ rem (rows_of a b (suc i))
-passed_by a b i clear = row_passed 8 0x11b a b i (⊎_elim (λ z. z) (λ o. absurd (clear (shr_and_one a i ∙ o))) (bit_cases a i))
-
-pub first_part : (a b : ℕ) → 0 ≡ rem (rows_of a b 0)
-first_part a b = sym (no_rows 8 0x11b a b)
-
-pub first_power : (b : ℕ) → b < 256 → b ≡ rem (b * 2 ^ 0)
-first_power b h = sym (power_none 8 0x11b b h)

@@ -1,10 +1,10 @@
 -- The product by rows, modulo m of degree d: the sum of the a_i times the remainders of x ^ i b.
-use Rattle.std.proofs.Common.{◌≡◌, ℕ, zero, suc, ◌+◌, ◌*◌, ◌^◌, ◌<◌, ◌≤◌, bit_xor, sym, ap, ap₂, subst, ◌∙◌, arith, zero-mul, one-mul, mul_assoc, pow-add, lt_of_lt_of_le, pow_mono, mul-one, ⊎_elim, mod-eq_of_lt}
+use Rattle.std.proofs.Common.{◌≡◌, ℕ, zero, suc, ◌+◌, ◌*◌, ◌^◌, ◌<◌, ◌≤◌, bit_xor, sym, ap, ap₂, subst, ◌∙◌, arith, zero-mul, one-mul, mul_assoc, pow-add, lt_of_lt_of_le, pow_mono, ⊎_elim, mod-eq_of_lt}
 use Rattle.std.specs.Int.{bit_at}
 use Rattle.std.proofs.lemmas.Nat.{pow_pos, shl_below, pow_below}
 use Rattle.aes.specs.Polynomial.{polynomial_sum, polynomial_product, polynomial_remainder}
-use Rattle.aes.proofs.Xor.{xor_zero_r, polynomial_sum-lt, bit_cases, bits_sum}
-use Rattle.aes.proofs.Polynomial.{polynomial_remainder-xor, polynomial_remainder-less, polynomial_remainder-shift, polynomial_remainder-zero, polynomial_remainder-small, polynomial_product-rows}
+use Rattle.aes.proofs.Xor.{polynomial_sum-lt, bit_cases, bits_sum}
+use Rattle.aes.proofs.Polynomial.{polynomial_remainder-less, polynomial_remainder-shift, polynomial_product-rows}
 
 -- the sum of the rows below i
 abbrev pub rows_of : ℕ → ℕ → ℕ → ℕ
@@ -25,24 +25,6 @@ module _ (d m : ℕ) where
       let next : b * 2 ^ i * 2 ^ 1 ≡ b * 2 ^ (i + 1) = mul_assoc b (2 ^ i) (2 ^ 1) ∙ ap (λ x. b * x) (sym (pow-add 2 i 1)) in
       let small : b * 2 ^ (i + 1) < 2 ^ (d + d) = lt_of_lt_of_le (shl_below b d (i + 1) h) (pow_mono (let e : d + (i + 1) ≤ d + d = omega arith in e)) in
       sym (polynomial_remainder-shift d m d (b * 2 ^ i)) ∙ ap (polynomial_remainder d m (suc d)) next ∙ polynomial_remainder-less d m d (b * 2 ^ (i + 1)) small
-
-  pub row_taken : (a b i : ℕ) → bit_at a i ≡ 1 → bit_xor (rem_of (rows_of a b i)) (rem_of (b * 2 ^ i)) ≡ rem_of (rows_of a b (suc i))
-  unfolding polynomial_sum
-  row_taken a b i e =
-      sym (polynomial_remainder-xor d m d (rows_of a b i) (b * 2 ^ i))
-      ∙ ap (λ x. rem_of (bit_xor (rows_of a b i) x)) (sym (ap (λ x. x * (b * 2 ^ i)) e ∙ one-mul (b * 2 ^ i)))
-
-  pub row_passed : (a b i : ℕ) → bit_at a i ≡ 0 → rem_of (rows_of a b i) ≡ rem_of (rows_of a b (suc i))
-  unfolding polynomial_sum
-  row_passed a b i e =
-      ap rem_of (sym (ap (bit_xor (rows_of a b i)) (ap (λ x. x * (b * 2 ^ i)) e ∙ zero-mul (b * 2 ^ i)) ∙ xor_zero_r (rows_of a b i)))
-
-  pub no_rows : (a b : ℕ) → rem_of (rows_of a b 0) ≡ 0
-  unfolding polynomial_sum
-  no_rows a b = polynomial_remainder-zero d m d
-
-  pub power_none : (b : ℕ) → b < 2 ^ d → rem_of (b * 2 ^ 0) ≡ b
-  power_none b h = ap rem_of (mul-one b) ∙ polynomial_remainder-small d m d b h
 
 pub rows_all : (e m a b : ℕ) → b < 2 ^ suc e → polynomial_remainder (suc e) m (suc e) (rows_of a b (suc e)) ≡ polynomial_remainder (suc e) m e (polynomial_product (suc e) a b)
 rows_all e m a b h =

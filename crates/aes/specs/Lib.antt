@@ -4,6 +4,7 @@ pub mod Remainder
 pub mod Octet
 pub mod SBox
 pub mod State
+pub mod Words
 pub mod KeyExpansion
 pub mod Block
 pub mod Cipher

@@ -1,40 +1,66 @@
 //! The inverse steps of a round (FIPS 197, section 5.3). The sum with a round's key is its own inverse.
-ghost use Rattle.std.specs.Prelude.{◌≡◌};
-ghost use Rattle.aes.specs.InverseCipher.{inverse_sub_bytes, inverse_shift_rows, inverse_mix_columns};
+ghost use Rattle.std.specs.Prelude.{◌≡◌, ℕ, ◌+◌, ◌-◌, ◌%◌, ◌<◌, [], ◌∷◌, slice_index};
+ghost use Rattle.aes.specs.InverseCipher.{inverse_s_box, inverse_sub_bytes, inverse_shift_rows, inverse_mix_columns};
+ghost use Rattle.aes.specs.Octet.{octet_product};
+ghost use Rattle.aes.specs.Polynomial.{polynomial_sum};
+ghost use Rattle.aes.specs.Words.{octet, block_of};
 
-use crate::s_box::unsubstitute;
-use crate::state::times_matrix;
+use crate::state::turned_sum;
+use crate::tables::{inverse_mix, unsubstitute};
 
-/// Each row turned to the right by its number (section 5.3.1).
-pub(crate) fn inverse_shift_rows(state: &[u8; 16]) -> [u8; 16]
-    ensures { result ≡ inverse_shift_rows state.now }
+/// The inverse of the S-box on a column whose octets stand in these four.
+fn unsubstitute_column(a: u32, b: u32, c: u32, d: u32) -> u32
+    ensures { (r : ℕ) → r < 4 → octet result r ≡ inverse_s_box (octet (slice_index (a ∷ b ∷ c ∷ d ∷ []) r) r) }
 {
-    let mut out = [0; 16];
-    for i in 0..16_usize {
-        let row = i % 4;
-        let column = i / 4;
-        out[i] = state[row + 4 * ((column + 4 - row) % 4)];
-    }
-    out
+    let [a0, _, _, _] = a.to_be_bytes();
+    let [_, b1, _, _] = b.to_be_bytes();
+    let [_, _, c2, _] = c.to_be_bytes();
+    let [_, _, _, d3] = d.to_be_bytes();
+    u32::from_be_bytes([
+        unsubstitute(a0),
+        unsubstitute(b1),
+        unsubstitute(c2),
+        unsubstitute(d3),
+    ])
 }
 
-/// The inverse of the S-box on each octet (section 5.3.2).
-pub(crate) fn inverse_sub_bytes(state: &[u8; 16]) -> [u8; 16]
-    ensures { result ≡ inverse_sub_bytes state.now }
+/// Each row turned to the right by its number, and the inverse of the S-box on each octet (sections 5.3.1 and 5.3.2).
+pub(crate) fn inverse_shift_sub(state: [u32; 4]) -> [u32; 4]
+    ensures { block_of result ≡ inverse_sub_bytes (inverse_shift_rows (block_of state)) }
 {
-    let mut out = [0; 16];
-    for i in 0..16_usize {
-        out[i] = unsubstitute(state[i]);
-    }
-    out
+    let [a, b, c, d] = state;
+    [
+        unsubstitute_column(a, d, c, b),
+        unsubstitute_column(b, a, d, c),
+        unsubstitute_column(c, b, a, d),
+        unsubstitute_column(d, c, b, a),
+    ]
+}
+
+/// A column multiplied by the inverse matrix.
+fn inverse_mix_column(a: u32) -> u32
+    ensures { (r : ℕ) → r < 4
+        → octet result r
+        ≡ polynomial_sum (λ k. octet_product (slice_index (14 ∷ 9 ∷ 13 ∷ 11 ∷ []) ((r + 4 - k) % 4)) (octet a k)) 4 }
+{
+    let [a0, a1, a2, a3] = a.to_be_bytes();
+    turned_sum(
+        inverse_mix(a0),
+        inverse_mix(a1),
+        inverse_mix(a2),
+        inverse_mix(a3),
+    )
 }
 
 /// Each column multiplied by the inverse matrix (section 5.3.3).
-pub(crate) fn inverse_mix_columns(state: &[u8; 16]) -> [u8; 16]
-    ensures { result ≡ inverse_mix_columns state.now }
+pub(crate) fn inverse_mix_columns(state: [u32; 4]) -> [u32; 4]
+    ensures { block_of result ≡ inverse_mix_columns (block_of state) }
 {
-    times_matrix(
-        &[14, 11, 13, 9, 9, 14, 11, 13, 13, 9, 14, 11, 11, 13, 9, 14],
-        state,
-    )
+    let [a, b, c, d] = state;
+    [
+        inverse_mix_column(a),
+        inverse_mix_column(b),
+        inverse_mix_column(c),
+        inverse_mix_column(d),
+    ]
 }

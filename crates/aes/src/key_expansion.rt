@@ -2,10 +2,22 @@
 //! words too, four for each, and are made an octet at a time.
 ghost use Rattle.std.specs.Prelude.{◌≡◌, ◌+◌, ◌-◌, ◌*◌, ◌/◌, ◌≤◌, ◌<◌, length};
 ghost use Rattle.aes.specs.KeyExpansion.{power_of_x, transformed, next_word, key_expansion};
+ghost use Rattle.aes.specs.Octet.{octet_product};
 ghost use Rattle.aes.specs.State.{word};
 
-use crate::octet::multiply;
-use crate::s_box::substitute;
+use crate::tables::substitute;
+
+/// The product by x in the field of octets (section 4.2).
+fn multiply_by_x(a: u8) -> u8
+    ensures { result ≡ octet_product 2 a }
+{
+    let shifted = (a & 0x7f) << 1;
+    if a & 0x80 == 0 {
+        shifted
+    } else {
+        shifted ^ 0x1b
+    }
+}
 
 /// The octet of round constant j that is not zero: x^(j - 1).
 fn round_constant(j: usize) -> u8
@@ -14,7 +26,7 @@ fn round_constant(j: usize) -> u8
 {
     let mut power = 1;
     for _i in 1..j {
-        power = multiply(2, power);
+        power = multiply_by_x(power);
     }
     power
 }

@@ -22,8 +22,7 @@ mod cipher;
 mod inverse_state;
 mod key_expansion;
 pub mod laws;
-mod octet;
-mod s_box;
 mod state;
+mod tables;
 #[cfg(test)]
 mod tests;

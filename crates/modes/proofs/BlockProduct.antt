@@ -5,7 +5,7 @@ use Rattle.std.specs.List.{range_with_len}
 use Rattle.std.proofs.Math.ListN.{get_or-append}
 use Rattle.std.proofs.lemmas.List.FromFn.{get_or-map-range_with_len}
 use Rattle.std.proofs.lemmas.Nat.{xor_shr, and_mask, mod_below}
-use Rattle.std.proofs.lemmas.Nat.Bits.{bit_at-lt, bit_at_lowest, same_from_bits_below, shr_and_one}
+use Rattle.std.proofs.lemmas.Nat.Bits.{bit_at-lt, bit_at_lowest, same_from_bits_below}
 use Rattle.std.specs.Int.Bits.{xor_assoc, xor_comm, xor_zero_r}
 use Rattle.aes.specs.Polynomial.{polynomial_sum, polynomial_remainder}
 use Rattle.aes.specs.PolynomialLaws.{IsLinear, PolynomialLaws}
@@ -20,9 +20,6 @@ product_of x h i = polynomial_sum (λ j. bit_at (reflect x) j * power_of h j) i
 
 is_one : (b : ℕ) → b < 2 → (b ≡ 0 → ⊥) → b ≡ 1
 is_one b h n = omega arith
-
-is_zero : (b : ℕ) → b < 2 → (b ≡ 1 → ⊥) → b ≡ 0
-is_zero b h n = omega arith
 
 -- ---- a block times x
 
@@ -63,7 +60,7 @@ reflect_zero = refl
 module _ (laws : PolynomialLaws) where
   -- ---- the polynomial of a block
 
-  reflect_bit : (v k : ℕ) → k < 128 → bit_at (reflect v) k ≡ bit_at v (127 - k)
+  pub reflect_bit : (v k : ℕ) → k < 128 → bit_at (reflect v) k ≡ bit_at v (127 - k)
   unfolding reflect
   reflect_bit v k h = laws.powers_coefficient (λ i. bit_at v (127 - i)) 128 k (λ i. bit_at-lt v (127 - i)) h
 
@@ -78,11 +75,11 @@ module _ (laws : PolynomialLaws) where
       (λ i l. laws.coefficient_linear (127 - i) (2 ^ i) a b)
       ∙ laws.sum_of_sums (λ i. bit_at a (127 - i) * 2 ^ i) (λ i. bit_at b (127 - i) * 2 ^ i) 128
 
-  reflect_twice : (v : ℕ) → v < 2 ^ 128 → reflect (reflect v) ≡ v
+  pub reflect_twice : (v : ℕ) → v < 2 ^ 128 → reflect (reflect v) ≡ v
   reflect_twice v h = same_from_bits_below 128 (reflect (reflect v)) v (reflect_lt (reflect v)) h (λ i l.
       reflect_bit (reflect v) i l ∙ reflect_bit v (127 - i) (omega arith) ∙ ap (bit_at v) (let e : 127 - (127 - i) ≡ i = omega arith in e))
 
-  shifted_linear : IsLinear shifted
+  pub shifted_linear : IsLinear shifted
   unfolding shifted
   shifted_linear a b =
       let r = 0xe1 * 2 ^ 120 in
@@ -99,7 +96,7 @@ module _ (laws : PolynomialLaws) where
       ∙ laws.remainder_linear 128 modulus 1 (reflect a * 2) (reflect b * 2))
       step_agrees h
 
-  -- ---- the code's product
+  -- ---- the product as a sum
 
   pub power_first : (h : ℕ) → reflect h ≡ power_of h 0
   power_first h = sym (ap (polynomial_remainder 128 modulus 128) (mul-one (reflect h)) ∙ laws.remainder_small 128 modulus 128 (reflect h) (reflect_lt h))
@@ -110,35 +107,13 @@ module _ (laws : PolynomialLaws) where
       ∙ ap (λ p. polynomial_remainder 128 modulus 1 (p * 2)) e
       ∙ sym (laws.remainder_next 128 modulus i (reflect h) (reflect_lt h) l)
 
-  pub product_first : (x h : ℕ) → reflect 0 ≡ product_of x h 0
-  unfolding polynomial_sum
-  product_first x h = reflect_zero
-
-  pub product_taken : (x h product power i : ℕ) → i < 128 → bit_and (x / 2 ^ (127 - i)) 1 ≡ 1
-      → reflect product ≡ product_of x h i → reflect power ≡ power_of h i → reflect (bit_xor product power) ≡ product_of x h (suc i)
-  unfolding polynomial_sum
-  product_taken x h product power i l e p q =
-      let set : bit_at (reflect x) i ≡ 1 = reflect_bit x i l ∙ sym (shr_and_one x (127 - i)) ∙ e in
-      reflect_linear product power
-      ∙ ap₂ bit_xor p (q ∙ sym (ap (λ b. b * power_of h i) set ∙ one-mul (power_of h i)))
-
-  pub product_passed : (x h product i : ℕ) → i < 128 → (bit_and (x / 2 ^ (127 - i)) 1 ≡ 1 → ⊥)
-      → reflect product ≡ product_of x h i → reflect product ≡ product_of x h (suc i)
-  unfolding polynomial_sum
-  product_passed x h product i l ne p =
-      let clear : bit_at (reflect x) i ≡ 0 = reflect_bit x i l ∙ is_zero (bit_at x (127 - i)) (bit_at-lt x (127 - i)) (λ o. ne (shr_and_one x (127 - i) ∙ o)) in
-      p ∙ sym (ap (bit_xor (product_of x h i)) (ap (λ b. b * power_of h i) clear ∙ zero-mul (power_of h i)) ∙ xor_zero_r (product_of x h i))
-
-  product_is : (x h : ℕ) → block_product x h ≡ reflect (product_of x h 128)
+  pub product_is : (x h : ℕ) → block_product x h ≡ reflect (product_of x h 128)
   unfolding block_product
   product_is x h = ap reflect (laws.remainder_product 127 modulus (reflect x) (reflect h) (reflect_lt h))
 
-  pub product_last : (x h product : ℕ) → product < 2 ^ 128 → reflect product ≡ product_of x h 128 → product ≡ block_product x h
-  product_last x h product s e = sym (reflect_twice product s) ∙ ap reflect e ∙ sym (product_is x h)
-
   -- ---- Horner's rule
 
-  product_linear : (h : ℕ) → IsLinear (λ x. block_product x h)
+  pub product_linear : (h : ℕ) → IsLinear (λ x. block_product x h)
   product_linear h x y =
       product_is (bit_xor x y) h
       ∙ ap reflect

@@ -1,5 +1,5 @@
 -- Counter mode: the counter's steps, and the key stream by position.
-use Rattle.std.proofs.Common.{◌≡◌, ℕ, ◌+◌, ◌-◌, ◌/◌, ◌%◌, ◌^◌, ◌<◌, ◌≤◌, List, ◌++◌, length, take, drop, map, get_or, slice_index, bit_xor, w32, refl, sym, ap, ap₂, subst, ◌∙◌, arith, rules, length-append, length-drop, take-append-drop, append-nil, ext_get_or, ⊎_elim}
+use Rattle.std.proofs.Common.{◌≡◌, ℕ, ◌+◌, ◌-◌, ◌*◌, ◌/◌, ◌%◌, ◌^◌, ◌<◌, ◌≤◌, List, ◌++◌, length, take, drop, map, get_or, slice_index, bit_xor, w32, refl, sym, ap, ap₂, subst, ◌∙◌, arith, rules, length-append, length-drop, take-append-drop, append-nil, ext_get_or, ⊎_elim}
 use Rattle.std.specs.Int.{from_be_bytes, to_be_bytes}
 use Rattle.std.specs.List.{range_with_len}
 use Rattle.std.proofs.lemmas.Bool.{cases_lt}
@@ -7,9 +7,11 @@ use Rattle.std.proofs.lemmas.List.{take_at, drop_at, take_all, drop_all, get_or_
 use Rattle.std.proofs.lemmas.List.FromFn.{length-map-range_with_len, get_or-map-range_with_len}
 use Rattle.std.proofs.lemmas.Nat.{be_bytes_4, from_be_bytes-to_be_bytes_4}
 use Rattle.octets.specs.Octets.{IsOctets, xor_octets}
+use Rattle.modes.specs.Cbc.{block}
 use Rattle.modes.specs.Ctr.{counter_block, stream_octet, ctr}
-use Rattle.modes.specs.Views.{HoldsKeyStream, HoldsKeyStreamBlock}
+use Rattle.modes.specs.Views.{HoldsKeyStream}
 use Rattle.modes.specs.declared.ctr.KeyStream.{KeyStream}
+use Rattle.modes.proofs.Padding.{at_block}
 use borrow.Rule.Slice.PartMut.{put_mid}
 
 -- ---- the counter
@@ -18,21 +20,21 @@ module _ (f : List ℕ) (sixteen : length f ≡ 16) where
   twelve : length (take 12 f) ≡ 12
   twelve = length-take-le 12 f (omega (arith, sixteen))
 
-  next_modulo : (a n : ℕ) → ((a + n) % 2 ^ 32 + 1) % 2 ^ 32 ≡ (a + (n + 1)) % 2 ^ 32
-  next_modulo a n = omega arith
+  add_modulo : (a n k : ℕ) → ((a + n) % 2 ^ 32 + k) % 2 ^ 32 ≡ (a + (n + k)) % 2 ^ 32
+  add_modulo a n k = omega arith
 
   low : (a : ℕ) → a % 2 ^ 32 < 2 ^ 32
   low a = omega arith
 
-  pub counter_block-more : (n : ℕ) → counter_block (counter_block f n) 1 ≡ counter_block f (n + 1)
+  pub counter_block-add : (n k : ℕ) → counter_block (counter_block f n) k ≡ counter_block f (n + k)
   unfolding counter_block
-  counter_block-more n =
+  counter_block-add n k =
       let a = from_be_bytes w32 (drop 12 f) in
       let x = to_be_bytes w32 ((a + n) % 2 ^ 32) in
       let number : from_be_bytes w32 (drop 12 (take 12 f ++ x)) ≡ (a + n) % 2 ^ 32 =
       ap (from_be_bytes w32) (drop_at (take 12 f) x 12 twelve) ∙ from_be_bytes-to_be_bytes_4 ((a + n) % 2 ^ 32) (low (a + n)) in
-      ap₂ (λ s m. s ++ to_be_bytes w32 ((m + 1) % 2 ^ 32)) (take_at (take 12 f) x 12 twelve) number
-      ∙ ap (λ m. take 12 f ++ to_be_bytes w32 m) (next_modulo a n)
+      ap₂ (λ s m. s ++ to_be_bytes w32 ((m + k) % 2 ^ 32)) (take_at (take 12 f) x 12 twelve) number
+      ∙ ap (λ m. take 12 f ++ to_be_bytes w32 m) (add_modulo a n k)
 
   pub counter_block-none : IsOctets f → counter_block f 0 ≡ f
   unfolding counter_block
@@ -76,11 +78,11 @@ module _ (e : List ℕ → List ℕ) (f p q : List ℕ) where
       ∙ sym (get_or-append_right (ctr e f p) x (length p) i 0 (length-ctr p) b))
       (cases_lt i (length p)))
 
--- n octets with those of one block of the key stream, from octet u on
-pub with_block : (e : List ℕ → List ℕ) (f p q s : List ℕ) (u : ℕ) → u ≡ length p % 16 → u + length q ≤ 16 → s ≡ e (counter_block f (length p / 16)) → length s ≡ 16
+-- the octets q with as many of s from octet u on, which are the next of the key stream
+pub with_stream : (e : List ℕ → List ℕ) (f p q s : List ℕ) (u : ℕ) → ((i : ℕ) → i < length q → slice_index s (u + i) ≡ stream_octet e f (length p + i))
     → ctr e f (p ++ q) ≡ ctr e f p ++ xor_octets q (take (length q) (drop u s))
 unfolding xor_octets
-with_block e f p q s u used room stream sixteen =
+with_stream e f p q s u next =
     let part = take (length q) (drop u s) in
     ctr-append e f p q (map (λ i. bit_xor (slice_index q i) (slice_index part i)) (range_with_len 0 (length q)))
     (length-map-range_with_len (λ i. bit_xor (slice_index q i) (slice_index part i)) 0 (length q))
@@ -89,8 +91,7 @@ with_block e f p q s u used room stream sixteen =
     ∙ ap (bit_xor (slice_index q i))
     (get_or-take (length q) (drop u s) i 0 l
     ∙ get_or-drop u s i 0
-    ∙ ap₂ (λ x k. slice_index x k) (stream ∙ ap (λ n. e (counter_block f n)) (let d : length p / 16 ≡ (length p + i) / 16 = omega (arith, used, room, l) in d))
-    (let k : u + i ≡ (length p + i) % 16 = omega (arith, used, room, l) in k)))
+    ∙ next i l))
 
 -- the counter with its last four octets written anew
 pub counted_up : (u four y : List ℕ) (n : ℕ) → length u ≡ 16 → four ≡ take 4 (drop 12 u) → n ≡ from_be_bytes w32 four → y ≡ to_be_bytes w32 ((n + 1) % 2 ^ 32)
@@ -102,39 +103,43 @@ counted_up u four y n sixteen is_four is_n is_y =
     ap (λ t. take 12 u ++ (y ++ t)) (drop_all 4 (drop 12 u) (omega (arith, rest)))
     ∙ ap (λ t. take 12 u ++ t) (append-nil y ∙ is_y ∙ ap (λ m. to_be_bytes w32 ((m + 1) % 2 ^ 32)) number)
 
--- ---- one step of the code, from a text p to p ++ q
+-- ---- the code's steps behind a text p
 
 module _ (e : List ℕ → List ℕ) (f p : List ℕ) where
-  pub ready_as_is : (s : KeyStream) → s.used < 16 → HoldsKeyStream s e f p → HoldsKeyStreamBlock s e f p
-  ready_as_is s l k =
-      let some : 0 < length p % 16 = ⊎_elim (λ h. h) (λ h. absurd (omega (arith, l, k.all_used (omega (arith, h))))) (cases_lt 0 (length p % 16)) in
+  -- all blocks are used, and those from place n on are made anew
+  pub made_anew : (s t : KeyStream) (n : ℕ) → s.used ≡ 256 → n < 16 → HoldsKeyStream s e f p → t.used ≡ 16 * n
+      → ((m : ℕ) → s.counter ≡ counter_block f m → t.counter ≡ counter_block f (m + (16 - n)))
+      → ((m : ℕ) → s.counter ≡ counter_block f m → (i : ℕ) → n ≤ i → i < 16 → block t.blocks i ≡ e (counter_block f (m + (i - n))))
+      → HoldsKeyStream t e f p
+  made_anew s t n full within k used counter blocks =
+      let m = length p / 16 in
+      let even : length p ≡ 16 * m = omega (arith, full, k.whole) in
+      let at : s.counter ≡ counter_block f m = k.counter ∙ ap (counter_block f) (let d : (length p + (256 - s.used)) / 16 ≡ m = omega (arith, full) in d) in
       record {
         sixteen = k.sixteen;
-        counter = k.counter ∙ ap (counter_block f) (let n : (length p + 15) / 16 ≡ length p / 16 + 1 = omega (arith, some) in n);
-        used = k.used some;
-        block = k.block some;
+        whole = omega (arith, used, even, within);
+        counter = counter m at ∙ ap (counter_block f) (let d : m + (16 - n) ≡ (length p + (256 - t.used)) / 16 = omega (arith, used, even, within) in d);
+        blocks = λ i l.
+            ap (slice_index t.blocks) (let d : t.used + i ≡ 16 * (n + i / 16) + i % 16 = omega (arith, used) in d)
+            ∙ sym (at_block t.blocks (n + i / 16) (i % 16) (omega arith))
+            ∙ ap (λ b. slice_index b (i % 16))
+            (blocks m at (n + i / 16) (omega arith) (omega (arith, l, used, within))
+            ∙ ap (λ j. e (counter_block f j)) (let d : m + (n + i / 16 - n) ≡ (length p + i) / 16 = omega (arith, even) in d))
+            ∙ ap (slice_index (e (counter_block f ((length p + i) / 16)))) (let d : i % 16 ≡ (length p + i) % 16 = omega (arith, even) in d);
       }
 
-  pub ready_anew : (s t : KeyStream) → s.used ≡ 16 → HoldsKeyStream s e f p
-      → t.block ≡ e s.counter → t.used ≡ 0 → t.counter ≡ counter_block s.counter 1 → HoldsKeyStreamBlock t e f p
-  ready_anew s t full k block used counter =
-      let none : length p % 16 ≡ 0 = ⊎_elim (λ h. absurd (omega (arith, full, k.used h))) (λ h. omega (arith, h)) (cases_lt 0 (length p % 16)) in
-      let at : s.counter ≡ counter_block f (length p / 16) = k.counter ∙ ap (counter_block f) (let n : (length p + 15) / 16 ≡ length p / 16 = omega (arith, none) in n) in
-      record {
-        sixteen = k.sixteen;
-        counter = counter ∙ ap (λ c. counter_block c 1) at ∙ counter_block-more f k.sixteen (length p / 16);
-        used = used ∙ sym none;
-        block = block ∙ ap e at;
-      }
-
-  pub counts_on : (s t : KeyStream) (q : List ℕ) → HoldsKeyStreamBlock s e f p → 0 < length q → s.used + length q ≤ 16
-      → t.block ≡ s.block → t.counter ≡ s.counter → t.used ≡ s.used + length q → HoldsKeyStream t e f (p ++ q)
-  counts_on s t q k some room block counter used =
+  -- as many octets are used as q has
+  pub counts_on : (s t : KeyStream) (q : List ℕ) → HoldsKeyStream s e f p → s.used + length q ≤ 256
+      → t.blocks ≡ s.blocks → t.counter ≡ s.counter → t.used ≡ s.used + length q → HoldsKeyStream t e f (p ++ q)
+  counts_on s t q k room blocks counter used =
       let long = length-append p q in
+      let same : length (p ++ q) + (256 - t.used) ≡ length p + (256 - s.used) = omega (arith, long, room, used) in
       record {
         sixteen = k.sixteen;
-        counter = counter ∙ k.counter ∙ ap (counter_block f) (let n : length p / 16 + 1 ≡ (length (p ++ q) + 15) / 16 = omega (arith, long, some, room, k.used) in n);
-        used = λ h. used ∙ omega (arith, long, some, room, k.used, h);
-        all_used = λ h. used ∙ omega (arith, long, some, room, k.used, h);
-        block = λ h. block ∙ k.block ∙ ap (λ n. e (counter_block f n)) (let n : length p / 16 ≡ length (p ++ q) / 16 = omega (arith, long, some, room, k.used, h) in n);
+        whole = ap (λ n. n % 16) same ∙ k.whole;
+        counter = counter ∙ k.counter ∙ ap (λ n. counter_block f (n / 16)) (sym same);
+        blocks = λ i l.
+            ap₂ slice_index blocks (let d : t.used + i ≡ s.used + (length q + i) = omega (arith, used) in d)
+            ∙ k.blocks (length q + i) (omega (arith, l, used, room))
+            ∙ ap (stream_octet e f) (let d : length p + (length q + i) ≡ length (p ++ q) + i = omega (arith, long) in d);
       }

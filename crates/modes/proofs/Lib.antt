@@ -4,10 +4,12 @@ pub mod Chaining
 pub mod Pieces
 pub mod Fed
 pub mod Padding
+pub mod Groups
 pub mod Opening
 pub mod Counting
 pub mod Fronts
 pub mod BlockProduct
+pub mod Multiples
 pub mod Numbers
 pub mod Protecting
 pub mod Octets

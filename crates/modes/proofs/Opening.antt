@@ -17,6 +17,17 @@ unfolding opened_block before
 opened_same d iv b c zero same = ap (λ x. xor_octets (d x) iv) (same 0 (omega arith))
 opened_same d iv b c (suc i) same = ap₂ (λ x y. xor_octets (d x) y) (same (suc i) (omega arith)) (same i (omega arith))
 
+-- the first by the IV, and each later one by the block before
+pub opened_first : (d : List ℕ → List ℕ) (iv c : List ℕ) (i : ℕ) → i ≡ 0 → xor_octets (d (block c i)) iv ≡ opened_block d iv c i
+unfolding opened_block before
+opened_first d iv c zero e = refl
+opened_first d iv c (suc i) e = absurd (omega arith)
+
+pub opened_later : (d : List ℕ → List ℕ) (iv c : List ℕ) (i : ℕ) → i ≢ 0 → xor_octets (d (block c i)) (block c (i - 1)) ≡ opened_block d iv c i
+unfolding opened_block before
+opened_later d iv c zero e = absurd (e refl)
+opened_later d iv c (suc i) e = ap (λ k. xor_octets (d (block c (suc i))) (block c k)) (let s : suc i - 1 ≡ i = omega arith in s)
+
 module _ (e d : List ℕ → List ℕ) (law : IsCipher e d) (iv : List ℕ) (start : IsBlock iv) where
   pub chained_is_block : (q : List ℕ) → IsOctets q → (i : ℕ) → 16 * i ≤ length q → IsBlock (chained e iv q i)
   unfolding chained

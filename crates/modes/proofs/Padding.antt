@@ -31,7 +31,7 @@ pad_octets p small i = ⊎_elim
     (cases_lt i (length (pad p))))
     (cases_lt i (length p))
 
-at_block : (q : List ℕ) (k j : ℕ) → j < 16 → slice_index (block q k) j ≡ slice_index q (16 * k + j)
+pub at_block : (q : List ℕ) (k j : ℕ) → j < 16 → slice_index (block q k) j ≡ slice_index q (16 * k + j)
 at_block q k j h = get_or-take 16 (drop (16 * k) q) j 0 h ∙ get_or-drop (16 * k) q j 0
 
 -- the last block of a padded text ends in the padding

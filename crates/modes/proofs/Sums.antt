@@ -12,7 +12,7 @@ pub length-xor : (x y : List ℕ) → length (xor_octets x y) ≡ length x
 unfolding xor_octets
 length-xor x y = length-map-range_with_len (λ i. bit_xor (slice_index x i) (slice_index y i)) 0 (length x)
 
-at-xor : (x y : List ℕ) (i : ℕ) → i < length x → slice_index (xor_octets x y) i ≡ bit_xor (slice_index x i) (slice_index y i)
+pub at-xor : (x y : List ℕ) (i : ℕ) → i < length x → slice_index (xor_octets x y) i ≡ bit_xor (slice_index x i) (slice_index y i)
 unfolding xor_octets
 at-xor x y i h = get_or-map-range_with_len (λ i. bit_xor (slice_index x i) (slice_index y i)) 0 (length x) i i 0 h (omega arith)
 

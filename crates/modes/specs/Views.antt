@@ -1,8 +1,8 @@
 -- What a running mode was started with, and what it was fed.
-use Rattle.std.specs.Prelude.{◌≡◌, ℕ, ◌+◌, ◌*◌, ◌/◌, ◌%◌, ◌<◌, List, ◌++◌, length, drop}
+use Rattle.std.specs.Prelude.{◌≡◌, ℕ, ◌+◌, ◌-◌, ◌*◌, ◌/◌, ◌%◌, ◌<◌, List, ◌++◌, length, drop, slice_index}
 use Rattle.std.specs.Int.{w128, from_be_bytes}
 use Rattle.modes.specs.Cbc.{chained}
-use Rattle.modes.specs.Ctr.{counter_block}
+use Rattle.modes.specs.Ctr.{counter_block, stream_octet}
 use Rattle.modes.specs.Gcm.{hash_subkey, pre_counter_block, bit_length, gcm_ciphertext}
 use Rattle.modes.specs.Ghash.{ghash_number, numbers, zero_filled}
 use Rattle.modes.specs.declared.cbc.Cbc.{Cbc}
@@ -17,20 +17,12 @@ pub record HoldsCbc {B : Type 0} (encrypted : B → List ℕ → List ℕ) (s : 
   pub previous : s.previous ≡ chained e iv p (length p / 16)
   pub waiting : s.waiting ≡ drop (16 * (length p / 16)) p
 
--- the key stream of e from the first counter block f, behind the text p
+-- the key stream of e from the first counter block f, behind the text p: what is not used of its blocks comes next
 pub record HoldsKeyStream (s : KeyStream) (e : List ℕ → List ℕ) (f p : List ℕ) : Type 0 where
   pub sixteen : length f ≡ 16
-  pub counter : s.counter ≡ counter_block f ((length p + 15) / 16)
-  pub used : 0 < length p % 16 → s.used ≡ length p % 16
-  pub all_used : length p % 16 ≡ 0 → s.used ≡ 16
-  pub block : 0 < length p % 16 → s.block ≡ e (counter_block f (length p / 16))
-
--- the same, with at least one octet of the block that is not used yet
-pub record HoldsKeyStreamBlock (s : KeyStream) (e : List ℕ → List ℕ) (f p : List ℕ) : Type 0 where
-  pub sixteen : length f ≡ 16
-  pub counter : s.counter ≡ counter_block f (length p / 16 + 1)
-  pub used : s.used ≡ length p % 16
-  pub block : s.block ≡ e (counter_block f (length p / 16))
+  pub whole : (length p + (256 - s.used)) % 16 ≡ 0
+  pub counter : s.counter ≡ counter_block f ((length p + (256 - s.used)) / 16)
+  pub blocks : (i : ℕ) → i < 256 - s.used → slice_index s.blocks (s.used + i) ≡ stream_octet e f (length p + i)
 
 -- it was started with the cipher that sends blocks by e, and with this first counter block, and has taken p
 pub record HoldsCtr {B : Type 0} (encrypted : B → List ℕ → List ℕ) (s : Ctr32 B) (e : List ℕ → List ℕ) (f p : List ℕ) : Type 0 where
@@ -39,8 +31,8 @@ pub record HoldsCtr {B : Type 0} (encrypted : B → List ℕ → List ℕ) (s : 
 
 -- it was started with the block h, and has taken x
 pub record HoldsGhash (s : Ghash) (h x : List ℕ) : Type 0 where
-  pub key : s.h ≡ from_be_bytes w128 h
-  pub sum : s.sum ≡ ghash_number s.h (numbers x)
+  pub key : s.subkey.h ≡ from_be_bytes w128 h
+  pub sum : s.sum ≡ ghash_number s.subkey.h (numbers x)
   pub waiting : s.waiting ≡ drop (16 * (length x / 16)) x
 
 -- it was started with the cipher that sends blocks by e, this IV and additional data, and has taken p

@@ -1,8 +1,8 @@
 //! The opening of CBC with padding, in place.
-ghost use Rattle.std.specs.Prelude.{◌≡◌, ◌≢◌, ◌+◌, ◌*◌, ◌%◌, ◌≤◌, ℕ, List, length, take, IfSome, IfNone};
-ghost use Rattle.modes.specs.Cbc.{cbc};
+ghost use Rattle.std.specs.Prelude.{◌≡◌, ◌≢◌, ◌+◌, ◌-◌, ◌*◌, ◌%◌, ◌<◌, ◌≤◌, ℕ, List, length, take, IfSome, IfNone};
+ghost use Rattle.modes.specs.Cbc.{block, cbc};
 ghost use Rattle.modes.specs.Opening.{opened_block, opened_blocks, IsPadded};
-ghost use Rattle.octets.specs.Octets.{IsOctets};
+ghost use Rattle.octets.specs.Octets.{IsOctets, xor_octets};
 
 use aes::Block;
 use octets::xor_into;
@@ -64,11 +64,48 @@ fn open_block<B: Block>(cipher: &B, iv: &[u8; 16], buf: &[u8], i: usize) -> [u8;
 
 /// All blocks of the padded plaintext, from the last to the first, each in the place of its ciphertext.
 fn open_blocks<B: Block>(cipher: &B, iv: &[u8; 16], buf: &mut [u8])
-    requires { length buf.old % 16 ≡ 0 }
+    requires some { 0 < length buf.old }
+    requires whole { length buf.old % 16 ≡ 0 }
     ensures { buf.new ≡ opened_blocks (B.decrypted cipher.now) iv.now buf.old }
 {
-    for i in (0..buf.len() / 16).rev() {
-        let block = open_block(cipher, iv, buf, i);
-        buf[16 * i..16 * i + 16].copy_from_slice(&block);
+    let mut end = buf.len() / 16;
+    while end > 1 {
+        let first = end.saturating_sub(16).max(1);
+        open_later_blocks(cipher, buf, first, end);
+        end = first;
+    }
+    let block = open_block(cipher, iv, buf, 0);
+    buf[..16].copy_from_slice(&block);
+}
+
+/// The blocks from `first` on and before `end`, at most sixteen, of which none is the first of all.
+fn open_later_blocks<B: Block>(cipher: &B, buf: &mut [u8], first: usize, end: usize)
+    requires later { 0 < first }
+    requires few { end ≤ first + 16 }
+    requires order { first ≤ end }
+    requires within { 16 * end ≤ length buf.old }
+    ensures opened { (i : ℕ) → first ≤ i → i < end
+        → block buf.new i ≡ xor_octets (B.decrypted cipher.now (block buf.old i)) (block buf.old (i - 1)) }
+    ensures before { (i : ℕ) → i < first → block buf.new i ≡ block buf.old i }
+    ensures behind { (i : ℕ) → end ≤ i → block buf.new i ≡ block buf.old i }
+{
+    let mut room = [0; 256];
+    let opened = &mut room[..16 * (end - first)];
+    decrypt_blocks(cipher, &buf[16 * first..16 * end], opened);
+    xor_into(opened, &buf[16 * (first - 1)..16 * (end - 1)]);
+    buf[16 * first..16 * end].copy_from_slice(opened);
+}
+
+/// Decrypts whole blocks, each by itself.
+fn decrypt_blocks<B: Block>(cipher: &B, blocks: &[u8], out: &mut [u8])
+    requires whole { length blocks.now % 16 ≡ 0 }
+    requires place { length out.old ≡ length blocks.now }
+    ensures { (i : ℕ) → 16 * i + 16 ≤ length blocks.now
+        → block out.new i ≡ B.decrypted cipher.now (block blocks.now i) }
+{
+    for i in 0..blocks.len() / 16 {
+        let mut ciphertext = [0; 16];
+        ciphertext.copy_from_slice(&blocks[16 * i..16 * i + 16]);
+        out[16 * i..16 * i + 16].copy_from_slice(&cipher.decrypt(&ciphertext));
     }
 }

@@ -1,5 +1,6 @@
 //! Counter mode, of a text that comes in pieces (SP 800-38D, section 6.5).
-ghost use Rattle.std.specs.Prelude.{◌≡◌, ℕ, ◌<◌, ◌≤◌, List, [], ◌++◌, length, take, drop};
+ghost use Rattle.std.specs.Prelude.{◌≡◌, ℕ, ◌+◌, ◌-◌, ◌<◌, ◌≤◌, List, [], ◌++◌, length, take, drop};
+ghost use Rattle.modes.specs.Cbc.{block};
 ghost use Rattle.modes.specs.Ctr.{counter_block, ctr};
 
 use aes::Block;
@@ -45,17 +46,18 @@ impl<B: Block> Ctr32<B> {
     pub fn finish(self) {}
 }
 
-/// The key stream behind a text: the next counter block, and the last block of the stream with how much of it is used.
+/// The key stream behind a text: the next counter block, and the last sixteen blocks of the stream with how many of their
+/// octets are used.
 #[derive(Drop)]
 pub(crate) struct KeyStream {
     counter: [u8; 16],
-    block: [u8; 16],
+    blocks: [u8; 256],
     used: usize,
-    ghost used_in: { used ≤ 16 },
+    ghost used_in: { used ≤ 256 },
 }
 
 impl KeyStream {
-    ghost use Rattle.modes.specs.Views.{HoldsKeyStream, HoldsKeyStreamBlock};
+    ghost use Rattle.modes.specs.Views.{HoldsKeyStream};
 
     /// Behind no text.
     pub(crate) fn start(first: &[u8; 16]) -> KeyStream
@@ -65,8 +67,8 @@ impl KeyStream {
         counter.copy_from_slice(first);
         KeyStream {
             counter,
-            block: [0; 16],
-            used: 16,
+            blocks: [0; 256],
+            used: 256,
         }
     }
 
@@ -83,7 +85,7 @@ impl KeyStream {
         }
     }
 
-    /// Adds what is left of a block of the stream to the front of the octets, and answers to how many.
+    /// Adds what is left of the blocks of the stream to the front of the octets, and answers to how many.
     fn apply_front<B: Block>(&mut self, cipher: &B, octets: &mut [u8]) -> usize
         requires { 0 < length octets.old }
         ensures some { (0 < result) × (result ≤ length octets.old) }
@@ -94,22 +96,40 @@ impl KeyStream {
             → ctr (B.encrypted cipher.now) f (p ++ take result octets.old)
             ≡ ctr (B.encrypted cipher.now) f p ++ take result octets.new }
     {
-        self.prepare(cipher);
-        let n = (16 - self.used).min(octets.len());
-        xor_into(&mut octets[..n], &self.block[self.used..self.used + n]);
+        self.prepare(cipher, octets.len());
+        let n = (256 - self.used).min(octets.len());
+        xor_into(&mut octets[..n], &self.blocks[self.used..self.used + n]);
         self.used += n;
         n
     }
 
-    /// Sees that an octet of the block is left.
-    fn prepare<B: Block>(&mut self, cipher: &B)
-        ensures left { self.new.used < 16 }
+    /// Sees that an octet of the stream is left: where all are used, makes the blocks for so many octets, or sixteen.
+    fn prepare<B: Block>(&mut self, cipher: &B, len: usize)
+        requires { 0 < len }
+        ensures left { self.new.used < 256 }
         ensures ready { (f p : List ℕ) → HoldsKeyStream self.old (B.encrypted cipher.now) f p
-            → HoldsKeyStreamBlock self.new (B.encrypted cipher.now) f p }
+            → HoldsKeyStream self.new (B.encrypted cipher.now) f p }
     {
-        if self.used == 16 {
-            self.block = cipher.encrypt(&self.counter);
-            self.used = 0;
+        if self.used == 256 {
+            let first = 16 - (len.min(256) + 15) / 16;
+            self.make_blocks(cipher, first);
+            self.used = 16 * first;
+        }
+    }
+
+    /// The next blocks of the stream, at the places from `first` to 15.
+    fn make_blocks<B: Block>(&mut self, cipher: &B, first: usize)
+        requires { first < 16 }
+        ensures counter { (f : List ℕ) (n : ℕ) → length f ≡ 16 → self.old.counter ≡ counter_block f n
+            → self.new.counter ≡ counter_block f (n + (16 - first)) }
+        ensures blocks { (f : List ℕ) (n : ℕ) → length f ≡ 16 → self.old.counter ≡ counter_block f n
+            → (i : ℕ) → first ≤ i → i < 16
+            → block self.new.blocks i ≡ B.encrypted cipher.now (counter_block f (n + (i - first))) }
+        ensures used { self.new.used ≡ self.old.used }
+    {
+        for i in first..16 {
+            let block = cipher.encrypt(&self.counter);
+            self.blocks[16 * i..16 * i + 16].copy_from_slice(&block);
             self.count_up();
         }
     }
@@ -117,7 +137,7 @@ impl KeyStream {
     /// The next counter block (inc32 of section 6.2).
     fn count_up(&mut self)
         ensures counter { self.new.counter ≡ counter_block self.old.counter 1 }
-        ensures block { self.new.block ≡ self.old.block }
+        ensures blocks { self.new.blocks ≡ self.old.blocks }
         ensures used { self.new.used ≡ self.old.used }
     {
         let mut count = [0; 4];

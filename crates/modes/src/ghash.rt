@@ -1,14 +1,15 @@
-//! GHASH, bit by bit, of a text that comes in pieces (SP 800-38D, sections 6.3 and 6.4).
+//! GHASH of a text that comes in pieces (SP 800-38D, sections 6.3 and 6.4).
 ghost use Rattle.std.specs.Prelude.{◌≡◌, ℕ, ◌+◌, ◌%◌, ◌<◌, List, [], ◌∷◌, ◌++◌, length, take};
-ghost use Rattle.modes.specs.Ghash.{block_product, shifted, ghash_number, numbers, zero_filled, ghash};
+ghost use Rattle.modes.specs.Ghash.{ghash_number, numbers, zero_filled, ghash};
 
+use crate::hash_subkey::HashSubkey;
 use crate::partial_block::PartialBlock;
 use aes::laws::polynomial_laws;
 
 /// A sum whose blocks come in pieces.
 #[derive(Drop)]
 pub struct Ghash {
-    h: u128,
+    subkey: HashSubkey,
     sum: u128,
     waiting: PartialBlock,
 }
@@ -21,7 +22,7 @@ impl Ghash {
         ensures { HoldsGhash result h.now [] }
     {
         Ghash {
-            h: u128::from_be_bytes(*h),
+            subkey: HashSubkey::new(u128::from_be_bytes(*h)),
             sum: 0,
             waiting: PartialBlock::new(),
         }
@@ -39,8 +40,8 @@ impl Ghash {
         let (front, rest) = octets.split_at(space);
         let whole = rest.len() / 16 * 16;
         let block = self.waiting.complete(front);
-        self.sum = add_blocks(self.sum, self.h, &block);
-        self.sum = add_blocks(self.sum, self.h, &rest[..whole]);
+        self.sum = add_blocks(self.sum, &self.subkey, &block);
+        self.sum = add_blocks(self.sum, &self.subkey, &rest[..whole]);
         self.waiting.push(&rest[whole..]);
     }
 
@@ -65,51 +66,24 @@ impl Ghash {
 }
 
 /// The sum with whole blocks added.
-fn add_blocks(sum: u128, h: u128, blocks: &[u8]) -> u128
+fn add_blocks(sum: u128, subkey: &HashSubkey, blocks: &[u8]) -> u128
     requires { length blocks.now % 16 ≡ 0 }
-    ensures { (xs : List ℕ) → sum ≡ ghash_number h xs
-        → result ≡ ghash_number h (xs ++ numbers blocks.now) }
+    ensures { (xs : List ℕ) → sum ≡ ghash_number subkey.now.h xs
+        → result ≡ ghash_number subkey.now.h (xs ++ numbers blocks.now) }
 {
     let mut total = sum;
     for i in 0..blocks.len() / 16 {
         let mut block = [0; 16];
         block.copy_from_slice(&blocks[16 * i..16 * i + 16]);
-        total = add_block(total, h, u128::from_be_bytes(block));
+        total = add_block(total, subkey, u128::from_be_bytes(block));
     }
     total
 }
 
 /// The sum with one more block.
-fn add_block(sum: u128, h: u128, x: u128) -> u128
-    ensures { (xs : List ℕ) → sum ≡ ghash_number h xs → result ≡ ghash_number h (xs ++ x ∷ []) }
+fn add_block(sum: u128, subkey: &HashSubkey, x: u128) -> u128
+    ensures { (xs : List ℕ) → sum ≡ ghash_number subkey.now.h xs → result ≡ ghash_number subkey.now.h (xs ++ x ∷ []) }
 {
     polynomial_laws();
-    multiply(sum ^ x, h)
-}
-
-/// The product of two blocks.
-fn multiply(x: u128, h: u128) -> u128
-    ensures { result ≡ block_product x h }
-{
-    polynomial_laws();
-    let mut product = 0;
-    let mut power = h;
-    for i in 0..128_u32 {
-        if (x >> (127 - i)) & 1 == 1 {
-            product ^= power;
-        }
-        power = shift(power);
-    }
-    product
-}
-
-/// The block times x.
-fn shift(v: u128) -> u128
-    ensures { result ≡ shifted v }
-{
-    if v & 1 == 0 {
-        v >> 1
-    } else {
-        (v >> 1) ^ (0xe1 << 120)
-    }
+    subkey.times(sum ^ x)
 }

@@ -16,6 +16,7 @@ mod cbc_opening;
 mod ctr;
 mod gcm;
 mod ghash;
+mod hash_subkey;
 pub mod laws;
 mod partial_block;
 

@@ -8,3 +8,5 @@ pub mod Prefixes
 pub mod Agreement
 pub mod Chunks
 pub mod Search
+pub mod Sums
+pub mod Differences

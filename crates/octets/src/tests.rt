@@ -563,3 +563,53 @@ fn octet_strings_are_added_and_compared(rt: HostRuntime) {
     }
     assert!(rt; same_octets(b"", b""));
 }
+
+/// A hundred multiples of a number, modulo 256.
+fn multiples(number: u8) -> [u8; 100] {
+    let mut octets = [0u8; 100];
+    let mut last = 0u8;
+    for octet in &mut octets {
+        last = last.wrapping_add(number);
+        *octet = last;
+    }
+    octets
+}
+
+/// With up to three blocks of 32, and each rest. What stands behind is left as it is.
+#[test]
+fn octet_strings_of_each_length_are_added(rt: HostRuntime) {
+    let octets = multiples(7);
+    let other = multiples(11);
+    for len in 0..101usize {
+        let mut sum = octets;
+        xor_into(&mut sum[..len], &other[..len]);
+        for i in 0..100usize {
+            let wanted = if i < len {
+                octets[i] ^ other[i]
+            } else {
+                octets[i]
+            };
+            assert_eq!(rt; sum[i], wanted, "at {i} of {len}");
+        }
+    }
+}
+
+/// Each octet of each length is changed in one bit, and each octet string is compared with all shorter ones.
+#[test]
+fn octet_strings_that_differ_are_told_apart(rt: HostRuntime) {
+    let octets = multiples(7);
+    for len in 0..101usize {
+        let mut other = octets;
+        assert!(rt; same_octets(&octets[..len], &other[..len]), "of {len}");
+        for i in 0..len {
+            other[i] ^= 1 << (i % 8);
+            assert!(rt;
+                !same_octets(&octets[..len], &other[..len]),
+                "at {i} of {len}"
+            );
+            other[i] = octets[i];
+            assert!(rt; !same_octets(&octets[..len], &octets[..i]), "{len} and {i}");
+            assert!(rt; !same_octets(&octets[..i], &octets[..len]), "{i} and {len}");
+        }
+    }
+}

@@ -1,6 +1,7 @@
 use Rattle.std.proofs.Common.{◌≡◌, ◌-◌}
 use Rattle.aes.specs.Cipher.{state_after}
+use Rattle.aes.specs.Words.{block_of}
 use Rattle.aes.proofs.cipher.cipher.Given as goal
 
 abbrev pub invariant-loop-round : goal.invariant-loop-round
-invariant-loop-round l = l.state ≡ state_after l.round_keys l.b (l.round - 1)
+invariant-loop-round l = block_of l.state ≡ state_after l.round_keys l.b (l.round - 1)

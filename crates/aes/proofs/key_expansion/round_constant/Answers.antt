@@ -10,7 +10,7 @@ loop-i-init c = refl
 pub loop-i-preserved : goal.loop-i-preserved
 unfolding power_of_x
 loop-i-preserved c =
-    c.multiply-power.ensures
+    c.multiply_by_x-power.ensures
     ∙ ap (octet_product 2) c.loop-i.invariant
     ∙ ap power_of_x (let e : suc (c.loop-i._i - 1) ≡ c.loop-i._i + 1 - 1 = omega arith in e)
 

@@ -5,6 +5,6 @@ use Rattle.modes.proofs.ghash.add_block.Goals as goal
 
 pub returns : goal.returns
 returns c xs e =
-    c.multiply.ensures
-    ∙ ap (λ s. block_product (bit_xor s c.args.x) c.args.h) e
-    ∙ one_more c.polynomial_laws.ensures c.args.h xs c.args.x
+    c.times.ensures
+    ∙ ap (λ s. block_product (bit_xor s c.args.x) c.args.subkey.now.h) e
+    ∙ one_more c.polynomial_laws.ensures c.args.subkey.now.h xs c.args.x

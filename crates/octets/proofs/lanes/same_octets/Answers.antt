@@ -1,28 +1,25 @@
-use Rattle.std.proofs.Common.{◌≡◌, ◌↔◌, IsTrue, Bool, ◌&&◌, ◌==◌, ℕ, ◌+◌, ◌<◌, List, get_or, arith, sym, ap, ap₂, subst, ⊎_elim, ext_get_or, eqb-true}
-use Rattle.std.proofs.lemmas.Bool.{cases_eq, and_parts, eq-eqb}
+use Rattle.std.proofs.Common.{◌≡◌, ◌*◌, ◌+◌, ◌/◌, ℕ, List, [], length, get_or, sym, ap, ◌∙◌, arith}
+use Rattle.std.specs.Prelude.{◌↔◌}
+use Rattle.std.specs.Simd.Lanes.{chunk}
+use Rattle.octets.proofs.Differences.{block_more, octet_more}
+use Rattle.octets.proofs.Sums.{chunk_at}
 use Rattle.octets.proofs.lanes.same_octets.Goals as goal
 
--- one more place is looked at
-step : (a b : List ℕ) (i : ℕ) (same : Bool)
-    → IsTrue same ↔ ((k : ℕ) → k < i → get_or a k 0 ≡ get_or b k 0)
-    → IsTrue (same && (get_or a i 0 == get_or b i 0)) ↔ ((k : ℕ) → k < i + 1 → get_or a k 0 ≡ get_or b k 0)
-step a b i same known = (
-  (λ x k l.
-      let parts = and_parts same (get_or a i 0 == get_or b i 0) x in
-      ⊎_elim
-      (λ (s : k ≡ i). subst (λ j. get_or a j 0 ≡ get_or b j 0) (sym s) (eqb-true (get_or a i 0) (get_or b i 0) parts.1))
-      (λ ne. known.0 parts.0 k (omega (arith, ne, l)))
-      (cases_eq k i)),
-  (λ all. ap₂ (λ x y. x && y)
-      (known.1 (λ k l. all k (omega (arith, l))))
-      (eq-eqb (get_or a i 0) (get_or b i 0) (all i (omega arith)))),
-)
+blocks_are : (e : ℕ) (p q x y : List ℕ) → (e ≡ 0) ↔ (p ≡ q) → p ≡ x → q ≡ y → (e ≡ 0) ↔ (x ≡ y)
+blocks_are e p q x y h ex ey = (λ z. sym ex ∙ h.0 z ∙ ey, λ z. h.1 (ex ∙ z ∙ sym ey))
 
 pub loop-i-preserved : goal.loop-i-preserved
-loop-i-preserved c = step c.args.a.now c.args.b.now c.loop-i.i c.loop-i.same c.loop-i.invariant
+loop-i-preserved c =
+    let a = c.args.a.now in
+    let b = c.args.b.now in
+    let i = c.loop-i.i in
+    let same : length a ≡ length b = omega arith in
+    let first : get_or c.as_chunks.result.0.now i [] ≡ chunk (32 * i) 32 a =
+    ap (λ (l : List (List ℕ)). get_or l i []) c.as_chunks.ensures.front ∙ chunk_at 32 (length a / 32) i a [] (omega (arith, c.as_chunks.ensures.front_len)) in
+    let second : get_or c.as_chunks-2.result.0.now i [] ≡ chunk (32 * i) 32 b =
+    ap (λ (l : List (List ℕ)). get_or l i []) c.as_chunks-2.ensures.front ∙ chunk_at 32 (length b / 32) i b [] (omega (arith, c.as_chunks.ensures.front_len)) in
+    block_more c.loop-i.difference c.block_difference-difference.result a b 32 (32 * i) (32 * (i + 1)) same (omega arith) (omega (arith, c.as_chunks.ensures.front_len)) c.loop-i.invariant
+    (blocks_are c.block_difference-difference.result _ _ _ _ c.block_difference-difference.ensures first second)
 
-pub returns : goal.returns
-returns c = (
-  (λ same. ext_get_or 0 c.args.a.now c.args.b.now c.if-a-b.false (λ k l. c.loop-i.invariant.0 same k (omega (arith, l)))),
-  (λ same. c.loop-i.invariant.1 (λ k l. ap (λ x. get_or x k 0) same)),
-)
+pub loop-i-2-preserved : goal.loop-i-2-preserved
+loop-i-2-preserved c = octet_more c.loop-i-2.difference c.args.a.now c.args.b.now c.loop-i-2.i (omega arith) (omega arith) c.loop-i-2.invariant

@@ -1,8 +1,9 @@
-use Rattle.std.proofs.Common.{◌≡◌, ℕ, ◌<◌, ◌≤◌, get_or, bit_xor}
+use Rattle.std.proofs.Common.{◌≡◌, ◌*◌}
+use Rattle.octets.proofs.Sums.{summed}
 use Rattle.octets.proofs.lanes.xor_into.Given as goal
 
 abbrev pub invariant-loop-i : goal.invariant-loop-i
-invariant-loop-i l = record {
-  before : (k : ℕ) → k < l.i → get_or l.octets k 0 ≡ bit_xor (get_or l.initial.octets k 0) (get_or l.other k 0);
-  after : (k : ℕ) → l.i ≤ k → get_or l.octets k 0 ≡ get_or l.initial.octets k 0;
-}
+invariant-loop-i l = l.octets ≡ summed l.fn.octets l.other (32 * l.i)
+
+abbrev pub invariant-loop-i-2 : goal.invariant-loop-i-2
+invariant-loop-i-2 l = l.octets ≡ summed l.fn.octets l.other l.i

@@ -5,8 +5,7 @@ use Rattle.modes.proofs.ctr.KeyStream.start.Goals as goal
 pub returns : goal.returns
 returns c e = record {
   sixteen = c.told-first;
+  whole = refl;
   counter = c.copy_from_slice.ensures.after ∙ sym (counter_block-none c.args.first.now c.told-first (λ i. search rules));
-  used = λ some. absurd (omega (arith, some));
-  all_used = λ none. refl;
-  block = λ some. absurd (omega (arith, some));
+  blocks = λ i l. absurd (omega (arith, l));
 }
