@@ -1,6 +1,6 @@
 -- States by their columns, and the steps of a round on them.
 use Rattle.std.proofs.Common.{◌≡◌, ℕ, zero, suc, ◌+◌, ◌-◌, ◌*◌, ◌%◌, ◌<◌, List, [], ◌∷◌, length, get_or, slice_index, bit_xor, refl, sym, ap, ap₂, ◌∙◌, arith}
-use Rattle.std.specs.Int.{w32, to_be_bytes, from_be_bytes}
+use Rattle.std.specs.Int.{w32, to_le_bytes, from_le_bytes}
 use Rattle.aes.specs.Polynomial.{polynomial_sum}
 use Rattle.aes.specs.Octet.{octet_product}
 use Rattle.aes.specs.SBox.{s_box}
@@ -15,7 +15,7 @@ use Rattle.aes.proofs.Words.{by_row, octet_xor, octet_of_bytes}
 -- ---- words by their octets
 
 -- a word made of four octets
-pub four_octets : (f : ℕ → ℕ) (p q s t n : ℕ) → p < 256 → q < 256 → s < 256 → t < 256 → n ≡ from_be_bytes w32 (p ∷ q ∷ s ∷ t ∷ [])
+pub four_octets : (f : ℕ → ℕ) (p q s t n : ℕ) → p < 256 → q < 256 → s < 256 → t < 256 → n ≡ from_le_bytes w32 (p ∷ q ∷ s ∷ t ∷ [])
     → p ≡ f 0 → q ≡ f 1 → s ≡ f 2 → t ≡ f 3 → (r : ℕ) → r < 4 → octet n r ≡ f r
 four_octets f p q s t n hp hq hs ht is ep eq es et r h =
     octet_of_bytes (p ∷ q ∷ s ∷ t ∷ []) n refl small is r ∙ by_row (λ r. slice_index (p ∷ q ∷ s ∷ t ∷ []) r ≡ f r) ep eq es et r h
@@ -42,7 +42,7 @@ columns_are v w x y b size p q s t = same_square (λ r c. octet (slice_index (v 
     by_row (λ c. (r : ℕ) → r < 4 → octet (slice_index (v ∷ w ∷ x ∷ y ∷ []) c) r ≡ at b r c) p q s t c hc r hr)
 
 -- the octets of four words, in their order
-pub written : (s p q t u : List ℕ) → p ≡ to_be_bytes w32 (slice_index s 0) → q ≡ to_be_bytes w32 (slice_index s 1) → t ≡ to_be_bytes w32 (slice_index s 2) → u ≡ to_be_bytes w32 (slice_index s 3)
+pub written : (s p q t u : List ℕ) → p ≡ to_le_bytes w32 (slice_index s 0) → q ≡ to_le_bytes w32 (slice_index s 1) → t ≡ to_le_bytes w32 (slice_index s 2) → u ≡ to_le_bytes w32 (slice_index s 3)
     → slice_index p 0 ∷ slice_index p 1 ∷ slice_index p 2 ∷ slice_index p 3 ∷
     slice_index q 0 ∷ slice_index q 1 ∷ slice_index q 2 ∷ slice_index q 3 ∷
     slice_index t 0 ∷ slice_index t 1 ∷ slice_index t 2 ∷ slice_index t 3 ∷
@@ -61,7 +61,7 @@ written s p q t u ep eq et eu =
     (by_row (λ r. octet (slice_index s 3) r ≡ at b r 3) (of 3 eu 0) (of 3 eu 1) (of 3 eu 2) (of 3 eu 3))
     c hc r hr))
   where
-    of : (c : ℕ) {p : List ℕ} → p ≡ to_be_bytes w32 (slice_index s c) → (r : ℕ) → slice_index (to_be_bytes w32 (slice_index s c)) r ≡ slice_index p r
+    of : (c : ℕ) {p : List ℕ} → p ≡ to_le_bytes w32 (slice_index s c) → (r : ℕ) → slice_index (to_le_bytes w32 (slice_index s c)) r ≡ slice_index p r
     of c e r = ap (λ x. slice_index x r) (sym e)
 
 -- ---- the steps

@@ -12,11 +12,11 @@ use crate::tables::{inverse_mix, unsubstitute};
 fn unsubstitute_column(a: u32, b: u32, c: u32, d: u32) -> u32
     ensures { (r : ℕ) → r < 4 → octet result r ≡ inverse_s_box (octet (slice_index (a ∷ b ∷ c ∷ d ∷ []) r) r) }
 {
-    let [a0, _, _, _] = a.to_be_bytes();
-    let [_, b1, _, _] = b.to_be_bytes();
-    let [_, _, c2, _] = c.to_be_bytes();
-    let [_, _, _, d3] = d.to_be_bytes();
-    u32::from_be_bytes([
+    let [a0, _, _, _] = a.to_le_bytes();
+    let [_, b1, _, _] = b.to_le_bytes();
+    let [_, _, c2, _] = c.to_le_bytes();
+    let [_, _, _, d3] = d.to_le_bytes();
+    u32::from_le_bytes([
         unsubstitute(a0),
         unsubstitute(b1),
         unsubstitute(c2),
@@ -43,7 +43,7 @@ fn inverse_mix_column(a: u32) -> u32
         → octet result r
         ≡ polynomial_sum (λ k. octet_product (slice_index (14 ∷ 9 ∷ 13 ∷ 11 ∷ []) ((r + 4 - k) % 4)) (octet a k)) 4 }
 {
-    let [a0, a1, a2, a3] = a.to_be_bytes();
+    let [a0, a1, a2, a3] = a.to_le_bytes();
     turned_sum(
         inverse_mix(a0),
         inverse_mix(a1),

@@ -1,5 +1,5 @@
 //! The state and the steps of a round (FIPS 197, sections 3.4, 3.5 and 5.1). A state is held as four words, one for each
-//! column; the octet in the first row is the highest.
+//! column; the octet in the first row is the lowest.
 ghost use Rattle.std.specs.Prelude.{◌≡◌, ℕ, ◌+◌, ◌-◌, ◌*◌, ◌%◌, ◌≤◌, ◌<◌, [], ◌∷◌, length, slice_index};
 ghost use Rattle.aes.specs.Octet.{octet_product};
 ghost use Rattle.aes.specs.Polynomial.{polynomial_sum};
@@ -15,7 +15,7 @@ fn word(words: &[u8], i: usize) -> u32
     ensures { (r : ℕ) → r < 4 → octet result r ≡ word words.now i r }
 {
     let n = 4 * i;
-    u32::from_be_bytes([words[n], words[n + 1], words[n + 2], words[n + 3]])
+    u32::from_le_bytes([words[n], words[n + 1], words[n + 2], words[n + 3]])
 }
 
 /// The columns of a block.
@@ -30,10 +30,10 @@ pub(crate) fn block_of(state: [u32; 4]) -> [u8; 16]
     ensures { result ≡ block_of state }
 {
     let [a, b, c, d] = state;
-    let [a0, a1, a2, a3] = a.to_be_bytes();
-    let [b0, b1, b2, b3] = b.to_be_bytes();
-    let [c0, c1, c2, c3] = c.to_be_bytes();
-    let [d0, d1, d2, d3] = d.to_be_bytes();
+    let [a0, a1, a2, a3] = a.to_le_bytes();
+    let [b0, b1, b2, b3] = b.to_le_bytes();
+    let [c0, c1, c2, c3] = c.to_le_bytes();
+    let [d0, d1, d2, d3] = d.to_le_bytes();
     [
         a0, a1, a2, a3, b0, b1, b2, b3, c0, c1, c2, c3, d0, d1, d2, d3,
     ]
@@ -54,23 +54,23 @@ pub(crate) fn add_round_key(round_keys: &[u8], round: usize, state: [u32; 4]) ->
     ]
 }
 
-/// The sum of four words, each turned to the right by one octet more than the word before it.
+/// The sum of four words, each turned to the left by one octet more than the word before it.
 pub(crate) fn turned_sum(a: u32, b: u32, c: u32, d: u32) -> u32
     ensures { (r : ℕ) → r < 4
         → octet result r ≡ polynomial_sum (λ k. octet (slice_index (a ∷ b ∷ c ∷ d ∷ []) k) ((r + 4 - k) % 4)) 4 }
 {
-    a ^ b.rotate_right(8) ^ c.rotate_right(16) ^ d.rotate_right(24)
+    a ^ b.rotate_left(8) ^ c.rotate_left(16) ^ d.rotate_left(24)
 }
 
 /// The S-box on a column whose octets stand in these four.
 fn substitute_column(a: u32, b: u32, c: u32, d: u32) -> u32
     ensures { (r : ℕ) → r < 4 → octet result r ≡ s_box (octet (slice_index (a ∷ b ∷ c ∷ d ∷ []) r) r) }
 {
-    let [a0, _, _, _] = a.to_be_bytes();
-    let [_, b1, _, _] = b.to_be_bytes();
-    let [_, _, c2, _] = c.to_be_bytes();
-    let [_, _, _, d3] = d.to_be_bytes();
-    u32::from_be_bytes([
+    let [a0, _, _, _] = a.to_le_bytes();
+    let [_, b1, _, _] = b.to_le_bytes();
+    let [_, _, c2, _] = c.to_le_bytes();
+    let [_, _, _, d3] = d.to_le_bytes();
+    u32::from_le_bytes([
         substitute(a0),
         substitute(b1),
         substitute(c2),
@@ -99,10 +99,10 @@ fn substitute_and_mix_column(a: u32, b: u32, c: u32, d: u32) -> u32
         (λ k. octet_product
         (slice_index (2 ∷ 1 ∷ 1 ∷ 3 ∷ []) ((r + 4 - k) % 4)) (s_box (octet (slice_index (a ∷ b ∷ c ∷ d ∷ []) k) k))) 4 }
 {
-    let [a0, _, _, _] = a.to_be_bytes();
-    let [_, b1, _, _] = b.to_be_bytes();
-    let [_, _, c2, _] = c.to_be_bytes();
-    let [_, _, _, d3] = d.to_be_bytes();
+    let [a0, _, _, _] = a.to_le_bytes();
+    let [_, b1, _, _] = b.to_le_bytes();
+    let [_, _, c2, _] = c.to_le_bytes();
+    let [_, _, _, d3] = d.to_le_bytes();
     turned_sum(
         substitute_and_mix(a0),
         substitute_and_mix(b1),
