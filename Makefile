@@ -2,7 +2,7 @@
 
 PREFIX ?= /usr/local
 
-.PHONY: demo test edits build ports faults bench install clean
+.PHONY: demo test edits build ports long faults bench install clean
 
 # Signs a document and verifies it, makes a key, encrypts a secret and decrypts it, and shows what changed texts and wrong keys give.
 demo:
@@ -23,6 +23,10 @@ build:
 # Runs the built program over files.
 ports:
 	@scripts/ports
+
+# Runs 1 GiB through the commands that hold only a part of their content.
+long:
+	@scripts/long
 
 # Refuses each growth of the tests' work in turn.
 faults:

@@ -9,7 +9,7 @@ use Rattle.octets.specs.declared.streams.WriterOutput.{WriterOutput}
 use Rattle.octets.specs.Devices.{most_octets}
 use Rattle.octets.specs.Views.{reader_of, consumed_of, is_at_end_of, remaining_of, read_failures_of, writer_of, written_of, is_finished_of, write_failures_of}
 use Rattle.jose.specs.declared.command.Command.{Command}
-use Rattle.jose.specs.declared.command.Command.TheVariants.{B64Dec}
+use Rattle.jose.specs.declared.command.Command.TheVariants.{JwkGen, JweDec, B64Dec}
 use Rattle.jose.specs.declared.files.Source.{Source}
 use Rattle.jose.specs.declared.files.Source.TheVariants as source
 use Rattle.jose.specs.declared.files.Sink.{Sink}
@@ -72,36 +72,45 @@ system_random = codes "/dev/urandom"
 
 -- ---- sinks
 
--- nowhere, standard output, or the file of this name
+-- nowhere, standard output, or the file of this name, which is its owner's alone where it is made for a secret
 pub data Destination : Type 0 where
   nowhere : Destination
   standard_output : Destination
-  output_file : Text → Destination
+  output_file : Text → Bool → Destination
 
 abbrev pub destination_of : {R F D : Type 0} → Sink R F D → Destination
 destination_of sink.Nowhere = nowhere
 destination_of (sink.Standard stdout) = standard_output
-destination_of (sink.File files path opened) = output_file path.now
+destination_of (sink.File files path is_secret opened) = output_file path.now is_secret
 
 -- what the sink holds, where it is known: an open file whose octets are known
 abbrev pub sink_contents : {R F D : Type 0} → (F → Option (List ℕ)) → Sink R F D → Option (List ℕ)
-sink_contents contents (sink.File files path opened) = option_and_then contents opened
+sink_contents contents (sink.File files path is_secret opened) = option_and_then contents opened
 sink_contents contents other = None
 
 -- where the sink is a file, it is open
 abbrev pub IsOpenSink : {R F D : Type 0} → Sink R F D → Type 0
-IsOpenSink (sink.File files path opened) = IsSome opened
+IsOpenSink (sink.File files path is_secret opened) = IsSome opened
 IsOpenSink other = ⊤
 
 -- where the sink is a file, it is not open yet
 abbrev pub IsUnopenedSink : {R F D : Type 0} → Sink R F D → Type 0
-IsUnopenedSink (sink.File files path opened) = IsNone opened
+IsUnopenedSink (sink.File files path is_secret opened) = IsNone opened
 IsUnopenedSink other = ⊤
 
 -- no value means nowhere, `-` standard output, and each other text the file of this name
-abbrev pub destination_named : Option Text → Destination
-destination_named None = nowhere
-destination_named (Some text) = if bytes_eq text (codes "-") then standard_output else output_file text
+abbrev pub destination_named : Bool → Option Text → Destination
+destination_named is_secret None = nowhere
+destination_named is_secret (Some text) = if bytes_eq text (codes "-") then standard_output else output_file text is_secret
+
+-- a made key, and what is decrypted
+abbrev pub text_is_secret : Command → Bool
+text_is_secret JwkGen = true
+text_is_secret other = false
+
+abbrev pub content_is_secret : Command → Bool
+content_is_secret JweDec = true
+content_is_secret other = false
 
 -- ---- the devices of a run
 
@@ -131,5 +140,5 @@ pub record AreNewInputs {R F D : Type 0} (invocation : InvocationView) (inputs :
 
 -- each output is the one that its option names
 pub record AreNewOutputs {R F D : Type 0} (invocation : InvocationView) (outputs : Outputs (WriterOutput (Sink R F D))) : Type 0 where
-  pub text : IsNewOutput (destination_named (value_at (byte "o") invocation.options)) outputs.text
-  pub content : IsNewOutput (destination_named (value_at (byte "O") invocation.options)) outputs.content
+  pub text : IsNewOutput (destination_named (text_is_secret invocation.command) (value_at (byte "o") invocation.options)) outputs.text
+  pub content : IsNewOutput (destination_named (content_is_secret invocation.command) (value_at (byte "O") invocation.options)) outputs.content

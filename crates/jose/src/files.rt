@@ -1,6 +1,6 @@
 //! Files, the standard streams and the words themselves, as readers and writers. A file is opened at
 //! its first read; an output file is opened, and cut to nothing, just before its first octet is
-//! written, or when it is finished with none.
+//! written, or when it is finished with none; one that is made for a secret is its owner's alone.
 ghost use Rattle.std.specs.Prelude.{◌≡◌, ℕ, ◌<◌, ◌++◌, List, length, take, drop, min, option_map, OnOk, Ok};
 ghost use Rattle.std.specs.Result.{result_unwrap_or};
 ghost use Rattle.std.specs.Io.{ReadsAtMost, WritesAtMost};
@@ -13,13 +13,19 @@ use crate::command::Command;
 use crate::invocation::Invocation;
 use crate::ports::{Inputs, Outputs};
 use octets::{ReaderInput, WriterOutput};
-use std::fs::File;
+use std::fs::{File, OpenOptions};
 use std::io;
 use std::io::{Read, Stdin, Stdout, Write};
+use std::os::unix::fs::OpenOptionsExt;
 use std::rt::Files;
 
 /// The file of random octets where `-R` names none.
 const SYSTEM_RANDOM: &str = "/dev/urandom";
+
+/// The mode of a file that is made: readable and writable for its owner alone, or for all that the process's mask leaves.
+const SECRET_MODE: u32 = 0o600;
+
+const MODE: u32 = 0o666;
 
 /// Where the octets of an input come from.
 #[derive(Drop)]
@@ -84,6 +90,7 @@ pub(crate) enum Sink<'a, R: Files> {
     File {
         files: &'a R,
         path: &'a str,
+        is_secret: bool,
         opened: Option<R::File>,
     },
 }
@@ -111,10 +118,11 @@ impl<'a, R: Files> Write for Sink<'a, R> {
             Sink::File {
                 files,
                 path,
+                is_secret,
                 opened,
             } => {
                 if opened.is_none() {
-                    *opened = Some(File::create(*files, *path)?);
+                    *opened = Some(create(*files, *path, *is_secret)?);
                 }
                 match opened {
                     Some(file) => file.write(octets),
@@ -139,10 +147,11 @@ impl<'a, R: Files> Write for Sink<'a, R> {
             Sink::File {
                 files,
                 path,
+                is_secret,
                 opened,
             } => {
                 if opened.is_none() {
-                    *opened = Some(File::create(*files, *path)?);
+                    *opened = Some(create(*files, *path, *is_secret)?);
                 }
                 match opened {
                     Some(file) => file.flush(),
@@ -151,6 +160,18 @@ impl<'a, R: Files> Write for Sink<'a, R> {
             }
         }
     }
+}
+
+/// Opens the file for writing, and cuts it to nothing. Where it is not there it is made, for its owner alone where it is for a
+/// secret, and else with the mode that the process's mask leaves.
+fn create<R: Files>(files: &R, path: &str, is_secret: bool) -> io::Result<R::File> {
+    let mode = if is_secret { SECRET_MODE } else { MODE };
+    OpenOptions::new()
+        .write(true)
+        .create(true)
+        .truncate(true)
+        .mode(mode)
+        .open(files, path)
 }
 
 /// The inputs that the options name. JSON may stand in the words for `-i`, `-s` and `-k`, but for the
@@ -195,7 +216,7 @@ fn source_of<'a, R: Files>(
     }
 }
 
-/// The outputs that the options name.
+/// The outputs that the options name. A made key and what is decrypted are secrets.
 pub(crate) fn outputs<'a, R: Files>(
     files: &'a R,
     standard: Stdout,
@@ -203,15 +224,27 @@ pub(crate) fn outputs<'a, R: Files>(
 ) -> Outputs<WriterOutput<Sink<'a, R>>>
     ensures { AreNewOutputs (invocation_view invocation.now) result }
 {
+    let text_is_secret = invocation.command == Command::JwkGen;
+    let content_is_secret = invocation.command == Command::JweDec;
     Outputs {
-        text: WriterOutput::new(sink_of(files, standard, invocation.value('o'))),
-        content: WriterOutput::new(sink_of(files, standard, invocation.value('O'))),
+        text: WriterOutput::new(sink_of(files, standard, invocation.value('o'), text_is_secret)),
+        content: WriterOutput::new(sink_of(
+            files,
+            standard,
+            invocation.value('O'),
+            content_is_secret,
+        )),
     }
 }
 
-fn sink_of<'a, R: Files>(files: &'a R, standard: Stdout, value: Option<&'a str>) -> Sink<'a, R>
+fn sink_of<'a, R: Files>(
+    files: &'a R,
+    standard: Stdout,
+    value: Option<&'a str>,
+    is_secret: bool,
+) -> Sink<'a, R>
     ensures named { destination_of result
-        ≡ destination_named (option_map (λ text. text.now) value.entry) }
+        ≡ destination_named is_secret (option_map (λ text. text.now) value.entry) }
     ensures unopened { IsUnopenedSink result }
 {
     match value {
@@ -220,6 +253,7 @@ fn sink_of<'a, R: Files>(files: &'a R, standard: Stdout, value: Option<&'a str>)
         Some(path) => Sink::File {
             files,
             path,
+            is_secret,
             opened: None,
         },
     }

@@ -7,7 +7,10 @@ use crate::jwe_tests::{
     BY_A128KW, BY_A192KW, BY_A256KW, COMPACT, DIRECT, ENCRYPT, decrypts_what_is_written,
 };
 use crate::jwk_tests::writes;
-use crate::tests::{Answer, Given, KEY, TEMPLATE, decodes, encodes, expect, signs, verifies};
+use crate::tests::{
+    Answer, Given, KEY, ROOM, TEMPLATE, decodes, encodes, expect, expect_done, outcome, signs,
+    verifies,
+};
 use std::alloc::{AllocError, Global};
 use std::process::Abort;
 use std::test::Fail;
@@ -34,6 +37,87 @@ fn b64_of_70_000_octets(rt: HostRuntime) -> Result<(), Fail> {
     let text = repeated(rt.alloc(), "", "YWFh", 23_333, "YQ")?;
     encodes(&rt, octets.as_bytes(), text.as_str())?;
     decodes(&rt, text.as_str(), Answer::Content(octets.as_bytes()))
+}
+
+/// A content, and its base64url text.
+const PIECE: (&str, &str) = ("abcdefgabcdefgabcdefg", "YWJjZGVmZ2FiY2RlZmdhYmNkZWZn");
+
+/// Contents of 0, 1, 4095, 4096, 4097, 8192 and 12289 octets: so many copies of the piece, and then these octets, with their text.
+const LENGTHS: &[(usize, &str, &str)] = &[
+    (0, "", ""),
+    (0, "a", "YQ"),
+    (195, "", ""),
+    (195, "a", "YQ"),
+    (195, "ab", "YWI"),
+    (390, "ab", "YWI"),
+    (585, "abcd", "YWJjZA"),
+];
+
+/// The words answer so, whatever the inputs give at a read.
+fn expect_in_steps<R: Abort + AllocGlobal>(
+    rt: &R,
+    words: &[&str],
+    given: &Given<'_>,
+    answer: Answer<'_>,
+) -> Result<(), Fail> {
+    for step in [1, 3, 16, 1000, 4096] {
+        let done = outcome(rt.alloc(), words, given, step, ROOM)?;
+        expect_done(rt, &done, "a length", answer);
+    }
+    Ok(())
+}
+
+/// The octets become the text.
+fn encodes_in_steps<R: Abort + AllocGlobal>(
+    rt: &R,
+    content: &[u8],
+    text: &str,
+) -> Result<(), Fail> {
+    let given = Given {
+        text: "",
+        content,
+        keys: "",
+        random: b"",
+    };
+    expect_in_steps(rt, &["b64", "enc"], &given, Answer::Text(text))
+}
+
+/// The text becomes the octets.
+fn decodes_in_steps<R: Abort + AllocGlobal>(
+    rt: &R,
+    text: &str,
+    content: &[u8],
+) -> Result<(), Fail> {
+    let given = Given {
+        text,
+        content: b"",
+        keys: "",
+        random: b"",
+    };
+    expect_in_steps(rt, &["b64", "dec"], &given, Answer::Content(content))
+}
+
+/// A content of the row becomes its text, and comes back, with a line end and without.
+fn goes_and_comes<R: Abort + AllocGlobal>(
+    rt: &R,
+    count: usize,
+    last: &str,
+    last_text: &str,
+) -> Result<(), Fail> {
+    let octets = repeated(rt.alloc(), "", PIECE.0, count, last)?;
+    let text = repeated(rt.alloc(), "", PIECE.1, count, last_text)?;
+    let line = repeated(rt.alloc(), text.as_str(), "\r\n", 1, "")?;
+    encodes_in_steps(rt, octets.as_bytes(), text.as_str())?;
+    decodes_in_steps(rt, text.as_str(), octets.as_bytes())?;
+    decodes_in_steps(rt, line.as_str(), octets.as_bytes())
+}
+
+#[test]
+fn b64_in_pieces(rt: HostRuntime) -> Result<(), Fail> {
+    for (count, last, last_text) in LENGTHS {
+        goes_and_comes(&rt, *count, last, last_text)?;
+    }
+    Ok(())
 }
 
 #[test]

@@ -56,8 +56,8 @@ pub fn run<I: Input, O: Output>(
             let hash = invocation.hash().ok_or(Refusal::Usage)?;
             jwk::thumbprints(alloc, &mut inputs.text, hash, &mut outputs.text)
         }
-        Command::B64Enc => b64::encode(alloc, &mut inputs.content, &mut outputs.text),
-        Command::B64Dec => b64::decode(alloc, &mut inputs.text, &mut outputs.content),
+        Command::B64Enc => b64::encode(&mut inputs.content, &mut outputs.text),
+        Command::B64Dec => b64::decode(&mut inputs.text, &mut outputs.content),
         Command::JwsSig => {
             let compact = invocation.has('c');
             let detach = invocation.has('O');

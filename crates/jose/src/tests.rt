@@ -753,7 +753,7 @@ fn octets_become_base64url(rt: HostRuntime) -> Result<(), Fail> {
     Ok(())
 }
 
-/// The text becomes these octets, or is refused and nothing is written.
+/// The text becomes these octets, or is refused before any is written.
 pub(crate) fn decodes<R: Abort + AllocGlobal>(
     rt: &R,
     text: &str,
@@ -804,14 +804,38 @@ const NOT_DECODED: &[(&str, Answer<'_>)] = &[
     ("AA\r", Answer::Refusal(Refusal::Base64)),
     ("\nAA", Answer::Refusal(Refusal::Base64)),
     ("AA \n", Answer::Refusal(Refusal::Base64)),
-    ("AAAA!", Answer::Refusal(Refusal::Base64)),
-    ("AAAA\nAAAA", Answer::Refusal(Refusal::Base64)),
     ("AA=", Answer::Refusal(Refusal::Base64)),
 ];
 
 #[test]
 fn a_text_that_is_not_strict_is_refused(rt: HostRuntime) -> Result<(), Fail> {
     decodes_each(&rt, NOT_DECODED)
+}
+
+/// Texts that are refused after some of their octets may have been written: a beginning of these.
+const BROKEN: &[(&str, &[u8])] = &[
+    ("AAAA!", b"\0\0\0"),
+    ("AAAA\nAAAA", b"\0\0\0"),
+    ("AAAA!AAAAAAAA", b"\0\0\0"),
+    ("YWJjYWJjYWJ=", b"abcabc"),
+];
+
+#[test]
+fn a_text_that_breaks_off_leaves_a_beginning(rt: HostRuntime) -> Result<(), Fail> {
+    for (text, octets) in BROKEN {
+        let given = Given {
+            text,
+            content: b"",
+            keys: "",
+            random: b"",
+        };
+        for step in [4096, 1] {
+            let done = outcome(rt.alloc(), &["b64", "dec"], &given, step, ROOM)?;
+            expect_ended(&rt, done.result, Err(Refusal::Base64), text);
+            expect_beginning(&rt, &done.content, octets);
+        }
+    }
+    Ok(())
 }
 
 /// The output holds a beginning of the text, and is not finished.

@@ -3,9 +3,12 @@ pub mod Pieces
 pub mod Groups
 pub mod Characters
 pub mod Decoded
+pub mod Settling
 pub mod Growing
 pub mod Prefixes
 pub mod Agreement
+pub mod Streaming
+pub mod Decoding
 pub mod Chunks
 pub mod Search
 pub mod Sums

@@ -1,7 +1,7 @@
 -- Lists that have grown by a beginning of a text.
-use Rattle.std.proofs.Common.{◌≡◌, ℕ, ◌≤◌, List, [], ◌++◌, length, take, refl, sym, ◌∙◌, ap, arith, append_assoc, append-nil, length-append, length-take}
+use Rattle.std.proofs.Common.{◌≡◌, ℕ, ◌≤◌, List, [], ◌++◌, length, take, drop, subst, refl, sym, ◌∙◌, ap, arith, append_assoc, append-nil, length-append, length-take}
 use Rattle.std.proofs.Math.Seq.{take-length}
-use Rattle.std.proofs.lemmas.List.{take-append-le}
+use Rattle.std.proofs.lemmas.List.{take-append-le, take-append-drop}
 use Rattle.octets.specs.Devices.{AppendsPrefixOf}
 
 -- all of the text is there
@@ -21,6 +21,11 @@ AppendsPrefixOf-front front rest old new grows =
     let e = grows.1 in
     let short : length new ≤ length (old ++ front) = omega (arith, ap length e, length-take (length new) (old ++ front)) in
     (grows.0, ap (take (length new)) (sym (append_assoc old front rest)) ∙ take-append-le (length new) (old ++ front) rest short ∙ e)
+
+-- the first n of its octets are there
+pub AppendsPrefixOf-part : (text old new : List ℕ) (n : ℕ) → new ≡ old ++ take n text → AppendsPrefixOf text old new
+AppendsPrefixOf-part text old new n e =
+    subst (λ t. AppendsPrefixOf t old new) (take-append-drop n text) (AppendsPrefixOf-front (take n text) (drop n text) old new (AppendsPrefixOf-all (take n text) old new e))
 
 -- nothing of the text is there
 pub AppendsPrefixOf-kept : (text old : List ℕ) → AppendsPrefixOf text old old

@@ -28,6 +28,13 @@ whole_groups octets = take (length octets / 3 * 3) octets
 unfoldable pub part_group : List ℕ → List ℕ
 part_group octets = drop (length octets / 3 * 3) octets
 
+-- of a text that goes on, the groups of four that no line end at its end can reach, and the characters after them
+unfoldable pub settled : List ℕ → List ℕ
+settled text = take ((length text - 2) / 4 * 4) text
+
+unfoldable pub unsettled : List ℕ → List ℕ
+unsettled text = drop ((length text - 2) / 4 * 4) text
+
 -- octets with one text are equal
 abbrev pub TextsAreDistinct : Type 0
 TextsAreDistinct = (x y : List ℕ) → IsOctets x → IsOctets y → base64url x ≡ base64url y → x ≡ y

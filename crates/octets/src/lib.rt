@@ -21,6 +21,7 @@ mod lanes;
 pub mod laws;
 mod line_ends;
 mod memory;
+mod reader;
 mod refusal;
 mod streams;
 mod transcript;
@@ -32,9 +33,10 @@ pub use devices::{Input, Output};
 pub use lanes::{same_octets, xor_into};
 pub use line_ends::without_line_end;
 pub use memory::{MemoryInput, MemoryOutput};
+pub use reader::{B64Reader, decode_onto};
 pub use refusal::{Fault, Refusal, needs};
 pub use streams::{ReaderInput, WriterOutput};
-pub use whole::{Partial, draw, emit, read_to_end, write_whole};
+pub use whole::{Partial, draw, emit, read_piece, read_to_end, write_whole};
 pub use writer::B64Writer;
 
 #[cfg(test)]

@@ -1,9 +1,11 @@
-//! All of an input or exactly so many octets of it, and all of a text to an output.
-ghost use Rattle.std.specs.Prelude.{◌≡◌, ◌<◌, ◌≤◌, ◌++◌, length, take, IfOk, OnOk, OnErr, IfErr, IsTrue};
-ghost use Rattle.std.specs.Iterator.{IsFinite};
+//! All of an input, piece by piece or whole, or exactly so many octets of it, and all of a text to an output.
+ghost use Rattle.std.specs.Prelude.{◌≡◌, ◌<◌, ◌≤◌, ◌++◌, length, take, Ok, IfOk, OnOk, OnErr, IfErr, IsTrue};
+ghost use Rattle.std.specs.Iterator.{IsFinite, size};
 ghost use Rattle.octets.specs.Devices.{next_count, appended, observed, AppendsPrefixOf, Extends, Rose};
+ghost use Rattle.octets.specs.Octets.{IsOctets};
 ghost use Rattle.octets.specs.Outcomes.{IsReadingFailure, IsDrawingFailure};
 
+use crate::laws::are_octets;
 use crate::{Input, Output, Refusal};
 use std::alloc::Global;
 
@@ -29,6 +31,26 @@ pub fn read_to_end<I: Input>(alloc: Global, input: &mut I) -> Result<Vec<u8>, Re
         }
         octets.extend_from_slice(&buf[..n])?;
     }
+}
+
+/// Reads the next piece of a content into the front of `buf`, and answers its length: 0 only at the end. Refused with `Read`
+/// where the input fails.
+pub fn read_piece<I: Input>(content: &mut I, buf: &mut [u8; 4096]) -> Result<usize, Refusal>
+    requires { IsFinite (I.remaining content.old) }
+    ensures within { IfOk result (λ n. n ≤ 4096) }
+    ensures piece { IfOk result (λ n. I.consumed content.new ≡ I.consumed content.old ++ take n buf.new) }
+    ensures octets { OnOk result (IsOctets buf.new) }
+    ensures end { result ≡ Ok 0 → IsTrue (I.is_at_end content.new) }
+    ensures nearer { IsFinite (I.remaining content.new)
+        × IfOk result (λ n. 0 < n → size (I.remaining content.new) < size (I.remaining content.old)) }
+    ensures works { OnOk result (I.failures content.new ≡ I.failures content.old) }
+    ensures cause { OnErr result (result ≡ Err Refusal.Read) }
+    ensures fails { OnErr result ((I.consumed content.new ≡ I.consumed content.old)
+        × (I.failures content.new ≡ next_count (I.failures content.old))) }
+{
+    let n = content.read(buf)?;
+    are_octets(buf);
+    Ok(n)
 }
 
 /// Fills `out` from the random input, and takes exactly so many octets from it. Refused with `Read`

@@ -65,7 +65,7 @@ impl B64Writer {
 }
 
 /// Copies both to the front, one after the other.
-fn join(octets: &mut [u8; 4114], front: &[u8], back: &[u8])
+pub(crate) fn join(octets: &mut [u8; 4114], front: &[u8], back: &[u8])
     requires { length front.now + length back.now ≤ 4114 }
     ensures { take (length front.now + length back.now) octets.new ≡ front.now ++ back.now }
 {

@@ -7,15 +7,13 @@ ghost use Rattle.octets.specs.Faults.{TellsFaults, counts};
 ghost use Rattle.octets.specs.Outcomes.{AgreesUnlessExternal};
 ghost use Rattle.octets.specs.Plan.{beginning_of};
 
-use octets::{Input, Output, Refusal, b64_decode, b64_encode, emit, read_to_end, without_line_end};
-use std::alloc::Global;
+use octets::{
+    B64Reader, B64Writer, Input, Output, Refusal, decode_onto, emit, read_piece, without_line_end,
+    write_whole,
+};
 
-/// Writes the base64url text of the content.
-pub(crate) fn encode<I: Input, O: Output>(
-    alloc: Global,
-    content: &mut I,
-    out: &mut O,
-) -> Result<(), Refusal>
+/// Writes the base64url text of the content as it reads it.
+pub(crate) fn encode<I: Input, O: Output>(content: &mut I, out: &mut O) -> Result<(), Refusal>
     requires { IsFinite (I.remaining content.old) }
     ensures answer { (whole : List ℕ) → IsPossibleInput (observed I.consumed I.is_at_end content.old content.new) whole
         → AgreesUnlessExternal (encoding.whole whole) (appended (O.written out.old) (O.written out.new)) result }
@@ -25,17 +23,24 @@ pub(crate) fn encode<I: Input, O: Output>(
         → O.written out.new ≡ O.written out.old → out.new ≡ out.old) }
     ensures faults { TellsFaults (counts I.failures content.old content.new ∷ []) (counts O.failures out.old out.new ∷ []) result }
 {
-    let octets = read_to_end(alloc, content)?;
-    let text = b64_encode(alloc, &octets)?;
-    emit(out, text.as_bytes())
+    let mut buf = [0; 4096];
+    let mut text = [0; 5488];
+    let mut writer = B64Writer::start();
+    'pieces: loop {
+        let n = read_piece(content, &mut buf)?;
+        if n == 0 {
+            break;
+        }
+        let len = writer.feed(&buf[..n], &mut text);
+        write_whole(out, &text[..len])?;
+    }
+    let mut last = [0; 4];
+    let len = writer.finish(&mut last);
+    emit(out, &last[..len])
 }
 
-/// Writes the octets whose base64url text the input is, with a line end or without.
-pub(crate) fn decode<I: Input, O: Output>(
-    alloc: Global,
-    text: &mut I,
-    out: &mut O,
-) -> Result<(), Refusal>
+/// Writes the octets whose base64url text the input is, with a line end or without, as it reads it.
+pub(crate) fn decode<I: Input, O: Output>(text: &mut I, out: &mut O) -> Result<(), Refusal>
     requires { IsFinite (I.remaining text.old) }
     ensures answer { (whole : List ℕ) → IsPossibleInput (observed I.consumed I.is_at_end text.old text.new) whole
         → AgreesUnlessExternal (decoding.whole whole) (appended (O.written out.old) (O.written out.new)) result }
@@ -45,7 +50,18 @@ pub(crate) fn decode<I: Input, O: Output>(
         → O.written out.new ≡ O.written out.old → out.new ≡ out.old) }
     ensures faults { TellsFaults (counts I.failures text.old text.new ∷ []) (counts O.failures out.old out.new ∷ []) result }
 {
-    let text = read_to_end(alloc, text)?;
-    let octets = b64_decode(alloc, without_line_end(&text))?;
-    emit(out, &octets)
+    let mut buf = [0; 4096];
+    let mut octets = [0; 3072];
+    let mut reader = B64Reader::start();
+    'pieces: loop {
+        let n = read_piece(text, &mut buf)?;
+        if n == 0 {
+            break;
+        }
+        let len = reader.feed(&buf[..n], &mut octets)?;
+        write_whole(out, &octets[..len])?;
+    }
+    let mut last = [0; 6];
+    let len = decode_onto(without_line_end(reader.waiting()), &mut last)?;
+    emit(out, &last[..len])
 }

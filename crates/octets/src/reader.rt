@@ -1,0 +1,81 @@
+//! Base64url texts that come in pieces, decoded as they come.
+ghost use Rattle.std.specs.Prelude.{◌≡◌, ℕ, ◌+◌, ◌*◌, ◌/◌, ◌≤◌, List, [], ◌++◌, length, take, IfOk, OnOk, IfErr, Ok, Err};
+ghost use Rattle.octets.specs.Base64url.{decoded, settled, unsettled};
+
+use crate::Refusal;
+use crate::writer::join;
+use base64::engine::general_purpose::URL_SAFE_NO_PAD as BASE64URL;
+use std::marker::Model;
+
+/// A base64url text that comes in pieces and may end in a line end. It holds at most five characters,
+/// and is seen as those that wait for a whole group of four past which more comes.
+#[derive(Drop)]
+pub struct B64Reader {
+    waiting: [u8; 5],
+    count: usize,
+}
+
+impl Model for B64Reader {
+    ghost use Rattle.std.specs.Prelude.{◌≤◌, List, ℕ, take};
+
+    ghost Value = { List ℕ };
+
+    ghost view = { λ r. take r.count r.waiting };
+
+    ghost invariant = { λ r. r.count ≤ 5 };
+}
+
+impl B64Reader {
+    /// No character was fed yet.
+    pub fn start() -> B64Reader
+        ensures { result ≡ [] }
+    {
+        B64Reader {
+            waiting: [0; 5],
+            count: 0,
+        }
+    }
+
+    /// Takes the next piece, of at most 4,096 characters. Writes the octets of the groups that are
+    /// settled now to the front of `out`, and answers how many. Refused with `Base64` where they have none.
+    pub fn feed(&mut self, piece: &[u8], out: &mut [u8; 3072]) -> Result<usize, Refusal>
+        requires { length piece.now ≤ 4096 }
+        ensures within { IfOk result (λ n. n ≤ 3072) }
+        ensures waits { OnOk result (self.new ≡ unsettled (self.old ++ piece.now)) }
+        ensures octets { IfOk result (λ n. decoded (settled (self.old ++ piece.now)) ≡ Ok (take n out.new)) }
+        ensures refused { IfErr result (λ e. (e ≡ Refusal.Base64) × (decoded (settled (self.old ++ piece.now)) ≡ Err Refusal.Base64)) }
+    {
+        let mut text = [0u8; 4114];
+        let held = self.count;
+        join(&mut text, &self.waiting[..held], piece);
+        let all = held + piece.len();
+        let whole = all.saturating_sub(2) / 4 * 4;
+        let written = decode_onto(&text[..whole], out)?;
+        self.count = all - whole;
+        self.waiting[..all - whole].copy_from_slice(&text[whole..all]);
+        Ok(written)
+    }
+
+    /// The characters that wait.
+    pub fn waiting(&self) -> &[u8]
+        ensures within { length result.now ≤ 5 }
+        ensures all { result.now ≡ self.now }
+    {
+        &self.waiting[..self.count]
+    }
+}
+
+/// Writes the octets that the text means to the front, and answers how many. Refused with `Base64`
+/// where it means none.
+#[tactic(auto, unfolding(crate::specs::Base64url::decoded))]
+pub fn decode_onto(text: &[u8], out: &mut [u8]) -> Result<usize, Refusal>
+    requires { (length text.now + 3) / 4 * 3 ≤ length out.old }
+    ensures within { IfOk result (λ n. n ≤ length out.old) }
+    ensures octets { IfOk result (λ n. decoded text.now ≡ Ok (take n out.new)) }
+    ensures refused { IfErr result (λ e. (e ≡ Refusal.Base64) × (decoded text.now ≡ Err Refusal.Base64)) }
+{
+    match BASE64URL.decode_slice_unchecked(text, out) {
+        Ok(n) => Ok(n),
+        Err(_) => Err(Refusal::Base64),
+    }
+}
