@@ -35,7 +35,8 @@ _jose() {
     for ((i = 3; i < COMP_CWORD; i++)); do
         word=${COMP_WORDS[i]}
         if [ -n "$awaiting" ]; then
-            awaiting=
+            # readline makes a word of its own of an equals sign.
+            [ "$word" = = ] || awaiting=
             continue
         fi
         [[ $word == -?* ]] || continue
