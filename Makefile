@@ -32,9 +32,11 @@ faults:
 bench:
 	@scripts/bench
 
-# Compares the pages and the completions with the program's table of commands, and tries the completions, install and uninstall.
+# Compares the pages and the completions with the program's table of commands, and tries the refusals that the pages list, the
+# completions, install and uninstall.
 pages:
 	@scripts/pages
+	@scripts/refusals
 	@scripts/completions
 	@scripts/installed
 
