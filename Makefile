@@ -2,7 +2,7 @@
 
 PREFIX ?= /usr/local
 
-.PHONY: demo test edits build ports long faults bench install clean
+.PHONY: demo test edits build ports long faults bench pages tour install uninstall clean
 
 # Signs a document and verifies it, makes a key, encrypts a secret and decrypts it, and shows what changed texts and wrong keys give.
 demo:
@@ -36,11 +36,25 @@ faults:
 bench:
 	@scripts/bench
 
-# Installs the built program and its man page.
+# Compares the pages and the completions with the program's table of commands, and tries the refusals that the pages list, the
+# completions, install and uninstall.
+pages:
+	@scripts/pages
+	@scripts/refusals
+	@scripts/completions
+	@scripts/installed
+
+# Runs every example of the README and of the pages with the built program.
+tour:
+	@scripts/tour
+
+# Installs the built program, the pages, the completions, the license and the changelog.
 install:
-	@test -x crates/jose/out/jose || { echo "make build first" >&2; exit 1; }
-	install -D -m 755 crates/jose/out/jose $(DESTDIR)$(PREFIX)/bin/jose
-	install -D -m 644 man/jose.1 $(DESTDIR)$(PREFIX)/share/man/man1/jose.1
+	@scripts/install "$(DESTDIR)$(PREFIX)"
+
+# Takes away exactly what install made.
+uninstall:
+	@scripts/install --away "$(DESTDIR)$(PREFIX)"
 
 clean:
 	rm -rf crates/*/out
