@@ -2,7 +2,7 @@
 
 PREFIX ?= /usr/local
 
-.PHONY: demo test edits build ports faults bench install clean
+.PHONY: demo test edits build ports faults bench interop dist dist-try install clean
 
 # Signs a document and verifies it, makes a key, encrypts a secret and decrypts it, and shows what changed texts and wrong keys give.
 demo:
@@ -32,6 +32,18 @@ faults:
 bench:
 	@scripts/bench
 
+# Sends tokens between the built program and latchset's jose, jwcrypto and go-jose, both ways, where these are installed.
+interop:
+	@scripts/interop
+
+# Makes a release of the built program in out/: a tarball and a Debian package.
+dist:
+	@scripts/dist
+
+# Tries the release where no kit is: installed and removed, in a bare folder, in a small Debian.
+dist-try:
+	@scripts/dist-try
+
 # Installs the built program and its man page.
 install:
 	@test -x crates/jose/out/jose || { echo "make build first" >&2; exit 1; }
@@ -39,4 +51,4 @@ install:
 	install -D -m 644 man/jose.1 $(DESTDIR)$(PREFIX)/share/man/man1/jose.1
 
 clean:
-	rm -rf crates/*/out
+	rm -rf crates/*/out out
