@@ -2,7 +2,7 @@
 
 PREFIX ?= /usr/local
 
-.PHONY: demo test edits build ports faults bench interop dist dist-try install clean
+.PHONY: demo test edits build ports faults bench interop latchset dist dist-try install clean
 
 # Signs a document and verifies it, makes a key, encrypts a secret and decrypts it, and shows what changed texts and wrong keys give.
 demo:
@@ -35,6 +35,10 @@ bench:
 # Sends tokens between the built program and latchset's jose, jwcrypto and go-jose, both ways, where these are installed.
 interop:
 	@scripts/interop
+
+# Runs the built program and latchset's jose over the differences that docs/FROM-LATCHSET.md states.
+latchset:
+	@scripts/latchset
 
 # Makes a release of the built program in out/: a tarball and a Debian package.
 dist:
