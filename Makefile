@@ -2,7 +2,7 @@
 
 PREFIX ?= /usr/local
 
-.PHONY: demo test edits build ports long faults bench pages tour install uninstall clean
+.PHONY: demo test edits build ports long faults bench pages tour interop latchset dist dist-try install uninstall clean
 
 # Signs a document and verifies it, makes a key, encrypts a secret and decrypts it, and shows what changed texts and wrong keys give.
 demo:
@@ -48,6 +48,22 @@ pages:
 tour:
 	@scripts/tour
 
+# Sends tokens between the built program and latchset's jose, jwcrypto and go-jose, both ways, where these are installed.
+interop:
+	@scripts/interop
+
+# Runs the built program and latchset's jose over the differences that docs/FROM-LATCHSET.md states.
+latchset:
+	@scripts/latchset
+
+# Makes a release of the built program in out/: a tarball and a Debian package.
+dist:
+	@scripts/dist
+
+# Tries the release where no kit is: installed and removed, in a bare folder, in a small Debian.
+dist-try:
+	@scripts/dist-try
+
 # Installs the built program, the pages, the completions, the license and the changelog.
 install:
 	@scripts/install "$(DESTDIR)$(PREFIX)"
@@ -57,4 +73,4 @@ uninstall:
 	@scripts/install --away "$(DESTDIR)$(PREFIX)"
 
 clean:
-	rm -rf crates/*/out
+	rm -rf crates/*/out out

@@ -1,0 +1,70 @@
+"""What scripts/interop asks of jwcrypto: a JSON request in each line of standard input, a JSON answer in each line of standard output."""
+import base64
+import json
+import sys
+
+from jwcrypto import jwe, jwk, jws
+
+ALGORITHMS = jwe.default_allowed_algs
+
+
+def octets(text):
+    return base64.urlsafe_b64decode(text + '=' * (-len(text) % 4))
+
+
+def text_of(some):
+    return base64.urlsafe_b64encode(some).rstrip(b'=').decode()
+
+
+def key(k):
+    return jwk.JWK(kty='oct', k=k)
+
+
+def sign(ask):
+    token = jws.JWS(octets(ask['payload']))
+    for alg, k in zip(ask['algs'], ask['keys']):
+        if ask['form'] == 'alg in header':
+            token.add_signature(key(k), header={'alg': alg})
+        else:
+            token.add_signature(key(k), protected={'alg': alg})
+    if ask['form'].endswith('detached'):
+        token.detach_payload()
+    return token.serialize(ask['form'].startswith('compact'))
+
+
+def verify(ask):
+    token = jws.JWS()
+    token.deserialize(ask['text'])
+    token.verify(key(ask['key']))
+    return text_of(token.payload)
+
+
+def encrypt(ask):
+    form, algs = ask['form'], ask['algs']
+    header = {'enc': ask['enc']}
+    if len(algs) == 1:
+        header['alg'] = algs[0]
+    if form == 'compact, zip':
+        header['zip'] = 'DEF'
+    where = 'unprotected' if form == 'alg and enc in unprotected' else 'protected'
+    aad = octets(ask['aad']) if ask['aad'] else None
+    token = jwe.JWE(octets(ask['plaintext']), aad=aad, algs=ALGORITHMS, **{where: json.dumps(header)})
+    for alg, k in zip(algs, ask['keys']):
+        token.add_recipient(key(k), header={'alg': alg} if len(algs) > 1 else None)
+    return token.serialize(form.startswith('compact'))
+
+
+def decrypt(ask):
+    token = jwe.JWE(algs=ALGORITHMS)
+    token.deserialize(ask['text'])
+    token.decrypt(key(ask['key']))
+    return text_of(token.payload)
+
+
+for line in sys.stdin:
+    asked = json.loads(line)
+    try:
+        answer = {'ok': globals()[asked['do']](asked)}
+    except Exception as error:
+        answer = {'refused': repr(error)}
+    print(json.dumps(answer), flush=True)
