@@ -211,6 +211,11 @@ jws_compact_text detach o = do
   fits ← needs (is_compact o.signatures) NotCompact
   Ok (joined_first (kept detach o.payload) o.signatures)
 
+-- compact or JSON, with the payload or without
+abbrev pub jws_text : Bool → Bool → SignedObject → Result (List ℕ) Refusal
+jws_text true detach o = jws_compact_text detach o
+jws_text false detach o = Ok (json_text detach o)
+
 -- ---- what is written is read, and what is read can be written
 
 -- the texts and headers are as JSON has them, and the others are octets

@@ -3,3 +3,4 @@ pub mod Texts
 pub mod Jws
 pub mod Jwe
 pub mod Views
+pub mod Frames
