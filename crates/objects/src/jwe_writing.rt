@@ -1,19 +1,23 @@
 //! The texts of an encrypted object (RFC 7516 section 7). It composes what the object holds, and refuses only what a
 //! form cannot hold.
-ghost use Rattle.std.specs.Prelude.{◌≡◌, false, map, Err, Ok, IfOk, IfErr, OnOk, OnErr, string_bytes};
+ghost use Rattle.std.specs.Prelude.{◌≡◌, ◌≢◌, false, codes, map, option_map, Err, Ok, IfOk, IfErr, OnOk, OnErr, string_bytes};
+ghost use Rattle.objects.specs.Frames.{IsJweFrame};
+ghost use Rattle.objects.specs.Writing.{jwe_written, with_parts, with_members, with_alone, with_several, with_items, with_recipient, with_tag};
 ghost use Rattle.serde_json.specs.Data.{no_members};
 ghost use Rattle.serde_json.specs.View.{members_view, items_view};
 ghost use Rattle.serde_json.specs.Written.{members_have_float, items_have_float};
 ghost use Rattle.octets.specs.Outcomes.{AgreesUnlessMemory};
-ghost use Rattle.objects.specs.Jwe.{json_text, jwe_compact_text, joined, is_compact as is_compact_object, key_of_first, put_recipient as recipient_put, put_recipients as recipients_put, put_shared as shared_put};
+ghost use Rattle.objects.specs.Jwe.{json_text, jwe_compact_text, joined, is_compact as is_compact_object, key_of_first, put_recipient as recipient_put, put_recipients as recipients_put, put_shared as shared_put, jwe_text};
 ghost use Rattle.objects.specs.Texts.{objects_of};
-ghost use Rattle.objects.specs.Views.{jwe_view, recipient_view};
+ghost use Rattle.objects.specs.Views.{jwe_view, recipient_view, written_view};
 
+use crate::frames::{Texts, inside};
 use crate::header::has_members;
 use crate::jwe::Jwe;
 use crate::recipient::Recipient;
 use crate::written::{append_part, kept, put_content, put_header, put_octets, put_text};
 use keys::laws;
+use octets::laws::{base64url_decodes_exactly, base64url_has_url_characters};
 use octets::{Refusal, needs};
 use serde_json::{Map, Value};
 use std::alloc::Global;
@@ -41,6 +45,150 @@ impl Jwe {
         needs(is_compact(self), Refusal::NotCompact)?;
         let ciphertext = kept(detach, self.ciphertext());
         compact_text(alloc, self, key_of_first(self.recipients()), ciphertext)
+    }
+
+    /// The texts that stand before, between and after the base64url texts of a ciphertext, which has no place where it is
+    /// detached, and of the tag; in compact form where that is asked for, or else in JSON form. The object's own ciphertext
+    /// and tag do not matter. Refused with `NotCompact` as `to_compact` is.
+    pub fn frame(&self, alloc: Global, compact: bool, detach: bool) -> Result<Vec<String>, Refusal>
+        ensures texts { IfOk result (λ texts. IsJweFrame compact detach (jwe_view self.now) (map string_bytes texts.items)) }
+        ensures refused { IfErr result (λ e. e ≢ Refusal.Memory → (e ≡ Refusal.NotCompact) × (jwe_text compact detach (jwe_view self.now) ≡ Err Refusal.NotCompact)) }
+    {
+        laws::url_texts_are_json();
+        base64url_has_url_characters();
+        base64url_decodes_exactly();
+        self.written(alloc, true, compact, detach)?.into_texts()
+    }
+
+    /// Its text, with its ciphertext and tag, or with places left for these.
+    fn written(
+        &self,
+        alloc: Global,
+        places: bool,
+        compact: bool,
+        detach: bool,
+    ) -> Result<Texts, Refusal>
+        ensures { AgreesUnlessMemory written_view result (jwe_written places compact detach (jwe_view self.now)) }
+    {
+        let ciphertext = inside(detach, self.ciphertext());
+        let mut texts = Texts::new(alloc, places);
+        if compact {
+            needs(is_compact(self), Refusal::NotCompact)?;
+            write_parts(alloc, &mut texts, self, ciphertext)?;
+        } else {
+            write_members(alloc, &mut texts, self, ciphertext)?;
+        }
+        Ok(texts)
+    }
+}
+
+/// Writes the parts of a compact text.
+fn write_parts(
+    alloc: Global,
+    texts: &mut Texts,
+    jwe: &Jwe,
+    ciphertext: Option<&[u8]>,
+) -> Result<(), Refusal>
+    ensures written { OnOk result (written_view texts.new ≡ with_parts texts.old.places (option_map (λ c. c.now) ciphertext.entry) (jwe_view jwe.now) (written_view texts.old)) }
+    ensures memory { OnErr result (result ≡ Err Refusal.Memory) }
+{
+    texts.push(jwe.protected())?;
+    texts.part(key_of_first(jwe.recipients()))?;
+    texts.part(jwe.iv())?;
+    texts.content_part(alloc, ciphertext)?;
+    texts.place_part(alloc, jwe.tag())
+}
+
+/// Writes the members of a JSON text, between braces.
+fn write_members(
+    alloc: Global,
+    texts: &mut Texts,
+    jwe: &Jwe,
+    ciphertext: Option<&[u8]>,
+) -> Result<(), Refusal>
+    ensures written { OnOk result (written_view texts.new ≡ with_members texts.old.places (option_map (λ c. c.now) ciphertext.entry) (jwe_view jwe.now) (written_view texts.old)) }
+    ensures memory { OnErr result (result ≡ Err Refusal.Memory) }
+{
+    texts.begin("{")?;
+    texts.octets(alloc, "aad", jwe.aad())?;
+    texts.content(alloc, "ciphertext", ciphertext)?;
+    write_alone(alloc, texts, jwe.recipients())?;
+    texts.octets(alloc, "iv", jwe.iv())?;
+    texts.text(
+        alloc,
+        "protected",
+        String::from_str(alloc, jwe.protected())?,
+    )?;
+    write_several(alloc, texts, jwe.recipients())?;
+    write_tag(alloc, texts, jwe.tag())?;
+    texts.header(alloc, "unprotected", &jwe.unprotected)?;
+    texts.end("}")
+}
+
+/// Writes the members of the one recipient.
+fn write_alone(alloc: Global, texts: &mut Texts, recipients: &[Recipient]) -> Result<(), Refusal>
+    ensures written { OnOk result (written_view texts.new ≡ with_alone with_recipient (map recipient_view recipients.now) (written_view texts.old)) }
+    ensures same { texts.new.places ≡ texts.old.places }
+    ensures memory { OnErr result (result ≡ Err Refusal.Memory) }
+{
+    match recipients {
+        [recipient] => write_recipient(alloc, texts, recipient),
+        _ => Ok(()),
+    }
+}
+
+/// Writes a list of several recipients.
+fn write_several(alloc: Global, texts: &mut Texts, recipients: &[Recipient]) -> Result<(), Refusal>
+    ensures written { OnOk result (written_view texts.new ≡ with_several (codes "recipients") with_recipient (map recipient_view recipients.now) (written_view texts.old)) }
+    ensures same { texts.new.places ≡ texts.old.places }
+    ensures memory { OnErr result (result ≡ Err Refusal.Memory) }
+{
+    match recipients {
+        [] | [_] => Ok(()),
+        _ => {
+            texts.name("recipients")?;
+            texts.begin("[")?;
+            write_items(alloc, texts, recipients)?;
+            texts.end("]")
+        }
+    }
+}
+
+/// Writes each recipient as an object.
+fn write_items(alloc: Global, texts: &mut Texts, recipients: &[Recipient]) -> Result<(), Refusal>
+    ensures written { OnOk result (written_view texts.new ≡ with_items with_recipient (map recipient_view recipients.now) (written_view texts.old)) }
+    ensures same { texts.new.places ≡ texts.old.places }
+    ensures memory { OnErr result (result ≡ Err Refusal.Memory) }
+{
+    for recipient in recipients {
+        texts.separate()?;
+        texts.begin("{")?;
+        write_recipient(alloc, texts, recipient)?;
+        texts.end("}")?;
+    }
+    Ok(())
+}
+
+/// Writes the header and the encrypted key of a recipient.
+fn write_recipient(alloc: Global, texts: &mut Texts, recipient: &Recipient) -> Result<(), Refusal>
+    ensures written { OnOk result (written_view texts.new ≡ with_recipient (recipient_view recipient.now) (written_view texts.old)) }
+    ensures same { texts.new.places ≡ texts.old.places }
+    ensures memory { OnErr result (result ≡ Err Refusal.Memory) }
+{
+    texts.octets(alloc, "encrypted_key", recipient.encrypted_key())?;
+    texts.header(alloc, "header", &recipient.header)
+}
+
+/// Writes a tag that is not empty, or leaves a place for one.
+fn write_tag(alloc: Global, texts: &mut Texts, tag: &[u8]) -> Result<(), Refusal>
+    ensures written { OnOk result (written_view texts.new ≡ with_tag texts.old.places tag.now (written_view texts.old)) }
+    ensures same { texts.new.places ≡ texts.old.places }
+    ensures memory { OnErr result (result ≡ Err Refusal.Memory) }
+{
+    if texts.places {
+        texts.place(alloc, "tag", tag)
+    } else {
+        texts.octets(alloc, "tag", tag)
     }
 }
 

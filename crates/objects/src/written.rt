@@ -102,7 +102,7 @@ pub(crate) fn put_header(
 
 /// The JSON value of a header.
 #[tactic(auto, using(crate::proofs::HeaderMembers::object_view))]
-fn header_value(alloc: Global, header: &HeaderMembers) -> Result<Value, Refusal>
+pub(crate) fn header_value(alloc: Global, header: &HeaderMembers) -> Result<Value, Refusal>
     ensures value { IfOk result (λ value. view value ≡ object (members_view header.now.map.entries)) }
     ensures memory { IfErr result (λ e. e ≡ Refusal.Memory) }
 {
