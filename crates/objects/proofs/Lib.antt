@@ -19,9 +19,11 @@ pub mod DetachedContent
 pub mod Places
 pub mod SpellingJwe
 pub mod SpellingJweCompact
+pub mod JweWritten
 pub mod JweFrames
 pub mod SpellingJws
 pub mod SpellingJwsCompact
+pub mod JwsWritten
 pub mod JwsFrames
 pub mod MadeJwe
 pub mod MadeJws

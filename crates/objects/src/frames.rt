@@ -1,15 +1,15 @@
 //! The texts of an object as they are written (RFC 7515 section 7, RFC 7516 section 7): as one text, with values in it, or as
 //! the texts round places that are left for values. It knows no kind of object.
 ghost use Rattle.std.specs.Prelude.{◌≡◌, true, false, codes, map, option_map, Err, Ok, IfOk, IfErr, OnOk, OnErr, string_bytes};
+ghost use Rattle.serde_json.specs.Data.{object};
 ghost use Rattle.serde_json.specs.View.{view, members_view};
 ghost use Rattle.serde_json.specs.Written.{has_float};
 ghost use Rattle.objects.specs.Views.{written_view};
 ghost use Rattle.objects.specs.Writing.{nothing_written, all_texts, pushed, with_slot, opened, closed, separated, named, with_value, with_text, with_header, with_place, with_content, with_part, with_content_part, inside};
 ghost use Rattle.octets.specs.Base64url.{base64url};
 
-use crate::header::has_members;
+use crate::header::{copy, has_members};
 use crate::header_members::HeaderMembers;
-use crate::written::header_value;
 use keys::laws;
 use octets::laws::{are_octets, base64url_has_url_characters};
 use octets::{Refusal, b64_append, b64_encode};
@@ -53,6 +53,14 @@ impl Texts {
         let mut texts = finished;
         texts.push(text)?;
         Ok(texts)
+    }
+
+    /// The text, where no places were left.
+    pub(crate) fn into_text(self) -> String
+        ensures { string_bytes result ≡ (written_view self).text }
+    {
+        let Texts { text, .. } = self;
+        text
     }
 
     /// Adds a text, as it is.
@@ -250,4 +258,13 @@ pub(crate) fn inside(detach: bool, content: &[u8]) -> Option<&[u8]>
     ensures { option_map (λ c. c.now) result ≡ inside detach content.now }
 {
     if detach { None } else { Some(content) }
+}
+
+/// The JSON value of a header.
+#[tactic(auto, using(crate::proofs::HeaderMembers::object_view))]
+fn header_value(alloc: Global, header: &HeaderMembers) -> Result<Value, Refusal>
+    ensures value { IfOk result (λ value. view value ≡ object (members_view header.now.map.entries)) }
+    ensures memory { IfErr result (λ e. e ≡ Refusal.Memory) }
+{
+    Ok(Value::Object(copy(alloc, Some(&header.map))?))
 }

@@ -1,6 +1,7 @@
 use Rattle.std.proofs.Common.{rules}
 use Rattle.objects.specs.Views.{jwe_view, written_view}
-use Rattle.objects.proofs.JweFrames.{jwe_frame, jwe_refused}
+use Rattle.objects.proofs.JweFrames.{jwe_frame}
+use Rattle.objects.proofs.JweWritten.{jwe_refused}
 use Rattle.objects.proofs.jwe.Jwe.frame.Goals as goal
 
 pub returns-in_err-written-clause-refused : goal.returns-in_err-written-clause-refused

@@ -1,6 +1,7 @@
 use Rattle.std.proofs.Common.{rules}
 use Rattle.objects.specs.Views.{jws_view, written_view}
-use Rattle.objects.proofs.JwsFrames.{jws_frame, jws_refused}
+use Rattle.objects.proofs.JwsFrames.{jws_frame}
+use Rattle.objects.proofs.JwsWritten.{jws_refused}
 use Rattle.objects.proofs.jws.Jws.frame.Goals as goal
 
 pub returns-in_err-written-clause-refused : goal.returns-in_err-written-clause-refused
