@@ -92,7 +92,7 @@ begins_slot true octets w values rest all b =
     }
 begins_slot false octets w values rest all b = begins_pushed (base64url octets) w values rest all b
 
--- ---- members
+-- ---- names and values
 
 -- a name of these characters needs no escape
 quoted_name : UrlTextsAreJson → (name rest : List ℕ) → list_all is_url_character name ≡ true → compact_text (string name) ++ rest ≡ codes "\"" ++ (name ++ (codes "\"" ++ rest))
