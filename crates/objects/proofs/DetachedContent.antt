@@ -45,7 +45,7 @@ content_found true name es content text same is = rw (text_found name es [] is) 
 -- ---- as a part of a compact text
 
 -- no octets have the empty text
-no_octets : DecodesExactly → base64url [] ≡ []
+pub no_octets : DecodesExactly → base64url [] ≡ []
 no_octets exact = sym ((exact.meaning [] [] IsOctets-nil IsOctets-nil).0 decoded-nil)
 
 -- the text of what is kept of a content is what is kept of its text

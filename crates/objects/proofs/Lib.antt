@@ -4,8 +4,10 @@ pub mod Each
 pub mod EachRead
 pub mod Items
 pub mod HeaderMembers
+pub mod WrittenItems
 pub mod Recipients
 pub mod Members
+pub mod Sorted
 pub mod Characters
 pub mod CompactTexts
 pub mod ListedMembers
@@ -14,10 +16,15 @@ pub mod TextOctets
 pub mod Joined
 pub mod ReadJson
 pub mod DetachedContent
+pub mod Places
 pub mod SpellingJwe
 pub mod SpellingJweCompact
+pub mod JweWritten
+pub mod JweFrames
 pub mod SpellingJws
 pub mod SpellingJwsCompact
+pub mod JwsWritten
+pub mod JwsFrames
 pub mod MadeJwe
 pub mod MadeJws
 pub mod MadeOf

@@ -28,11 +28,11 @@ use Rattle.objects.proofs.Steps.{steps, same_answer, passed}
 -- ---- the members of the JSON text
 
 -- those of a recipient, from the last one that is put in
-abbrev recipient_entries : RecipientTexts → Entries
+abbrev pub recipient_entries : RecipientTexts → Entries
 recipient_entries t = (codes "header", header_there t.header) ∷ (codes "encrypted_key", text_there t.encrypted_key) ∷ []
 
 -- those beside the recipients
-abbrev own_entries : Bool → JweTexts → Entries
+abbrev pub own_entries : Bool → JweTexts → Entries
 own_entries detach t =
     (codes "unprotected", header_there t.shared.unprotected) ∷ (codes "tag", text_there t.content.tag) ∷ (codes "protected", text_there t.shared.protected)
     ∷ (codes "iv", text_there t.content.iv) ∷ (codes "ciphertext", content_there detach t.content.ciphertext) ∷ (codes "aad", text_there t.shared.aad) ∷ []
@@ -88,7 +88,7 @@ texts_read detach ciphertext t same some =
     ) refl
 
 -- the texts of a recipient, and of the parts of one
-abbrev recipient_spelled : Recipient → RecipientTexts
+abbrev pub recipient_spelled : Recipient → RecipientTexts
 recipient_spelled r = record { header = r.header; encrypted_key = base64url r.encrypted_key }
 
 abbrev recipient_parts_spelled : RecipientParts → RecipientTexts
@@ -110,10 +110,10 @@ parts_spelled p = record {
 }
 
 -- these are put into the JSON text
-recipient_is_put : (r : Recipient) → put_recipient r no_members ≡ put_all (recipient_entries (recipient_spelled r))
+pub recipient_is_put : (r : Recipient) → put_recipient r no_members ≡ put_all (recipient_entries (recipient_spelled r))
 recipient_is_put r = simp (put_text_is, put_header_is)
 
-shared_are_put : (detach : Bool) (o : EncryptedObject) (later : Entries) → put_shared detach o (put_all later) ≡ put_all (own_entries detach (spelled o) ++ later)
+pub shared_are_put : (detach : Bool) (o : EncryptedObject) (later : Entries) → put_shared detach o (put_all later) ≡ put_all (own_entries detach (spelled o) ++ later)
 shared_are_put detach o later = simp (put_text_is, put_header_is, put_content_is)
 
 members_are_put : (detach : Bool) (o : EncryptedObject) → put_shared detach o (put_recipients o.recipients no_members) ≡ put_all (entries detach (spelled o))

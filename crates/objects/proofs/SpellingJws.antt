@@ -27,14 +27,14 @@ use Rattle.objects.proofs.Steps.{steps, same_answer, passed}
 -- ---- the members of the JSON text
 
 -- those of a signature, from the last one that is put in
-abbrev signature_entries : SignatureTexts → Entries
+abbrev pub signature_entries : SignatureTexts → Entries
 signature_entries t = (codes "header", header_there t.header) ∷ (codes "signature", Some (string t.signature)) ∷ (codes "protected", text_there t.protected) ∷ []
 
 -- that beside the signatures
 abbrev own_entries : Bool → JwsTexts → Entries
 own_entries detach t = (codes "payload", content_there detach t.payload) ∷ []
 
-abbrev entries : Bool → JwsTexts → Entries
+abbrev pub entries : Bool → JwsTexts → Entries
 entries detach t = own_entries detach t ++ each_entries (codes "signatures") signature_entries t.signatures
 
 -- a signature is read where its members stand
@@ -78,7 +78,7 @@ texts_read detach payload t same some =
     rw (content_found detach (codes "payload") (entries detach t) payload t.payload same (front (codes "payload") _ refl (λ s. refl)), by_list value (get (codes "signatures") value), found.1, found.2) refl
 
 -- the texts of a signature, and of the parts of one
-abbrev signature_spelled : Signature → SignatureTexts
+abbrev pub signature_spelled : Signature → SignatureTexts
 signature_spelled s = record { protected = s.protected; header = s.header; signature = base64url s.signature }
 
 abbrev signature_parts_spelled : SignatureParts → SignatureTexts
@@ -92,10 +92,10 @@ abbrev pub parts_spelled : JwsParts → JwsTexts
 parts_spelled p = record { payload = base64url p.payload; signatures = map signature_parts_spelled p.signatures }
 
 -- these are put into the JSON text
-signature_is_put : (s : Signature) → put_signature s no_members ≡ put_all (signature_entries (signature_spelled s))
+pub signature_is_put : (s : Signature) → put_signature s no_members ≡ put_all (signature_entries (signature_spelled s))
 signature_is_put s = simp (put_text_is, put_header_is)
 
-members_are_put : (detach : Bool) (o : SignedObject)
+pub members_are_put : (detach : Bool) (o : SignedObject)
     → put_content detach (codes "payload") o.payload (put_each (codes "signatures") put_signature o.signatures no_members) ≡ put_all (entries detach (spelled o))
 members_are_put detach o =
     put_content_is detach (codes "payload") o.payload (put_each (codes "signatures") put_signature o.signatures no_members)

@@ -337,6 +337,11 @@ jwe_compact_text detach o = do
   fits ← needs (is_compact o o.recipients) NotCompact
   Ok (joined o.protected (key_of_first o.recipients) o.iv (kept detach o.ciphertext) o.tag)
 
+-- compact or JSON, with the ciphertext or without
+abbrev pub jwe_text : Bool → Bool → EncryptedObject → Result (List ℕ) Refusal
+jwe_text true detach o = jwe_compact_text detach o
+jwe_text false detach o = Ok (json_text detach o)
+
 -- ---- what is written is read, and what is read can be written
 
 -- the texts and headers are as JSON has them, and the others are octets

@@ -1,5 +1,5 @@
 -- JWS objects (RFC 7515): their compact texts (section 7.1) and their JSON texts, general and flattened (section 7.2).
-use Rattle.std.specs.Prelude.{◌≡◌, ℕ, ◌&&◌, Bool, false, not, List, [], ◌∷◌, ◌++◌, length, codes, nat_le, is_some, is_none, if◌then◌else◌, Option, Some, None, Result, Ok}
+use Rattle.std.specs.Prelude.{◌≡◌, ℕ, ◌&&◌, Bool, true, false, not, List, [], ◌∷◌, ◌++◌, length, codes, nat_le, is_some, is_none, if◌then◌else◌, Option, Some, None, Result, Ok}
 use Rattle.std.specs.List.{AllByRecursion, list_all}
 use Rattle.serde_json.specs.Data.{Data, Items, no_items, item, Members, no_members, string, object, put, depth}
 use Rattle.serde_json.specs.Find.{get}
@@ -210,6 +210,11 @@ unfoldable pub jws_compact_text : Bool → SignedObject → Result (List ℕ) Re
 jws_compact_text detach o = do
   fits ← needs (is_compact o.signatures) NotCompact
   Ok (joined_first (kept detach o.payload) o.signatures)
+
+-- compact or JSON, with the payload or without
+abbrev pub jws_text : Bool → Bool → SignedObject → Result (List ℕ) Refusal
+jws_text true detach o = jws_compact_text detach o
+jws_text false detach o = Ok (json_text detach o)
 
 -- ---- what is written is read, and what is read can be written
 

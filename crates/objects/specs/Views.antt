@@ -10,8 +10,10 @@ use Rattle.octets.specs.Base64url.{base64url}
 use Rattle.objects.specs.Headers.{all_members}
 use Rattle.objects.specs.Jwe.{RecipientParts, Recipient, PasswordParameters, SharedTexts, RecipientTexts, ContentTexts, JweTexts, JweParts, EncryptedObject}
 use Rattle.objects.specs.Jws.{SignatureParts, JwsParts, SignatureTexts, JwsTexts, Signature, DecodedSignature, HeadedSignature, SignedObject}
+use Rattle.objects.specs.Writing.{Written}
 use Rattle.objects.specs.declared.content.Content.{Content}
 use Rattle.objects.specs.declared.content.Content.TheVariants.{Text, Octets}
+use Rattle.objects.specs.declared.frames.Texts as texts_written
 use Rattle.objects.specs.declared.header.Header as header
 use Rattle.objects.specs.declared.jwe.Jwe as jwe
 use Rattle.objects.specs.declared.jwe.JweMembers as jwe_members
@@ -147,3 +149,8 @@ jwe_view j = record {
   tag = j.tag.items;
   recipients = map recipient_view j.recipients.list.items;
 }
+
+-- ---- what is written
+
+abbrev pub written_view : texts_written.Texts → Written
+written_view t = record { finished = map string_bytes t.finished.items; text = string_bytes t.text; later = t.later }

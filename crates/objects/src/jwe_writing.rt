@@ -1,46 +1,190 @@
 //! The texts of an encrypted object (RFC 7516 section 7). It composes what the object holds, and refuses only what a
 //! form cannot hold.
-ghost use Rattle.std.specs.Prelude.{◌≡◌, false, map, Err, Ok, IfOk, IfErr, OnOk, OnErr, string_bytes};
-ghost use Rattle.serde_json.specs.Data.{no_members};
-ghost use Rattle.serde_json.specs.View.{members_view, items_view};
-ghost use Rattle.serde_json.specs.Written.{members_have_float, items_have_float};
+ghost use Rattle.std.specs.Prelude.{◌≡◌, ◌≢◌, codes, map, option_map, Err, Ok, IfOk, IfErr, OnOk, OnErr, string_bytes};
 ghost use Rattle.octets.specs.Outcomes.{AgreesUnlessMemory};
-ghost use Rattle.objects.specs.Jwe.{json_text, jwe_compact_text, joined, is_compact as is_compact_object, key_of_first, put_recipient as recipient_put, put_recipients as recipients_put, put_shared as shared_put};
-ghost use Rattle.objects.specs.Texts.{objects_of};
-ghost use Rattle.objects.specs.Views.{jwe_view, recipient_view};
+ghost use Rattle.objects.specs.Frames.{IsJweFrame};
+ghost use Rattle.objects.specs.Jwe.{json_text, jwe_compact_text, jwe_text, is_compact as is_compact_object, key_of_first};
+ghost use Rattle.objects.specs.Views.{jwe_view, recipient_view, written_view};
+ghost use Rattle.objects.specs.Writing.{jwe_written, with_parts, with_members, with_alone, with_several, with_items, with_recipient, with_tag};
 
+use crate::frames::{Texts, inside};
 use crate::header::has_members;
 use crate::jwe::Jwe;
 use crate::recipient::Recipient;
-use crate::written::{append_part, kept, put_content, put_header, put_octets, put_text};
 use keys::laws;
+use octets::laws::{base64url_decodes_exactly, base64url_has_url_characters};
 use octets::{Refusal, needs};
-use serde_json::{Map, Value};
 use std::alloc::Global;
 
 impl Jwe {
     /// The JSON text, its members in byte order of their names: flattened where there is one recipient, and else general
     /// (RFC 7516 section 7.2). An optional member that is empty is left out, and so is the ciphertext where it is detached.
-    #[tactic(auto, unfolding(crate::specs::Jwe::json_text))]
     pub fn to_json(&self, alloc: Global, detach: bool) -> Result<String, Refusal>
         ensures { AgreesUnlessMemory string_bytes result (Ok (json_text detach (jwe_view self.now))) }
     {
-        let mut members = Map::new(alloc);
-        put_recipients(alloc, &mut members, self.recipients())?;
-        put_shared(alloc, &mut members, self, detach)?;
-        Ok(Value::Object(members).to_string(alloc)?)
+        self.whole(alloc, false, detach)
     }
 
     /// The compact text (RFC 7516 section 7.1), in which the part of a detached ciphertext is empty. Refused with
     /// `NotCompact` where the object has more than one recipient, a header that is not protected, or additional data of its
     /// own.
-    #[tactic(auto, unfolding(crate::specs::Jwe::jwe_compact_text))]
     pub fn to_compact(&self, alloc: Global, detach: bool) -> Result<String, Refusal>
         ensures { AgreesUnlessMemory string_bytes result (jwe_compact_text detach (jwe_view self.now)) }
     {
-        needs(is_compact(self), Refusal::NotCompact)?;
-        let ciphertext = kept(detach, self.ciphertext());
-        compact_text(alloc, self, key_of_first(self.recipients()), ciphertext)
+        self.whole(alloc, true, detach)
+    }
+
+    /// Its text, with its ciphertext and tag.
+    fn whole(&self, alloc: Global, compact: bool, detach: bool) -> Result<String, Refusal>
+        ensures { AgreesUnlessMemory string_bytes result (jwe_text compact detach (jwe_view self.now)) }
+    {
+        laws::url_texts_are_json();
+        base64url_decodes_exactly();
+        Ok(self.written(alloc, false, compact, detach)?.into_text())
+    }
+
+    /// The texts that stand before, between and after the base64url texts of a ciphertext, which has no place where it is
+    /// detached, and of the tag; in compact form where that is asked for, or else in JSON form. The object's own ciphertext
+    /// and tag do not matter. Refused with `NotCompact` as `to_compact` is.
+    pub fn frame(&self, alloc: Global, compact: bool, detach: bool) -> Result<Vec<String>, Refusal>
+        ensures texts { IfOk result (λ texts. IsJweFrame compact detach (jwe_view self.now) (map string_bytes texts.items)) }
+        ensures refused { IfErr result (λ e. e ≢ Refusal.Memory → (e ≡ Refusal.NotCompact) × (jwe_text compact detach (jwe_view self.now) ≡ Err Refusal.NotCompact)) }
+    {
+        laws::url_texts_are_json();
+        base64url_has_url_characters();
+        base64url_decodes_exactly();
+        self.written(alloc, true, compact, detach)?.into_texts()
+    }
+
+    /// What is written of it, with its ciphertext and tag or with places left for these.
+    fn written(
+        &self,
+        alloc: Global,
+        places: bool,
+        compact: bool,
+        detach: bool,
+    ) -> Result<Texts, Refusal>
+        ensures { AgreesUnlessMemory written_view result (jwe_written places compact detach (jwe_view self.now)) }
+    {
+        let ciphertext = inside(detach, self.ciphertext());
+        let mut texts = Texts::new(alloc, places);
+        if compact {
+            needs(is_compact(self), Refusal::NotCompact)?;
+            write_parts(alloc, &mut texts, self, ciphertext)?;
+        } else {
+            write_members(alloc, &mut texts, self, ciphertext)?;
+        }
+        Ok(texts)
+    }
+}
+
+/// Writes the parts of a compact text.
+fn write_parts(
+    alloc: Global,
+    texts: &mut Texts,
+    jwe: &Jwe,
+    ciphertext: Option<&[u8]>,
+) -> Result<(), Refusal>
+    ensures written { OnOk result (written_view texts.new ≡ with_parts texts.old.places (option_map (λ c. c.now) ciphertext.entry) (jwe_view jwe.now) (written_view texts.old)) }
+    ensures memory { OnErr result (result ≡ Err Refusal.Memory) }
+{
+    texts.push(jwe.protected())?;
+    texts.part(key_of_first(jwe.recipients()))?;
+    texts.part(jwe.iv())?;
+    texts.content_part(alloc, ciphertext)?;
+    texts.place_part(alloc, jwe.tag())
+}
+
+/// Writes the members of a JSON text, between braces.
+fn write_members(
+    alloc: Global,
+    texts: &mut Texts,
+    jwe: &Jwe,
+    ciphertext: Option<&[u8]>,
+) -> Result<(), Refusal>
+    ensures written { OnOk result (written_view texts.new ≡ with_members texts.old.places (option_map (λ c. c.now) ciphertext.entry) (jwe_view jwe.now) (written_view texts.old)) }
+    ensures memory { OnErr result (result ≡ Err Refusal.Memory) }
+{
+    texts.begin("{")?;
+    texts.octets(alloc, "aad", jwe.aad())?;
+    texts.content(alloc, "ciphertext", ciphertext)?;
+    write_alone(alloc, texts, jwe.recipients())?;
+    texts.octets(alloc, "iv", jwe.iv())?;
+    texts.text(
+        alloc,
+        "protected",
+        String::from_str(alloc, jwe.protected())?,
+    )?;
+    write_several(alloc, texts, jwe.recipients())?;
+    write_tag(alloc, texts, jwe.tag())?;
+    texts.header(alloc, "unprotected", &jwe.unprotected)?;
+    texts.end("}")
+}
+
+/// Writes the members of the one recipient.
+fn write_alone(alloc: Global, texts: &mut Texts, recipients: &[Recipient]) -> Result<(), Refusal>
+    ensures written { OnOk result (written_view texts.new ≡ with_alone with_recipient (map recipient_view recipients.now) (written_view texts.old)) }
+    ensures same { texts.new.places ≡ texts.old.places }
+    ensures memory { OnErr result (result ≡ Err Refusal.Memory) }
+{
+    match recipients {
+        [recipient] => write_recipient(alloc, texts, recipient),
+        _ => Ok(()),
+    }
+}
+
+/// Writes a list of several recipients.
+fn write_several(alloc: Global, texts: &mut Texts, recipients: &[Recipient]) -> Result<(), Refusal>
+    ensures written { OnOk result (written_view texts.new ≡ with_several (codes "recipients") with_recipient (map recipient_view recipients.now) (written_view texts.old)) }
+    ensures same { texts.new.places ≡ texts.old.places }
+    ensures memory { OnErr result (result ≡ Err Refusal.Memory) }
+{
+    match recipients {
+        [] | [_] => Ok(()),
+        _ => {
+            texts.name("recipients")?;
+            texts.begin("[")?;
+            write_items(alloc, texts, recipients)?;
+            texts.end("]")
+        }
+    }
+}
+
+/// Writes each recipient as an object.
+fn write_items(alloc: Global, texts: &mut Texts, recipients: &[Recipient]) -> Result<(), Refusal>
+    ensures written { OnOk result (written_view texts.new ≡ with_items with_recipient (map recipient_view recipients.now) (written_view texts.old)) }
+    ensures same { texts.new.places ≡ texts.old.places }
+    ensures memory { OnErr result (result ≡ Err Refusal.Memory) }
+{
+    for recipient in recipients {
+        texts.separate()?;
+        texts.begin("{")?;
+        write_recipient(alloc, texts, recipient)?;
+        texts.end("}")?;
+    }
+    Ok(())
+}
+
+/// Writes the header and the encrypted key of a recipient.
+fn write_recipient(alloc: Global, texts: &mut Texts, recipient: &Recipient) -> Result<(), Refusal>
+    ensures written { OnOk result (written_view texts.new ≡ with_recipient (recipient_view recipient.now) (written_view texts.old)) }
+    ensures same { texts.new.places ≡ texts.old.places }
+    ensures memory { OnErr result (result ≡ Err Refusal.Memory) }
+{
+    texts.octets(alloc, "encrypted_key", recipient.encrypted_key())?;
+    texts.header(alloc, "header", &recipient.header)
+}
+
+/// Writes a tag that is not empty, or leaves a place for one.
+fn write_tag(alloc: Global, texts: &mut Texts, tag: &[u8]) -> Result<(), Refusal>
+    ensures written { OnOk result (written_view texts.new ≡ with_tag texts.old.places tag.now (written_view texts.old)) }
+    ensures same { texts.new.places ≡ texts.old.places }
+    ensures memory { OnErr result (result ≡ Err Refusal.Memory) }
+{
+    if texts.places {
+        texts.place(alloc, "tag", tag)
+    } else {
+        texts.octets(alloc, "tag", tag)
     }
 }
 
@@ -66,96 +210,4 @@ fn key_of_first(recipients: &[Recipient]) -> &[u8]
         [] => b"",
         [recipient, ..] => recipient.encrypted_key(),
     }
-}
-
-/// Puts in the members of the one recipient, or a list of several.
-fn put_recipients(
-    alloc: Global,
-    members: &mut Map<String, Value>,
-    recipients: &[Recipient],
-) -> Result<(), Refusal>
-    ensures put { OnOk result (members_view members.new.entries ≡ recipients_put (map recipient_view recipients.now) (members_view members.old.entries)) }
-    ensures no_float { OnOk result (members_have_float (members_view members.old.entries) ≡ false → members_have_float (members_view members.new.entries) ≡ false) }
-    ensures memory { OnErr result (result ≡ Err Refusal.Memory) }
-{
-    laws::members_keep_floats_out();
-    match recipients {
-        [] => Ok(()),
-        [recipient] => put_recipient(alloc, members, recipient),
-        _ => {
-            let objects = recipient_objects(alloc, recipients)?;
-            Ok(serde_json::put(members, alloc, "recipients", Value::Array(objects))?)
-        }
-    }
-}
-
-/// The recipients as objects.
-#[tactic(auto, using(crate::proofs::Items::making))]
-fn recipient_objects(alloc: Global, recipients: &[Recipient]) -> Result<Vec<Value>, Refusal>
-    ensures objects { IfOk result (λ objects. items_view objects.items ≡ objects_of (λ r. recipient_put r no_members) (map recipient_view recipients.now)) }
-    ensures no_float { IfOk result (λ objects. items_have_float (items_view objects.items) ≡ false) }
-    ensures memory { IfErr result (λ e. e ≡ Refusal.Memory) }
-{
-    let mut objects = Vec::new(alloc);
-    for recipient in recipients {
-        let mut members = Map::new(alloc);
-        put_recipient(alloc, &mut members, recipient)?;
-        objects.push(Value::Object(members))?;
-    }
-    Ok(objects)
-}
-
-/// Puts in the header and the encrypted key of a recipient.
-fn put_recipient(
-    alloc: Global,
-    members: &mut Map<String, Value>,
-    recipient: &Recipient,
-) -> Result<(), Refusal>
-    ensures put { OnOk result (members_view members.new.entries ≡ recipient_put (recipient_view recipient.now) (members_view members.old.entries)) }
-    ensures no_float { OnOk result (members_have_float (members_view members.old.entries) ≡ false → members_have_float (members_view members.new.entries) ≡ false) }
-    ensures memory { OnErr result (result ≡ Err Refusal.Memory) }
-{
-    put_octets(alloc, members, "encrypted_key", recipient.encrypted_key())?;
-    put_header(alloc, members, "header", &recipient.header)
-}
-
-/// Puts in what all recipients share. The ciphertext is there unless it is detached.
-fn put_shared(
-    alloc: Global,
-    members: &mut Map<String, Value>,
-    jwe: &Jwe,
-    detach: bool,
-) -> Result<(), Refusal>
-    ensures put { OnOk result (members_view members.new.entries ≡ shared_put detach (jwe_view jwe.now) (members_view members.old.entries)) }
-    ensures no_float { OnOk result (members_have_float (members_view members.old.entries) ≡ false → members_have_float (members_view members.new.entries) ≡ false) }
-    ensures memory { OnErr result (result ≡ Err Refusal.Memory) }
-{
-    put_octets(alloc, members, "aad", jwe.aad())?;
-    put_content(alloc, members, detach, "ciphertext", jwe.ciphertext())?;
-    put_octets(alloc, members, "iv", jwe.iv())?;
-    put_text(
-        alloc,
-        members,
-        "protected",
-        String::from_str(alloc, jwe.protected())?,
-    )?;
-    put_octets(alloc, members, "tag", jwe.tag())?;
-    put_header(alloc, members, "unprotected", &jwe.unprotected)
-}
-
-/// The parts of a compact text, with dots between.
-fn compact_text(
-    alloc: Global,
-    jwe: &Jwe,
-    encrypted_key: &[u8],
-    ciphertext: &[u8],
-) -> Result<String, Refusal>
-    ensures { AgreesUnlessMemory string_bytes result (Ok (joined (jwe_view jwe.now).protected encrypted_key.now (jwe_view jwe.now).iv ciphertext.now (jwe_view jwe.now).tag)) }
-{
-    let mut text = String::from_str(alloc, jwe.protected())?;
-    append_part(&mut text, encrypted_key)?;
-    append_part(&mut text, jwe.iv())?;
-    append_part(&mut text, ciphertext)?;
-    append_part(&mut text, jwe.tag())?;
-    Ok(text)
 }

@@ -16,6 +16,7 @@
 #![tactic(auto)]
 
 mod content;
+mod frames;
 mod header;
 mod header_members;
 mod jwe;
@@ -32,7 +33,6 @@ mod recipient;
 mod recipient_list;
 mod signature_list;
 mod texts;
-mod written;
 
 pub use header::{Header, header_at, read_protected};
 pub use jwe::{Jwe, JweParts};

@@ -1,0 +1,14 @@
+use Rattle.std.proofs.Common.{rules}
+use Rattle.objects.specs.Views.{jwe_view, written_view}
+use Rattle.objects.proofs.JweFrames.{jwe_frame}
+use Rattle.objects.proofs.JweWritten.{jwe_refused}
+use Rattle.objects.proofs.jwe.Jwe.frame.Goals as goal
+
+pub returns-in_err-written-clause-refused : goal.returns-in_err-written-clause-refused
+returns-in_err-written-clause-refused c = search (rules, jwe_refused)
+
+pub returns-clause-texts : goal.returns-clause-texts
+returns-clause-texts c =
+    let frame = jwe_frame c.url_texts_are_json.ensures c.base64url_has_url_characters.ensures c.base64url_decodes_exactly.ensures c.args.compact c.args.detach (jwe_view c.args.self.now)
+    (written_view c.in_ok-written.field-0) c.in_ok-written.ensures in
+    search (rules, frame)

@@ -1,0 +1,56 @@
+-- The texts that stand round a content, and round the signatures or the tag after it, so that these can be written as they come.
+use Rattle.std.specs.Prelude.{◌≡◌, ℕ, ◌+◌, Bool, true, false, List, [], ◌∷◌, ◌++◌, length, map, nat_le, if◌then◌else◌, Ok}
+use Rattle.std.specs.List.{AllByRecursion}
+use Rattle.octets.specs.Base64url.{base64url}
+use Rattle.octets.specs.Octets.{IsOctets}
+use Rattle.objects.specs.Jws.{Signature, SignedObject, jws_text}
+use Rattle.objects.specs.Jwe.{EncryptedObject, jwe_text}
+
+-- with values in the places between the texts
+abbrev pub filled : List (List ℕ) → List (List ℕ) → List ℕ
+filled [] values = []
+filled (text ∷ rest) [] = text
+filled (text ∷ rest) (value ∷ values) = text ++ (value ++ filled rest values)
+
+-- the texts of a content and of what follows it; a content that is detached has no place
+abbrev pub in_places : Bool → List ℕ → List (List ℕ) → List (List ℕ)
+in_places true content others = map base64url others
+in_places false content others = base64url content ∷ map base64url others
+
+-- ---- signed objects (RFC 7515 section 7)
+
+-- the signatures with these octets in place of their own, in order
+abbrev pub with_octets : List Signature → List (List ℕ) → List Signature
+with_octets [] octets = []
+with_octets (s ∷ rest) [] = s ∷ rest
+with_octets (s ∷ rest) (octets ∷ more) = record { protected = s.protected; header = s.header; signature = octets; alg = s.alg } ∷ with_octets rest more
+
+abbrev pub signed_with : SignedObject → List ℕ → List (List ℕ) → SignedObject
+signed_with o payload signatures = record { payload = payload; signatures = with_octets o.signatures signatures }
+
+-- Round any payload, and as many signatures as the object has, the texts make the text of the object with these in place of its own.
+pub record IsJwsFrame (compact detach : Bool) (o : SignedObject) (texts : List (List ℕ)) : Type 0 where
+  pub places : length texts ≡ (if detach then 1 else 2) + length o.signatures
+  pub filled : (payload : List ℕ) (signatures : List (List ℕ)) → IsOctets payload → AllByRecursion IsOctets signatures → length signatures ≡ length o.signatures
+      → jws_text compact detach (signed_with o payload signatures) ≡ Ok (filled texts (in_places detach payload signatures))
+
+-- ---- encrypted objects (RFC 7516 section 7)
+
+-- the object with this ciphertext and this tag in place of its own
+abbrev pub sealed_with : EncryptedObject → List ℕ → List ℕ → EncryptedObject
+sealed_with o ciphertext tag = record {
+  protected = o.protected;
+  protected_members = o.protected_members;
+  unprotected = o.unprotected;
+  iv = o.iv;
+  aad = o.aad;
+  ciphertext = ciphertext;
+  tag = tag;
+  recipients = o.recipients;
+}
+
+-- Round any ciphertext and any tag that is not empty the texts make the text of the object with these in place of its own.
+pub record IsJweFrame (compact detach : Bool) (o : EncryptedObject) (texts : List (List ℕ)) : Type 0 where
+  pub places : length texts ≡ (if detach then 2 else 3)
+  pub filled : (ciphertext tag : List ℕ) → IsOctets ciphertext → IsOctets tag → nat_le 1 (length tag) ≡ true
+      → jwe_text compact detach (sealed_with o ciphertext tag) ≡ Ok (filled texts (in_places detach ciphertext (tag ∷ [])))
