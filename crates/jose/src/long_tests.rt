@@ -16,7 +16,7 @@ use std::process::Abort;
 use std::test::Fail;
 
 /// So many copies of the piece, between a front and a back.
-fn repeated(
+pub(crate) fn repeated(
     alloc: Global,
     front: &str,
     piece: &str,
@@ -40,7 +40,7 @@ fn b64_of_70_000_octets(rt: HostRuntime) -> Result<(), Fail> {
 }
 
 /// A content, and its base64url text.
-const PIECE: (&str, &str) = ("abcdefgabcdefgabcdefg", "YWJjZGVmZ2FiY2RlZmdhYmNkZWZn");
+pub(crate) const PIECE: (&str, &str) = ("abcdefgabcdefgabcdefg", "YWJjZGVmZ2FiY2RlZmdhYmNkZWZn");
 
 /// Contents of 0, 1, 4095, 4096, 4097, 8192 and 12289 octets: so many copies of the piece, and then these octets, with their text.
 const LENGTHS: &[(usize, &str, &str)] = &[
@@ -54,7 +54,7 @@ const LENGTHS: &[(usize, &str, &str)] = &[
 ];
 
 /// The words answer so, whatever the inputs give at a read.
-fn expect_in_steps<R: Abort + AllocGlobal>(
+pub(crate) fn expect_in_steps<R: Abort + AllocGlobal>(
     rt: &R,
     words: &[&str],
     given: &Given<'_>,

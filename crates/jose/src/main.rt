@@ -79,6 +79,8 @@ mod password_tests;
 #[cfg(test)]
 mod peer_tests;
 #[cfg(test)]
+mod pieces_tests;
+#[cfg(test)]
 mod several_keys_tests;
 #[cfg(test)]
 mod tests;

@@ -37,7 +37,7 @@ pub use reader::{B64Reader, decode_onto};
 pub use refusal::{Fault, Refusal, needs};
 pub use streams::{ReaderInput, WriterOutput};
 pub use whole::{Partial, draw, emit, read_piece, read_to_end, write_whole};
-pub use writer::B64Writer;
+pub use writer::{B64Writer, encode_onto};
 
 #[cfg(test)]
 mod tests;

@@ -74,8 +74,8 @@ pub(crate) fn join(octets: &mut [u8; 4114], front: &[u8], back: &[u8])
     octets[n..n + back.len()].copy_from_slice(back);
 }
 
-/// Writes the text of the octets to the front, and answers its length.
-fn encode_onto(octets: &[u8], out: &mut [u8]) -> usize
+/// Writes the base64url text of the octets to the front, and answers its length.
+pub fn encode_onto(octets: &[u8], out: &mut [u8]) -> usize
     requires { (4 * length octets.now + 2) / 3 ≤ length out.old }
     ensures len { result ≡ (4 * length octets.now + 2) / 3 }
     ensures text { take result out.new ≡ base64url octets.now }

@@ -1,5 +1,12 @@
 pub mod Tests
 pub mod Encoded
+pub mod HeldInputs
+pub mod Beside
+pub mod UnsignedInputs
+pub mod WrittenSignatures
+pub mod SignedAlike
+pub mod FramedSigning
+pub mod StandingSignatures
 pub mod HeaderMembers
 pub mod HeaderTexts
 pub mod Candidates

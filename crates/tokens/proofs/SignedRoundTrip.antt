@@ -39,7 +39,7 @@ use Rattle.tokens.proofs.SigningTemplates.{named_itself, key_is}
 -- ---- the object is what its text spells
 
 -- a signature is octets
-signature_octets : (alg : SignatureAlg) (key protected payload : List ℕ) → IsOctets (signature_of alg key protected payload)
+pub signature_octets : (alg : SignatureAlg) (key protected payload : List ℕ) → IsOctets (signature_of alg key protected payload)
 unfolding signature_of hmac
 signature_octets Hs256 key protected payload = IsOctets-sha256 _
 signature_octets Hs384 key protected payload = IsOctets-sha384 _

@@ -117,7 +117,7 @@ settled false header (s ∷ []) payload = refl
 settled false header (s ∷ (other ∷ rest)) payload = refl
 
 -- so the text begins with what stands before the payload's text, and with this
-text_begins : (compact : Bool) (s : Signing) (payload text : List ℕ) (o : SignedObject) → IsOctets payload → signed s payload ≡ Ok o → text_of compact false o ≡ Ok text
+pub text_begins : (compact : Bool) (s : Signing) (payload text : List ℕ) (o : SignedObject) → IsOctets payload → signed s payload ≡ Ok o → text_of compact false o ≡ Ok text
     → Begins (text_before compact s.header s.signers ++ base64url payload) text
 unfolding signed
 text_begins compact s payload text o octets made h =

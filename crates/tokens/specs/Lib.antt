@@ -1,6 +1,7 @@
 pub mod Signatures
 pub mod Template
 pub mod Signing
+pub mod SigningInputs
 pub mod Verifying
 pub mod Algorithms
 pub mod Decrypting

@@ -25,6 +25,7 @@ mod sealing;
 mod sign;
 mod signature;
 mod signer;
+mod signing_input;
 mod template;
 mod verify;
 

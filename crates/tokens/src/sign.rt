@@ -1,32 +1,39 @@
 //! Signing with each key of a set (RFC 7515 section 5.1), in compact or in JSON form.
-ghost use Rattle.std.specs.Prelude.{◌≡◌, ◌≢◌, ℕ, List, [], ◌∷◌, false, length, is_some, Err, IfOk, IfErr, IsTrue, OnOk, OnErr, map, option_map, string_bytes};
+ghost use Rattle.std.specs.Prelude.{◌≡◌, ◌≢◌, ◌+◌, ◌++◌, ℕ, List, [], ◌∷◌, true, false, length, is_some, Err, IfOk, IfErr, IsTrue, OnOk, OnErr, map, option_map, string_bytes};
 ghost use Rattle.std.specs.Iterator.{IsFinite};
 ghost use Rattle.std.specs.List.{list_all};
 ghost use Rattle.serde_json.specs.View.{members_view};
 ghost use Rattle.serde_json.specs.Written.{members_have_float};
+ghost use Rattle.octets.specs.Base64url.{base64url};
 ghost use Rattle.octets.specs.Devices.{appended, observed, IsPossibleInput, AppendsPrefixOf};
 ghost use Rattle.octets.specs.Faults.{TellsFaults, counts};
+ghost use Rattle.octets.specs.Octets.{IsOctets};
 ghost use Rattle.octets.specs.Lent.{lent, wrote_on, IfLent, counts_of};
-ghost use Rattle.octets.specs.Outcomes.{AgreesUnlessMemory, AgreesUnlessExternal, GivesUnlessExternal};
-ghost use Rattle.octets.specs.Plan.{begun, planned};
+ghost use Rattle.octets.specs.Outcomes.{AgreesUnlessMemory, AgreesUnlessExternal, is_memory, is_external};
+ghost use Rattle.octets.specs.Encoding.{encoding};
+ghost use Rattle.octets.specs.Plan.{beginning_of, begun, planned};
 ghost use Rattle.octets.specs.declared.refusal.Refusal.{Refusal};
 ghost use Rattle.keys.specs.Limits.{limits};
 ghost use Rattle.keys.specs.Views.{key_view};
-ghost use Rattle.objects.specs.Texts.{each, handed_out};
+ghost use Rattle.objects.specs.Frames.{filled};
+ghost use Rattle.objects.specs.Texts.{each};
 ghost use Rattle.objects.specs.Views.{part_view, jws_view, signature_parts_view};
-ghost use Rattle.tokens.specs.Signing.{signing_by, signing_of, signing_with as signing_with_keys, signer_by as signer_by_key, may_sign as may_sign_key, has_no_more, chosen_alg, alg_of_key, alg_by_length, signature_by as signature_parts_by, signed, plan_by};
+ghost use Rattle.tokens.specs.Signing.{signing_by, signing_of, signing_with as signing_with_keys, signer_by as signer_by_key, may_sign as may_sign_key, has_no_more, chosen_alg, alg_of_key, alg_by_length, protected_by, Signer as SignerOfKey};
+ghost use Rattle.tokens.specs.SigningInputs.{HoldEach, IsFramed, signature_text, unsigned_part_by, unsigned_by, unsigned_protected};
 ghost use Rattle.tokens.specs.Template.{is_shallow as is_shallow_header};
 ghost use Rattle.tokens.specs.Views.{signer_view, signing_view, template_view};
 
-use crate::copies::copied;
-use crate::signature::Signature;
 use crate::signer::Signer;
+use crate::signing_input::{HmacInput, SigningInput, take_each};
 use crate::template::{Template, copy, header_text, is_empty, is_shallow, read_template, with_alg};
 use keys::{
     Algorithm, Key, KeySet, MOST_DEPTH, Operation, SignatureAlg, object_nests_at_most, read_json,
 };
 use objects::{Jws, JwsParts, SignatureParts};
-use octets::{Input, Output, Refusal, b64_encode, emit, needs, read_to_end};
+use octets::{
+    B64Writer, Input, Output, Refusal, b64_encode, emit, encode_onto, needs, read_piece,
+    write_whole,
+};
 use serde_json::{Map, Value};
 use std::alloc::Global;
 
@@ -76,40 +83,142 @@ pub fn jws_sign<I: Input, O: Output>(
 {
     match detached {
         None => {
-            let (_, text) = sign(alloc, keys, template, compact, false, content)?;
-            emit(out, text.as_bytes())
+            let Framed { texts, mut inputs } = prepare(alloc, keys, template, compact, false)?;
+            write_whole(out, texts[0].as_bytes())?;
+            sign_inside(content, &mut inputs, out)?;
+            write_signatures(inputs, &texts[1..], out)
         }
         Some(detached) => {
-            let (jws, text) = sign(alloc, keys, template, compact, true, content)?;
-            emit(detached, jws.payload())?;
-            emit(out, text.as_bytes())
+            let Framed { texts, mut inputs } = prepare(alloc, keys, template, compact, true)?;
+            sign_beside(content, &mut inputs, detached)?;
+            write_signatures(inputs, &texts, out)
         }
     }
 }
 
-/// The object of all that the content gives, and its text, with the payload or without.
-#[tactic(auto, unfolding(crate::specs::Signing::signing_by))]
-fn sign<I: Input>(
+/// The texts that stand round the payload and the signatures, and the signing input of each signer, begun.
+#[derive(Drop)]
+struct Framed {
+    texts: Vec<String>,
+    inputs: Vec<HmacInput>,
+}
+
+/// All that is settled before the payload is read. Refused, but for want of memory, as the plan is with every payload.
+fn prepare(
     alloc: Global,
     keys: &KeySet,
     template: &[u8],
     compact: bool,
     detach: bool,
-    content: &mut I,
-) -> Result<(Jws, String), Refusal>
-    requires { IsFinite (I.remaining content.old) }
-    ensures answer { (payload : List ℕ)
-        → IsPossibleInput (observed I.consumed I.is_at_end content.old content.new) payload
-        → GivesUnlessExternal (λ made. record { text = string_bytes made.1; content = handed_out detach (jws_view made.0).payload }) result
-        (planned (signing_by limits compact detach keys.now template.now) payload) }
-    ensures ends { OnOk result (IsTrue (I.is_at_end content.new)) }
-    ensures content_last { (refusal : Refusal) → signing_by limits compact detach keys.now template.now ≡ Err refusal
-        → content.new ≡ content.old }
-    ensures faults { TellsFaults (counts I.failures content.old content.new ∷ []) [] result }
+) -> Result<Framed, Refusal>
+    ensures framed { IfOk result (λ made. IsFramed ⟦<HmacInput as SigningInput>⟧.has_taken compact detach
+        (signing_by limits compact detach keys.now template.now) made.inputs.items (map string_bytes made.texts.items)) }
+    ensures refused { IfErr result (λ e. is_memory e ≡ false → (is_external e ≡ false)
+        × ((payload : List ℕ) → planned (signing_by limits compact detach keys.now template.now) payload ≡ Err e)) }
 {
     let signing = read_signing(alloc, keys, template, compact)?;
-    let payload = read_to_end(alloc, content)?;
-    signed_text(alloc, signing, payload, compact, detach)
+    let jws = unsigned(alloc, &signing)?;
+    let texts = jws.frame(alloc, compact, detach)?;
+    let inputs = signing_inputs(alloc, &signing.signers, &jws)?;
+    Ok(Framed { texts, inputs })
+}
+
+/// Writes the base64url text of the payload, and gives it to each signing input.
+fn sign_inside<I: Input, O: Output, S: SigningInput>(
+    payload: &mut I,
+    inputs: &mut [S],
+    out: &mut O,
+) -> Result<(), Refusal>
+    requires { IsFinite (I.remaining payload.old) }
+    ensures octets { IsOctets (appended (I.consumed payload.old) (I.consumed payload.new)) }
+    ensures cause { IfErr result (λ e. is_external e ≡ true) }
+    ensures ends { OnOk result (IsTrue (I.is_at_end payload.new)) }
+    ensures text { OnOk result (O.written out.new ≡ O.written out.old ++ base64url (appended (I.consumed payload.old) (I.consumed payload.new))) }
+    ensures taken { (signers : List SignerOfKey) (text : List ℕ) → HoldEach S.has_taken inputs.old signers text
+        → OnOk result (HoldEach S.has_taken inputs.new signers (text ++ base64url (appended (I.consumed payload.old) (I.consumed payload.new)))) }
+    ensures beginning { OnErr result (AppendsPrefixOf (beginning_of encoding (observed I.consumed I.is_at_end payload.old payload.new))
+        (O.written out.old) (O.written out.new)) }
+    ensures uncut { IfErr result (λ refusal. refusal ≢ Refusal.Write → O.written out.new ≡ O.written out.old → out.new ≡ out.old) }
+    ensures faults { TellsFaults (counts I.failures payload.old payload.new ∷ []) (counts O.failures out.old out.new ∷ []) result }
+{
+    let mut buf = [0; 4096];
+    let mut text = [0; 5488];
+    let mut writer = B64Writer::start();
+    'pieces: loop {
+        let n = read_piece(payload, &mut buf)?;
+        if n == 0 {
+            break;
+        }
+        let len = writer.feed(&buf[..n], &mut text);
+        take_each(inputs, &text[..len]);
+        write_whole(out, &text[..len])?;
+    }
+    let mut last = [0; 4];
+    let len = writer.finish(&mut last);
+    take_each(inputs, &last[..len]);
+    Ok(write_whole(out, &last[..len])?)
+}
+
+/// Writes the payload as it is and finishes, and gives its base64url text to each signing input.
+fn sign_beside<I: Input, O: Output, S: SigningInput>(
+    payload: &mut I,
+    inputs: &mut [S],
+    out: &mut O,
+) -> Result<(), Refusal>
+    requires { IsFinite (I.remaining payload.old) }
+    ensures octets { IsOctets (appended (I.consumed payload.old) (I.consumed payload.new)) }
+    ensures cause { IfErr result (λ e. is_external e ≡ true) }
+    ensures ends { OnOk result (IsTrue (I.is_at_end payload.new)) }
+    ensures all { OnOk result (O.written out.new ≡ O.written out.old ++ appended (I.consumed payload.old) (I.consumed payload.new)) }
+    ensures finished { OnOk result (IsTrue (O.is_finished out.new)) }
+    ensures taken { (signers : List SignerOfKey) (text : List ℕ) → HoldEach S.has_taken inputs.old signers text
+        → OnOk result (HoldEach S.has_taken inputs.new signers (text ++ base64url (appended (I.consumed payload.old) (I.consumed payload.new)))) }
+    ensures beginning { OnErr result (AppendsPrefixOf (appended (I.consumed payload.old) (I.consumed payload.new))
+        (O.written out.old) (O.written out.new)) }
+    ensures uncut { IfErr result (λ refusal. refusal ≢ Refusal.Write → O.written out.new ≡ O.written out.old → out.new ≡ out.old) }
+    ensures faults { TellsFaults (counts I.failures payload.old payload.new ∷ []) (counts O.failures out.old out.new ∷ []) result }
+{
+    let mut buf = [0; 4096];
+    let mut text = [0; 5488];
+    let mut writer = B64Writer::start();
+    'pieces: loop {
+        let n = read_piece(payload, &mut buf)?;
+        if n == 0 {
+            break;
+        }
+        let len = writer.feed(&buf[..n], &mut text);
+        take_each(inputs, &text[..len]);
+        write_whole(out, &buf[..n])?;
+    }
+    let mut last = [0; 4];
+    let len = writer.finish(&mut last);
+    take_each(inputs, &last[..len]);
+    Ok(out.finish()?)
+}
+
+/// Writes the first text, and then each signature and the text after it, and finishes.
+fn write_signatures<O: Output, S: SigningInput>(
+    inputs: Vec<S>,
+    texts: &[String],
+    out: &mut O,
+) -> Result<(), Refusal>
+    requires { length texts.now ≡ 1 + length inputs.items }
+    ensures all { (signers : List SignerOfKey) (text : List ℕ) → HoldEach S.has_taken inputs.items signers text
+        → OnOk result (O.written out.new ≡ O.written out.old ++ filled (map string_bytes texts.now) (map (signature_text text) signers)) }
+    ensures beginning { (signers : List SignerOfKey) (text : List ℕ) → HoldEach S.has_taken inputs.items signers text
+        → OnErr result (AppendsPrefixOf (filled (map string_bytes texts.now) (map (signature_text text) signers)) (O.written out.old) (O.written out.new)) }
+    ensures finished { OnOk result (IsTrue (O.is_finished out.new)) }
+    ensures cause { OnErr result (result ≡ Err Refusal.Write) }
+    ensures faults { TellsFaults [] (counts O.failures out.old out.new ∷ []) result }
+{
+    let mut octets = [0; 86];
+    for (input, text) in inputs.into_iter().zip(texts) {
+        write_whole(out, text.as_bytes())?;
+        let signature = input.sign();
+        let len = encode_onto(signature.octets(), &mut octets);
+        write_whole(out, &octets[..len])?;
+    }
+    emit(out, texts[texts.len() - 1].as_bytes())
 }
 
 /// All that keys and a template settle: the signers in order, and the unprotected header of each signature.
@@ -245,82 +354,52 @@ fn alg_by_length(len: usize) -> Option<SignatureAlg>
     }
 }
 
-/// The object of the payload, and its text.
-fn signed_text(
-    alloc: Global,
-    signing: Signing<'_>,
-    payload: Vec<u8>,
-    compact: bool,
-    detach: bool,
-) -> Result<(Jws, String), Refusal>
-    ensures { AgreesUnlessMemory (λ made. record { text = string_bytes made.1; content = handed_out detach (jws_view made.0).payload }) result
-        ((plan_by compact detach (signing_view signing.entry)).whole payload.items) }
+/// The object of what is signed, without a payload and with empty signatures.
+fn unsigned(alloc: Global, signing: &Signing<'_>) -> Result<Jws, Refusal>
+    ensures { AgreesUnlessMemory jws_view result (unsigned_by (signing_view signing.now)) }
 {
-    let jws = signed(alloc, signing, payload)?;
-    let text = if compact {
-        jws.to_compact(alloc, detach)?
-    } else {
-        jws.to_json(alloc, detach)?
-    };
-    Ok((jws, text))
-}
-
-/// The object of the payload.
-#[tactic(auto, unfolding(crate::specs::Signing::signed))]
-fn signed(alloc: Global, signing: Signing<'_>, payload: Vec<u8>) -> Result<Jws, Refusal>
-    ensures { AgreesUnlessMemory jws_view result (signed (signing_view signing.entry) payload.items) }
-{
-    let signatures = signatures_by(alloc, signing, &payload)?;
+    let signatures = unsigned_parts(alloc, signing)?;
     Jws::build(
         alloc,
         JwsParts {
-            payload,
+            payload: Vec::new(alloc),
             signatures,
         },
     )
 }
 
-/// The signatures of the payload, in order.
-fn signatures_by(
-    alloc: Global,
-    signing: Signing<'_>,
-    payload: &[u8],
-) -> Result<Vec<SignatureParts>, Refusal>
-    ensures signatures { IfOk result (λ signatures. map signature_parts_view signatures.items
-        ≡ map (signature_parts_by (members_view signing.entry.header.entries) payload.now) (map signer_view signing.entry.signers.items)) }
+/// What is known of each signature before the payload is.
+fn unsigned_parts(alloc: Global, signing: &Signing<'_>) -> Result<Vec<SignatureParts>, Refusal>
+    ensures parts { IfOk result (λ parts. map signature_parts_view parts.items
+        ≡ map (unsigned_part_by (members_view signing.now.header.entries)) (map signer_view signing.now.signers.items)) }
     ensures memory { IfErr result (λ e. e ≡ Refusal.Memory) }
 {
-    let Signing { signers, header } = signing;
-    let mut signatures = Vec::new(alloc);
-    for signer in signers {
-        signatures.push(signature_by(alloc, &header, payload, signer)?)?;
+    let mut parts = Vec::new(alloc);
+    for signer in &signing.signers {
+        let text = header_text(alloc, copy(alloc, Some(&signer.protected))?)?;
+        parts.push(SignatureParts {
+            protected: b64_encode(alloc, text.as_bytes())?,
+            header: copy(alloc, Some(&signing.header))?,
+            signature: Vec::new(alloc),
+        })?;
     }
-    Ok(signatures)
+    Ok(parts)
 }
 
-/// The signature of the payload under the signer's protected header.
-#[tactic(auto, unfolding(crate::specs::Signatures::signature_of))]
-fn signature_by(
+/// The signing input of each signer, of which the text before the payload's is taken.
+fn signing_inputs(
     alloc: Global,
-    header: &Map<String, Value>,
-    payload: &[u8],
-    signer: Signer<'_>,
-) -> Result<SignatureParts, Refusal>
-    ensures signature { IfOk result (λ parts. signature_parts_view parts
-        ≡ signature_parts_by (members_view header.now.entries) payload.now (signer_view signer.entry)) }
+    signers: &[Signer<'_>],
+    jws: &Jws,
+) -> Result<Vec<HmacInput>, Refusal>
+    requires { unsigned_protected (jws_view jws.now).signatures ≡ map protected_by (map signer_view signers.now) }
+    ensures begun { IfOk result (λ inputs. HoldEach ⟦<HmacInput as SigningInput>⟧.has_taken inputs.items (map signer_view signers.now) []) }
     ensures memory { IfErr result (λ e. e ≡ Refusal.Memory) }
 {
-    let Signer {
-        key,
-        alg,
-        protected,
-    } = signer;
-    let text = header_text(alloc, protected)?;
-    let protected = b64_encode(alloc, text.as_bytes())?;
-    let signature = Signature::compute(alg, key.octets(), protected.as_bytes(), payload);
-    Ok(SignatureParts {
-        protected,
-        header: copy(alloc, Some(header))?,
-        signature: copied(alloc, signature.octets())?,
-    })
+    let mut inputs = Vec::new(alloc);
+    for (signer, signature) in signers.iter().zip(jws.signatures()) {
+        let protected = signature.protected().as_bytes();
+        inputs.push(HmacInput::begin(signer.alg, signer.key.octets(), protected))?;
+    }
+    Ok(inputs)
 }

@@ -1,0 +1,205 @@
+-- The texts that stand round the payload and the signatures of what is signed, and what may stand of them.
+use Rattle.std.proofs.Common.{◌≡◌, ℕ, zero, suc, ◌+◌, ◌<◌, ◌≤◌, Bool, true, false, List, [], ◌∷◌, ◌++◌, length, take, map, codes, Result, Ok, Err, refl, sym, ap, ap₂, ◌∙◌, subst, arith, append_assoc, append-nil, length-append}
+use Rattle.std.proofs.lemmas.List.{length-map}
+use Rattle.std.specs.List.{AllByRecursion}
+use Rattle.std.specs.Result.{result_unwrap_or}
+use Rattle.serde_json.specs.Data.{Members}
+use Rattle.octets.specs.declared.refusal.Refusal.{Refusal}
+use Rattle.octets.specs.declared.refusal.Refusal.TheVariants.{Memory, NotCompact}
+use Rattle.octets.specs.Base64url.{base64url, whole_groups}
+use Rattle.octets.specs.Devices.{Observed, AppendsPrefixOf}
+use Rattle.octets.specs.Encoding.{encoding}
+use Rattle.octets.specs.Octets.{IsOctets}
+use Rattle.octets.specs.Outcomes.{◌>>=◌, is_memory, is_external}
+use Rattle.octets.specs.Plan.{OutputTexts, Plan, Begins, beginning_of, begun, planned}
+use Rattle.octets.proofs.Characters.{spells_six_bits}
+use Rattle.octets.proofs.Decoded.{IsOctets-nil}
+use Rattle.octets.proofs.Streaming.{AppendsPrefixOf-Begins}
+use Rattle.prf.specs.Hmac.{hmac}
+use Rattle.keys.specs.Keys.{OctetKey}
+use Rattle.keys.specs.Limits.{limits}
+use Rattle.objects.specs.Frames.{filled, in_places, signed_with, IsJwsFrame}
+use Rattle.objects.specs.Jws.{Signature, SignatureTexts, SignedObject, JwsTexts, JwsParts, built, jws_text}
+use Rattle.objects.specs.Texts.{handed_out}
+use Rattle.objects.proofs.SpellingJws.{signature_spelled, spelled, parts_spelled, is_built, object_keeps}
+use Rattle.tokens.specs.Signatures.{signature_hash, signature_of}
+use Rattle.tokens.specs.Signing.{Signer, Signing, protected_by, signature_by, signed, text_of, text_before, written_of, plan_by, signing_of, signing_by}
+use Rattle.tokens.specs.SigningInputs.{signature_text, unsigned_part_by, unsigned_by, unsigned_protected}
+use Rattle.tokens.proofs.SignedAlike.{with_all, put_part, built_alike, refused_alike}
+use Rattle.tokens.proofs.SignedObjects.{is_written}
+use Rattle.tokens.proofs.SignedRoundTrip.{signature_octets}
+use Rattle.tokens.proofs.SigningGrowth.{text_begins}
+
+-- ---- the octets of the signatures
+
+abbrev pub octets_by : List ℕ → Signer → List ℕ
+octets_by payload s = signature_of s.alg s.key.octets (protected_by s) payload
+
+all_octets : (payload : List ℕ) (signers : List Signer) → AllByRecursion IsOctets (map (octets_by payload) signers)
+all_octets payload [] = tt
+all_octets payload (s ∷ signers) = (signature_octets s.alg s.key.octets (protected_by s) payload, all_octets payload signers)
+
+text_is : (payload : List ℕ) (s : Signer) → signature_text (base64url payload) s ≡ base64url (octets_by payload s)
+unfolding signature_of
+text_is payload s = ap (λ t. base64url (hmac (signature_hash s.alg) s.key.octets t)) (append_assoc (protected_by s) (codes ".") (base64url payload))
+
+pub texts_are : (payload : List ℕ) (signers : List Signer) → map (signature_text (base64url payload)) signers ≡ map base64url (map (octets_by payload) signers)
+texts_are payload [] = refl
+texts_are payload (s ∷ signers) = ap₂ (λ t ts. t ∷ ts) (text_is payload s) (texts_are payload signers)
+
+-- ---- the object
+
+parts_alike : (header : Members) (payload : List ℕ) (signers : List Signer)
+    → map (signature_by header payload) signers ≡ with_all put_part (map (unsigned_part_by header) signers) (map (octets_by payload) signers)
+parts_alike header payload [] = refl
+parts_alike header payload (s ∷ signers) = ap (λ l. signature_by header payload s ∷ l) (parts_alike header payload signers)
+
+-- what is signed is the object without a payload, with this and the signatures put into it
+signed_alike : (s : Signing) (payload : List ℕ) → signed s payload ≡ (unsigned_by s >>= λ o. Ok (signed_with o payload (map (octets_by payload) s.signers)))
+unfolding signed unsigned_by
+signed_alike s payload =
+    ap (λ l. built limits (record { payload = payload; signatures = l })) (parts_alike s.header payload s.signers)
+    ∙ built_alike limits [] payload (map (unsigned_part_by s.header) s.signers) (map (octets_by payload) s.signers)
+
+own_texts : (ss : List Signature) → unsigned_protected ss ≡ map (λ (x : SignatureTexts). x.protected) (map signature_spelled ss)
+own_texts [] = refl
+own_texts (s ∷ ss) = ap (λ l. s.protected ∷ l) (own_texts ss)
+
+given_texts : (header : Members) (signers : List Signer)
+    → map (λ (x : SignatureTexts). x.protected) (let p : JwsParts = record { payload = []; signatures = map (unsigned_part_by header) signers } in parts_spelled p).signatures ≡ map protected_by signers
+given_texts header [] = refl
+given_texts header (s ∷ signers) = ap (λ l. protected_by s ∷ l) (given_texts header signers)
+
+-- its signatures have the texts of the protected headers
+pub unsigned_are : (s : Signing) (o : SignedObject) → unsigned_by s ≡ Ok o → unsigned_protected o.signatures ≡ map protected_by s.signers
+unfolding unsigned_by
+unsigned_are s o made =
+    let parts : JwsParts = record { payload = []; signatures = map (unsigned_part_by s.header) s.signers } in
+    let kept : spelled o ≡ parts_spelled parts = object_keeps limits parts o (is_built limits parts o made) in
+    own_texts o.signatures ∙ ap (λ (t : JwsTexts). map (λ (x : SignatureTexts). x.protected) t.signatures) kept ∙ given_texts s.header s.signers
+
+pub unsigned_count : (s : Signing) (o : SignedObject) → unsigned_by s ≡ Ok o → length o.signatures ≡ length s.signers
+unsigned_count s o made = sym (length-map o.signatures (λ x. x.protected)) ∙ ap length (unsigned_are s o made) ∙ length-map s.signers protected_by
+
+-- ---- refusals
+
+pub object_refused : (compact detach : Bool) (s : Signing) (payload : List ℕ) (e : Refusal) → unsigned_by s ≡ Err e → (plan_by compact detach s).whole payload ≡ Err e
+object_refused compact detach s payload e h =
+    ap (λ r. r >>= written_of compact detach) (signed_alike s payload ∙ ap (λ r. r >>= λ o. Ok (signed_with o payload (map (octets_by payload) s.signers))) h)
+
+same_text : (compact detach : Bool) (o : SignedObject) → text_of compact detach o ≡ jws_text compact detach o
+same_text true detach o = refl
+same_text false detach o = refl
+
+signed_is_with : (s : Signing) (o : SignedObject) (payload : List ℕ) → unsigned_by s ≡ Ok o → signed s payload ≡ Ok (signed_with o payload (map (octets_by payload) s.signers))
+signed_is_with s o payload made = signed_alike s payload ∙ ap (λ r. r >>= λ o. Ok (signed_with o payload (map (octets_by payload) s.signers))) made
+
+pub text_refused : (compact detach : Bool) (s : Signing) (o : SignedObject) (payload : List ℕ) → unsigned_by s ≡ Ok o → jws_text compact detach o ≡ Err NotCompact
+    → (plan_by compact detach s).whole payload ≡ Err NotCompact
+text_refused compact detach s o payload made h =
+    let with_all_put : SignedObject = signed_with o payload (map (octets_by payload) s.signers) in
+    ap (λ r. r >>= written_of compact detach) (signed_is_with s o payload made)
+    ∙ ap (λ r. r >>= λ text. Ok (record { text = text; content = handed_out detach payload }))
+    (same_text compact detach with_all_put ∙ refused_alike compact detach o payload (map (octets_by payload) s.signers) h)
+
+-- ---- what is written
+
+module _ (compact detach : Bool) (s : Signing) (o : SignedObject) (texts : List (List ℕ)) (made : unsigned_by s ≡ Ok o) (frame : IsJwsFrame compact detach o texts) where
+  object_text : (payload : List ℕ) → IsOctets payload
+      → text_of compact detach (signed_with o payload (map (octets_by payload) s.signers)) ≡ Ok (filled texts (in_places detach payload (map (octets_by payload) s.signers)))
+  object_text payload octets =
+      same_text compact detach (signed_with o payload (map (octets_by payload) s.signers))
+      ∙ frame.filled payload (map (octets_by payload) s.signers) octets (all_octets payload s.signers) (length-map s.signers (octets_by payload) ∙ sym (unsigned_count s o made))
+
+  -- it fills the texts
+  pub whole_is : (payload : List ℕ) → IsOctets payload
+      → (plan_by compact detach s).whole payload ≡ Ok (record { text = filled texts (in_places detach payload (map (octets_by payload) s.signers)); content = handed_out detach payload })
+  whole_is payload octets =
+      ap (λ r. r >>= written_of compact detach) (signed_is_with s o payload made)
+      ∙ is_written compact detach (signed_with o payload (map (octets_by payload) s.signers)) _ (object_text payload octets)
+
+-- ---- the first text of one that holds its payload
+
+split_at : (f t : List ℕ) (a b : ℕ) (x y z w : List ℕ) → f ++ (a ∷ x) ≡ t ++ (a ∷ y) → f ++ (b ∷ z) ≡ t ++ (b ∷ w) → (a ≡ b → ⊥) → f ≡ t
+split_at [] [] a b x y z w e h apart = refl
+split_at [] (c ∷ t) a b x y z w e h apart =
+    let first : a ≡ c = cc e in
+    let second : b ≡ c = cc h in
+    absurd (apart (first ∙ sym second))
+split_at (c ∷ f) [] a b x y z w e h apart =
+    let first : c ≡ a = cc e in
+    let second : c ≡ b = cc h in
+    absurd (apart (sym first ∙ second))
+split_at (c ∷ f) (d ∷ t) a b x y z w e h apart =
+    let same : c ≡ d = cc e in
+    let front : f ++ (a ∷ x) ≡ t ++ (a ∷ y) = cc e in
+    let back : f ++ (b ∷ z) ≡ t ++ (b ∷ w) = cc h in
+    ap₂ (λ c l. c ∷ l) same (split_at f t a b x y z w front back apart)
+
+one_octet : (x : ℕ) → x < 256 → IsOctets (x ∷ [])
+one_octet x lt zero = lt
+one_octet x lt (suc i) = IsOctets-nil i
+
+text_of_zero : base64url (0 ∷ []) ≡ 65 ∷ 65 ∷ []
+text_of_zero = spells_six_bits (0 ∷ []) (one_octet 0 (omega arith))
+
+text_of_last : base64url (255 ∷ []) ≡ 95 ∷ 119 ∷ []
+text_of_last = spells_six_bits (255 ∷ []) (one_octet 255 (omega arith))
+
+module _ (compact : Bool) (s : Signing) (o : SignedObject) (first : List ℕ) (rest : List (List ℕ)) (made : unsigned_by s ≡ Ok o) (frame : IsJwsFrame compact false o (first ∷ rest)) where
+  -- both stand before the text of every payload
+  both_before : (payload : List ℕ) → IsOctets payload
+      → Begins (text_before compact s.header s.signers ++ base64url payload) (first ++ (base64url payload ++ filled rest (map base64url (map (octets_by payload) s.signers))))
+  both_before payload octets =
+      text_begins compact s payload _ (signed_with o payload (map (octets_by payload) s.signers)) octets (signed_is_with s o payload made) (object_text compact false s o (first ∷ rest) made frame payload octets)
+
+  at : (payload text : List ℕ) → IsOctets payload → base64url payload ≡ text
+      → (x : List ℕ) × (y : List ℕ) × (first ++ (text ++ x) ≡ text_before compact s.header s.signers ++ (text ++ y))
+  at payload text octets is =
+      let b = both_before payload octets in
+      let rest_of : List ℕ = filled rest (map base64url (map (octets_by payload) s.signers)) in
+      (rest_of, b.rest, ap (λ t. first ++ (t ++ rest_of)) (sym is) ∙ b.continues ∙ append_assoc (text_before compact s.header s.signers) (base64url payload) b.rest
+      ∙ ap (λ t. text_before compact s.header s.signers ++ (t ++ b.rest)) is)
+
+  pub first_is : first ≡ text_before compact s.header s.signers
+  first_is =
+      let a = at (0 ∷ []) (65 ∷ 65 ∷ []) (one_octet 0 (omega arith)) text_of_zero in
+      let b = at (255 ∷ []) (95 ∷ 119 ∷ []) (one_octet 255 (omega arith)) text_of_last in
+      split_at first (text_before compact s.header s.signers) 65 95 _ _ _ _ a.2 b.2 (λ same. absurd (omega (arith, same)))
+
+  -- with the text of what was read of the payload it begins what may stand
+  pub inside_begins : (payload : List ℕ) (ended : Bool) → IsOctets payload
+      → Begins (first ++ beginning_of encoding (record { octets = payload; ended = ended })) (beginning_of (plan_by compact false s) (record { octets = payload; ended = ended })).text
+  inside_begins payload false octets = record { rest = []; continues = ap (λ t. t ++ base64url (whole_groups payload)) (sym first_is) ∙ sym (append-nil (first ++ base64url (whole_groups payload))) }
+  inside_begins payload true octets = record {
+    rest = filled rest (map base64url (map (octets_by payload) s.signers));
+    continues = ap (λ r. (result_unwrap_or r ((plan_by compact false s).fixed payload)).text) (whole_is compact false s o (first ∷ rest) made frame payload octets)
+        ∙ sym (append_assoc first (base64url payload) (filled rest (map base64url (map (octets_by payload) s.signers))));
+  }
+
+-- ---- what may stand
+
+-- behind a text that was written
+pub AppendsPrefixOf-behind : (front text old new : List ℕ) → AppendsPrefixOf text (old ++ front) new → AppendsPrefixOf (front ++ text) old new
+AppendsPrefixOf-behind front text old new h =
+    (omega (arith, h.0, length-append old front), ap (take (length new)) (sym (append_assoc old front text)) ∙ h.1)
+
+pub by_signing : (compact detach : Bool) (keys : List OctetKey) (template : List ℕ) (s : Signing) → signing_of limits compact keys template ≡ Ok s
+    → signing_by limits compact detach keys template ≡ Ok (plan_by compact detach s)
+unfolding signing_by
+by_signing compact detach keys template s h = ap (λ r. r >>= λ s. Ok (plan_by compact detach s)) h
+
+pub signing_refused : (compact detach : Bool) (keys : List OctetKey) (template payload : List ℕ) (e : Refusal) → signing_of limits compact keys template ≡ Err e
+    → planned (signing_by limits compact detach keys template) payload ≡ Err e
+unfolding signing_by
+signing_refused compact detach keys template payload e h = ap (λ r. planned (r >>= λ s. Ok (plan_by compact detach s)) payload) h
+
+-- ---- causes
+
+-- a cause that stands in no device and is no want of memory is not memory
+pub not_memory : (e : Refusal) → is_external e ≡ false → is_memory e ≡ false
+not_memory Memory h = cc h
+not_memory e h = refl
+
+pub memory_apart : (e : Refusal) → is_memory e ≡ false → e ≡ Memory → ⊥
+memory_apart e h is = let both : true ≡ false = sym (ap is_memory is) ∙ h in cc both

@@ -1,0 +1,127 @@
+-- Signatures that are written one after another, between the texts that stand round them.
+use Rattle.std.proofs.Common.{◌≡◌, ◌⊎◌, inl, inr, ℕ, ◌+◌, ◌-◌, ◌≤◌, suc, List, [], ◌∷◌, ◌++◌, length, take, get_or, map, codes, refl, sym, ap, subst, ◌∙◌, arith, append_assoc, append-nil, length-append}
+use Rattle.std.proofs.lemmas.List.{nil_from_length}
+use Rattle.prf.specs.HashFunction.{HashFunction}
+use Rattle.prf.specs.Hmac.{hmac}
+use Rattle.octets.specs.Base64url.{base64url}
+use Rattle.octets.specs.Devices.{AppendsPrefixOf}
+use Rattle.octets.proofs.Prefixes.{AppendsPrefixOf-all, AppendsPrefixOf-front, AppendsPrefixOf-part}
+use Rattle.objects.specs.Frames.{filled}
+use Rattle.tokens.specs.Signatures.{signature_hash}
+use Rattle.tokens.specs.Signing.{Signer, protected_by}
+use Rattle.tokens.specs.SigningInputs.{HoldEach, signature_text}
+
+-- what is still to be written of a text on an output
+pub record IsLeft (left all old written : List ℕ) : Type 0 where
+  pub grown : length old ≤ length written
+  pub same : written ++ left ≡ old ++ all
+
+-- some of what is next was written, and then no more
+pub part_left : (next rest left all old written new : List ℕ) → IsLeft left all old written → left ≡ next ++ rest → AppendsPrefixOf next written new → AppendsPrefixOf all old new
+part_left next rest left all old written new k is part =
+    let more = AppendsPrefixOf-front next rest written new part in
+    (omega (arith, k.grown, part.0), ap (take (length new)) (sym (ap (λ l. written ++ l) (sym is) ∙ k.same)) ∙ more.1)
+
+-- what is next was written
+pub less_left : (next rest left all old written new : List ℕ) → IsLeft left all old written → left ≡ next ++ rest → new ≡ written ++ next → IsLeft rest all old new
+less_left next rest left all old written new k is e = record {
+  grown = omega (arith, k.grown, ap length e, length-append written next);
+  same = ap (λ l. l ++ rest) e ∙ append_assoc written next rest ∙ ap (λ l. written ++ l) (sym is) ∙ k.same;
+}
+
+-- all was written
+pub all_left : (left all old written new : List ℕ) → IsLeft left all old written → new ≡ written ++ left → new ≡ old ++ all
+all_left left all old written new k e = e ∙ k.same
+
+module _ {S : Type 0} (has_taken : S → HashFunction → List ℕ → List ℕ → Type 0) where
+  -- the texts and the signatures of these inputs are still to be written
+  pub record AreLeft (inputs : List S) (texts : List (List ℕ)) (text all old written : List ℕ) : Type 0 where
+    pub signers : List Signer
+    pub hold : HoldEach has_taken inputs signers text
+    pub left : IsLeft (filled texts (map (signature_text text) signers)) all old written
+
+  pub none_written : (inputs given : List S) (texts all : List (List ℕ)) (signers : List Signer) (text old : List ℕ) → inputs ≡ given → texts ≡ all → HoldEach has_taken given signers text
+      → AreLeft inputs texts text (filled all (map (signature_text text) signers)) old old
+  none_written inputs given texts all signers text old same their h = record {
+    signers = signers;
+    hold = subst (λ i. HoldEach has_taken i signers text) (sym same) h;
+    left = record { grown = omega arith; same = ap (λ t. old ++ filled t (map (signature_text text) signers)) their };
+  }
+
+  -- the first signer of those that are left
+  record First (x : S) (inputs : List S) (signers : List Signer) (text : List ℕ) : Type 0 where
+    signer : Signer
+    others : List Signer
+    is : signers ≡ signer ∷ others
+    here : has_taken x (signature_hash signer.alg) signer.key.octets ((protected_by signer ++ codes ".") ++ text)
+    later : HoldEach has_taken inputs others text
+
+  first_of_all : (x : S) (inputs : List S) (signers : List Signer) (text : List ℕ) → HoldEach has_taken (x ∷ inputs) signers text → First x inputs signers text
+  first_of_all x inputs [] text h = absurd h
+  first_of_all x inputs (s ∷ signers) text h = record { signer = s; others = signers; is = refl; here = h.0; later = h.1 }
+
+  module _ (inputs rest : List S) (x : S) (texts others : List (List ℕ)) (next text all old written : List ℕ) (k : AreLeft inputs texts text all old written) (is : inputs ≡ x ∷ rest) (their : texts ≡ next ∷ others) where
+    first : First x rest k.signers text
+    first = first_of_all x rest k.signers text (subst (λ i. HoldEach has_taken i k.signers text) is k.hold)
+
+    later : List ℕ
+    unfolding first
+    later = filled others (map (signature_text text) first.others)
+
+    whole : filled texts (map (signature_text text) k.signers) ≡ next ++ (signature_text text first.signer ++ later)
+    unfolding first later
+    whole = ap (λ t. filled t (map (signature_text text) k.signers)) their ∙ ap (λ s. filled (next ∷ others) (map (signature_text text) s)) first.is
+
+    -- the text before a signature was written in part
+    pub text_refused : (new : List ℕ) (n : ℕ) → new ≡ written ++ take n next → AppendsPrefixOf all old new
+    text_refused new n e = part_left next (signature_text text first.signer ++ later) _ all old written new k.left whole (AppendsPrefixOf-part next written new n e)
+
+    module _ (signature encoded : List ℕ) (signs : (f : HashFunction) (key taken : List ℕ) → has_taken x f key taken → signature ≡ hmac f key taken) (encodes : encoded ≡ base64url signature) (between : List ℕ) (so_far : between ≡ written ++ next) where
+      signature_is : encoded ≡ signature_text text first.signer
+      unfolding first
+      signature_is = encodes ∙ ap base64url (signs (signature_hash first.signer.alg) first.signer.key.octets ((protected_by first.signer ++ codes ".") ++ text) first.here)
+
+      after_text : IsLeft (encoded ++ later) all old between
+      after_text = less_left next (encoded ++ later) _ all old written between k.left (whole ∙ ap (λ s. next ++ (s ++ later)) (sym signature_is)) so_far
+
+      -- the signature was written in part
+      pub signature_refused : (new : List ℕ) (n : ℕ) → new ≡ between ++ take n encoded → AppendsPrefixOf all old new
+      signature_refused new n e = part_left encoded later _ all old between new after_text refl (AppendsPrefixOf-part encoded between new n e)
+
+      -- both were written
+      pub one_written : (new : List ℕ) → new ≡ between ++ encoded → AreLeft rest others text all old new
+      unfolding first later
+      one_written new e = record {
+        signers = first.others;
+        hold = first.later;
+        left = less_left encoded later _ all old between new after_text refl e;
+      }
+
+  none_of_none : (signers : List Signer) (text : List ℕ) → HoldEach has_taken [] signers text → signers ≡ []
+  none_of_none [] text h = refl
+  none_of_none (s ∷ signers) text h = absurd h
+
+  -- only the last text is left
+  pub last_left : (inputs : List S) (texts : List (List ℕ)) (last text all old written : List ℕ) → AreLeft inputs texts text all old written → inputs ≡ [] → texts ≡ last ∷ [] → IsLeft last all old written
+  last_left inputs texts last text all old written k none their =
+      let no_signers : k.signers ≡ [] = none_of_none k.signers text (subst (λ i. HoldEach has_taken i k.signers text) none k.hold) in
+      let is : filled texts (map (signature_text text) k.signers) ≡ last =
+      ap (λ t. filled t (map (signature_text text) k.signers)) their ∙ ap (λ s. filled (last ∷ []) (map (signature_text text) s)) no_signers in
+      subst (λ l. IsLeft l all old written) is k.left
+
+-- one element is the last of a list that ends with it
+pub is_last : {A : Type 0} (all front rest : List A) (other : A) → all ≡ front ++ rest → length rest ≡ 1 → rest ≡ get_or all (length all - 1) other ∷ []
+is_last all front [] other e one = absurd (omega (arith, one))
+is_last all front (x ∷ []) other e one = ap (λ y. y ∷ []) (sym (ap (λ l. get_or l (length l - 1) other) e ∙ at_end front x other))
+  where
+    at_end : {A : Type 0} (front : List A) (x other : A) → get_or (front ++ (x ∷ [])) (length (front ++ (x ∷ [])) - 1) other ≡ x
+    at_end [] x other = refl
+    at_end (y ∷ front) x other =
+        let long : length ((y ∷ front) ++ (x ∷ [])) - 1 ≡ suc (length (front ++ (x ∷ [])) - 1) = omega (arith, length-append front (x ∷ [])) in
+        ap (λ n. get_or ((y ∷ front) ++ (x ∷ [])) n other) long ∙ at_end front x other
+is_last all front (x ∷ (y ∷ rest)) other e one = absurd (omega (arith, one))
+
+-- where no input or no text is left, it is no input
+pub no_more : {X Y : Type 0} (n : ℕ) (inputs : List X) (texts : List Y) → length texts ≡ 1 + length inputs → n ≡ length inputs → (n ≡ 0) ⊎ (length texts ≡ 0) → (inputs ≡ []) × (length texts ≡ 1)
+no_more n inputs texts places count (inl none) = (nil_from_length inputs (omega (arith, count, none)), omega (arith, places, count, none))
+no_more n inputs texts places count (inr none) = absurd (omega (arith, places, none))

@@ -1,0 +1,15 @@
+use Rattle.std.proofs.Common.{◌≡◌, List, ℕ, [], map, ap, ap₂, subst, ◌∙◌}
+use Rattle.serde_json.specs.View.{members_view}
+use Rattle.octets.specs.Outcomes.{AgreesUnlessMemory}
+use Rattle.keys.specs.Limits.{limits}
+use Rattle.objects.specs.Jws.{JwsParts, SignatureParts, built}
+use Rattle.objects.specs.Views.{jws_view, signature_parts_view}
+use Rattle.tokens.specs.SigningInputs.{unsigned_by, unsigned_part_by}
+use Rattle.tokens.specs.Views.{signer_view}
+use Rattle.tokens.proofs.sign.unsigned.Goals as goal
+
+pub returns : goal.returns
+unfolding unsigned_by
+returns c =
+    let parts_of : List ℕ → List SignatureParts → JwsParts = λ payload signatures. record { payload = payload; signatures = signatures } in
+    subst (λ parts. AgreesUnlessMemory jws_view c.build.result (built limits parts)) (ap₂ parts_of c.new.ensures.items c.in_ok-signatures.ensures.parts) c.build.ensures

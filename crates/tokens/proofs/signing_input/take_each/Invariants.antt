@@ -1,0 +1,11 @@
+use Rattle.std.proofs.Common.{ℕ, List}
+use Rattle.tokens.specs.Signing.{Signer}
+use Rattle.tokens.specs.SigningInputs.{HoldEach}
+use Rattle.tokens.proofs.HeldInputs.{HoldFirst}
+use Rattle.tokens.proofs.signing_input.take_each.Given as goal
+
+-- Those before the index have taken the piece.
+abbrev pub invariant-loop-input : goal.invariant-loop-input
+invariant-loop-input g l =
+    let has_taken = g.S.SigningInput.has_taken in
+    (signers : List Signer) (text : List ℕ) → HoldEach has_taken l.initial.inputs signers text → HoldFirst has_taken l.input-index l.inputs signers text l.piece

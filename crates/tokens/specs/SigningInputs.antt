@@ -1,0 +1,56 @@
+-- Signing inputs that are taken in pieces (RFC 7515 section 5.1).
+use Rattle.std.specs.Prelude.{◌≡◌, ℕ, Bool, List, [], ◌∷◌, ◌++◌, map, codes, ⊤, Result, Ok}
+use Rattle.prf.specs.HashFunction.{HashFunction}
+use Rattle.prf.specs.Sha2.{Sha256, Sha384, Sha512}
+use Rattle.prf.specs.declared.hmac.Hmac.{Hmac}
+use Rattle.tokens.specs.declared.signing_input.HmacInput.{HmacInput}
+use Rattle.tokens.specs.declared.signing_input.HmacInput.TheVariants.{Hs256, Hs384, Hs512}
+use Rattle.octets.specs.declared.refusal.Refusal.{Refusal}
+use Rattle.octets.specs.Base64url.{base64url}
+use Rattle.octets.specs.Plan.{OutputTexts, Plan}
+use Rattle.prf.specs.Hmac.{hmac}
+use Rattle.serde_json.specs.Data.{Members}
+use Rattle.keys.specs.Limits.{limits}
+use Rattle.objects.specs.Frames.{IsJwsFrame}
+use Rattle.objects.specs.Jws.{Signature, SignatureParts, SignedObject, built}
+use Rattle.tokens.specs.Signatures.{signature_hash}
+use Rattle.tokens.specs.Signing.{Signer, Signing, protected_by, plan_by}
+
+-- what is said of the one code that there is
+abbrev pub on_hmac_input : HmacInput → (Hmac Sha256 → Type 0) → (Hmac Sha384 → Type 0) → (Hmac Sha512 → Type 0) → Type 0
+on_hmac_input (Hs256 mac) a b c = a mac
+on_hmac_input (Hs384 mac) a b c = b mac
+on_hmac_input (Hs512 mac) a b c = c mac
+
+-- Each was begun for its signer with the text of the protected header and a dot, and has then taken this text.
+abbrev pub HoldEach : {S : Type 0} → (S → HashFunction → List ℕ → List ℕ → Type 0) → List S → List Signer → List ℕ → Type 0
+HoldEach has_taken [] [] text = ⊤
+HoldEach has_taken [] (s ∷ signers) text = ⊥
+HoldEach has_taken (x ∷ inputs) [] text = ⊥
+HoldEach has_taken (x ∷ inputs) (s ∷ signers) text =
+    has_taken x (signature_hash s.alg) s.key.octets ((protected_by s ++ codes ".") ++ text) × HoldEach has_taken inputs signers text
+
+-- the text of the signature that a signer makes of the payload's text
+abbrev pub signature_text : List ℕ → Signer → List ℕ
+signature_text text s = base64url (hmac (signature_hash s.alg) s.key.octets ((protected_by s ++ codes ".") ++ text))
+
+-- ---- the object before there is a payload
+
+-- what is known of a signature
+abbrev pub unsigned_part_by : Members → Signer → SignatureParts
+unsigned_part_by header s = record { protected = protected_by s; header = header; signature = [] }
+
+unfoldable pub unsigned_by : Signing → Result SignedObject Refusal
+unsigned_by s = built limits (record { payload = []; signatures = map (unsigned_part_by s.header) s.signers })
+
+abbrev pub unsigned_protected : List Signature → List (List ℕ)
+unsigned_protected signatures = map (λ s. s.protected) signatures
+
+-- The texts stand round the payload and the signatures of what the plan is of, and the inputs were begun for its signers.
+pub record IsFramed {S : Type 0} (has_taken : S → HashFunction → List ℕ → List ℕ → Type 0) (compact detach : Bool) (plan : Result (Plan OutputTexts) Refusal) (inputs : List S) (texts : List (List ℕ)) : Type 0 where
+  pub signing : Signing
+  pub object : SignedObject
+  pub is : plan ≡ Ok (plan_by compact detach signing)
+  pub made : unsigned_by signing ≡ Ok object
+  pub frame : IsJwsFrame compact detach object texts
+  pub begun : HoldEach has_taken inputs signing.signers []

@@ -1,0 +1,115 @@
+//! The signing input of a payload that comes in pieces, and its signature (RFC 7515 section 5.1).
+ghost use Rattle.std.specs.Prelude.{◌≡◌, ◌++◌, ℕ, List, ◌∷◌, [], length, map, codes};
+ghost use Rattle.octets.specs.Base64url.{base64url};
+ghost use Rattle.prf.specs.HashFunction.{HashFunction};
+ghost use Rattle.prf.specs.Hmac.{hmac};
+ghost use Rattle.prf.specs.Views.{HoldsHmac};
+ghost use Rattle.tokens.specs.Signatures.{signature_hash};
+ghost use Rattle.tokens.specs.Signing.{Signer};
+ghost use Rattle.tokens.specs.SigningInputs.{HoldEach};
+
+use crate::signature::Signature;
+use keys::SignatureAlg;
+use octets::B64Writer;
+use prf::{Hash, Hmac, Sha256, Sha384, Sha512};
+
+/// How many octets of a payload are encoded at a time.
+const PIECE: usize = 4096;
+
+/// A signing input that is taken in pieces.
+pub(crate) trait SigningInput: Drop {
+    /// It was begun for an HMAC by this hash under this key, and has taken this text.
+    ghost has_taken: { Self → HashFunction → List ℕ → List ℕ → Type 0 };
+
+    /// Takes the next piece.
+    fn take(&mut self, piece: &[u8])
+        ensures { (f : HashFunction) (key text : List ℕ) → has_taken self.old f key text
+            → has_taken self.new f key (text ++ piece.now) };
+
+    /// The signature of all that was taken.
+    fn sign(self) -> Signature
+        ensures { (f : HashFunction) (key text : List ℕ) → has_taken self f key text → result ≡ hmac f key text };
+}
+
+/// One by any of the signature algorithms.
+#[derive(Drop)]
+pub(crate) enum HmacInput {
+    Hs256(Hmac<Sha256>),
+    Hs384(Hmac<Sha384>),
+    Hs512(Hmac<Sha512>),
+}
+
+impl HmacInput {
+    /// Begins with the text of the protected header, and a dot.
+    pub(crate) fn begin(alg: SignatureAlg, key: &[u8], protected: &[u8]) -> HmacInput
+        ensures { ⟦<HmacInput as SigningInput>⟧.has_taken result (signature_hash alg) key.now (protected.now ++ codes ".") }
+    {
+        match alg {
+            SignatureAlg::Hs256 => HmacInput::Hs256(begun(key, protected)),
+            SignatureAlg::Hs384 => HmacInput::Hs384(begun(key, protected)),
+            SignatureAlg::Hs512 => HmacInput::Hs512(begun(key, protected)),
+        }
+    }
+}
+
+impl SigningInput for HmacInput {
+    ghost use Rattle.tokens.specs.SigningInputs.{on_hmac_input};
+
+    ghost has_taken = { λ x f key text. on_hmac_input x
+        (λ mac. (f ≡ ⟦<Sha256 as Hash>⟧.function) × HoldsHmac ⟦<Sha256 as Hash>⟧.function ⟦<Sha256 as Hash>⟧.holds mac key text)
+        (λ mac. (f ≡ ⟦<Sha384 as Hash>⟧.function) × HoldsHmac ⟦<Sha384 as Hash>⟧.function ⟦<Sha384 as Hash>⟧.holds mac key text)
+        (λ mac. (f ≡ ⟦<Sha512 as Hash>⟧.function) × HoldsHmac ⟦<Sha512 as Hash>⟧.function ⟦<Sha512 as Hash>⟧.holds mac key text) };
+
+    fn take(&mut self, piece: &[u8]) {
+        match self {
+            HmacInput::Hs256(mac) => mac.update(piece),
+            HmacInput::Hs384(mac) => mac.update(piece),
+            HmacInput::Hs512(mac) => mac.update(piece),
+        }
+    }
+
+    fn sign(self) -> Signature {
+        match self {
+            HmacInput::Hs256(mac) => Signature::finish(mac),
+            HmacInput::Hs384(mac) => Signature::finish(mac),
+            HmacInput::Hs512(mac) => Signature::finish(mac),
+        }
+    }
+}
+
+/// A code that has taken the text of the protected header, and a dot.
+fn begun<H: Hash>(key: &[u8], protected: &[u8]) -> Hmac<H>
+    ensures { HoldsHmac H.function H.holds result key.now (protected.now ++ codes ".") }
+{
+    let mut mac = Hmac::<H>::new(key);
+    mac.update(protected);
+    mac.update(b".");
+    mac
+}
+
+/// Takes the base64url text of the octets, in pieces.
+pub(crate) fn take_encoded<S: SigningInput>(input: &mut S, octets: &[u8])
+    ensures { (f : HashFunction) (key text : List ℕ) → S.has_taken input.old f key text
+        → S.has_taken input.new f key (text ++ base64url octets.now) }
+{
+    let mut writer = B64Writer::start();
+    let mut text = [0; 5488];
+    for piece in octets.chunks(PIECE) {
+        let len = writer.feed(piece, &mut text);
+        input.take(&text[..len]);
+    }
+    let mut last = [0; 4];
+    let len = writer.finish(&mut last);
+    input.take(&last[..len]);
+}
+
+/// Each takes the next piece.
+pub(crate) fn take_each<S: SigningInput>(inputs: &mut [S], piece: &[u8])
+    ensures len { length inputs.new ≡ length inputs.old }
+    ensures taken { (signers : List Signer) (text : List ℕ) → HoldEach S.has_taken inputs.old signers text
+        → HoldEach S.has_taken inputs.new signers (text ++ piece.now) }
+{
+    for input in inputs.iter_mut() {
+        input.take(piece);
+    }
+}
