@@ -1,5 +1,5 @@
 -- A content that is read in pieces, and one that is written as it is.
-use Rattle.std.proofs.Common.{◌≡◌, ℕ, List, [], ◌++◌, Ok, refl, sym, subst}
+use Rattle.std.proofs.Common.{◌≡◌, ℕ, List, ◌++◌, Ok, refl, sym, subst}
 use Rattle.octets.specs.Devices.{appended}
 use Rattle.octets.specs.Octets.{IsOctets}
 use Rattle.octets.specs.Plan.{Plan, Grows}

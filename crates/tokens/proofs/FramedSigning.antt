@@ -1,5 +1,5 @@
 -- The texts that stand round the payload and the signatures of what is signed, and what may stand of them.
-use Rattle.std.proofs.Common.{◌≡◌, ℕ, zero, suc, ◌+◌, ◌<◌, ◌≤◌, Bool, true, false, List, [], ◌∷◌, ◌++◌, length, take, map, codes, Result, Ok, Err, refl, sym, ap, ap₂, ◌∙◌, subst, arith, append_assoc, append-nil, length-append}
+use Rattle.std.proofs.Common.{◌≡◌, ℕ, zero, suc, ◌<◌, Bool, true, false, List, [], ◌∷◌, ◌++◌, length, take, map, codes, Ok, Err, refl, sym, ap, ap₂, ◌∙◌, arith, append_assoc, append-nil, length-append}
 use Rattle.std.proofs.lemmas.List.{length-map}
 use Rattle.std.specs.List.{AllByRecursion}
 use Rattle.std.specs.Result.{result_unwrap_or}
@@ -7,14 +7,13 @@ use Rattle.serde_json.specs.Data.{Members}
 use Rattle.octets.specs.declared.refusal.Refusal.{Refusal}
 use Rattle.octets.specs.declared.refusal.Refusal.TheVariants.{Memory, NotCompact}
 use Rattle.octets.specs.Base64url.{base64url, whole_groups}
-use Rattle.octets.specs.Devices.{Observed, AppendsPrefixOf}
+use Rattle.octets.specs.Devices.{AppendsPrefixOf}
 use Rattle.octets.specs.Encoding.{encoding}
 use Rattle.octets.specs.Octets.{IsOctets}
 use Rattle.octets.specs.Outcomes.{◌>>=◌, is_memory, is_external}
-use Rattle.octets.specs.Plan.{OutputTexts, Plan, Begins, beginning_of, begun, planned}
+use Rattle.octets.specs.Plan.{Begins, beginning_of, planned}
 use Rattle.octets.proofs.Characters.{spells_six_bits}
 use Rattle.octets.proofs.Decoded.{IsOctets-nil}
-use Rattle.octets.proofs.Streaming.{AppendsPrefixOf-Begins}
 use Rattle.prf.specs.Hmac.{hmac}
 use Rattle.keys.specs.Keys.{OctetKey}
 use Rattle.keys.specs.Limits.{limits}
@@ -157,11 +156,14 @@ module _ (compact : Bool) (s : Signing) (o : SignedObject) (first : List ℕ) (r
       → (x : List ℕ) × (y : List ℕ) × (first ++ (text ++ x) ≡ text_before compact s.header s.signers ++ (text ++ y))
   at payload text octets is =
       let b = both_before payload octets in
-      let rest_of : List ℕ = filled rest (map base64url (map (octets_by payload) s.signers)) in
-      (rest_of, b.rest, ap (λ t. first ++ (t ++ rest_of)) (sym is) ∙ b.continues ∙ append_assoc (text_before compact s.header s.signers) (base64url payload) b.rest
-      ∙ ap (λ t. text_before compact s.header s.signers ++ (t ++ b.rest)) is)
+      let rest_of : List ℕ = filled rest (map base64url (map (octets_by payload) s.signers)) in (
+        rest_of,
+        b.rest,
+        ap (λ t. first ++ (t ++ rest_of)) (sym is) ∙ b.continues ∙ append_assoc (text_before compact s.header s.signers) (base64url payload) b.rest
+            ∙ ap (λ t. text_before compact s.header s.signers ++ (t ++ b.rest)) is,
+      )
 
-  pub first_is : first ≡ text_before compact s.header s.signers
+  first_is : first ≡ text_before compact s.header s.signers
   first_is =
       let a = at (0 ∷ []) (65 ∷ 65 ∷ []) (one_octet 0 (omega arith)) text_of_zero in
       let b = at (255 ∷ []) (95 ∷ 119 ∷ []) (one_octet 255 (omega arith)) text_of_last in

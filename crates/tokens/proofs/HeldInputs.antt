@@ -1,5 +1,5 @@
 -- Signing inputs that take a piece one after another.
-use Rattle.std.proofs.Common.{◌≡◌, ℕ, zero, suc, ◌+◌, ◌<◌, List, [], ◌∷◌, ◌++◌, length, codes, set, slice_index_or, refl, sym, ap, subst, arith, append_assoc}
+use Rattle.std.proofs.Common.{ℕ, zero, suc, ◌<◌, List, [], ◌∷◌, ◌++◌, length, codes, set, slice_index_or, subst, arith, append_assoc}
 use Rattle.std.specs.Bool.{⊤}
 use Rattle.prf.specs.HashFunction.{HashFunction}
 use Rattle.tokens.specs.Signatures.{signature_hash}

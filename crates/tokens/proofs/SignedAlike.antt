@@ -1,7 +1,6 @@
 -- An object is built alike by any payload and any octets of its signatures.
-use Rattle.std.proofs.Common.{◌≡◌, ◌≢◌, ℕ, ◌+◌, Bool, true, false, nat_le, List, [], ◌∷◌, ◌++◌, length, map, codes, Result, Ok, Err, refl, sym, ap, ◌∙◌, subst, arith, append_assoc}
-use Rattle.std.proofs.lemmas.List.{length-map}
-use Rattle.std.specs.List.{AllByRecursion, list_all}
+use Rattle.std.proofs.Common.{◌≡◌, ℕ, Bool, true, false, nat_le, List, [], ◌∷◌, length, codes, Result, Ok, Err, refl, sym, ap, arith}
+use Rattle.std.specs.List.{list_all}
 use Rattle.serde_json.specs.Data.{Members, no_members, object, depth}
 use Rattle.octets.specs.declared.refusal.Refusal.{Refusal}
 use Rattle.octets.specs.declared.refusal.Refusal.TheVariants.{Json, Number, Form, Unsupported, Limit, NotCompact}
@@ -11,7 +10,7 @@ use Rattle.keys.specs.Json.{member_numbers_are_whole}
 use Rattle.keys.specs.Limits.{Limits}
 use Rattle.objects.specs.Frames.{with_octets, signed_with}
 use Rattle.objects.specs.Headers.{protected_members, joint_header, string_there}
-use Rattle.objects.specs.Jws.{SignatureParts, JwsParts, DecodedSignature, HeadedSignature, Signature, SignedObject, decoded_signature, headed_signature, signature_by, is_plain, signatures_of, signed_object, built, is_compact, jws_text, jws_compact_text}
+use Rattle.objects.specs.Jws.{SignatureParts, DecodedSignature, HeadedSignature, Signature, SignedObject, decoded_signature, headed_signature, signature_by, is_plain, signatures_of, signed_object, built, is_compact, jws_text, jws_compact_text}
 use Rattle.objects.specs.Texts.{each, depth_of_each}
 
 -- ---- each of a list with a value put into it
@@ -134,8 +133,12 @@ pub built_alike : (limits : Limits) (own payload : List ℕ) (parts : List Signa
     ≡ (built limits (record { payload = own; signatures = parts }) >>= λ o. Ok (signed_with o payload values))
 unfolding built signed_object
 built_alike limits own payload parts values =
-    rw (length-with_all put_part parts values, all-with_all put_part (λ p. nat_le (depth (object p.header)) (depth_of_each (length parts))) (λ p v. refl) parts values,
-    all-with_all put_part (λ p. member_numbers_are_whole p.header) (λ p v. refl) parts values, each-with_all decoded_signature put_part put_decoded decoded_alike parts values)
+    rw (
+      length-with_all put_part parts values,
+      all-with_all put_part (λ p. nat_le (depth (object p.header)) (depth_of_each (length parts))) (λ p v. refl) parts values,
+      all-with_all put_part (λ p. member_numbers_are_whole p.header) (λ p v. refl) parts values,
+      each-with_all decoded_signature put_part put_decoded decoded_alike parts values,
+    )
     (by_tests (list_all (λ p. nat_le (depth (object p.header)) (depth_of_each (length parts))) parts) (list_all (λ p. member_numbers_are_whole p.header) parts)
     (nat_le 1 (length parts)) (nat_le (length parts) limits.recipients) (each decoded_signature parts))
   where
@@ -163,7 +166,7 @@ built_alike limits own payload parts values =
     by_tests true true true true r = by_decoded r
 
 -- where no text of the object is compact, none is with other octets
-pub compact_alike : (ss : List Signature) (values : List (List ℕ)) → is_compact (with_octets ss values) ≡ is_compact ss
+compact_alike : (ss : List Signature) (values : List (List ℕ)) → is_compact (with_octets ss values) ≡ is_compact ss
 compact_alike [] values = refl
 compact_alike (s ∷ []) [] = refl
 compact_alike (s ∷ []) (v ∷ values) = refl

@@ -1,10 +1,10 @@
 -- What stands written of what is signed, from text to text.
-use Rattle.std.proofs.Common.{◌≡◌, ℕ, ◌+◌, ◌-◌, ◌≤◌, Bool, true, false, List, [], ◌∷◌, ◌++◌, length, take, drop, get_or, map, Result, Ok, IsTrue, refl, sym, ap, ◌∙◌, subst, arith, append_assoc, append-nil}
+use Rattle.std.proofs.Common.{◌≡◌, ℕ, ◌+◌, ◌-◌, Bool, true, false, List, [], ◌∷◌, ◌++◌, length, take, drop, get_or, map, Result, Ok, IsTrue, refl, sym, ap, ◌∙◌, subst, arith, append_assoc, append-nil}
 use Rattle.std.proofs.Math.Seq.{drop-length}
 use Rattle.std.proofs.lemmas.List.{take_all, take-append-le, length-drop}
 use Rattle.octets.specs.declared.refusal.Refusal.{Refusal}
 use Rattle.octets.specs.Base64url.{base64url}
-use Rattle.octets.specs.Devices.{Observed, appended, IsPossibleInput, AppendsPrefixOf}
+use Rattle.octets.specs.Devices.{appended, IsPossibleInput, AppendsPrefixOf}
 use Rattle.octets.specs.Encoding.{encoding}
 use Rattle.octets.specs.Octets.{IsOctets}
 use Rattle.octets.specs.Plan.{OutputTexts, Plan, Begins, beginning_of, begun, planned}

@@ -1,6 +1,5 @@
 -- Signing inputs that are begun one after another, each with the text of its signature's protected header.
-use Rattle.std.proofs.Common.{◌≡◌, ◌⊎◌, inl, inr, ℕ, List, [], ◌∷◌, ◌++◌, length, map, codes, refl, sym, ap, subst, ◌∙◌, append_assoc, append-nil}
-use Rattle.std.specs.Bool.{⊤}
+use Rattle.std.proofs.Common.{◌≡◌, ℕ, List, [], ◌∷◌, ◌++◌, map, codes, sym, ap, subst, ◌∙◌, append_assoc, append-nil}
 use Rattle.prf.specs.HashFunction.{HashFunction}
 use Rattle.tokens.specs.Signatures.{signature_hash}
 use Rattle.tokens.specs.Signing.{Signer, protected_by}
@@ -14,14 +13,6 @@ pub record AreBegun {S : Type 0} (has_taken : S → HashFunction → List ℕ �
   pub begun : HoldEach has_taken inputs first []
 
 module _ {S : Type 0} (has_taken : S → HashFunction → List ℕ → List ℕ → Type 0) where
-  pub none_begun : (inputs : List S) (all left : List Signer) (texts : List (List ℕ)) → inputs ≡ [] → left ≡ all → texts ≡ map protected_by all → AreBegun has_taken inputs all left texts
-  none_begun inputs all left texts none same theirs = record {
-    first = [];
-    parts = same;
-    theirs = theirs ∙ ap (map protected_by) (sym same);
-    begun = subst (λ i. HoldEach has_taken i [] []) (sym none) tt;
-  }
-
   hold_more : (inputs : List S) (signers : List Signer) (x : S) (s : Signer) → HoldEach has_taken inputs signers [] → has_taken x (signature_hash s.alg) s.key.octets ((protected_by s ++ codes ".") ++ [])
       → HoldEach has_taken (inputs ++ (x ∷ [])) (signers ++ (s ∷ [])) []
   hold_more [] [] x s h here = (here, tt)
@@ -46,13 +37,3 @@ module _ {S : Type 0} (has_taken : S → HashFunction → List ℕ → List ℕ 
         theirs = tail;
         begun = subst (λ i. HoldEach has_taken i (k.first ++ (s ∷ [])) []) (sym appended) (hold_more inputs k.first x s k.begun taken);
       }
-
-  no_left : (left : List Signer) (texts : List (List ℕ)) → texts ≡ map protected_by left → (left ≡ []) ⊎ (texts ≡ []) → left ≡ []
-  no_left left texts theirs (inl none) = none
-  no_left [] texts theirs (inr none) = refl
-  no_left (s ∷ left) texts theirs (inr none) = let both : [] ≡ protected_by s ∷ map protected_by left = sym none ∙ theirs in cc both
-
-  pub all_begun : (inputs : List S) (all left : List Signer) (texts : List (List ℕ)) → AreBegun has_taken inputs all left texts → (left ≡ []) ⊎ (texts ≡ []) → HoldEach has_taken inputs all []
-  all_begun inputs all left texts k none =
-      let whole : k.first ≡ all = sym (append-nil k.first) ∙ ap (λ l. k.first ++ l) (sym (no_left left texts k.theirs none)) ∙ k.parts in
-      subst (λ s. HoldEach has_taken inputs s []) whole k.begun

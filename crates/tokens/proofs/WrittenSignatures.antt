@@ -1,11 +1,11 @@
 -- Signatures that are written one after another, between the texts that stand round them.
-use Rattle.std.proofs.Common.{◌≡◌, ◌⊎◌, inl, inr, ℕ, ◌+◌, ◌-◌, ◌≤◌, suc, List, [], ◌∷◌, ◌++◌, length, take, get_or, map, codes, refl, sym, ap, subst, ◌∙◌, arith, append_assoc, append-nil, length-append}
+use Rattle.std.proofs.Common.{◌≡◌, ◌⊎◌, inl, inr, ℕ, ◌+◌, ◌-◌, ◌≤◌, suc, List, [], ◌∷◌, ◌++◌, length, take, get_or, map, codes, refl, sym, ap, subst, ◌∙◌, arith, append_assoc, length-append}
 use Rattle.std.proofs.lemmas.List.{nil_from_length}
 use Rattle.prf.specs.HashFunction.{HashFunction}
 use Rattle.prf.specs.Hmac.{hmac}
 use Rattle.octets.specs.Base64url.{base64url}
 use Rattle.octets.specs.Devices.{AppendsPrefixOf}
-use Rattle.octets.proofs.Prefixes.{AppendsPrefixOf-all, AppendsPrefixOf-front, AppendsPrefixOf-part}
+use Rattle.octets.proofs.Prefixes.{AppendsPrefixOf-front, AppendsPrefixOf-part}
 use Rattle.objects.specs.Frames.{filled}
 use Rattle.tokens.specs.Signatures.{signature_hash}
 use Rattle.tokens.specs.Signing.{Signer, protected_by}
@@ -23,7 +23,7 @@ part_left next rest left all old written new k is part =
     (omega (arith, k.grown, part.0), ap (take (length new)) (sym (ap (λ l. written ++ l) (sym is) ∙ k.same)) ∙ more.1)
 
 -- what is next was written
-pub less_left : (next rest left all old written new : List ℕ) → IsLeft left all old written → left ≡ next ++ rest → new ≡ written ++ next → IsLeft rest all old new
+less_left : (next rest left all old written new : List ℕ) → IsLeft left all old written → left ≡ next ++ rest → new ≡ written ++ next → IsLeft rest all old new
 less_left next rest left all old written new k is e = record {
   grown = omega (arith, k.grown, ap length e, length-append written next);
   same = ap (λ l. l ++ rest) e ∙ append_assoc written next rest ∙ ap (λ l. written ++ l) (sym is) ∙ k.same;
@@ -39,14 +39,6 @@ module _ {S : Type 0} (has_taken : S → HashFunction → List ℕ → List ℕ 
     pub signers : List Signer
     pub hold : HoldEach has_taken inputs signers text
     pub left : IsLeft (filled texts (map (signature_text text) signers)) all old written
-
-  pub none_written : (inputs given : List S) (texts all : List (List ℕ)) (signers : List Signer) (text old : List ℕ) → inputs ≡ given → texts ≡ all → HoldEach has_taken given signers text
-      → AreLeft inputs texts text (filled all (map (signature_text text) signers)) old old
-  none_written inputs given texts all signers text old same their h = record {
-    signers = signers;
-    hold = subst (λ i. HoldEach has_taken i signers text) (sym same) h;
-    left = record { grown = omega arith; same = ap (λ t. old ++ filled t (map (signature_text text) signers)) their };
-  }
 
   -- the first signer of those that are left
   record First (x : S) (inputs : List S) (signers : List Signer) (text : List ℕ) : Type 0 where

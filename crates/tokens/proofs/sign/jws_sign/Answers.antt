@@ -1,4 +1,4 @@
-use Rattle.std.proofs.Common.{◌≡◌, ◌+◌, ◌++◌, ◌∷◌, [], List, ℕ, length, map, take, drop, string_bytes, true, false, arith, sym, ap, subst, ◌∙◌, rules, IsTrue}
+use Rattle.std.proofs.Common.{◌+◌, ◌++◌, [], length, map, drop, string_bytes, arith, sym, ap, subst, ◌∙◌, rules, IsTrue}
 use Rattle.std.proofs.lemmas.List.{length-map}
 use Rattle.octets.specs.Base64url.{base64url}
 use Rattle.octets.specs.Devices.{appended, AppendsPrefixOf}

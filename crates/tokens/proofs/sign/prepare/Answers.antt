@@ -1,11 +1,10 @@
-use Rattle.std.proofs.Common.{◌≡◌, ℕ, List, Err, [], map, ap, sym, subst, ◌∙◌, true, false, rules}
+use Rattle.std.proofs.Common.{◌≡◌, ℕ, List, Err, [], map, ap, sym, subst, ◌∙◌, false, rules}
 use Rattle.octets.specs.declared.refusal.Refusal.{Refusal}
-use Rattle.octets.specs.declared.refusal.Refusal.TheVariants.{Memory, NotCompact}
 use Rattle.octets.specs.Outcomes.{is_memory, is_external}
 use Rattle.octets.specs.Plan.{planned}
 use Rattle.keys.specs.Limits.{limits}
 use Rattle.objects.specs.Views.{jws_view}
-use Rattle.tokens.specs.Signing.{signing_by, protected_by, Signer}
+use Rattle.tokens.specs.Signing.{signing_by, protected_by}
 use Rattle.tokens.specs.SigningInputs.{HoldEach}
 use Rattle.tokens.specs.Views.{signing_view, signer_view}
 use Rattle.tokens.specs.contracts.signing_input.HmacInputSigningInput.TheImpl.{has_taken-value}
@@ -39,9 +38,11 @@ returns-in_err-texts-clause-refused c =
     let is = by_signing c.args.compact c.args.detach c.args.keys.now c.args.template.now s c.in_ok-signing.ensures in
     let refused : is_memory e ≡ false → (is_external e ≡ false) × ((payload : List ℕ) → planned (signing_by limits c.args.compact c.args.detach c.args.keys.now c.args.template.now) payload ≡ Err e) =
     λ h.
-        let not_compact = c.in_err-texts.ensures.refused (memory_apart e h) in
-        (ap is_external not_compact.0, λ payload. ap (λ p. planned p payload) is
-        ∙ text_refused c.args.compact c.args.detach s (jws_view c.in_ok-jws.jws) payload c.in_ok-jws.ensures not_compact.1 ∙ ap Err (sym not_compact.0)) in
+    let not_compact = c.in_err-texts.ensures.refused (memory_apart e h) in (
+      ap is_external not_compact.0,
+      λ payload. ap (λ p. planned p payload) is
+          ∙ text_refused c.args.compact c.args.detach s (jws_view c.in_ok-jws.jws) payload c.in_ok-jws.ensures not_compact.1 ∙ ap Err (sym not_compact.0),
+    ) in
     search (rules, refused)
 
 pub returns-clause-framed : goal.returns-clause-framed

@@ -1,4 +1,4 @@
-use Rattle.std.proofs.Common.{◌≡◌, subst, append_assoc, ◌++◌, take, false, sym, ◌∙◌, ap, append-nil, refl}
+use Rattle.std.proofs.Common.{subst, append_assoc, ◌++◌, take, false, sym, ◌∙◌, ap, append-nil, refl}
 use Rattle.std.proofs.Math.Seq.{drop-length}
 use Rattle.octets.specs.Base64url.{base64url, whole_groups, part_group}
 use Rattle.octets.specs.Devices.{appended}

@@ -1,4 +1,4 @@
-use Rattle.std.proofs.Common.{map, ap, ◌∙◌, ◌++◌, ◌∷◌, [], ◌≡◌}
+use Rattle.std.proofs.Common.{map, ap, ◌∙◌}
 use Rattle.objects.specs.Views.{signature_view}
 use Rattle.tokens.specs.SigningInputs.{unsigned_protected}
 use Rattle.tokens.specs.Views.{signer_view}

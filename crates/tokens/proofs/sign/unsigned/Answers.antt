@@ -1,11 +1,9 @@
-use Rattle.std.proofs.Common.{◌≡◌, List, ℕ, [], map, ap, ap₂, subst, ◌∙◌}
-use Rattle.serde_json.specs.View.{members_view}
+use Rattle.std.proofs.Common.{List, ℕ, ap₂, subst}
 use Rattle.octets.specs.Outcomes.{AgreesUnlessMemory}
 use Rattle.keys.specs.Limits.{limits}
 use Rattle.objects.specs.Jws.{JwsParts, SignatureParts, built}
-use Rattle.objects.specs.Views.{jws_view, signature_parts_view}
-use Rattle.tokens.specs.SigningInputs.{unsigned_by, unsigned_part_by}
-use Rattle.tokens.specs.Views.{signer_view}
+use Rattle.objects.specs.Views.{jws_view}
+use Rattle.tokens.specs.SigningInputs.{unsigned_by}
 use Rattle.tokens.proofs.sign.unsigned.Goals as goal
 
 pub returns : goal.returns

@@ -1,10 +1,6 @@
-use Rattle.std.proofs.Common.{◌≡◌, ◌+◌, ◌++◌, ◌∷◌, [], List, length, map, take, string_bytes, arith, sym, ap, ◌∙◌, inl, inr, append_assoc, append-nil}
-use Rattle.objects.specs.Frames.{filled}
+use Rattle.std.proofs.Common.{◌++◌, ◌∷◌, [], length, map, take, string_bytes, arith, sym, ap, ◌∙◌, inl, inr, append_assoc, append-nil}
 use Rattle.octets.proofs.Agreement.{at_refusal, on_refusal, on_success}
-use Rattle.octets.proofs.Prefixes.{AppendsPrefixOf-part}
-use Rattle.octets.specs.Devices.{AppendsPrefixOf}
-use Rattle.tokens.specs.SigningInputs.{signature_text}
-use Rattle.tokens.proofs.WrittenSignatures.{IsLeft, text_refused, signature_refused, one_written, last_left, part_left, all_left, is_last, no_more}
+use Rattle.tokens.proofs.WrittenSignatures.{text_refused, signature_refused, one_written, last_left, part_left, all_left, is_last, no_more}
 use Rattle.tokens.proofs.sign.write_signatures.Goals as goal
 
 pub returns-in_err-write_whole-clause-beginning : goal.returns-in_err-write_whole-clause-beginning
