@@ -8,3 +8,4 @@ pub mod Unique
 pub mod Found
 pub mod Octets
 pub mod Growing
+pub mod Tags

@@ -1,10 +1,13 @@
 -- Lists that begin others: behind a list, in base64url texts, among the members of a JSON text, and on both outputs of a call.
-use Rattle.std.proofs.Common.{◌≡◌, ℕ, Bool, true, false, List, [], ◌∷◌, ◌++◌, Ok, refl, sym, ap, ◌∙◌, subst, append_assoc}
+use Rattle.std.proofs.Common.{◌≡◌, ℕ, zero, suc, ◌<◌, length, take, length-append, Bool, true, false, List, [], ◌∷◌, ◌++◌, Ok, refl, sym, ap, ap₂, ◌∙◌, subst, arith, append_assoc}
 use Rattle.serde_json.specs.Data.{Data, string, Members, member}
 use Rattle.serde_json.specs.Written.{comma_if, compact_text, members_text}
 use Rattle.octets.specs.Base64url.{base64url, whole_groups, part_group}
+use Rattle.octets.specs.Devices.{AppendsPrefixOf}
 use Rattle.octets.specs.Octets.{IsOctets}
 use Rattle.octets.specs.Plan.{OutputTexts, Plan, Begins, Grows, plan_map, BothGrow}
+use Rattle.octets.proofs.Characters.{spells_six_bits}
+use Rattle.octets.proofs.Decoded.{IsOctets-nil}
 use Rattle.octets.proofs.Groups.{base64url_whole-append, base64url_whole_part}
 use Rattle.keys.proofs.UrlTexts.{url_texts_are_json}
 use Rattle.objects.specs.Texts.{handed_in, handed_out}
@@ -24,6 +27,11 @@ begins_all x y z a b = record { rest = a.rest ++ b.rest; continues = b.continues
 -- the empty list begins every list
 pub empty_begins : (x : List ℕ) → Begins [] x
 empty_begins x = record { rest = x; continues = refl }
+
+-- behind a text that was written
+pub AppendsPrefixOf-behind : (front text old new : List ℕ) → AppendsPrefixOf text (old ++ front) new → AppendsPrefixOf (front ++ text) old new
+AppendsPrefixOf-behind front text old new h =
+    (omega (arith, h.0, length-append old front), ap (take (length new)) (sym (append_assoc old front text)) ∙ h.1)
 
 -- ---- base64url texts
 
@@ -91,3 +99,47 @@ both_grow_by_beginnings plan more whole = record {
   text = output_grows plan (λ texts. texts.text) (λ p q. (more p q).text) (λ p q texts octets h. (whole p q texts octets h).text);
   content = output_grows plan (λ texts. texts.content) (λ p q. (more p q).content) (λ p q texts octets h. (whole p q texts octets h).content);
 }
+
+-- ---- a text that stands before every content
+
+split_at : (f t : List ℕ) (a b : ℕ) (x y z w : List ℕ) → f ++ (a ∷ x) ≡ t ++ (a ∷ y) → f ++ (b ∷ z) ≡ t ++ (b ∷ w) → (a ≡ b → ⊥) → f ≡ t
+split_at [] [] a b x y z w e h apart = refl
+split_at [] (c ∷ t) a b x y z w e h apart =
+    let first : a ≡ c = cc e in
+    let second : b ≡ c = cc h in
+    absurd (apart (first ∙ sym second))
+split_at (c ∷ f) [] a b x y z w e h apart =
+    let first : c ≡ a = cc e in
+    let second : c ≡ b = cc h in
+    absurd (apart (sym first ∙ second))
+split_at (c ∷ f) (d ∷ t) a b x y z w e h apart =
+    let same : c ≡ d = cc e in
+    let front : f ++ (a ∷ x) ≡ t ++ (a ∷ y) = cc e in
+    let back : f ++ (b ∷ z) ≡ t ++ (b ∷ w) = cc h in
+    ap₂ (λ c l. c ∷ l) same (split_at f t a b x y z w front back apart)
+
+pub one_octet : (x : ℕ) → x < 256 → IsOctets (x ∷ [])
+one_octet x lt zero = lt
+one_octet x lt (suc i) = IsOctets-nil i
+
+text_of_zero : base64url (0 ∷ []) ≡ 65 ∷ 65 ∷ []
+text_of_zero = spells_six_bits (0 ∷ []) (one_octet 0 (omega arith))
+
+text_of_last : base64url (255 ∷ []) ≡ 95 ∷ 119 ∷ []
+text_of_last = spells_six_bits (255 ∷ []) (one_octet 255 (omega arith))
+
+-- Two texts of which each stands before the base64url text of every content are one.
+module _ (first before : List ℕ) (after : List ℕ → List ℕ) (both : (content : List ℕ) → IsOctets content → Begins (before ++ base64url content) (first ++ (base64url content ++ after content))) where
+  with_text : (content text : List ℕ) → IsOctets content → base64url content ≡ text → (x : List ℕ) × (y : List ℕ) × (first ++ (text ++ x) ≡ before ++ (text ++ y))
+  with_text content text octets is =
+      let b = both content octets in (
+        after content,
+        b.rest,
+        ap (λ t. first ++ (t ++ after content)) (sym is) ∙ b.continues ∙ append_assoc before (base64url content) b.rest ∙ ap (λ t. before ++ (t ++ b.rest)) is,
+      )
+
+  pub same_before : first ≡ before
+  same_before =
+      let a = with_text (0 ∷ []) (65 ∷ 65 ∷ []) (one_octet 0 (omega arith)) text_of_zero in
+      let b = with_text (255 ∷ []) (95 ∷ 119 ∷ []) (one_octet 255 (omega arith)) text_of_last in
+      split_at first before 65 95 _ _ _ _ a.2 b.2 (λ same. absurd (omega (arith, same)))

@@ -126,7 +126,7 @@ pub record Has (e : Encryption) (random : List ℕ) (s : Sealed) (o : EncryptedO
   pub key : key_of_first o.recipients ≡ first_key (recipients_by e (cek_by e random) e.receivers (salts_by e random))
 
 -- so it is of what is made
-has : (e : Encryption) (random : List ℕ) (s : Sealed) → Has e random s (object_by e random s)
+pub has : (e : Encryption) (random : List ℕ) (s : Sealed) → Has e random s (object_by e random s)
 has e random s = record {
   protected = refl;
   iv = refl;
@@ -147,7 +147,7 @@ short_enough None n h long = absurd long
 short_enough (Some most) n h long = (Decides-not _ (Decides-ltb most n)).0 h long
 
 -- what is sealed is of a plaintext that is not too long
-sealed_is : (s : Sealing) (p : List ℕ) (made : Sealed) → sealed_by s p ≡ Ok made → (IsTooLong s p → ⊥) × (s.sealed p ≡ made)
+pub sealed_is : (s : Sealing) (p : List ℕ) (made : Sealed) → sealed_by s p ≡ Ok made → (IsTooLong s p → ⊥) × (s.sealed p ≡ made)
 unfolding sealed_by
 sealed_is s p made h =
     let a = steps (needs (not (is_longer (length p) s.longest)) Limit) (λ short. Ok (s.sealed p)) made h in

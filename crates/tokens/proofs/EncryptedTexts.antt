@@ -33,7 +33,7 @@ fits e cek o (x ∷ []) alone long some unprotected aad = rw (unprotected, alone
 fits e cek o (x ∷ (other ∷ rest)) alone long some unprotected aad = absurd (omega (arith, long, leb-true (length e.receivers) 1 alone))
 
 -- so the object has a text
-has_text : (compact detach : Bool) (e : Encryption) (random : List ℕ) (s : Sealed) → holds_no_more compact e ≡ true → 1 ≤ length e.receivers
+pub has_text : (compact detach : Bool) (e : Encryption) (random : List ℕ) (s : Sealed) → holds_no_more compact e ≡ true → 1 ≤ length e.receivers
     → (text : List ℕ) × (text_of compact detach (object_by e random s) ≡ Ok text)
 unfolding jwe_compact_text
 has_text true detach e random s alone some =

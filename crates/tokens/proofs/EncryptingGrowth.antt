@@ -1,9 +1,7 @@
 -- The plan of encrypting, which goes on as its plaintext does.
-use Rattle.std.proofs.Common.{◌≡◌, ℕ, zero, suc, ◌<◌, ◌≤◌, Bool, true, false, List, [], ◌∷◌, ◌++◌, length, take, codes, Option, Some, None, Ok, Less, Greater, nat_cmp, refl, sym, ◌∙◌, ap, subst, arith, append_assoc, length-append, ⊎_elim, take_all}
-use Rattle.std.proofs.lemmas.Bool.{cases_lt}
+use Rattle.std.proofs.Common.{◌≡◌, ℕ, zero, suc, Bool, true, false, List, [], ◌∷◌, ◌++◌, length, take, codes, Option, Some, None, Ok, Less, Greater, nat_cmp, refl, sym, ◌∙◌, ap, subst, arith, append_assoc}
 use Rattle.std.proofs.lemmas.List.{nil_from_length}
 use Rattle.std.specs.Cmp.Lexicographic.{slice_cmp}
-use Rattle.std.specs.Option.{IsSomeAnd}
 use Rattle.serde_json.specs.Data.{Data, string, object, Members, no_members, member, put}
 use Rattle.serde_json.specs.Written.{compact_text, members_text}
 use Rattle.octets.specs.declared.refusal.Refusal.TheVariants.{NotCompact}
@@ -27,6 +25,7 @@ use Rattle.tokens.specs.Choosing.{Encryption}
 use Rattle.tokens.specs.Decrypting.{authenticated}
 use Rattle.tokens.specs.Encrypting.{AreOctetKeys, octets_drawn, cek_by, iv_by, header_by, sealing_by, encrypted, text_of, aad_member, text_before, within_longest, written_of, ciphertext_fixed, text_fixed, plan_by, EncryptingGrows}
 use Rattle.tokens.proofs.Beginnings.{begins_behind, begins_all, empty_begins, groups_grow, text_grows, member_text, handed_out_begins, BothBegin, both_grow_by_beginnings}
+use Rattle.tokens.proofs.Sealed.{all_within}
 use Rattle.tokens.proofs.EncryptedObjects.{OctetLaws, Settles, Has, is_encrypted, written_is, plan_is, settles}
 
 -- ---- what is fixed of the ciphertext
@@ -42,15 +41,8 @@ within_grows : (longest : Option ℕ) (p q : List ℕ) → Begins (within_longes
 within_grows None p q = record { rest = q; continues = refl }
 within_grows (Some most) p q = take_grows most p q
 
--- which is all, where the plaintext is not too long
-all_within : (longest : Option ℕ) (p q : List ℕ) → (IsSomeAnd longest (λ most. most < length (p ++ q)) → ⊥) → within_longest longest p ≡ p
-all_within None p q short = refl
-all_within (Some most) p q short =
-    let within : length (p ++ q) ≤ most = ⊎_elim (λ long. absurd (short long)) (λ h. h) (cases_lt most (length (p ++ q))) in
-    take_all most p (omega (arith, within, length-append p q))
-
 -- what is fixed goes on
-more_fixed : (e : Encryption) (random p q : List ℕ) → Begins (ciphertext_fixed e random p) (ciphertext_fixed e random (p ++ q))
+pub more_fixed : (e : Encryption) (random p q : List ℕ) → Begins (ciphertext_fixed e random p) (ciphertext_fixed e random (p ++ q))
 more_fixed e random p q =
     let s = sealing_by e random in
     let front : List ℕ = within_longest s.longest p in
@@ -59,7 +51,7 @@ more_fixed e random p q =
     (fixed_grows (content_alg e.encryption) (cek_by e random) (iv_by e random) (authenticated (base64url (header_by e random)) e.aad) front more.rest)
 
 -- and begins the ciphertext, where the plaintext is not too long
-fixed_begins : (e : Encryption) (random p q : List ℕ) → (IsTooLong (sealing_by e random) (p ++ q) → ⊥) → Begins (ciphertext_fixed e random p) ((sealing_by e random).sealed (p ++ q)).ciphertext
+pub fixed_begins : (e : Encryption) (random p q : List ℕ) → (IsTooLong (sealing_by e random) (p ++ q) → ⊥) → Begins (ciphertext_fixed e random p) ((sealing_by e random).sealed (p ++ q)).ciphertext
 fixed_begins e random p q short =
     let s = sealing_by e random in
     subst (λ l. Begins (s.fixed l) (s.sealed (p ++ q)).ciphertext) (sym (all_within s.longest p q short))
@@ -211,7 +203,7 @@ json_begins o aad_octets ciphertext_octets =
 -- ---- what is encrypted
 
 -- the text begins with what stands before the ciphertext, and with the ciphertext's text
-text_begins : (compact : Bool) (e : Encryption) (random : List ℕ) (s : Sealed) (o : EncryptedObject) (text : List ℕ) → IsOctets e.aad → IsOctets s.ciphertext → Has e random s o
+pub text_begins : (compact : Bool) (e : Encryption) (random : List ℕ) (s : Sealed) (o : EncryptedObject) (text : List ℕ) → IsOctets e.aad → IsOctets s.ciphertext → Has e random s o
     → text_of compact false o ≡ Ok text → Begins (text_before compact e random ++ base64url s.ciphertext) text
 text_begins true e random s o text aad_octets ciphertext_octets has h =
     let first : o.protected ++ codes "." ++ base64url (key_of_first o.recipients) ++ codes "." ++ base64url o.iv ++ codes "." ++ base64url o.ciphertext

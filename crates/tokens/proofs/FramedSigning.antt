@@ -1,5 +1,5 @@
 -- The texts that stand round the payload and the signatures of what is signed, and what may stand of them.
-use Rattle.std.proofs.Common.{◌≡◌, ℕ, zero, suc, ◌<◌, Bool, true, false, List, [], ◌∷◌, ◌++◌, length, take, map, codes, Ok, Err, refl, sym, ap, ap₂, ◌∙◌, arith, append_assoc, append-nil, length-append}
+use Rattle.std.proofs.Common.{◌≡◌, ℕ, Bool, true, false, List, [], ◌∷◌, ◌++◌, length, map, codes, Ok, Err, refl, sym, ap, ap₂, ◌∙◌, append_assoc, append-nil}
 use Rattle.std.proofs.lemmas.List.{length-map}
 use Rattle.std.specs.List.{AllByRecursion}
 use Rattle.std.specs.Result.{result_unwrap_or}
@@ -7,13 +7,9 @@ use Rattle.serde_json.specs.Data.{Members}
 use Rattle.octets.specs.declared.refusal.Refusal.{Refusal}
 use Rattle.octets.specs.declared.refusal.Refusal.TheVariants.{Memory, NotCompact}
 use Rattle.octets.specs.Base64url.{base64url, whole_groups}
-use Rattle.octets.specs.Devices.{AppendsPrefixOf}
-use Rattle.octets.specs.Encoding.{encoding}
 use Rattle.octets.specs.Octets.{IsOctets}
 use Rattle.octets.specs.Outcomes.{◌>>=◌, is_memory, is_external}
 use Rattle.octets.specs.Plan.{Begins, beginning_of, planned}
-use Rattle.octets.proofs.Characters.{spells_six_bits}
-use Rattle.octets.proofs.Decoded.{IsOctets-nil}
 use Rattle.prf.specs.Hmac.{hmac}
 use Rattle.keys.specs.Keys.{OctetKey}
 use Rattle.keys.specs.Limits.{limits}
@@ -24,6 +20,8 @@ use Rattle.objects.proofs.SpellingJws.{signature_spelled, spelled, parts_spelled
 use Rattle.tokens.specs.Signatures.{signature_hash, signature_of}
 use Rattle.tokens.specs.Signing.{Signer, Signing, protected_by, signature_by, signed, text_of, text_before, written_of, plan_by, signing_of, signing_by}
 use Rattle.tokens.specs.SigningInputs.{signature_text, unsigned_part_by, unsigned_by, unsigned_protected}
+use Rattle.tokens.specs.WrittenContents.{encoded_behind}
+use Rattle.tokens.proofs.Beginnings.{same_before}
 use Rattle.tokens.proofs.SignedAlike.{with_all, put_part, built_alike, refused_alike}
 use Rattle.tokens.proofs.SignedObjects.{is_written}
 use Rattle.tokens.proofs.SignedRoundTrip.{signature_octets}
@@ -119,32 +117,6 @@ module _ (compact detach : Bool) (s : Signing) (o : SignedObject) (texts : List 
 
 -- ---- the first text of one that holds its payload
 
-split_at : (f t : List ℕ) (a b : ℕ) (x y z w : List ℕ) → f ++ (a ∷ x) ≡ t ++ (a ∷ y) → f ++ (b ∷ z) ≡ t ++ (b ∷ w) → (a ≡ b → ⊥) → f ≡ t
-split_at [] [] a b x y z w e h apart = refl
-split_at [] (c ∷ t) a b x y z w e h apart =
-    let first : a ≡ c = cc e in
-    let second : b ≡ c = cc h in
-    absurd (apart (first ∙ sym second))
-split_at (c ∷ f) [] a b x y z w e h apart =
-    let first : c ≡ a = cc e in
-    let second : c ≡ b = cc h in
-    absurd (apart (sym first ∙ second))
-split_at (c ∷ f) (d ∷ t) a b x y z w e h apart =
-    let same : c ≡ d = cc e in
-    let front : f ++ (a ∷ x) ≡ t ++ (a ∷ y) = cc e in
-    let back : f ++ (b ∷ z) ≡ t ++ (b ∷ w) = cc h in
-    ap₂ (λ c l. c ∷ l) same (split_at f t a b x y z w front back apart)
-
-one_octet : (x : ℕ) → x < 256 → IsOctets (x ∷ [])
-one_octet x lt zero = lt
-one_octet x lt (suc i) = IsOctets-nil i
-
-text_of_zero : base64url (0 ∷ []) ≡ 65 ∷ 65 ∷ []
-text_of_zero = spells_six_bits (0 ∷ []) (one_octet 0 (omega arith))
-
-text_of_last : base64url (255 ∷ []) ≡ 95 ∷ 119 ∷ []
-text_of_last = spells_six_bits (255 ∷ []) (one_octet 255 (omega arith))
-
 module _ (compact : Bool) (s : Signing) (o : SignedObject) (first : List ℕ) (rest : List (List ℕ)) (made : unsigned_by s ≡ Ok o) (frame : IsJwsFrame compact false o (first ∷ rest)) where
   -- both stand before the text of every payload
   both_before : (payload : List ℕ) → IsOctets payload
@@ -152,26 +124,12 @@ module _ (compact : Bool) (s : Signing) (o : SignedObject) (first : List ℕ) (r
   both_before payload octets =
       text_begins compact s payload _ (signed_with o payload (map (octets_by payload) s.signers)) octets (signed_is_with s o payload made) (object_text compact false s o (first ∷ rest) made frame payload octets)
 
-  at : (payload text : List ℕ) → IsOctets payload → base64url payload ≡ text
-      → (x : List ℕ) × (y : List ℕ) × (first ++ (text ++ x) ≡ text_before compact s.header s.signers ++ (text ++ y))
-  at payload text octets is =
-      let b = both_before payload octets in
-      let rest_of : List ℕ = filled rest (map base64url (map (octets_by payload) s.signers)) in (
-        rest_of,
-        b.rest,
-        ap (λ t. first ++ (t ++ rest_of)) (sym is) ∙ b.continues ∙ append_assoc (text_before compact s.header s.signers) (base64url payload) b.rest
-            ∙ ap (λ t. text_before compact s.header s.signers ++ (t ++ b.rest)) is,
-      )
-
   first_is : first ≡ text_before compact s.header s.signers
-  first_is =
-      let a = at (0 ∷ []) (65 ∷ 65 ∷ []) (one_octet 0 (omega arith)) text_of_zero in
-      let b = at (255 ∷ []) (95 ∷ 119 ∷ []) (one_octet 255 (omega arith)) text_of_last in
-      split_at first (text_before compact s.header s.signers) 65 95 _ _ _ _ a.2 b.2 (λ same. absurd (omega (arith, same)))
+  first_is = same_before first (text_before compact s.header s.signers) (λ payload. filled rest (map base64url (map (octets_by payload) s.signers))) both_before
 
   -- with the text of what was read of the payload it begins what may stand
   pub inside_begins : (payload : List ℕ) (ended : Bool) → IsOctets payload
-      → Begins (first ++ beginning_of encoding (record { octets = payload; ended = ended })) (beginning_of (plan_by compact false s) (record { octets = payload; ended = ended })).text
+      → Begins (beginning_of (encoded_behind first) (record { octets = payload; ended = ended })) (beginning_of (plan_by compact false s) (record { octets = payload; ended = ended })).text
   inside_begins payload false octets = record { rest = []; continues = ap (λ t. t ++ base64url (whole_groups payload)) (sym first_is) ∙ sym (append-nil (first ++ base64url (whole_groups payload))) }
   inside_begins payload true octets = record {
     rest = filled rest (map base64url (map (octets_by payload) s.signers));
@@ -180,11 +138,6 @@ module _ (compact : Bool) (s : Signing) (o : SignedObject) (first : List ℕ) (r
   }
 
 -- ---- what may stand
-
--- behind a text that was written
-pub AppendsPrefixOf-behind : (front text old new : List ℕ) → AppendsPrefixOf text (old ++ front) new → AppendsPrefixOf (front ++ text) old new
-AppendsPrefixOf-behind front text old new h =
-    (omega (arith, h.0, length-append old front), ap (take (length new)) (sym (append_assoc old front text)) ∙ h.1)
 
 pub by_signing : (compact detach : Bool) (keys : List OctetKey) (template : List ℕ) (s : Signing) → signing_of limits compact keys template ≡ Ok s
     → signing_by limits compact detach keys template ≡ Ok (plan_by compact detach s)

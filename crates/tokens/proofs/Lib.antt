@@ -1,7 +1,7 @@
 pub mod Tests
 pub mod Encoded
 pub mod HeldInputs
-pub mod Beside
+pub mod Pieces
 pub mod UnsignedInputs
 pub mod WrittenSignatures
 pub mod SignedAlike
@@ -35,3 +35,5 @@ pub mod EncryptedTexts
 pub mod DecryptedPairs
 pub mod EncryptedRoundTrip
 pub mod EncryptingGrowth
+pub mod EncryptionFrames
+pub mod StandingCiphertexts

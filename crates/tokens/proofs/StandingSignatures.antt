@@ -5,18 +5,18 @@ use Rattle.std.proofs.lemmas.List.{take_all, take-append-le, length-drop}
 use Rattle.octets.specs.declared.refusal.Refusal.{Refusal}
 use Rattle.octets.specs.Base64url.{base64url}
 use Rattle.octets.specs.Devices.{appended, IsPossibleInput, AppendsPrefixOf}
-use Rattle.octets.specs.Encoding.{encoding}
 use Rattle.octets.specs.Octets.{IsOctets}
 use Rattle.octets.specs.Plan.{OutputTexts, Plan, Begins, beginning_of, begun, planned}
 use Rattle.octets.proofs.Agreement.{appended-append, begun_whole, both_written}
 use Rattle.octets.proofs.Decoded.{IsOctets-nil}
-use Rattle.octets.proofs.Prefixes.{AppendsPrefixOf-front}
 use Rattle.octets.proofs.Streaming.{AppendsPrefixOf-Begins}
 use Rattle.prf.specs.HashFunction.{HashFunction}
 use Rattle.objects.specs.Frames.{filled, IsJwsFrame}
 use Rattle.tokens.specs.Signing.{Signer}
 use Rattle.tokens.specs.SigningInputs.{HoldEach, IsFramed, signature_text}
-use Rattle.tokens.proofs.FramedSigning.{texts_are, unsigned_count, whole_is, inside_begins, AppendsPrefixOf-behind}
+use Rattle.tokens.specs.WrittenContents.{encoded_behind}
+use Rattle.tokens.proofs.Beginnings.{AppendsPrefixOf-behind}
+use Rattle.tokens.proofs.FramedSigning.{texts_are, unsigned_count, whole_is, inside_begins}
 
 -- an input that was read to its end was this
 pub all_read : (p payload : List ℕ) (ended : Bool) → IsPossibleInput (record { octets = p; ended = ended }) payload → IsTrue ended → payload ≡ p
@@ -60,24 +60,15 @@ module _ {S : Type 0} (has_taken : S → HashFunction → List ℕ → List ℕ 
       own_frame = subst (λ t. IsJwsFrame compact false f.object t) are f.frame
 
       inside_text : (p : List ℕ) (ended : Bool) → IsOctets p
-          → Begins (first ++ beginning_of encoding (record { octets = p; ended = ended })) (begun plan (record { octets = p; ended = ended })).text
+          → Begins (beginning_of (encoded_behind first) (record { octets = p; ended = ended })) (begun plan (record { octets = p; ended = ended })).text
       inside_text p ended octets =
-          subst (λ r. Begins (first ++ beginning_of encoding (record { octets = p; ended = ended })) (begun r (record { octets = p; ended = ended })).text) (sym f.is)
+          subst (λ r. Begins (beginning_of (encoded_behind first) (record { octets = p; ended = ended })) (begun r (record { octets = p; ended = ended })).text) (sym f.is)
           (inside_begins compact f.signing f.object first rest f.made own_frame p ended octets)
 
-      -- the first text was written in part
-      pub first_part : (p : List ℕ) (ended : Bool) (old new : List ℕ) → IsOctets p → AppendsPrefixOf first old new → AppendsPrefixOf (begun plan (record { octets = p; ended = ended })).text old new
-      first_part p ended old new octets part =
-          let front : List ℕ = beginning_of encoding (record { octets = p; ended = ended }) in
-          AppendsPrefixOf-Begins (first ++ front) _ old new (inside_text p ended octets) (AppendsPrefixOf-front first front old new part)
-
-      -- and the payload's text behind it
-      pub inside_part : (p : List ℕ) (ended : Bool) (old between new : List ℕ) → IsOctets p → between ≡ old ++ first → AppendsPrefixOf (beginning_of encoding (record { octets = p; ended = ended })) between new
+      -- the first text, and the payload's behind it, was written in part
+      pub inside_part : (p : List ℕ) (ended : Bool) (old new : List ℕ) → IsOctets p → AppendsPrefixOf (beginning_of (encoded_behind first) (record { octets = p; ended = ended })) old new
           → AppendsPrefixOf (begun plan (record { octets = p; ended = ended })).text old new
-      inside_part p ended old between new octets so_far part =
-          let front : List ℕ = beginning_of encoding (record { octets = p; ended = ended }) in
-          AppendsPrefixOf-Begins (first ++ front) _ old new (inside_text p ended octets)
-          (AppendsPrefixOf-behind first front old new (subst (λ l. AppendsPrefixOf front l new) so_far part))
+      inside_part p ended old new octets part = AppendsPrefixOf-Begins _ _ old new (inside_text p ended octets) part
 
       -- all of it
       abbrev all_inside : List ℕ → List ℕ
@@ -88,27 +79,24 @@ module _ {S : Type 0} (has_taken : S → HashFunction → List ℕ → List ℕ 
           ap (λ r. planned r p) f.is ∙ whole_is compact false f.signing f.object (first ∷ rest) f.made own_frame p octets
           ∙ ap (λ values. Ok (record { text = first ++ (base64url p ++ filled rest values); content = [] })) (sym (texts_are p f.signing.signers))
 
-      inside_so_far : (p old first_out out : List ℕ) → first_out ≡ old ++ first → out ≡ first_out ++ base64url p → out ≡ old ++ (first ++ base64url p)
-      inside_so_far p old first_out out a b = b ∙ ap (λ l. l ++ base64url p) a ∙ append_assoc old first (base64url p)
-
       -- the signatures were written in part
-      pub inside_signatures_part : (p : List ℕ) (ended : Bool) (old first_out out new : List ℕ) → IsOctets p → IsTrue ended → first_out ≡ old ++ first → out ≡ first_out ++ base64url p
+      pub inside_signatures_part : (p : List ℕ) (ended : Bool) (old out new : List ℕ) → IsOctets p → IsTrue ended → out ≡ old ++ (first ++ base64url p)
           → AppendsPrefixOf (filled rest (map (signature_text (base64url p)) f.signing.signers)) out new → AppendsPrefixOf (begun plan (record { octets = p; ended = ended })).text old new
-      inside_signatures_part p ended old first_out out new octets at_end a b part =
+      inside_signatures_part p ended old out new octets at_end so_far part =
           let values : List ℕ = filled rest (map (signature_text (base64url p)) f.signing.signers) in
           let all : OutputTexts = record { text = first ++ (base64url p ++ values); content = [] } in
           let is : begun plan (record { octets = p; ended = ended }) ≡ all = begun_whole plan (record { octets = p; ended = ended }) all at_end (inside_whole p octets) in
           subst (λ t. AppendsPrefixOf t old new) (append_assoc first (base64url p) values ∙ sym (ap (λ (t : OutputTexts). t.text) is))
-          (AppendsPrefixOf-behind (first ++ base64url p) values old new (subst (λ l. AppendsPrefixOf values l new) (inside_so_far p old first_out out a b) part))
+          (AppendsPrefixOf-behind (first ++ base64url p) values old new (subst (λ l. AppendsPrefixOf values l new) so_far part))
 
       -- all was written
-      pub inside_answer : (p payload : List ℕ) (ended : Bool) (old first_out out new : List ℕ) → IsOctets p → IsPossibleInput (record { octets = p; ended = ended }) payload → IsTrue ended
-          → first_out ≡ old ++ first → out ≡ first_out ++ base64url p → new ≡ out ++ filled rest (map (signature_text (base64url p)) f.signing.signers)
+      pub inside_answer : (p payload : List ℕ) (ended : Bool) (old out new : List ℕ) → IsOctets p → IsPossibleInput (record { octets = p; ended = ended }) payload → IsTrue ended
+          → out ≡ old ++ (first ++ base64url p) → new ≡ out ++ filled rest (map (signature_text (base64url p)) f.signing.signers)
           → planned plan payload ≡ Ok (record { text = appended old new; content = [] })
-      inside_answer p payload ended old first_out out new octets may at_end a b e =
+      inside_answer p payload ended old out new octets may at_end so_far e =
           let values : List ℕ = filled rest (map (signature_text (base64url p)) f.signing.signers) in
           let whole : new ≡ old ++ (first ++ (base64url p ++ values)) =
-          e ∙ ap (λ l. l ++ values) (inside_so_far p old first_out out a b) ∙ append_assoc old (first ++ base64url p) values ∙ ap (λ l. old ++ l) (append_assoc first (base64url p) values) in
+          e ∙ ap (λ l. l ++ values) so_far ∙ append_assoc old (first ++ base64url p) values ∙ ap (λ l. old ++ l) (append_assoc first (base64url p) values) in
           ap (planned plan) (all_read p payload ended may at_end) ∙ inside_whole p octets
           ∙ ap (λ t. Ok (record { text = t; content = [] })) (sym (ap (appended old) whole ∙ appended-append old (first ++ (base64url p ++ values))))
 

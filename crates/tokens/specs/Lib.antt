@@ -8,4 +8,6 @@ pub mod Decrypting
 pub mod EncryptionTemplate
 pub mod Choosing
 pub mod Encrypting
+pub mod WrittenContents
+pub mod SealedTexts
 pub mod Views

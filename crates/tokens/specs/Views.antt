@@ -1,6 +1,5 @@
 -- What values of the code hold.
 use Rattle.std.specs.Prelude.{ℕ, List, map}
-use Rattle.ciphers.specs.Sealing as ciphers
 use Rattle.serde_json.specs.View.{members_view}
 use Rattle.keys.specs.Views.{key_view}
 use Rattle.objects.specs.Views.{part_view, recipient_view}
@@ -11,7 +10,6 @@ use Rattle.tokens.specs.declared.algorithms.Algorithms.{Algorithms as CodeAlgori
 use Rattle.tokens.specs.declared.pair.Pair.{Pair as CodePair}
 use Rattle.tokens.specs.declared.decrypt.Sealed.{Sealed}
 use Rattle.tokens.specs.declared.decrypt.Work.{Work}
-use Rattle.tokens.specs.declared.sealing.SealedOctets.{SealedOctets}
 use Rattle.tokens.specs.declared.receiver.Receiver.{Receiver as CodeReceiver}
 use Rattle.tokens.specs.declared.encryption.Given.{Given as CodeGiven}
 use Rattle.tokens.specs.declared.encryption.Encryption.{Encryption as CodeEncryption}
@@ -46,9 +44,6 @@ sealed_view s ciphertext = record { iv = s.iv.now; aad = s.aad.now; ciphertext =
 
 abbrev pub work_view : Work → Counts
 work_view w = record { iterations = w.iterations; unwraps = w.unwraps; openings = w.openings }
-
-abbrev pub sealed_octets_view : SealedOctets → ciphers.Sealed
-sealed_octets_view s = record { ciphertext = s.ciphertext.items; tag = s.tag.items }
 
 abbrev pub template_texts_view : CodeTexts → TemplateTexts
 template_texts_view t = record { protected = part_view t.protected; unprotected = part_view t.unprotected; aad = t.aad.now }

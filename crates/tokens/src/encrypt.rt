@@ -1,12 +1,14 @@
 //! Encrypting to each key of a set (RFC 7516 section 5.1), in compact or in JSON form.
-ghost use Rattle.std.specs.Prelude.{◌≡◌, ◌≢◌, ◌≤◌, ◌<◌, ◌*◌, ◌||◌, ℕ, true, false, not, nat_le, List, [], ◌∷◌, length, map, is_some, Err, option_map, IfOk, IfErr, OnOk, OnErr, IsTrue, string_bytes};
+ghost use Rattle.std.specs.Prelude.{◌≡◌, ◌≢◌, ◌≤◌, ◌<◌, ◌*◌, ◌||◌, ◌++◌, ℕ, if◌then◌else◌, IsOk, IsErr, true, false, not, nat_le, List, [], ◌∷◌, length, map, is_some, Err, option_map, IfOk, IfErr, OnOk, OnErr, IsTrue, string_bytes};
 ghost use Rattle.std.specs.Iterator.{IsFinite};
 ghost use Rattle.std.specs.List.{AllByRecursion};
 ghost use Rattle.std.specs.Option.{unwrap_or};
+ghost use Rattle.octets.specs.Base64url.{base64url};
 ghost use Rattle.octets.specs.Devices.{appended, observed, IsPossibleInput, AppendsPrefixOf};
 ghost use Rattle.octets.specs.Faults.{TellsFaults, counts};
 ghost use Rattle.octets.specs.Lent.{lent, wrote_on, IfLent, counts_of};
-ghost use Rattle.octets.specs.Outcomes.{AgreesUnlessMemory, AgreesUnlessExternal, GivesUnlessExternal};
+ghost use Rattle.octets.specs.Octets.{IsOctets};
+ghost use Rattle.octets.specs.Outcomes.{AgreesUnlessExternal, is_external};
 ghost use Rattle.octets.specs.Plan.{begun, planned, plan_from, drawn_of};
 ghost use Rattle.octets.specs.declared.refusal.Refusal.{Refusal};
 ghost use Rattle.serde_json.specs.View.{members_view};
@@ -17,11 +19,12 @@ ghost use Rattle.keys.specs.Algorithms.{is_password_based};
 ghost use Rattle.keys.specs.Keys.{fits};
 ghost use Rattle.keys.specs.Limits.{limits};
 ghost use Rattle.keys.specs.Views.{key_view};
-ghost use Rattle.objects.specs.Texts.{handed_out};
-ghost use Rattle.objects.specs.Views.{jwe_view, recipient_parts_view};
+ghost use Rattle.objects.specs.Frames.{filled};
+ghost use Rattle.objects.specs.Views.{recipient_parts_view};
 ghost use Rattle.tokens.specs.Algorithms.{content_alg as content_alg_of};
 ghost use Rattle.tokens.specs.Choosing.{with_p2c};
-ghost use Rattle.tokens.specs.Encrypting.{encrypting_by, plan_by, encrypted, octets_drawn, salt_drawn, salts_drawn, direct_key, cek_drawn, cek_by, with_salt, with_parameters, protected_header, own_header, recipient_by, recipients_by};
+ghost use Rattle.tokens.specs.Encrypting.{encrypting_by, sealing_by, octets_drawn, salt_drawn, salts_drawn, direct_key, cek_drawn, cek_by, with_salt, with_parameters, protected_header, own_header, recipient_by, recipients_by};
+ghost use Rattle.tokens.specs.SealedTexts.{unsealed, texts_of_sealed, IsEncryptionFrame, IsUnsealed};
 ghost use Rattle.tokens.specs.Views.{receiver_view, given_view, encryption_view};
 
 use crate::algorithms::{content_alg, key_alg};
@@ -30,12 +33,14 @@ use crate::copies::copied;
 use crate::decrypt::authenticated;
 use crate::encryption::{Encryption, Given};
 use crate::receiver::Receiver;
-use crate::sealing::{SealedOctets, seal};
+use crate::sealing::{Tag, seal_beside, seal_inside};
 use crate::template::header_text;
-use ciphers::{Cek, KeyParameters};
+use ciphers::laws::what_is_opened_is_octets;
+use ciphers::{Cek, ContentSealer, KeyParameters, Sealer};
 use keys::{KeySet, MOST_KEYS, ManagementAlg, laws};
 use objects::{Jwe, JweParts, RecipientParts};
-use octets::{Input, Output, Refusal, b64_encode, draw, emit, read_to_end};
+use octets::laws::are_octets;
+use octets::{Input, Output, Refusal, b64_encode, draw, emit, encode_onto, write_whole};
 use serde_json::{Map, Value};
 use std::alloc::{AllocError, Global};
 
@@ -112,56 +117,135 @@ pub fn jwe_encrypt<I: Input, O: Output>(
         < drawn_of (encrypting_by limits compact (is_some detached.entry) keys.now template.now) → content.new ≡ content.old }
     ensures uncut { IfErr result (λ refusal. refusal ≢ Refusal.Write → (O.written out.new ≡ O.written out.old → out.new ≡ out.old)
         × IfLent (lent detached.entry detached.exit) (λ old new. O.written new ≡ O.written old → new ≡ old)) }
+
+    // All memory is taken before the content is touched, and both outputs are as they were where nothing of it could be read.
+    ensures memory_first { IfErr result (λ refusal. refusal ≡ Refusal.Memory → content.new ≡ content.old) }
+    ensures unread { IfErr result (λ refusal. refusal ≢ Refusal.Write → appended (I.consumed content.old) (I.consumed content.new) ≡ []
+        → (out.new ≡ out.old) × IfLent (lent detached.entry detached.exit) (λ old new. new ≡ old)) }
     ensures faults { TellsFaults (counts I.failures random.old random.new ∷ counts I.failures content.old content.new ∷ [])
         (counts O.failures out.old out.new ∷ counts_of O.failures (lent detached.entry detached.exit)) result }
 {
     match detached {
         None => {
-            let (_, text) = encrypt(alloc, keys, template, compact, false, random, content)?;
-            emit(out, text.as_bytes())
+            let Framed { texts, sealer } = prepare(alloc, keys, template, compact, false, random)?;
+            let tag = seal_inside(content, sealer, texts[0].as_bytes(), out)?;
+            write_tag(&tag, &texts[1..], out)
         }
         Some(detached) => {
-            let (jwe, text) = encrypt(alloc, keys, template, compact, true, random, content)?;
-            emit(detached, jwe.ciphertext())?;
-            emit(out, text.as_bytes())
+            let Framed { texts, sealer } = prepare(alloc, keys, template, compact, true, random)?;
+            let tag = seal_beside(content, sealer, detached)?;
+            write_tag(&tag, &texts, out)
         }
     }
 }
 
-/// The object of all that the content gives, and its text, with the ciphertext or without.
+/// What is settled before there is a plaintext: the texts round the ciphertext and the tag, and the sealing, begun.
+#[derive(Drop)]
+struct Framed {
+    texts: Vec<String>,
+    sealer: ContentSealer,
+}
+
+/// All that is settled before the plaintext is read. Refused, but for want of memory or where the random input fails, as the plan
+/// is with every plaintext.
 #[tactic(auto, unfolding(crate::specs::Encrypting::encrypting_by))]
-fn encrypt<I: Input>(
+fn prepare<I: Input>(
     alloc: Global,
     keys: &KeySet,
     template: &[u8],
     compact: bool,
     detach: bool,
     random: &mut I,
-    content: &mut I,
-) -> Result<(Jwe, String), Refusal>
-    requires { IsFinite (I.remaining content.old) }
-    ensures answer { (octets plaintext : List ℕ)
-        → IsPossibleInput (observed I.consumed I.is_at_end random.old random.new) octets
-        → IsPossibleInput (observed I.consumed I.is_at_end content.old content.new) plaintext
-        → GivesUnlessExternal (λ made. record { text = string_bytes made.1; content = handed_out detach (jwe_view made.0).ciphertext }) result
-        (planned (plan_from (encrypting_by limits compact detach keys.now template.now) octets) plaintext) }
+) -> Result<Framed, Refusal>
+    ensures unsealed { (octets : List ℕ) → IsPossibleInput (observed I.consumed I.is_at_end random.old random.new) octets
+        → IfOk result (λ made. IsUnsealed ⟦<ContentSealer as Sealer>⟧.is_sealing compact detach
+        (plan_from (encrypting_by limits compact detach keys.now template.now) octets) made.sealer (map string_bytes made.texts.items)) }
+    ensures places { IfOk result (λ made. length made.texts.items ≡ (if detach then 2 else 3)) }
+    ensures refused { (octets plaintext : List ℕ) → IsPossibleInput (observed I.consumed I.is_at_end random.old random.new) octets
+        → IfErr result (λ e. is_external e ≡ false → planned (plan_from (encrypting_by limits compact detach keys.now template.now) octets) plaintext ≡ Err e) }
     ensures drawn { OnOk result (length (appended (I.consumed random.old) (I.consumed random.new))
         ≡ drawn_of (encrypting_by limits compact detach keys.now template.now)) }
     ensures at_most { length (appended (I.consumed random.old) (I.consumed random.new))
         ≤ drawn_of (encrypting_by limits compact detach keys.now template.now) }
-    ensures ends { OnOk result (IsTrue (I.is_at_end content.new)) }
-    ensures content_last { (refusal : Refusal) → encrypting_by limits compact detach keys.now template.now ≡ Err refusal
-        → (random.new ≡ random.old) × (content.new ≡ content.old) }
-    ensures random_first { length (appended (I.consumed random.old) (I.consumed random.new))
-        < drawn_of (encrypting_by limits compact detach keys.now template.now) → content.new ≡ content.old }
-    ensures faults { TellsFaults (counts I.failures random.old random.new ∷ counts I.failures content.old content.new ∷ []) [] result }
+    ensures template_first { (refusal : Refusal) → encrypting_by limits compact detach keys.now template.now ≡ Err refusal
+        → IsErr result × (random.new ≡ random.old) }
+    ensures faults { TellsFaults (counts I.failures random.old random.new ∷ []) [] result }
 {
     let encryption = read_encryption(alloc, keys, template, compact)?;
     let mut buf = [0; MOST_DRAWN];
     let drawn = &mut buf[..octets_drawn(&encryption)];
     draw(random, drawn)?;
-    let plaintext = read_to_end(alloc, content)?;
-    encrypted_text(alloc, encryption, drawn, &plaintext, compact, detach)
+    are_octets(drawn);
+    what_is_opened_is_octets();
+    begin_sealing(alloc, encryption, drawn, compact, detach)
+}
+
+/// The texts and the sealing of an encryption by the octets that were drawn, before there is a plaintext.
+fn begin_sealing(
+    alloc: Global,
+    encryption: Encryption<'_>,
+    random: &[u8],
+    compact: bool,
+    detach: bool,
+) -> Result<Framed, Refusal>
+    requires long { length random.now ≡ octets_drawn (encryption_view encryption) }
+    requires made { IsOk (texts_of_sealed compact detach (encryption_view encryption) random.now unsealed) }
+    ensures sealing { IfOk result (λ made. ⟦<ContentSealer as Sealer>⟧.is_sealing made.sealer (sealing_by (encryption_view encryption.entry) random.now) []) }
+    ensures framed { IfOk result (λ made. IsEncryptionFrame compact detach (encryption_view encryption.entry) random.now (map string_bytes made.texts.items)) }
+    ensures cek { IfOk result (λ made. IsOctets (cek_by (encryption_view encryption.entry) random.now)
+        × (length (cek_by (encryption_view encryption.entry) random.now) ≡ cek_len (content_alg_of (encryption_view encryption.entry).encryption))) }
+    ensures memory { IfErr result (λ e. e ≡ Refusal.Memory) }
+{
+    let (salts, random) = random.split_at(salts_drawn(&encryption.receivers));
+    let (drawn, iv) = random.split_at(cek_drawn(&encryption));
+    let cek = content_key(&encryption, drawn);
+    are_octets(cek.octets());
+    let recipients = recipients(alloc, &encryption, salts, &cek)?;
+    let alg = content_alg(encryption.encryption);
+    let Encryption {
+        receivers,
+        given,
+        p2c,
+        protected,
+        unprotected,
+        aad,
+        ..
+    } = encryption;
+    let header = protected_header(alloc, given, p2c, &receivers, salts, protected)?;
+    let header = header_text(alloc, header)?;
+    let protected = b64_encode(alloc, header.as_bytes())?;
+    let data = authenticated(alloc, &protected, &aad)?;
+    let sealer = alg.seal(cek.octets(), iv, data.as_bytes());
+    let jwe = Jwe::build(
+        alloc,
+        JweParts {
+            protected,
+            unprotected,
+            iv: copied(alloc, iv)?,
+            aad,
+            ciphertext: Vec::new(alloc),
+            tag: Vec::new(alloc),
+            recipients,
+        },
+    )?;
+    let texts = jwe.frame(alloc, compact, detach)?;
+    Ok(Framed { texts, sealer })
+}
+
+/// Writes the first text, the tag, and the text after it, and finishes.
+fn write_tag<O: Output>(tag: &Tag, texts: &[String], out: &mut O) -> Result<(), Refusal>
+    requires { length texts.now ≡ 2 }
+    ensures all { OnOk result (O.written out.new ≡ O.written out.old ++ filled (map string_bytes texts.now) (base64url tag.now ∷ [])) }
+    ensures beginning { OnErr result (AppendsPrefixOf (filled (map string_bytes texts.now) (base64url tag.now ∷ [])) (O.written out.old) (O.written out.new)) }
+    ensures finished { OnOk result (IsTrue (O.is_finished out.new)) }
+    ensures cause { OnErr result (result ≡ Err Refusal.Write) }
+    ensures faults { TellsFaults [] (counts O.failures out.old out.new ∷ []) result }
+{
+    let mut text = [0; 43];
+    let len = encode_onto(tag.octets(), &mut text);
+    write_whole(out, texts[0].as_bytes())?;
+    write_whole(out, &text[..len])?;
+    emit(out, texts[1].as_bytes())
 }
 
 /// How many octets are drawn.
@@ -219,77 +303,6 @@ fn direct_key<'k>(receivers: &[Receiver<'k>]) -> Option<&'k [u8]>
     } else {
         None
     }
-}
-
-/// The object of the plaintext, by what was drawn, and its text. Refused with `Limit` where the plaintext is too long.
-fn encrypted_text(
-    alloc: Global,
-    encryption: Encryption<'_>,
-    random: &[u8],
-    plaintext: &[u8],
-    compact: bool,
-    detach: bool,
-) -> Result<(Jwe, String), Refusal>
-    requires { length random.now ≡ octets_drawn (encryption_view encryption) }
-    ensures { AgreesUnlessMemory (λ made. record { text = string_bytes made.1; content = handed_out detach (jwe_view made.0).ciphertext }) result
-        ((plan_by compact detach (encryption_view encryption.entry) random.now).whole plaintext.now) }
-{
-    let jwe = encrypted(alloc, encryption, random, plaintext)?;
-    let text = if compact {
-        jwe.to_compact(alloc, detach)?
-    } else {
-        jwe.to_json(alloc, detach)?
-    };
-    Ok((jwe, text))
-}
-
-/// The object of the plaintext.
-#[tactic(auto, unfolding(crate::specs::Encrypting::encrypted))]
-fn encrypted(
-    alloc: Global,
-    encryption: Encryption<'_>,
-    random: &[u8],
-    plaintext: &[u8],
-) -> Result<Jwe, Refusal>
-    requires { length random.now ≡ octets_drawn (encryption_view encryption) }
-    ensures { AgreesUnlessMemory jwe_view result (encrypted (encryption_view encryption.entry) random.now plaintext.now) }
-{
-    let (salts, random) = random.split_at(salts_drawn(&encryption.receivers));
-    let (drawn, iv) = random.split_at(cek_drawn(&encryption));
-    let cek = content_key(&encryption, drawn);
-    let recipients = recipients(alloc, &encryption, salts, &cek)?;
-    let alg = content_alg(encryption.encryption);
-    let Encryption {
-        receivers,
-        given,
-        p2c,
-        protected,
-        unprotected,
-        aad,
-        ..
-    } = encryption;
-    let header = protected_header(alloc, given, p2c, &receivers, salts, protected)?;
-    let header = header_text(alloc, header)?;
-    let protected = b64_encode(alloc, header.as_bytes())?;
-    let data = authenticated(alloc, &protected, &aad)?;
-    let SealedOctets { ciphertext, tag } = seal(
-        alloc,
-        alg,
-        cek.octets(),
-        iv,
-        data.as_bytes(),
-        plaintext,
-    )?;
-    let parts = JweParts {
-        protected,
-        unprotected,
-        iv: copied(alloc, iv)?,
-        aad,
-        ciphertext,
-        tag,
-        recipients,
-    };
-    Jwe::build(alloc, parts)
 }
 
 /// The content encryption key: what was drawn, or the key that is used directly.

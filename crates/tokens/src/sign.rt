@@ -10,7 +10,6 @@ ghost use Rattle.octets.specs.Faults.{TellsFaults, counts};
 ghost use Rattle.octets.specs.Octets.{IsOctets};
 ghost use Rattle.octets.specs.Lent.{lent, wrote_on, IfLent, counts_of};
 ghost use Rattle.octets.specs.Outcomes.{AgreesUnlessMemory, AgreesUnlessExternal, is_memory, is_external};
-ghost use Rattle.octets.specs.Encoding.{encoding};
 ghost use Rattle.octets.specs.Plan.{beginning_of, begun, planned};
 ghost use Rattle.octets.specs.declared.refusal.Refusal.{Refusal};
 ghost use Rattle.keys.specs.Limits.{limits};
@@ -22,6 +21,7 @@ ghost use Rattle.tokens.specs.Signing.{signing_by, signing_of, signing_with as s
 ghost use Rattle.tokens.specs.SigningInputs.{HoldEach, IsFramed, signature_text, unsigned_part_by, unsigned_by, unsigned_protected};
 ghost use Rattle.tokens.specs.Template.{is_shallow as is_shallow_header};
 ghost use Rattle.tokens.specs.Views.{signer_view, signing_view, template_view};
+ghost use Rattle.tokens.specs.WrittenContents.{encoded_behind};
 
 use crate::signer::Signer;
 use crate::signing_input::{HmacInput, SigningInput, take_each};
@@ -78,14 +78,18 @@ pub fn jws_sign<I: Input, O: Output>(
         → content.new ≡ content.old }
     ensures uncut { IfErr result (λ refusal. refusal ≢ Refusal.Write → (O.written out.new ≡ O.written out.old → out.new ≡ out.old)
         × IfLent (lent detached.entry detached.exit) (λ old new. O.written new ≡ O.written old → new ≡ old)) }
+
+    // All memory is taken before the content is touched, and both outputs are as they were where nothing of it could be read.
+    ensures memory_first { IfErr result (λ refusal. refusal ≡ Refusal.Memory → content.new ≡ content.old) }
+    ensures unread { IfErr result (λ refusal. refusal ≢ Refusal.Write → appended (I.consumed content.old) (I.consumed content.new) ≡ []
+        → (out.new ≡ out.old) × IfLent (lent detached.entry detached.exit) (λ old new. new ≡ old)) }
     ensures faults { TellsFaults (counts I.failures content.old content.new ∷ [])
         (counts O.failures out.old out.new ∷ counts_of O.failures (lent detached.entry detached.exit)) result }
 {
     match detached {
         None => {
             let Framed { texts, mut inputs } = prepare(alloc, keys, template, compact, false)?;
-            write_whole(out, texts[0].as_bytes())?;
-            sign_inside(content, &mut inputs, out)?;
+            sign_inside(content, &mut inputs, texts[0].as_bytes(), out)?;
             write_signatures(inputs, &texts[1..], out)
         }
         Some(detached) => {
@@ -123,29 +127,36 @@ fn prepare(
     Ok(Framed { texts, inputs })
 }
 
-/// Writes the base64url text of the payload, and gives it to each signing input.
+/// Writes the text that stands before the payload, once a first piece of it was read, then the base64url text of the payload as
+/// it is read, and gives that to each signing input.
 fn sign_inside<I: Input, O: Output, S: SigningInput>(
     payload: &mut I,
     inputs: &mut [S],
+    before: &[u8],
     out: &mut O,
 ) -> Result<(), Refusal>
     requires { IsFinite (I.remaining payload.old) }
     ensures octets { IsOctets (appended (I.consumed payload.old) (I.consumed payload.new)) }
     ensures cause { IfErr result (λ e. is_external e ≡ true) }
+    ensures no_memory { IfErr result (λ e. e ≢ Refusal.Memory) }
     ensures ends { OnOk result (IsTrue (I.is_at_end payload.new)) }
-    ensures text { OnOk result (O.written out.new ≡ O.written out.old ++ base64url (appended (I.consumed payload.old) (I.consumed payload.new))) }
+    ensures text { OnOk result (O.written out.new ≡ O.written out.old ++ (before.now ++ base64url (appended (I.consumed payload.old) (I.consumed payload.new)))) }
     ensures taken { (signers : List SignerOfKey) (text : List ℕ) → HoldEach S.has_taken inputs.old signers text
         → OnOk result (HoldEach S.has_taken inputs.new signers (text ++ base64url (appended (I.consumed payload.old) (I.consumed payload.new)))) }
-    ensures beginning { OnErr result (AppendsPrefixOf (beginning_of encoding (observed I.consumed I.is_at_end payload.old payload.new))
+    ensures beginning { OnErr result (AppendsPrefixOf (beginning_of (encoded_behind before.now) (observed I.consumed I.is_at_end payload.old payload.new))
         (O.written out.old) (O.written out.new)) }
+    ensures unread { IfErr result (λ refusal. refusal ≢ Refusal.Write → appended (I.consumed payload.old) (I.consumed payload.new) ≡ [] → out.new ≡ out.old) }
     ensures uncut { IfErr result (λ refusal. refusal ≢ Refusal.Write → O.written out.new ≡ O.written out.old → out.new ≡ out.old) }
     ensures faults { TellsFaults (counts I.failures payload.old payload.new ∷ []) (counts O.failures out.old out.new ∷ []) result }
 {
     let mut buf = [0; 4096];
     let mut text = [0; 5488];
     let mut writer = B64Writer::start();
+    let mut front = before;
     'pieces: loop {
         let n = read_piece(payload, &mut buf)?;
+        write_whole(out, front)?;
+        front = &[];
         if n == 0 {
             break;
         }
@@ -168,6 +179,7 @@ fn sign_beside<I: Input, O: Output, S: SigningInput>(
     requires { IsFinite (I.remaining payload.old) }
     ensures octets { IsOctets (appended (I.consumed payload.old) (I.consumed payload.new)) }
     ensures cause { IfErr result (λ e. is_external e ≡ true) }
+    ensures no_memory { IfErr result (λ e. e ≢ Refusal.Memory) }
     ensures ends { OnOk result (IsTrue (I.is_at_end payload.new)) }
     ensures all { OnOk result (O.written out.new ≡ O.written out.old ++ appended (I.consumed payload.old) (I.consumed payload.new)) }
     ensures finished { OnOk result (IsTrue (O.is_finished out.new)) }
@@ -175,6 +187,7 @@ fn sign_beside<I: Input, O: Output, S: SigningInput>(
         → OnOk result (HoldEach S.has_taken inputs.new signers (text ++ base64url (appended (I.consumed payload.old) (I.consumed payload.new)))) }
     ensures beginning { OnErr result (AppendsPrefixOf (appended (I.consumed payload.old) (I.consumed payload.new))
         (O.written out.old) (O.written out.new)) }
+    ensures unread { IfErr result (λ refusal. refusal ≢ Refusal.Write → appended (I.consumed payload.old) (I.consumed payload.new) ≡ [] → out.new ≡ out.old) }
     ensures uncut { IfErr result (λ refusal. refusal ≢ Refusal.Write → O.written out.new ≡ O.written out.old → out.new ≡ out.old) }
     ensures faults { TellsFaults (counts I.failures payload.old payload.new ∷ []) (counts O.failures out.old out.new ∷ []) result }
 {

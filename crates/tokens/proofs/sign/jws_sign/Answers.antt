@@ -3,25 +3,12 @@ use Rattle.std.proofs.lemmas.List.{length-map}
 use Rattle.octets.specs.Base64url.{base64url}
 use Rattle.octets.specs.Devices.{appended, AppendsPrefixOf}
 use Rattle.octets.proofs.Agreement.{agrees_last, at_refusal, on_refusal, on_success}
-use Rattle.octets.proofs.Prefixes.{AppendsPrefixOf-all, AppendsPrefixOf-kept, AppendsPrefixOf-part}
+use Rattle.octets.proofs.Prefixes.{AppendsPrefixOf-all, AppendsPrefixOf-kept}
 use Rattle.objects.specs.Frames.{filled}
 use Rattle.tokens.specs.SigningInputs.{HoldEach, signature_text}
 use Rattle.tokens.specs.contracts.signing_input.HmacInputSigningInput.TheImpl.{has_taken-value}
-use Rattle.tokens.proofs.StandingSignatures.{none_read, first_and_others, others_are, written_back, hold_count, inside_places, first_part, inside_part, inside_signatures_part, inside_answer, beside_places, beside_is, text_is, beside_answer}
+use Rattle.tokens.proofs.StandingSignatures.{first_and_others, others_are, written_back, hold_count, inside_places, inside_part, inside_signatures_part, inside_answer, beside_places, beside_is, text_is, beside_answer}
 use Rattle.tokens.proofs.sign.jws_sign.Goals as goal
-
-pub returns-in_err-write_whole-in-None-clause-beginning : goal.returns-in_err-write_whole-in-None-clause-beginning
-returns-in_err-write_whole-in-None-clause-beginning g c =
-    let consumed = g.I.Input.consumed in
-    let written = g.O.Output.written in
-    let made = c.in_ok-texts-in-None in
-    let f = made.ensures.framed in
-    let items = made.field-0.texts.items in
-    let rest = map string_bytes (drop 1 items) in
-    let are = first_and_others string_bytes items c.index.result.now _ c.as_bytes.result.now f.frame.places c.index.ensures c.as_bytes.ensures.value in
-    rw (c.in-None.is) (at_refusal _ (first_part has_taken-value.it c.args.compact _ made.field-0.inputs.items _ f c.as_bytes.result.now rest are
-    (appended (consumed c.args.content.now) (consumed c.args.content.now)) (g.I.Input.is_at_end c.args.content.now) (written c.args.out.now) (written c.write_whole.new.out) (none_read (consumed c.args.content.now))
-    (AppendsPrefixOf-part _ _ _ _ c.in_err-write_whole-in-None.ensures.part.1)))
 
 pub returns-in_err-sign_inside-in-None-clause-beginning : goal.returns-in_err-sign_inside-in-None-clause-beginning
 returns-in_err-sign_inside-in-None-clause-beginning g c =
@@ -34,8 +21,7 @@ returns-in_err-sign_inside-in-None-clause-beginning g c =
     let are = first_and_others string_bytes items c.index.result.now _ c.as_bytes.result.now f.frame.places c.index.ensures c.as_bytes.ensures.value in
     let p = appended (consumed c.args.content.now) (consumed c.sign_inside.new.payload) in
     rw (c.in-None.is) (at_refusal _ (inside_part has_taken-value.it c.args.compact _ made.field-0.inputs.items _ f c.as_bytes.result.now rest are
-    p (g.I.Input.is_at_end c.sign_inside.new.payload) (written c.args.out.now) (written c.write_whole.new.out) (written c.sign_inside.new.out) c.sign_inside.ensures.octets
-    c.in_ok-write_whole-in-None.ensures.all c.in_err-sign_inside-in-None.ensures.beginning))
+    p (g.I.Input.is_at_end c.sign_inside.new.payload) (written c.args.out.now) (written c.sign_inside.new.out) c.sign_inside.ensures.octets c.in_err-sign_inside-in-None.ensures.beginning))
 
 pub write_signatures-requires : goal.write_signatures-requires
 write_signatures-requires g c =
@@ -73,8 +59,8 @@ returns-in_ok-sign_inside-in-None-clause-answer g c payload may =
     let values = map (signature_text (base64url p)) signers in
     rw (c.in-None.is) (agrees_last _ _ c.write_signatures.result (c.write_signatures.ensures.all signers (base64url p) (subst (λ i. HoldEach has_taken-value.it i signers (base64url p)) (sym back) taken)) c.write_signatures.ensures.cause
     (λ all. inside_answer has_taken-value.it c.args.compact _ made.field-0.inputs.items _ f c.as_bytes.result.now rest are
-    p payload (g.I.Input.is_at_end c.sign_inside.new.payload) (written c.args.out.now) (written c.write_whole.new.out) (written c.sign_inside.new.out) (written c.write_signatures.new.out)
-    c.sign_inside.ensures.octets may c.in_ok-sign_inside-in-None.ensures.ends c.in_ok-write_whole-in-None.ensures.all c.in_ok-sign_inside-in-None.ensures.text
+    p payload (g.I.Input.is_at_end c.sign_inside.new.payload) (written c.args.out.now) (written c.sign_inside.new.out) (written c.write_signatures.new.out)
+    c.sign_inside.ensures.octets may c.in_ok-sign_inside-in-None.ensures.ends c.in_ok-sign_inside-in-None.ensures.text
     (all ∙ ap (λ l. written c.sign_inside.new.out ++ filled (map string_bytes l) values) others)))
 
 pub returns-in_ok-sign_inside-in-None-clause-beginning : goal.returns-in_ok-sign_inside-in-None-clause-beginning
@@ -95,8 +81,8 @@ returns-in_ok-sign_inside-in-None-clause-beginning g c =
     let values = map (signature_text (base64url p)) signers in
     rw (c.in-None.is) (on_refusal c.write_signatures.result (c.write_signatures.ensures.beginning signers (base64url p) (subst (λ i. HoldEach has_taken-value.it i signers (base64url p)) (sym back) taken))
     (λ part. inside_signatures_part has_taken-value.it c.args.compact _ made.field-0.inputs.items _ f c.as_bytes.result.now rest are
-    p (g.I.Input.is_at_end c.sign_inside.new.payload) (written c.args.out.now) (written c.write_whole.new.out) (written c.sign_inside.new.out) (written c.write_signatures.new.out)
-    c.sign_inside.ensures.octets c.in_ok-sign_inside-in-None.ensures.ends c.in_ok-write_whole-in-None.ensures.all c.in_ok-sign_inside-in-None.ensures.text
+    p (g.I.Input.is_at_end c.sign_inside.new.payload) (written c.args.out.now) (written c.sign_inside.new.out) (written c.write_signatures.new.out)
+    c.sign_inside.ensures.octets c.in_ok-sign_inside-in-None.ensures.ends c.in_ok-sign_inside-in-None.ensures.text
     (subst (λ l. AppendsPrefixOf (filled (map string_bytes l) values) (written c.sign_inside.new.out) (written c.write_signatures.new.out)) others part)))
 
 pub returns-in_err-texts-in-Some-clause-beginning_beside : goal.returns-in_err-texts-in-Some-clause-beginning_beside
@@ -105,6 +91,10 @@ returns-in_err-texts-in-Some-clause-beginning_beside g c =
 
 pub returns-in_err-texts-in-Some-clause-uncut : goal.returns-in_err-texts-in-Some-clause-uncut
 returns-in_err-texts-in-Some-clause-uncut g c =
+    rw (c.in-Some.is) (search rules)
+
+pub returns-in_err-texts-in-Some-clause-unread : goal.returns-in_err-texts-in-Some-clause-unread
+returns-in_err-texts-in-Some-clause-unread g c =
     rw (c.in-Some.is) (search rules)
 
 pub returns-in_err-sign_beside-in-Some-clause-beginning_beside : goal.returns-in_err-sign_beside-in-Some-clause-beginning_beside
@@ -120,6 +110,10 @@ returns-in_err-sign_beside-in-Some-clause-beginning_beside g c =
 
 pub returns-in_err-sign_beside-in-Some-clause-uncut : goal.returns-in_err-sign_beside-in-Some-clause-uncut
 returns-in_err-sign_beside-in-Some-clause-uncut g c =
+    rw (c.in-Some.is) (search rules)
+
+pub returns-in_err-sign_beside-in-Some-clause-unread : goal.returns-in_err-sign_beside-in-Some-clause-unread
+returns-in_err-sign_beside-in-Some-clause-unread g c =
     rw (c.in-Some.is) (search rules)
 
 pub returns-in_err-sign_beside-in-Some-clause-faults : goal.returns-in_err-sign_beside-in-Some-clause-faults

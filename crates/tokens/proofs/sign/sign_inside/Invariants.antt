@@ -1,23 +1,24 @@
-use Rattle.std.proofs.Common.{◌≡◌, ◌++◌, ℕ, List}
+use Rattle.std.proofs.Common.{◌≡◌, ◌++◌, ℕ, List, []}
 use Rattle.std.specs.Iterator.{IsFinite, size}
 use Rattle.octets.specs.Base64url.{base64url, whole_groups, part_group}
 use Rattle.octets.specs.Devices.{appended}
-use Rattle.octets.specs.Encoding.{encoding}
-use Rattle.octets.proofs.Streaming.{Stands}
+use Rattle.octets.proofs.Streaming.{Due}
 use Rattle.tokens.specs.Signing.{Signer}
 use Rattle.tokens.specs.SigningInputs.{HoldEach}
+use Rattle.tokens.specs.WrittenContents.{encoded_behind}
 use Rattle.tokens.proofs.sign.sign_inside.Given as goal
 
--- All that was read was fed, and all that it fixes stands and is taken.
+-- All that was read was fed, and all that it fixes is taken and stands, once the text before it is written.
 abbrev pub invariant-pieces : goal.invariant-pieces
 invariant-pieces g l =
     let input = g.I.Input in
     let output = g.O.Output in
     let has_taken = g.S.SigningInput.has_taken in record {
-      stands : Stands encoding (input.consumed l.fn.payload) (input.consumed l.payload) (output.written l.fn.out) (output.written l.out);
+      due : Due (encoded_behind l.fn.before) (input.consumed l.fn.payload) (input.consumed l.payload) (output.written l.fn.out) (output.written l.out) l.front;
       fed : l.writer ≡ part_group (appended (input.consumed l.fn.payload) (input.consumed l.payload));
       taken : (signers : List Signer) (text : List ℕ) → HoldEach has_taken l.fn.inputs signers text
           → HoldEach has_taken l.inputs signers (text ++ base64url (whole_groups (appended (input.consumed l.fn.payload) (input.consumed l.payload))));
+      unread : appended (input.consumed l.fn.payload) (input.consumed l.payload) ≡ [] → l.out ≡ l.fn.out;
       untouched : output.written l.out ≡ output.written l.fn.out → l.out ≡ l.fn.out;
       read : input.failures l.payload ≡ input.failures l.fn.payload;
       wrote : output.failures l.out ≡ output.failures l.fn.out;

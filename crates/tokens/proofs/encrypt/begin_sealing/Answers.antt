@@ -1,5 +1,5 @@
 use Rattle.tokens.proofs.Receivers.{direct_is_cek}
-use Rattle.tokens.proofs.encrypt.encrypted.Goals as goal
+use Rattle.tokens.proofs.encrypt.begin_sealing.Goals as goal
 
 pub recipients-requires-clause-direct : goal.recipients-requires-clause-direct
 recipients-requires-clause-direct c =

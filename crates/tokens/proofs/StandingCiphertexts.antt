@@ -1,0 +1,200 @@
+-- What stands written of what is encrypted, from text to text.
+use Rattle.std.proofs.Common.{◌≡◌, ℕ, Bool, true, false, List, [], ◌∷◌, ◌++◌, length, Result, Ok, Err, IsTrue, refl, sym, ap, ◌∙◌, subst, arith, append_assoc, append-nil}
+use Rattle.std.specs.Result.{result_unwrap_or}
+use Rattle.octets.specs.declared.refusal.Refusal.{Refusal}
+use Rattle.octets.specs.Base64url.{base64url, whole_groups}
+use Rattle.octets.specs.Devices.{appended, Extends, IsPossibleInput, AppendsPrefixOf}
+use Rattle.octets.specs.Octets.{IsOctets}
+use Rattle.octets.specs.Outcomes.{◌>>=◌}
+use Rattle.octets.specs.Plan.{OutputTexts, Plan, Begins, Grows, beginning_of, begun, planned}
+use Rattle.octets.proofs.Agreement.{appended-append, begun_whole}
+use Rattle.octets.proofs.Streaming.{AppendsPrefixOf-Begins}
+use Rattle.ciphers.specs.Sealing.{Sealed, Sealing}
+use Rattle.keys.specs.Limits.{limits}
+use Rattle.objects.specs.Frames.{filled}
+use Rattle.objects.specs.Jwe.{built}
+use Rattle.objects.proofs.Steps.{steps, same_answer}
+use Rattle.tokens.specs.Choosing.{Encryption}
+use Rattle.tokens.specs.Encrypting.{sealing_by, sealed_by, text_before, parts_by, written_of, encrypted, plan_by, ciphertext_fixed}
+use Rattle.tokens.specs.SealedTexts.{SealedText, sealed_text, sealed_plan, IsUnsealed}
+use Rattle.tokens.specs.WrittenContents.{as_it_is, encoded_behind}
+use Rattle.tokens.proofs.Beginnings.{begins_behind, AppendsPrefixOf-behind, groups_grow, text_grows}
+use Rattle.tokens.proofs.EncryptedObjects.{sealed_is}
+use Rattle.tokens.proofs.EncryptingGrowth.{more_fixed, fixed_begins}
+use Rattle.tokens.proofs.StandingSignatures.{all_read}
+
+-- ---- what is fixed of the ciphertext goes on
+
+-- where what is fixed of a ciphertext does
+sealed_grows : (plan : Plan (List ℕ)) (e : Encryption) (random : List ℕ) → ((x y : List ℕ) → Begins x y → Begins (plan.fixed x) (plan.fixed y))
+    → ((x y w : List ℕ) → Begins x y → plan.whole y ≡ Ok w → Begins (plan.fixed x) w) → Grows (sealed_plan plan (sealing_by e random))
+sealed_grows plan e random fixed whole = record {
+  more = λ p q. fixed _ _ (more_fixed e random p q);
+  whole = λ p q w octets h.
+      let made = steps (sealed_by (sealing_by e random) (p ++ q)) (λ sealed. plan.whole sealed.ciphertext) w h in
+      let is = sealed_is (sealing_by e random) (p ++ q) made.0 made.1 in
+      whole _ made.0.ciphertext w (subst (λ (x : Sealed). Begins (ciphertext_fixed e random p) x.ciphertext) is.1 (fixed_begins e random p q is.0)) made.2;
+}
+
+pub encoded_grows : (before : List ℕ) (e : Encryption) (random : List ℕ) → Grows (sealed_plan (encoded_behind before) (sealing_by e random))
+encoded_grows before e random =
+    sealed_grows (encoded_behind before) e random (λ x y b. begins_behind before _ _ (groups_grow x y b))
+    (λ x y w b h. subst (Begins (before ++ base64url (whole_groups x))) (same_answer (before ++ base64url y) w h) (begins_behind before _ _ (text_grows x y b)))
+
+pub plain_grows : (e : Encryption) (random : List ℕ) → Grows (sealed_plan as_it_is (sealing_by e random))
+plain_grows e random = sealed_grows as_it_is e random (λ x y b. b) (λ x y w b h. subst (Begins x) (same_answer y w h) b)
+
+-- ---- what is written of a sealed plaintext
+
+-- its ciphertext and tag, by what was written
+pub record IsWritten (plan : Plan (List ℕ)) (s : Sealing) (p text tag : List ℕ) : Type 0 where
+  pub sealed : Sealed
+  pub is : sealed_by s p ≡ Ok sealed
+  pub whole : plan.whole sealed.ciphertext ≡ Ok text
+  pub is_tag : sealed.tag ≡ tag
+
+pub is_written : (plan : Plan (List ℕ)) (s : Sealing) (p text tag : List ℕ) → sealed_text plan s p ≡ Ok (record { text = text; tag = tag }) → IsWritten plan s p text tag
+is_written plan s p text tag h =
+    let made = steps (sealed_by s p) _ _ h in
+    let written = steps (plan.whole made.0.ciphertext) _ _ made.2 in
+    let same : record { text = written.0; tag = made.0.tag } ≡ record { text = text; tag = tag } = same_answer _ _ written.2 in
+    record {
+      sealed = made.0;
+      is = made.1;
+      whole = written.1 ∙ ap (λ (t : SealedText). Ok t.text) same;
+      is_tag = ap (λ (t : SealedText). t.tag) same;
+    }
+
+-- ---- a plaintext that is refused
+
+-- is so as a whole
+pub encryption_refused : (compact detach : Bool) (e : Encryption) (random p : List ℕ) (r : Refusal) → sealed_by (sealing_by e random) p ≡ Err r → (plan_by compact detach e random).whole p ≡ Err r
+unfolding encrypted
+encryption_refused compact detach e random p r h = ap (λ x. (x >>= λ s. built limits (parts_by e random s)) >>= written_of compact detach) h
+
+module _ {S : Type 0} (is_sealing : S → Sealing → List ℕ → Type 0) (compact : Bool) (plan : Result (Plan OutputTexts) Refusal) (sealer : S) where
+  -- a refusal of the plaintext is one of the plan
+  pub refused : (detach : Bool) (texts : List (List ℕ)) (u : IsUnsealed is_sealing compact detach plan sealer texts) (p : List ℕ) (r : Refusal)
+      → sealed_by (sealing_by u.encryption u.random) p ≡ Err r → planned plan p ≡ Err r
+  refused detach texts u p r h = ap (λ l. planned l p) u.is ∙ encryption_refused compact detach u.encryption u.random p r h
+
+  -- ---- the ciphertext stands inside
+
+  module _ (texts : List (List ℕ)) (u : IsUnsealed is_sealing compact false plan sealer texts) (first : List ℕ) (rest : List (List ℕ)) (are : texts ≡ first ∷ rest) where
+    s : Sealing
+    s = sealing_by u.encryption u.random
+
+    is_first : first ≡ text_before compact u.encryption u.random
+    is_first = let b = u.before refl in let same : first ∷ rest ≡ text_before compact u.encryption u.random ∷ b.0 = sym are ∙ b.1 in cc same
+
+    pub inside_places : length rest ≡ 2
+    inside_places = omega (arith, ap length are, u.places)
+
+    -- what may stand of the ciphertext begins what may stand
+    by_answer : (p : List ℕ) (a : Result Sealed Refusal) → IsOctets p → sealed_by (sealing_by u.encryption u.random) p ≡ a
+        → Begins (result_unwrap_or (a >>= λ sealed. Ok (first ++ base64url sealed.ciphertext)) (first ++ base64url (whole_groups (ciphertext_fixed u.encryption u.random p))))
+        (result_unwrap_or ((plan_by compact false u.encryption u.random).whole p) ((plan_by compact false u.encryption u.random).fixed p)).text
+    by_answer p (Ok sealed) octets h = record {
+      rest = filled rest (base64url sealed.tag ∷ []);
+      continues = ap (λ r. (result_unwrap_or r ((plan_by compact false u.encryption u.random).fixed p)).text) (u.whole p sealed octets h)
+          ∙ ap (λ t. filled t (base64url sealed.ciphertext ∷ base64url sealed.tag ∷ [])) are
+          ∙ sym (append_assoc first (base64url sealed.ciphertext) (filled rest (base64url sealed.tag ∷ [])));
+    }
+    by_answer p (Err r) octets h = record {
+      rest = [];
+      continues = ap (λ r. (result_unwrap_or r ((plan_by compact false u.encryption u.random).fixed p)).text) (encryption_refused compact false u.encryption u.random p r h)
+          ∙ ap (λ t. t ++ base64url (whole_groups (ciphertext_fixed u.encryption u.random p))) (sym is_first) ∙ sym (append-nil _);
+    }
+
+    inside_begins : (p : List ℕ) (ended : Bool) → IsOctets p
+        → Begins (beginning_of (sealed_plan (encoded_behind first) (sealing_by u.encryption u.random)) (record { octets = p; ended = ended })) (begun plan (record { octets = p; ended = ended })).text
+    inside_begins p false octets = record {
+      rest = [];
+      continues = ap (λ r. (begun r (record { octets = p; ended = false })).text) u.is
+          ∙ ap (λ t. t ++ base64url (whole_groups (ciphertext_fixed u.encryption u.random p))) (sym is_first) ∙ sym (append-nil _);
+    }
+    inside_begins p true octets =
+        let b = by_answer p (sealed_by (sealing_by u.encryption u.random) p) octets refl in
+        record { rest = b.rest; continues = ap (λ r. (begun r (record { octets = p; ended = true })).text) u.is ∙ b.continues }
+
+    -- the text before it, and the ciphertext's behind that, was written in part
+    pub inside_part : (p : List ℕ) (ended : Bool) (old new : List ℕ) → IsOctets p
+        → AppendsPrefixOf (beginning_of (sealed_plan (encoded_behind first) (sealing_by u.encryption u.random)) (record { octets = p; ended = ended })) old new
+        → AppendsPrefixOf (begun plan (record { octets = p; ended = ended })).text old new
+    inside_part p ended old new octets part = AppendsPrefixOf-Begins _ _ old new (inside_begins p ended octets) part
+
+    -- all of it was
+    module _ (p : List ℕ) (ended : Bool) (old between tag : List ℕ) (octets : IsOctets p) (at_end : IsTrue ended) (grown : Extends old between)
+        (so_far : sealed_text (encoded_behind first) (sealing_by u.encryption u.random) p ≡ Ok (record { text = appended old between; tag = tag })) where
+      k : IsWritten (encoded_behind first) (sealing_by u.encryption u.random) p (appended old between) tag
+      k = is_written (encoded_behind first) (sealing_by u.encryption u.random) p (appended old between) tag so_far
+
+      stands : between ≡ old ++ appended old between
+      stands = grown
+
+      inside_whole : planned plan p ≡ Ok (record { text = appended old between ++ filled rest (base64url tag ∷ []); content = [] })
+      inside_whole =
+          let c = k.sealed.ciphertext in
+          let text : first ++ base64url c ≡ appended old between = same_answer _ _ k.whole in
+          ap (λ r. planned r p) u.is ∙ u.whole p k.sealed octets k.is
+          ∙ ap (λ t. Ok (record { text = filled t (base64url c ∷ base64url k.sealed.tag ∷ []); content = [] })) are
+          ∙ ap (λ t. Ok (record { text = t; content = [] }))
+          (sym (append_assoc first (base64url c) (filled rest (base64url k.sealed.tag ∷ []))) ∙ ap (λ t. t ++ filled rest (base64url k.sealed.tag ∷ [])) text
+          ∙ ap (λ t. appended old between ++ filled rest (base64url t ∷ [])) k.is_tag)
+
+      -- the tag was written in part
+      pub inside_tag_part : (new : List ℕ) → AppendsPrefixOf (filled rest (base64url tag ∷ [])) between new → AppendsPrefixOf (begun plan (record { octets = p; ended = ended })).text old new
+      inside_tag_part new part =
+          let is = begun_whole plan (record { octets = p; ended = ended }) _ at_end inside_whole in
+          subst (λ t. AppendsPrefixOf t old new) (sym (ap (λ (t : OutputTexts). t.text) is))
+          (AppendsPrefixOf-behind (appended old between) (filled rest (base64url tag ∷ [])) old new (subst (λ l. AppendsPrefixOf (filled rest (base64url tag ∷ [])) l new) grown part))
+
+      -- all was written
+      pub inside_answer : (plaintext new : List ℕ) → IsPossibleInput (record { octets = p; ended = ended }) plaintext → new ≡ between ++ filled rest (base64url tag ∷ [])
+          → planned plan plaintext ≡ Ok (record { text = appended old new; content = [] })
+      inside_answer plaintext new may e =
+          let all : new ≡ old ++ (appended old between ++ filled rest (base64url tag ∷ [])) =
+          e ∙ ap (λ l. l ++ filled rest (base64url tag ∷ [])) grown ∙ append_assoc old (appended old between) (filled rest (base64url tag ∷ [])) in
+          ap (planned plan) (all_read p plaintext ended may at_end) ∙ inside_whole
+          ∙ ap (λ t. Ok (record { text = t; content = [] })) (sym (ap (appended old) all ∙ appended-append old _))
+
+  -- ---- the ciphertext stands beside
+
+  module _ (texts : List (List ℕ)) (u : IsUnsealed is_sealing compact true plan sealer texts) where
+    pub beside_places : length texts ≡ 2
+    beside_places = u.places
+
+    beside_by_answer : (p : List ℕ) (a : Result Sealed Refusal) → IsOctets p → sealed_by (sealing_by u.encryption u.random) p ≡ a
+        → (result_unwrap_or ((plan_by compact true u.encryption u.random).whole p) ((plan_by compact true u.encryption u.random).fixed p)).content
+        ≡ result_unwrap_or (a >>= λ sealed. Ok sealed.ciphertext) (ciphertext_fixed u.encryption u.random p)
+    beside_by_answer p (Ok sealed) octets h = ap (λ r. (result_unwrap_or r ((plan_by compact true u.encryption u.random).fixed p)).content) (u.whole p sealed octets h)
+    beside_by_answer p (Err r) octets h =
+        ap (λ r. (result_unwrap_or r ((plan_by compact true u.encryption u.random).fixed p)).content) (encryption_refused compact true u.encryption u.random p r h)
+
+    -- what may stand beside is what may stand of the ciphertext
+    pub beside_is : (p : List ℕ) (ended : Bool) → IsOctets p
+        → (begun plan (record { octets = p; ended = ended })).content ≡ beginning_of (sealed_plan as_it_is (sealing_by u.encryption u.random)) (record { octets = p; ended = ended })
+    beside_is p false octets = ap (λ r. (begun r (record { octets = p; ended = false })).content) u.is
+    beside_is p true octets =
+        ap (λ r. (begun r (record { octets = p; ended = true })).content) u.is ∙ beside_by_answer p (sealed_by (sealing_by u.encryption u.random) p) octets refl
+
+    module _ (p : List ℕ) (ended : Bool) (old_beside new_beside tag : List ℕ) (octets : IsOctets p) (at_end : IsTrue ended) (grown : Extends old_beside new_beside)
+        (so_far : sealed_text as_it_is (sealing_by u.encryption u.random) p ≡ Ok (record { text = appended old_beside new_beside; tag = tag })) where
+      beside_whole : planned plan p ≡ Ok (record { text = filled texts (base64url tag ∷ []); content = appended old_beside new_beside })
+      beside_whole =
+          let k = is_written as_it_is (sealing_by u.encryption u.random) p (appended old_beside new_beside) tag so_far in
+          let text : k.sealed.ciphertext ≡ appended old_beside new_beside = same_answer _ _ k.whole in
+          ap (λ r. planned r p) u.is ∙ u.whole p k.sealed octets k.is
+          ∙ ap (λ c. Ok (record { text = filled texts (base64url k.sealed.tag ∷ []); content = c })) text
+          ∙ ap (λ t. Ok (record { text = filled texts (base64url t ∷ []); content = appended old_beside new_beside })) k.is_tag
+
+      -- what may stand, once all is read
+      pub beside_texts : begun plan (record { octets = p; ended = ended }) ≡ record { text = filled texts (base64url tag ∷ []); content = appended old_beside new_beside }
+      beside_texts = begun_whole plan (record { octets = p; ended = ended }) _ at_end beside_whole
+
+      -- all was written
+      pub beside_answer : (plaintext old new : List ℕ) → IsPossibleInput (record { octets = p; ended = ended }) plaintext → new ≡ old ++ filled texts (base64url tag ∷ [])
+          → planned plan plaintext ≡ Ok (record { text = appended old new; content = appended old_beside new_beside })
+      beside_answer plaintext old new may e =
+          ap (planned plan) (all_read p plaintext ended may at_end) ∙ beside_whole
+          ∙ ap (λ t. Ok (record { text = t; content = appended old_beside new_beside })) (sym (ap (appended old) e ∙ appended-append old _))
