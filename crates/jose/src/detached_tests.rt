@@ -33,7 +33,7 @@ const DECRYPT_BESIDE: [&str; 8] = [
 ];
 
 /// The octets of the ciphertext.
-const CIPHERTEXT: &[u8] =
+pub(crate) const CIPHERTEXT: &[u8] =
     b"\x28\x39\x53\xb5\x77\x21\x85\x94\xc6\xb9\xf3\x18\x98\xe6\x06\x4b\x81\xdf\x7f\x13\xd2\x52\xb7\xe6\xa8\x21\xd7\x68\x8f\x70\x38\x66";
 
 /// What the words make of a text, a content beside it, and keys.

@@ -43,7 +43,7 @@ fn b64_of_70_000_octets(rt: HostRuntime) -> Result<(), Fail> {
 pub(crate) const PIECE: (&str, &str) = ("abcdefgabcdefgabcdefg", "YWJjZGVmZ2FiY2RlZmdhYmNkZWZn");
 
 /// Contents of 0, 1, 4095, 4096, 4097, 8192 and 12289 octets: so many copies of the piece, and then these octets, with their text.
-const LENGTHS: &[(usize, &str, &str)] = &[
+pub(crate) const LENGTHS: &[(usize, &str, &str)] = &[
     (0, "", ""),
     (0, "a", "YQ"),
     (195, "", ""),

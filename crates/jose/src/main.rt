@@ -81,6 +81,8 @@ mod peer_tests;
 #[cfg(test)]
 mod pieces_tests;
 #[cfg(test)]
+mod sealing_tests;
+#[cfg(test)]
 mod several_keys_tests;
 #[cfg(test)]
 mod tests;

@@ -1,6 +1,9 @@
 //! The commands over memory: worked examples of the standards, and what is refused with which cause.
+ghost use Rattle.jose.specs.Ports.{AreFinite};
+
 use crate::{Inputs, Outputs, parse, report, run};
-use octets::{MemoryInput, MemoryOutput, ReaderInput, Refusal};
+use octets::{Input, MemoryInput, MemoryOutput, ReaderInput, Refusal, encode_onto};
+use prf::{HashAlg, digest};
 use std::alloc::{AllocError, Global};
 use std::io;
 use std::io::Read;
@@ -59,6 +62,32 @@ fn owned(alloc: Global, words: &[&str]) -> Result<Vec<String>, AllocError> {
     Ok(all)
 }
 
+/// Reads the words and does what they ask, over these inputs and over outputs with room for so many octets.
+fn performed<I: Input>(
+    alloc: Global,
+    words: &[&str],
+    inputs: &mut Inputs<I>,
+    room: usize,
+) -> Result<Done, Refusal>
+    requires { AreFinite I.remaining inputs.old }
+{
+    let mut outputs = Outputs {
+        text: MemoryOutput::new(alloc, room)?,
+        content: MemoryOutput::new(alloc, room)?,
+    };
+    let words = owned(alloc, words)?;
+    let result = match parse(alloc, &words) {
+        Ok(invocation) => run(alloc, &invocation, inputs, &mut outputs),
+        Err(refusal) => Err(refusal),
+    };
+    let Outputs { text, content } = outputs;
+    Ok(Done {
+        result,
+        text,
+        content,
+    })
+}
+
 /// Reads the words and does what they ask, over inputs that give so many octets at a read and outputs with
 /// room for so many.
 pub(crate) fn outcome(
@@ -68,30 +97,29 @@ pub(crate) fn outcome(
     step: usize,
     room: usize,
 ) -> Result<Done, Refusal> {
-    let mut outputs = Outputs {
-        text: MemoryOutput::new(alloc, room)?,
-        content: MemoryOutput::new(alloc, room)?,
+    let step = step.max(1);
+    let mut inputs = Inputs {
+        text: MemoryInput::new(given.text.as_bytes(), step),
+        content: MemoryInput::new(given.content, step),
+        keys: MemoryInput::new(given.keys.as_bytes(), step),
+        random: MemoryInput::new(given.random, step),
     };
-    let words = owned(alloc, words)?;
-    let result = match parse(alloc, &words) {
-        Ok(invocation) => {
-            let step = step.max(1);
-            let mut inputs = Inputs {
-                text: MemoryInput::new(given.text.as_bytes(), step),
-                content: MemoryInput::new(given.content, step),
-                keys: MemoryInput::new(given.keys.as_bytes(), step),
-                random: MemoryInput::new(given.random, step),
-            };
-            run(alloc, &invocation, &mut inputs, &mut outputs)
-        }
-        Err(refusal) => Err(refusal),
+    performed(alloc, words, &mut inputs, room)
+}
+
+/// The same where the content fails once all of it was read.
+pub(crate) fn outcome_of_failing(
+    alloc: Global,
+    words: &[&str],
+    given: &Given<'_>,
+) -> Result<Done, Refusal> {
+    let mut inputs = Inputs {
+        text: ReaderInput::new(Breaking::new(given.text.as_bytes(), false)),
+        content: ReaderInput::new(Breaking::new(given.content, true)),
+        keys: ReaderInput::new(Breaking::new(given.keys.as_bytes(), false)),
+        random: ReaderInput::new(Breaking::new(given.random, false)),
     };
-    let Outputs { text, content } = outputs;
-    Ok(Done {
-        result,
-        text,
-        content,
-    })
+    performed(alloc, words, &mut inputs, ROOM)
 }
 
 /// What a call of the program has to do.
@@ -103,6 +131,10 @@ pub(crate) enum Answer<'a> {
     Content(&'a [u8]),
     /// Write the first to `-o`, and the second to `-O`.
     Both(&'a str, &'a [u8]),
+    /// Write what has this SHA-256, in base64url, to `-o`, and nothing to `-O`.
+    Digest(&'a [u8]),
+    /// Write what has the first to `-o`, and what has the second to `-O`.
+    Digests(&'a [u8], &'a [u8]),
     /// Write nothing, and say this.
     Refusal(Refusal),
 }
@@ -138,6 +170,16 @@ pub(crate) fn expect_done<R: Abort>(rt: &R, done: &Done, at: &str, answer: Answe
             expect_written(rt, &done.text, text.as_bytes(), true, at);
             expect_written(rt, &done.content, content, true, at);
         }
+        Answer::Digest(text) => {
+            expect_ended(rt, done.result, Ok(()), at);
+            expect_digest(rt, &done.text, text, at);
+            expect_written(rt, &done.content, b"", false, at);
+        }
+        Answer::Digests(text, content) => {
+            expect_ended(rt, done.result, Ok(()), at);
+            expect_digest(rt, &done.text, text, at);
+            expect_digest(rt, &done.content, content, at);
+        }
         Answer::Refusal(refusal) => {
             expect_ended(rt, done.result, Err(refusal), at);
             expect_written(rt, &done.text, b"", false, at);
@@ -155,6 +197,16 @@ pub(crate) fn expect_written<R: Abort>(
 ) {
     expect_octets(rt, output.octets(), octets, at);
     assert_eq!(rt; output.is_finished(), is_finished, "at {at}");
+}
+
+/// The output is finished, and holds what has this SHA-256, in base64url.
+fn expect_digest<R: Abort>(rt: &R, output: &MemoryOutput, wanted: &[u8], at: &str) {
+    let mut octets = [0; 64];
+    let len = digest(HashAlg::S256, output.octets(), &mut octets);
+    let mut text = [0; 86];
+    let len = encode_onto(&octets[..len], &mut text);
+    expect_octets(rt, &text[..len], wanted, at);
+    assert!(rt; output.is_finished(), "at {at}");
 }
 
 pub(crate) fn expect_ended(
@@ -859,40 +911,39 @@ fn an_output_without_room_holds_a_beginning(rt: HostRuntime) -> Result<(), Fail>
     Ok(())
 }
 
-/// A reader that gives three octets and then fails.
+/// A reader that gives these octets, and then fails or ends.
 #[derive(Drop)]
-struct Breaking {
-    gave: bool,
+struct Breaking<'a> {
+    octets: &'a [u8],
+    fails: bool,
 }
 
-impl Read for Breaking {
+impl<'a> Breaking<'a> {
+    fn new(octets: &'a [u8], fails: bool) -> Breaking<'a> {
+        Breaking { octets, fails }
+    }
+}
+
+impl<'a> Read for Breaking<'a> {
     fn read(&mut self, buf: &mut [u8]) -> io::Result<usize> {
-        if self.gave || buf.len() < 3 {
+        if self.octets.is_empty() && self.fails {
             return Err(io::Error::from(io::ErrorKind::Other));
         }
-        self.gave = true;
-        buf[..3].copy_from_slice(b"abc");
-        Ok(3)
+        self.octets.read(buf)
     }
 }
 
 #[test]
 fn an_input_that_fails_leaves_a_beginning(rt: HostRuntime) -> Result<(), Fail> {
-    let words = owned(rt.alloc(), &["b64", "enc"])?;
-    let invocation = parse(rt.alloc(), &words)?;
-    let mut inputs = Inputs {
-        text: ReaderInput::new(Breaking { gave: true }),
-        content: ReaderInput::new(Breaking { gave: false }),
-        keys: ReaderInput::new(Breaking { gave: true }),
-        random: ReaderInput::new(Breaking { gave: true }),
+    let given = Given {
+        text: "",
+        content: b"abc",
+        keys: "",
+        random: b"",
     };
-    let mut outputs = Outputs {
-        text: MemoryOutput::new(rt.alloc(), 100)?,
-        content: MemoryOutput::new(rt.alloc(), 0)?,
-    };
-    let ended = run(rt.alloc(), &invocation, &mut inputs, &mut outputs);
-    expect_ended(&rt, ended, Err(Refusal::Read), "a failure");
-    expect_beginning(&rt, &outputs.text, b"YWJj");
+    let done = outcome_of_failing(rt.alloc(), &["b64", "enc"], &given)?;
+    expect_ended(&rt, done.result, Err(Refusal::Read), "a failure");
+    expect_beginning(&rt, &done.text, b"YWJj");
     Ok(())
 }
 
