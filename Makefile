@@ -8,9 +8,10 @@ PREFIX ?= /usr/local
 demo:
 	@scripts/demo
 
-# The gate: proves every crate from nothing, tries the must-fail edits, runs the tests and the program.
+# The gate: proves every crate from nothing, tries the must-fail edits, runs the tests and the program. Up to three checks run side
+# by side, one a processor.
 test:
-	rt ci
+	RT_JOBS=$$(nproc | awk '{ print ($$1 < 3) ? $$1 : 3 }') rt ci
 
 # Tries the wrong bodies that stand outside the gate, of the crates in CRATES or of all: the prover must refuse each.
 edits:
