@@ -1,6 +1,6 @@
 //! The tables of RFC 7517 section 4 and RFC 7518 sections 3.1, 4.1 and 5.1, row by row: the names of the algorithms, the
 //! lengths of their keys, and what `alg`, `use` and `key_ops` allow.
-use crate::key_tests::expect_same;
+use crate::tests::expect_same;
 use keys::{Algorithm, EncryptionAlg, KeySet, ManagementAlg, Operation, SignatureAlg};
 use octets::{Refusal, b64_append};
 use std::alloc::Global;
@@ -98,7 +98,8 @@ fn other_names_name_nothing(rt: HostRuntime) {
 /// A key of so many zero octets, with these members beside.
 fn key_of(alloc: Global, len: usize, members: &str) -> Result<KeySet, Refusal> {
     let mut text = String::from_str(alloc, "{\"kty\":\"oct\",\"k\":\"")?;
-    b64_append(&mut text, &[0u8; 4096][..len.min(4096)])?;
+    let zeros = [0u8; 4096];
+    b64_append(&mut text, &zeros[..len.min(4096)])?;
     text.push('"')?;
     text.push_str(members)?;
     text.push('}')?;

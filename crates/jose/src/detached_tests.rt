@@ -3,7 +3,7 @@
 use crate::general_tests::{KEY, KEYS};
 use crate::jwe_tests::{DIRECT, LINE, OCTETS, RFC7516_KEY, RFC7516_RANDOM};
 use crate::tests::{
-    Answer, Given, ROOM, expect, expect_ended, expect_octets, expect_written, outcome,
+    Answer, Given, ROOM, expect, expect_octets, expect_same, expect_written, outcome,
 };
 use octets::Refusal;
 use std::process::Abort;
@@ -517,7 +517,7 @@ pub(crate) fn comes_back_from_beside<R: Abort + AllocGlobal>(
     };
     let decrypted = outcome(rt.alloc(), &DECRYPT_BESIDE, &decrypting, 4096, ROOM)?;
     expect_octets(rt, decrypted.content.octets(), content, template);
-    assert_eq!(rt; decrypted.result, Ok(()), "at {template}");
+    expect_same(rt, decrypted.result, Ok(()), template);
     Ok(())
 }
 
@@ -542,11 +542,11 @@ fn an_output_without_room(rt: HostRuntime) -> Result<(), Fail> {
         random: b"",
     };
     let done = outcome(rt.alloc(), &SIGN_COMPACT_BESIDE, &given, 4096, 2)?;
-    expect_ended(&rt, done.result, Err(Refusal::Write), "room for two");
+    expect_same(&rt, done.result, Err(Refusal::Write), "room for two");
     expect_written(&rt, &done.content, b"ab", false, "the content");
     expect_written(&rt, &done.text, b"", false, "no text");
     let done = outcome(rt.alloc(), &SIGN_COMPACT_BESIDE, &given, 4096, 4)?;
-    expect_ended(&rt, done.result, Err(Refusal::Write), "room for four");
+    expect_same(&rt, done.result, Err(Refusal::Write), "room for four");
     expect_written(&rt, &done.content, b"abc", true, "all of the content");
     expect_written(&rt, &done.text, b"eyJh", false, "a beginning");
     Ok(())

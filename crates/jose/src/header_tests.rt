@@ -1,5 +1,5 @@
 //! Headers that are read and headers that are refused, as tables.
-use crate::tests::expect_octets;
+use crate::tests::{expect_octets, expect_same};
 use objects::{Header, read_protected};
 use octets::Refusal;
 use serde_json::{Map, Value};
@@ -28,7 +28,7 @@ fn expect_members<R: Abort + AllocGlobal>(rt: &R, octets: &[u8], expected: Resul
         Ok(members) => Ok(members.len()),
         Err(refusal) => Err(refusal),
     };
-    assert_eq!(rt; count, expected, "at {octets:?}");
+    expect_same(rt, count, expected, octets);
 }
 
 #[test]
@@ -81,24 +81,6 @@ fn no_name_stands_in_two_parts(rt: HostRuntime) {
     }
 }
 
-fn expect_string(
-    rt: &impl Abort,
-    found: Result<Option<&str>, Refusal>,
-    expected: Result<Option<&str>, Refusal>,
-    at: &str,
-) {
-    assert_eq!(rt; found, expected, "at {at}");
-}
-
-fn expect_number(
-    rt: &impl Abort,
-    found: Result<Option<u64>, Refusal>,
-    expected: Result<Option<u64>, Refusal>,
-    at: &str,
-) {
-    assert_eq!(rt; found, expected, "at {at}");
-}
-
 /// Headers, and what their `alg` is.
 const ALGORITHMS: &[(&str, Result<Option<&str>, Refusal>)] = &[
     ("{\"enc\":\"A128GCM\"}", Ok(None)),
@@ -110,7 +92,7 @@ const ALGORITHMS: &[(&str, Result<Option<&str>, Refusal>)] = &[
 fn expect_alg<R: Abort + AllocGlobal>(rt: &R, text: &str, expected: Result<Option<&str>, Refusal>) {
     let members = read(rt, text);
     let header = Header::joint(Some(&members), None, None).expect(rt, "a joint header");
-    expect_string(rt, header.alg(), expected, text);
+    expect_same(rt, header.alg(), expected, text);
 }
 
 #[test]
@@ -130,7 +112,7 @@ const ENCRYPTIONS: &[(&str, Result<Option<&str>, Refusal>)] = &[
 fn expect_enc<R: Abort + AllocGlobal>(rt: &R, text: &str, expected: Result<Option<&str>, Refusal>) {
     let members = read(rt, text);
     let header = Header::joint(None, Some(&members), None).expect(rt, "a joint header");
-    expect_string(rt, header.enc(), expected, text);
+    expect_same(rt, header.enc(), expected, text);
 }
 
 #[test]
@@ -156,7 +138,7 @@ const COUNTS: &[(&str, Result<Option<u64>, Refusal>)] = &[
 fn expect_p2c<R: Abort + AllocGlobal>(rt: &R, text: &str, expected: Result<Option<u64>, Refusal>) {
     let members = read(rt, text);
     let header = Header::joint(None, None, Some(&members)).expect(rt, "a joint header");
-    expect_number(rt, header.p2c(), expected, text);
+    expect_same(rt, header.p2c(), expected, text);
 }
 
 #[test]
@@ -185,7 +167,7 @@ fn expect_p2s<R: Abort + AllocGlobal>(rt: &R, text: &str, expected: Result<Optio
         Ok(None) => Ok(None),
         Err(refusal) => Err(refusal),
     };
-    expect_number(rt, len, expected, text);
+    expect_same(rt, len, expected, text);
 }
 
 #[test]
@@ -197,9 +179,9 @@ fn salts_have_eight_octets(rt: HostRuntime) {
 
 /// The parameters of RFC 7517 appendix C.2.
 fn expect_parameters(rt: &impl Abort, header: &Header<'_>) {
-    expect_string(rt, header.alg(), Ok(Some("PBES2-HS256+A128KW")), "alg");
-    expect_string(rt, header.enc(), Ok(Some("A128CBC-HS256")), "enc");
-    expect_number(rt, header.p2c(), Ok(Some(4096)), "p2c");
+    expect_same(rt, header.alg(), Ok(Some("PBES2-HS256+A128KW")), "alg");
+    expect_same(rt, header.enc(), Ok(Some("A128CBC-HS256")), "enc");
+    expect_same(rt, header.p2c(), Ok(Some(4096)), "p2c");
 }
 
 /// Its salt.
@@ -218,7 +200,7 @@ fn expect_salt<R: Abort + AllocGlobal>(rt: &R, header: &Header<'_>) {
 /// Its `cty`.
 fn expect_cty(rt: &impl Abort, header: &Header<'_>) {
     match header.get("cty") {
-        Some(value) => expect_string(rt, Ok(value.as_str()), Ok(Some("jwk+json")), "cty"),
+        Some(value) => expect_same(rt, value.as_str(), Some("jwk+json"), "cty"),
         None => assert!(rt; false),
     }
     assert!(rt; header.has("cty"));

@@ -1,6 +1,6 @@
 //! `jwe enc` and `jwe dec` over memory: worked examples of RFC 7516, objects that another program made, what becomes of
 //! contents of each length, and what is refused with which cause.
-use crate::tests::{Answer, Given, ROOM, expect, expect_octets, outcome};
+use crate::tests::{Answer, Given, ROOM, expect, expect_octets, expect_same, outcome};
 use octets::Refusal;
 use std::process::Abort;
 use std::test::Fail;
@@ -674,7 +674,7 @@ pub(crate) fn decrypts_what_is_written<R: Abort + AllocGlobal>(
     };
     let decrypted = outcome(rt.alloc(), &DECRYPT, &decrypting, 4096, ROOM)?;
     expect_octets(rt, decrypted.content.octets(), content, template);
-    assert_eq!(rt; decrypted.result, Ok(()), "at {template}");
+    expect_same(rt, decrypted.result, Ok(()), template);
     Ok(())
 }
 

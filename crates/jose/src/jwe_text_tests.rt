@@ -1,5 +1,5 @@
 //! Encrypted objects that are read and written, and texts that are refused.
-use crate::tests::{expect_octets, expect_refusal};
+use crate::tests::{expect_octets, expect_same};
 use objects::{Jwe, Recipient};
 use octets::Refusal;
 use std::process::Abort;
@@ -15,9 +15,9 @@ const FLATTENED: &str =
 fn expect_recipient(rt: &impl Abort, recipient: &Recipient) {
     expect_octets(rt, recipient.alg().as_bytes(), b"A128KW", "alg");
     expect_octets(rt, recipient.enc().as_bytes(), b"A128CBC-HS256", "enc");
-    assert_eq!(rt; recipient.encrypted_key().len(), 40);
-    assert_eq!(rt; recipient.p2s().len(), 0);
-    assert_eq!(rt; recipient.p2c(), 0);
+    expect_same(rt, recipient.encrypted_key().len(), 40, "encrypted_key");
+    expect_same(rt, recipient.p2s().len(), 0, "p2s");
+    expect_same(rt, recipient.p2c(), 0, "p2c");
 }
 
 fn expect_parts(rt: &impl Abort, jwe: &Jwe, tag: &[u8]) {
@@ -28,7 +28,7 @@ fn expect_parts(rt: &impl Abort, jwe: &Jwe, tag: &[u8]) {
         "the initialization vector",
     );
     expect_octets(rt, jwe.tag(), tag, "the authentication tag");
-    assert_eq!(rt; jwe.ciphertext().len(), 32);
+    expect_same(rt, jwe.ciphertext().len(), 32, "ciphertext");
     match jwe.recipients() {
         [recipient] => expect_recipient(rt, recipient),
         _ => assert!(rt; false),
@@ -60,7 +60,7 @@ fn expect_refused<R: Abort + AllocGlobal>(rt: &R, rows: &[(&str, Refusal)]) {
     for (text, refusal) in rows {
         match Jwe::read(rt.alloc(), text.as_bytes(), None) {
             Ok(_) => assert!(rt; false, "at {text}"),
-            Err(refused) => expect_refusal(rt, refused, *refusal, text),
+            Err(refused) => expect_same(rt, refused, *refusal, text),
         }
     }
 }
@@ -230,7 +230,7 @@ fn expect_written<R: Abort + AllocGlobal>(rt: &R, text: &str, json: &str, compac
 fn expect_compact<R: Abort + AllocGlobal>(rt: &R, jwe: &Jwe, compact: Option<&str>, at: &str) {
     match (jwe.to_compact(rt.alloc(), false), compact) {
         (Ok(text), Some(compact)) => expect_octets(rt, text.as_bytes(), compact.as_bytes(), at),
-        (Err(refused), None) => expect_refusal(rt, refused, Refusal::NotCompact, at),
+        (Err(refused), None) => expect_same(rt, refused, Refusal::NotCompact, at),
         _ => assert!(rt; false, "at {at}"),
     }
 }

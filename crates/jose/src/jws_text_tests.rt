@@ -1,5 +1,5 @@
 //! Signed objects that are read and texts that are refused.
-use crate::tests::{expect_octets, expect_refusal};
+use crate::tests::{expect_octets, expect_same};
 use objects::{Jws, Signature};
 use octets::Refusal;
 use std::process::Abort;
@@ -142,7 +142,7 @@ const REFUSED: &[(&str, Refusal)] = &[
 fn expect_refused<R: Abort + AllocGlobal>(rt: &R, text: &str, refusal: Refusal) {
     match Jws::read(rt.alloc(), text.as_bytes(), None) {
         Ok(_) => assert!(rt; false, "at {text}"),
-        Err(refused) => expect_refusal(rt, refused, refusal, text),
+        Err(refused) => expect_same(rt, refused, refusal, text),
     }
 }
 

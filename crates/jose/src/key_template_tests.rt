@@ -1,5 +1,6 @@
 //! Keys that are made and templates that are refused, as tables.
-use crate::key_tests::{expect_same, long_note, nested};
+use crate::key_tests::{long_note, nested};
+use crate::tests::expect_same;
 use keys::generate;
 use octets::{MemoryInput, Refusal};
 use std::alloc::{AllocError, Global};

@@ -1,22 +1,11 @@
 //! JSON texts, keys and their sets that are read and that are refused, as tables, and thumbprints.
-use crate::tests::expect_octets;
+use crate::tests::{expect_octets, expect_same};
 use keys::{Key, KeySet, nests_at_most, read_json, thumbprint};
 use octets::Refusal;
 use prf::HashAlg;
 use serde_json::Value;
 use std::alloc::{AllocError, Global};
-use std::fmt::Debug;
 use std::process::Abort;
-
-/// The two are the same; where they are not, the message says at what.
-pub(crate) fn expect_same<T: PartialEq + Debug + Drop, N: Debug + Drop>(
-    rt: &impl Abort,
-    found: T,
-    wanted: T,
-    at: N,
-) {
-    assert_eq!(rt; found, wanted, "at {at:?}");
-}
 
 /// A list that is `depth` deep, between `start` and `end`.
 pub(crate) fn nested(

@@ -1,7 +1,7 @@
 //! `jwe enc` and `jwe dec` by a password (RFC 7518 section 4.8): the same octets give the texts that another program made of
 //! them (Python's `hashlib` and its package `cryptography` 48), the counts that are refused, and the work that is told.
 use crate::jwe_tests::{COMPACT, DECRYPT, ENCRYPT, LINE};
-use crate::tests::{Answer, Given, expect, expect_ended, expect_octets};
+use crate::tests::{Answer, Given, expect, expect_octets, expect_same};
 use keys::KeySet;
 use objects::Jwe;
 use octets::{MemoryOutput, Refusal};
@@ -460,8 +460,8 @@ pub(crate) fn expect_work<R: Abort + AllocGlobal>(
     let jwe = Jwe::read(rt.alloc(), text.as_bytes(), None)?;
     let mut out = MemoryOutput::new(rt.alloc(), 64)?;
     let (told, ended) = jwe_decrypt(rt.alloc(), &set, jwe, &mut out);
-    expect_ended(rt, ended, answer, text);
-    assert_eq!(rt; told, work, "at {text}");
+    expect_same(rt, ended, answer, text);
+    expect_same(rt, told, work, text);
     expect_octets(
         rt,
         out.octets(),

@@ -5,6 +5,7 @@ use crate::{Inputs, Outputs, parse, report, run};
 use octets::{Input, MemoryInput, MemoryOutput, ReaderInput, Refusal, encode_onto};
 use prf::{HashAlg, digest};
 use std::alloc::{AllocError, Global};
+use std::fmt::Debug;
 use std::io;
 use std::io::Read;
 use std::process::Abort;
@@ -156,32 +157,32 @@ pub(crate) fn expect<R: Abort + AllocGlobal>(
 pub(crate) fn expect_done<R: Abort>(rt: &R, done: &Done, at: &str, answer: Answer<'_>) {
     match answer {
         Answer::Text(text) => {
-            expect_ended(rt, done.result, Ok(()), at);
+            expect_same(rt, done.result, Ok(()), at);
             expect_written(rt, &done.text, text.as_bytes(), true, at);
             expect_written(rt, &done.content, b"", false, at);
         }
         Answer::Content(content) => {
-            expect_ended(rt, done.result, Ok(()), at);
+            expect_same(rt, done.result, Ok(()), at);
             expect_written(rt, &done.text, b"", false, at);
             expect_written(rt, &done.content, content, true, at);
         }
         Answer::Both(text, content) => {
-            expect_ended(rt, done.result, Ok(()), at);
+            expect_same(rt, done.result, Ok(()), at);
             expect_written(rt, &done.text, text.as_bytes(), true, at);
             expect_written(rt, &done.content, content, true, at);
         }
         Answer::Digest(text) => {
-            expect_ended(rt, done.result, Ok(()), at);
+            expect_same(rt, done.result, Ok(()), at);
             expect_digest(rt, &done.text, text, at);
             expect_written(rt, &done.content, b"", false, at);
         }
         Answer::Digests(text, content) => {
-            expect_ended(rt, done.result, Ok(()), at);
+            expect_same(rt, done.result, Ok(()), at);
             expect_digest(rt, &done.text, text, at);
             expect_digest(rt, &done.content, content, at);
         }
         Answer::Refusal(refusal) => {
-            expect_ended(rt, done.result, Err(refusal), at);
+            expect_same(rt, done.result, Err(refusal), at);
             expect_written(rt, &done.text, b"", false, at);
             expect_written(rt, &done.content, b"", false, at);
         }
@@ -196,7 +197,7 @@ pub(crate) fn expect_written<R: Abort>(
     at: &str,
 ) {
     expect_octets(rt, output.octets(), octets, at);
-    assert_eq!(rt; output.is_finished(), is_finished, "at {at}");
+    expect_same(rt, output.is_finished(), is_finished, at);
 }
 
 /// The output is finished, and holds what has this SHA-256, in base64url.
@@ -209,17 +210,14 @@ fn expect_digest<R: Abort>(rt: &R, output: &MemoryOutput, wanted: &[u8], at: &st
     assert!(rt; output.is_finished(), "at {at}");
 }
 
-pub(crate) fn expect_ended(
+/// The two are the same; where they are not, the message says at what. An `assert_eq!` at each place would be proved anew.
+pub(crate) fn expect_same<T: PartialEq + Debug + Drop, N: Debug + Drop>(
     rt: &impl Abort,
-    ended: Result<(), Refusal>,
-    wanted: Result<(), Refusal>,
-    at: &str,
+    found: T,
+    wanted: T,
+    at: N,
 ) {
-    assert_eq!(rt; ended, wanted, "at {at}");
-}
-
-pub(crate) fn expect_refusal(rt: &impl Abort, refused: Refusal, refusal: Refusal, at: &str) {
-    assert_eq!(rt; refused, refusal, "at {at}");
+    assert_eq!(rt; found, wanted, "at {at:?}");
 }
 
 pub(crate) fn expect_octets(rt: &impl Abort, found: &[u8], wanted: &[u8], at: &str) {
@@ -883,7 +881,7 @@ fn a_text_that_breaks_off_leaves_a_beginning(rt: HostRuntime) -> Result<(), Fail
         };
         for step in [4096, 1] {
             let done = outcome(rt.alloc(), &["b64", "dec"], &given, step, ROOM)?;
-            expect_ended(&rt, done.result, Err(Refusal::Base64), text);
+            expect_same(&rt, done.result, Err(Refusal::Base64), text);
             expect_beginning(&rt, &done.content, octets);
         }
     }
@@ -906,7 +904,7 @@ fn an_output_without_room_holds_a_beginning(rt: HostRuntime) -> Result<(), Fail>
         random: b"",
     };
     let done = outcome(rt.alloc(), &["b64", "enc"], &given, 2, 3)?;
-    expect_ended(&rt, done.result, Err(Refusal::Write), "the end of room");
+    expect_same(&rt, done.result, Err(Refusal::Write), "the end of room");
     expect_written(&rt, &done.text, b"YWJ", false, "the end of room");
     Ok(())
 }
@@ -942,7 +940,7 @@ fn an_input_that_fails_leaves_a_beginning(rt: HostRuntime) -> Result<(), Fail> {
         random: b"",
     };
     let done = outcome_of_failing(rt.alloc(), &["b64", "enc"], &given)?;
-    expect_ended(&rt, done.result, Err(Refusal::Read), "a failure");
+    expect_same(&rt, done.result, Err(Refusal::Read), "a failure");
     expect_beginning(&rt, &done.text, b"YWJj");
     Ok(())
 }
@@ -970,7 +968,7 @@ fn expect_told<R: Abort + AllocGlobal>(
     told: &[u8],
 ) -> Result<(), Fail> {
     let mut errors = MemoryOutput::new(rt.alloc(), 100)?;
-    assert_eq!(rt; report(ended, &mut errors), status);
+    expect_same(rt, report(ended, &mut errors), status, "the status");
     expect_octets(rt, errors.octets(), told, "the errors");
     Ok(())
 }

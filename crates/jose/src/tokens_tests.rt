@@ -1,5 +1,5 @@
 //! What is signed is verified, with its key alone.
-use crate::tests::{expect_ended, expect_octets, expect_written};
+use crate::tests::{expect_octets, expect_same, expect_written};
 use keys::KeySet;
 use objects::Jws;
 use octets::{MemoryInput, MemoryOutput, Refusal};
@@ -21,7 +21,7 @@ fn a_payload_is_signed_with_its_key(rt: HostRuntime) -> Result<(), Fail> {
     let mut payload = MemoryInput::new(b"abc", 1);
     let mut text = MemoryOutput::new(rt.alloc(), 256)?;
     let signed = jws_sign(rt.alloc(), &key, b"{}", true, &mut payload, &mut text, None);
-    expect_ended(&rt, signed, Ok(()), "signing");
+    expect_same(&rt, signed, Ok(()), "signing");
     expect_octets(&rt, text.octets(), ABC, "the token");
     Ok(())
 }
@@ -39,7 +39,7 @@ fn expect_verified<R: Abort + AllocGlobal>(
     let mut content = MemoryOutput::new(rt.alloc(), 16)?;
     let out = if wanted { Some(&mut content) } else { None };
     let verified = jws_verify(&keys, &jws, false, out);
-    expect_ended(rt, verified, answer, "verifying");
+    expect_same(rt, verified, answer, "verifying");
     expect_written(
         rt,
         &content,

@@ -1,5 +1,5 @@
 //! GCM: test cases of its specification (McGrew and Viega), texts that are cut, and what does not open.
-use crate::tests::expect_octets;
+use crate::tests::{expect_octets, expect_same};
 use crate::{Gcm, gcm_open};
 use aes::{Aes128, Aes192, Aes256, Block};
 use std::alloc::{AllocError, Global};
@@ -49,7 +49,8 @@ fn expect_opening<B: Block>(
     answer: Option<usize>,
     left: &[u8],
 ) {
-    assert_eq!(rt; gcm_open(cipher, iv, aad, text, tag), answer);
+    let opened = gcm_open(cipher, iv, aad, text, tag);
+    expect_same(rt, opened, answer, "opening");
     expect_octets(rt, text, left);
 }
 
@@ -164,7 +165,7 @@ fn a_cut_changes_nothing(rt: HostRuntime) -> Result<(), Fail> {
     let whole = gcm(&rt, rt.alloc(), Aes128::new(&key), IV, AAD, text, 50)?;
     for step in 1..50_usize {
         let sealed = gcm(&rt, rt.alloc(), Aes128::new(&key), IV, AAD, text, step)?;
-        assert_eq!(rt; sealed, whole, "in steps of {step}");
+        expect_same(&rt, &sealed, &whole, step);
     }
     Ok(())
 }

@@ -1,6 +1,6 @@
 //! A content of 70,001 octets under a toy cipher: in long pieces and in short ones, and back.
 use crate::gcm_tests::gcm;
-use crate::tests::{Toy, cbc, ctr, expect_octets, ghash};
+use crate::tests::{Toy, cbc, ctr, expect_octets, expect_same, ghash};
 use crate::{cbc_open, gcm_open};
 use std::alloc::{AllocError, Global};
 use std::test::Fail;
@@ -22,10 +22,11 @@ fn content(alloc: Global) -> Result<Vec<u8>, AllocError> {
 fn cbc_of_a_long_content(rt: HostRuntime) -> Result<(), Fail> {
     let content = content(rt.alloc())?;
     let mut whole = cbc(&rt, rt.alloc(), Toy::new(), &IV, &content, 4096)?;
-    assert_eq!(rt; whole.len(), 70_016);
+    expect_same(&rt, whole.len(), 70_016, "the length");
     let pieces = cbc(&rt, rt.alloc(), Toy::new(), &IV, &content, 999)?;
     expect_octets(&rt, &pieces, &whole);
-    assert_eq!(rt; cbc_open(&Toy::new(), &IV, &mut whole), Some(70_001));
+    let opened = cbc_open(&Toy::new(), &IV, &mut whole);
+    expect_same(&rt, opened, Some(70_001), "opening");
     assert!(rt; whole.starts_with(&content));
     Ok(())
 }
@@ -58,7 +59,7 @@ fn gcm_of_a_long_content(rt: HostRuntime) -> Result<(), Fail> {
     expect_octets(&rt, &pieces, &whole);
     expect_octets(&rt, &other, &tag);
     let opened = gcm_open(&Toy::new(), &GCM_IV, aad, &mut whole, &tag);
-    assert_eq!(rt; opened, Some(70_001));
+    expect_same(&rt, opened, Some(70_001), "opening");
     expect_octets(&rt, &whole, &content);
     Ok(())
 }

@@ -6,6 +6,7 @@ ghost use Rattle.modes.specs.Toy.{turned};
 use crate::{Cbc, Ctr32, Ghash, cbc_open};
 use aes::{Aes128, Aes192, Aes256, Block};
 use std::alloc::{AllocError, Global};
+use std::fmt::Debug;
 use std::process::Abort;
 use std::test::Fail;
 
@@ -62,6 +63,16 @@ const TEXT: [u8; 64] = [
 
 pub(crate) fn expect_octets(rt: &impl Abort, found: &[u8], wanted: &[u8]) {
     assert_eq!(rt; *found, *wanted);
+}
+
+// The two are the same; where they are not, the message says at what. An `assert_eq!` at each place would be proved anew.
+pub(crate) fn expect_same<T: PartialEq + Debug + Drop, N: Debug + Drop>(
+    rt: &impl Abort,
+    found: T,
+    wanted: T,
+    at: N,
+) {
+    assert_eq!(rt; found, wanted, "at {at:?}");
 }
 
 // The CBC ciphertext of the text in pieces of so many octets and an empty one.
@@ -140,7 +151,8 @@ fn a_toy_cipher_encrypts(rt: HostRuntime) -> Result<(), Fail> {
 // What opening answers, and what then begins the place of the text.
 fn expect_opening(rt: &impl Abort, text: &[u8; 16], answer: Option<usize>, front: &[u8]) {
     let mut place = *text;
-    assert_eq!(rt; cbc_open(&Toy::new(), &ZERO, &mut place), answer);
+    let opened = cbc_open(&Toy::new(), &ZERO, &mut place);
+    expect_same(rt, opened, answer, "opening");
     assert!(rt; place.starts_with(front));
 }
 
@@ -157,9 +169,11 @@ fn a_toy_cipher_opens_what_is_padded(rt: HostRuntime) {
 #[test]
 fn a_part_of_a_block_is_no_ciphertext(rt: HostRuntime) {
     let mut buf = [0xee; 17];
-    assert_eq!(rt; cbc_open(&Toy::new(), &ZERO, &mut buf), None);
+    let opened = cbc_open(&Toy::new(), &ZERO, &mut buf);
+    expect_same(&rt, opened, None, "17 octets");
     expect_octets(&rt, &buf, &[0xee; 17]);
-    assert_eq!(rt; cbc_open(&Toy::new(), &ZERO, &mut []), None);
+    let opened = cbc_open(&Toy::new(), &ZERO, &mut []);
+    expect_same(&rt, opened, None, "no octets");
 }
 
 // The text of SP 800-38A encrypts to these octets and a block of padding, which open to it.
@@ -171,9 +185,9 @@ fn expect_both_ways<B: Block>(
     octets: &[u8; 64],
 ) -> Result<(), AllocError> {
     let mut text = cbc(rt, alloc, sealing, &IV, &TEXT, 64)?;
-    assert_eq!(rt; text.len(), 80);
+    expect_same(rt, text.len(), 80, "the length");
     assert!(rt; text.starts_with(octets));
-    assert_eq!(rt; cbc_open(opening, &IV, &mut text), Some(64));
+    expect_same(rt, cbc_open(opening, &IV, &mut text), Some(64), "opening");
     assert!(rt; text.starts_with(&TEXT));
     Ok(())
 }
@@ -225,7 +239,7 @@ fn sp800_38a_appendix_f2(rt: HostRuntime) -> Result<(), Fail> {
 fn padding_fills_a_block_or_is_one(rt: HostRuntime) -> Result<(), Fail> {
     for (length, expected) in [(0, 16), (15, 16), (16, 32), (17, 32)] {
         let text = cbc(&rt, rt.alloc(), Toy::new(), &IV, &TEXT[..length], 64)?;
-        assert_eq!(rt; text.len(), expected);
+        expect_same(&rt, text.len(), expected, length);
     }
     Ok(())
 }
@@ -233,10 +247,10 @@ fn padding_fills_a_block_or_is_one(rt: HostRuntime) -> Result<(), Fail> {
 #[test]
 fn a_cut_changes_nothing(rt: HostRuntime) -> Result<(), Fail> {
     let whole = cbc(&rt, rt.alloc(), Toy::new(), &IV, &TEXT[..50], 50)?;
-    assert_eq!(rt; whole.len(), 64);
+    expect_same(&rt, whole.len(), 64, "the length");
     for step in 1..50_usize {
         let text = cbc(&rt, rt.alloc(), Toy::new(), &IV, &TEXT[..50], step)?;
-        assert_eq!(rt; text, whole, "in steps of {step}");
+        expect_same(&rt, text.as_slice(), whole.as_slice(), step);
     }
     Ok(())
 }
@@ -258,7 +272,7 @@ fn sums_of_blocks(rt: HostRuntime) {
             ghash.feed(&block.to_be_bytes());
         }
         ghash.feed(&second.to_be_bytes());
-        assert_eq!(rt; u128::from_be_bytes(ghash.finish()), expected);
+        expect_same(&rt, u128::from_be_bytes(ghash.finish()), expected, second);
     }
 }
 
@@ -268,17 +282,13 @@ fn a_cut_changes_no_sum(rt: HostRuntime) {
     filled[..50].copy_from_slice(&TEXT[..50]);
     let whole = ghash(&rt, &IV, &filled, 64);
     for step in 1..51_usize {
-        assert_eq!(rt;
-            ghash(&rt, &IV, &TEXT[..50], step),
-            whole,
-            "in steps of {step}"
-        );
+        expect_same(&rt, ghash(&rt, &IV, &TEXT[..50], step), whole, step);
     }
     let mut padded = Ghash::start(&IV);
     padded.feed(&TEXT[..50]);
     padded.pad();
     padded.feed(b"");
-    assert_eq!(rt; padded.finish(), whole);
+    expect_same(&rt, padded.finish(), whole, "the padding");
 }
 
 #[test]
@@ -312,7 +322,7 @@ fn sp800_38a_appendix_f5_1(rt: HostRuntime) -> Result<(), Fail> {
     ];
     for step in 1..65_usize {
         let found = ctr(&rt, rt.alloc(), Aes128::new(&key), &first, &TEXT, step)?;
-        assert_eq!(rt; found.as_slice(), text.as_slice(), "in steps of {step}");
+        expect_same(&rt, found.as_slice(), text.as_slice(), step);
     }
     Ok(())
 }

@@ -5,6 +5,7 @@ use crate::{
     write_whole, xor_into,
 };
 use std::alloc::{AllocError, Global};
+use std::fmt::Debug;
 use std::io;
 use std::io::{Read, Write};
 use std::process::Abort;
@@ -12,6 +13,16 @@ use std::test::Fail;
 
 fn expect_octets(rt: &impl Abort, found: &[u8], wanted: &[u8]) {
     assert_eq!(rt; *found, *wanted);
+}
+
+/// The two are the same; where they are not, the message says at what. An `assert_eq!` at each place would be proved anew.
+fn expect_same<T: PartialEq + Debug + Drop, N: Debug + Drop>(
+    rt: &impl Abort,
+    found: T,
+    wanted: T,
+    at: N,
+) {
+    assert_eq!(rt; found, wanted, "at {at:?}");
 }
 
 #[test]
@@ -26,9 +37,9 @@ fn rfc4648_section_10(rt: HostRuntime) -> Result<(), Fail> {
         ("foobar", "Zm9vYmFy"),
     ] {
         let encoded = b64_encode(rt.alloc(), octets.as_bytes())?;
-        assert_eq!(rt; encoded.as_str(), text);
+        expect_octets(&rt, encoded.as_bytes(), text.as_bytes());
         let decoded = b64_decode(rt.alloc(), text.as_bytes())?;
-        assert_eq!(rt; decoded.as_slice(), octets.as_bytes());
+        expect_octets(&rt, &decoded, octets.as_bytes());
     }
     Ok(())
 }
@@ -56,7 +67,7 @@ fn a_text_comes_whole_from_any_pieces(rt: HostRuntime) -> Result<(), Fail> {
     let whole = b64_encode(rt.alloc(), &octets)?;
     for step in 1..12usize {
         let text = fed(&rt, rt.alloc(), &octets, step)?;
-        assert_eq!(rt; text.as_slice(), whole.as_bytes(), "in steps of {step}");
+        expect_same(&rt, text.as_slice(), whole.as_bytes(), step);
     }
     Ok(())
 }
@@ -118,11 +129,8 @@ const NOT_STRICT: [&str; 26] = [
 #[test]
 fn a_text_that_is_not_strict_is_refused(rt: HostRuntime) {
     for text in NOT_STRICT {
-        assert_eq!(rt;
-            b64_decode(rt.alloc(), text.as_bytes()).err(),
-            Some(Refusal::Base64),
-            "at {text}"
-        );
+        let refusal = b64_decode(rt.alloc(), text.as_bytes()).err();
+        expect_same(&rt, refusal, Some(Refusal::Base64), text);
     }
 }
 
@@ -147,7 +155,8 @@ fn a_refusal_prints_its_number_and_its_name(rt: HostRuntime) -> Result<(), Fail>
         (Refusal::NotCompact, "16 NotCompact"),
         (Refusal::NotOpened, "17 NotOpened"),
     ] {
-        assert_eq!(rt; refusal.to_string(rt.alloc())?.as_str(), text);
+        let printed = refusal.to_string(rt.alloc())?;
+        expect_octets(&rt, printed.as_bytes(), text.as_bytes());
     }
     Ok(())
 }
@@ -170,9 +179,9 @@ fn an_input_gives_its_octets_and_then_the_end(rt: HostRuntime) {
         (*b"\0\0\0\0", 0, *b"\0\0\0\0", 0),
         (*b"\0\0\0\0", 0, *b"\0\0\0\0", 0),
     ] {
-        assert_eq!(rt; next_four(&mut whole), (Ok(n), octets));
-        assert_eq!(rt; next_four(&mut slow), (Ok(slow_n), slow_octets));
-        assert_eq!(rt; next_four(&mut reader), (Ok(n), octets));
+        expect_same(&rt, next_four(&mut whole), (Ok(n), octets), "whole");
+        expect_same(&rt, next_four(&mut slow), (Ok(slow_n), slow_octets), "slow");
+        expect_same(&rt, next_four(&mut reader), (Ok(n), octets), "a reader");
     }
 }
 
@@ -183,7 +192,7 @@ fn expect_writes<O: Output>(
     writes: &[(&[u8], Result<usize, Fault>)],
 ) {
     for (octets, result) in writes {
-        assert_eq!(rt; out.write(octets), *result);
+        expect_same(rt, out.write(octets), *result, octets.len());
     }
 }
 
@@ -198,7 +207,7 @@ fn an_output_takes_what_it_has_room_for(rt: HostRuntime) -> Result<(), Fail> {
     ];
     expect_writes(&rt, &mut out, &writes);
     assert!(rt; !out.is_finished());
-    assert_eq!(rt; out.finish(), Ok(()));
+    expect_same(&rt, out.finish(), Ok(()), "the end");
     assert!(rt; out.is_finished());
     expect_octets(&rt, out.octets(), b"abcde");
     Ok(())
@@ -214,7 +223,7 @@ fn a_writer_gets_what_an_output_takes(rt: HostRuntime) -> Result<(), Fail> {
         (b"de", Ok(2)),
     ];
     expect_writes(&rt, &mut out, &writes);
-    assert_eq!(rt; out.finish(), Ok(()));
+    expect_same(&rt, out.finish(), Ok(()), "the end");
     drop(out);
     expect_octets(&rt, &kept, b"abcde");
     Ok(())
@@ -243,21 +252,16 @@ impl Write for Broken {
 #[test]
 fn what_fails_below_is_a_fault(rt: HostRuntime) {
     let mut octets = [0u8; 4];
-    assert_eq!(rt;
-        ReaderInput::new(Broken).read(&mut octets),
-        Err(Fault::Reading)
-    );
-    assert_eq!(rt;
-        WriterOutput::new(Broken).write(b"abc"),
-        Err(Fault::Writing)
-    );
-    assert_eq!(rt; WriterOutput::new(Broken).finish(), Err(Fault::Writing));
+    let read = ReaderInput::new(Broken).read(&mut octets);
+    expect_same(&rt, read, Err(Fault::Reading), "reading");
+    let written = WriterOutput::new(Broken).write(b"abc");
+    expect_same(&rt, written, Err(Fault::Writing), "writing");
+    let finished = WriterOutput::new(Broken).finish();
+    expect_same(&rt, finished, Err(Fault::Writing), "the end");
     // A writer that takes nothing: a slice without room.
     let mut none = [0u8; 0];
-    assert_eq!(rt;
-        WriterOutput::new(none.as_mut_slice()).write(b"abc"),
-        Err(Fault::Writing)
-    );
+    let written = WriterOutput::new(none.as_mut_slice()).write(b"abc");
+    expect_same(&rt, written, Err(Fault::Writing), "no room");
 }
 
 /// A reader and a writer. Signals interrupt each of its calls three times, and then it gives or takes
@@ -334,7 +338,7 @@ fn repeated(
 fn expect_read<I: Input>(rt: &impl Abort, input: &mut I, len: usize, octets: &[u8]) {
     let mut place = [0u8; 4];
     assert!(rt; len <= 4 && octets.len() <= 4);
-    assert_eq!(rt; input.read(&mut place[..len]), Ok(octets.len()));
+    expect_same(rt, input.read(&mut place[..len]), Ok(octets.len()), len);
     expect_octets(rt, &place[..octets.len()], octets);
 }
 
@@ -345,7 +349,7 @@ fn an_interrupted_and_slow_reader_is_no_fault(rt: HostRuntime) {
     expect_read(&rt, &mut input, 1, b"a");
     expect_read(&rt, &mut input, 4, b"b");
     let mut octets = [0u8; 4];
-    assert_eq!(rt; draw(&mut input, &mut octets), Ok(()));
+    expect_same(&rt, draw(&mut input, &mut octets), Ok(()), "four octets");
     expect_octets(&rt, &octets, b"cdef");
     expect_read(&rt, &mut input, 4, b"");
 }
@@ -360,9 +364,9 @@ fn an_interrupted_and_slow_writer_is_no_fault(rt: HostRuntime) -> Result<(), Fai
     expect_writes(&rt, &mut out, &writes);
     let wholes: [&[u8]; 4] = [b"o", &hundred, b"oo", &many];
     for octets in wholes {
-        assert_eq!(rt; write_whole(&mut out, octets), Ok(()));
+        expect_same(&rt, write_whole(&mut out, octets), Ok(()), octets.len());
     }
-    assert_eq!(rt; out.finish(), Ok(()));
+    expect_same(&rt, out.finish(), Ok(()), "the end");
     drop(out);
     assert!(rt; writer.is_flushed);
     let all = repeated(rt.alloc(), b"foo", 33_368, b"f")?;
@@ -401,9 +405,9 @@ fn long_octets_are_read(rt: HostRuntime) -> Result<(), Fail> {
 fn long_octets_are_written(rt: HostRuntime) -> Result<(), Fail> {
     let octets = repeated(rt.alloc(), b"foo", 23_333, b"f")?;
     let mut out = MemoryOutput::new(rt.alloc(), 140_000)?;
-    assert_eq!(rt; write_whole(&mut out, &octets), Ok(()));
+    expect_same(&rt, write_whole(&mut out, &octets), Ok(()), "the first");
     expect_octets(&rt, out.octets(), &octets);
-    assert_eq!(rt; emit(&mut out, &octets), Ok(()));
+    expect_same(&rt, emit(&mut out, &octets), Ok(()), "the second");
     expect_octets(&rt, out.octets(), &repeated(rt.alloc(), &octets, 2, b"")?);
     Ok(())
 }
@@ -497,8 +501,9 @@ fn ample_memory_refuses_no_growth(rt: HostRuntime) {
 #[test]
 fn all_of_a_text_goes_out_or_partial_tells_how_much(rt: HostRuntime) -> Result<(), Fail> {
     let mut out = MemoryOutput::new(rt.alloc(), 5)?;
-    assert_eq!(rt; write_whole(&mut out, b"abc"), Ok(()));
-    assert_eq!(rt; write_whole(&mut out, b"defg"), Err(Partial { written: 2 }));
+    expect_same(&rt, write_whole(&mut out, b"abc"), Ok(()), "abc");
+    let part = Err(Partial { written: 2 });
+    expect_same(&rt, write_whole(&mut out, b"defg"), part, "defg");
     expect_octets(&rt, out.octets(), b"abcde");
     Ok(())
 }
@@ -515,7 +520,7 @@ fn expect_draw(
     assert!(rt; len <= 5 && step > 0);
     let mut random = MemoryInput::new(random, step);
     let mut out = [0u8; 5];
-    assert_eq!(rt; draw(&mut random, &mut out[..len]), answer);
+    expect_same(rt, draw(&mut random, &mut out[..len]), answer, len);
     expect_octets(rt, &out, filled);
 }
 
@@ -537,12 +542,10 @@ fn draws_are_filled_or_refused(rt: HostRuntime) {
 #[test]
 fn a_draw_takes_what_it_draws(rt: HostRuntime) {
     let mut octets = [0u8; 2];
-    assert_eq!(rt;
-        draw(&mut ReaderInput::new(Broken), &mut octets),
-        Err(Refusal::Read)
-    );
+    let drawn = draw(&mut ReaderInput::new(Broken), &mut octets);
+    expect_same(&rt, drawn, Err(Refusal::Read), "a reader that fails");
     let mut random = MemoryInput::new(b"abc", 1);
-    assert_eq!(rt; draw(&mut random, &mut octets), Ok(()));
+    expect_same(&rt, draw(&mut random, &mut octets), Ok(()), "two octets");
     expect_read(&rt, &mut random, 4, b"c");
 }
 
@@ -559,7 +562,7 @@ fn octet_strings_are_added_and_compared(rt: HostRuntime) {
         (b"\xf0\xf0", false),
     ];
     for (other, is_same) in others {
-        assert_eq!(rt; same_octets(&octets, other), is_same);
+        expect_same(&rt, same_octets(&octets, other), is_same, other);
     }
     assert!(rt; same_octets(b"", b""));
 }
@@ -589,7 +592,7 @@ fn octet_strings_of_each_length_are_added(rt: HostRuntime) {
             } else {
                 octets[i]
             };
-            assert_eq!(rt; sum[i], wanted, "at {i} of {len}");
+            expect_same(&rt, sum[i], wanted, (i, len));
         }
     }
 }
