@@ -1,5 +1,6 @@
 pub mod Meanings
 pub mod Pieces
+pub mod Contents
 pub mod Groups
 pub mod Characters
 pub mod Decoded

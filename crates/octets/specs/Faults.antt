@@ -1,8 +1,8 @@
 -- What a result tells of the devices of a call, by the counts of their failures.
-use Rattle.std.specs.Prelude.{◌≡◌, ◌⊎◌, ℕ, List, [], ◌∷◌, ⊤, Result, OnOk, IsErrOf}
+use Rattle.std.specs.Prelude.{◌≡◌, ◌≢◌, ◌<◌, ◌⊎◌, ℕ, List, [], ◌∷◌, ⊤, Result, OnOk, IfErr, IsErrOf}
 use Rattle.octets.specs.declared.refusal.Refusal.{Refusal}
 use Rattle.octets.specs.declared.refusal.Refusal.TheVariants.{Read, Write}
-use Rattle.octets.specs.Devices.{Rose}
+use Rattle.octets.specs.Devices.{greatest_count, Rose}
 
 -- how often a device had failed before the call, and after it
 pub record Counts : Type 0 where
@@ -22,8 +22,14 @@ abbrev pub SomeFailed : List Counts → Type 0
 SomeFailed [] = ⊥
 SomeFailed (c ∷ cs) = Rose c.old c.new ⊎ SomeFailed cs
 
--- A device that failed in the call is told, and no other is.
+-- A device that failed in the call is told, and no other is: no success and no other refusal, as Memory, hides a failure.
 pub record TellsFaults {X : Type 0} (inputs outputs : List Counts) (result : Result X Refusal) : Type 0 where
   pub works : OnOk result (NoneFailed inputs × NoneFailed outputs)
   pub read : IsErrOf result Read → SomeFailed inputs
   pub write : IsErrOf result Write → SomeFailed outputs
+  pub inputs_told : IfErr result (λ refusal. refusal ≢ Read → NoneFailed inputs)
+  pub outputs_told : IfErr result (λ refusal. refusal ≢ Write → NoneFailed outputs)
+
+-- An output with these counts did not fail in the call: the refusal tells of no output, or of another one.
+abbrev pub DidNotFail : Refusal → Counts → Type 0
+DidNotFail refusal c = refusal ≡ Write → (c.old < greatest_count) × (c.new ≡ c.old)

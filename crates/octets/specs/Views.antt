@@ -2,6 +2,7 @@
 use Rattle.std.specs.Prelude.{ℕ, ◌-◌, ◌==◌, min, Bool, List, length, take}
 use Rattle.std.specs.Iterator.{Count, at_most}
 use Rattle.octets.specs.Devices.{most_octets}
+use Rattle.octets.specs.Octets.{IsOctets}
 use Rattle.octets.specs.declared.streams.ReaderInput.{ReaderInput}
 use Rattle.octets.specs.declared.streams.WriterOutput.{WriterOutput}
 
@@ -12,6 +13,7 @@ pub record Contents : Type 0 where
   pub octets : List ℕ
   pub position : ℕ
   pub step : ℕ
+  pub fronts_are_octets : (n : ℕ) → IsOctets (take n octets)
 
 -- what was read
 abbrev pub front_of : Contents → List ℕ

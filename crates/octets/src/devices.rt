@@ -2,6 +2,7 @@
 ghost use Rattle.std.specs.Prelude.{◌≡◌, ℕ, ◌<◌, ◌≤◌, Bool, false, List, ◌++◌, length, take, IfOk, IfErr, OnOk, Ok, MatchResult, IsTrue};
 ghost use Rattle.std.specs.Iterator.{Count};
 ghost use Rattle.octets.specs.Devices.{next_count, ComesNearer};
+ghost use Rattle.octets.specs.Octets.{IsOctets};
 
 use crate::Fault;
 
@@ -35,6 +36,9 @@ pub trait Input {
         ensures fails { IfErr result (λ e. (e ≡ Fault.Reading)
             × (consumed self.new ≡ consumed self.old)
             × (failures self.new ≡ next_count (failures self.old))) };
+
+    /// What its reads have given is octets.
+    ghost gives_octets: { (input : Self) → IsOctets (consumed input) };
 }
 
 /// A place where octets go.

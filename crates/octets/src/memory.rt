@@ -1,9 +1,11 @@
 //! Devices over memory.
-ghost use Rattle.std.specs.Prelude.{◌≡◌, ◌↔◌, ◌+◌, ◌<◌, ◌≤◌, [], ◌++◌, length, take, IfOk, IfErr, IsOk, IsErr, IsTrue, OnOk, Ok, MatchResult, true, false};
+ghost use Rattle.std.specs.Prelude.{◌≡◌, ℕ, ◌↔◌, ◌+◌, ◌<◌, ◌≤◌, [], ◌++◌, length, take, IfOk, IfErr, IsOk, IsErr, IsTrue, OnOk, Ok, MatchResult, true, false};
 ghost use Rattle.octets.specs.Devices.{next_count, ComesNearer};
+ghost use Rattle.octets.specs.Octets.{IsOctets};
 ghost use Rattle.octets.specs.Views.{front_of, is_read, rest_of, failures_of, read_count, write_count};
 
 use crate::devices::count_failure;
+use crate::laws::are_octets;
 use crate::{Fault, Input, Output, Refusal};
 use std::alloc::Global;
 use std::marker::Model;
@@ -14,6 +16,7 @@ pub struct MemoryInput<'a> {
     octets: &'a [u8],
     position: usize,
     step: usize,
+    ghost known: { (n : ℕ) → IsOctets (take n octets.now) },
 }
 
 impl<'a> Model for MemoryInput<'a> {
@@ -22,7 +25,7 @@ impl<'a> Model for MemoryInput<'a> {
 
     ghost Value = { Contents };
 
-    ghost view = { λ s. record { octets = s.octets.now; position = s.position; step = s.step } };
+    ghost view = { λ s. record { octets = s.octets.now; position = s.position; step = s.step; fronts_are_octets = s.known } };
 
     ghost invariant = { λ s. (s.position ≤ length s.octets.now) × (0 < s.step) };
 }
@@ -31,8 +34,11 @@ impl<'a> MemoryInput<'a> {
     /// Gives these octets, at most `step` of them at a read.
     pub fn new(octets: &'a [u8], step: usize) -> MemoryInput<'a>
         requires { 0 < step }
-        ensures { result ≡ record { octets = octets.entry.now; position = 0; step = step } }
+        ensures octets { result.octets ≡ octets.entry.now }
+        ensures begins { result.position ≡ 0 }
+        ensures step { result.step ≡ step }
     {
+        are_octets(octets);
         MemoryInput {
             octets,
             position: 0,
@@ -49,6 +55,8 @@ impl<'a> Input for MemoryInput<'a> {
     ghost remaining = { rest_of };
 
     ghost failures = { failures_of };
+
+    ghost gives_octets = { λ c. c.fronts_are_octets c.position };
 
     fn read(&mut self, buf: &mut [u8]) -> Result<usize, Fault>
         ensures count { result ≡ Ok (read_count self.old (length buf.old)) }

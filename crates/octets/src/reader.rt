@@ -1,5 +1,5 @@
 //! Base64url texts that come in pieces, decoded as they come.
-ghost use Rattle.std.specs.Prelude.{◌≡◌, ℕ, ◌+◌, ◌*◌, ◌/◌, ◌≤◌, List, [], ◌++◌, length, take, IfOk, OnOk, IfErr, Ok, Err};
+ghost use Rattle.std.specs.Prelude.{◌≡◌, ℕ, ◌+◌, ◌*◌, ◌/◌, ◌≤◌, List, [], ◌++◌, length, take, drop, IfOk, OnOk, OnErr, IfErr, Ok, Err};
 ghost use Rattle.octets.specs.Base64url.{decoded, settled, unsettled};
 
 use crate::Refusal;
@@ -37,13 +37,15 @@ impl B64Reader {
     }
 
     /// Takes the next piece, of at most 4,096 characters. Writes the octets of the groups that are
-    /// settled now to the front of `out`, and answers how many. Refused with `Base64` where they have none.
+    /// settled now to the front of `out`, and answers how many. Refused with `Base64` where they have none;
+    /// then it holds what it held, and nothing is said of `out`.
     pub fn feed(&mut self, piece: &[u8], out: &mut [u8; 3072]) -> Result<usize, Refusal>
         requires { length piece.now ≤ 4096 }
         ensures within { IfOk result (λ n. n ≤ 3072) }
         ensures waits { OnOk result (self.new ≡ unsettled (self.old ++ piece.now)) }
         ensures octets { IfOk result (λ n. decoded (settled (self.old ++ piece.now)) ≡ Ok (take n out.new)) }
         ensures refused { IfErr result (λ e. (e ≡ Refusal.Base64) × (decoded (settled (self.old ++ piece.now)) ≡ Err Refusal.Base64)) }
+        ensures unchanged { OnErr result (self.new ≡ self.old) }
     {
         let mut text = [0u8; 4114];
         let held = self.count;
@@ -66,15 +68,17 @@ impl B64Reader {
 }
 
 /// Writes the octets that the text means to the front, and answers how many. Refused with `Base64`
-/// where it means none.
+/// where it means none. Past three octets for each four characters, or part of four, `out` is as it was.
 #[tactic(auto, unfolding(crate::specs::Base64url::decoded))]
 pub fn decode_onto(text: &[u8], out: &mut [u8]) -> Result<usize, Refusal>
     requires { (length text.now + 3) / 4 * 3 ≤ length out.old }
     ensures within { IfOk result (λ n. n ≤ length out.old) }
     ensures octets { IfOk result (λ n. decoded text.now ≡ Ok (take n out.new)) }
     ensures refused { IfErr result (λ e. (e ≡ Refusal.Base64) × (decoded text.now ≡ Err Refusal.Base64)) }
+    ensures beyond { let room = (length text.now + 3) / 4 * 3 in drop room out.new ≡ drop room out.old }
 {
-    match BASE64URL.decode_slice_unchecked(text, out) {
+    let room = text.len().div_ceil(4) * 3;
+    match BASE64URL.decode_slice_unchecked(text, &mut out[..room]) {
         Ok(n) => Ok(n),
         Err(_) => Err(Refusal::Base64),
     }

@@ -5,8 +5,10 @@ ghost use Rattle.std.specs.Io.KnownBytes.{Consumes, Appends, Keeps, IsAtEnd, Rea
 ghost use Rattle.std.specs.Io.{ReadsAtMost, WritesAtMost};
 ghost use Rattle.std.specs.IoError.{error_kind};
 ghost use Rattle.octets.specs.Devices.{most_octets, next_count, ComesNearer};
+ghost use Rattle.octets.specs.Octets.{IsOctets};
 
 use crate::devices::count_failure;
+use crate::laws::are_octets;
 use crate::transcript::Transcript;
 use crate::{Fault, Input, Output};
 use std::io;
@@ -24,6 +26,7 @@ pub struct ReaderInput<R> {
     failures: u64,
     transcript: Transcript,
     ghost few: { count ≤ most_octets },
+    ghost known: { IsOctets transcript.octets },
 }
 
 impl<R: Read> ReaderInput<R> {
@@ -57,6 +60,8 @@ impl<R: Read> Input for ReaderInput<R> {
     ghost remaining = { remaining_of };
 
     ghost failures = { read_failures_of };
+
+    ghost gives_octets = { λ input. input.known };
 
     fn read(&mut self, buf: &mut [u8]) -> Result<usize, Fault>
         // Octets of the reader that are known are those that it gives, and its end is the reader's.
@@ -95,6 +100,7 @@ impl<R: Read> Input for ReaderInput<R> {
             count_failure(&mut self.failures);
             return Err(Fault::Reading);
         };
+        are_octets(&buf[..n]);
         self.transcript.append(&buf[..n]);
         self.count += n as u64;
         self.is_at_end = n == 0;

@@ -1,7 +1,7 @@
 //! All of an input, piece by piece or whole, or exactly so many octets of it, and all of a text to an output.
-ghost use Rattle.std.specs.Prelude.{◌≡◌, ◌<◌, ◌≤◌, ◌++◌, length, take, Ok, IfOk, OnOk, OnErr, IfErr, IsTrue};
+ghost use Rattle.std.specs.Prelude.{◌≡◌, ◌<◌, ◌≤◌, ◌++◌, length, take, drop, Ok, IfOk, OnOk, OnErr, IfErr, IsTrue};
 ghost use Rattle.std.specs.Iterator.{IsFinite, size};
-ghost use Rattle.octets.specs.Devices.{next_count, appended, observed, AppendsPrefixOf, Extends, Rose};
+ghost use Rattle.octets.specs.Devices.{next_count, appended, observed, AppendsPrefixOf, Extends};
 ghost use Rattle.octets.specs.Octets.{IsOctets};
 ghost use Rattle.octets.specs.Outcomes.{IsReadingFailure, IsDrawingFailure};
 
@@ -54,9 +54,12 @@ pub fn read_piece<I: Input>(content: &mut I, buf: &mut [u8; 4096]) -> Result<usi
 }
 
 /// Fills `out` from the random input, and takes exactly so many octets from it. Refused with `Read`
-/// where the input fails, and with `Random` where it ends first.
+/// where the input fails, and with `Random` where it ends first; then the front of `out` has what was
+/// taken, and the rest is as it was.
 pub fn draw<I: Input>(random: &mut I, out: &mut [u8]) -> Result<(), Refusal>
     ensures octets { OnOk result (I.consumed random.new ≡ I.consumed random.old ++ out.new) }
+    ensures taken { let drawn = appended (I.consumed random.old) (I.consumed random.new)
+        in out.new ≡ drawn ++ drop (length drawn) out.old }
     ensures works { OnOk result (I.failures random.new ≡ I.failures random.old) }
     ensures fails { IfErr result (IsDrawingFailure (length out.old)
         (observed I.consumed I.is_at_end random.old random.new)
@@ -65,12 +68,15 @@ pub fn draw<I: Input>(random: &mut I, out: &mut [u8]) -> Result<(), Refusal>
     ensures at_most { length (appended (I.consumed random.old) (I.consumed random.new)) ≤ length out.old }
     ensures untouched { length out.old ≡ 0 → random.new ≡ random.old }
 {
+    let mut buf = [0u8; LONGEST_READ];
     let mut filled = 0;
     'draws: while filled < out.len() {
-        let n = random.read(&mut out[filled..])?;
+        let room = (out.len() - filled).min(LONGEST_READ);
+        let n = random.read(&mut buf[..room])?;
         if n == 0 {
             return Err(Refusal::Random);
         }
+        out[filled..filled + n].copy_from_slice(&buf[..n]);
         filled += n;
     }
     Ok(())
@@ -118,7 +124,7 @@ pub fn emit<O: Output>(out: &mut O, octets: &[u8]) -> Result<(), Refusal>
     ensures works { OnOk result (O.failures out.new ≡ O.failures out.old) }
     ensures part { OnErr result (AppendsPrefixOf octets.now (O.written out.old) (O.written out.new)) }
     ensures cause { OnErr result (result ≡ Err Refusal.Write) }
-    ensures fails { OnErr result (Rose (O.failures out.old) (O.failures out.new)) }
+    ensures fails { OnErr result (O.failures out.new ≡ next_count (O.failures out.old)) }
 {
     write_whole(out, octets)?;
     Ok(out.finish()?)

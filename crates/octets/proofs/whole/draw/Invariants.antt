@@ -1,4 +1,4 @@
-use Rattle.std.proofs.Common.{◌≡◌, ◌≤◌, ◌-◌, ◌++◌, length, take}
+use Rattle.std.proofs.Common.{◌≡◌, ◌≤◌, ◌-◌, ◌++◌, length, take, drop}
 use Rattle.octets.proofs.whole.draw.Given as goal
 
 abbrev pub invariant-draws : goal.invariant-draws
@@ -6,6 +6,7 @@ invariant-draws g l =
     let input = g.I.Input in record {
       in_range : l.filled ≤ length l.out;
       drawn : input.consumed l.random ≡ input.consumed l.fn.random ++ take l.filled l.out;
+      rest : drop l.filled l.out ≡ drop l.filled l.fn.out;
       works : input.failures l.random ≡ input.failures l.fn.random;
       untouched : length l.out ≡ 0 → l.random ≡ l.fn.random;
     }

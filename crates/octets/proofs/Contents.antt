@@ -1,0 +1,21 @@
+-- Inputs over memory, whose octets are known to be octets.
+use Rattle.std.proofs.Common.{◌≡◌, ℕ, List, take, ap, subst, ◌∙◌}
+use Rattle.std.proofs.Math.Bridge.{le_prop}
+use Rattle.octets.specs.Octets.{IsOctets}
+use Rattle.octets.specs.Views.{Contents}
+
+-- that they are octets has one proof
+one_proof : (octets : List ℕ) → IsProp ((n : ℕ) → IsOctets (take n octets))
+one_proof octets = hlevel le_prop
+
+-- two with the same octets, at the same place and of the same step
+pub contents_same : (a b : Contents) → a.octets ≡ b.octets → a.position ≡ b.position → a.step ≡ b.step → a ≡ b
+contents_same a b octets position step =
+    let made : (xs : List ℕ) → ℕ → ℕ → ((n : ℕ) → IsOctets (take n xs)) → Contents =
+    λ xs p s known. record { octets = xs; position = p; step = s; fronts_are_octets = known } in
+    let same_octets : (known : (n : ℕ) → IsOctets (take n b.octets)) → a ≡ made b.octets a.position a.step known =
+    subst (λ (xs : List ℕ). (known : (n : ℕ) → IsOctets (take n xs)) → a ≡ made xs a.position a.step known) octets
+    (λ known. ap (made a.octets a.position a.step) (one_proof a.octets a.fronts_are_octets known)) in
+    same_octets b.fronts_are_octets
+    ∙ ap (λ p. made b.octets p a.step b.fronts_are_octets) position
+    ∙ ap (λ s. made b.octets b.position s b.fronts_are_octets) step
