@@ -1,11 +1,11 @@
 //! Encrypting to each key of a set (RFC 7516 section 5.1), in compact or in JSON form.
-ghost use Rattle.std.specs.Prelude.{◌≡◌, ◌≢◌, ◌≤◌, ◌<◌, ◌*◌, ◌||◌, ◌++◌, ℕ, if◌then◌else◌, IsOk, IsErr, true, false, not, nat_le, List, [], ◌∷◌, length, map, is_some, Err, option_map, IfOk, IfErr, OnOk, OnErr, IsTrue, string_bytes};
+ghost use Rattle.std.specs.Prelude.{◌≡◌, ◌≢◌, ◌⊎◌, ◌≤◌, ◌<◌, ◌*◌, ◌||◌, ◌++◌, ℕ, if◌then◌else◌, IsOk, IsErr, true, false, not, nat_le, List, [], ◌∷◌, length, map, is_some, Err, option_map, IfOk, IfErr, OnOk, OnErr, IsTrue, string_bytes};
 ghost use Rattle.std.specs.Iterator.{IsFinite};
 ghost use Rattle.std.specs.List.{AllByRecursion};
 ghost use Rattle.std.specs.Option.{unwrap_or};
 ghost use Rattle.octets.specs.Base64url.{base64url};
 ghost use Rattle.octets.specs.Devices.{appended, observed, IsPossibleInput, AppendsPrefixOf};
-ghost use Rattle.octets.specs.Faults.{TellsFaults, counts};
+ghost use Rattle.octets.specs.Faults.{TellsFaults, DidNotFail, counts};
 ghost use Rattle.octets.specs.Lent.{lent, wrote_on, IfLent, counts_of};
 ghost use Rattle.octets.specs.Octets.{IsOctets};
 ghost use Rattle.octets.specs.Outcomes.{AgreesUnlessExternal, is_external};
@@ -115,13 +115,22 @@ pub fn jwe_encrypt<I: Input, O: Output>(
         → (random.new ≡ random.old) × (content.new ≡ content.old) }
     ensures random_first { length (appended (I.consumed random.old) (I.consumed random.new))
         < drawn_of (encrypting_by limits compact (is_some detached.entry) keys.now template.now) → content.new ≡ content.old }
-    ensures uncut { IfErr result (λ refusal. refusal ≢ Refusal.Write → (O.written out.new ≡ O.written out.old → out.new ≡ out.old)
-        × IfLent (lent detached.entry detached.exit) (λ old new. O.written new ≡ O.written old → new ≡ old)) }
+    ensures uncut { IfErr result (λ refusal.
+        (DidNotFail refusal (counts O.failures out.old out.new) → O.written out.new ≡ O.written out.old → out.new ≡ out.old)
+        × IfLent (lent detached.entry detached.exit) (λ old new. refusal ≢ Refusal.Write → O.written new ≡ O.written old → new ≡ old)) }
 
-    // All memory is taken before the content is touched, and both outputs are as they were where nothing of it could be read.
+    // The text is not begun before the ciphertext stands whole beside it, where it is detached.
+    ensures content_first { OnErr result ((out.new ≡ out.old) ⊎ IfLent (lent detached.entry detached.exit) (λ old new.
+        IsTrue (I.is_at_end content.new) × IsTrue (O.is_finished new)
+        × (O.written new ≡ O.written old ++ (begun (plan_from (encrypting_by limits compact (is_some detached.entry) keys.now template.now) (appended (I.consumed random.old) (I.consumed random.new)))
+        (observed I.consumed I.is_at_end content.old content.new)).content))) }
+
+    // All memory is taken before the content is touched, and an output that did not fail is as it was where nothing of it could be
+    // read.
     ensures memory_first { IfErr result (λ refusal. refusal ≡ Refusal.Memory → content.new ≡ content.old) }
-    ensures unread { IfErr result (λ refusal. refusal ≢ Refusal.Write → appended (I.consumed content.old) (I.consumed content.new) ≡ []
-        → (out.new ≡ out.old) × IfLent (lent detached.entry detached.exit) (λ old new. new ≡ old)) }
+    ensures unread { IfErr result (λ refusal. appended (I.consumed content.old) (I.consumed content.new) ≡ []
+        → (DidNotFail refusal (counts O.failures out.old out.new) → out.new ≡ out.old)
+        × IfLent (lent detached.entry detached.exit) (λ old new. refusal ≢ Refusal.Write → new ≡ old)) }
     ensures faults { TellsFaults (counts I.failures random.old random.new ∷ counts I.failures content.old content.new ∷ [])
         (counts O.failures out.old out.new ∷ counts_of O.failures (lent detached.entry detached.exit)) result }
 {

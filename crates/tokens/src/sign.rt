@@ -1,12 +1,12 @@
 //! Signing with each key of a set (RFC 7515 section 5.1), in compact or in JSON form.
-ghost use Rattle.std.specs.Prelude.{◌≡◌, ◌≢◌, ◌+◌, ◌++◌, ℕ, List, [], ◌∷◌, true, false, length, is_some, Err, IfOk, IfErr, IsTrue, OnOk, OnErr, map, option_map, string_bytes};
+ghost use Rattle.std.specs.Prelude.{◌≡◌, ◌≢◌, ◌⊎◌, ◌+◌, ◌++◌, ℕ, List, [], ◌∷◌, true, false, length, is_some, Err, IfOk, IfErr, IsTrue, OnOk, OnErr, map, option_map, string_bytes};
 ghost use Rattle.std.specs.Iterator.{IsFinite};
 ghost use Rattle.std.specs.List.{list_all};
 ghost use Rattle.serde_json.specs.View.{members_view};
 ghost use Rattle.serde_json.specs.Written.{members_have_float};
 ghost use Rattle.octets.specs.Base64url.{base64url};
 ghost use Rattle.octets.specs.Devices.{appended, observed, IsPossibleInput, AppendsPrefixOf};
-ghost use Rattle.octets.specs.Faults.{TellsFaults, counts};
+ghost use Rattle.octets.specs.Faults.{TellsFaults, DidNotFail, counts};
 ghost use Rattle.octets.specs.Octets.{IsOctets};
 ghost use Rattle.octets.specs.Lent.{lent, wrote_on, IfLent, counts_of};
 ghost use Rattle.octets.specs.Outcomes.{AgreesUnlessMemory, AgreesUnlessExternal, is_memory, is_external};
@@ -73,16 +73,24 @@ pub fn jws_sign<I: Input, O: Output>(
     ensures finished { OnOk result (IsTrue (O.is_finished out.new) × IfLent (lent detached.entry detached.exit) (λ old new. IsTrue (O.is_finished new))) }
 
     // What the template and the keys refuse is refused before the content is touched; an output on which nothing was
-    // written is as it was, unless one failed.
+    // written is as it was, unless it failed.
     ensures content_last { (refusal : Refusal) → signing_by limits compact (is_some detached.entry) keys.now template.now ≡ Err refusal
         → content.new ≡ content.old }
-    ensures uncut { IfErr result (λ refusal. refusal ≢ Refusal.Write → (O.written out.new ≡ O.written out.old → out.new ≡ out.old)
-        × IfLent (lent detached.entry detached.exit) (λ old new. O.written new ≡ O.written old → new ≡ old)) }
+    ensures uncut { IfErr result (λ refusal.
+        (DidNotFail refusal (counts O.failures out.old out.new) → O.written out.new ≡ O.written out.old → out.new ≡ out.old)
+        × IfLent (lent detached.entry detached.exit) (λ old new. refusal ≢ Refusal.Write → O.written new ≡ O.written old → new ≡ old)) }
 
-    // All memory is taken before the content is touched, and both outputs are as they were where nothing of it could be read.
+    // The text is not begun before the payload stands whole beside it, where it is detached.
+    ensures content_first { OnErr result ((out.new ≡ out.old) ⊎ IfLent (lent detached.entry detached.exit) (λ old new.
+        IsTrue (I.is_at_end content.new) × IsTrue (O.is_finished new)
+        × (O.written new ≡ O.written old ++ (begun (signing_by limits compact (is_some detached.entry) keys.now template.now) (observed I.consumed I.is_at_end content.old content.new)).content))) }
+
+    // All memory is taken before the content is touched, and an output that did not fail is as it was where nothing of it could be
+    // read.
     ensures memory_first { IfErr result (λ refusal. refusal ≡ Refusal.Memory → content.new ≡ content.old) }
-    ensures unread { IfErr result (λ refusal. refusal ≢ Refusal.Write → appended (I.consumed content.old) (I.consumed content.new) ≡ []
-        → (out.new ≡ out.old) × IfLent (lent detached.entry detached.exit) (λ old new. new ≡ old)) }
+    ensures unread { IfErr result (λ refusal. appended (I.consumed content.old) (I.consumed content.new) ≡ []
+        → (DidNotFail refusal (counts O.failures out.old out.new) → out.new ≡ out.old)
+        × IfLent (lent detached.entry detached.exit) (λ old new. refusal ≢ Refusal.Write → new ≡ old)) }
     ensures faults { TellsFaults (counts I.failures content.old content.new ∷ [])
         (counts O.failures out.old out.new ∷ counts_of O.failures (lent detached.entry detached.exit)) result }
 {

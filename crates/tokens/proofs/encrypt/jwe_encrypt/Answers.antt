@@ -7,6 +7,7 @@ use Rattle.octets.specs.Outcomes.{is_external}
 use Rattle.octets.specs.Plan.{plan_from, planned}
 use Rattle.octets.proofs.Agreement.{agrees_last, at_refusal, on_refusal, on_success, seen_possible}
 use Rattle.octets.proofs.Prefixes.{AppendsPrefixOf-all, AppendsPrefixOf-kept}
+use Rattle.octets.proofs.Spared.{stands_first}
 use Rattle.ciphers.specs.contracts.sealer.ContentSealerSealer.TheImpl.{is_sealing-value}
 use Rattle.keys.specs.Limits.{limits}
 use Rattle.objects.specs.Frames.{filled}
@@ -128,13 +129,16 @@ pub returns-in_err-tag-in-Some-clause-uncut : goal.returns-in_err-tag-in-Some-cl
 returns-in_err-tag-in-Some-clause-uncut g c =
     let e : Refusal = c.in_err-tag-in-Some.field-0.0 in
     let back = c.from_residual-in_err-tag-in-Some in
-    rw (c.in-Some.is) (if_err _ back.result e (of_residual back.result e back.ensures.0 back.ensures.1) (λ other. (λ same. refl, λ same. c.in_err-tag-in-Some.ensures.uncut other same)))
+    rw (c.in-Some.is) (if_err _ back.result e (of_residual back.result e back.ensures.0 back.ensures.1) (λ spared same. refl, λ other same. c.in_err-tag-in-Some.ensures.uncut other same))
 
 pub returns-in_err-tag-in-Some-clause-unread : goal.returns-in_err-tag-in-Some-clause-unread
 returns-in_err-tag-in-Some-clause-unread g c =
     let e : Refusal = c.in_err-tag-in-Some.field-0.0 in
     let back = c.from_residual-in_err-tag-in-Some in
-    rw (c.in-Some.is) (if_err _ back.result e (of_residual back.result e back.ensures.0 back.ensures.1) (λ other nothing. (refl, c.in_err-tag-in-Some.ensures.unread other nothing)))
+    rw (c.in-Some.is) (if_err _ back.result e (of_residual back.result e back.ensures.0 back.ensures.1) (λ nothing. (λ spared. refl, λ other. c.in_err-tag-in-Some.ensures.unread other nothing)))
+
+pub returns-in_err-texts-in-Some-clause-faults : goal.returns-in_err-texts-in-Some-clause-faults
+returns-in_err-texts-in-Some-clause-faults g c = rw (c.in-Some.is) (search rules)
 
 pub returns-in_err-tag-in-Some-clause-faults : goal.returns-in_err-tag-in-Some-clause-faults
 returns-in_err-tag-in-Some-clause-faults g c = rw (c.in-Some.is) (search rules)
@@ -201,3 +205,17 @@ returns-in_ok-tag-in-Some-clause-finished g c =
 
 pub returns-in_ok-tag-in-Some-clause-faults : goal.returns-in_ok-tag-in-Some-clause-faults
 returns-in_ok-tag-in-Some-clause-faults g c = rw (c.in-Some.is) (search rules)
+
+pub returns-in_ok-tag-in-Some-clause-content_first : goal.returns-in_ok-tag-in-Some-clause-content_first
+returns-in_ok-tag-in-Some-clause-content_first g c =
+    let consumed = g.I.Input.consumed in
+    let at_end = g.I.Input.is_at_end in
+    let written = g.O.Output.written in
+    let made = c.in_ok-texts-in-Some in
+    let u = made.ensures.unsealed (appended (consumed c.args.random.now) (consumed c.prepare-in-Some.new.random)) (seen_possible consumed at_end c.args.random.now c.prepare-in-Some.new.random) in
+    let p = appended (consumed c.args.content.now) (consumed c.seal_beside.new.plaintext) in
+    let s = sealing_by u.encryption u.random in
+    let sealed = c.in_ok-tag-in-Some in
+    let is = beside_texts is_sealing-value.it c.args.compact _ made.field-0.sealer _ u p (at_end c.seal_beside.new.plaintext) (written c.in-Some.detached.now) (written c.seal_beside.new.out) sealed.tag c.seal_beside.ensures.octets
+    sealed.ensures.ends (sealed.ensures.extends s u.begun) (sealed.ensures.sealed s u.begun) in
+    rw (c.in-Some.is) (stands_first _ _ sealed.ensures.ends sealed.ensures.finished (sealed.ensures.extends s u.begun ∙ ap (λ t. written c.in-Some.detached.now ++ t.content) (sym is)))

@@ -4,6 +4,7 @@ use Rattle.octets.specs.Base64url.{base64url}
 use Rattle.octets.specs.Devices.{appended, AppendsPrefixOf}
 use Rattle.octets.proofs.Agreement.{agrees_last, at_refusal, on_refusal, on_success}
 use Rattle.octets.proofs.Prefixes.{AppendsPrefixOf-all, AppendsPrefixOf-kept}
+use Rattle.octets.proofs.Spared.{stands_first}
 use Rattle.objects.specs.Frames.{filled}
 use Rattle.tokens.specs.SigningInputs.{HoldEach, signature_text}
 use Rattle.tokens.specs.contracts.signing_input.HmacInputSigningInput.TheImpl.{has_taken-value}
@@ -191,3 +192,19 @@ returns-in_ok-sign_beside-in-Some-clause-finished g c =
 pub returns-in_ok-sign_beside-in-Some-clause-faults : goal.returns-in_ok-sign_beside-in-Some-clause-faults
 returns-in_ok-sign_beside-in-Some-clause-faults g c =
     rw (c.in-Some.is) (search rules)
+
+pub returns-in_err-texts-in-Some-clause-faults : goal.returns-in_err-texts-in-Some-clause-faults
+returns-in_err-texts-in-Some-clause-faults g c =
+    rw (c.in-Some.is) (search rules)
+
+pub returns-in_ok-sign_beside-in-Some-clause-content_first : goal.returns-in_ok-sign_beside-in-Some-clause-content_first
+returns-in_ok-sign_beside-in-Some-clause-content_first g c =
+    let consumed = g.I.Input.consumed in
+    let written = g.O.Output.written in
+    let made = c.in_ok-texts-in-Some in
+    let f = made.ensures.framed in
+    let items = made.field-0.texts.items in
+    let p = appended (consumed c.args.content.now) (consumed c.sign_beside.new.payload) in
+    let is = beside_is has_taken-value.it c.args.compact _ made.field-0.inputs.items _ f p (g.I.Input.is_at_end c.sign_beside.new.payload) c.sign_beside.ensures.octets in
+    let beside = c.in_ok-sign_beside-in-Some.ensures in
+    rw (c.in-Some.is) (stands_first _ _ beside.ends beside.finished (beside.all ∙ ap (λ t. written c.in-Some.detached.now ++ t) (sym is)))

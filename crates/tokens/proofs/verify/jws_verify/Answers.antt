@@ -9,6 +9,9 @@ use Rattle.tokens.proofs.verify.jws_verify.Goals as goal
 pub returns-in_err-verified-in-Some-clause-held_back : goal.returns-in_err-verified-in-Some-clause-held_back
 returns-in_err-verified-in-Some-clause-held_back g c = rw (c.in-Some.is) (search rules)
 
+pub returns-in_err-verified-in-Some-clause-faults : goal.returns-in_err-verified-in-Some-clause-faults
+returns-in_err-verified-in-Some-clause-faults g c = rw (c.in-Some.is) (search rules)
+
 pub returns-in_err-verified-in-Some-clause-beginning : goal.returns-in_err-verified-in-Some-clause-beginning
 returns-in_err-verified-in-Some-clause-beginning g c = rw (c.in-Some.is) (at_refusal c.from_residual.result (AppendsPrefixOf-kept _ _))
 

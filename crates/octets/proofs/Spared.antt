@@ -1,0 +1,17 @@
+-- An output that did not fail, whatever the other did.
+use Rattle.std.proofs.Common.{◌≡◌, ◌≢◌, ◌<◌, ◌⊎◌, List, [], ◌∷◌, Result, OnErr, inl, inr, arith}
+use Rattle.octets.specs.declared.refusal.Refusal.{Refusal}
+use Rattle.octets.specs.declared.refusal.Refusal.TheVariants.{Write}
+use Rattle.octets.specs.Faults.{Counts, SomeFailed, DidNotFail}
+use Rattle.octets.proofs.Agreement.{at_refusal}
+
+-- where it is the only output that may be told, none is told
+pub not_told : (e : Refusal) (c : Counts) → (e ≡ Write → SomeFailed (c ∷ [])) → DidNotFail e c → e ≢ Write
+not_told e c told spared is = elim (told is) [
+    | inl rose ↦ let more : c.old < c.new = rose (spared is).0 in absurd (omega (arith, more, (spared is).1))
+    | inr none ↦ none
+  ]
+
+-- what stands whole beside a text, in place of a text that is not begun
+pub stands_first : {E F W : Type 0} (P : Type 0) (r : Result (Unit {0}) Refusal) → E → F → W → OnErr r (P ⊎ (E × F × W))
+stands_first P r ended finished whole = at_refusal r (inr (ended, finished, whole))
