@@ -1,9 +1,10 @@
 -- The answer of each command: the octets of each output, or the first refusal, from whole inputs.
-use Rattle.std.specs.Prelude.{◌≡◌, ◌≢◌, ◌≤◌, ℕ, Bool, true, false, ◌&&◌, ◌||◌, IsTrue, List, [], length, is_some, Option, Some, None, Result, Err}
+use Rattle.std.specs.Prelude.{◌≡◌, ◌≢◌, ◌⊎◌, ◌<◌, ◌≤◌, ℕ, Bool, true, false, not, ◌&&◌, ◌||◌, IsTrue, List, [], ◌++◌, length, is_some, Option, Some, None, Result, Err}
 use Rattle.octets.specs.declared.refusal.Refusal.{Refusal}
-use Rattle.octets.specs.declared.refusal.Refusal.TheVariants.{Write}
+use Rattle.octets.specs.declared.refusal.Refusal.TheVariants.{Usage, Write, Memory}
 use Rattle.octets.specs.Devices.{Observed}
-use Rattle.octets.specs.Outcomes.{AgreesUnlessExternal}
+use Rattle.octets.specs.Faults.{counts, DidNotFail}
+use Rattle.octets.specs.Outcomes.{AgreesUnlessExternal, is_external}
 use Rattle.octets.specs.Plan.{OutputTexts, Draft, drawn_of, plan_from, planned, planned_beginning}
 use Rattle.clap.specs.Words.{Text}
 use Rattle.jose.specs.declared.command.Command.{Command}
@@ -97,21 +98,43 @@ others_read invocation seen =
     was_read (has_keys_input invocation.command) seen.keys
     && was_read (has_template ((meaning_of invocation.command).content invocation.options) (has_text_input invocation.command)) seen.text
 
+-- what was seen of the content; a command without one has read all of it
+abbrev pub content_seen : InvocationView → ObservedInputs → Observed
+content_seen invocation seen = content_of ((meaning_of invocation.command).content invocation.options) seen.text seen.content (record { octets = []; ended = true })
+
 -- the outputs hold a beginning of these texts: of none before the other inputs are read and accepted
 abbrev pub beginning : InvocationView → ObservedInputs → OutputTexts
 beginning invocation seen =
     planned_beginning (others_read invocation seen) (plan_from (draft_of invocation seen.text.octets seen.keys.octets) seen.random.octets)
-    (content_of ((meaning_of invocation.command).content invocation.options) seen.text seen.content (record { octets = []; ended = true }))
+    (content_seen invocation seen)
+
+-- The output of the text did not fail, or only its own failure tells of it; and none failed, for that of a content beside it, which
+-- is written first.
+pub record AreSpared {D : Type 0} (failures : D → ℕ) (old new : Outputs D) (refusal : Refusal) (Text Content : Type 0) : Type 0 where
+  pub text : DidNotFail refusal (counts failures old.text new.text) → Text
+  pub content : refusal ≢ Write → Content
 
 -- A command that holds back has touched an output only where it failed.
-abbrev pub HoldsBack : {D : Type 0} → InvocationView → Outputs D → Outputs D → Refusal → Type 0
-HoldsBack invocation old new refusal =
-    IsTrue (meaning_of invocation.command).holds_back → refusal ≢ Write → (new.text ≡ old.text) × (new.content ≡ old.content)
+abbrev pub HoldsBack : {D : Type 0} → (D → ℕ) → InvocationView → Outputs D → Outputs D → Refusal → Type 0
+HoldsBack failures invocation old new refusal =
+    IsTrue (meaning_of invocation.command).holds_back → AreSpared failures old new refusal (new.text ≡ old.text) (new.content ≡ old.content)
 
--- An output on which nothing was written is as it was, unless one failed.
-abbrev pub AreUncut : {D : Type 0} → (D → List ℕ) → Outputs D → Outputs D → Refusal → Type 0
-AreUncut written old new refusal = refusal ≢ Write
-    → (written new.text ≡ written old.text → new.text ≡ old.text) × (written new.content ≡ written old.content → new.content ≡ old.content)
+-- An output on which nothing was written is as it was, unless it failed.
+abbrev pub AreUncut : {D : Type 0} → (D → ℕ) → (D → List ℕ) → Outputs D → Outputs D → Refusal → Type 0
+AreUncut failures written old new refusal =
+    AreSpared failures old new refusal (written new.text ≡ written old.text → new.text ≡ old.text) (written new.content ≡ written old.content → new.content ≡ old.content)
+
+-- Where nothing could be read of the content of a command that writes as it reads, an output is as it was, unless it failed.
+abbrev pub AreUnread : {D : Type 0} → (D → ℕ) → InvocationView → ObservedInputs → Outputs D → Outputs D → Refusal → Type 0
+AreUnread failures invocation seen old new refusal =
+    (meaning_of invocation.command).holds_back ≡ false → (content_seen invocation seen).octets ≡ []
+    → AreSpared failures old new refusal (new.text ≡ old.text) (new.content ≡ old.content)
+
+-- The text is not begun before the content stands whole beside it, where it goes out there.
+abbrev pub IsContentFirst : {D : Type 0} → (D → List ℕ) → (D → Bool) → InvocationView → ObservedInputs → Outputs D → Outputs D → Type 0
+IsContentFirst written is_finished invocation seen old new = (new.text ≡ old.text) ⊎ (IsTrue (has_content_output invocation)
+    → IsTrue (content_seen invocation seen).ended × IsTrue (is_finished new.content)
+    × (written new.content ≡ written old.content ++ (beginning invocation seen).content))
 
 -- ---- the order of reading
 
@@ -121,6 +144,22 @@ pub record AreInOrder {D : Type 0} (invocation : InvocationView) (seen : Observe
   pub keys : was_read (has_text_input invocation.command) seen.text ≡ false → new.keys ≡ old.keys
   pub random : others_read invocation seen ≡ false → new.random ≡ old.random
   pub content : others_read invocation seen ≡ false → new.content ≡ old.content
+
+-- What the octets of the inputs are refused with is refused once each of them was read to its end, but for a content that is
+-- read while its text is written.
+abbrev pub ReadsFirst : InvocationView → ObservedInputs → Refusal → Type 0
+ReadsFirst invocation seen refusal = is_external refusal ≡ false → refusal ≢ Usage
+    → IsTrue (others_read invocation seen && (not (meaning_of invocation.command).holds_back || (content_seen invocation seen).ended))
+
+-- The content is untouched before all octets of the random input are drawn.
+abbrev pub DrawsFirst : {D : Type 0} → InvocationView → ObservedInputs → Inputs D → Inputs D → Type 0
+DrawsFirst invocation seen old new =
+    length seen.random.octets < drawn_of (draft_of invocation seen.text.octets seen.keys.octets) → new.content ≡ old.content
+
+-- Want of memory is answered only by a command that takes memory, and, where it writes as it reads, before the content is touched.
+abbrev pub TakesMemoryFirst : {D : Type 0} → InvocationView → Inputs D → Inputs D → Refusal → Type 0
+TakesMemoryFirst invocation old new refusal = refusal ≡ Memory
+    → IsTrue (meaning_of invocation.command).takes_memory × ((meaning_of invocation.command).holds_back ≡ false → new.content ≡ old.content)
 
 -- What the text and the keys refuse is refused before the random input and the content are touched.
 abbrev pub RefusesFirst : {D : Type 0} → InvocationView → ObservedInputs → Inputs D → Inputs D → Type 0

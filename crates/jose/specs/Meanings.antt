@@ -25,6 +25,8 @@ pub record Meaning : Type 0 where
   pub content : Settings → Content
   -- no output is touched before all is accepted
   pub holds_back : Bool
+  -- it takes memory; else it is never refused for want of it
+  pub takes_memory : Bool
   -- what the settings, the text and the keys settle, or the first refusal; a text that is the content settles nothing
   pub draft : Settings → List ℕ → List ℕ → Result (Draft OutputTexts) Refusal
 
@@ -57,6 +59,7 @@ abbrev pub jwk_gen : Meaning
 jwk_gen = record {
   content = λ settings. none;
   holds_back = true;
+  takes_memory = true;
   draft = λ settings text keys. placed as_text (making text);
 }
 
@@ -64,6 +67,7 @@ abbrev pub jwk_thp : Meaning
 jwk_thp = record {
   content = λ settings. none;
   holds_back = true;
+  takes_memory = true;
   draft = λ settings text keys. placed as_text (by_text (ok_or (hash_asked settings) Usage >>= λ hash. thp_answer hash text));
 }
 
@@ -71,6 +75,7 @@ abbrev pub b64_enc : Meaning
 b64_enc = record {
   content = λ settings. the_content;
   holds_back = false;
+  takes_memory = false;
   draft = λ settings text keys. placed as_text (by_plan (Ok encoding));
 }
 
@@ -78,6 +83,7 @@ abbrev pub b64_dec : Meaning
 b64_dec = record {
   content = λ settings. the_text;
   holds_back = false;
+  takes_memory = false;
   draft = λ settings text keys. placed as_content (by_plan (Ok decoding));
 }
 
@@ -85,6 +91,7 @@ abbrev pub jws_sig : Meaning
 jws_sig = record {
   content = λ settings. the_content;
   holds_back = false;
+  takes_memory = true;
   draft = λ settings text keys. by_plan (sig_answer (is_compact_asked settings) (is_content_wanted settings) keys text);
 }
 
@@ -92,6 +99,7 @@ abbrev pub jws_ver : Meaning
 jws_ver = record {
   content = content_beside;
   holds_back = true;
+  takes_memory = true;
   draft = λ settings text keys.
       placed as_content (of_object (is_content_given settings) [] (λ detached. ver_answer (is_all_asked settings) (is_content_wanted settings) keys detached text));
 }
@@ -100,6 +108,7 @@ abbrev pub jws_fmt : Meaning
 jws_fmt = record {
   content = content_beside;
   holds_back = true;
+  takes_memory = true;
   draft = λ settings text keys. of_object (is_content_given settings) nothing (λ detached. jws_fmt_answer (is_compact_asked settings) (is_content_wanted settings) detached text);
 }
 
@@ -107,6 +116,7 @@ abbrev pub jwe_enc : Meaning
 jwe_enc = record {
   content = λ settings. the_content;
   holds_back = false;
+  takes_memory = true;
   draft = λ settings text keys. enc_answer (is_compact_asked settings) (is_content_wanted settings) keys text;
 }
 
@@ -114,6 +124,7 @@ abbrev pub jwe_dec : Meaning
 jwe_dec = record {
   content = content_beside;
   holds_back = true;
+  takes_memory = true;
   draft = λ settings text keys. placed as_content (of_object (is_content_given settings) [] (λ detached. dec_answer keys detached text));
 }
 
@@ -121,6 +132,7 @@ abbrev pub jwe_fmt : Meaning
 jwe_fmt = record {
   content = content_beside;
   holds_back = true;
+  takes_memory = true;
   draft = λ settings text keys. of_object (is_content_given settings) nothing (λ detached. jwe_fmt_answer (is_compact_asked settings) (is_content_wanted settings) detached text);
 }
 

@@ -3,7 +3,7 @@ ghost use Rattle.std.specs.Prelude.{◌≡◌, ◌&&◌, false, ℕ, List, [], �
 ghost use Rattle.std.specs.Iterator.{IsFinite};
 ghost use Rattle.octets.specs.Devices.{observed, IsPossibleInput};
 ghost use Rattle.octets.specs.Faults.{TellsFaults, counts};
-ghost use Rattle.octets.specs.Outcomes.{IsReadingFailure, GivesUnlessExternal};
+ghost use Rattle.octets.specs.Outcomes.{IsReadingFailure, GivesUnlessExternal, is_external};
 ghost use Rattle.keys.specs.KeySets.{key_set};
 ghost use Rattle.keys.specs.Limits.{limits};
 ghost use Rattle.objects.specs.Texts.{handed_in};
@@ -32,6 +32,7 @@ fn read_with_keys<I: Input>(
     ensures keys { (whole : List ℕ) → IsPossibleInput (observed I.consumed I.is_at_end keys.old keys.new) whole
         → GivesUnlessExternal (λ read. read.1) result (key_set limits whole strict) }
     ensures in_order { I.is_at_end text.new ≡ false → keys.new ≡ keys.old }
+    ensures reads_first { IfErr result (λ refusal. is_external refusal ≡ false → IsTrue (I.is_at_end text.new) × IsTrue (I.is_at_end keys.new)) }
     ensures faults { TellsFaults (counts I.failures text.old text.new ∷ counts I.failures keys.old keys.new ∷ []) [] result }
 {
     let text = read_to_end(alloc, text)?;
@@ -62,6 +63,8 @@ fn read_object<I: Input>(
     ensures content_ends { OnOk result (IsTrue given → IsTrue (I.is_at_end content.new)) }
     ensures in_order { (I.is_at_end text.new ≡ false → keys.new ≡ keys.old)
         × (I.is_at_end keys.new && I.is_at_end text.new ≡ false → content.new ≡ content.old) }
+    ensures reads_first { IfErr result (λ refusal. is_external refusal ≡ false
+        → IsTrue (I.is_at_end text.new) × IsTrue (I.is_at_end keys.new) × (IsTrue given → IsTrue (I.is_at_end content.new))) }
     ensures untouched { given ≡ false → content.new ≡ content.old }
     ensures faults { TellsFaults (counts I.failures text.old text.new ∷ counts I.failures keys.old keys.new ∷ counts I.failures content.old content.new ∷ []) [] result }
 {

@@ -4,7 +4,7 @@ ghost use Rattle.std.specs.Iterator.{IsFinite};
 ghost use Rattle.jose.specs.Invocations.{invocation_view};
 ghost use Rattle.octets.specs.Faults.{TellsFaults};
 ghost use Rattle.jose.specs.Ports.{observed_inputs, written_texts, AreFinite, AppendPrefixesOf, input_counts, output_counts};
-ghost use Rattle.jose.specs.Answer.{Answers, DrawsAll, DrawsNoMore, AreFinished, AreUntouched, AreUncut, AreInOrder, RefusesFirst, HoldsBack, beginning};
+ghost use Rattle.jose.specs.Answer.{Answers, DrawsAll, DrawsNoMore, AreFinished, AreUntouched, AreUncut, AreUnread, IsContentFirst, AreInOrder, ReadsFirst, DrawsFirst, TakesMemoryFirst, RefusesFirst, HoldsBack, beginning};
 
 use crate::command::Command;
 use crate::commands::{b64, jwe, jwk, jws};
@@ -31,11 +31,16 @@ pub fn run<I: Input, O: Output>(
 
     // After a refusal each output holds a stated beginning.
     ensures beginning { OnErr result (AppendPrefixesOf O.written (beginning (invocation_view invocation.now) (observed_inputs I.consumed I.is_at_end inputs.old inputs.new)) outputs.old outputs.new) }
-    ensures held_back { IfErr result (HoldsBack (invocation_view invocation.now) outputs.old outputs.new) }
-    ensures uncut { IfErr result (AreUncut O.written outputs.old outputs.new) }
+    ensures held_back { IfErr result (HoldsBack O.failures (invocation_view invocation.now) outputs.old outputs.new) }
+    ensures uncut { IfErr result (AreUncut O.failures O.written outputs.old outputs.new) }
+    ensures unread { IfErr result (AreUnread O.failures (invocation_view invocation.now) (observed_inputs I.consumed I.is_at_end inputs.old inputs.new) outputs.old outputs.new) }
+    ensures content_first { OnErr result (IsContentFirst O.written O.is_finished (invocation_view invocation.now) (observed_inputs I.consumed I.is_at_end inputs.old inputs.new) outputs.old outputs.new) }
 
     // Inputs are read one after another, and what comes last only where all before it is accepted.
     ensures in_order { AreInOrder (invocation_view invocation.now) (observed_inputs I.consumed I.is_at_end inputs.old inputs.new) inputs.old inputs.new }
+    ensures reads_first { IfErr result (ReadsFirst (invocation_view invocation.now) (observed_inputs I.consumed I.is_at_end inputs.old inputs.new)) }
+    ensures random_first { DrawsFirst (invocation_view invocation.now) (observed_inputs I.consumed I.is_at_end inputs.old inputs.new) inputs.old inputs.new }
+    ensures memory_first { IfErr result (TakesMemoryFirst (invocation_view invocation.now) inputs.old inputs.new) }
     ensures content_last { RefusesFirst (invocation_view invocation.now) (observed_inputs I.consumed I.is_at_end inputs.old inputs.new) inputs.old inputs.new }
 
     // At the end all that was written is where it belongs.

@@ -1,12 +1,13 @@
 //! Making keys (RFC 7517 section 4, and this profile's own rules). It is given a template and a random input.
-ghost use Rattle.std.specs.Prelude.{◌≡◌, ◌≢◌, ◌≤◌, ℕ, List, false, length, map, nat_le, IfErr, IfOk, IsErrOf, OnOk, Ok, Err, Some, is_some, string_bytes};
+ghost use Rattle.std.specs.Prelude.{◌≡◌, ◌≤◌, ℕ, List, [], ◌∷◌, false, length, map, nat_le, IfErr, IfOk, OnOk, Ok, Err, Some, is_some, string_bytes};
 ghost use Rattle.std.specs.Option.{ok_or};
 ghost use Rattle.serde_json.specs.Data.{object, depth};
 ghost use Rattle.serde_json.specs.Find.{get_member, as_object};
 ghost use Rattle.serde_json.specs.View.{view, items_view, members_view};
 ghost use Rattle.serde_json.specs.Written.{members_have_float};
 ghost use Rattle.octets.specs.declared.refusal.Refusal.{Refusal};
-ghost use Rattle.octets.specs.Devices.{appended, observed, IsPossibleInput, Rose};
+ghost use Rattle.octets.specs.Devices.{appended, observed, IsPossibleInput};
+ghost use Rattle.octets.specs.Faults.{TellsFaults, counts};
 ghost use Rattle.octets.specs.Outcomes.{AgreesUnlessMemory, GivesUnlessExternal};
 ghost use Rattle.keys.specs.Generating.{string_items, key_ops_of, with_operations, completed, key_text, made_key, gen_answer, MadeKey};
 ghost use Rattle.keys.specs.Limits.{limits};
@@ -51,9 +52,7 @@ pub fn generate<R: Input>(alloc: Global, template: &[u8], random: &mut R) -> Res
     ensures at_most { (made : MadeKey) → made_key limits template.now ≡ Ok made
         → length (appended (R.consumed random.old) (R.consumed random.new)) ≤ made.len }
     ensures untouched { (refusal : Refusal) → made_key limits template.now ≡ Err refusal → random.new ≡ random.old }
-    ensures works { OnOk result (R.failures random.new ≡ R.failures random.old) }
-    ensures no_write { IfErr result (λ refusal. refusal ≢ Refusal.Write) }
-    ensures read { IsErrOf result Refusal.Read → Rose (R.failures random.old) (R.failures random.new) }
+    ensures faults { TellsFaults (counts R.failures random.old random.new ∷ []) [] result }
 {
     let plan = plan_key(alloc, template)?;
     let mut buf = [0u8; MOST_KEY_OCTETS];

@@ -2,6 +2,7 @@ pub mod Meanings
 pub mod Pieces
 pub mod Contents
 pub mod Spared
+pub mod Unread
 pub mod Groups
 pub mod Characters
 pub mod Decoded

@@ -8,9 +8,9 @@ use Rattle.octets.proofs.Agreement.{at_refusal}
 -- where it is the only output that may be told, none is told
 pub not_told : (e : Refusal) (c : Counts) → (e ≡ Write → SomeFailed (c ∷ [])) → DidNotFail e c → e ≢ Write
 not_told e c told spared is = elim (told is) [
-    | inl rose ↦ let more : c.old < c.new = rose (spared is).0 in absurd (omega (arith, more, (spared is).1))
-    | inr none ↦ none
-  ]
+  | inl rose ↦ let more : c.old < c.new = rose (spared is).0 in absurd (omega (arith, more, (spared is).1))
+  | inr none ↦ none
+]
 
 -- what stands whole beside a text, in place of a text that is not begun
 pub stands_first : {E F W : Type 0} (P : Type 0) (r : Result (Unit {0}) Refusal) → E → F → W → OnErr r (P ⊎ (E × F × W))

@@ -21,6 +21,7 @@ pub(crate) fn encode<I: Input, O: Output>(content: &mut I, out: &mut O) -> Resul
     ensures finished { OnOk result (IsTrue (O.is_finished out.new)) }
     ensures uncut { IfErr result (λ refusal. refusal ≢ Refusal.Write
         → O.written out.new ≡ O.written out.old → out.new ≡ out.old) }
+    ensures no_memory { IfErr result (λ refusal. refusal ≢ Refusal.Memory) }
     ensures faults { TellsFaults (counts I.failures content.old content.new ∷ []) (counts O.failures out.old out.new ∷ []) result }
 {
     let mut buf = [0; 4096];
@@ -48,6 +49,7 @@ pub(crate) fn decode<I: Input, O: Output>(text: &mut I, out: &mut O) -> Result<(
     ensures finished { OnOk result (IsTrue (O.is_finished out.new)) }
     ensures uncut { IfErr result (λ refusal. refusal ≢ Refusal.Write
         → O.written out.new ≡ O.written out.old → out.new ≡ out.old) }
+    ensures no_memory { IfErr result (λ refusal. refusal ≢ Refusal.Memory) }
     ensures faults { TellsFaults (counts I.failures text.old text.new ∷ []) (counts O.failures out.old out.new ∷ []) result }
 {
     let mut buf = [0; 4096];

@@ -4,7 +4,7 @@ ghost use Rattle.std.specs.Iterator.{IsFinite};
 ghost use Rattle.octets.specs.Devices.{appended, observed, IsPossibleInput, AppendsPrefixOf};
 ghost use Rattle.octets.specs.declared.refusal.Refusal.{Refusal};
 ghost use Rattle.octets.specs.Faults.{TellsFaults, counts};
-ghost use Rattle.octets.specs.Outcomes.{AgreesUnlessExternal, AgreesUnlessMemory};
+ghost use Rattle.octets.specs.Outcomes.{AgreesUnlessExternal, AgreesUnlessMemory, is_external};
 ghost use Rattle.octets.specs.Plan.{accepted, drawn_of};
 ghost use Rattle.keys.specs.Generating.{gen_answer};
 ghost use Rattle.keys.specs.Limits.{limits};
@@ -46,6 +46,7 @@ pub(crate) fn generate<I: Input, O: Output>(
 
     // The random input is touched once the template was read and accepted.
     ensures in_order { I.is_at_end template.new ≡ false → random.new ≡ random.old }
+    ensures reads_first { IfErr result (λ refusal. is_external refusal ≡ false → IsTrue (I.is_at_end template.new)) }
     ensures content_last { (refusal : Refusal) → making (appended (I.consumed template.old) (I.consumed template.new)) ≡ Err refusal
         → random.new ≡ random.old }
     ensures faults { TellsFaults (counts I.failures template.old template.new ∷ counts I.failures random.old random.new ∷ [])
@@ -73,6 +74,7 @@ pub(crate) fn thumbprints<I: Input, O: Output>(
         (accepted (thp_answer hash (appended (I.consumed text.old) (I.consumed text.new))) (I.is_at_end text.new))
         (O.written out.old) (O.written out.new)) }
     ensures finished { OnOk result (IsTrue (O.is_finished out.new)) }
+    ensures reads_first { IfErr result (λ refusal. is_external refusal ≡ false → IsTrue (I.is_at_end text.new)) }
     ensures faults { TellsFaults (counts I.failures text.old text.new ∷ []) (counts O.failures out.old out.new ∷ []) result }
 {
     let text = read_to_end(alloc, text)?;

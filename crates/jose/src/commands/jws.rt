@@ -1,10 +1,10 @@
 //! The commands `jws sig`, `jws ver` and `jws fmt`, from devices to devices.
-ghost use Rattle.std.specs.Prelude.{◌≡◌, ◌≢◌, false, not, ◌&&◌, ◌||◌, ℕ, List, [], ◌∷◌, Err, OnOk, OnErr, IfErr, IsTrue, string_bytes};
+ghost use Rattle.std.specs.Prelude.{◌≡◌, ◌≢◌, ◌⊎◌, ◌++◌, false, not, ◌&&◌, ◌||◌, ℕ, List, [], ◌∷◌, Err, OnOk, OnErr, IfErr, IsTrue, string_bytes};
 ghost use Rattle.std.specs.Iterator.{IsFinite};
 ghost use Rattle.octets.specs.Devices.{appended, observed, IsPossibleInput, AppendsPrefixOf};
 ghost use Rattle.octets.specs.declared.refusal.Refusal.{Refusal};
-ghost use Rattle.octets.specs.Faults.{TellsFaults, counts};
-ghost use Rattle.octets.specs.Outcomes.{AgreesUnlessExternal, AgreesUnlessMemory};
+ghost use Rattle.octets.specs.Faults.{TellsFaults, DidNotFail, counts};
+ghost use Rattle.octets.specs.Outcomes.{AgreesUnlessExternal, AgreesUnlessMemory, is_external};
 ghost use Rattle.octets.specs.Plan.{accepted, planned, planned_beginning};
 ghost use Rattle.objects.specs.Texts.{handed_in};
 ghost use Rattle.objects.specs.Views.{jws_view};
@@ -56,8 +56,20 @@ pub(crate) fn sign<I: Input, O: Output>(
     ensures content_last { (refusal : Refusal)
         → sig_answer compact detach (appended (I.consumed keys.old) (I.consumed keys.new)) (appended (I.consumed template.old) (I.consumed template.new)) ≡ Err refusal
         → content.new ≡ content.old }
-    ensures uncut { IfErr result (λ refusal. refusal ≢ Refusal.Write → (O.written out.new ≡ O.written out.old → out.new ≡ out.old)
-        × (O.written detached.new ≡ O.written detached.old → detached.new ≡ detached.old)) }
+    ensures reads_first { IfErr result (λ refusal. is_external refusal ≡ false → IsTrue (I.is_at_end template.new) × IsTrue (I.is_at_end keys.new)) }
+    ensures memory_first { IfErr result (λ refusal. refusal ≡ Refusal.Memory → content.new ≡ content.old) }
+
+    // An output that did not fail, and on which nothing was written, is as it was; and the text is not begun before the content
+    // stands whole beside it, where it goes out there.
+    ensures uncut { IfErr result (λ refusal.
+        (DidNotFail refusal (counts O.failures out.old out.new) → O.written out.new ≡ O.written out.old → out.new ≡ out.old)
+        × (refusal ≢ Refusal.Write → O.written detached.new ≡ O.written detached.old → detached.new ≡ detached.old)) }
+    ensures unread { IfErr result (λ refusal. appended (I.consumed content.old) (I.consumed content.new) ≡ []
+        → (DidNotFail refusal (counts O.failures out.old out.new) → out.new ≡ out.old) × (refusal ≢ Refusal.Write → detached.new ≡ detached.old)) }
+    ensures content_first { OnErr result ((out.new ≡ out.old) ⊎ (IsTrue detach → IsTrue (I.is_at_end content.new) × IsTrue (O.is_finished detached.new)
+        × (O.written detached.new ≡ O.written detached.old ++ (planned_beginning (I.is_at_end keys.new && I.is_at_end template.new)
+        (sig_answer compact detach (appended (I.consumed keys.old) (I.consumed keys.new)) (appended (I.consumed template.old) (I.consumed template.new)))
+        (observed I.consumed I.is_at_end content.old content.new)).content))) }
     ensures faults { TellsFaults (counts I.failures template.old template.new ∷ counts I.failures keys.old keys.new ∷ counts I.failures content.old content.new ∷ [])
         (counts O.failures out.old out.new ∷ counts O.failures detached.old detached.new ∷ []) result }
 {
@@ -115,6 +127,8 @@ pub(crate) fn verify<I: Input, O: Output>(
     ensures untouched { (wanted ≡ false → out.new ≡ out.old) × (given ≡ false → content.new ≡ content.old) }
     ensures in_order { (I.is_at_end text.new ≡ false → keys.new ≡ keys.old)
         × (I.is_at_end keys.new && I.is_at_end text.new ≡ false → content.new ≡ content.old) }
+    ensures reads_first { IfErr result (λ refusal. is_external refusal ≡ false
+        → IsTrue (I.is_at_end text.new) × IsTrue (I.is_at_end keys.new) × (IsTrue given → IsTrue (I.is_at_end content.new))) }
     ensures faults { TellsFaults (counts I.failures text.old text.new ∷ counts I.failures keys.old keys.new ∷ counts I.failures content.old content.new ∷ [])
         (counts O.failures out.old out.new ∷ []) result }
 {
@@ -147,8 +161,13 @@ pub(crate) fn format<I: Input, O: Output>(
         → AgreesUnlessExternal (jws_fmt_answer compact detach (handed_in given whole_content) whole)
         (record { text = appended (O.written out.old) (O.written out.new); content = appended (O.written detached.old) (O.written detached.new) }) result }
 
-    // The outputs are not touched before all is accepted.
-    ensures held_back { IfErr result (λ refusal. refusal ≢ Refusal.Write → (out.new ≡ out.old) × (detached.new ≡ detached.old)) }
+    // The outputs are not touched before all is accepted, and the text's not before the content stands whole beside it, where it
+    // goes out there.
+    ensures held_back { IfErr result (λ refusal. (DidNotFail refusal (counts O.failures out.old out.new) → out.new ≡ out.old)
+        × (refusal ≢ Refusal.Write → detached.new ≡ detached.old)) }
+    ensures content_first { OnErr result ((out.new ≡ out.old) ⊎ (IsTrue detach → (IsTrue given → IsTrue (I.is_at_end content.new)) × IsTrue (O.is_finished detached.new)
+        × (O.written detached.new ≡ O.written detached.old ++ (formed (jws_fmt_answer compact detach (handed_in given (appended (I.consumed content.old) (I.consumed content.new))) (appended (I.consumed text.old) (I.consumed text.new)))
+        (I.is_at_end text.new && (not given || I.is_at_end content.new))).content))) }
     ensures beginning { OnErr result (
         (AppendsPrefixOf (formed (jws_fmt_answer compact detach (handed_in given (appended (I.consumed content.old) (I.consumed content.new))) (appended (I.consumed text.old) (I.consumed text.new)))
         (I.is_at_end text.new && (not given || I.is_at_end content.new))).text (O.written out.old) (O.written out.new))
@@ -158,6 +177,7 @@ pub(crate) fn format<I: Input, O: Output>(
 
     // No content is read before the text was read to its end, and none where it is not given.
     ensures in_order { I.is_at_end text.new ≡ false → content.new ≡ content.old }
+    ensures reads_first { IfErr result (λ refusal. is_external refusal ≡ false → IsTrue (I.is_at_end text.new) × (IsTrue given → IsTrue (I.is_at_end content.new))) }
     ensures untouched { (given ≡ false → content.new ≡ content.old) × (detach ≡ false → detached.new ≡ detached.old) }
     ensures faults { TellsFaults (counts I.failures text.old text.new ∷ counts I.failures content.old content.new ∷ [])
         (counts O.failures out.old out.new ∷ counts O.failures detached.old detached.new ∷ []) result }

@@ -8,6 +8,7 @@ use Rattle.octets.specs.Outcomes.{◌>>=◌}
 use Rattle.octets.specs.Encoding.{encoding, decoding}
 use Rattle.octets.proofs.Agreement.{on_refusal, on_success, plan_from-by_plan, plan_of_plan, plan_of_text, planned_without_content}
 use Rattle.octets.proofs.Prefixes.{AppendsPrefixOf-none}
+use Rattle.octets.proofs.Unread.{unread_untouched, encoding_fixes_nothing, decoding_fixes_nothing}
 use Rattle.keys.specs.Generating.{gen_answer}
 use Rattle.keys.specs.Limits.{limits}
 use Rattle.jose.specs.Invocations.{invocation_view, hash_asked}
@@ -20,6 +21,7 @@ use Rattle.jose.specs.Meanings.{of_object}
 use Rattle.jose.proofs.Agreement.{agrees_as_text, agrees_as_content, beginning_map, begun_by_text, both_on_refusal, plan_of_making}
 use Rattle.jose.proofs.Draws.{nothing_drawn, none_drawn, placed_drawn, placed_refused, by_plan_drawn, by_plan_refused, by_text_drawn}
 use Rattle.jose.proofs.Objects.{begun_of_object, drawn_of_object, formed_as_content, has_template_beside, placed_of_object, planned_of_object, refused_alone}
+use Rattle.jose.proofs.Spared.{unread_alone, unread_beside}
 use Rattle.jose.proofs.runner.run.Goals as goal
 
 -- ---- jwk gen
@@ -101,6 +103,12 @@ returns-in-B64Enc-clause-drawn g c =
 pub returns-in-B64Enc-clause-at_most : goal.returns-in-B64Enc-clause-at_most
 returns-in-B64Enc-clause-at_most g c inputs may = none_drawn (g.I.Input.consumed c.args.inputs.now.random) _
 
+pub returns-in-B64Enc-clause-unread : goal.returns-in-B64Enc-clause-unread
+returns-in-B64Enc-clause-unread g c =
+    let content = observed g.I.Input.consumed g.I.Input.is_at_end c.args.inputs.now.content c.encode.new.content in
+    rw c.in-B64Enc.is (unread_alone g.O.Output.failures _ _ _ _ c.encode.result c.encode.ensures.faults
+    (unread_untouched g.O.Output.written c.args.outputs.now.text c.encode.new.out encoding content c.encode.result encoding_fixes_nothing c.encode.ensures.beginning c.encode.ensures.uncut))
+
 -- ---- b64 dec
 
 pub returns-in-B64Dec-clause-answer : goal.returns-in-B64Dec-clause-answer
@@ -121,6 +129,12 @@ returns-in-B64Dec-clause-drawn g c =
 
 pub returns-in-B64Dec-clause-at_most : goal.returns-in-B64Dec-clause-at_most
 returns-in-B64Dec-clause-at_most g c inputs may = none_drawn (g.I.Input.consumed c.args.inputs.now.random) _
+
+pub returns-in-B64Dec-clause-unread : goal.returns-in-B64Dec-clause-unread
+returns-in-B64Dec-clause-unread g c =
+    let text = observed g.I.Input.consumed g.I.Input.is_at_end c.args.inputs.now.text c.decode.new.text in
+    rw c.in-B64Dec.is (unread_beside g.O.Output.failures _ _ _ _ c.decode.result
+    (unread_untouched g.O.Output.written c.args.outputs.now.content c.decode.new.out decoding text c.decode.result decoding_fixes_nothing c.decode.ensures.beginning c.decode.ensures.uncut))
 
 -- ---- jws sig
 

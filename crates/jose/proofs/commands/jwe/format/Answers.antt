@@ -1,4 +1,4 @@
-use Rattle.std.proofs.Common.{◌≡◌, ◌∙◌, List, ◌++◌, ℕ, Bool, Option, Ok, option_map, string_bytes, append-nil, ap, sym}
+use Rattle.std.proofs.Common.{◌≡◌, ◌∙◌, inr, IsTrue, List, ◌++◌, ℕ, Bool, Option, Ok, option_map, string_bytes, append-nil, ap, sym}
 use Rattle.keys.specs.Limits.{limits}
 use Rattle.objects.specs.Jwe.{EncryptedObject, jwe_of}
 use Rattle.objects.specs.Texts.{handed_in, handed_out}
@@ -84,3 +84,27 @@ returns-clause-beginning g c =
     ] in
     on_refusal c.emit-2.result c.emit-2.ensures.part
     (λ part. rw (c.in_ok-text.ensures.whole.1, beside_ended _ _ c.in_ok-beside.ensures.ends, a) (rw (← c.as_bytes.ensures.value) part, AppendsPrefixOf-all _ _ _ beside))
+
+pub returns-clause-content_first : goal.returns-clause-content_first
+returns-clause-content_first g c =
+    let consumed = g.I.Input.consumed in
+    let at_end = g.I.Input.is_at_end in
+    let written = g.O.Output.written in
+    let finished = g.O.Output.is_finished in
+    let object = jwe_view c.in_ok-object.object in
+    let whole = appended (consumed c.args.text.now) (consumed c.read_to_end.new.input) in
+    let given = handed_in c.args.given (appended (consumed c.args.content.now) (consumed c.read_beside.new.content)) in
+    let t : whole ≡ c.deref.result.now = whole_is consumed at_end _ _ _ whole c.in_ok-text.ensures.whole.0 c.in_ok-text.ensures.whole.1 (seen_possible consumed at_end c.args.text.now c.read_to_end.new.input) ∙ sym c.deref.ensures.value in
+    let d : given ≡ option_map (λ v. v.items) c.in_ok-beside.beside = c.in_ok-beside.ensures.content _ (seen_possible consumed at_end c.args.content.now c.read_beside.new.content) in
+    let a : jwe_fmt_answer c.args.compact c.args.detach given whole ≡ Ok (formatted c.args.detach object (string_bytes c.in_ok-formed.formed))
+    = answer_is c.args.compact c.args.detach given whole _ object (rw (t, d) c.in_ok-object.ensures) c.in_ok-formed.ensures in
+    let beside : written c.if-detach.detached ≡ written c.args.detached.now ++ handed_out c.args.detach object.ciphertext = elim c.if-detach.branch [
+      | then-detach+in_ok-emit w ↦ rw (w.if-detach.true, w.detached-is, ← w.ciphertext.ensures) w.in_ok-emit.ensures.all
+      | else-detach w ↦ rw (w.if-detach.false, w.detached-is) (sym (append-nil _))
+    ] in
+    let ended : IsTrue c.args.detach → IsTrue (finished c.if-detach.detached) = elim c.if-detach.branch [
+      | then-detach+in_ok-emit w ↦ λ is. rw w.detached-is w.in_ok-emit.ensures.finished
+      | else-detach w ↦ λ is. let no = w.if-detach.false in cc
+    ] in
+    on_refusal c.emit-2.result c.emit-2.ensures.cause
+    (λ cause. rw (c.in_ok-text.ensures.whole.1, beside_ended _ _ c.in_ok-beside.ensures.ends, a) (inr (λ is. (c.in_ok-beside.ensures.ends, ended is, beside))))

@@ -1,11 +1,11 @@
-use Rattle.std.proofs.Common.{◌≡◌, ◌∙◌, sym, true, Ok}
+use Rattle.std.proofs.Common.{◌≡◌, ◌∙◌, inl, inr, sym, true, Ok}
 use Rattle.std.proofs.Math.Seq.{drop-length}
 use Rattle.keys.specs.KeySets.{key_set}
 use Rattle.keys.specs.Limits.{limits}
 use Rattle.octets.specs.Devices.{appended}
 use Rattle.octets.specs.Outcomes.{AgreesUnlessExternal}
 use Rattle.octets.specs.Plan.{planned}
-use Rattle.octets.proofs.Agreement.{seen_possible, unlent}
+use Rattle.octets.proofs.Agreement.{on_refusal, seen_possible, unlent}
 use Rattle.tokens.specs.Signing.{signing_by}
 use Rattle.jose.proofs.Agreement.{refused}
 use Rattle.jose.proofs.commands.jws.sign.Goals as goal
@@ -79,3 +79,16 @@ returns-clause-content_last g c refusal is =
     let t : appended (consumed old.template.now) (consumed new.text) ≡ c.deref-else-detach.result.now = c.in_ok-template.ensures.text _ (seen_possible consumed at_end old.template.now new.text) ∙ sym c.deref-else-detach.ensures.value in
     let k : key_set limits (appended (consumed old.keys.now) (consumed new.keys)) true ≡ Ok c.in_ok-template.set = c.in_ok-template.ensures.keys _ (seen_possible consumed at_end old.keys.now new.keys) in
     c.jws_sign-else-detach.ensures.content_last refusal (rw (c.no_output.ensures) (rw (k, t, c.if-detach.false) at is))
+
+pub returns-then-detach-clause-content_first : goal.returns-then-detach-clause-content_first
+returns-then-detach-clause-content_first g c =
+    let consumed = g.I.Input.consumed in
+    let at_end = g.I.Input.is_at_end in
+    let old = c.args in
+    let new = c.read_with_keys.new in
+    let template = appended (consumed old.template.now) (consumed new.text) in
+    let keys = appended (consumed old.keys.now) (consumed new.keys) in
+    let t : template ≡ c.deref.result.now = c.in_ok-template.ensures.text template (seen_possible consumed at_end old.template.now new.text) ∙ sym c.deref.ensures.value in
+    let k : key_set limits keys true ≡ Ok c.in_ok-template.set = c.in_ok-template.ensures.keys keys (seen_possible consumed at_end old.keys.now new.keys) in
+    on_refusal c.jws_sign.result c.jws_sign.ensures.content_first
+    (λ first. rw (c.in_ok-template.ensures.ends.0, c.in_ok-template.ensures.ends.1, k, t, c.if-detach.true) (elim first [ inl same ↦ inl same | inr whole ↦ inr (λ is. whole) ]))
