@@ -5,8 +5,8 @@ use Rattle.std.specs.List.{list_all}
 use Rattle.octets.specs.declared.refusal.Refusal.TheVariants.{Header, Unsupported}
 use Rattle.octets.specs.Outcomes.{needs}
 use Rattle.serde_json.specs.Data.{Members, no_members}
-use Rattle.objects.specs.Headers.{protected_members, joint_header, string_there}
-use Rattle.objects.specs.Jwe.{RecipientParts, Recipient, JweParts, EncryptedObject, parameters_of, recipient_by, recipient_of, recipients_of, recipients_of_one_enc, have_one_enc, are_plain, encrypted_object}
+use Rattle.objects.specs.Headers.{protected_members, joint_header, string_there, parameters_of}
+use Rattle.objects.specs.Jwe.{RecipientParts, Recipient, JweParts, EncryptedObject, recipient_by, recipient_of, recipients_of, recipients_of_one_enc, have_one_enc, are_plain, encrypted_object}
 use Rattle.objects.specs.Jws.{SignatureParts, Signature, DecodedSignature, HeadedSignature, SignedObject, headed_signature, signature_by, is_plain, signatures_of, signed_object}
 use Rattle.objects.specs.Texts.{each}
 use Rattle.objects.proofs.EachRead.{each_keeps}
@@ -74,7 +74,8 @@ unfolding signature_by
 signature_is d s h =
     let a = steps (joint_header d.members no_members d.parts.header) _ s h in
     let b = steps (string_there (codes "alg") a.0) _ s a.2 in
-    ap signature_made_of (sym (same_answer _ s b.2))
+    let c = steps (parameters_of b.0 a.0) _ s b.2 in
+    ap signature_made_of (sym (same_answer _ s c.2))
 
 -- what is known of the object of a payload and these signatures
 pub record IsSigned (octets : List ℕ) (decoded : List DecodedSignature) (o : SignedObject) : Type 0 where

@@ -14,8 +14,8 @@ use Rattle.octets.specs.Outcomes.{needs}
 use Rattle.keys.specs.Json.{json_value}
 use Rattle.keys.specs.JsonTexts.{AreJsonMembers}
 use Rattle.keys.specs.Limits.{Limits}
-use Rattle.objects.specs.Headers.{protected_members, joint_header, string_there}
-use Rattle.objects.specs.Jwe.{JweParts, RecipientParts, Recipient, EncryptedObject, JweTexts, RecipientTexts, shared_texts, recipient_texts, content_texts, no_recipient_at, recipients_by, recipient_objects, json_texts, jwe_texts, recipient_parts, parts_of_texts, parameters_of, recipient_by, recipient_of, recipients_of, recipients_of_one_enc, have_one_enc, are_plain, encrypted_object, object_of_texts, jwe_of, nest_at_most, is_shallow, have_whole_numbers, built, put_shared, put_recipient, put_recipients, json_text, AreMembers}
+use Rattle.objects.specs.Headers.{protected_members, joint_header, string_there, parameters_of}
+use Rattle.objects.specs.Jwe.{JweParts, RecipientParts, Recipient, EncryptedObject, JweTexts, RecipientTexts, shared_texts, recipient_texts, content_texts, no_recipient_at, recipients_by, recipient_objects, json_texts, jwe_texts, recipient_parts, parts_of_texts, recipient_by, recipient_of, recipients_of, recipients_of_one_enc, have_one_enc, are_plain, encrypted_object, object_of_texts, jwe_of, nest_at_most, is_shallow, have_whole_numbers, built, put_shared, put_recipient, put_recipients, json_text, AreMembers}
 use Rattle.objects.specs.Texts.{handed_in, header_depth, depth_of_each}
 use Rattle.objects.proofs.Characters.{IsUrlText}
 use Rattle.objects.proofs.DetachedContent.{content_there, put_content_is, content_entry, content_found}

@@ -13,7 +13,7 @@ use Rattle.octets.specs.Outcomes.{needs}
 use Rattle.keys.specs.Json.{json_value}
 use Rattle.keys.specs.JsonTexts.{AreJsonMembers}
 use Rattle.keys.specs.Limits.{Limits}
-use Rattle.objects.specs.Headers.{protected_members, joint_header, string_there}
+use Rattle.objects.specs.Headers.{protected_members, joint_header, string_there, parameters_of}
 use Rattle.objects.specs.Jws.{JwsParts, SignatureParts, Signature, SignedObject, DecodedSignature, HeadedSignature, JwsTexts, SignatureTexts, signature_texts, no_signature_at, signatures_by, signature_objects, json_texts, jws_texts, decoded_signature, decoded_texts, headed_signature, signature_by, is_plain, signatures_of, signed_object, object_of_texts, jws_of, nest_at_most, have_whole_numbers, built, put_signature, json_text, AreMembers}
 use Rattle.objects.specs.Texts.{each, handed_in, put_content, put_each, header_depth, depth_of_each}
 use Rattle.objects.proofs.Characters.{IsUrlText}
@@ -122,7 +122,8 @@ unfolding signature_by
 signature_keeps s signature h =
     let a = steps (joint_header s.members no_members s.parts.header) _ signature h in
     let b = steps (string_there (codes "alg") a.0) _ signature a.2 in
-    ap signature_spelled (sym (same_answer _ signature b.2))
+    let c = steps (parameters_of b.0 a.0) _ signature b.2 in
+    ap signature_spelled (sym (same_answer _ signature c.2))
 
 -- what holds of an object that is made of these parts
 pub record IsBuilt (limits : Limits) (parts : JwsParts) (o : SignedObject) : Type 0 where

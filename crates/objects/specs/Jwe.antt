@@ -1,7 +1,6 @@
 -- JWE objects (RFC 7516): their compact texts (section 7.1) and their JSON texts, general and flattened (section 7.2).
 use Rattle.std.specs.Prelude.{◌≡◌, ℕ, ◌&&◌, ◌==◌, Bool, true, false, not, List, [], ◌∷◌, ◌++◌, length, codes, nat_le, is_some, is_none, if◌then◌else◌, Option, Some, None, Result, Ok}
 use Rattle.std.specs.List.{AllByRecursion, list_all}
-use Rattle.std.specs.Option.{ok_or}
 use Rattle.std.specs.Str.{bytes_eq}
 use Rattle.serde_json.specs.Data.{Data, Items, no_items, item, Members, no_members, object, depth}
 use Rattle.serde_json.specs.Find.{get, get_member}
@@ -12,12 +11,10 @@ use Rattle.octets.specs.Outcomes.{◌>>=◌, needs}
 use Rattle.octets.specs.Octets.{IsOctets}
 use Rattle.octets.specs.Base64url.{base64url, decoded}
 use Rattle.octets.specs.LineEnds.{without_line_end}
-use Rattle.keys.specs.declared.algorithm.ManagementAlg.{ManagementAlg}
-use Rattle.keys.specs.Algorithms.{management_alg_of, is_password_based}
 use Rattle.keys.specs.Json.{json_value, member_numbers_are_whole}
 use Rattle.keys.specs.JsonTexts.{AreJsonMembers}
 use Rattle.keys.specs.Limits.{Limits}
-use Rattle.objects.specs.Headers.{header_at, protected_members, joint_header, string_there, number_parameter, salt_parameter, has_no_crit}
+use Rattle.objects.specs.Headers.{header_at, protected_members, joint_header, string_there, has_no_crit, parameters_of}
 use Rattle.objects.specs.Texts.{each, each_item, is_json_form, split_at_dot, three_parts, text_at, content_by, content_text, handed_in, AreOctetsHandedIn, object_list, has_text, has_members, kept, put_text, put_content, put_header, put_each, header_depth, depth_of_each}
 
 -- ---- the members of an object
@@ -180,33 +177,6 @@ without_ciphertext o = record {
 }
 
 -- ---- the header of a recipient
-
--- the algorithm derives a key from a password (RFC 7518 section 4.8)
-abbrev pub reads_password : Option ManagementAlg → Bool
-reads_password None = false
-reads_password (Some alg) = is_password_based alg
-
--- p2c is at least 1 where it is read, and else 0
-abbrev pub is_count_of : Option ManagementAlg → ℕ → Bool
-is_count_of alg p2c = if reads_password alg then nat_le 1 p2c else p2c == 0
-
--- p2s and p2c, which is at least 1, where the algorithm reads them
-pub record PasswordParameters : Type 0 where
-  pub p2s : List ℕ
-  pub p2c : ℕ
-
-unfoldable pub password_parameters : Members → Result PasswordParameters Refusal
-password_parameters header = do
-  salt ← salt_parameter (codes "p2s") header
-  p2s ← ok_or salt Header
-  count ← number_parameter (codes "p2c") header
-  p2c ← ok_or count Header
-  some ← needs (nat_le 1 p2c) Header
-  Ok (record { p2s = p2s; p2c = p2c })
-
-abbrev pub parameters_of : List ℕ → Members → Result PasswordParameters Refusal
-parameters_of alg header =
-    if reads_password (management_alg_of alg) then password_parameters header else Ok (record { p2s = []; p2c = 0 })
 
 -- a recipient, by its joint header
 unfoldable pub recipient_by : Members → RecipientParts → Result Recipient Refusal

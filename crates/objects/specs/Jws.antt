@@ -13,7 +13,7 @@ use Rattle.octets.specs.LineEnds.{without_line_end}
 use Rattle.keys.specs.Json.{json_value, member_numbers_are_whole}
 use Rattle.keys.specs.JsonTexts.{AreJsonMembers}
 use Rattle.keys.specs.Limits.{Limits}
-use Rattle.objects.specs.Headers.{header_at, protected_members, joint_header, string_there, has_no_crit}
+use Rattle.objects.specs.Headers.{header_at, protected_members, joint_header, string_there, has_no_crit, parameters_of}
 use Rattle.objects.specs.Texts.{each, each_item, is_json_form, three_parts, text_at, required_text, content_by, content_text, handed_in, AreOctetsHandedIn, object_list, has_text, has_members, kept, put_text, put_content, put_header, put_each, depth_of_each}
 
 -- ---- the members of an object
@@ -122,11 +122,12 @@ headed_signature s = do
   members ← protected_members s.octets
   Ok (record { members = members; parts = s.parts })
 
--- its headers have no name in common, and name the algorithm together
+-- Its headers have no name in common, and name the algorithm together, with the parameters of a password where it reads them.
 unfoldable pub signature_by : HeadedSignature → Result Signature Refusal
 signature_by s = do
   header ← joint_header s.members no_members s.parts.header
   alg ← string_there (codes "alg") header
+  parameters ← parameters_of alg header
   Ok (record { protected = s.parts.protected; header = s.parts.header; signature = s.parts.signature; alg = alg })
 
 -- neither header has a `crit`

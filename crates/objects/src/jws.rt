@@ -11,6 +11,7 @@ ghost use Rattle.objects.specs.Views.{jws_view, jws_texts_view, signature_view, 
 use crate::header::{has_no_crit, string_there};
 use crate::header_members::HeaderMembers;
 use crate::jws_texts::{JwsTexts, compact_texts, decoded_signatures, json_texts};
+use crate::parameters::read_parameters;
 use crate::signature_list::SignatureList;
 use crate::texts::is_json_form;
 use crate::{Header, read_protected};
@@ -111,8 +112,10 @@ impl Jws {
     ///
     /// Its causes of refusal, each over the whole text before the next: `Json` and `Number` of a JSON text; `Form`; `Limit`
     /// where there are more than 64 signatures; `Base64`; then, of each protected header in order, `Json`, `Number`, and
-    /// `Header` where it is no object; `Header` where a joint header is none, or has no `alg` or one that is no string; and
-    /// `Unsupported` where a header has a `crit`, whatever that holds (RFC 7515 section 4.1.11).
+    /// `Header` where it is no object; `Header` where a joint header is none, has no `alg` or one that is no string, or, where
+    /// that derives a key from a password (RFC 7518 section 4.8), has no `p2s` that is the base64url text of at least 8 octets
+    /// or no `p2c` that is a whole number from 1; and `Unsupported` where a header has a `crit`, whatever that holds (RFC 7515
+    /// section 4.1.11).
     #[tactic(auto, unfolding(crate::specs::Jws::jws_of, crate::specs::Jws::jws_texts))]
     pub fn read(alloc: Global, text: &[u8], detached: Option<Vec<u8>>) -> Result<Jws, Refusal>
         ensures { AgreesUnlessMemory jws_view result (jws_of limits (option_map (λ c. c.items) detached) text.now) }
@@ -228,7 +231,7 @@ fn is_plain(headed: &HeadedSignature) -> bool
     has_no_crit(&headed.protected) && has_no_crit(&headed.members.header.map)
 }
 
-/// With the algorithms that their joint headers name.
+/// With the algorithms that their joint headers name, and have the parameters of.
 #[tactic(auto, using(crate::proofs::Each::reading))]
 fn by_headers(alloc: Global, headed: Vec<HeadedSignature>) -> Result<Vec<Signature>, Refusal>
     ensures exact { AgreesUnlessMemory (λ signatures. map signature_view signatures.items) result (each signature_by (map headed_view headed.items)) }
@@ -251,6 +254,7 @@ fn by_header(alloc: Global, headed: HeadedSignature) -> Result<Signature, Refusa
         Some(&headed.members.header.map),
     )?;
     let alg = string_there(alloc, header.alg()?)?;
+    read_parameters(alloc, &alg, header)?;
     let SignatureMembers {
         protected,
         header,
