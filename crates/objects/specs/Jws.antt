@@ -85,9 +85,11 @@ jws_texts detached text = if is_json_form text then (json_value text >>= json_te
 
 -- ---- the object
 
--- a signature: its members, and the `alg` of its joint header (section 4.1.1)
+-- A signature: its members, and the `alg` of its joint header (section 4.1.1). Beside the text of its protected header stand the
+-- members that this holds.
 pub record Signature : Type 0 where
   pub protected : List ℕ
+  pub protected_members : Members
   pub header : Members
   pub signature : List ℕ
   pub alg : List ℕ
@@ -128,7 +130,7 @@ signature_by s = do
   header ← joint_header s.members no_members s.parts.header
   alg ← string_there (codes "alg") header
   parameters ← parameters_of alg header
-  Ok (record { protected = s.parts.protected; header = s.parts.header; signature = s.parts.signature; alg = alg })
+  Ok (record { protected = s.parts.protected; protected_members = s.members; header = s.parts.header; signature = s.parts.signature; alg = alg })
 
 -- neither header has a `crit`
 abbrev pub is_plain : HeadedSignature → Bool

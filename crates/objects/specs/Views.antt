@@ -78,7 +78,13 @@ abbrev pub headed_view : headed.HeadedSignature → HeadedSignature
 headed_view h = record { members = members_view h.protected.entries; parts = signature_members_view h.members }
 
 abbrev pub signature_view : signature.Signature → Signature
-signature_view s = record { protected = string_bytes s.protected; header = members_view s.header.map.entries; signature = s.signature.items; alg = string_bytes s.alg }
+signature_view s = record {
+  protected = string_bytes s.protected;
+  protected_members = members_view s.protected_members.entries;
+  header = members_view s.header.map.entries;
+  signature = s.signature.items;
+  alg = string_bytes s.alg;
+}
 
 abbrev pub jws_view : jws.Jws → SignedObject
 jws_view j = record { payload = j.payload.items; signatures = map signature_view j.signatures.list.items }

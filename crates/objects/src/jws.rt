@@ -1,12 +1,14 @@
 //! Signed objects (RFC 7515). It is given an object's text or its members, and sees no key.
 ghost use Rattle.std.specs.Prelude.{◌≡◌, ◌≤◌, length, map, option_map, IfOk};
 ghost use Rattle.std.specs.List.{list_all};
+ghost use Rattle.serde_json.specs.Data.{no_members};
 ghost use Rattle.serde_json.specs.View.{members_view};
 ghost use Rattle.octets.specs.Outcomes.{AgreesUnlessMemory};
 ghost use Rattle.keys.specs.Limits.{limits};
+ghost use Rattle.objects.specs.Headers.{all_members};
 ghost use Rattle.objects.specs.Jws.{jws_of, object_of_texts as object_of_jws_texts, signed_object as signed_object_of, signatures_of, headed_signature, signature_by, is_plain as is_plain_signature};
 ghost use Rattle.objects.specs.Texts.{each};
-ghost use Rattle.objects.specs.Views.{jws_view, jws_texts_view, signature_view, decoded_view, headed_view};
+ghost use Rattle.objects.specs.Views.{header_view, jws_view, jws_texts_view, signature_view, decoded_view, headed_view};
 
 use crate::header::{has_no_crit, string_there};
 use crate::header_members::HeaderMembers;
@@ -63,6 +65,7 @@ struct HeadedSignature {
 #[derive(Drop)]
 pub struct Signature {
     protected: String,
+    protected_members: Map<String, Value>,
     pub(crate) header: HeaderMembers,
     signature: Vec<u8>,
     alg: String,
@@ -88,6 +91,17 @@ impl Signature {
         ensures { members_view result.now.entries ≡ (signature_view self.now).header }
     {
         &self.header.map
+    }
+
+    /// The joint header: the members of both headers, which had no name in common where the object was read or made.
+    pub fn joint_header(&self) -> Header<'_>
+        ensures { header_view result ≡ all_members (signature_view self.now).protected_members no_members (signature_view self.now).header }
+    {
+        Header {
+            protected: Some(&self.protected_members),
+            unprotected: None,
+            per_recipient: Some(&self.header.map),
+        }
     }
 
     /// The octets of the signature.
@@ -255,13 +269,18 @@ fn by_header(alloc: Global, headed: HeadedSignature) -> Result<Signature, Refusa
     )?;
     let alg = string_there(alloc, header.alg()?)?;
     read_parameters(alloc, &alg, header)?;
+    let HeadedSignature {
+        protected: protected_members,
+        members,
+    } = headed;
     let SignatureMembers {
         protected,
         header,
         signature,
-    } = headed.members;
+    } = members;
     Ok(Signature {
         protected,
+        protected_members,
         header,
         signature,
         alg,

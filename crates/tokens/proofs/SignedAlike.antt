@@ -64,11 +64,11 @@ abbrev put_headed : HeadedSignature → List ℕ → HeadedSignature
 put_headed h v = record { members = h.members; parts = put_part h.parts v }
 
 abbrev put_octets : Signature → List ℕ → Signature
-put_octets s v = record { protected = s.protected; header = s.header; signature = v; alg = s.alg }
+put_octets s v = record { protected = s.protected; protected_members = s.protected_members; header = s.header; signature = v; alg = s.alg }
 
 -- a signature with these octets and this algorithm
 abbrev made_with : HeadedSignature → List ℕ → List ℕ → Signature
-made_with h v alg = record { protected = h.parts.protected; header = h.parts.header; signature = v; alg = alg }
+made_with h v alg = record { protected = h.parts.protected; protected_members = h.members; header = h.parts.header; signature = v; alg = alg }
 
 decoded_alike : (p : SignatureParts) (v : List ℕ) → decoded_signature (put_part p v) ≡ (decoded_signature p >>= λ d. Ok (put_decoded d v))
 unfolding decoded_signature

@@ -92,6 +92,7 @@ headed_by header payload s = record { members = s.protected; parts = signature_b
 abbrev pub made_by : Members → List ℕ → Signer → Signature
 made_by header payload s = record {
   protected = protected_by s;
+  protected_members = s.protected;
   header = header;
   signature = signature_of s.alg s.key.octets (protected_by s) payload;
   alg = signature_name s.alg;
