@@ -244,6 +244,31 @@ const VERIFIED: &[(&str, &str, Answer<'_>, Answer<'_>)] = &[
         Answer::Refusal(Refusal::Unsupported),
         Answer::Refusal(Refusal::Unsupported),
     ),
+    // An algorithm that derives a key from a password, with no parameters, with them, and with a short salt or no count.
+    (
+        "{\"payload\":\"YWJj\",\"signature\":\"\",\"header\":{\"alg\":\"PBES2-HS256+A128KW\"}}",
+        KEYS,
+        Answer::Refusal(Refusal::Header),
+        Answer::Refusal(Refusal::Header),
+    ),
+    (
+        "{\"payload\":\"YWJj\",\"signature\":\"\",\"header\":{\"alg\":\"PBES2-HS256+A128KW\",\"p2s\":\"AAECAwQFBgc\",\"p2c\":1}}",
+        KEYS,
+        Answer::Refusal(Refusal::Unsupported),
+        Answer::Refusal(Refusal::Unsupported),
+    ),
+    (
+        "{\"payload\":\"YWJj\",\"signature\":\"\",\"header\":{\"alg\":\"PBES2-HS256+A128KW\",\"p2s\":\"AAECAwQFBg\",\"p2c\":1}}",
+        KEYS,
+        Answer::Refusal(Refusal::Header),
+        Answer::Refusal(Refusal::Header),
+    ),
+    (
+        "{\"payload\":\"YWJj\",\"signature\":\"\",\"header\":{\"alg\":\"PBES2-HS256+A128KW\",\"p2s\":\"AAECAwQFBgc\",\"p2c\":0}}",
+        KEYS,
+        Answer::Refusal(Refusal::Header),
+        Answer::Refusal(Refusal::Header),
+    ),
 ];
 
 fn verifies<R: Abort + AllocGlobal>(
@@ -321,6 +346,29 @@ const FORMATTED: &[(&[&str], &str, Answer<'_>)] = &[
         &FORMAT_JWS,
         "eyJhbGciOiJIUzI1NiJ9.YWJj",
         Answer::Refusal(Refusal::Form),
+    ),
+    // An algorithm that derives a key from a password, with no parameters, with them, and with a short salt or no count.
+    (
+        &FORMAT_JWS,
+        "{\"payload\":\"YWJj\",\"signature\":\"\",\"header\":{\"alg\":\"PBES2-HS256+A128KW\"}}",
+        Answer::Refusal(Refusal::Header),
+    ),
+    (
+        &FORMAT_JWS,
+        "{\"payload\":\"YWJj\",\"signature\":\"\",\"header\":{\"alg\":\"PBES2-HS256+A128KW\",\"p2s\":\"AAECAwQFBgc\",\"p2c\":1}}",
+        Answer::Text(
+            "{\"header\":{\"alg\":\"PBES2-HS256+A128KW\",\"p2c\":1,\"p2s\":\"AAECAwQFBgc\"},\"payload\":\"YWJj\",\"signature\":\"\"}",
+        ),
+    ),
+    (
+        &FORMAT_JWS,
+        "{\"payload\":\"YWJj\",\"signature\":\"\",\"header\":{\"alg\":\"PBES2-HS256+A128KW\",\"p2s\":\"AAECAwQFBg\",\"p2c\":1}}",
+        Answer::Refusal(Refusal::Header),
+    ),
+    (
+        &FORMAT_JWS,
+        "{\"payload\":\"YWJj\",\"signature\":\"\",\"header\":{\"alg\":\"PBES2-HS256+A128KW\",\"p2s\":\"AAECAwQFBgc\",\"p2c\":0}}",
+        Answer::Refusal(Refusal::Header),
     ),
     (&FORMAT_JWE, ENCRYPTED, Answer::Text(ENCRYPTED_JSON)),
     (&COMPACT_JWE, ENCRYPTED_JSON, Answer::Text(ENCRYPTED)),

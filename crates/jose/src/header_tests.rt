@@ -1,6 +1,6 @@
 //! Headers that are read and headers that are refused, as tables.
 use crate::tests::{expect_octets, expect_same};
-use objects::{Header, read_protected};
+use objects::{Header, Jwe, Jws, Signature, read_protected};
 use octets::Refusal;
 use serde_json::{Map, Value};
 use std::process::Abort;
@@ -221,4 +221,40 @@ fn rfc7517_appendix_c2(rt: HostRuntime) {
     expect_parameters(&rt, &header);
     expect_salt(&rt, &header);
     expect_cty(&rt, &header);
+}
+
+fn expect_signature_header(rt: &impl Abort, signature: &Signature) {
+    let header = signature.joint_header();
+    expect_same(rt, header.alg(), Ok(Some("HS256")), "alg");
+    expect_cty(rt, &header);
+}
+
+/// A signature whose `alg` is protected, and whose `cty` is not.
+#[test]
+fn a_signature_has_a_joint_header(rt: HostRuntime) {
+    let text =
+        "{\"payload\":\"YWJj\",\"protected\":\"eyJhbGciOiJIUzI1NiJ9\",\"header\":{\"cty\":\"jwk+json\"},\"signature\":\"\"}";
+    let jws = Jws::read(rt.alloc(), text.as_bytes(), None).expect(&rt, "an object");
+    match jws.signatures() {
+        [signature] => expect_signature_header(&rt, signature),
+        _ => assert!(&rt; false),
+    }
+}
+
+fn expect_recipient_header<R: Abort + AllocGlobal>(rt: &R, header: &Header<'_>) {
+    expect_parameters(rt, header);
+    expect_salt(rt, header);
+    expect_cty(rt, header);
+}
+
+/// The parameters of RFC 7517 appendix C.2 in the three headers of the second recipient.
+#[test]
+fn a_recipient_has_a_joint_header(rt: HostRuntime) {
+    let text =
+        "{\"ciphertext\":\"\",\"protected\":\"eyJlbmMiOiJBMTI4Q0JDLUhTMjU2In0\",\"recipients\":[{\"header\":{\"alg\":\"A128KW\"}},{\"header\":{\"alg\":\"PBES2-HS256+A128KW\",\"p2s\":\"2WCTcJZ1Rvd_CJuJripQ1w\"}}],\"unprotected\":{\"p2c\":4096,\"cty\":\"jwk+json\"}}";
+    let jwe = Jwe::read(rt.alloc(), text.as_bytes(), None).expect(&rt, "an object");
+    match jwe.recipients() {
+        [_, recipient] => expect_recipient_header(&rt, &jwe.joint_header(recipient)),
+        _ => assert!(&rt; false),
+    }
 }

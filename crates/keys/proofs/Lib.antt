@@ -3,6 +3,7 @@ pub mod WholeNumbers
 pub mod Floats
 pub mod CompactTexts
 pub mod ReadingBack
+pub mod DeepTexts
 pub mod JsonParts
 pub mod StringsRead
 pub mod TokensRead

@@ -92,7 +92,7 @@ number_is (negative (negsuc n)) h = IsNumber-signed_decimal (negsuc n) h
 number_is (float x) h = absurd h
 
 mutual
-  HasNumbers_outline : (d : Data) → IsJson d → tree.HasNumbers (outline d)
+  pub HasNumbers_outline : (d : Data) → IsJson d → tree.HasNumbers (outline d)
   HasNumbers_outline null h = tt
   HasNumbers_outline (boolean b) h = tt
   HasNumbers_outline (number n) h = number_is n h
@@ -109,7 +109,7 @@ mutual
   members_HasNumbers (member k d ms) h = (HasNumbers_outline d h.2, members_HasNumbers ms h.3)
 
 mutual
-  depth_outline : (d : Data) → tree.depth (outline d) ≡ depth d
+  pub depth_outline : (d : Data) → tree.depth (outline d) ≡ depth d
   depth_outline null = refl
   depth_outline (boolean b) = refl
   depth_outline (number n) = refl

@@ -1,5 +1,5 @@
 -- The values that JSON texts have, and their compact texts.
-use Rattle.std.specs.Prelude.{◌≡◌, ℕ, ◌^◌, ◌<◌, ◌≤◌, max, List, [], ◌∷◌, ◌++◌, true, false, pos, negsuc, Some, Ok, ⊤}
+use Rattle.std.specs.Prelude.{◌≡◌, ℕ, ◌^◌, ◌<◌, ◌≤◌, max, List, [], ◌∷◌, ◌++◌, true, false, pos, negsuc, Some, Ok, Err, ⊤}
 use Rattle.std.specs.Cmp.Lexicographic.{slice_cmp}
 use Rattle.std.specs.List.{AllByRecursion}
 use Rattle.std.specs.Ordering.{nat_cmp}
@@ -8,6 +8,7 @@ use Rattle.std.specs.declared.cmp.Ordering.TheVariants.{Less}
 use Rattle.serde_json.specs.Data.{Num, unsigned, negative, float, Data, null, boolean, number, string, array, object, Items, no_items, item, Members, no_members, member, put, depth, items_depth, members_depth}
 use Rattle.serde_json.specs.Find.{get, as_array, as_object}
 use Rattle.serde_json.specs.Written.{has_float, compact_text}
+use Rattle.octets.specs.declared.refusal.Refusal.TheVariants.{Json}
 use Rattle.octets.specs.Base64url.{is_url_character}
 use Rattle.keys.specs.Json.{json_value}
 use Rattle.keys.specs.Generating.{without}
@@ -45,6 +46,10 @@ abbrev mutual
 -- such a value, at most 127 deep, is what its compact text reads as
 abbrev pub CompactTextReadsBack : Type 0
 CompactTextReadsBack = (d : Data) → IsJson d → depth d ≤ 127 → json_value (compact_text d) ≡ Ok d
+
+-- one that nests deeper has a compact text that is refused
+abbrev pub DeepTextsAreRefused : Type 0
+DeepTextsAreRefused = (d : Data) → IsJson d → 127 < depth d → json_value (compact_text d) ≡ Err Json
 
 -- what a text reads as is such a value
 abbrev pub ReadsJson : Type 0

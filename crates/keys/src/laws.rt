@@ -1,6 +1,6 @@
 //! Facts of the definitions alone.
 ghost use Rattle.keys.specs.Json.{KeepFloatsOut};
-ghost use Rattle.keys.specs.JsonTexts.{CompactTextReadsBack, KeepJson, ReadsJson, UrlTextsAreJson};
+ghost use Rattle.keys.specs.JsonTexts.{CompactTextReadsBack, DeepTextsAreRefused, KeepJson, ReadsJson, UrlTextsAreJson};
 
 /// Members whose numbers are whole have no float, nor have those of a value without floats, and one may be put in. So what
 /// `read_json` gives, and what is made of it, has a compact text.
@@ -11,6 +11,11 @@ pub fn members_keep_floats_out()
 /// The compact text of a value that is as JSON texts have it, at most 127 deep, reads as that value.
 pub fn compact_text_reads_back()
     ensures { CompactTextReadsBack }
+{}
+
+/// The compact text of such a value that nests deeper is refused with `Json`.
+pub fn deep_texts_are_refused()
+    ensures { DeepTextsAreRefused }
 {}
 
 /// What a text reads as is such a value.

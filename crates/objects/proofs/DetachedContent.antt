@@ -31,7 +31,7 @@ put_content_is false name content ms = refl
 put_content_is true name content ms = refl
 
 -- it is as JSON has it
-pub content_entry : UrlTextsAreJson → (detach : Bool) (n : ℕ) (name text : List ℕ) → list_all is_url_character name ≡ true → IsUrlText text
+pub content_entry : UrlTextsAreJson → (detach : Bool) (n : ℕ) (name text : List ℕ) → list_all is_url_character name ≡ true → IsUtf8 text
     → IsUtf8 name × IsJsonIfThere n (content_there detach text)
 content_entry url false n name text is h = required_entry url n name text is h
 content_entry url true n name text is h = (name_is_json url name is, tt)
@@ -41,6 +41,11 @@ pub content_found : (detach : Bool) (name : List ℕ) (es : Entries) (content te
     → first_there name es ≡ option_or (content_there detach text) None → content_text (handed_in detach content) name (object (put_all es)) ≡ Ok text
 content_found false name es content text same is = required_found name es text is
 content_found true name es content text same is = rw (text_found name es [] is) (ap Ok same)
+
+-- what is handed in beside it is octets, where the content is
+pub handed_octets : (detach : Bool) (content : List ℕ) → IsOctets content → AreOctetsHandedIn (handed_in detach content)
+handed_octets false content is = tt
+handed_octets true content is = is
 
 -- ---- as a part of a compact text
 

@@ -1,5 +1,5 @@
 -- Lists that are read element by element: what they are read as, and what then holds of each.
-use Rattle.std.proofs.Common.{◌≡◌, ℕ, suc, ◌≤◌, List, [], ◌∷◌, length, map, Bool, true, Result, Ok, refl, sym, ap, ap₂, ◌∙◌, subst, arith}
+use Rattle.std.proofs.Common.{◌≡◌, ℕ, suc, ◌+◌, ◌≤◌, List, [], ◌∷◌, length, map, Bool, true, Result, Ok, refl, sym, ap, ap₂, ◌∙◌, subst, arith}
 use Rattle.std.proofs.lemmas.Bool.{and_from}
 use Rattle.std.proofs.lemmas.List.Elements.{recursion_from_All}
 use Rattle.std.proofs.lemmas.List.Sums.{AllPass-from_list_all}
@@ -37,6 +37,18 @@ all_both both (x ∷ xs) p q = (both x p.0 q.0, all_both both xs p.1 q.1)
 pub all_images : {X Y : Type 0} {P : X → Type 0} (Q : Y → Type 0) (image : X → Y) → ((x : X) → P x → Q (image x)) → (xs : List X) → AllByRecursion P xs → AllByRecursion Q (map image xs)
 all_images Q image holds [] p = tt
 all_images Q image holds (x ∷ xs) p = (holds x p.0, all_images Q image holds xs p.1)
+
+-- each passes where its image is so
+pub images_pass : {X Y : Type 0} (P : Y → Type 0) (image : X → Y) (test : X → Bool) → ((x : X) → P (image x) → test x ≡ true) → (xs : List X) → AllByRecursion P (map image xs) → list_all test xs ≡ true
+images_pass P image test one [] all = refl
+images_pass P image test one (x ∷ xs) all = and_from (test x) (list_all test xs) (one x all.0) (images_pass P image test one xs all.1)
+
+-- some number is at least that of each
+pub bounded : {X : Type 0} (f : X → ℕ) (xs : List X) → (n : ℕ) × AllByRecursion (λ x. f x ≤ n) xs
+bounded f [] = (0, tt)
+bounded f (x ∷ xs) =
+    let others = bounded f xs in
+    (f x + others.0, (omega arith, all_then _ _ (λ y h. omega (arith, h)) xs others.1))
 
 -- ---- what is read
 

@@ -9,13 +9,13 @@ use Rattle.octets.specs.Outcomes.{◌>>=◌, needs}
 use Rattle.octets.proofs.Decoded.{decoded-nil}
 use Rattle.keys.specs.Limits.{Limits}
 use Rattle.serde_json.specs.Data.{no_members}
-use Rattle.objects.specs.Jwe.{RecipientTexts, JweTexts, RecipientParts, EncryptedObject, compact_texts, jwe_texts, recipient_parts, parts_of_texts, object_of_texts, jwe_of, joined, jwe_compact_text, CompactTextsAreExact}
+use Rattle.objects.specs.Jwe.{recipient_parts_of, parts_of, RecipientTexts, JweTexts, RecipientParts, EncryptedObject, compact_texts, jwe_texts, recipient_parts, parts_of_texts, object_of_texts, jwe_of, joined, jwe_compact_text, CompactTextsAreExact}
 use Rattle.objects.specs.Texts.{each, split_at_dot, three_parts, content_by, AreOctetsHandedIn, kept, depth_of_each}
 use Rattle.objects.proofs.DetachedContent.{part_is}
 use Rattle.objects.proofs.EachRead.{one_read, one_kept}
 use Rattle.objects.proofs.Joined.{joined_of_split, joined_of_three, split_octets, three_octets, line_octets}
 use Rattle.objects.proofs.MadeJwe.{IsRecipient, AreSpelled, compact, compact_are, recipient_spelled, parts_spelled}
-use Rattle.objects.proofs.MadeOf.{recipient_made_of, made_of, object_is}
+use Rattle.objects.proofs.MadeOf.{object_is}
 use Rattle.objects.proofs.Steps.{steps, same_answer}
 use Rattle.objects.proofs.TextOctets.{TextLaws, text_is}
 
@@ -67,20 +67,20 @@ texts_of_compact detached text t octets h =
     (of_parts detached text a.0.0 b.0.0 c.0.0 c.0.1 d.0 c.0.2 others.1 d.1 (joined_of_five text a.0 b.0 c.0 a.1 b.1 c.1))
 
 -- an object that is read has the members that its texts spell
-object_spelled : (limits : Limits) (t : JweTexts) (o : EncryptedObject) → object_of_texts limits t ≡ Ok o → AreSpelled t (made_of o)
+object_spelled : (limits : Limits) (t : JweTexts) (o : EncryptedObject) → object_of_texts limits t ≡ Ok o → AreSpelled t (parts_of o)
 unfolding object_of_texts
 object_spelled limits t o h =
     let a = steps (needs (nat_le (length t.recipients) limits.recipients) Limit) _ o h in
     let b = steps (decoded t.shared.protected) _ o a.2 in
     let c = steps (parts_of_texts t) _ o b.2 in
-    parts_spelled t (made_of o) (c.1 ∙ ap Ok (sym (object_is b.0 c.0 o c.2)))
+    parts_spelled t (parts_of o) (c.1 ∙ ap Ok (sym (object_is b.0 c.0 o c.2)))
 
 -- one recipient without a header stands in a compact text, where nothing is shared that is not protected
-compact_text_is : (detach : Bool) (o : EncryptedObject) (r : RecipientParts) → map recipient_made_of o.recipients ≡ r ∷ [] → o.unprotected ≡ no_members → r.header ≡ no_members → o.aad ≡ []
+compact_text_is : (detach : Bool) (o : EncryptedObject) (r : RecipientParts) → map recipient_parts_of o.recipients ≡ r ∷ [] → o.unprotected ≡ no_members → r.header ≡ no_members → o.aad ≡ []
     → jwe_compact_text detach o ≡ Ok (joined o.protected r.encrypted_key o.iv (kept detach o.ciphertext) o.tag)
 unfolding jwe_compact_text
 compact_text_is detach o r alone unprotected header aad =
-    let one = one_kept recipient_made_of o.recipients r alone in
+    let one = one_kept recipient_parts_of o.recipients r alone in
     let no_header : one.0.header ≡ no_members = ap (λ (r : RecipientParts). r.header) one.2 ∙ header in
     rw (one.1, unprotected, no_header, aad) (ap (λ (r : RecipientParts). Ok (joined o.protected r.encrypted_key o.iv (kept detach o.ciphertext) o.tag)) one.2)
 
@@ -95,7 +95,7 @@ exact laws limits detached line t o handed octets split h =
     let is = texts_of_compact detached line t octets split in
     let are = compact_are laws detached handed line t octets split in
     let spelled = object_spelled limits t o h in
-    let one = one_read recipient_parts is.recipient (map recipient_made_of o.recipients) (ap (each recipient_parts) (sym is.alone) ∙ spelled.recipients) in
+    let one = one_read recipient_parts is.recipient (map recipient_parts_of o.recipients) (ap (each recipient_parts) (sym is.alone) ∙ spelled.recipients) in
     let recipient = recipient_spelled is.recipient one.0 one.1 in
     let texts = subst (AllByRecursion (IsRecipient (depth_of_each (length t.recipients)))) is.alone are.recipients in
     let key = text_is laws is.recipient.encrypted_key one.0.encrypted_key texts.0.encrypted_key recipient.encrypted_key in

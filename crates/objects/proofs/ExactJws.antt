@@ -8,13 +8,13 @@ use Rattle.octets.specs.Octets.{IsOctets}
 use Rattle.octets.specs.Outcomes.{◌>>=◌, needs}
 use Rattle.keys.specs.Limits.{Limits}
 use Rattle.serde_json.specs.Data.{no_members}
-use Rattle.objects.specs.Jws.{SignatureTexts, JwsTexts, SignatureParts, DecodedSignature, SignedObject, compact_texts, jws_texts, decoded_texts, object_of_texts, jws_of, joined, jws_compact_text, CompactTextsAreExact}
+use Rattle.objects.specs.Jws.{signature_parts_of, SignatureTexts, JwsTexts, SignatureParts, DecodedSignature, SignedObject, compact_texts, jws_texts, decoded_texts, object_of_texts, jws_of, joined, jws_compact_text, CompactTextsAreExact}
 use Rattle.objects.specs.Texts.{each, three_parts, content_by, AreOctetsHandedIn, kept, depth_of_each}
 use Rattle.objects.proofs.DetachedContent.{part_is}
 use Rattle.objects.proofs.EachRead.{one_read, one_kept}
 use Rattle.objects.proofs.Joined.{joined_of_three, three_octets, line_octets}
 use Rattle.objects.proofs.MadeJws.{IsSignature, compact_are, signature_spelled}
-use Rattle.objects.proofs.MadeOf.{signature_made_of, signed_is}
+use Rattle.objects.proofs.MadeOf.{signed_is}
 use Rattle.objects.proofs.Steps.{steps, same_answer}
 use Rattle.objects.proofs.TextOctets.{TextLaws, text_is}
 
@@ -49,7 +49,7 @@ pub record IsSpelled (t : JwsTexts) (o : SignedObject) : Type 0 where
   pub payload : decoded t.payload ≡ Ok o.payload
   pub decoded_signatures : List DecodedSignature
   pub decodes : each decoded_texts t.signatures ≡ Ok decoded_signatures
-  pub signatures : map signature_made_of o.signatures ≡ map (λ (s : DecodedSignature). s.parts) decoded_signatures
+  pub signatures : map signature_parts_of o.signatures ≡ map (λ (s : DecodedSignature). s.parts) decoded_signatures
 
 object_spelled : (limits : Limits) (t : JwsTexts) (o : SignedObject) → object_of_texts limits t ≡ Ok o → IsSpelled t o
 unfolding object_of_texts
@@ -61,11 +61,11 @@ object_spelled limits t o h =
     record { payload = b.1 ∙ ap Ok (sym is.payload); decoded_signatures = c.0; decodes = c.1; signatures = is.signatures }
 
 -- one signature without an unprotected header stands in a compact text
-compact_text_is : (detach : Bool) (o : SignedObject) (s : SignatureParts) → map signature_made_of o.signatures ≡ s ∷ [] → s.header ≡ no_members
+compact_text_is : (detach : Bool) (o : SignedObject) (s : SignatureParts) → map signature_parts_of o.signatures ≡ s ∷ [] → s.header ≡ no_members
     → jws_compact_text detach o ≡ Ok (joined s.protected (kept detach o.payload) s.signature)
 unfolding jws_compact_text
 compact_text_is detach o s alone header =
-    let one = one_kept signature_made_of o.signatures s alone in
+    let one = one_kept signature_parts_of o.signatures s alone in
     let no_header : one.0.header ≡ no_members = ap (λ (s : SignatureParts). s.header) one.2 ∙ header in
     rw (one.1, no_header) (ap (λ (s : SignatureParts). Ok (joined s.protected (kept detach o.payload) s.signature)) one.2)
 

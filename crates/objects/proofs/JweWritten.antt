@@ -1,18 +1,20 @@
 -- The text of an encrypted object, as it is written.
-use Rattle.std.proofs.Common.{◌≡◌, ℕ, List, [], ◌∷◌, ◌++◌, codes, Bool, true, false, Option, Some, Ok, Err, refl, sym, ap, ◌∙◌, subst, append-nil}
+use Rattle.std.proofs.Common.{◌≡◌, ℕ, List, [], ◌∷◌, ◌++◌, codes, map, Bool, true, false, Option, Some, Ok, Err, refl, sym, ap, ◌∙◌, subst, append-nil}
 use Rattle.std.specs.List.{AllByRecursion}
-use Rattle.serde_json.specs.Data.{Data, string, array, object, Members, no_members}
+use Rattle.serde_json.specs.Data.{Data, Items, no_items, string, array, object, Members, no_members, put}
 use Rattle.serde_json.specs.Written.{compact_text, members_text}
 use Rattle.octets.specs.declared.refusal.Refusal.{Refusal}
 use Rattle.octets.specs.declared.refusal.Refusal.TheVariants.{NotCompact}
 use Rattle.octets.specs.Base64url.{base64url, DecodesExactly}
 use Rattle.octets.specs.Outcomes.{needs}
 use Rattle.keys.specs.JsonTexts.{UrlTextsAreJson}
-use Rattle.objects.specs.Jwe.{Recipient, EncryptedObject, put_recipient, put_recipients, put_shared, json_text, is_compact, joined, key_of_first, jwe_compact_text, jwe_text}
+use Rattle.objects.specs.Jwe as jwe
+use Rattle.objects.specs.Jwe.{Recipient, EncryptedObject, put_recipient, put_recipients, put_shared, recipient_parts_of, parts_of, json_text, is_compact, joined, key_of_first, jwe_compact_text, jwe_text}
 use Rattle.objects.specs.Texts.{has_text, kept, objects_of}
 use Rattle.objects.specs.Writing.{Written, nothing_written, opened, inside, with_alone, with_several, with_recipient, with_tag, with_members, with_parts, jwe_written}
 use Rattle.objects.proofs.Characters.{IsUrlText}
 use Rattle.objects.proofs.DetachedContent.{content_there, no_octets}
+use Rattle.objects.proofs.ListedMembers.{objects_of-map}
 use Rattle.objects.proofs.Members.{Entries}
 use Rattle.objects.proofs.Places.{Begins, is_whole, begins_closed, content_data, content_is, IsPlainIfThere, with_value_of, with_value_if_there, begins_header, begins_text, begins_place, begins_content, with_values_of, WritesOne, begins_list, begins_object}
 use Rattle.objects.proofs.Sorted.{member_if_there, present, put_sorted}
@@ -21,6 +23,10 @@ use Rattle.objects.proofs.SpellingJwe.{recipient_entries, own_entries, recipient
 use Rattle.objects.proofs.Steps.{steps, same_answer, passed, refused_alike}
 
 -- ---- the members, in order
+
+-- those of a recipient alone, as they are put in
+abbrev members_of : Recipient → Members
+members_of r = put_recipient (recipient_parts_of r) no_members
 
 abbrev recipient_members : Recipient → Entries
 recipient_members r = (codes "encrypted_key", text_there (base64url r.encrypted_key)) ∷ (codes "header", header_there r.header) ∷ []
@@ -32,9 +38,9 @@ alone_before (r ∷ []) later = (codes "encrypted_key", text_there (base64url r.
 alone_before (r ∷ (other ∷ rest)) later = later
 
 abbrev several_before : List Recipient → Entries → Entries
-several_before [] later = later
+several_before [] later = (codes "recipients", Some (array no_items)) ∷ later
 several_before (r ∷ []) later = later
-several_before (r ∷ (other ∷ rest)) later = (codes "recipients", Some (array (objects_of (λ r. put_recipient r no_members) (r ∷ (other ∷ rest))))) ∷ later
+several_before (r ∷ (other ∷ rest)) later = (codes "recipients", Some (array (objects_of members_of (r ∷ (other ∷ rest))))) ∷ later
 
 abbrev last_members : EncryptedObject → Entries
 last_members o = (codes "tag", text_there (base64url o.tag)) ∷ (codes "unprotected", header_there o.unprotected) ∷ []
@@ -45,22 +51,26 @@ middle_members o rs = (codes "iv", text_there (base64url o.iv)) ∷ (codes "prot
 abbrev all_members : Option Data → EncryptedObject → List Recipient → Entries
 all_members ciphertext o rs = (codes "aad", text_there (base64url o.aad)) ∷ (codes "ciphertext", ciphertext) ∷ alone_before rs (middle_members o rs)
 
-recipient_sorted : (r : Recipient) → put_recipient r no_members ≡ present (recipient_members r)
-recipient_sorted r = recipient_is_put r ∙ put_sorted (recipient_entries (recipient_spelled r)) refl
+recipient_sorted : (r : Recipient) → members_of r ≡ present (recipient_members r)
+recipient_sorted r = let p = recipient_parts_of r in recipient_is_put p ∙ put_sorted (recipient_entries (recipient_spelled p)) refl
 
 -- with the members of recipients put in first
 shared_sorted : (detach : Bool) (o : EncryptedObject) (rs : List Recipient)
-    → put_shared detach o (put_recipients rs no_members) ≡ present (all_members (content_there detach (base64url o.ciphertext)) o rs)
-shared_sorted detach o [] = shared_are_put detach o [] ∙ put_sorted (own_entries detach (spelled o)) refl
+    → put_shared detach (parts_of o) (put_recipients (map recipient_parts_of rs) no_members) ≡ present (all_members (content_there detach (base64url o.ciphertext)) o rs)
+shared_sorted detach o [] =
+    let es : Entries = (codes "recipients", Some (array no_items)) ∷ [] in
+    shared_are_put detach (parts_of o) es ∙ put_sorted (own_entries detach (spelled o) ++ es) refl
 shared_sorted detach o (r ∷ []) =
-    let es : Entries = recipient_entries (recipient_spelled r) in
-    ap (put_shared detach o) (recipient_is_put r) ∙ shared_are_put detach o es ∙ put_sorted (own_entries detach (spelled o) ++ es) refl
+    let es : Entries = recipient_entries (recipient_spelled (recipient_parts_of r)) in
+    ap (put_shared detach (parts_of o)) (recipient_is_put (recipient_parts_of r)) ∙ shared_are_put detach (parts_of o) es ∙ put_sorted (own_entries detach (spelled o) ++ es) refl
 shared_sorted detach o (r ∷ (other ∷ rest)) =
-    let es : Entries = (codes "recipients", Some (array (objects_of (λ r. put_recipient r no_members) (r ∷ (other ∷ rest))))) ∷ [] in
-    shared_are_put detach o es ∙ put_sorted (own_entries detach (spelled o) ++ es) refl
+    let rs : List Recipient = r ∷ (other ∷ rest) in
+    let es : Entries = (codes "recipients", Some (array (objects_of members_of rs))) ∷ [] in
+    ap (λ (items : Items). put_shared detach (parts_of o) (put (codes "recipients") (array items) no_members)) (sym (objects_of-map members_of (λ p. put_recipient p no_members) recipient_parts_of (λ r. refl) rs))
+    ∙ shared_are_put detach (parts_of o) es ∙ put_sorted (own_entries detach (spelled o) ++ es) refl
 
 members_sorted : (detach : Bool) (o : EncryptedObject)
-    → put_shared detach o (put_recipients o.recipients no_members) ≡ present (all_members (content_data (inside detach o.ciphertext)) o o.recipients)
+    → put_shared detach (parts_of o) (put_recipients (parts_of o).recipients no_members) ≡ present (all_members (content_data (inside detach o.ciphertext)) o o.recipients)
 members_sorted detach o = shared_sorted detach o o.recipients ∙ ap (λ (c : Option Data). present (all_members c o o.recipients)) (content_is detach o.ciphertext)
 
 -- ---- recipients, which have no places
@@ -72,7 +82,7 @@ recipient_begins url r later tail w values all b =
     let key = begins_text url (codes "encrypted_key") (base64url r.encrypted_key) (present ((codes "header", header_there r.header) ∷ later)) tail w values all refl b in
     begins_header url (codes "header") r.header (present later) tail _ values all refl key
 
-all_begin : UrlTextsAreJson → (rs : List Recipient) → AllByRecursion (WritesOne with_recipient (λ r. put_recipient r no_members) (λ r values. values)) rs
+all_begin : UrlTextsAreJson → (rs : List Recipient) → AllByRecursion (WritesOne with_recipient members_of (λ r values. values)) rs
 all_begin url [] = tt
 all_begin url (r ∷ rs) =
     (λ tail w values all b. recipient_begins url r [] tail w values all (subst (λ ms. Begins w values (members_text w.later ms ++ tail) all) (recipient_sorted r) b), all_begin url rs)
@@ -91,11 +101,11 @@ alone_begins url (r ∷ (other ∷ rest)) later tail w values all b = b
 several_begins : UrlTextsAreJson → (rs : List Recipient) (later : Entries) (tail : List ℕ) (w : Written) (values : List (List ℕ)) (all : List ℕ)
     → Begins w values (members_text w.later (present (several_before rs later)) ++ tail) all
     → Begins (with_several (codes "recipients") with_recipient rs w) values (members_text (with_several (codes "recipients") with_recipient rs w).later (present later) ++ tail) all
-several_begins url [] later tail w values all b = b
+several_begins url [] later tail w values all b = begins_list url (codes "recipients") with_recipient members_of (λ r values. values) [] tt (present later) tail w values all refl b
 several_begins url (r ∷ []) later tail w values all b = b
 several_begins url (r ∷ (other ∷ rest)) later tail w values all b =
     let rs : List Recipient = r ∷ (other ∷ rest) in
-    let list = begins_list url (codes "recipients") with_recipient (λ r. put_recipient r no_members) (λ r values. values) rs (all_begin url rs) (present later) tail w values all refl b in
+    let list = begins_list url (codes "recipients") with_recipient members_of (λ r values. values) rs (all_begin url rs) (present later) tail w values all refl b in
     subst (λ vs. Begins (with_several (codes "recipients") with_recipient rs w) vs (members_text true (present later) ++ tail) all) (no_values rs values) list
 
 -- ---- the tag
@@ -120,16 +130,16 @@ tag_begins url false tag ms tail w values all plain b = begins_text url (codes "
 
 pub json_written : UrlTextsAreJson → (places detach : Bool) (o : EncryptedObject) → IsPlainIfThere places (inside detach o.ciphertext) → IsPlainText places o.tag
     → Begins (with_members places (inside detach o.ciphertext) o nothing_written) (with_value_of places (base64url o.tag) (with_value_if_there places (inside detach o.ciphertext) [])) [] (json_text detach o)
-unfolding json_text
+unfolding jwe.members_text
 json_written url places detach o plain tagged =
     let content : Option (List ℕ) = inside detach o.ciphertext in
-    let all : List ℕ = compact_text (object (put_shared detach o (put_recipients o.recipients no_members))) in
+    let all : List ℕ = compact_text (object (put_shared detach (parts_of o) (put_recipients (parts_of o).recipients no_members))) in
     let values : List (List ℕ) = with_value_if_there places content [] in
     let tag_values : List (List ℕ) = with_value_of places (base64url o.tag) values in
     let last : Entries = (codes "unprotected", header_there o.unprotected) ∷ [] in
     let protected_later : Entries = (codes "protected", text_there o.protected) ∷ several_before o.recipients (last_members o) in
     let alone_later : Entries = alone_before o.recipients (middle_members o o.recipients) in
-    let start = subst (λ ms. Begins (opened (codes "{") nothing_written) [] (members_text false ms ++ []) all) (members_sorted detach o) (begins_object (put_shared detach o (put_recipients o.recipients no_members))) in
+    let start = subst (λ ms. Begins (opened (codes "{") nothing_written) [] (members_text false ms ++ []) all) (members_sorted detach o) (begins_object (put_shared detach (parts_of o) (put_recipients (parts_of o).recipients no_members))) in
     let aad = begins_text url (codes "aad") (base64url o.aad) (present ((codes "ciphertext", content_data content) ∷ alone_later)) [] _ [] all refl start in
     let ciphertext = begins_content url places (codes "ciphertext") content (present alone_later) [] _ [] all refl plain aad in
     let alone = alone_begins url o.recipients (middle_members o o.recipients) [] _ values all ciphertext in

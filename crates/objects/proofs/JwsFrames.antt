@@ -37,7 +37,8 @@ same_several detach payload s t rest (x ∷ (y ∷ octets)) w = ap (closed (code
 
 same_written : (detach : Bool) (payload other : List ℕ) (ss : List Signature) (octets : List (List ℕ)) (w : Written)
     → with_signatures true (inside detach payload) ss w ≡ with_signatures true (inside detach other) (with_octets ss octets) w
-same_written detach payload other [] octets w = same_content detach payload other w
+same_written detach payload other [] octets w =
+    ap (λ w. with_list (codes "signatures") (with_signature true None) [] w) (same_content detach payload other w)
 same_written true payload other (s ∷ []) [] w = refl
 same_written true payload other (s ∷ []) (x ∷ octets) w = refl
 same_written false payload other (s ∷ []) [] w = refl

@@ -1,44 +1,46 @@
 -- The text of a signed object, as it is written.
-use Rattle.std.proofs.Common.{◌≡◌, ℕ, List, [], ◌∷◌, ◌++◌, codes, Bool, true, false, Option, Some, None, Ok, Err, refl, sym, ap, ◌∙◌, subst, append-nil}
+use Rattle.std.proofs.Common.{◌≡◌, ℕ, List, [], ◌∷◌, ◌++◌, codes, map, Bool, true, false, Option, Some, None, Ok, Err, refl, sym, ap, ◌∙◌, subst, append-nil}
 use Rattle.std.specs.List.{AllByRecursion}
-use Rattle.serde_json.specs.Data.{Data, string, array, object, Members, no_members, member, put}
+use Rattle.serde_json.specs.Data.{Data, Items, string, array, object, Members, no_members, member, put}
 use Rattle.serde_json.specs.Written.{compact_text, members_text}
 use Rattle.octets.specs.declared.refusal.Refusal.{Refusal}
 use Rattle.octets.specs.declared.refusal.Refusal.TheVariants.{NotCompact}
 use Rattle.octets.specs.Base64url.{base64url, DecodesExactly}
 use Rattle.octets.specs.Outcomes.{needs}
 use Rattle.keys.specs.JsonTexts.{UrlTextsAreJson}
-use Rattle.objects.specs.Jws.{Signature, SignedObject, put_signature, json_text, is_compact, joined_first, jws_compact_text, jws_text}
+use Rattle.objects.specs.Jws as jws
+use Rattle.objects.specs.Jws.{JwsParts, Signature, SignedObject, put_signature, signature_parts_of, json_text, is_compact, joined_first, jws_compact_text, jws_text}
 use Rattle.objects.specs.Texts.{kept, put_content, objects_of}
-use Rattle.objects.specs.Writing.{Written, nothing_written, opened, inside, with_signature, with_signatures, with_first, jws_json, jws_written}
+use Rattle.objects.specs.Writing.{Written, nothing_written, opened, inside, with_list, with_content, with_signature, with_signatures, with_first, jws_json, jws_written}
 use Rattle.objects.proofs.DetachedContent.{no_octets}
+use Rattle.objects.proofs.ListedMembers.{objects_of-map}
 use Rattle.objects.proofs.Members.{Entries}
 use Rattle.objects.proofs.Places.{Begins, is_whole, begins_closed, content_data, content_is, IsPlain, IsPlainIfThere, with_value_of, with_value_if_there, begins_header, begins_text, begins_place, begins_content, with_values_of, WritesOne, begins_list, begins_object}
 use Rattle.objects.proofs.Sorted.{present, put_sorted}
 use Rattle.objects.proofs.Spelling.{text_there, header_there}
-use Rattle.objects.proofs.SpellingJws.{signature_entries, entries, signature_spelled, spelled, signature_is_put, members_are_put}
+use Rattle.objects.proofs.SpellingJws.{signature_entries, entries, signature_spelled, parts_spelled, signature_is_put, members_are_put}
 use Rattle.objects.proofs.Steps.{steps, same_answer, passed, refused_alike}
 
 -- ---- the members, in order
+
+-- those of a signature alone, as they are put in
+abbrev members_of : Signature → Members
+members_of s = put_signature (signature_parts_of s) no_members
 
 abbrev signature_members : Option (List ℕ) → Signature → Entries
 signature_members payload s =
     (codes "header", header_there s.header) ∷ (codes "payload", content_data payload) ∷ (codes "protected", text_there s.protected)
     ∷ (codes "signature", Some (string (base64url s.signature))) ∷ []
 
-signature_sorted : (s : Signature) → put_signature s no_members ≡ present (signature_members None s)
-signature_sorted s = signature_is_put s ∙ put_sorted (signature_entries (signature_spelled s)) refl
+signature_sorted : (s : Signature) → members_of s ≡ present (signature_members None s)
+signature_sorted s = let p = signature_parts_of s in signature_is_put p ∙ put_sorted (signature_entries (signature_spelled p)) refl
 
-one_sorted : (detach : Bool) (payload : List ℕ) (s : Signature) → put_content detach (codes "payload") payload (put_signature s no_members) ≡ present (signature_members (inside detach payload) s)
+one_sorted : (detach : Bool) (payload : List ℕ) (s : Signature) → put_content detach (codes "payload") payload (members_of s) ≡ present (signature_members (inside detach payload) s)
 one_sorted detach payload s =
-    let o : SignedObject = record { payload = payload; signatures = s ∷ [] } in
-    members_are_put detach o ∙ put_sorted (entries detach (spelled o)) refl
+    let parts : JwsParts = record { payload = payload; signatures = signature_parts_of s ∷ [] } in
+    members_are_put detach parts ∙ put_sorted (entries detach (parts_spelled parts)) refl
     ∙ ap (λ (o : Option Data). present ((codes "header", header_there s.header) ∷ (codes "payload", o) ∷ (codes "protected", text_there s.protected)
     ∷ (codes "signature", Some (string (base64url s.signature))) ∷ [])) (content_is detach payload)
-
-none_sorted : (detach : Bool) (payload : List ℕ) → put_content detach (codes "payload") payload no_members ≡ present ((codes "payload", content_data (inside detach payload)) ∷ [])
-none_sorted true payload = refl
-none_sorted false payload = refl
 
 list_sorted : (detach : Bool) (payload : List ℕ) (list : Data)
     → put_content detach (codes "payload") payload (put (codes "signatures") list no_members) ≡ present ((codes "payload", content_data (inside detach payload)) ∷ (codes "signatures", Some list) ∷ [])
@@ -63,39 +65,47 @@ signature_begins url places payload s tail w values all plain signed b =
     begins_place url places (codes "signature") s.signature no_members tail _ (with_value_if_there places payload values) all refl signed protected
 
 -- as one of a list
-one_begins : UrlTextsAreJson → (places : Bool) (s : Signature) → IsPlain places s.signature → WritesOne (with_signature places None) (λ s. put_signature s no_members) (value_of places) s
+one_begins : UrlTextsAreJson → (places : Bool) (s : Signature) → IsPlain places s.signature → WritesOne (with_signature places None) members_of (value_of places) s
 one_begins url places s signed = λ tail w values all b.
     signature_begins url places None s tail w values all tt signed (subst (λ ms. Begins w values (members_text w.later ms ++ tail) all) (signature_sorted s) b)
 
 all_begin : UrlTextsAreJson → (places : Bool) (ss : List Signature) → AllByRecursion (λ s. IsPlain places s.signature) ss
-    → AllByRecursion (WritesOne (with_signature places None) (λ s. put_signature s no_members) (value_of places)) ss
+    → AllByRecursion (WritesOne (with_signature places None) members_of (value_of places)) ss
 all_begin url places [] all = tt
 all_begin url places (s ∷ ss) all = (one_begins url places s all.0, all_begin url places ss all.1)
 
 abbrev pub values_of : Bool → Option (List ℕ) → List Signature → List (List ℕ)
 values_of places payload signatures = with_values_of (value_of places) signatures (with_value_if_there places payload [])
 
+-- the members beside a list of signatures
+list_begins : UrlTextsAreJson → (places detach : Bool) (payload : List ℕ) (signatures : List Signature) → IsPlainIfThere places (inside detach payload)
+    → AllByRecursion (λ s. IsPlain places s.signature) signatures
+    → Begins (with_list (codes "signatures") (with_signature places None) signatures (with_content places (codes "payload") (inside detach payload) (opened (codes "{") nothing_written)))
+    (values_of places (inside detach payload) signatures) (codes "}")
+    (compact_text (object (put_content detach (codes "payload") payload (put (codes "signatures") (array (objects_of (λ p. put_signature p no_members) (map signature_parts_of signatures))) no_members))))
+list_begins url places detach payload signatures plain all =
+    let list = array (objects_of members_of signatures) in
+    let ms : Members = put_content detach (codes "payload") payload (put (codes "signatures") list no_members) in
+    let start = subst (λ l. Begins (opened (codes "{") nothing_written) [] (members_text false l ++ []) (compact_text (object ms))) (list_sorted detach payload list) (begins_object ms) in
+    let content = begins_content url places (codes "payload") (inside detach payload) (member (codes "signatures") list no_members) [] _ [] _ refl plain start in
+    let written = begins_list url (codes "signatures") (with_signature places None) members_of (value_of places) signatures (all_begin url places signatures all)
+    no_members [] _ (with_value_if_there places (inside detach payload) []) _ refl content in
+    subst (λ (items : Items). Begins (with_list (codes "signatures") (with_signature places None) signatures (with_content places (codes "payload") (inside detach payload) (opened (codes "{") nothing_written)))
+    (values_of places (inside detach payload) signatures) (codes "}") (compact_text (object (put_content detach (codes "payload") payload (put (codes "signatures") (array items) no_members)))))
+    (objects_of-map members_of (λ p. put_signature p no_members) signature_parts_of (λ s. refl) signatures) written
+
 -- what is written up to the last brace begins the JSON text
 json_begins : UrlTextsAreJson → (places detach : Bool) (payload : List ℕ) (signatures : List Signature) → IsPlainIfThere places (inside detach payload)
     → AllByRecursion (λ s. IsPlain places s.signature) signatures
     → Begins (with_signatures places (inside detach payload) signatures (opened (codes "{") nothing_written)) (values_of places (inside detach payload) signatures) (codes "}")
     (json_text detach (record { payload = payload; signatures = signatures }))
-unfolding json_text
-json_begins url places detach payload [] plain all =
-    let start = begins_object (put_content detach (codes "payload") payload no_members) in
-    begins_content url places (codes "payload") (inside detach payload) no_members [] _ [] _ refl plain
-    (subst (λ ms. Begins (opened (codes "{") nothing_written) [] (members_text false ms ++ []) (compact_text (object (put_content detach (codes "payload") payload no_members)))) (none_sorted detach payload) start)
+unfolding jws.members_text
+json_begins url places detach payload [] plain all = list_begins url places detach payload [] plain all
 json_begins url places detach payload (s ∷ []) plain all =
-    let ms : Members = put_content detach (codes "payload") payload (put_signature s no_members) in
+    let ms : Members = put_content detach (codes "payload") payload (members_of s) in
     signature_begins url places (inside detach payload) s [] _ [] _ plain all.0
     (subst (λ l. Begins (opened (codes "{") nothing_written) [] (members_text false l ++ []) (compact_text (object ms))) (one_sorted detach payload s) (begins_object ms))
-json_begins url places detach payload (s ∷ (other ∷ rest)) plain all =
-    let list = array (objects_of (λ s. put_signature s no_members) (s ∷ (other ∷ rest))) in
-    let ms : Members = put_content detach (codes "payload") payload (put (codes "signatures") list no_members) in
-    let start = subst (λ l. Begins (opened (codes "{") nothing_written) [] (members_text false l ++ []) (compact_text (object ms))) (list_sorted detach payload list) (begins_object ms) in
-    let content = begins_content url places (codes "payload") (inside detach payload) (member (codes "signatures") list no_members) [] _ [] _ refl plain start in
-    begins_list url (codes "signatures") (with_signature places None) (λ s. put_signature s no_members) (value_of places) (s ∷ (other ∷ rest)) (all_begin url places (s ∷ (other ∷ rest)) all)
-    no_members [] _ (with_value_if_there places (inside detach payload) []) _ refl content
+json_begins url places detach payload (s ∷ (other ∷ rest)) plain all = list_begins url places detach payload (s ∷ (other ∷ rest)) plain all
 
 pub json_written : UrlTextsAreJson → (places detach : Bool) (o : SignedObject) → IsPlainIfThere places (inside detach o.payload) → AllByRecursion (λ s. IsPlain places s.signature) o.signatures
     → Begins (jws_json places detach o) (values_of places (inside detach o.payload) o.signatures) [] (json_text detach o)

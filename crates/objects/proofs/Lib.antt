@@ -11,6 +11,7 @@ pub mod Sorted
 pub mod Characters
 pub mod CompactTexts
 pub mod ListedMembers
+pub mod MadeOf
 pub mod Spelling
 pub mod TextOctets
 pub mod Joined
@@ -18,15 +19,16 @@ pub mod ReadJson
 pub mod DetachedContent
 pub mod Places
 pub mod SpellingJwe
-pub mod SpellingJweCompact
 pub mod JweWritten
 pub mod JweFrames
 pub mod SpellingJws
-pub mod SpellingJwsCompact
 pub mod JwsWritten
 pub mod JwsFrames
 pub mod MadeJwe
 pub mod MadeJws
-pub mod MadeOf
+pub mod BuildingJwe
+pub mod BuildingJws
+pub mod SpellingJweCompact
+pub mod SpellingJwsCompact
 pub mod ExactJwe
 pub mod ExactJws

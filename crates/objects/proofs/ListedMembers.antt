@@ -1,5 +1,5 @@
 -- The members of one beside the others, and those of several as a list of objects: they are read as they were put in, and are as JSON has them.
-use Rattle.std.proofs.Common.{◌≡◌, ◌≤◌, ℕ, suc, List, [], ◌∷◌, ◌++◌, length, map, true, false, nat_le, Option, Some, None, Result, Ok, IsUtf8, if◌then◌else◌, refl, ap, ap₂, ◌∙◌, subst, arith}
+use Rattle.std.proofs.Common.{◌≡◌, ◌≤◌, ℕ, suc, List, [], ◌∷◌, ◌++◌, length, map, true, false, nat_le, Option, Some, None, Result, Ok, Err, IsUtf8, if◌then◌else◌, refl, ap, ap₂, ◌∙◌, subst, arith}
 use Rattle.std.proofs.Math.Dec.{leb-suc-suc, leb-suc-zero}
 use Rattle.std.specs.List.{AllByRecursion}
 use Rattle.std.specs.Option.{option_or}
@@ -7,26 +7,28 @@ use Rattle.std.specs.Str.{bytes_eq}
 use Rattle.serde_json.specs.Data.{Data, Items, no_items, item, Members, no_members, put, array, object, items_depth}
 use Rattle.serde_json.specs.Find.{get}
 use Rattle.octets.specs.declared.refusal.Refusal.{Refusal}
+use Rattle.octets.specs.declared.refusal.Refusal.TheVariants.{Form}
 use Rattle.octets.specs.Outcomes.{◌>>=◌}
 use Rattle.keys.specs.JsonTexts.{AreJsonItems, KeepJson}
 use Rattle.keys.specs.KeySets.{are_objects}
 use Rattle.objects.specs.Texts.{each_item, object_list, objects_of, put_each, header_depth, listed_header_depth, depth_of_each}
-use Rattle.objects.proofs.Members.{Entries, put_all, first_there, AreJsonEntries, all_json}
+use Rattle.objects.proofs.EachRead.{all_then}
+use Rattle.objects.proofs.Members.{Entries, put_all, first_there, IsJsonIfThere, AreJsonEntries, all_json}
 
 -- the members of each as an object
 abbrev pub listed : {T : Type 0} → (T → Entries) → List T → Items
 listed entries ts = objects_of (λ t. put_all (entries t)) ts
 
--- those of one, or under the name the list of several
+-- those of one, or under the name the list of several or of none
 abbrev pub each_entries : {T : Type 0} → List ℕ → (T → Entries) → List T → Entries
-each_entries name entries [] = []
+each_entries name entries [] = (name, Some (array no_items)) ∷ []
 each_entries name entries (t ∷ []) = entries t
 each_entries name entries (t ∷ (other ∷ rest)) = (name, Some (array (listed entries (t ∷ (other ∷ rest))))) ∷ []
 
 -- ---- what is put in
 
 -- members that are equal make equal objects
-objects_of-map : {X T : Type 0} (members : X → Members) (others : T → Members) (text : X → T) → ((x : X) → members x ≡ others (text x))
+pub objects_of-map : {X T : Type 0} (members : X → Members) (others : T → Members) (text : X → T) → ((x : X) → members x ≡ others (text x))
     → (xs : List X) → objects_of members xs ≡ objects_of others (map text xs)
 objects_of-map members others text same [] = refl
 objects_of-map members others text same (x ∷ xs) = ap₂ (λ ms ds. item (object ms) ds) (same x) (objects_of-map members others text same xs)
@@ -44,7 +46,7 @@ put_each_is name put_one text entries same (x ∷ (other ∷ rest)) =
 -- under a name that neither the list has nor one, only what stands in front is found
 pub in_front : {T : Type 0} (name : List ℕ) (entries : T → Entries) (ts : List T) (other : List ℕ) (d : Option Data) → bytes_eq other name ≡ false
     → ((t : T) → first_there other (entries t) ≡ None) → option_or d (first_there other (each_entries name entries ts)) ≡ option_or d None
-in_front name entries [] other d differs none = refl
+in_front name entries [] other d differs none = rw differs refl
 in_front name entries (t ∷ []) other d differs none = ap (option_or d) (none t)
 in_front name entries (t ∷ (second ∷ rest)) other d differs none = rw differs refl
 
@@ -93,6 +95,16 @@ each_read name entries read nothing_at front is (t ∷ (other ∷ rest)) some =
       items_read read (λ t. put_all (entries t)) is.alone (t ∷ (other ∷ rest)),
     )
 
+-- a list of none is refused
+pub none_read : {T : Type 0} (name : List ℕ) (entries : T → Entries) (read : Data → Result T Refusal) (nothing_at : Data → Result (Unit {0}) Refusal) (front : Entries)
+    → ReadsEach name entries read nothing_at front → (ts : List T) → ts ≡ []
+    → let value = object (put_all (front ++ each_entries name entries ts)) in objects_by nothing_at value (get name value) ≡ Err Form
+unfolding object_list
+none_read name entries read nothing_at front is [] none =
+    let value = object (put_all (front ++ (name, Some (array no_items)) ∷ [])) in
+    ap (objects_by nothing_at value) (is.has_list (array no_items)) ∙ rw (is.nothing (array no_items)) refl
+none_read name entries read nothing_at front is (t ∷ ts) none = cc none
+
 -- ---- as JSON has it
 
 depth_of_several : (n : ℕ) → depth_of_each (suc (suc n)) ≡ listed_header_depth
@@ -110,9 +122,23 @@ items_json keep n text entries (x ∷ xs) all =
 -- so the members of all nest no deeper than a header at the top may, where those of each nest no deeper than its header may
 pub each_json : {X T : Type 0} → KeepJson → (name : List ℕ) (text : X → T) (entries : T → Entries) (xs : List X) → IsUtf8 name
     → AllByRecursion (λ x. AreJsonEntries (depth_of_each (length xs)) (entries (text x))) xs → AreJsonEntries header_depth (each_entries name entries (map text xs))
-each_json keep name text entries [] named all = tt
+each_json keep name text entries [] named all = ((named, (tt, omega arith)), tt)
 each_json keep name text entries (x ∷ []) named all = all.0
 each_json keep name text entries (x ∷ (other ∷ rest)) named all =
     let deep = λ (n : ℕ). AllByRecursion (λ x. AreJsonEntries n (entries (text x))) (x ∷ (other ∷ rest)) in
     let items = items_json keep listed_header_depth text entries (x ∷ (other ∷ rest)) (subst deep (depth_of_several (length rest)) all) in
+    ((named, (items.0, omega (arith, items.1))), tt)
+
+-- what nests at most so deep nests at most two deeper
+deeper_if_there : (n : ℕ) (d : Option Data) → IsJsonIfThere n d → IsJsonIfThere (suc (suc n)) d
+deeper_if_there n None h = tt
+deeper_if_there n (Some d) h = (h.0, omega (arith, h.1))
+
+-- where the members of each are as JSON has them, at most so deep, those of all nest at most two deeper
+pub each_json_deeper : {X T : Type 0} → KeepJson → (n : ℕ) (name : List ℕ) (text : X → T) (entries : T → Entries) (xs : List X) → IsUtf8 name
+    → AllByRecursion (λ x. AreJsonEntries n (entries (text x))) xs → AreJsonEntries (suc (suc n)) (each_entries name entries (map text xs))
+each_json_deeper keep n name text entries [] named all = ((named, (tt, omega arith)), tt)
+each_json_deeper keep n name text entries (x ∷ []) named all = all_then _ _ (λ e h. (h.0, deeper_if_there n e.1 h.1)) (entries (text x)) all.0
+each_json_deeper keep n name text entries (x ∷ (other ∷ rest)) named all =
+    let items = items_json keep n text entries (x ∷ (other ∷ rest)) all in
     ((named, (items.0, omega (arith, items.1))), tt)

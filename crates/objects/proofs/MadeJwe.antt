@@ -1,11 +1,11 @@
 -- An encrypted object that is read can be made of its members.
-use Rattle.std.proofs.Common.{◌≡◌, ◌≤◌, ℕ, suc, List, [], ◌∷◌, length, codes, true, nat_le, Option, Some, None, Ok, refl, sym, ap, ◌∙◌, subst, arith}
+use Rattle.std.proofs.Common.{◌≡◌, ◌≤◌, ℕ, suc, List, [], ◌∷◌, length, codes, true, nat_le, Option, Some, None, Ok, IsUtf8, refl, sym, ap, ◌∙◌, subst, arith}
 use Rattle.std.proofs.lemmas.Bool.{and_from, le-leb}
 use Rattle.std.specs.List.{AllByRecursion}
 use Rattle.serde_json.specs.Data.{Data, Items, no_members}
 use Rattle.serde_json.specs.Find.{get}
 use Rattle.octets.specs.declared.refusal.Refusal.TheVariants.{Limit}
-use Rattle.octets.specs.Base64url.{decoded, DecodesExactly}
+use Rattle.octets.specs.Base64url.{decoded}
 use Rattle.octets.specs.Octets.{IsOctets}
 use Rattle.octets.specs.Outcomes.{needs}
 use Rattle.octets.proofs.Decoded.{IsOctets-nil}
@@ -18,7 +18,7 @@ use Rattle.objects.proofs.DetachedContent.{MeansOctets, part_octets, member_octe
 use Rattle.objects.proofs.Each.{as_many}
 use Rattle.objects.proofs.EachRead.{all_read, all_pass, all_then}
 use Rattle.objects.proofs.Joined.{split_octets, three_octets}
-use Rattle.objects.proofs.ReadJson.{ReadingLaws, IsShallow, IsHeader, AreObjects, no_header, header_whole, text_octets, header_shallow, alone, listed, each_is, of_text}
+use Rattle.objects.proofs.ReadJson.{ReadingLaws, text_is_json, IsShallow, IsHeader, AreObjects, no_header, header_whole, text_octets, header_shallow, alone, listed, each_is, of_text}
 use Rattle.objects.proofs.Steps.{steps, passed, same_answer}
 use Rattle.objects.proofs.TextOctets.{TextLaws}
 
@@ -90,7 +90,7 @@ objects_are : KeepJson → (d : Data) (items : Items) → IsShallow 127 d → re
 unfolding recipient_objects
 objects_are keep d items is h = objects_by keep d (get (codes "recipients") d) items is refl h
 
-json_are : KeepJson → TextLaws → (detached : Option (List ℕ)) → AreOctetsHandedIn detached → (d : Data) (t : JweTexts) → IsShallow 127 d → json_texts detached d ≡ Ok t → AreTexts t
+pub json_are : KeepJson → TextLaws → (detached : Option (List ℕ)) → AreOctetsHandedIn detached → (d : Data) (t : JweTexts) → IsShallow 127 d → json_texts detached d ≡ Ok t → AreTexts t
 unfolding json_texts
 json_are keep laws detached handed d t is h =
     let a = steps (shared_texts d) _ t h in
@@ -201,7 +201,7 @@ object_made laws limits t o are h =
     let all : AllByRecursion (IsMade n) parts.recipients = recipients_made laws t.recipients parts.recipients are.recipients spelled.recipients in
     let unprotected : IsHeader header_depth parts.unprotected = subst (IsHeader header_depth) (sym spelled.unprotected) are.shared.unprotected in
     let members : AreMembers parts = record {
-      protected = subst IsOctets (sym spelled.protected) are.shared.protected;
+      protected = subst IsUtf8 (sym spelled.protected) (text_is_json laws t.shared.protected b.0 are.shared.protected b.1);
       unprotected = unprotected.json;
       iv = laws.octets t.content.iv parts.iv are.content.iv spelled.iv;
       aad = laws.octets t.shared.aad parts.aad are.shared.aad spelled.aad;
@@ -217,9 +217,9 @@ object_made laws limits t o are h =
     let octets : decoded parts.protected ≡ Ok b.0 = ap decoded spelled.protected ∙ b.1 in
     (parts, (members, rw (shallow, whole, some, few, octets) c.2))
 
-pub objects_are_made : ReadingLaws → DecodesExactly → ObjectsAreMade
+pub objects_are_made : ReadingLaws → ObjectsAreMade
 unfolding jwe_of
-objects_are_made laws exact limits detached text o handed octets h =
+objects_are_made laws limits detached text o handed octets h =
     let a = steps (jwe_texts detached text) (object_of_texts limits) o h in
-    let are = texts_are laws (record { exact = exact; octets = laws.octets }) detached handed text a.0 octets a.1 in
+    let are = texts_are laws (record { exact = laws.exact; octets = laws.octets }) detached handed text a.0 octets a.1 in
     object_made laws limits a.0 o are a.2

@@ -1,12 +1,12 @@
 -- A signed object that is read can be made of its members.
-use Rattle.std.proofs.Common.{◌≡◌, ◌≤◌, ℕ, suc, List, length, map, codes, true, nat_le, Option, Some, None, Ok, refl, sym, ap, ◌∙◌, subst, arith}
+use Rattle.std.proofs.Common.{◌≡◌, ◌≤◌, ℕ, suc, List, length, map, codes, true, nat_le, Option, Some, None, Ok, IsUtf8, refl, sym, ap, ◌∙◌, subst, arith}
 use Rattle.std.proofs.lemmas.Bool.{le-leb}
 use Rattle.std.proofs.lemmas.List.{length-map}
 use Rattle.std.specs.List.{AllByRecursion}
 use Rattle.serde_json.specs.Data.{Data, Items}
 use Rattle.serde_json.specs.Find.{get}
 use Rattle.octets.specs.declared.refusal.Refusal.TheVariants.{Limit}
-use Rattle.octets.specs.Base64url.{decoded, DecodesExactly}
+use Rattle.octets.specs.Base64url.{decoded}
 use Rattle.octets.specs.Octets.{IsOctets}
 use Rattle.octets.specs.Outcomes.{◌>>=◌, needs}
 use Rattle.keys.specs.JsonTexts.{KeepJson}
@@ -18,7 +18,7 @@ use Rattle.objects.proofs.DetachedContent.{MeansOctets, part_octets, member_octe
 use Rattle.objects.proofs.Each.{as_many}
 use Rattle.objects.proofs.EachRead.{all_read, read_again, all_pass, all_then, all_images}
 use Rattle.objects.proofs.Joined.{three_octets}
-use Rattle.objects.proofs.ReadJson.{ReadingLaws, IsShallow, IsHeader, AreObjects, no_header, header_whole, text_octets, required_octets, header_shallow, alone, listed, each_is, of_text}
+use Rattle.objects.proofs.ReadJson.{ReadingLaws, text_is_json, IsShallow, IsHeader, AreObjects, no_header, header_whole, text_octets, required_octets, header_shallow, alone, listed, each_is, of_text}
 use Rattle.objects.proofs.Steps.{steps, passed, same_answer}
 use Rattle.objects.proofs.TextOctets.{TextLaws}
 
@@ -59,7 +59,7 @@ objects_are : KeepJson → (d : Data) (items : Items) → IsShallow 127 d → si
 unfolding signature_objects
 objects_are keep d items is h = objects_by keep d (get (codes "signatures") d) items is refl h
 
-json_are : KeepJson → TextLaws → (detached : Option (List ℕ)) → AreOctetsHandedIn detached → (d : Data) (t : JwsTexts) → IsShallow 127 d → json_texts detached d ≡ Ok t → AreTexts t
+pub json_are : KeepJson → TextLaws → (detached : Option (List ℕ)) → AreOctetsHandedIn detached → (d : Data) (t : JwsTexts) → IsShallow 127 d → json_texts detached d ≡ Ok t → AreTexts t
 unfolding json_texts
 json_are keep laws detached handed d t is h =
     let a = steps (content_text detached (codes "payload") d) _ t h in
@@ -110,12 +110,14 @@ signature_spelled t s h =
 
 -- the members of a signature are as JSON and octets have them
 abbrev IsMade : ℕ → SignatureParts → Type 0
-IsMade n s = IsOctets s.protected × IsHeader n s.header × IsOctets s.signature
+IsMade n s = IsUtf8 s.protected × IsHeader n s.header × IsOctets s.signature
 
 signature_made : ReadingLaws → (n : ℕ) (t : SignatureTexts) (s : DecodedSignature) → IsSignature n t → decoded_texts t ≡ Ok s → IsMade n s.parts
+unfolding decoded_signature
 signature_made laws n t s is h =
-    let spelled = signature_spelled t s h in (
-      subst IsOctets (sym spelled.protected) is.protected,
+    let spelled = signature_spelled t s h in
+    let own = steps (decoded s.parts.protected) _ s spelled.again in (
+      text_is_json laws s.parts.protected own.0 (subst IsOctets (sym spelled.protected) is.protected) own.1,
       subst (IsHeader n) (sym spelled.header) is.header,
       laws.octets t.signature s.parts.signature is.signature spelled.signature,
     )
@@ -144,9 +146,9 @@ object_made laws limits t o are h =
     let again : each decoded_signature signatures ≡ Ok c.0 = read_again decoded_texts members_of decoded_signature (λ t s h. (signature_spelled t s h).again) t.signatures c.0 c.1 in
     (record { payload = b.0; signatures = signatures }, (members, rw (shallow, whole, some, few, again) c.2))
 
-pub objects_are_made : ReadingLaws → DecodesExactly → ObjectsAreMade
+pub objects_are_made : ReadingLaws → ObjectsAreMade
 unfolding jws_of
-objects_are_made laws exact limits detached text o handed octets h =
+objects_are_made laws limits detached text o handed octets h =
     let a = steps (jws_texts detached text) (object_of_texts limits) o h in
-    let are = texts_are laws (record { exact = exact; octets = laws.octets }) detached handed text a.0 octets a.1 in
+    let are = texts_are laws (record { exact = laws.exact; octets = laws.octets }) detached handed text a.0 octets a.1 in
     object_made laws limits a.0 o are a.2

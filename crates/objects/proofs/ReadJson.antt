@@ -1,5 +1,5 @@
 -- What is read of a JSON value: texts of octets, and headers that are as JSON has them and nest less deep than the value.
-use Rattle.std.proofs.Common.{◌≡◌, ◌≤◌, ℕ, suc, List, [], Bool, true, false, Option, Some, None, Ok, length, nat_le, refl, sym, ap, subst, arith}
+use Rattle.std.proofs.Common.{◌≡◌, ◌≤◌, ℕ, suc, List, [], Bool, true, false, Option, Some, None, Ok, IsUtf8, length, nat_le, refl, sym, ap, subst, arith}
 use Rattle.std.proofs.lemmas.Bool.{and_parts, cond_both}
 use Rattle.std.specs.List.{AllByRecursion}
 use Rattle.std.specs.Option.{ok_or}
@@ -8,12 +8,13 @@ use Rattle.serde_json.specs.Data.{Data, null, boolean, number, string, array, ob
 use Rattle.serde_json.specs.Find.{get, as_str, as_array, as_object}
 use Rattle.octets.specs.declared.refusal.Refusal.{Refusal}
 use Rattle.octets.specs.declared.refusal.Refusal.TheVariants.{Form}
+use Rattle.octets.specs.Base64url.{base64url, decoded, DecodesExactly, HasUrlCharacters}
 use Rattle.octets.specs.LineEnds.{without_line_end}
 use Rattle.octets.specs.Octets.{IsOctets}
 use Rattle.octets.specs.Outcomes.{◌>>=◌, needs}
 use Rattle.octets.proofs.Decoded.{IsOctets-nil}
 use Rattle.keys.specs.Json.{json_value, member_numbers_are_whole}
-use Rattle.keys.specs.JsonTexts.{IsJson, AreJsonItems, AreJsonMembers, KeepJson, ReadsJson}
+use Rattle.keys.specs.JsonTexts.{IsJson, AreJsonItems, AreJsonMembers, KeepJson, ReadsJson, UrlTextsAreJson}
 use Rattle.keys.specs.KeySets.{are_objects, items_count}
 use Rattle.keys.proofs.ReadingBack.{numbers_whole}
 use Rattle.objects.specs.Headers.{header_at, members_if_there, some_members}
@@ -21,13 +22,22 @@ use Rattle.objects.specs.Texts.{each_item, text_if_there, text_at, required_text
 use Rattle.objects.proofs.EachRead.{all_items_read, as_many_items}
 use Rattle.objects.proofs.Joined.{line_octets}
 use Rattle.objects.proofs.Steps.{steps, passed, same_answer, is_there}
-use Rattle.objects.proofs.TextOctets.{DecodesToOctets, octets_of_utf8}
+use Rattle.objects.proofs.TextOctets.{DecodesToOctets, octets_of_utf8, text_is}
 
 -- the laws of what is read
 pub record ReadingLaws : Type 0 where
   pub reads : ReadsJson
   pub keep : KeepJson
+  pub url : UrlTextsAreJson
+  pub exact : DecodesExactly
   pub octets : DecodesToOctets
+  pub characters : HasUrlCharacters
+
+-- a text that decodes is UTF-8
+pub text_is_json : ReadingLaws → (text octets : List ℕ) → IsOctets text → decoded text ≡ Ok octets → IsUtf8 text
+text_is_json laws text octets is h =
+    let same : text ≡ base64url octets = text_is (record { exact = laws.exact; octets = laws.octets }) text octets is h in
+    subst IsUtf8 (sym same) (laws.url (base64url octets) (laws.characters octets (laws.octets text octets is h))).0
 
 -- a value that is as JSON texts have it, and nests at most so deep
 pub record IsShallow (n : ℕ) (d : Data) : Type 0 where

@@ -94,12 +94,16 @@ decoded_characters laws text octets is decodes =
 pub name_is_json : UrlTextsAreJson → (name : List ℕ) → list_all is_url_character name ≡ true → IsUtf8 name
 name_is_json url name h = (url name (all_passed is_url_character name h)).0
 
+-- so is the text of octets
+pub spelled_is_json : Laws → (octets : List ℕ) → IsOctets octets → IsUtf8 (base64url octets)
+spelled_is_json laws octets is = (laws.url (base64url octets) (laws.characters octets is)).0
+
 -- such a text is as JSON has it
-pub required_entry : UrlTextsAreJson → (n : ℕ) (name text : List ℕ) → list_all is_url_character name ≡ true → IsUrlText text → IsUtf8 name × IsJsonIfThere n (Some (string text))
-required_entry url n name text is h = (name_is_json url name is, ((url text h).0, omega arith))
+pub required_entry : UrlTextsAreJson → (n : ℕ) (name text : List ℕ) → list_all is_url_character name ≡ true → IsUtf8 text → IsUtf8 name × IsJsonIfThere n (Some (string text))
+required_entry url n name text is h = (name_is_json url name is, (h, omega arith))
 
 -- so is one that may be absent
-pub text_entry : UrlTextsAreJson → (n : ℕ) (name text : List ℕ) → list_all is_url_character name ≡ true → IsUrlText text → IsUtf8 name × IsJsonIfThere n (text_there text)
+pub text_entry : UrlTextsAreJson → (n : ℕ) (name text : List ℕ) → list_all is_url_character name ≡ true → IsUtf8 text → IsUtf8 name × IsJsonIfThere n (text_there text)
 text_entry url n name [] is h = (name_is_json url name is, tt)
 text_entry url n name (c ∷ text) is h = required_entry url n name (c ∷ text) is h
 

@@ -1,18 +1,21 @@
--- What the compact text of an encrypted object spells is the object, and so is what its JSON text spells.
+-- What the JSON text of an encrypted object spells is the object, and so is what its compact text spells.
 use Rattle.std.proofs.Common.{◌≡◌, ◌==◌, ◌&&◌, ℕ, List, [], ◌∷◌, length, Bool, true, not, Ok, refl, sym, ap, ◌∙◌, subst, arith, append_assoc}
 use Rattle.std.proofs.lemmas.Bool.{and_parts, eqb-true}
 use Rattle.serde_json.specs.Data.{no_members}
 use Rattle.octets.specs.declared.refusal.Refusal.TheVariants.{NotCompact}
 use Rattle.octets.specs.Base64url.{base64url, SpellsSixBits}
 use Rattle.octets.specs.Outcomes.{needs}
+use Rattle.keys.specs.JsonTexts.{DeepTextsAreRefused}
 use Rattle.keys.specs.Limits.{Limits}
-use Rattle.objects.specs.Jwe.{JweParts, Recipient, EncryptedObject, JweTexts, compact_texts, jwe_texts, object_of_texts, jwe_of, is_compact, key_of_first, jwe_compact_text, AreMembers, TextsSpellObjects}
+use Rattle.objects.specs.Jwe.{JweParts, Recipient, EncryptedObject, JweTexts, compact_texts, jwe_texts, object_of_texts, jwe_of, built, members_text, json_text, is_compact, key_of_first, jwe_compact_text, AreMembers, BuildingIsReading, TextsSpellObjects}
 use Rattle.objects.specs.Texts.{has_members, handed_in, kept}
+use Rattle.objects.proofs.BuildingJwe.{building_is_reading}
 use Rattle.objects.proofs.Characters.{between_dots, joined_characters, no_json_form, no_line_end}
 use Rattle.objects.proofs.CompactTexts.{all_no_dot, split_of_joined, three_of_joined}
 use Rattle.objects.proofs.DetachedContent.{kept_read, kept_characters, kept_text}
+use Rattle.objects.proofs.MadeOf.{object_is}
 use Rattle.objects.proofs.Spelling.{Laws, no_member}
-use Rattle.objects.proofs.SpellingJwe.{spelled, parts_spelled, object_keeps, IsBuilt, is_built, object_read, HasUrlTexts, url_texts, json_text_spells}
+use Rattle.objects.proofs.SpellingJwe.{spelled, parts_spelled, object_keeps, IsBuilt, is_built, object_read, HasUrlTexts, url_texts}
 use Rattle.objects.proofs.Steps.{steps, same_answer, passed}
 
 -- the texts of a compact text with these parts
@@ -80,8 +83,14 @@ compact_text_spells laws spells limits parts o members is detach text h =
     ∙ read_compact limits detach protected key iv o.ciphertext tag o (subst HasUrlTexts texts (url_texts laws limits parts o members is))
     (ap (object_of_texts limits) (sym texts) ∙ object_read laws limits parts o members is)
 
--- an object that is made of its members is what its texts spell
-pub texts_spell_objects : Laws → SpellsSixBits → TextsSpellObjects
-texts_spell_objects laws spells limits parts o members h detach =
+-- an object is what its JSON text spells, which is that of its members
+json_text_spells : BuildingIsReading → (limits : Limits) (parts : JweParts) (o : EncryptedObject) → AreMembers parts → built limits parts ≡ Ok o → (detach : Bool)
+    → jwe_of limits (handed_in detach o.ciphertext) (json_text detach o) ≡ Ok o
+json_text_spells reading limits parts o members h detach =
     let is = is_built limits parts o h in
-    (json_text_spells laws limits parts o members is detach, compact_text_spells laws spells limits parts o members is detach)
+    ap (λ (p : JweParts). jwe_of limits (handed_in detach p.ciphertext) (members_text detach p)) (object_is is.octets parts o is.made) ∙ sym (reading limits parts members detach) ∙ h
+
+-- an object that is made of its members is what its texts spell
+pub texts_spell_objects : Laws → DeepTextsAreRefused → SpellsSixBits → TextsSpellObjects
+texts_spell_objects laws refused spells limits parts o members h detach =
+    (json_text_spells (building_is_reading laws refused) limits parts o members h detach, compact_text_spells laws spells limits parts o members (is_built limits parts o h) detach)

@@ -1,28 +1,29 @@
--- What the JSON text of a signed object spells is the object.
-use Rattle.std.proofs.Common.{◌≡◌, ℕ, List, [], ◌∷◌, ◌++◌, length, map, codes, Bool, true, nat_le, Option, Some, None, Ok, refl, sym, ap, ◌∙◌}
-use Rattle.std.proofs.lemmas.List.{length-map}
-use Rattle.std.specs.List.{AllByRecursion, list_all}
+-- The texts of a signed object's members: they are put into its JSON text, read of it, and read as the object.
+use Rattle.std.proofs.Common.{◌≡◌, ℕ, suc, List, [], ◌∷◌, ◌++◌, length, map, codes, Bool, true, nat_le, Option, Some, None, Result, Ok, Err, IsUtf8, refl, sym, ap, ap₂, ◌∙◌}
+use Rattle.std.proofs.lemmas.Bool.{le-leb}
+use Rattle.std.proofs.lemmas.List.{length-map, map-id}
+use Rattle.std.specs.List.{AllByRecursion}
 use Rattle.std.specs.Option.{option_or}
-use Rattle.serde_json.specs.Data.{Data, Members, no_members, string, object, depth}
+use Rattle.serde_json.specs.Data.{Data, no_members, string, object, depth}
 use Rattle.serde_json.specs.Find.{get}
-use Rattle.serde_json.specs.Written.{compact_text}
-use Rattle.octets.specs.declared.refusal.Refusal.TheVariants.{Json, Number, Form, Unsupported, Limit}
+use Rattle.octets.specs.declared.refusal.Refusal.{Refusal}
+use Rattle.octets.specs.declared.refusal.Refusal.TheVariants.{Json, Number, Form, Limit}
 use Rattle.octets.specs.Base64url.{base64url, decoded}
 use Rattle.octets.specs.Octets.{IsOctets}
-use Rattle.octets.specs.Outcomes.{needs}
-use Rattle.keys.specs.Json.{json_value}
-use Rattle.keys.specs.JsonTexts.{AreJsonMembers}
+use Rattle.octets.specs.Outcomes.{◌>>=◌, needs}
+use Rattle.keys.specs.JsonTexts.{IsJson, AreJsonMembers}
 use Rattle.keys.specs.Limits.{Limits}
-use Rattle.objects.specs.Headers.{protected_members, joint_header, string_there}
-use Rattle.objects.specs.Jws.{JwsParts, SignatureParts, Signature, SignedObject, DecodedSignature, HeadedSignature, JwsTexts, SignatureTexts, signature_texts, no_signature_at, signatures_by, signature_objects, json_texts, jws_texts, decoded_signature, decoded_texts, headed_signature, signature_by, is_plain, signatures_of, signed_object, object_of_texts, jws_of, nest_at_most, have_whole_numbers, built, put_signature, json_text, AreMembers}
+use Rattle.objects.specs.Jws.{JwsParts, SignatureParts, SignedObject, DecodedSignature, JwsTexts, SignatureTexts, signature_texts, no_signature_at, signatures_by, signature_objects, json_texts, decoded_signature, decoded_texts, signed_object, object_of_texts, nest_at_most, have_whole_numbers, built, put_signature, parts_of, AreMembers}
 use Rattle.objects.specs.Texts.{each, handed_in, put_content, put_each, header_depth, depth_of_each}
 use Rattle.objects.proofs.Characters.{IsUrlText}
 use Rattle.objects.proofs.DetachedContent.{content_there, put_content_is, content_entry, content_found}
-use Rattle.objects.proofs.EachRead.{all_passed, all_both, all_images, each_keeps, each_all, each_alike}
-use Rattle.objects.proofs.ListedMembers.{each_entries, put_each_is, in_front, objects_by, ReadsEach, each_read, each_json}
-use Rattle.objects.proofs.Members.{Entries, put_if_there, put_all, first_there, get_member-put_all, AreJsonEntries}
-use Rattle.objects.proofs.Spelling.{Laws, text_there, header_there, put_text_is, put_header_is, text_found, header_found, required_found, decoded_characters, name_is_json, required_entry, text_entry, header_entry, object_form, object_value}
+use Rattle.objects.proofs.EachRead.{all_passed, all_both, all_images, bounded, each_keeps, each_all, each_alike}
+use Rattle.objects.proofs.ListedMembers.{each_entries, put_each_is, in_front, objects_by, ReadsEach, each_read, none_read, each_json, each_json_deeper}
+use Rattle.objects.proofs.MadeOf.{signed_is}
+use Rattle.objects.proofs.Members.{Entries, put_if_there, put_all, first_there, get_member-put_all, IsJsonIfThere, AreJsonEntries, all_json}
+use Rattle.objects.proofs.Spelling.{Laws, text_there, header_there, put_text_is, put_header_is, text_found, header_found, required_found, decoded_characters, name_is_json, spelled_is_json, required_entry, text_entry, header_entry}
 use Rattle.objects.proofs.Steps.{steps, same_answer, passed}
+use Rattle.objects.proofs.TextOctets.{octets_of_utf8}
 
 -- ---- the members of the JSON text
 
@@ -68,7 +69,7 @@ by_list value None = refl
 by_list value (Some list) = refl
 
 -- all texts are read as they were put in, beside a payload that is handed in where it is detached
-texts_read : (detach : Bool) (payload : List ℕ) (t : JwsTexts) → base64url payload ≡ t.payload → nat_le 1 (length t.signatures) ≡ true
+pub texts_read : (detach : Bool) (payload : List ℕ) (t : JwsTexts) → base64url payload ≡ t.payload → nat_le 1 (length t.signatures) ≡ true
     → json_texts (handed_in detach payload) (object (put_all (entries detach t))) ≡ Ok t
 unfolding json_texts signature_objects
 texts_read detach payload t same some =
@@ -77,52 +78,38 @@ texts_read detach payload t same some =
     let found = each_read (codes "signatures") signature_entries signature_texts no_signature_at (own_entries detach t) (signatures_are_read detach t) t.signatures some in
     rw (content_found detach (codes "payload") (entries detach t) payload t.payload same (front (codes "payload") _ refl (λ s. refl)), by_list value (get (codes "signatures") value), found.1, found.2) refl
 
--- the texts of a signature, and of the parts of one
-abbrev pub signature_spelled : Signature → SignatureTexts
-signature_spelled s = record { protected = s.protected; header = s.header; signature = base64url s.signature }
+-- with no signature they are refused
+pub no_texts_read : (detach : Bool) (payload : List ℕ) (t : JwsTexts) → base64url payload ≡ t.payload → t.signatures ≡ [] → json_texts (handed_in detach payload) (object (put_all (entries detach t))) ≡ Err Form
+unfolding json_texts signature_objects
+no_texts_read detach payload t same none =
+    let value = object (put_all (entries detach t)) in
+    let front = in_front (codes "signatures") signature_entries t.signatures in
+    let found = none_read (codes "signatures") signature_entries signature_texts no_signature_at (own_entries detach t) (signatures_are_read detach t) t.signatures none in
+    rw (content_found detach (codes "payload") (entries detach t) payload t.payload same (front (codes "payload") _ refl (λ s. refl)), by_list value (get (codes "signatures") value), found) refl
 
-abbrev signature_parts_spelled : SignatureParts → SignatureTexts
-signature_parts_spelled p = record { protected = p.protected; header = p.header; signature = base64url p.signature }
-
--- the texts of an object, and of its parts
-abbrev pub spelled : SignedObject → JwsTexts
-spelled o = record { payload = base64url o.payload; signatures = map signature_spelled o.signatures }
+-- the texts of a signature's members, and of all members
+abbrev pub signature_spelled : SignatureParts → SignatureTexts
+signature_spelled p = record { protected = p.protected; header = p.header; signature = base64url p.signature }
 
 abbrev pub parts_spelled : JwsParts → JwsTexts
-parts_spelled p = record { payload = base64url p.payload; signatures = map signature_parts_spelled p.signatures }
+parts_spelled p = record { payload = base64url p.payload; signatures = map signature_spelled p.signatures }
+
+-- those of an object
+abbrev pub spelled : SignedObject → JwsTexts
+spelled o = parts_spelled (parts_of o)
 
 -- these are put into the JSON text
-pub signature_is_put : (s : Signature) → put_signature s no_members ≡ put_all (signature_entries (signature_spelled s))
-signature_is_put s = simp (put_text_is, put_header_is)
+pub signature_is_put : (p : SignatureParts) → put_signature p no_members ≡ put_all (signature_entries (signature_spelled p))
+signature_is_put p = simp (put_text_is, put_header_is)
 
-pub members_are_put : (detach : Bool) (o : SignedObject)
-    → put_content detach (codes "payload") o.payload (put_each (codes "signatures") put_signature o.signatures no_members) ≡ put_all (entries detach (spelled o))
-members_are_put detach o =
-    put_content_is detach (codes "payload") o.payload (put_each (codes "signatures") put_signature o.signatures no_members)
-    ∙ ap (put_if_there (codes "payload") (content_there detach (base64url o.payload)))
-    (put_each_is (codes "signatures") put_signature signature_spelled signature_entries signature_is_put o.signatures)
+pub members_are_put : (detach : Bool) (parts : JwsParts)
+    → put_content detach (codes "payload") parts.payload (put_each (codes "signatures") put_signature parts.signatures no_members) ≡ put_all (entries detach (parts_spelled parts))
+members_are_put detach parts =
+    put_content_is detach (codes "payload") parts.payload (put_each (codes "signatures") put_signature parts.signatures no_members)
+    ∙ ap (put_if_there (codes "payload") (content_there detach (base64url parts.payload)))
+    (put_each_is (codes "signatures") put_signature signature_spelled signature_entries signature_is_put parts.signatures)
 
 -- ---- the members of which an object is made
-
--- a signature has the texts of its members, from step to step
-decoded_keeps : (p : SignatureParts) (d : DecodedSignature) → decoded_signature p ≡ Ok d → signature_parts_spelled d.parts ≡ signature_parts_spelled p
-unfolding decoded_signature
-decoded_keeps p d h =
-    let a = steps (decoded p.protected) _ d h in
-    ap (λ (d : DecodedSignature). signature_parts_spelled d.parts) (sym (same_answer _ d a.2))
-
-headed_keeps : (d : DecodedSignature) (s : HeadedSignature) → headed_signature d ≡ Ok s → signature_parts_spelled s.parts ≡ signature_parts_spelled d.parts
-unfolding headed_signature
-headed_keeps d s h =
-    let a = steps (protected_members d.octets) _ s h in
-    ap (λ (s : HeadedSignature). signature_parts_spelled s.parts) (sym (same_answer _ s a.2))
-
-signature_keeps : (s : HeadedSignature) (signature : Signature) → signature_by s ≡ Ok signature → signature_spelled signature ≡ signature_parts_spelled s.parts
-unfolding signature_by
-signature_keeps s signature h =
-    let a = steps (joint_header s.members no_members s.parts.header) _ signature h in
-    let b = steps (string_there (codes "alg") a.0) _ signature a.2 in
-    ap signature_spelled (sym (same_answer _ signature b.2))
 
 -- what holds of an object that is made of these parts
 pub record IsBuilt (limits : Limits) (parts : JwsParts) (o : SignedObject) : Type 0 where
@@ -150,32 +137,43 @@ is_built limits parts o h =
       made = e.2;
     }
 
--- an object has the texts of its members
+decoded_is : (p : SignatureParts) (d : DecodedSignature) → decoded_signature p ≡ Ok d → d.parts ≡ p
+unfolding decoded_signature
+decoded_is p d h =
+    let a = steps (decoded p.protected) _ d h in
+    ap (λ (d : DecodedSignature). d.parts) (sym (same_answer _ d a.2))
+
+-- an object has these members
+pub parts_are : (limits : Limits) (parts : JwsParts) (o : SignedObject) → IsBuilt limits parts o → parts_of o ≡ parts
+parts_are limits parts o is =
+    let signed = signed_is parts.payload is.decoded o is.made in
+    let kept = each_keeps decoded_signature (λ p. p) (λ (d : DecodedSignature). d.parts) decoded_is parts.signatures is.decoded is.decodes ∙ map-id parts.signatures in
+    ap₂ (λ payload signatures. let p : JwsParts = record { payload = payload; signatures = signatures } in p) signed.payload (signed.signatures ∙ kept)
+
+-- and so their texts
 pub object_keeps : (limits : Limits) (parts : JwsParts) (o : SignedObject) → IsBuilt limits parts o → spelled o ≡ parts_spelled parts
-unfolding signed_object signatures_of
-object_keeps limits parts o is =
-    let a = steps (signatures_of is.decoded) _ o is.made in
-    let b = steps (each headed_signature is.decoded) _ a.0 a.1 in
-    let c = steps (each signature_by b.0) _ a.0 b.2 in
-    let d = steps (needs (list_all is_plain b.0) Unsupported) _ a.0 c.2 in
-    let kept : map signature_spelled c.0 ≡ map signature_parts_spelled parts.signatures =
-    each_keeps signature_by (λ s. signature_parts_spelled s.parts) signature_spelled signature_keeps b.0 c.0 c.1
-    ∙ each_keeps headed_signature (λ d. signature_parts_spelled d.parts) (λ s. signature_parts_spelled s.parts) headed_keeps is.decoded b.0 b.1
-    ∙ each_keeps decoded_signature signature_parts_spelled (λ d. signature_parts_spelled d.parts) decoded_keeps parts.signatures is.decoded is.decodes in
-    ap spelled (sym (same_answer _ o a.2))
-    ∙ ap (λ (ss : List SignatureTexts). record (parts_spelled parts) { signatures = ss }) (ap (map signature_spelled) (sym (same_answer c.0 a.0 d.2)) ∙ kept)
+object_keeps limits parts o is = ap parts_spelled (parts_are limits parts o is)
 
--- the texts of the parts are read as the object
-pub object_read : Laws → (limits : Limits) (parts : JwsParts) (o : SignedObject) → AreMembers parts → IsBuilt limits parts o → object_of_texts limits (parts_spelled parts) ≡ Ok o
+-- what is left of building where the members are read
+abbrev pub decoding : Limits → JwsParts → Result SignedObject Refusal
+decoding limits parts = do
+  few ← needs (nat_le (length parts.signatures) limits.recipients) Limit
+  signatures ← each decoded_signature parts.signatures
+  signed_object parts.payload signatures
+
+-- the texts of the parts are read so
+pub decoding_is : Laws → (limits : Limits) (parts : JwsParts) → AreMembers parts → object_of_texts limits (parts_spelled parts) ≡ decoding limits parts
 unfolding object_of_texts decoded_texts
-object_read laws limits parts o members is =
+decoding_is laws limits parts members =
     let round = laws.exact.round_trip in
-    let few : nat_le (length (map signature_parts_spelled parts.signatures)) limits.recipients ≡ true =
-    ap (λ n. nat_le n limits.recipients) (length-map parts.signatures signature_parts_spelled) ∙ is.few in
-    let reads = each_alike decoded_signature decoded_texts signature_parts_spelled (λ p h. rw (round p.signature h.1.1) refl) parts.signatures members.signatures in
-    rw (few, round parts.payload members.payload, reads, is.decodes) is.made
+    let reads = each_alike decoded_signature decoded_texts signature_spelled (λ p h. rw (round p.signature h.1.1) refl) parts.signatures members.signatures in
+    rw (length-map parts.signatures signature_spelled, round parts.payload members.payload, reads) refl
 
--- ---- the JSON text
+-- as the object
+pub object_read : Laws → (limits : Limits) (parts : JwsParts) (o : SignedObject) → AreMembers parts → IsBuilt limits parts o → object_of_texts limits (parts_spelled parts) ≡ Ok o
+object_read laws limits parts o members is = decoding_is laws limits parts members ∙ rw (is.few, is.decodes) is.made
+
+-- ---- the texts
 
 -- the texts of a signature have letters, digits, `-` and `_` alone
 abbrev AreUrlTexts : SignatureTexts → Type 0
@@ -186,58 +184,44 @@ pub record HasUrlTexts (t : JwsTexts) : Type 0 where
   pub payload : IsUrlText t.payload
   pub signatures : AllByRecursion AreUrlTexts t.signatures
 
-signature_url_texts : Laws → (p : SignatureParts) (d : DecodedSignature) → IsOctets p.protected × (AreJsonMembers p.header × IsOctets p.signature) → decoded_signature p ≡ Ok d
-    → AreJsonMembers p.header × AreUrlTexts (signature_parts_spelled p)
+signature_url_texts : Laws → (p : SignatureParts) (d : DecodedSignature) → IsUtf8 p.protected × (AreJsonMembers p.header × IsOctets p.signature) → decoded_signature p ≡ Ok d → AreUrlTexts (signature_spelled p)
 unfolding decoded_signature
 signature_url_texts laws p d members h =
     let a = steps (decoded p.protected) _ d h in
-    (members.1.0, (decoded_characters laws p.protected a.0 members.0 a.1, laws.characters p.signature members.1.1))
-
-signatures_are : Laws → (limits : Limits) (parts : JwsParts) (o : SignedObject) → AreMembers parts → IsBuilt limits parts o
-    → AllByRecursion (λ p. AreJsonMembers p.header × AreUrlTexts (signature_parts_spelled p)) parts.signatures
-signatures_are laws limits parts o members is = each_all decoded_signature (signature_url_texts laws) parts.signatures is.decoded is.decodes members.signatures
+    (decoded_characters laws p.protected a.0 (octets_of_utf8 p.protected members.0) a.1, laws.characters p.signature members.1.1)
 
 pub url_texts : Laws → (limits : Limits) (parts : JwsParts) (o : SignedObject) → AreMembers parts → IsBuilt limits parts o → HasUrlTexts (parts_spelled parts)
 url_texts laws limits parts o members is = record {
   payload = laws.characters parts.payload members.payload;
-  signatures = all_images AreUrlTexts signature_parts_spelled (λ p h. h.1) parts.signatures (signatures_are laws limits parts o members is);
+  signatures = all_images AreUrlTexts signature_spelled (λ p h. h) parts.signatures (each_all decoded_signature (signature_url_texts laws) parts.signatures is.decoded is.decodes members.signatures);
 }
 
--- the members of a signature are as JSON has them, and nest no deeper than its header may
-signature_json : Laws → (n : ℕ) (p : SignatureParts) → AreJsonMembers p.header × AreUrlTexts (signature_parts_spelled p) → nat_le (depth (object p.header)) n ≡ true
-    → AreJsonEntries n (signature_entries (signature_parts_spelled p))
-signature_json laws n p are shallow =
-    let header = header_entry laws.url n (codes "header") p.header refl are.0 shallow in
-    let signature = required_entry laws.url n (codes "signature") (base64url p.signature) refl are.1.1 in
-    let protected = text_entry laws.url n (codes "protected") p.protected refl are.1.0 in
+-- the members of a signature are as JSON has them, and nest no deeper than its header
+signature_json : Laws → (n : ℕ) (p : SignatureParts) → IsUtf8 p.protected × (AreJsonMembers p.header × IsOctets p.signature) → nat_le (depth (object p.header)) n ≡ true
+    → AreJsonEntries n (signature_entries (signature_spelled p))
+signature_json laws n p members shallow =
+    let header = header_entry laws.url n (codes "header") p.header refl members.1.0 shallow in
+    let signature = required_entry laws.url n (codes "signature") (base64url p.signature) refl (spelled_is_json laws p.signature members.1.1) in
+    let protected = text_entry laws.url n (codes "protected") p.protected refl members.0 in
     (header, (signature, (protected, tt)))
 
--- so are all members
-members_json : Laws → (limits : Limits) (parts : JwsParts) (o : SignedObject) → AreMembers parts → IsBuilt limits parts o → (detach : Bool)
+payload_json : Laws → (n : ℕ) (parts : JwsParts) → AreMembers parts → (detach : Bool) → IsUtf8 (codes "payload") × IsJsonIfThere n (content_there detach (base64url parts.payload))
+payload_json laws n parts members detach = content_entry laws.url detach n (codes "payload") (base64url parts.payload) refl (spelled_is_json laws parts.payload members.payload)
+
+-- so are all members, where no header is too deep
+pub members_json : Laws → (parts : JwsParts) → AreMembers parts → nest_at_most (depth_of_each (length parts.signatures)) parts.signatures ≡ true → (detach : Bool)
     → AreJsonEntries header_depth (entries detach (parts_spelled parts))
-members_json laws limits parts o members is detach =
+members_json laws parts members nest detach =
     let n : ℕ = depth_of_each (length parts.signatures) in
-    let payload = content_entry laws.url detach header_depth (codes "payload") (base64url parts.payload) refl (laws.characters parts.payload members.payload) in
-    let shallow = all_passed (λ p. nat_le (depth (object p.header)) n) parts.signatures is.shallow in
-    let each = all_both (signature_json laws n) parts.signatures (signatures_are laws limits parts o members is) shallow in
-    (payload, each_json laws.keep (codes "signatures") signature_parts_spelled signature_entries parts.signatures (name_is_json laws.url (codes "signatures") refl) each)
+    let shallow = all_passed (λ p. nat_le (depth (object p.header)) n) parts.signatures nest in
+    let each = all_both (signature_json laws n) parts.signatures members.signatures shallow in
+    (payload_json laws header_depth parts members detach, each_json laws.keep (codes "signatures") signature_spelled signature_entries parts.signatures (name_is_json laws.url (codes "signatures") refl) each)
 
--- an object is read by its members
-read_json : (limits : Limits) (detached : Option (List ℕ)) (members : Members) (t : JwsTexts) (o : SignedObject) → json_value (compact_text (object members)) ≡ Ok (object members)
-    → json_texts detached (object members) ≡ Ok t → object_of_texts limits t ≡ Ok o → jws_of limits detached (compact_text (object members)) ≡ Ok o
-unfolding jws_of jws_texts
-read_json limits detached ms t o value texts h = rw (object_form ms, value, texts) h
-
--- an object is what its JSON text spells
-pub json_text_spells : Laws → (limits : Limits) (parts : JwsParts) (o : SignedObject) → AreMembers parts → IsBuilt limits parts o → (detach : Bool)
-    → jws_of limits (handed_in detach o.payload) (json_text detach o) ≡ Ok o
-unfolding json_text
-json_text_spells laws limits parts o members is detach =
-    let t : JwsTexts = parts_spelled parts in
-    let keeps : spelled o ≡ t = object_keeps limits parts o is in
-    let payload : base64url o.payload ≡ t.payload = ap (λ (t : JwsTexts). t.payload) keeps in
-    let detached : Option (List ℕ) = handed_in detach o.payload in
-    let some : nat_le 1 (length t.signatures) ≡ true = ap (nat_le 1) (length-map parts.signatures signature_parts_spelled) ∙ is.some in
-    let value = object_value laws (entries detach t) (members_json laws limits parts o members is detach) in
-    ap (λ ms. jws_of limits detached (compact_text (object ms))) (members_are_put detach o ∙ ap (λ t. put_all (entries detach t)) keeps)
-    ∙ read_json limits detached (put_all (entries detach t)) t o value (texts_read detach o.payload t payload some) (object_read laws limits parts o members is)
+-- and they are however deep these are
+pub object_json : Laws → (parts : JwsParts) → AreMembers parts → (detach : Bool) → IsJson (object (put_all (entries detach (parts_spelled parts))))
+object_json laws parts members detach =
+    let most = bounded (λ (p : SignatureParts). depth (object p.header)) parts.signatures in
+    let n : ℕ = most.0 in
+    let each = all_both (λ p is h. signature_json laws n p is (le-leb (depth (object p.header)) n h)) parts.signatures members.signatures most.1 in
+    let signatures = each_json_deeper laws.keep n (codes "signatures") signature_spelled signature_entries parts.signatures (name_is_json laws.url (codes "signatures") refl) each in
+    (all_json laws.keep (suc (suc n)) (entries detach (parts_spelled parts)) (payload_json laws (suc (suc n)) parts members detach, signatures)).0

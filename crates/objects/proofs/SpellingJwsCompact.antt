@@ -1,17 +1,19 @@
--- What the compact text of a signed object spells is the object, and so is what its JSON text spells.
+-- What the JSON text of a signed object spells is the object, and so is what its compact text spells.
 use Rattle.std.proofs.Common.{◌≡◌, ℕ, List, [], ◌∷◌, Bool, true, Ok, refl, sym, ap, ◌∙◌, subst, append_assoc}
 use Rattle.serde_json.specs.Data.{no_members}
 use Rattle.octets.specs.declared.refusal.Refusal.TheVariants.{NotCompact}
 use Rattle.octets.specs.Base64url.{base64url}
 use Rattle.octets.specs.Outcomes.{needs}
+use Rattle.keys.specs.JsonTexts.{DeepTextsAreRefused}
 use Rattle.keys.specs.Limits.{Limits}
-use Rattle.objects.specs.Jws.{JwsParts, Signature, SignedObject, JwsTexts, compact_texts, jws_texts, object_of_texts, jws_of, is_compact, joined_first, jws_compact_text, AreMembers, TextsSpellObjects}
+use Rattle.objects.specs.Jws.{JwsParts, Signature, SignedObject, JwsTexts, compact_texts, jws_texts, object_of_texts, jws_of, built, members_text, json_text, is_compact, joined_first, jws_compact_text, AreMembers, BuildingIsReading, TextsSpellObjects}
 use Rattle.objects.specs.Texts.{handed_in, kept}
+use Rattle.objects.proofs.BuildingJws.{building_is_reading}
 use Rattle.objects.proofs.Characters.{between_dots, joined_characters, no_json_form, no_line_end}
 use Rattle.objects.proofs.CompactTexts.{all_no_dot, three_of_joined}
 use Rattle.objects.proofs.DetachedContent.{kept_read, kept_characters, kept_text}
 use Rattle.objects.proofs.Spelling.{Laws, no_member}
-use Rattle.objects.proofs.SpellingJws.{spelled, parts_spelled, object_keeps, IsBuilt, is_built, object_read, HasUrlTexts, url_texts, json_text_spells}
+use Rattle.objects.proofs.SpellingJws.{spelled, parts_spelled, parts_are, object_keeps, IsBuilt, is_built, object_read, HasUrlTexts, url_texts}
 use Rattle.objects.proofs.Steps.{steps, same_answer, passed}
 
 -- the texts of a compact text with these parts
@@ -65,8 +67,14 @@ compact_text_spells laws limits parts o members is detach text h =
     ∙ read_compact limits detach one.protected o.payload one.signature o (subst HasUrlTexts texts (url_texts laws limits parts o members is))
     (ap (object_of_texts limits) (sym texts) ∙ object_read laws limits parts o members is)
 
+-- an object is what its JSON text spells, which is that of its members
+json_text_spells : BuildingIsReading → (limits : Limits) (parts : JwsParts) (o : SignedObject) → AreMembers parts → built limits parts ≡ Ok o → (detach : Bool)
+    → jws_of limits (handed_in detach o.payload) (json_text detach o) ≡ Ok o
+json_text_spells reading limits parts o members h detach =
+    let same = parts_are limits parts o (is_built limits parts o h) in
+    ap (λ (p : JwsParts). jws_of limits (handed_in detach p.payload) (members_text detach p)) same ∙ sym (reading limits parts members detach) ∙ h
+
 -- an object that is made of its members is what its texts spell
-pub texts_spell_objects : Laws → TextsSpellObjects
-texts_spell_objects laws limits parts o members h detach =
-    let is = is_built limits parts o h in
-    (json_text_spells laws limits parts o members is detach, compact_text_spells laws limits parts o members is detach)
+pub texts_spell_objects : Laws → DeepTextsAreRefused → TextsSpellObjects
+texts_spell_objects laws refused limits parts o members h detach =
+    (json_text_spells (building_is_reading laws refused) limits parts o members h detach, compact_text_spells laws limits parts o members (is_built limits parts o h) detach)

@@ -1,8 +1,7 @@
 -- JWE objects (RFC 7516): their compact texts (section 7.1) and their JSON texts, general and flattened (section 7.2).
-use Rattle.std.specs.Prelude.{◌≡◌, ℕ, ◌&&◌, ◌==◌, Bool, true, false, not, List, [], ◌∷◌, ◌++◌, length, codes, nat_le, is_some, is_none, if◌then◌else◌, Option, Some, None, Result, Ok}
+use Rattle.std.specs.Prelude.{◌≡◌, ℕ, ◌&&◌, ◌==◌, Bool, true, false, not, List, [], ◌∷◌, ◌++◌, length, map, codes, nat_le, is_some, is_none, if◌then◌else◌, Option, Some, None, Result, Ok}
 use Rattle.std.specs.List.{AllByRecursion, list_all}
-use Rattle.std.specs.Option.{ok_or}
-use Rattle.std.specs.Str.{bytes_eq}
+use Rattle.std.specs.Str.{bytes_eq, IsUtf8}
 use Rattle.serde_json.specs.Data.{Data, Items, no_items, item, Members, no_members, object, depth}
 use Rattle.serde_json.specs.Find.{get, get_member}
 use Rattle.serde_json.specs.Written.{compact_text}
@@ -12,12 +11,10 @@ use Rattle.octets.specs.Outcomes.{◌>>=◌, needs}
 use Rattle.octets.specs.Octets.{IsOctets}
 use Rattle.octets.specs.Base64url.{base64url, decoded}
 use Rattle.octets.specs.LineEnds.{without_line_end}
-use Rattle.keys.specs.declared.algorithm.ManagementAlg.{ManagementAlg}
-use Rattle.keys.specs.Algorithms.{management_alg_of, is_password_based}
 use Rattle.keys.specs.Json.{json_value, member_numbers_are_whole}
 use Rattle.keys.specs.JsonTexts.{AreJsonMembers}
 use Rattle.keys.specs.Limits.{Limits}
-use Rattle.objects.specs.Headers.{header_at, protected_members, joint_header, string_there, number_parameter, salt_parameter, has_no_crit}
+use Rattle.objects.specs.Headers.{header_at, protected_members, joint_header, string_there, has_no_crit, parameters_of}
 use Rattle.objects.specs.Texts.{each, each_item, is_json_form, split_at_dot, three_parts, text_at, content_by, content_text, handed_in, AreOctetsHandedIn, object_list, has_text, has_members, kept, put_text, put_content, put_header, put_each, header_depth, depth_of_each}
 
 -- ---- the members of an object
@@ -181,33 +178,6 @@ without_ciphertext o = record {
 
 -- ---- the header of a recipient
 
--- the algorithm derives a key from a password (RFC 7518 section 4.8)
-abbrev pub reads_password : Option ManagementAlg → Bool
-reads_password None = false
-reads_password (Some alg) = is_password_based alg
-
--- p2c is at least 1 where it is read, and else 0
-abbrev pub is_count_of : Option ManagementAlg → ℕ → Bool
-is_count_of alg p2c = if reads_password alg then nat_le 1 p2c else p2c == 0
-
--- p2s and p2c, which is at least 1, where the algorithm reads them
-pub record PasswordParameters : Type 0 where
-  pub p2s : List ℕ
-  pub p2c : ℕ
-
-unfoldable pub password_parameters : Members → Result PasswordParameters Refusal
-password_parameters header = do
-  salt ← salt_parameter (codes "p2s") header
-  p2s ← ok_or salt Header
-  count ← number_parameter (codes "p2c") header
-  p2c ← ok_or count Header
-  some ← needs (nat_le 1 p2c) Header
-  Ok (record { p2s = p2s; p2c = p2c })
-
-abbrev pub parameters_of : List ℕ → Members → Result PasswordParameters Refusal
-parameters_of alg header =
-    if reads_password (management_alg_of alg) then password_parameters header else Ok (record { p2s = []; p2c = 0 })
-
 -- a recipient, by its joint header
 unfoldable pub recipient_by : Members → RecipientParts → Result Recipient Refusal
 recipient_by header parts = do
@@ -283,7 +253,7 @@ is_shallow parts = nat_le (depth (object parts.unprotected)) header_depth && nes
 abbrev pub have_whole_numbers : JweParts → Bool
 have_whole_numbers parts = member_numbers_are_whole parts.unprotected && list_all (λ r. member_numbers_are_whole r.header) parts.recipients
 
--- the object with these members, or what its JSON text would be refused with
+-- the object with these members, or what their JSON text is refused with
 unfoldable pub built : Limits → JweParts → Result EncryptedObject Refusal
 built limits parts = do
   shallow ← needs (is_shallow parts) Json
@@ -296,25 +266,44 @@ built limits parts = do
 -- ---- its texts
 
 -- the header and the encrypted key of a recipient
-abbrev pub put_recipient : Recipient → Members → Members
+abbrev pub put_recipient : RecipientParts → Members → Members
 put_recipient r members = put_header (codes "header") r.header (put_text (codes "encrypted_key") (base64url r.encrypted_key) members)
 
-abbrev pub put_recipients : List Recipient → Members → Members
+abbrev pub put_recipients : List RecipientParts → Members → Members
 put_recipients recipients members = put_each (codes "recipients") put_recipient recipients members
 
 -- the headers that all recipients share, and the content with its tag; the ciphertext is there unless it is detached
-abbrev pub put_shared : Bool → EncryptedObject → Members → Members
-put_shared detach o members =
-    put_header (codes "unprotected") o.unprotected (
-    put_text (codes "tag") (base64url o.tag) (
-    put_text (codes "protected") o.protected (
-    put_text (codes "iv") (base64url o.iv) (
-    put_content detach (codes "ciphertext") o.ciphertext (
-    put_text (codes "aad") (base64url o.aad) members)))))
+abbrev pub put_shared : Bool → JweParts → Members → Members
+put_shared detach parts members =
+    put_header (codes "unprotected") parts.unprotected (
+    put_text (codes "tag") (base64url parts.tag) (
+    put_text (codes "protected") parts.protected (
+    put_text (codes "iv") (base64url parts.iv) (
+    put_content detach (codes "ciphertext") parts.ciphertext (
+    put_text (codes "aad") (base64url parts.aad) members)))))
 
--- The JSON text, whose members stand in byte order of their names: flattened where there is one recipient, and else general.
-unfoldable pub json_text : Bool → EncryptedObject → List ℕ
-json_text detach o = compact_text (object (put_shared detach o (put_recipients o.recipients no_members)))
+-- The JSON text of members, which stand in byte order of their names: flattened where there is one recipient, and else general.
+unfoldable pub members_text : Bool → JweParts → List ℕ
+members_text detach parts = compact_text (object (put_shared detach parts (put_recipients parts.recipients no_members)))
+
+-- the members of an object
+abbrev pub recipient_parts_of : Recipient → RecipientParts
+recipient_parts_of r = record { header = r.header; encrypted_key = r.encrypted_key }
+
+abbrev pub parts_of : EncryptedObject → JweParts
+parts_of o = record {
+  protected = o.protected;
+  unprotected = o.unprotected;
+  iv = o.iv;
+  aad = o.aad;
+  ciphertext = o.ciphertext;
+  tag = o.tag;
+  recipients = map recipient_parts_of o.recipients;
+}
+
+-- their JSON text
+abbrev pub json_text : Bool → EncryptedObject → List ℕ
+json_text detach o = members_text detach (parts_of o)
 
 -- the parts of a compact text between dots
 abbrev pub joined : List ℕ → List ℕ → List ℕ → List ℕ → List ℕ → List ℕ
@@ -344,15 +333,19 @@ jwe_text false detach o = Ok (json_text detach o)
 
 -- ---- what is written is read, and what is read can be written
 
--- the texts and headers are as JSON has them, and the others are octets
+-- The texts and headers are as JSON has them, so their numbers are whole, and the others are octets.
 pub record AreMembers (parts : JweParts) : Type 0 where
-  pub protected : IsOctets parts.protected
+  pub protected : IsUtf8 parts.protected
   pub unprotected : AreJsonMembers parts.unprotected
   pub iv : IsOctets parts.iv
   pub aad : IsOctets parts.aad
   pub ciphertext : IsOctets parts.ciphertext
   pub tag : IsOctets parts.tag
   pub recipients : AllByRecursion (λ r. AreJsonMembers r.header × IsOctets r.encrypted_key) parts.recipients
+
+-- An object is made of members, or refused, as their JSON text is read; a detached ciphertext is handed in beside it. Number never comes.
+abbrev pub BuildingIsReading : Type 0
+BuildingIsReading = (limits : Limits) (parts : JweParts) → AreMembers parts → (detach : Bool) → built limits parts ≡ jwe_of limits (handed_in detach parts.ciphertext) (members_text detach parts)
 
 -- An object that is made of its members is what its JSON text spells, and its compact text where it has one; a detached ciphertext is
 -- handed in beside them.

@@ -1,6 +1,7 @@
 -- JWS objects (RFC 7515): their compact texts (section 7.1) and their JSON texts, general and flattened (section 7.2).
-use Rattle.std.specs.Prelude.{◌≡◌, ℕ, ◌&&◌, Bool, true, false, not, List, [], ◌∷◌, ◌++◌, length, codes, nat_le, is_some, is_none, if◌then◌else◌, Option, Some, None, Result, Ok}
+use Rattle.std.specs.Prelude.{◌≡◌, ℕ, ◌&&◌, Bool, true, false, not, List, [], ◌∷◌, ◌++◌, length, map, codes, nat_le, is_some, is_none, if◌then◌else◌, Option, Some, None, Result, Ok}
 use Rattle.std.specs.List.{AllByRecursion, list_all}
+use Rattle.std.specs.Str.{IsUtf8}
 use Rattle.serde_json.specs.Data.{Data, Items, no_items, item, Members, no_members, string, object, put, depth}
 use Rattle.serde_json.specs.Find.{get}
 use Rattle.serde_json.specs.Written.{compact_text}
@@ -13,7 +14,7 @@ use Rattle.octets.specs.LineEnds.{without_line_end}
 use Rattle.keys.specs.Json.{json_value, member_numbers_are_whole}
 use Rattle.keys.specs.JsonTexts.{AreJsonMembers}
 use Rattle.keys.specs.Limits.{Limits}
-use Rattle.objects.specs.Headers.{header_at, protected_members, joint_header, string_there, has_no_crit}
+use Rattle.objects.specs.Headers.{header_at, protected_members, joint_header, string_there, has_no_crit, parameters_of}
 use Rattle.objects.specs.Texts.{each, each_item, is_json_form, three_parts, text_at, required_text, content_by, content_text, handed_in, AreOctetsHandedIn, object_list, has_text, has_members, kept, put_text, put_content, put_header, put_each, depth_of_each}
 
 -- ---- the members of an object
@@ -85,9 +86,11 @@ jws_texts detached text = if is_json_form text then (json_value text >>= json_te
 
 -- ---- the object
 
--- a signature: its members, and the `alg` of its joint header (section 4.1.1)
+-- A signature: its members, and the `alg` of its joint header (section 4.1.1). Beside the text of its protected header stand the
+-- members that this holds.
 pub record Signature : Type 0 where
   pub protected : List ℕ
+  pub protected_members : Members
   pub header : Members
   pub signature : List ℕ
   pub alg : List ℕ
@@ -122,12 +125,13 @@ headed_signature s = do
   members ← protected_members s.octets
   Ok (record { members = members; parts = s.parts })
 
--- its headers have no name in common, and name the algorithm together
+-- Its headers have no name in common, and name the algorithm together, with the parameters of a password where it reads them.
 unfoldable pub signature_by : HeadedSignature → Result Signature Refusal
 signature_by s = do
   header ← joint_header s.members no_members s.parts.header
   alg ← string_there (codes "alg") header
-  Ok (record { protected = s.parts.protected; header = s.parts.header; signature = s.parts.signature; alg = alg })
+  parameters ← parameters_of alg header
+  Ok (record { protected = s.parts.protected; protected_members = s.members; header = s.parts.header; signature = s.parts.signature; alg = alg })
 
 -- neither header has a `crit`
 abbrev pub is_plain : HeadedSignature → Bool
@@ -169,7 +173,7 @@ nest_at_most n signatures = list_all (λ s. nat_le (depth (object s.header)) n) 
 abbrev pub have_whole_numbers : List SignatureParts → Bool
 have_whole_numbers signatures = list_all (λ s. member_numbers_are_whole s.header) signatures
 
--- the object with these members, or what its JSON text would be refused with
+-- the object with these members, or what their JSON text is refused with
 unfoldable pub built : Limits → JwsParts → Result SignedObject Refusal
 built limits parts = do
   shallow ← needs (nest_at_most (depth_of_each (length parts.signatures)) parts.signatures) Json
@@ -182,14 +186,26 @@ built limits parts = do
 -- ---- its texts
 
 -- the members of a signature, which is always there
-abbrev pub put_signature : Signature → Members → Members
+abbrev pub put_signature : SignatureParts → Members → Members
 put_signature s members =
     put_header (codes "header") s.header (put (codes "signature") (string (base64url s.signature)) (put_text (codes "protected") s.protected members))
 
--- The JSON text, whose members stand in byte order of their names: flattened where there is one signature, and else general. A detached
+-- The JSON text of members, which stand in byte order of their names: flattened where there is one signature, and else general. A detached
 -- payload has no place in it.
-unfoldable pub json_text : Bool → SignedObject → List ℕ
-json_text detach o = compact_text (object (put_content detach (codes "payload") o.payload (put_each (codes "signatures") put_signature o.signatures no_members)))
+unfoldable pub members_text : Bool → JwsParts → List ℕ
+members_text detach parts =
+    compact_text (object (put_content detach (codes "payload") parts.payload (put_each (codes "signatures") put_signature parts.signatures no_members)))
+
+-- the members of an object
+abbrev pub signature_parts_of : Signature → SignatureParts
+signature_parts_of s = record { protected = s.protected; header = s.header; signature = s.signature }
+
+abbrev pub parts_of : SignedObject → JwsParts
+parts_of o = record { payload = o.payload; signatures = map signature_parts_of o.signatures }
+
+-- their JSON text
+abbrev pub json_text : Bool → SignedObject → List ℕ
+json_text detach o = members_text detach (parts_of o)
 
 -- the parts of a compact text between dots
 abbrev pub joined : List ℕ → List ℕ → List ℕ → List ℕ
@@ -218,10 +234,14 @@ jws_text false detach o = Ok (json_text detach o)
 
 -- ---- what is written is read, and what is read can be written
 
--- the texts and headers are as JSON has them, and the others are octets
+-- The texts and headers are as JSON has them, so their numbers are whole, and the others are octets.
 pub record AreMembers (parts : JwsParts) : Type 0 where
   pub payload : IsOctets parts.payload
-  pub signatures : AllByRecursion (λ s. IsOctets s.protected × (AreJsonMembers s.header × IsOctets s.signature)) parts.signatures
+  pub signatures : AllByRecursion (λ s. IsUtf8 s.protected × (AreJsonMembers s.header × IsOctets s.signature)) parts.signatures
+
+-- An object is made of members, or refused, as their JSON text is read; a detached payload is handed in beside it. Number never comes.
+abbrev pub BuildingIsReading : Type 0
+BuildingIsReading = (limits : Limits) (parts : JwsParts) → AreMembers parts → (detach : Bool) → built limits parts ≡ jws_of limits (handed_in detach parts.payload) (members_text detach parts)
 
 -- An object that is made of its members is what its JSON text spells, and its compact text where it has one; a detached payload is
 -- handed in beside them.

@@ -155,9 +155,9 @@ abbrev pub objects_of : {X : Type 0} → (X → Members) → List X → Items
 objects_of members_of [] = no_items
 objects_of members_of (x ∷ rest) = item (object (members_of x)) (objects_of members_of rest)
 
--- Those of one stand beside the others; several are a list of objects.
+-- Those of one stand beside the others; several, or none, are a list of objects.
 abbrev pub put_each : {X : Type 0} → List ℕ → (X → Members → Members) → List X → Members → Members
-put_each name put_one [] members = members
+put_each name put_one [] members = put name (array no_items) members
 put_each name put_one (x ∷ []) members = put_one x members
 put_each name put_one (x ∷ (other ∷ rest)) members = put name (array (objects_of (λ each. put_one each no_members) (x ∷ (other ∷ rest)))) members
 

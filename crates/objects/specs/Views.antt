@@ -7,8 +7,8 @@ use Rattle.serde_json.specs.Data.{Members, no_members}
 use Rattle.serde_json.specs.View.{members_view}
 use Rattle.serde_json.specs.declared.value.Value.{Value}
 use Rattle.octets.specs.Base64url.{base64url}
-use Rattle.objects.specs.Headers.{all_members}
-use Rattle.objects.specs.Jwe.{RecipientParts, Recipient, PasswordParameters, SharedTexts, RecipientTexts, ContentTexts, JweTexts, JweParts, EncryptedObject}
+use Rattle.objects.specs.Headers.{PasswordParameters, all_members}
+use Rattle.objects.specs.Jwe.{RecipientParts, Recipient, SharedTexts, RecipientTexts, ContentTexts, JweTexts, JweParts, EncryptedObject}
 use Rattle.objects.specs.Jws.{SignatureParts, JwsParts, SignatureTexts, JwsTexts, Signature, DecodedSignature, HeadedSignature, SignedObject}
 use Rattle.objects.specs.Writing.{Written}
 use Rattle.objects.specs.declared.content.Content.{Content}
@@ -31,7 +31,7 @@ use Rattle.objects.specs.declared.jws.SignatureMembers as signature_members
 use Rattle.objects.specs.declared.jws.SignatureParts as signature_parts
 use Rattle.objects.specs.declared.jws_texts.JwsTexts as jws_texts
 use Rattle.objects.specs.declared.jws_texts.SignatureTexts as signature_texts
-use Rattle.objects.specs.declared.recipient.Parameters as parameters
+use Rattle.objects.specs.declared.parameters.Parameters as parameters
 use Rattle.objects.specs.declared.recipient.Recipient as recipient
 use Rattle.objects.specs.declared.recipient.RecipientMembers as members
 use Rattle.objects.specs.declared.recipient.RecipientParts as parts
@@ -78,7 +78,13 @@ abbrev pub headed_view : headed.HeadedSignature → HeadedSignature
 headed_view h = record { members = members_view h.protected.entries; parts = signature_members_view h.members }
 
 abbrev pub signature_view : signature.Signature → Signature
-signature_view s = record { protected = string_bytes s.protected; header = members_view s.header.map.entries; signature = s.signature.items; alg = string_bytes s.alg }
+signature_view s = record {
+  protected = string_bytes s.protected;
+  protected_members = members_view s.protected_members.entries;
+  header = members_view s.header.map.entries;
+  signature = s.signature.items;
+  alg = string_bytes s.alg;
+}
 
 abbrev pub jws_view : jws.Jws → SignedObject
 jws_view j = record { payload = j.payload.items; signatures = map signature_view j.signatures.list.items }

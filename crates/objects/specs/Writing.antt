@@ -102,7 +102,7 @@ with_signature places payload s w =
     with_header (codes "header") s.header w)))
 
 abbrev pub with_signatures : Bool → Option (List ℕ) → List Signature → Written → Written
-with_signatures places payload [] w = with_content places (codes "payload") payload w
+with_signatures places payload [] w = with_list (codes "signatures") (with_signature places None) [] (with_content places (codes "payload") payload w)
 with_signatures places payload (s ∷ []) w = with_signature places payload s w
 with_signatures places payload (s ∷ (other ∷ rest)) w =
     with_list (codes "signatures") (with_signature places None) (s ∷ (other ∷ rest)) (with_content places (codes "payload") payload w)
@@ -132,14 +132,14 @@ jws_written places false detach o = Ok (jws_json places detach o)
 
 -- ---- encrypted objects (RFC 7516 section 7)
 
--- what one writes alone, and what several write as a list
+-- what one writes alone, and what several or none write as a list
 abbrev pub with_alone : {X : Type 0} → (X → Written → Written) → List X → Written → Written
 with_alone with_one [] w = w
 with_alone with_one (x ∷ []) w = with_one x w
 with_alone with_one (x ∷ (other ∷ rest)) w = w
 
 abbrev pub with_several : {X : Type 0} → List ℕ → (X → Written → Written) → List X → Written → Written
-with_several name with_one [] w = w
+with_several name with_one [] w = with_list name with_one [] w
 with_several name with_one (x ∷ []) w = w
 with_several name with_one (x ∷ (other ∷ rest)) w = with_list name with_one (x ∷ (other ∷ rest)) w
 

@@ -23,9 +23,9 @@ use std::alloc::Global;
 /// protected and belongs to this one recipient, or to this one signature; its member in JSON form is `header`.
 #[derive(Clone, Copy)]
 pub struct Header<'m> {
-    protected: Option<&'m Map<String, Value>>,
-    unprotected: Option<&'m Map<String, Value>>,
-    per_recipient: Option<&'m Map<String, Value>>,
+    pub(crate) protected: Option<&'m Map<String, Value>>,
+    pub(crate) unprotected: Option<&'m Map<String, Value>>,
+    pub(crate) per_recipient: Option<&'m Map<String, Value>>,
 }
 
 /// The header that a member of the value is (RFC 7515 section 7.2.1, RFC 7516 section 7.2.1). It may be absent.

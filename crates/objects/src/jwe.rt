@@ -5,10 +5,11 @@ ghost use Rattle.std.specs.Str.{bytes_eq};
 ghost use Rattle.serde_json.specs.View.{members_view};
 ghost use Rattle.octets.specs.Outcomes.{AgreesUnlessMemory};
 ghost use Rattle.keys.specs.Limits.{limits};
+ghost use Rattle.objects.specs.Headers.{all_members};
 ghost use Rattle.objects.specs.Jwe.{jwe_of, object_of_texts as object_of_jwe_texts, encrypted_object as encrypted_object_of, recipients_of, recipients_of_one_enc, have_one_enc as have_one_enc_of, without_ciphertext, is_plain as is_plain_header, are_plain as are_plain_parts};
-ghost use Rattle.objects.specs.Views.{jwe_view, jwe_members_view, texts_view, recipient_view, recipient_members_view};
+ghost use Rattle.objects.specs.Views.{header_view, jwe_view, jwe_members_view, texts_view, recipient_view, recipient_members_view};
 
-use crate::header::read_protected;
+use crate::header::{Header, read_protected};
 use crate::header_members::HeaderMembers;
 use crate::jwe_texts::{JweTexts, compact_texts, json_texts, read_members};
 use crate::recipient::{Recipient, RecipientMembers, RecipientParts, is_plain, read_recipient};
@@ -138,6 +139,18 @@ impl Jwe {
         ensures few { length result.now ≤ limits.recipients }
     {
         &self.recipients.list
+    }
+
+    /// The joint header of one of its recipients: the members of the three headers, no two of which had a name in common where
+    /// the object was read or made.
+    pub fn joint_header<'j>(&'j self, recipient: &'j Recipient) -> Header<'j>
+        ensures { header_view result ≡ all_members (jwe_view self.now).protected_members (jwe_view self.now).unprotected (recipient_view recipient.now).header }
+    {
+        Header {
+            protected: Some(&self.protected_members),
+            unprotected: Some(&self.unprotected.map),
+            per_recipient: Some(recipient.header()),
+        }
     }
 }
 

@@ -133,14 +133,14 @@ fn write_alone(alloc: Global, texts: &mut Texts, recipients: &[Recipient]) -> Re
     }
 }
 
-/// Writes a list of several recipients.
+/// Writes a list of several recipients, or of none.
 fn write_several(alloc: Global, texts: &mut Texts, recipients: &[Recipient]) -> Result<(), Refusal>
     ensures written { OnOk result (written_view texts.new ≡ with_several (codes "recipients") with_recipient (map recipient_view recipients.now) (written_view texts.old)) }
     ensures same { texts.new.places ≡ texts.old.places }
     ensures memory { OnErr result (result ≡ Err Refusal.Memory) }
 {
     match recipients {
-        [] | [_] => Ok(()),
+        [_] => Ok(()),
         _ => {
             texts.name("recipients")?;
             texts.begin("[")?;

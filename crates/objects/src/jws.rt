@@ -1,16 +1,19 @@
 //! Signed objects (RFC 7515). It is given an object's text or its members, and sees no key.
 ghost use Rattle.std.specs.Prelude.{◌≡◌, ◌≤◌, length, map, option_map, IfOk};
 ghost use Rattle.std.specs.List.{list_all};
+ghost use Rattle.serde_json.specs.Data.{no_members};
 ghost use Rattle.serde_json.specs.View.{members_view};
 ghost use Rattle.octets.specs.Outcomes.{AgreesUnlessMemory};
 ghost use Rattle.keys.specs.Limits.{limits};
+ghost use Rattle.objects.specs.Headers.{all_members};
 ghost use Rattle.objects.specs.Jws.{jws_of, object_of_texts as object_of_jws_texts, signed_object as signed_object_of, signatures_of, headed_signature, signature_by, is_plain as is_plain_signature};
 ghost use Rattle.objects.specs.Texts.{each};
-ghost use Rattle.objects.specs.Views.{jws_view, jws_texts_view, signature_view, decoded_view, headed_view};
+ghost use Rattle.objects.specs.Views.{header_view, jws_view, jws_texts_view, signature_view, decoded_view, headed_view};
 
 use crate::header::{has_no_crit, string_there};
 use crate::header_members::HeaderMembers;
 use crate::jws_texts::{JwsTexts, compact_texts, decoded_signatures, json_texts};
+use crate::parameters::read_parameters;
 use crate::signature_list::SignatureList;
 use crate::texts::is_json_form;
 use crate::{Header, read_protected};
@@ -62,6 +65,7 @@ struct HeadedSignature {
 #[derive(Drop)]
 pub struct Signature {
     protected: String,
+    protected_members: Map<String, Value>,
     pub(crate) header: HeaderMembers,
     signature: Vec<u8>,
     alg: String,
@@ -89,6 +93,17 @@ impl Signature {
         &self.header.map
     }
 
+    /// The joint header: the members of both headers, which had no name in common where the object was read or made.
+    pub fn joint_header(&self) -> Header<'_>
+        ensures { header_view result ≡ all_members (signature_view self.now).protected_members no_members (signature_view self.now).header }
+    {
+        Header {
+            protected: Some(&self.protected_members),
+            unprotected: None,
+            per_recipient: Some(&self.header.map),
+        }
+    }
+
     /// The octets of the signature.
     pub fn signature(&self) -> &[u8]
         ensures { result.now ≡ (signature_view self.now).signature }
@@ -111,8 +126,10 @@ impl Jws {
     ///
     /// Its causes of refusal, each over the whole text before the next: `Json` and `Number` of a JSON text; `Form`; `Limit`
     /// where there are more than 64 signatures; `Base64`; then, of each protected header in order, `Json`, `Number`, and
-    /// `Header` where it is no object; `Header` where a joint header is none, or has no `alg` or one that is no string; and
-    /// `Unsupported` where a header has a `crit`, whatever that holds (RFC 7515 section 4.1.11).
+    /// `Header` where it is no object; `Header` where a joint header is none, has no `alg` or one that is no string, or, where
+    /// that derives a key from a password (RFC 7518 section 4.8), has no `p2s` that is the base64url text of at least 8 octets
+    /// or no `p2c` that is a whole number from 1; and `Unsupported` where a header has a `crit`, whatever that holds (RFC 7515
+    /// section 4.1.11).
     #[tactic(auto, unfolding(crate::specs::Jws::jws_of, crate::specs::Jws::jws_texts))]
     pub fn read(alloc: Global, text: &[u8], detached: Option<Vec<u8>>) -> Result<Jws, Refusal>
         ensures { AgreesUnlessMemory jws_view result (jws_of limits (option_map (λ c. c.items) detached) text.now) }
@@ -228,7 +245,7 @@ fn is_plain(headed: &HeadedSignature) -> bool
     has_no_crit(&headed.protected) && has_no_crit(&headed.members.header.map)
 }
 
-/// With the algorithms that their joint headers name.
+/// With the algorithms that their joint headers name, and have the parameters of.
 #[tactic(auto, using(crate::proofs::Each::reading))]
 fn by_headers(alloc: Global, headed: Vec<HeadedSignature>) -> Result<Vec<Signature>, Refusal>
     ensures exact { AgreesUnlessMemory (λ signatures. map signature_view signatures.items) result (each signature_by (map headed_view headed.items)) }
@@ -251,13 +268,19 @@ fn by_header(alloc: Global, headed: HeadedSignature) -> Result<Signature, Refusa
         Some(&headed.members.header.map),
     )?;
     let alg = string_there(alloc, header.alg()?)?;
+    read_parameters(alloc, &alg, header)?;
+    let HeadedSignature {
+        protected: protected_members,
+        members,
+    } = headed;
     let SignatureMembers {
         protected,
         header,
         signature,
-    } = headed.members;
+    } = members;
     Ok(Signature {
         protected,
+        protected_members,
         header,
         signature,
         alg,

@@ -98,7 +98,7 @@ fn write_first(
     }
 }
 
-/// Writes the members of the one signature, or a list of several, and the payload.
+/// Writes the members of the one signature, or a list of several or none, and the payload.
 fn write_signatures(
     alloc: Global,
     texts: &mut Texts,
@@ -109,7 +109,6 @@ fn write_signatures(
     ensures memory { OnErr result (result ≡ Err Refusal.Memory) }
 {
     match signatures {
-        [] => texts.content(alloc, "payload", payload),
         [signature] => write_signature(alloc, texts, payload, signature),
         _ => {
             texts.content(alloc, "payload", payload)?;

@@ -4,7 +4,8 @@ ghost use Rattle.objects.specs.Jwe as jwe;
 ghost use Rattle.objects.specs.Jws as jws;
 
 use keys::laws::{
-    compact_text_reads_back, members_keep_json, url_texts_are_json, what_is_read_is_json,
+    compact_text_reads_back, deep_texts_are_refused, members_keep_json, url_texts_are_json,
+    what_is_read_is_json,
 };
 use octets::laws::{
     base64url_decodes_exactly, base64url_decodes_to_octets, base64url_has_url_characters,
@@ -16,12 +17,26 @@ pub fn joint_header_has_all_members()
     ensures { JointHeaderHasAllMembers }
 {}
 
+/// A signed object is made of members, or refused, as the JSON text of these is read.
+pub fn jws_building_is_reading()
+    ensures { jws.BuildingIsReading }
+{
+    compact_text_reads_back();
+    deep_texts_are_refused();
+    members_keep_json();
+    url_texts_are_json();
+    base64url_decodes_exactly();
+    base64url_decodes_to_octets();
+    base64url_has_url_characters();
+}
+
 /// The JSON text of a signed object that is made of its members, and its compact text where it has one, are read as this
 /// object.
 pub fn jws_texts_spell_objects()
     ensures { jws.TextsSpellObjects }
 {
     compact_text_reads_back();
+    deep_texts_are_refused();
     members_keep_json();
     url_texts_are_json();
     base64url_decodes_exactly();
@@ -35,8 +50,10 @@ pub fn jws_objects_are_made()
 {
     what_is_read_is_json();
     members_keep_json();
+    url_texts_are_json();
     base64url_decodes_exactly();
     base64url_decodes_to_octets();
+    base64url_has_url_characters();
 }
 
 /// A compact text of a signed object that is read is the compact text of this object, but for a line end.
@@ -47,12 +64,26 @@ pub fn jws_compact_texts_are_exact()
     base64url_decodes_to_octets();
 }
 
+/// An encrypted object is made of members, or refused, as the JSON text of these is read.
+pub fn jwe_building_is_reading()
+    ensures { jwe.BuildingIsReading }
+{
+    compact_text_reads_back();
+    deep_texts_are_refused();
+    members_keep_json();
+    url_texts_are_json();
+    base64url_decodes_exactly();
+    base64url_decodes_to_octets();
+    base64url_has_url_characters();
+}
+
 /// The JSON text of an encrypted object that is made of its members, and its compact text where it has one, are read as
 /// this object.
 pub fn jwe_texts_spell_objects()
     ensures { jwe.TextsSpellObjects }
 {
     compact_text_reads_back();
+    deep_texts_are_refused();
     members_keep_json();
     url_texts_are_json();
     base64url_decodes_exactly();
@@ -67,8 +98,10 @@ pub fn jwe_objects_are_made()
 {
     what_is_read_is_json();
     members_keep_json();
+    url_texts_are_json();
     base64url_decodes_exactly();
     base64url_decodes_to_octets();
+    base64url_has_url_characters();
 }
 
 /// A compact text of an encrypted object that is read is the compact text of this object, but for a line end.

@@ -29,6 +29,7 @@ mod jws_texts;
 mod jws_writing;
 mod key_management;
 pub mod laws;
+mod parameters;
 mod recipient;
 mod recipient_list;
 mod signature_list;

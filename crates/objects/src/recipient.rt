@@ -1,17 +1,18 @@
 //! The recipients of an encrypted object (RFC 7516). It sees their headers, and no key.
-ghost use Rattle.std.specs.Prelude.{◌≡◌, ◌≤◌, true, IfOk, string_bytes};
+ghost use Rattle.std.specs.Prelude.{◌≡◌, true, string_bytes};
 ghost use Rattle.serde_json.specs.View.{members_view};
 ghost use Rattle.octets.specs.Outcomes.{AgreesUnlessMemory};
-ghost use Rattle.objects.specs.Jwe.{recipient_of, parameters_of, password_parameters, reads_password as reads_password_by, is_count_of, is_plain as is_plain_header};
+ghost use Rattle.objects.specs.Headers.{is_count_of};
+ghost use Rattle.objects.specs.Jwe.{recipient_of, is_plain as is_plain_header};
 ghost use Rattle.keys.specs.Algorithms.{management_alg_of};
-ghost use Rattle.objects.specs.Views.{header_view, recipient_view, recipient_members_view, parameters_view};
+ghost use Rattle.objects.specs.Views.{recipient_view, recipient_members_view};
 
 use crate::Header;
 use crate::header::{has_no_crit, part_member, string_there};
 use crate::header_members::HeaderMembers;
 use crate::key_management::KeyManagement;
-use keys::ManagementAlg;
-use octets::{Refusal, needs};
+use crate::parameters::{Parameters, read_parameters};
+use octets::Refusal;
 use serde_json::{Map, Value};
 use std::alloc::Global;
 
@@ -38,14 +39,6 @@ pub struct Recipient {
     encrypted_key: Vec<u8>,
     management: KeyManagement,
     enc: String,
-}
-
-/// The parameters of an algorithm that derives a key from a password (RFC 7518 section 4.8.1). They are empty and 0
-/// for any other.
-#[derive(Drop)]
-struct Parameters {
-    p2s: Vec<u8>,
-    p2c: u64,
 }
 
 /// The recipient, by the other parts of its joint header. Refused with `Header` where a name stands in two parts;
@@ -123,42 +116,6 @@ impl Recipient {
         ensures counted { is_count_of (management_alg_of (recipient_view self.now).alg) result ≡ true }
     {
         self.management.p2c
-    }
-}
-
-/// The parameters that the algorithm of this name reads.
-fn read_parameters(alloc: Global, alg: &str, header: Header<'_>) -> Result<Parameters, Refusal>
-    ensures exact { AgreesUnlessMemory parameters_view result (parameters_of alg.now (header_view header.entry)) }
-    ensures counted { IfOk result (λ parameters. is_count_of (management_alg_of alg.now) parameters.p2c ≡ true) }
-{
-    if reads_password(ManagementAlg::named(alg)) {
-        password_parameters(alloc, header)
-    } else {
-        Ok(Parameters {
-            p2s: Vec::new(alloc),
-            p2c: 0,
-        })
-    }
-}
-
-#[tactic(auto, unfolding(crate::specs::Jwe::password_parameters))]
-fn password_parameters(alloc: Global, header: Header<'_>) -> Result<Parameters, Refusal>
-    ensures exact { AgreesUnlessMemory parameters_view result (password_parameters (header_view header.entry)) }
-    ensures positive { IfOk result (λ parameters. 1 ≤ parameters.p2c) }
-{
-    let p2s = header.p2s(alloc)?.ok_or(Refusal::Header)?;
-    let p2c = header.p2c()?.ok_or(Refusal::Header)?;
-    needs(p2c >= 1, Refusal::Header)?;
-    Ok(Parameters { p2s, p2c })
-}
-
-/// The algorithm derives a key from a password (RFC 7518 section 4.8).
-fn reads_password(alg: Option<ManagementAlg>) -> bool
-    ensures { result ≡ reads_password_by alg }
-{
-    match alg {
-        None => false,
-        Some(alg) => alg.is_password_based(),
     }
 }
 

@@ -11,7 +11,7 @@ use Rattle.keys.specs.declared.algorithm.ManagementAlg.{ManagementAlg}
 use Rattle.keys.specs.declared.algorithm.ManagementAlg.TheVariants.{Dir, A128Kw, A192Kw, A256Kw, Pbes2Hs256A128Kw, Pbes2Hs384A192Kw, Pbes2Hs512A256Kw}
 use Rattle.keys.specs.Algorithms.{key_len, has_len, cek_len}
 use Rattle.keys.specs.Keys.{OctetKey, fits}
-use Rattle.objects.specs.Jwe.{is_count_of}
+use Rattle.objects.specs.Headers.{is_count_of}
 use Rattle.tokens.specs.Algorithms.{key_alg, content_alg}
 
 last : (a b : Bool) → (a && b) ≡ true → b ≡ true

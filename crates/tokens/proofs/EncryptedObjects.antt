@@ -33,7 +33,6 @@ use Rattle.objects.specs.Texts.{header_depth, depth_of_each, handed_out}
 use Rattle.objects.proofs.EachRead.{all_both, all_images}
 use Rattle.objects.proofs.SpellingJwe.{is_built}
 use Rattle.objects.proofs.Steps.{steps, passed, same_answer}
-use Rattle.objects.proofs.TextOctets.{octets_of_utf8}
 use Rattle.tokens.specs.Algorithms.{content_alg, key_alg}
 use Rattle.tokens.specs.Choosing.{Receiver, Encryption, encryption_of}
 use Rattle.tokens.specs.Decrypting.{authenticated}
@@ -172,10 +171,6 @@ pub record IsEncrypted (e : Encryption) (random plaintext : List ℕ) (o : Encry
   pub made : built limits (parts_by e random sealed) ≡ Ok o
   pub is : object_by e random sealed ≡ o
 
--- a base64url text is octets
-text_is_octets : (x : List ℕ) → IsOctets x → IsOctets (base64url x)
-text_is_octets x octets = octets_of_utf8 (base64url x) (url_texts_are_json (base64url x) (has_url_characters x octets)).0
-
 -- the members are as JSON has them, or octets
 are_members : OctetLaws → (keys : List OctetKey) (e : Encryption) (random : List ℕ) (s : Sealed) → Settles keys e → Writes e random → IsOctets random
     → AllByRecursion (Delivers e (cek_by e random)) (salted_by e random) → IsOctets s.ciphertext → IsOctets s.tag → AreMembers (parts_by e random s)
@@ -184,7 +179,7 @@ are_members laws keys e random s by w random_octets delivers ciphertext tag =
     let later : List ℕ = after_salts e random in
     let P : RecipientParts → Type 0 = λ r. AreJsonMembers r.header × IsOctets r.encrypted_key in
     record {
-      protected = text_is_octets (header_by e random) w.back.octets;
+      protected = (url_texts_are_json (base64url (header_by e random)) (has_url_characters (header_by e random) w.back.octets)).0;
       unprotected = by.unprotected.json;
       iv = IsOctets-drop (cek_drawn e) later (IsOctets-drop (salts_drawn e.receivers) random random_octets);
       aad = by.aad;

@@ -15,7 +15,8 @@ use Rattle.octets.proofs.Groups.{length-base64url}
 use Rattle.ciphers.specs.Sealing.{Sealed, IsTooLong}
 use Rattle.ciphers.proofs.Growing.{fixed_grows, ciphertext_grows}
 use Rattle.keys.specs.Keys.{OctetKey}
-use Rattle.objects.specs.Jwe.{Recipient, EncryptedObject, put_recipients, put_shared, json_text, key_of_first, is_compact, jwe_compact_text}
+use Rattle.objects.specs.Jwe as jwe
+use Rattle.objects.specs.Jwe.{RecipientParts, JweParts, Recipient, EncryptedObject, put_recipients, put_shared, parts_of, json_text, key_of_first, is_compact, jwe_compact_text}
 use Rattle.objects.specs.Texts.{handed_out, put_text, put_header}
 use Rattle.objects.proofs.Characters.{IsUrlText}
 use Rattle.objects.proofs.EachRead.{all_passed}
@@ -121,37 +122,37 @@ one_later no_members (k ∷ key) = (refl, refl)
 one_later (member name value rest) [] = (refl, refl)
 one_later (member name value rest) (k ∷ key) = (refl, refl)
 
--- so are those of any number, as the list of several is
-recipients_later : (recipients : List Recipient) → AreLater (put_recipients recipients no_members)
-recipients_later [] = tt
+-- so are those of any number, as the list of several or of none is
+recipients_later : (recipients : List RecipientParts) → AreLater (put_recipients recipients no_members)
+recipients_later [] = (refl, refl)
 recipients_later (r ∷ []) = one_later r.header (base64url r.encrypted_key)
 recipients_later (r ∷ (other ∷ rest)) = (refl, refl)
 
 -- the members behind them
-abbrev later_members : EncryptedObject → Members
-later_members o =
-    put_header (codes "unprotected") o.unprotected
-    (put_text (codes "tag") (base64url o.tag)
-    (put_text (codes "protected") o.protected (put_text (codes "iv") (base64url o.iv) (put_recipients o.recipients no_members))))
+abbrev later_members : JweParts → Members
+later_members parts =
+    put_header (codes "unprotected") parts.unprotected
+    (put_text (codes "tag") (base64url parts.tag)
+    (put_text (codes "protected") parts.protected (put_text (codes "iv") (base64url parts.iv) (put_recipients parts.recipients no_members))))
 
 -- the members of an object begin with them
-members_are : (o : EncryptedObject) → put_shared false o (put_recipients o.recipients no_members) ≡ first_members (base64url o.aad) (base64url o.ciphertext) (later_members o)
-members_are o =
-    let aad : List ℕ = base64url o.aad in
-    let ciphertext : List ℕ = base64url o.ciphertext in
-    let with_recipients : Members = put_recipients o.recipients no_members in
-    let with_iv : Members = put_text (codes "iv") (base64url o.iv) with_recipients in
-    let with_protected : Members = put_text (codes "protected") o.protected with_iv in
-    let with_tag : Members = put_text (codes "tag") (base64url o.tag) with_protected in
-    let unprotected : Members → Members = λ ms. put_header (codes "unprotected") o.unprotected ms in
-    let tag : Members → Members = λ ms. put_text (codes "tag") (base64url o.tag) ms in
-    let protected : Members → Members = λ ms. put_text (codes "protected") o.protected ms in
-    let iv : Members → Members = λ ms. put_text (codes "iv") (base64url o.iv) ms in
-    ap (λ ms. unprotected (tag (protected (iv ms)))) (put_first aad ciphertext with_recipients (recipients_later o.recipients))
-    ∙ ap (λ ms. unprotected (tag (protected ms))) (put_text_later (codes "iv") (base64url o.iv) aad ciphertext with_recipients (record { than_aad = refl; than_ciphertext = refl }))
-    ∙ ap (λ ms. unprotected (tag ms)) (put_text_later (codes "protected") o.protected aad ciphertext with_iv (record { than_aad = refl; than_ciphertext = refl }))
-    ∙ ap unprotected (put_text_later (codes "tag") (base64url o.tag) aad ciphertext with_protected (record { than_aad = refl; than_ciphertext = refl }))
-    ∙ put_header_later (codes "unprotected") o.unprotected aad ciphertext with_tag (record { than_aad = refl; than_ciphertext = refl })
+members_are : (parts : JweParts) → put_shared false parts (put_recipients parts.recipients no_members) ≡ first_members (base64url parts.aad) (base64url parts.ciphertext) (later_members parts)
+members_are parts =
+    let aad : List ℕ = base64url parts.aad in
+    let ciphertext : List ℕ = base64url parts.ciphertext in
+    let with_recipients : Members = put_recipients parts.recipients no_members in
+    let with_iv : Members = put_text (codes "iv") (base64url parts.iv) with_recipients in
+    let with_protected : Members = put_text (codes "protected") parts.protected with_iv in
+    let with_tag : Members = put_text (codes "tag") (base64url parts.tag) with_protected in
+    let unprotected : Members → Members = λ ms. put_header (codes "unprotected") parts.unprotected ms in
+    let tag : Members → Members = λ ms. put_text (codes "tag") (base64url parts.tag) ms in
+    let protected : Members → Members = λ ms. put_text (codes "protected") parts.protected ms in
+    let iv : Members → Members = λ ms. put_text (codes "iv") (base64url parts.iv) ms in
+    ap (λ ms. unprotected (tag (protected (iv ms)))) (put_first aad ciphertext with_recipients (recipients_later parts.recipients))
+    ∙ ap (λ ms. unprotected (tag (protected ms))) (put_text_later (codes "iv") (base64url parts.iv) aad ciphertext with_recipients (record { than_aad = refl; than_ciphertext = refl }))
+    ∙ ap (λ ms. unprotected (tag ms)) (put_text_later (codes "protected") parts.protected aad ciphertext with_iv (record { than_aad = refl; than_ciphertext = refl }))
+    ∙ ap unprotected (put_text_later (codes "tag") (base64url parts.tag) aad ciphertext with_protected (record { than_aad = refl; than_ciphertext = refl }))
+    ∙ put_header_later (codes "unprotected") parts.unprotected aad ciphertext with_tag (record { than_aad = refl; than_ciphertext = refl })
 
 -- ---- the JSON text
 
@@ -190,13 +191,13 @@ first_text (c ∷ aad) ciphertext later is_aad is_ciphertext =
 -- so the JSON text of an object begins with the members up to the ciphertext
 json_begins : (o : EncryptedObject) → IsOctets o.aad → IsOctets o.ciphertext
     → Begins (codes "{" ++ aad_member o.aad ++ codes "\"ciphertext\":\"" ++ base64url o.ciphertext) (json_text false o)
-unfolding json_text
+unfolding jwe.members_text
 json_begins o aad_octets ciphertext_octets =
     let ciphertext : List ℕ = base64url o.ciphertext in
-    let first = first_text (base64url o.aad) ciphertext (later_members o) (has_url_characters o.aad aad_octets) (has_url_characters o.ciphertext ciphertext_octets) in
+    let first = first_text (base64url o.aad) ciphertext (later_members (parts_of o)) (has_url_characters o.aad aad_octets) (has_url_characters o.ciphertext ciphertext_octets) in
     record {
       rest = first.rest;
-      continues = ap (λ ms. compact_text (object ms)) (members_are o) ∙ first.continues
+      continues = ap (λ ms. compact_text (object ms)) (members_are (parts_of o)) ∙ first.continues
           ∙ ap (λ t. (codes "{" ++ t ++ codes "\"ciphertext\":\"" ++ ciphertext) ++ first.rest) (aad_text_is o.aad);
     }
 

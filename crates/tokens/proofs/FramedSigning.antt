@@ -14,7 +14,7 @@ use Rattle.prf.specs.Hmac.{hmac}
 use Rattle.keys.specs.Keys.{OctetKey}
 use Rattle.keys.specs.Limits.{limits}
 use Rattle.objects.specs.Frames.{filled, in_places, signed_with, IsJwsFrame}
-use Rattle.objects.specs.Jws.{Signature, SignatureTexts, SignedObject, JwsTexts, JwsParts, built, jws_text}
+use Rattle.objects.specs.Jws.{Signature, signature_parts_of, SignatureTexts, SignedObject, JwsTexts, JwsParts, built, jws_text}
 use Rattle.objects.specs.Texts.{handed_out}
 use Rattle.objects.proofs.SpellingJws.{signature_spelled, spelled, parts_spelled, is_built, object_keeps}
 use Rattle.tokens.specs.Signatures.{signature_hash, signature_of}
@@ -58,7 +58,7 @@ signed_alike s payload =
     ap (λ l. built limits (record { payload = payload; signatures = l })) (parts_alike s.header payload s.signers)
     ∙ built_alike limits [] payload (map (unsigned_part_by s.header) s.signers) (map (octets_by payload) s.signers)
 
-own_texts : (ss : List Signature) → unsigned_protected ss ≡ map (λ (x : SignatureTexts). x.protected) (map signature_spelled ss)
+own_texts : (ss : List Signature) → unsigned_protected ss ≡ map (λ (x : SignatureTexts). x.protected) (map signature_spelled (map signature_parts_of ss))
 own_texts [] = refl
 own_texts (s ∷ ss) = ap (λ l. s.protected ∷ l) (own_texts ss)
 

@@ -15,8 +15,8 @@ use Rattle.keys.specs.declared.algorithm.EncryptionAlg.{EncryptionAlg}
 use Rattle.keys.specs.declared.algorithm.ManagementAlg.{ManagementAlg}
 use Rattle.keys.specs.Algorithms.{management_name, encryption_name, is_password_based}
 use Rattle.keys.proofs.UrlTexts.{url_texts_are_json}
-use Rattle.objects.specs.Headers.{all_members, joint_header, required, if_there, string_parameter, string_there, number_parameter, salt_parameter}
-use Rattle.objects.specs.Jwe.{Recipient, PasswordParameters, password_parameters, parameters_of, recipient_by, recipient_of}
+use Rattle.objects.specs.Headers.{all_members, joint_header, required, if_there, string_parameter, string_there, number_parameter, salt_parameter, PasswordParameters, password_parameters, parameters_of}
+use Rattle.objects.specs.Jwe.{Recipient, recipient_by, recipient_of}
 use Rattle.objects.proofs.Members.{Entries, put_if_there, first_there, IsJsonIfThere, AreJsonEntries}
 use Rattle.objects.proofs.Spelling.{name_is_json}
 use Rattle.tokens.specs.Choosing.{with_name, with_p2c, Given}

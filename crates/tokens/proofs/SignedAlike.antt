@@ -9,7 +9,7 @@ use Rattle.octets.specs.Outcomes.{◌>>=◌, needs}
 use Rattle.keys.specs.Json.{member_numbers_are_whole}
 use Rattle.keys.specs.Limits.{Limits}
 use Rattle.objects.specs.Frames.{with_octets, signed_with}
-use Rattle.objects.specs.Headers.{protected_members, joint_header, string_there}
+use Rattle.objects.specs.Headers.{PasswordParameters, protected_members, joint_header, string_there, parameters_of}
 use Rattle.objects.specs.Jws.{SignatureParts, DecodedSignature, HeadedSignature, Signature, SignedObject, decoded_signature, headed_signature, signature_by, is_plain, signatures_of, signed_object, built, is_compact, jws_text, jws_compact_text}
 use Rattle.objects.specs.Texts.{each, depth_of_each}
 
@@ -64,7 +64,11 @@ abbrev put_headed : HeadedSignature → List ℕ → HeadedSignature
 put_headed h v = record { members = h.members; parts = put_part h.parts v }
 
 abbrev put_octets : Signature → List ℕ → Signature
-put_octets s v = record { protected = s.protected; header = s.header; signature = v; alg = s.alg }
+put_octets s v = record { protected = s.protected; protected_members = s.protected_members; header = s.header; signature = v; alg = s.alg }
+
+-- a signature with these octets and this algorithm
+abbrev made_with : HeadedSignature → List ℕ → List ℕ → Signature
+made_with h v alg = record { protected = h.parts.protected; protected_members = h.members; header = h.parts.header; signature = v; alg = alg }
 
 decoded_alike : (p : SignatureParts) (v : List ℕ) → decoded_signature (put_part p v) ≡ (decoded_signature p >>= λ d. Ok (put_decoded d v))
 unfolding decoded_signature
@@ -90,17 +94,21 @@ signature_alike : (h : HeadedSignature) (v : List ℕ) → signature_by (put_hea
 unfolding signature_by
 signature_alike h v = by_header (joint_header h.members no_members h.parts.header)
   where
-    by_alg : (r : Result (List ℕ) Refusal)
-        → (r >>= λ alg. Ok (record { protected = h.parts.protected; header = h.parts.header; signature = v; alg = alg }))
-        ≡ ((r >>= λ alg. (let s : Result Signature Refusal = Ok (record { protected = h.parts.protected; header = h.parts.header; signature = h.parts.signature; alg = alg }) in s)) >>= λ s. Ok (put_octets s v))
-    by_alg (Ok alg) = refl
-    by_alg (Err e) = refl
+    by_parameters : (alg : List ℕ) (r : Result PasswordParameters Refusal)
+        → (r >>= λ parameters. Ok (made_with h v alg)) ≡ ((r >>= λ parameters. Ok (made_with h h.parts.signature alg)) >>= λ s. Ok (put_octets s v))
+    by_parameters alg (Ok parameters) = refl
+    by_parameters alg (Err e) = refl
 
-    by_header : (r : Result _ Refusal)
-        → (r >>= λ header. string_there (codes "alg") header >>= λ alg. Ok (record { protected = h.parts.protected; header = h.parts.header; signature = v; alg = alg }))
-        ≡ ((r >>= λ header. string_there (codes "alg") header
-        >>= λ alg. (let s : Result Signature Refusal = Ok (record { protected = h.parts.protected; header = h.parts.header; signature = h.parts.signature; alg = alg }) in s)) >>= λ s. Ok (put_octets s v))
-    by_header (Ok header) = by_alg (string_there (codes "alg") header)
+    by_alg : (header : Members) (r : Result (List ℕ) Refusal)
+        → (r >>= λ alg. parameters_of alg header >>= λ parameters. Ok (made_with h v alg))
+        ≡ ((r >>= λ alg. parameters_of alg header >>= λ parameters. Ok (made_with h h.parts.signature alg)) >>= λ s. Ok (put_octets s v))
+    by_alg header (Ok alg) = by_parameters alg (parameters_of alg header)
+    by_alg header (Err e) = refl
+
+    by_header : (r : Result Members Refusal)
+        → (r >>= λ header. string_there (codes "alg") header >>= λ alg. parameters_of alg header >>= λ parameters. Ok (made_with h v alg))
+        ≡ ((r >>= λ header. string_there (codes "alg") header >>= λ alg. parameters_of alg header >>= λ parameters. Ok (made_with h h.parts.signature alg)) >>= λ s. Ok (put_octets s v))
+    by_header (Ok header) = by_alg header (string_there (codes "alg") header)
     by_header (Err e) = refl
 
 signatures_alike : (ds : List DecodedSignature) (values : List (List ℕ)) → signatures_of (with_all put_decoded ds values) ≡ (signatures_of ds >>= λ ss. Ok (with_all put_octets ss values))

@@ -1,5 +1,5 @@
 -- What is signed verifies with each key alone that may verify.
-use Rattle.std.proofs.Common.{◌≡◌, ℕ, nat_le, Bool, true, false, List, [], ◌∷◌, ◌++◌, length, map, is_some, Option, Ok, refl, sym, ap, ◌∙◌}
+use Rattle.std.proofs.Common.{◌≡◌, ℕ, nat_le, Bool, true, false, List, [], ◌∷◌, ◌++◌, length, map, is_some, Option, Ok, IsUtf8, refl, sym, ap, ◌∙◌}
 use Rattle.std.proofs.lemmas.Bool.{and_parts, and_from, or_left}
 use Rattle.std.proofs.lemmas.List.{length-map}
 use Rattle.std.proofs.lemmas.Slice.Eq.{bytes_eq-Decides}
@@ -30,7 +30,6 @@ use Rattle.tokens.specs.Signatures.{signature_of}
 use Rattle.tokens.specs.Signing.{Signer, Signing, signer_by, signing_of, protected_by, signature_by, parts_by, signed, text_of, written_of, plan_by, signing_by}
 use Rattle.tokens.specs.Template.{SignatureTemplate, header_text}
 use Rattle.tokens.specs.Verifying.{may_verify, verifies, are_verified, verified_payload, verifying_by, SignedVerifies}
-use Rattle.objects.proofs.TextOctets.{octets_of_utf8}
 use Rattle.tokens.proofs.Beginnings.{handed_back}
 use Rattle.tokens.proofs.ReadLists.{some_passes}
 use Rattle.tokens.proofs.SignedObjects.{Signs, IsSigning, is_signing, made_by, object_by, signed_is, written_is}
@@ -47,16 +46,16 @@ signature_octets Hs512 key protected payload = IsOctets-sha512 _
 
 -- the members of a signature are as they have to be
 signature_members : (header : Members) (payload : List ℕ) → AreJsonMembers header → (s : Signer) → Signs header s
-    → (let p = signature_by header payload s in IsOctets p.protected × (AreJsonMembers p.header × IsOctets p.signature))
+    → (let p = signature_by header payload s in IsUtf8 p.protected × (AreJsonMembers p.header × IsOctets p.signature))
 signature_members header payload json s is =
     let url = has_url_characters (header_text s.protected) is.back.octets in
-    (octets_of_utf8 (protected_by s) (url_texts_are_json (protected_by s) url).0, (json, signature_octets s.alg s.key.octets (protected_by s) payload))
+    ((url_texts_are_json (protected_by s) url).0, (json, signature_octets s.alg s.key.octets (protected_by s) payload))
 
 -- so are those of the object
 are_members : (s : Signing) (payload : List ℕ) → IsOctets payload → AreJsonMembers s.header → AllByRecursion (Signs s.header) s.signers → AreMembers (parts_by s payload)
 are_members s payload octets json signs = record {
   payload = octets;
-  signatures = all_images (λ (p : SignatureParts). IsOctets p.protected × (AreJsonMembers p.header × IsOctets p.signature)) (signature_by s.header payload) (signature_members s.header payload json) s.signers signs;
+  signatures = all_images (λ (p : SignatureParts). IsUtf8 p.protected × (AreJsonMembers p.header × IsOctets p.signature)) (signature_by s.header payload) (signature_members s.header payload json) s.signers signs;
 }
 
 -- the object is read from its text in either form, where it is read from each

@@ -1,6 +1,6 @@
 -- The plan of signing, which goes on as its payload does.
-use Rattle.std.proofs.Common.{◌≡◌, ℕ, Bool, true, false, List, [], ◌∷◌, ◌++◌, codes, Ok, refl, sym, ap, ◌∙◌, subst, append_assoc}
-use Rattle.serde_json.specs.Data.{string, array, object, Members, no_members, member, put}
+use Rattle.std.proofs.Common.{◌≡◌, ℕ, Bool, true, false, List, [], ◌∷◌, ◌++◌, map, codes, Ok, refl, sym, ap, ◌∙◌, subst, append_assoc}
+use Rattle.serde_json.specs.Data.{string, array, object, no_items, Members, no_members, member, put}
 use Rattle.serde_json.specs.Written.{compact_text, members_text}
 use Rattle.octets.specs.declared.refusal.Refusal.TheVariants.{NotCompact}
 use Rattle.octets.specs.Base64url.{base64url, whole_groups, is_url_character}
@@ -9,7 +9,8 @@ use Rattle.octets.specs.Outcomes.{needs}
 use Rattle.octets.specs.Plan.{OutputTexts, Begins}
 use Rattle.octets.proofs.Characters.{has_url_characters}
 use Rattle.keys.specs.Limits.{limits}
-use Rattle.objects.specs.Jws.{Signature, SignedObject, JwsTexts, SignatureTexts, put_signature, json_text, is_compact, joined_first, jws_compact_text}
+use Rattle.objects.specs.Jws as jws
+use Rattle.objects.specs.Jws.{Signature, SignedObject, JwsTexts, SignatureTexts, put_signature, signature_parts_of, json_text, is_compact, joined_first, jws_compact_text}
 use Rattle.objects.specs.Texts.{objects_of, handed_out, put_text, put_header}
 use Rattle.objects.proofs.Characters.{IsUrlText}
 use Rattle.objects.proofs.EachRead.{all_passed}
@@ -86,8 +87,8 @@ first_text (member k d ms) payload later url =
 -- so the JSON text of an object begins with the members up to the payload
 json_begins : (payload : List ℕ) (signatures : List Signature) → IsUrlText (base64url payload)
     → Begins (beginning false (spelled (object_of payload signatures))) (json_text false (object_of payload signatures))
-unfolding json_text
-json_begins payload [] url = first_text no_members (base64url payload) no_members url
+unfolding jws.members_text
+json_begins payload [] url = first_text no_members (base64url payload) (member (codes "signatures") (array no_items) no_members) url
 json_begins payload (s ∷ []) url =
     let text : List ℕ = base64url payload in
     let signature : List ℕ = base64url s.signature in
@@ -95,7 +96,7 @@ json_begins payload (s ∷ []) url =
     subst (λ ms. Begins (beginning false (spelled (object_of payload (s ∷ [])))) (compact_text (object ms))) (sym (put_first s.header s.protected signature text))
     (first_text s.header text later url)
 json_begins payload (s ∷ (other ∷ rest)) url =
-    let list = array (objects_of (λ each. put_signature each no_members) (s ∷ (other ∷ rest))) in
+    let list = array (objects_of (λ each. put_signature each no_members) (map signature_parts_of (s ∷ (other ∷ rest)))) in
     first_text no_members (base64url payload) (member (codes "signatures") list no_members) url
 
 -- ---- what is signed

@@ -3,7 +3,7 @@ ghost use Rattle.std.specs.Prelude.{◌≡◌, Some, true};
 ghost use Rattle.keys.specs.declared.algorithm.Algorithm.TheVariants.{Encryption};
 ghost use Rattle.keys.specs.Keys.{fits};
 ghost use Rattle.keys.specs.Views.{key_view};
-ghost use Rattle.objects.specs.Jwe.{is_count_of};
+ghost use Rattle.objects.specs.Headers.{is_count_of};
 ghost use Rattle.objects.specs.Views.{recipient_view};
 
 use crate::algorithms::Algorithms;

@@ -7,7 +7,7 @@ ghost use Rattle.objects.specs.Views.{recipient_view};
 ghost use Rattle.keys.specs.declared.algorithm.Algorithm.TheVariants.{Encryption};
 ghost use Rattle.keys.specs.Keys.{fits};
 ghost use Rattle.keys.specs.Limits.{limits};
-ghost use Rattle.objects.specs.Jwe.{is_count_of};
+ghost use Rattle.objects.specs.Headers.{is_count_of};
 ghost use Rattle.tokens.specs.Decrypting.{pairs_to_try, all_pairs, pairs_of, pairs_with, algorithms_of, is_candidate, are_within, iterations_of};
 ghost use Rattle.tokens.specs.Views.{algorithms_view, pair_view};
 

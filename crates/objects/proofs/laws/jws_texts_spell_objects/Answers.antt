@@ -10,4 +10,4 @@ returns c =
       exact = c.base64url_decodes_exactly.ensures;
       octets = c.base64url_decodes_to_octets.ensures;
       characters = c.base64url_has_url_characters.ensures;
-    })
+    }) c.deep_texts_are_refused.ensures

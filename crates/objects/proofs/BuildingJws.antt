@@ -1,0 +1,110 @@
+-- A signed object is made of members, or refused, as their JSON text is read.
+use Rattle.std.proofs.Common.{◌≡◌, ◌≤◌, ℕ, List, [], ◌∷◌, length, map, Bool, true, false, nat_le, Option, Result, Ok, Err, inl, inr, refl, sym, ap, ◌∙◌, subst, true≢false, arith}
+use Rattle.std.proofs.lemmas.Bool.{cases_lt, le-leb}
+use Rattle.std.proofs.lemmas.List.{length-map}
+use Rattle.std.specs.List.{AllByRecursion}
+use Rattle.serde_json.specs.Data.{Members, object, depth}
+use Rattle.serde_json.specs.Written.{compact_text}
+use Rattle.octets.specs.declared.refusal.Refusal.{Refusal}
+use Rattle.octets.specs.declared.refusal.Refusal.TheVariants.{Json, Form}
+use Rattle.octets.specs.Outcomes.{◌>>=◌, needs}
+use Rattle.keys.specs.Json.{json_value}
+use Rattle.keys.specs.JsonTexts.{DeepTextsAreRefused}
+use Rattle.keys.specs.Limits.{Limits}
+use Rattle.keys.proofs.ReadingBack.{numbers_whole}
+use Rattle.objects.specs.Jws.{JwsParts, SignatureParts, JwsTexts, json_texts, jws_texts, object_of_texts, jws_of, nest_at_most, have_whole_numbers, built, members_text, AreMembers, BuildingIsReading}
+use Rattle.objects.specs.Texts.{handed_in, depth_of_each}
+use Rattle.objects.proofs.DetachedContent.{handed_octets}
+use Rattle.objects.proofs.EachRead.{all_pass, images_pass}
+use Rattle.objects.proofs.MadeJws.{IsSignature, json_are}
+use Rattle.objects.proofs.Members.{put_all}
+use Rattle.objects.proofs.ReadJson.{IsShallow}
+use Rattle.objects.proofs.Spelling.{Laws, object_form, object_value}
+use Rattle.objects.proofs.SpellingJws.{entries, texts_read, no_texts_read, signature_spelled, parts_spelled, members_are_put, decoding, decoding_is, members_json, object_json}
+
+-- the value of the JSON text
+abbrev members_of : Bool → JwsParts → Members
+members_of detach parts = put_all (entries detach (parts_spelled parts))
+
+-- a text is read by its value
+read_value : (limits : Limits) (detached : Option (List ℕ)) (ms : Members) (r : Result JwsTexts Refusal) → json_value (compact_text (object ms)) ≡ Ok (object ms) → json_texts detached (object ms) ≡ r
+    → jws_of limits detached (compact_text (object ms)) ≡ (r >>= object_of_texts limits)
+unfolding jws_of jws_texts
+read_value limits detached ms r value texts = rw (object_form ms, value, texts) refl
+
+refuse_value : (limits : Limits) (detached : Option (List ℕ)) (ms : Members) → json_value (compact_text (object ms)) ≡ Err Json → jws_of limits detached (compact_text (object ms)) ≡ Err Json
+unfolding jws_of jws_texts
+refuse_value limits detached ms value = rw (object_form ms, value) refl
+
+-- there are texts of signatures where there are signatures
+some_texts : (parts : JwsParts) → nat_le 1 (length parts.signatures) ≡ true → nat_le 1 (length (parts_spelled parts).signatures) ≡ true
+some_texts parts some = ap (nat_le 1) (length-map parts.signatures signature_spelled) ∙ some
+
+-- ---- where no header is too deep
+
+built_shallow : (limits : Limits) (parts : JwsParts) → AreMembers parts → nest_at_most (depth_of_each (length parts.signatures)) parts.signatures ≡ true
+    → built limits parts ≡ (needs (nat_le 1 (length parts.signatures)) Form >>= λ some. decoding limits parts)
+unfolding built
+built_shallow limits parts members shallow =
+    let whole : have_whole_numbers parts.signatures ≡ true = all_pass _ _ (λ s is. numbers_whole (object s.header) is.1.0) parts.signatures members.signatures in
+    rw (shallow, whole) refl
+
+read_shallow : Laws → (limits : Limits) (parts : JwsParts) → AreMembers parts → nest_at_most (depth_of_each (length parts.signatures)) parts.signatures ≡ true → (detach b : Bool) → nat_le 1 (length parts.signatures) ≡ b
+    → jws_of limits (handed_in detach parts.payload) (compact_text (object (members_of detach parts))) ≡ (needs b Form >>= λ some. decoding limits parts)
+read_shallow laws limits parts members shallow detach b some =
+    let t : JwsTexts = parts_spelled parts in
+    let value = object_value laws (entries detach t) (members_json laws parts members shallow detach) in
+    by_count b parts.signatures refl some value
+  where
+    by_count : (b : Bool) (ss : List SignatureParts) → parts.signatures ≡ ss → nat_le 1 (length parts.signatures) ≡ b
+        → json_value (compact_text (object (members_of detach parts))) ≡ Ok (object (members_of detach parts))
+        → jws_of limits (handed_in detach parts.payload) (compact_text (object (members_of detach parts))) ≡ (needs b Form >>= λ some. decoding limits parts)
+    by_count true ss is some value =
+        read_value limits (handed_in detach parts.payload) (members_of detach parts) (Ok (parts_spelled parts)) value (texts_read detach parts.payload (parts_spelled parts) refl (some_texts parts some))
+        ∙ decoding_is laws limits parts members
+    by_count false [] is some value =
+        read_value limits (handed_in detach parts.payload) (members_of detach parts) (Err Form) value (no_texts_read detach parts.payload (parts_spelled parts) refl (ap (map signature_spelled) is))
+    by_count false (s ∷ ss) is some value = absurd (true≢false (sym (le-leb 1 (length (s ∷ ss)) (omega arith)) ∙ ap (λ l. nat_le 1 (length l)) (sym is) ∙ some))
+
+-- ---- where one is
+
+-- what nests at most as deep as a text may has no header that is too deep
+shallow_nest : Laws → (parts : JwsParts) → AreMembers parts → (detach : Bool) → depth (object (members_of detach parts)) ≤ 127 → (ss : List SignatureParts) → parts.signatures ≡ ss
+    → nest_at_most (depth_of_each (length parts.signatures)) parts.signatures ≡ true
+shallow_nest laws parts members detach h [] is = ap (λ l. nest_at_most (depth_of_each (length l)) l) is
+shallow_nest laws parts members detach h (s ∷ ss) is =
+    let t : JwsTexts = parts_spelled parts in
+    let value : IsShallow 127 (object (members_of detach parts)) = record { json = object_json laws parts members detach; shallow = h } in
+    let some : nat_le 1 (length parts.signatures) ≡ true = ap (λ l. nat_le 1 (length l)) is ∙ le-leb 1 (length (s ∷ ss)) (omega arith) in
+    let are = json_are laws.keep (record { exact = laws.exact; octets = laws.octets }) (handed_in detach parts.payload) (handed_octets detach parts.payload members.payload) _ t value
+    (texts_read detach parts.payload t refl (some_texts parts some)) in
+    let n : ℕ = depth_of_each (length parts.signatures) in
+    let all : AllByRecursion (IsSignature n) t.signatures =
+    subst (λ k. AllByRecursion (IsSignature (depth_of_each k)) t.signatures) (length-map parts.signatures signature_spelled) are.signatures in
+    images_pass (IsSignature n) signature_spelled _ (λ p is. le-leb _ n is.header.shallow) parts.signatures all
+
+read_deep : Laws → DeepTextsAreRefused → (limits : Limits) (parts : JwsParts) → AreMembers parts → nest_at_most (depth_of_each (length parts.signatures)) parts.signatures ≡ false → (detach : Bool)
+    → jws_of limits (handed_in detach parts.payload) (compact_text (object (members_of detach parts))) ≡ Err Json
+read_deep laws refused limits parts members deep detach =
+    let ms = members_of detach parts in
+    elim (cases_lt 127 (depth (object ms))) [
+      | inl deeper ↦ refuse_value limits (handed_in detach parts.payload) ms (refused (object ms) (object_json laws parts members detach) deeper)
+      | inr shallow ↦ absurd (true≢false (sym (shallow_nest laws parts members detach shallow parts.signatures refl) ∙ deep))
+    ]
+
+-- ---- in either case
+
+built_deep : (limits : Limits) (parts : JwsParts) → nest_at_most (depth_of_each (length parts.signatures)) parts.signatures ≡ false → built limits parts ≡ Err Json
+unfolding built
+built_deep limits parts deep = rw deep refl
+
+by_depth : Laws → DeepTextsAreRefused → (limits : Limits) (parts : JwsParts) → AreMembers parts → (detach b : Bool) → nest_at_most (depth_of_each (length parts.signatures)) parts.signatures ≡ b
+    → built limits parts ≡ jws_of limits (handed_in detach parts.payload) (compact_text (object (members_of detach parts)))
+by_depth laws refused limits parts members detach true shallow = built_shallow limits parts members shallow ∙ sym (read_shallow laws limits parts members shallow detach _ refl)
+by_depth laws refused limits parts members detach false deep = built_deep limits parts deep ∙ sym (read_deep laws refused limits parts members deep detach)
+
+pub building_is_reading : Laws → DeepTextsAreRefused → BuildingIsReading
+unfolding members_text
+building_is_reading laws refused limits parts members detach =
+    by_depth laws refused limits parts members detach _ refl
+    ∙ ap (λ ms. jws_of limits (handed_in detach parts.payload) (compact_text (object ms))) (sym (members_are_put detach parts))
