@@ -1,3 +1,5 @@
+pub mod Steps
+pub mod TextOctets
 pub mod Readings
 pub mod WholeNumbers
 pub mod Floats
@@ -15,3 +17,4 @@ pub mod KeyMembers
 pub mod MadeFloats
 pub mod KeyLens
 pub mod GenAnswer
+pub mod KeyOctets

@@ -10,7 +10,7 @@ use Rattle.ciphers.specs.Openings.{OpensExactly, DeliversExactly}
 use Rattle.ciphers.specs.Sealing.{IsOpening}
 use Rattle.keys.specs.declared.algorithm.Algorithm.TheVariants.{Encryption as EncryptionWith}
 use Rattle.keys.specs.Algorithms.{is_password_based, management_operations}
-use Rattle.keys.specs.Keys.{OctetKey, allows, fits}
+use Rattle.keys.specs.Keys.{OctetKey, AreOctetKeys, allows, fits}
 use Rattle.keys.specs.Limits.{limits}
 use Rattle.objects.specs.Jwe.{JweParts, EncryptedObject, built, json_text, jwe_of, AreMembers, TextsSpellObjects}
 use Rattle.objects.specs.Texts.{handed_in}
@@ -19,7 +19,7 @@ use Rattle.objects.proofs.Steps.{steps, same_answer}
 use Rattle.tokens.specs.Algorithms.{content_alg, key_alg}
 use Rattle.tokens.specs.Choosing.{Receiver, passwords, Encryption}
 use Rattle.tokens.specs.Decrypting.{all_pairs, is_candidate, SealedContent, sealed_content, cek_of, opened_by, decrypted}
-use Rattle.tokens.specs.Encrypting.{salt_drawn, salts_drawn, octets_drawn, salts_by, cek_by, encrypted, text_of, written_of, parts_by, encrypting_by, AreOctetKeys, OpensNoOther, EncryptedDecrypts}
+use Rattle.tokens.specs.Encrypting.{salt_drawn, salts_drawn, octets_drawn, salts_by, cek_by, encrypted, text_of, written_of, parts_by, encrypting_by, OpensNoOther, EncryptedDecrypts}
 use Rattle.tokens.proofs.Beginnings.{handed_back}
 use Rattle.tokens.proofs.DecryptedPairs.{algorithms_by, pair_by, TakeAtMost, take_at_most, Opens, first_opens, supported, opened_is_decrypted}
 use Rattle.tokens.proofs.DeliveredKeys.{Delivers}

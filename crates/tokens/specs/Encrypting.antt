@@ -14,7 +14,7 @@ use Rattle.ciphers.specs.Openings.{is_longer}
 use Rattle.ciphers.specs.Sealing.{Sealed, Sealing, sealing, cek_len, iv_len}
 use Rattle.keys.specs.declared.algorithm.ManagementAlg.{ManagementAlg}
 use Rattle.keys.specs.Algorithms.{management_name, is_password_based, management_operations}
-use Rattle.keys.specs.Keys.{OctetKey, allows}
+use Rattle.keys.specs.Keys.{OctetKey, AreOctetKeys, allows}
 use Rattle.keys.specs.Limits.{Limits, limits}
 use Rattle.objects.specs.Jwe.{RecipientParts, JweParts, EncryptedObject, built, json_text, jwe_compact_text, jwe_of}
 use Rattle.objects.specs.Texts.{handed_in, handed_out}
@@ -195,9 +195,6 @@ encrypting_by limits compact detach keys text = do
   Ok (record { drawn = octets_drawn e; plan = plan_by compact detach e })
 
 -- ---- what it fixes, and what it makes
-
-abbrev pub AreOctetKeys : List OctetKey → Type 0
-AreOctetKeys keys = AllByRecursion (λ key. IsOctets key.octets) keys
 
 -- What a beginning of the plaintext fixes of both texts goes on as more is read, and begins the whole texts.
 abbrev pub EncryptingGrows : Type 0
