@@ -223,7 +223,8 @@ OpensNoOther n key o plaintext =
 -- Where a plaintext is encrypted to keys, what is written is an object, which each of the keys, alone, decrypts to the plaintext,
 -- where it may decrypt and opens nothing else at the recipient of a key before it.
 abbrev pub EncryptedDecrypts : Type 0
-EncryptedDecrypts = (compact detach : Bool) (before after : List OctetKey) (key : OctetKey) (template random plaintext : List ℕ) (texts : OutputTexts)
-    → AreOctetKeys (before ++ key ∷ after) → IsOctets random → IsOctets plaintext → MayDecrypt compact (before ++ key ∷ after) key template
-    → planned (plan_from (encrypting_by limits compact detach (before ++ key ∷ after) template) random) plaintext ≡ Ok texts
-    → (o : EncryptedObject) × ((jwe_of limits (handed_in detach texts.content) texts.text ≡ Ok o) × (OpensNoOther (length before) key o plaintext → decrypted limits (key ∷ []) o ≡ Ok plaintext))
+EncryptedDecrypts = (compact detach : Bool) (keys : List OctetKey) (template random plaintext : List ℕ) (texts : OutputTexts) → AreOctetKeys keys → IsOctets random → IsOctets plaintext
+    → planned (plan_from (encrypting_by limits compact detach keys template) random) plaintext ≡ Ok texts
+    → (o : EncryptedObject) × ((jwe_of limits (handed_in detach texts.content) texts.text ≡ Ok o)
+    × ((before after : List OctetKey) (key : OctetKey) → keys ≡ before ++ key ∷ after → MayDecrypt compact keys key template → OpensNoOther (length before) key o plaintext
+    → decrypted limits (key ∷ []) o ≡ Ok plaintext))
