@@ -1,3 +1,5 @@
+pub mod Steps
+pub mod TextOctets
 pub mod Readings
 pub mod WholeNumbers
 pub mod Floats
@@ -16,3 +18,4 @@ pub mod KeyMembers
 pub mod MadeFloats
 pub mod KeyLens
 pub mod GenAnswer
+pub mod KeyOctets

@@ -1,5 +1,5 @@
 -- Keys and sets of keys (RFC 7517 section 5).
-use Rattle.std.specs.Prelude.{ℕ, suc, ◌&&◌, ◌==◌, not, Bool, true, false, List, [], ◌∷◌, length, codes, nat_le, if◌then◌else◌, Option, Some, None, Result, Ok, Err}
+use Rattle.std.specs.Prelude.{◌≡◌, ℕ, suc, ◌&&◌, ◌==◌, not, Bool, true, false, List, [], ◌∷◌, length, codes, nat_le, if◌then◌else◌, Option, Some, None, Result, Ok, Err}
 use Rattle.serde_json.specs.Data.{Data, Items, no_items, item}
 use Rattle.serde_json.specs.Find.{get, as_array}
 use Rattle.octets.specs.declared.refusal.Refusal.{Refusal}
@@ -7,7 +7,7 @@ use Rattle.octets.specs.declared.refusal.Refusal.TheVariants.{Key, Limit}
 use Rattle.octets.specs.Outcomes.{◌>>=◌, needs}
 use Rattle.keys.specs.Json.{json_value, is_object}
 use Rattle.keys.specs.Limits.{Limits}
-use Rattle.keys.specs.Keys.{OctetKey, octet_key}
+use Rattle.keys.specs.Keys.{OctetKey, AreOctetKeys, octet_key}
 
 -- ---- the objects of a key text
 
@@ -62,3 +62,7 @@ unfoldable pub key_set : Limits → List ℕ → Bool → Result (List OctetKey)
 key_set limits text strict = do
   value ← json_value text
   value_keys limits value strict
+
+-- the keys of a text have octets
+abbrev pub KeysHaveOctets : Type 0
+KeysHaveOctets = (limits : Limits) (text : List ℕ) (strict : Bool) (keys : List OctetKey) → key_set limits text strict ≡ Ok keys → AreOctetKeys keys

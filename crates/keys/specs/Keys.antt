@@ -1,12 +1,13 @@
 -- Octet keys (RFC 7517 section 4, RFC 7518 section 6.4), what they allow and which algorithms they fit.
 use Rattle.std.specs.Prelude.{ℕ, ◌&&◌, Bool, true, List, length, codes, nat_le, Option, Some, None, Result, Ok, Err}
-use Rattle.std.specs.List.{list_any}
+use Rattle.std.specs.List.{AllByRecursion, list_any}
 use Rattle.std.specs.Str.{bytes_eq}
 use Rattle.serde_json.specs.Data.{Data}
 use Rattle.octets.specs.declared.refusal.Refusal.{Refusal}
 use Rattle.octets.specs.declared.refusal.Refusal.TheVariants.{Key}
 use Rattle.octets.specs.Outcomes.{◌>>=◌, needs}
 use Rattle.octets.specs.Base64url.{decoded}
+use Rattle.octets.specs.Octets.{IsOctets}
 use Rattle.keys.specs.declared.algorithm.Algorithm.{Algorithm}
 use Rattle.keys.specs.declared.operation.Operation.{Operation}
 use Rattle.keys.specs.Limits.{Limits}
@@ -21,6 +22,10 @@ pub record OctetKey : Type 0 where
   pub alg : Option (List ℕ)
   pub key_use : Option (List ℕ)
   pub key_ops : Option (List (List ℕ))
+
+-- each has octets
+abbrev pub AreOctetKeys : List OctetKey → Type 0
+AreOctetKeys keys = AllByRecursion (λ key. IsOctets key.octets) keys
 
 -- ---- reading
 

@@ -1,6 +1,9 @@
 //! Facts of the definitions alone.
 ghost use Rattle.keys.specs.Json.{KeepFloatsOut};
 ghost use Rattle.keys.specs.JsonTexts.{CompactTextReadsBack, DeepTextsAreRefused, KeepJson, ReadsJson, UrlTextsAreJson};
+ghost use Rattle.keys.specs.KeySets.{KeysHaveOctets};
+
+use octets::laws::base64url_decodes_to_octets;
 
 /// Members whose numbers are whole have no float, nor have those of a value without floats, and one may be put in. So what
 /// `read_json` gives, and what is made of it, has a compact text.
@@ -33,3 +36,10 @@ pub fn members_keep_json()
 pub fn url_texts_are_json()
     ensures { UrlTextsAreJson }
 {}
+
+/// The keys of a key text have octets, since the text of each was decoded.
+pub fn keys_have_octets()
+    ensures { KeysHaveOctets }
+{
+    base64url_decodes_to_octets();
+}

@@ -4,7 +4,7 @@ use Rattle.std.proofs.lemmas.Bool.{and_parts, cond_both}
 use Rattle.std.specs.List.{AllByRecursion}
 use Rattle.std.specs.Option.{ok_or}
 use Rattle.std.specs.Prelude.{◌&&◌, if◌then◌else◌, option_and_then, Result}
-use Rattle.serde_json.specs.Data.{Data, null, boolean, number, string, array, object, Items, no_items, item, Members, no_members, depth, items_depth}
+use Rattle.serde_json.specs.Data.{Data, object, Items, no_items, item, Members, no_members, depth, items_depth}
 use Rattle.serde_json.specs.Find.{get, as_str, as_array, as_object}
 use Rattle.octets.specs.declared.refusal.Refusal.{Refusal}
 use Rattle.octets.specs.declared.refusal.Refusal.TheVariants.{Form}
@@ -17,12 +17,13 @@ use Rattle.keys.specs.Json.{json_value, member_numbers_are_whole}
 use Rattle.keys.specs.JsonTexts.{IsJson, AreJsonItems, AreJsonMembers, KeepJson, ReadsJson, UrlTextsAreJson}
 use Rattle.keys.specs.KeySets.{are_objects, items_count}
 use Rattle.keys.proofs.ReadingBack.{numbers_whole}
+use Rattle.keys.proofs.TextOctets.{string_octets}
 use Rattle.objects.specs.Headers.{header_at, members_if_there, some_members}
 use Rattle.objects.specs.Texts.{each_item, text_if_there, text_at, required_text, has_items, object_list, depth_of_each}
 use Rattle.objects.proofs.EachRead.{all_items_read, as_many_items}
 use Rattle.objects.proofs.Joined.{line_octets}
 use Rattle.objects.proofs.Steps.{steps, passed, same_answer, is_there}
-use Rattle.objects.proofs.TextOctets.{DecodesToOctets, octets_of_utf8, text_is}
+use Rattle.objects.proofs.TextOctets.{DecodesToOctets, text_is}
 
 -- the laws of what is read
 pub record ReadingLaws : Type 0 where
@@ -71,14 +72,6 @@ pub header_whole : (n : ℕ) (header : Members) → IsHeader n header → member
 header_whole n header is = numbers_whole (object header) is.json
 
 -- ---- texts
-
-string_octets : (d : Data) (text : List ℕ) → IsJson d → as_str d ≡ Some text → IsOctets text
-string_octets null text is h = cc h
-string_octets (boolean b) text is h = cc h
-string_octets (number n) text is h = cc h
-string_octets (string s) text is h = let same : s ≡ text = cc h in subst IsOctets same (octets_of_utf8 s is)
-string_octets (array ds) text is h = cc h
-string_octets (object ms) text is h = cc h
 
 text_by : KeepJson → (name : List ℕ) (d : Data) (o : Option Data) (text : List ℕ) → IsJson d → get name d ≡ o → text_if_there o ≡ Ok text → IsOctets text
 text_by keep name d None text is e h = subst IsOctets (same_answer [] text h) IsOctets-nil

@@ -1,46 +1,8 @@
--- UTF-8 is octets, and so is what base64url texts mean, whose texts they are.
-use Rattle.std.proofs.Common.{◌≡◌, ℕ, ◌+◌, ◌/◌, ◌<◌, true, List, [], ◌∷◌, Ok, IsUtf8, ⊎_elim, subst, arith}
-use Rattle.std.proofs.lemmas.Bool.{and_parts, cond_both, ltb-true}
-use lib.Dec.{ltb}
-use lib.Utf8.{scalar, scalars, scalar_cases, next, encode, encodes}
+-- What base64url texts mean is octets, whose texts they are.
+use Rattle.std.proofs.Common.{◌≡◌, ℕ, List, Ok}
 use Rattle.octets.specs.Base64url.{base64url, decoded, DecodesExactly}
 use Rattle.octets.specs.Octets.{IsOctets}
-use Rattle.octets.proofs.Decoded.{IsOctets-nil, IsOctets-append, first_or}
-
--- ---- UTF-8
-
--- no character is beyond the last
-below : (c : ℕ) → scalar c ≡ true → c < 1114112
-below c is = ⊎_elim (λ (low : c < 55296). omega arith) (λ high. high.1) (scalar_cases c is)
-
--- an octet with six bits, after the first one of a character
-later : (n : ℕ) (rest : List ℕ) → IsOctets rest → IsOctets (next n ∷ rest)
-later n rest h = first_or (next n) rest (omega arith) h
-
-character : (c : ℕ) → scalar c ≡ true → IsOctets (encode c)
-unfolding encode
-character c is =
-    let last : List ℕ = next c ∷ [] in
-    let two : List ℕ = next (c / 64) ∷ last in
-    let three : List ℕ = next (c / 4096) ∷ two in
-    let of_last : IsOctets last = later c [] IsOctets-nil in
-    let of_two : IsOctets two = later (c / 64) last of_last in
-    cond_both (ltb c 128) _ _ IsOctets (λ e. first_or c [] (omega (arith, ltb-true c 128 e)) IsOctets-nil)
-    (λ _. cond_both (ltb c 2048) _ _ IsOctets (λ e. first_or (192 + c / 64) last (omega (arith, ltb-true c 2048 e)) of_last)
-    (λ _. cond_both (ltb c 65536) _ _ IsOctets (λ e. first_or (224 + c / 4096) two (omega (arith, ltb-true c 65536 e)) of_two)
-    (λ _. first_or (240 + c / 262144) three (omega (arith, below c is)) (later (c / 4096) two of_two))))
-
-characters : (cs : List ℕ) → scalars cs ≡ true → IsOctets (encodes cs)
-characters [] h = IsOctets-nil
-characters (c ∷ cs) h = let parts = and_parts (scalar c) (scalars cs) h in IsOctets-append (encode c) (encodes cs) (character c parts.0) (characters cs parts.1)
-
-pub octets_of_utf8 : (text : List ℕ) → IsUtf8 text → IsOctets text
-octets_of_utf8 text h = subst IsOctets h.1.1 (characters h.0 h.1.0)
-
--- ---- base64url texts
-
-abbrev pub DecodesToOctets : Type 0
-DecodesToOctets = (text octets : List ℕ) → IsOctets text → decoded text ≡ Ok octets → IsOctets octets
+pub use Rattle.keys.proofs.TextOctets.{DecodesToOctets, octets_of_utf8}
 
 -- the laws of base64url texts
 pub record TextLaws : Type 0 where

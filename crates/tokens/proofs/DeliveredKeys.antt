@@ -14,11 +14,11 @@ use Rattle.keys.specs.declared.algorithm.EncryptionAlg.{EncryptionAlg}
 use Rattle.keys.specs.declared.algorithm.ManagementAlg.{ManagementAlg}
 use Rattle.keys.specs.declared.algorithm.ManagementAlg.TheVariants.{Dir, A128Kw, A192Kw, A256Kw, Pbes2Hs256A128Kw, Pbes2Hs384A192Kw, Pbes2Hs512A256Kw}
 use Rattle.keys.specs.Algorithms.{is_password_based}
-use Rattle.keys.specs.Keys.{OctetKey, fits}
+use Rattle.keys.specs.Keys.{OctetKey, AreOctetKeys, fits}
 use Rattle.objects.proofs.EachRead.{all_then, all_both}
 use Rattle.tokens.specs.Algorithms.{content_alg, key_alg}
 use Rattle.tokens.specs.Choosing.{Receiver, is_direct, is_alone, stand_together, Encryption}
-use Rattle.tokens.specs.Encrypting.{salts_drawn, direct_key, drawn_cek, cek_drawn, octets_drawn, salts_by, after_salts, cek_by, AreOctetKeys}
+use Rattle.tokens.specs.Encrypting.{salts_drawn, direct_key, drawn_cek, cek_drawn, octets_drawn, salts_by, after_salts, cek_by}
 use Rattle.tokens.proofs.Candidates.{direct_key_fits}
 use Rattle.tokens.proofs.EncryptedHeaders.{IsSalted, all_salted, salted_by, made_by}
 use Rattle.tokens.proofs.SettledEncryptions.{Receives, Settles}

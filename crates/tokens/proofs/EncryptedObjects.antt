@@ -24,7 +24,7 @@ use Rattle.ciphers.specs.declared.key_alg.KeyAlg.{KeyAlg}
 use Rattle.keys.specs.Algorithms.{encryption_name}
 use Rattle.keys.specs.Json.{member_numbers_are_whole}
 use Rattle.keys.specs.JsonTexts.{AreJsonMembers}
-use Rattle.keys.specs.Keys.{OctetKey}
+use Rattle.keys.specs.Keys.{OctetKey, AreOctetKeys}
 use Rattle.keys.specs.Limits.{limits}
 use Rattle.keys.proofs.ReadingBack.{numbers_whole}
 use Rattle.keys.proofs.UrlTexts.{url_texts_are_json}
@@ -36,7 +36,7 @@ use Rattle.objects.proofs.Steps.{steps, passed, same_answer}
 use Rattle.tokens.specs.Algorithms.{content_alg, key_alg}
 use Rattle.tokens.specs.Choosing.{Receiver, Encryption, encryption_of}
 use Rattle.tokens.specs.Decrypting.{authenticated}
-use Rattle.tokens.specs.Encrypting.{salts_drawn, cek_drawn, octets_drawn, salts_by, after_salts, cek_by, iv_by, header_of, header_by, recipients_by, sealing_by, sealed_by, parts_by, encrypted, text_of, first_key, written_of, plan_by, encrypting_by, AreOctetKeys}
+use Rattle.tokens.specs.Encrypting.{salts_drawn, cek_drawn, octets_drawn, salts_by, after_salts, cek_by, iv_by, header_of, header_by, recipients_by, sealing_by, sealed_by, parts_by, encrypted, text_of, first_key, written_of, plan_by, encrypting_by}
 use Rattle.tokens.proofs.DeliveredKeys.{IsCek, Delivers, after_long, cek_by_is, each_delivered}
 use Rattle.tokens.proofs.HeaderTexts.{shallow_enough}
 use Rattle.tokens.proofs.EncryptedHeaders.{salted_by, IsWritten, Writes, writes, given_by, made_by, recipients_are, as_many_salted, recipients_are_read}

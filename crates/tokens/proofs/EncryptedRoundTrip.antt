@@ -10,7 +10,7 @@ use Rattle.ciphers.specs.Openings.{OpensExactly, DeliversExactly}
 use Rattle.ciphers.specs.Sealing.{IsOpening}
 use Rattle.keys.specs.declared.algorithm.Algorithm.TheVariants.{Encryption as EncryptionWith}
 use Rattle.keys.specs.Algorithms.{is_password_based, management_operations}
-use Rattle.keys.specs.Keys.{OctetKey, allows, fits}
+use Rattle.keys.specs.Keys.{OctetKey, AreOctetKeys, allows, fits}
 use Rattle.keys.specs.Limits.{limits}
 use Rattle.objects.specs.Jwe.{JweParts, EncryptedObject, built, json_text, jwe_of, AreMembers, TextsSpellObjects}
 use Rattle.objects.specs.Texts.{handed_in}
@@ -19,7 +19,7 @@ use Rattle.objects.proofs.Steps.{steps, same_answer}
 use Rattle.tokens.specs.Algorithms.{content_alg, key_alg}
 use Rattle.tokens.specs.Choosing.{Receiver, passwords, Encryption}
 use Rattle.tokens.specs.Decrypting.{all_pairs, is_candidate, SealedContent, sealed_content, cek_of, opened_by, decrypted}
-use Rattle.tokens.specs.Encrypting.{salt_drawn, salts_drawn, octets_drawn, salts_by, cek_by, encrypted, text_of, written_of, parts_by, encrypting_by, AreOctetKeys, OpensNoOther, EncryptedDecrypts}
+use Rattle.tokens.specs.Encrypting.{salt_drawn, salts_drawn, octets_drawn, salts_by, cek_by, encrypted, text_of, written_of, parts_by, encrypting_by, OpensNoOther, EncryptedDecrypts}
 use Rattle.tokens.proofs.Beginnings.{handed_back}
 use Rattle.tokens.proofs.DecryptedPairs.{algorithms_by, pair_by, TakeAtMost, take_at_most, Opens, first_opens, supported, opened_is_decrypted}
 use Rattle.tokens.proofs.DeliveredKeys.{Delivers}
@@ -103,24 +103,30 @@ decrypts laws before after key e random plaintext o by random_octets long may is
     (first_opens e cek key s plaintext before after xs (keys_of_salted e.receivers (salts_by e random) ∙ by.keys_are) each_opens only)
 
 -- so what is written of it is that of an object which is decrypted
-read_and_decrypted : Laws → (compact detach : Bool) (before after : List OctetKey) (key : OctetKey) (e : Encryption) (random plaintext : List ℕ) (texts : OutputTexts)
-    → AreOctetKeys (before ++ key ∷ after) → IsOctets random → IsOctets plaintext → length random ≡ octets_drawn e → Settles (before ++ key ∷ after) e
-    → AllByRecursion (λ r. r.key ≡ key → allows key (management_operations r.management).1 ≡ true) e.receivers → (encrypted e random plaintext >>= written_of compact detach) ≡ Ok texts
-    → (o : EncryptedObject) × ((jwe_of limits (handed_in detach texts.content) texts.text ≡ Ok o) × (OpensNoOther (length before) key o plaintext → decrypted limits (key ∷ []) o ≡ Ok plaintext))
-read_and_decrypted laws compact detach before after key e random plaintext texts key_octets random_octets octets long by may h =
+read_and_decrypted : Laws → (compact detach : Bool) (keys : List OctetKey) (e : Encryption) (random plaintext : List ℕ) (texts : OutputTexts)
+    → AreOctetKeys keys → IsOctets random → IsOctets plaintext → length random ≡ octets_drawn e → Settles keys e → (encrypted e random plaintext >>= written_of compact detach) ≡ Ok texts
+    → (o : EncryptedObject) × ((jwe_of limits (handed_in detach texts.content) texts.text ≡ Ok o)
+    × ((before after : List OctetKey) (key : OctetKey) → keys ≡ before ++ key ∷ after → AllByRecursion (λ r. r.key ≡ key → allows key (management_operations r.management).1 ≡ true) e.receivers
+    → OpensNoOther (length before) key o plaintext → decrypted limits (key ∷ []) o ≡ Ok plaintext))
+read_and_decrypted laws compact detach keys e random plaintext texts key_octets random_octets octets long by h =
     let o = steps (encrypted e random plaintext) (written_of compact detach) texts h in
-    let is : IsEncrypted e random plaintext o.0 = is_encrypted laws.octets (before ++ key ∷ after) e random plaintext o.0 key_octets random_octets octets long by o.1 in
-    let decrypted_if : OpensNoOther (length before) key o.0 plaintext → decrypted limits (key ∷ []) o.0 ≡ Ok plaintext =
-    subst (λ o. OpensNoOther (length before) key o plaintext → decrypted limits (key ∷ []) o ≡ Ok plaintext) is.is
-    (decrypts laws before after key e random plaintext o.0 by random_octets long may is) in
-    (o.0, (written_is_read laws compact detach (parts_by e random is.sealed) o.0 texts is.members is.made o.2, decrypted_if))
+    let is : IsEncrypted e random plaintext o.0 = is_encrypted laws.octets keys e random plaintext o.0 key_octets random_octets octets long by o.1 in (
+      o.0,
+      (
+        written_is_read laws compact detach (parts_by e random is.sealed) o.0 texts is.members is.made o.2,
+        λ before after key among may.
+            let by_key : Settles (before ++ key ∷ after) e = subst (λ keys. Settles keys e) among by in
+            subst (λ o. OpensNoOther (length before) key o plaintext → decrypted limits (key ∷ []) o ≡ Ok plaintext) is.is
+            (decrypts laws before after key e random plaintext o.0 by_key random_octets long may is),
+      ),
+    )
 
 -- and so it is where keys and a template settle what is encrypted
 pub encrypted_decrypts : Laws → EncryptedDecrypts
-encrypted_decrypts laws compact detach before after key template random plaintext texts key_octets random_octets octets may h =
-    let keys : List OctetKey = before ++ key ∷ after in
+encrypted_decrypts laws compact detach keys template random plaintext texts key_octets random_octets octets h =
     let plan = steps (plan_from (encrypting_by limits compact detach keys template) random) (λ p. p.whole plaintext) texts h in
     let settled = plan_is compact detach keys template random plan.0 plan.1 in
     let e : Encryption = settled.0 in
-    read_and_decrypted laws compact detach before after key e (take (octets_drawn e) random) plaintext texts key_octets (IsOctets-take (octets_drawn e) random random_octets) octets settled.2
-    (settles compact keys template e settled.1) (may e settled.1) (ap (λ (p : Plan OutputTexts). p.whole plaintext) settled.3 ∙ plan.2)
+    let o = read_and_decrypted laws compact detach keys e (take (octets_drawn e) random) plaintext texts key_octets (IsOctets-take (octets_drawn e) random random_octets) octets settled.2
+    (settles compact keys template e settled.1) (ap (λ (p : Plan OutputTexts). p.whole plaintext) settled.3 ∙ plan.2) in
+    (o.0, (o.1.0, λ before after key among may. o.1.1 before after key among (may e settled.1)))

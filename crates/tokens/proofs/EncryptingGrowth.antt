@@ -14,7 +14,7 @@ use Rattle.octets.proofs.Decoded.{IsOctets-take}
 use Rattle.octets.proofs.Groups.{length-base64url}
 use Rattle.ciphers.specs.Sealing.{Sealed, IsTooLong}
 use Rattle.ciphers.proofs.Growing.{fixed_grows, ciphertext_grows}
-use Rattle.keys.specs.Keys.{OctetKey}
+use Rattle.keys.specs.Keys.{OctetKey, AreOctetKeys}
 use Rattle.objects.specs.Jwe as jwe
 use Rattle.objects.specs.Jwe.{RecipientParts, JweParts, Recipient, EncryptedObject, put_recipients, put_shared, parts_of, json_text, key_of_first, is_compact, jwe_compact_text}
 use Rattle.objects.specs.Texts.{handed_out, put_text, put_header}
@@ -24,7 +24,7 @@ use Rattle.objects.proofs.Steps.{steps, same_answer}
 use Rattle.tokens.specs.Algorithms.{content_alg}
 use Rattle.tokens.specs.Choosing.{Encryption}
 use Rattle.tokens.specs.Decrypting.{authenticated}
-use Rattle.tokens.specs.Encrypting.{AreOctetKeys, octets_drawn, cek_by, iv_by, header_by, sealing_by, encrypted, text_of, aad_member, text_before, within_longest, written_of, ciphertext_fixed, text_fixed, plan_by, EncryptingGrows}
+use Rattle.tokens.specs.Encrypting.{octets_drawn, cek_by, iv_by, header_by, sealing_by, encrypted, text_of, aad_member, text_before, within_longest, written_of, ciphertext_fixed, text_fixed, plan_by, EncryptingGrows}
 use Rattle.tokens.proofs.Beginnings.{begins_behind, begins_all, empty_begins, groups_grow, text_grows, member_text, handed_out_begins, BothBegin, both_grow_by_beginnings}
 use Rattle.tokens.proofs.Sealed.{all_within}
 use Rattle.tokens.proofs.EncryptedObjects.{OctetLaws, Settles, Has, is_encrypted, written_is, plan_is, settles}

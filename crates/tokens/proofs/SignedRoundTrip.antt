@@ -1,5 +1,5 @@
 -- What is signed verifies with each key alone that may verify.
-use Rattle.std.proofs.Common.{◌≡◌, ℕ, nat_le, Bool, true, false, List, [], ◌∷◌, ◌++◌, length, map, is_some, Option, Ok, IsUtf8, refl, sym, ap, ◌∙◌}
+use Rattle.std.proofs.Common.{◌≡◌, ℕ, nat_le, Bool, true, false, List, [], ◌∷◌, ◌++◌, length, map, is_some, Option, Ok, IsUtf8, refl, sym, ap, ◌∙◌, subst}
 use Rattle.std.proofs.lemmas.Bool.{and_parts, and_from, or_left}
 use Rattle.std.proofs.lemmas.List.{length-map}
 use Rattle.std.proofs.lemmas.Slice.Eq.{bytes_eq-Decides}
@@ -128,12 +128,15 @@ payload_verified compact all before key after s payload may is =
 
 pub signed_verifies : TextsSpellObjects → SignedVerifies
 unfolding signing_by
-signed_verifies spells compact detach all before key after template payload texts octets may h =
-    let keys : List OctetKey = before ++ key ∷ after in
+signed_verifies spells compact detach keys template payload texts octets h =
     let plan = steps (signing_by limits compact detach keys template) (λ plan. plan.whole payload) texts h in
     let s = steps (signing_of limits compact keys template) (λ s. Ok (plan_by compact detach s)) plan.0 plan.1 in
     let whole : (signed s.0 payload >>= written_of compact detach) ≡ Ok texts =
     ap (λ (p : Plan OutputTexts). p.whole payload) (same_answer (plan_by compact detach s.0) plan.0 s.2) ∙ plan.2 in
-    let is = is_signing compact keys template s.0 s.1 in
-    ap (λ r. r >>= verifying_by all true (key ∷ [])) (texts_are_read spells compact detach keys s.0 payload texts octets is whole)
-    ∙ payload_verified compact all before key after s.0 payload may is
+    let is : IsSigning compact keys s.0 = is_signing compact keys template s.0 s.1 in (
+      object_by s.0 payload,
+      (
+        texts_are_read spells compact detach keys s.0 payload texts octets is whole,
+        λ all before after key among may. payload_verified compact all before key after s.0 payload may (subst (λ keys. IsSigning compact keys s.0) among is),
+      ),
+    )

@@ -14,7 +14,7 @@ use Rattle.ciphers.specs.Openings.{is_longer}
 use Rattle.ciphers.specs.Sealing.{Sealed, Sealing, sealing, cek_len, iv_len}
 use Rattle.keys.specs.declared.algorithm.ManagementAlg.{ManagementAlg}
 use Rattle.keys.specs.Algorithms.{management_name, is_password_based, management_operations}
-use Rattle.keys.specs.Keys.{OctetKey, allows}
+use Rattle.keys.specs.Keys.{OctetKey, AreOctetKeys, allows}
 use Rattle.keys.specs.Limits.{Limits, limits}
 use Rattle.objects.specs.Jwe.{RecipientParts, JweParts, EncryptedObject, built, json_text, jwe_compact_text, jwe_of}
 use Rattle.objects.specs.Texts.{handed_in, handed_out}
@@ -196,9 +196,6 @@ encrypting_by limits compact detach keys text = do
 
 -- ---- what it fixes, and what it makes
 
-abbrev pub AreOctetKeys : List OctetKey → Type 0
-AreOctetKeys keys = AllByRecursion (λ key. IsOctets key.octets) keys
-
 -- What a beginning of the plaintext fixes of both texts goes on as more is read, and begins the whole texts.
 abbrev pub EncryptingGrows : Type 0
 EncryptingGrows = (compact detach : Bool) (keys : List OctetKey) (template random : List ℕ) (plan : Plan OutputTexts) → AreOctetKeys keys → IsOctets random
@@ -226,7 +223,8 @@ OpensNoOther n key o plaintext =
 -- Where a plaintext is encrypted to keys, what is written is an object, which each of the keys, alone, decrypts to the plaintext,
 -- where it may decrypt and opens nothing else at the recipient of a key before it.
 abbrev pub EncryptedDecrypts : Type 0
-EncryptedDecrypts = (compact detach : Bool) (before after : List OctetKey) (key : OctetKey) (template random plaintext : List ℕ) (texts : OutputTexts)
-    → AreOctetKeys (before ++ key ∷ after) → IsOctets random → IsOctets plaintext → MayDecrypt compact (before ++ key ∷ after) key template
-    → planned (plan_from (encrypting_by limits compact detach (before ++ key ∷ after) template) random) plaintext ≡ Ok texts
-    → (o : EncryptedObject) × ((jwe_of limits (handed_in detach texts.content) texts.text ≡ Ok o) × (OpensNoOther (length before) key o plaintext → decrypted limits (key ∷ []) o ≡ Ok plaintext))
+EncryptedDecrypts = (compact detach : Bool) (keys : List OctetKey) (template random plaintext : List ℕ) (texts : OutputTexts) → AreOctetKeys keys → IsOctets random → IsOctets plaintext
+    → planned (plan_from (encrypting_by limits compact detach keys template) random) plaintext ≡ Ok texts
+    → (o : EncryptedObject) × ((jwe_of limits (handed_in detach texts.content) texts.text ≡ Ok o)
+    × ((before after : List OctetKey) (key : OctetKey) → keys ≡ before ++ key ∷ after → MayDecrypt compact keys key template → OpensNoOther (length before) key o plaintext
+    → decrypted limits (key ∷ []) o ≡ Ok plaintext))

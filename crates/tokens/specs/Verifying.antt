@@ -67,8 +67,10 @@ verifying_by all wanted keys o = do
 
 -- ---- what is signed
 
--- Where keys sign as the template asks, and one of them may verify, what is written verifies with this one alone, and gives the payload.
+-- Where keys sign as the template asks, what is written is an object, which each of the keys that may verify, alone, verifies, and
+-- gives the payload.
 abbrev pub SignedVerifies : Type 0
-SignedVerifies = (compact detach all : Bool) (before : List OctetKey) (key : OctetKey) (after : List OctetKey) (template payload : List ℕ) (texts : OutputTexts) → IsOctets payload → allows key Verify ≡ true
-    → planned (signing_by limits compact detach (before ++ key ∷ after) template) payload ≡ Ok texts
-    → (jws_of limits (handed_in detach texts.content) texts.text >>= verifying_by all true (key ∷ [])) ≡ Ok payload
+SignedVerifies = (compact detach : Bool) (keys : List OctetKey) (template payload : List ℕ) (texts : OutputTexts) → IsOctets payload
+    → planned (signing_by limits compact detach keys template) payload ≡ Ok texts
+    → (o : SignedObject) × ((jws_of limits (handed_in detach texts.content) texts.text ≡ Ok o)
+    × ((all : Bool) (before after : List OctetKey) (key : OctetKey) → keys ≡ before ++ key ∷ after → allows key Verify ≡ true → verifying_by all true (key ∷ []) o ≡ Ok payload))
