@@ -1,8 +1,8 @@
 -- The steps of a definition that answers, and the tests that it passes.
-use Rattle.std.proofs.Common.{◌≡◌, Bool, true, false, Option, Some, None, Result, Ok, Err, refl, ap}
+use Rattle.std.proofs.Common.{◌≡◌, Bool, true, false, Option, Some, None, Result, Ok, Err, IfOk, refl, ap}
 use Rattle.std.specs.Option.{ok_or}
 use Rattle.octets.specs.declared.refusal.Refusal.{Refusal}
-use Rattle.octets.specs.Outcomes.{◌>>=◌, needs}
+use Rattle.octets.specs.Outcomes.{◌>>=◌, needs, AgreesUnlessMemory}
 
 -- the steps of a chain that answers
 pub steps : {A B : Type 0} (r : Result A Refusal) (f : A → Result B Refusal) (y : B) → (r >>= f) ≡ Ok y → (x : A) × (r ≡ Ok x) × (f x ≡ Ok y)
@@ -28,3 +28,8 @@ pub refused_alike : {X Y : Type 0} (fits : Bool) (refusal e : Refusal) (x : X) (
     → (e ≡ refusal) × ((needs fits refusal >>= λ _. Ok y) ≡ Err refusal)
 refused_alike true refusal e x y h = cc h
 refused_alike false refusal e x y h = (cc h, refl)
+
+-- what follows of the answer holds of the result that agrees with it
+pub if_ok : {X Y : Type 0} (view : X → Y) (r : Result X Refusal) (answer : Result Y Refusal) (P : Y → Type 0) → ((y : Y) → answer ≡ Ok y → P y) → AgreesUnlessMemory view r answer → IfOk r (λ x. P (view x))
+if_ok view (Ok x) answer P holds agrees = holds (view x) agrees
+if_ok view (Err e) answer P holds agrees = tt
