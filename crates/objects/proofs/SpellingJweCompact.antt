@@ -1,5 +1,5 @@
 -- What the JSON text of an encrypted object spells is the object, and so is what its compact text spells.
-use Rattle.std.proofs.Common.{◌≡◌, ◌==◌, ◌&&◌, ℕ, List, [], ◌∷◌, length, Bool, true, not, Ok, refl, sym, ap, ◌∙◌, subst, arith, append_assoc}
+use Rattle.std.proofs.Common.{◌≡◌, ◌==◌, ◌&&◌, ℕ, List, [], ◌∷◌, length, Bool, true, false, not, Ok, refl, sym, ap, ◌∙◌, subst, arith, append_assoc}
 use Rattle.std.proofs.lemmas.Bool.{and_parts, eqb-true}
 use Rattle.serde_json.specs.Data.{no_members}
 use Rattle.octets.specs.declared.refusal.Refusal.TheVariants.{NotCompact}
@@ -7,7 +7,7 @@ use Rattle.octets.specs.Base64url.{base64url, SpellsSixBits}
 use Rattle.octets.specs.Outcomes.{needs}
 use Rattle.keys.specs.JsonTexts.{DeepTextsAreRefused}
 use Rattle.keys.specs.Limits.{Limits}
-use Rattle.objects.specs.Jwe.{JweParts, Recipient, EncryptedObject, JweTexts, compact_texts, jwe_texts, object_of_texts, jwe_of, built, members_text, json_text, is_compact, key_of_first, jwe_compact_text, AreMembers, BuildingIsReading, TextsSpellObjects}
+use Rattle.objects.specs.Jwe.{JweParts, Recipient, EncryptedObject, JweTexts, compact_texts, jwe_texts, object_of_texts, jwe_of, built, members_text, json_text, is_compact, key_of_first, jwe_compact_text, jwe_text, AreMembers, IsMade, BuildingIsReading, TextsSpellObjects}
 use Rattle.objects.specs.Texts.{has_members, handed_in, kept}
 use Rattle.objects.proofs.BuildingJwe.{building_is_reading}
 use Rattle.objects.proofs.Characters.{between_dots, joined_characters, no_json_form, no_line_end}
@@ -94,3 +94,12 @@ json_text_spells reading limits parts o members h detach =
 pub texts_spell_objects : Laws → DeepTextsAreRefused → SpellsSixBits → TextsSpellObjects
 texts_spell_objects laws refused spells limits parts o members h detach =
     (json_text_spells (building_is_reading laws refused) limits parts o members h detach, compact_text_spells laws spells limits parts o members (is_built limits parts o h) detach)
+
+-- ---- what is written
+
+-- in either form the text spells an object that can be made
+pub written_spells : TextsSpellObjects → (limits : Limits) (compact detach : Bool) (o : EncryptedObject) (text : List ℕ) → IsMade limits o → jwe_text compact detach o ≡ Ok text
+    → jwe_of limits (handed_in detach o.ciphertext) text ≡ Ok o
+written_spells spells limits true detach o text made h = (spells limits made.0 o made.1.0 made.1.1 detach).1 text h
+written_spells spells limits false detach o text made h =
+    ap (jwe_of limits (handed_in detach o.ciphertext)) (sym (same_answer (json_text detach o) text h)) ∙ (spells limits made.0 o made.1.0 made.1.1 detach).0

@@ -1,12 +1,12 @@
 -- What the JSON text of a signed object spells is the object, and so is what its compact text spells.
-use Rattle.std.proofs.Common.{◌≡◌, ℕ, List, [], ◌∷◌, Bool, true, Ok, refl, sym, ap, ◌∙◌, subst, append_assoc}
+use Rattle.std.proofs.Common.{◌≡◌, ℕ, List, [], ◌∷◌, Bool, true, false, Ok, refl, sym, ap, ◌∙◌, subst, append_assoc}
 use Rattle.serde_json.specs.Data.{no_members}
 use Rattle.octets.specs.declared.refusal.Refusal.TheVariants.{NotCompact}
 use Rattle.octets.specs.Base64url.{base64url}
 use Rattle.octets.specs.Outcomes.{needs}
 use Rattle.keys.specs.JsonTexts.{DeepTextsAreRefused}
 use Rattle.keys.specs.Limits.{Limits}
-use Rattle.objects.specs.Jws.{JwsParts, Signature, SignedObject, JwsTexts, compact_texts, jws_texts, object_of_texts, jws_of, built, members_text, json_text, is_compact, joined_first, jws_compact_text, AreMembers, BuildingIsReading, TextsSpellObjects}
+use Rattle.objects.specs.Jws.{JwsParts, Signature, SignedObject, JwsTexts, compact_texts, jws_texts, object_of_texts, jws_of, built, members_text, json_text, is_compact, joined_first, jws_compact_text, jws_text, AreMembers, IsMade, BuildingIsReading, TextsSpellObjects}
 use Rattle.objects.specs.Texts.{handed_in, kept}
 use Rattle.objects.proofs.BuildingJws.{building_is_reading}
 use Rattle.objects.proofs.Characters.{between_dots, joined_characters, no_json_form, no_line_end}
@@ -78,3 +78,12 @@ json_text_spells reading limits parts o members h detach =
 pub texts_spell_objects : Laws → DeepTextsAreRefused → TextsSpellObjects
 texts_spell_objects laws refused limits parts o members h detach =
     (json_text_spells (building_is_reading laws refused) limits parts o members h detach, compact_text_spells laws limits parts o members (is_built limits parts o h) detach)
+
+-- ---- what is written
+
+-- in either form the text spells an object that can be made
+pub written_spells : TextsSpellObjects → (limits : Limits) (compact detach : Bool) (o : SignedObject) (text : List ℕ) → IsMade limits o → jws_text compact detach o ≡ Ok text
+    → jws_of limits (handed_in detach o.payload) text ≡ Ok o
+written_spells spells limits true detach o text made h = (spells limits made.0 o made.1.0 made.1.1 detach).1 text h
+written_spells spells limits false detach o text made h =
+    ap (jws_of limits (handed_in detach o.payload)) (sym (same_answer (json_text detach o) text h)) ∙ (spells limits made.0 o made.1.0 made.1.1 detach).0

@@ -343,9 +343,14 @@ pub record AreMembers (parts : JweParts) : Type 0 where
   pub tag : IsOctets parts.tag
   pub recipients : AllByRecursion (λ r. AreJsonMembers r.header × IsOctets r.encrypted_key) parts.recipients
 
--- An object is made of members, or refused, as their JSON text is read; a detached ciphertext is handed in beside it. Number never comes.
+-- An object is made of members, or refused, as their JSON text is read; a detached ciphertext is handed in beside it. It is never refused
+-- with Number, since the numbers of such members are whole.
 abbrev pub BuildingIsReading : Type 0
 BuildingIsReading = (limits : Limits) (parts : JweParts) → AreMembers parts → (detach : Bool) → built limits parts ≡ jwe_of limits (handed_in detach parts.ciphertext) (members_text detach parts)
+
+-- the object can be made of members, as each that is read can
+abbrev pub IsMade : Limits → EncryptedObject → Type 0
+IsMade limits o = (parts : JweParts) × (AreMembers parts × (built limits parts ≡ Ok o))
 
 -- An object that is made of its members is what its JSON text spells, and its compact text where it has one; a detached ciphertext is
 -- handed in beside them.
@@ -357,7 +362,7 @@ TextsSpellObjects = (limits : Limits) (parts : JweParts) (o : EncryptedObject) �
 -- An object that is read can be made of its members.
 abbrev pub ObjectsAreMade : Type 0
 ObjectsAreMade = (limits : Limits) (detached : Option (List ℕ)) (text : List ℕ) (o : EncryptedObject) → AreOctetsHandedIn detached → IsOctets text → jwe_of limits detached text ≡ Ok o
-    → (parts : JweParts) × (AreMembers parts × (built limits parts ≡ Ok o))
+    → IsMade limits o
 
 -- A compact text that is read is the compact text of the object, but for a line end.
 abbrev pub CompactTextsAreExact : Type 0

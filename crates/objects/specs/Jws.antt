@@ -239,9 +239,14 @@ pub record AreMembers (parts : JwsParts) : Type 0 where
   pub payload : IsOctets parts.payload
   pub signatures : AllByRecursion (λ s. IsUtf8 s.protected × (AreJsonMembers s.header × IsOctets s.signature)) parts.signatures
 
--- An object is made of members, or refused, as their JSON text is read; a detached payload is handed in beside it. Number never comes.
+-- An object is made of members, or refused, as their JSON text is read; a detached payload is handed in beside it. It is never refused
+-- with Number, since the numbers of such members are whole.
 abbrev pub BuildingIsReading : Type 0
 BuildingIsReading = (limits : Limits) (parts : JwsParts) → AreMembers parts → (detach : Bool) → built limits parts ≡ jws_of limits (handed_in detach parts.payload) (members_text detach parts)
+
+-- the object can be made of members, as each that is read can
+abbrev pub IsMade : Limits → SignedObject → Type 0
+IsMade limits o = (parts : JwsParts) × (AreMembers parts × (built limits parts ≡ Ok o))
 
 -- An object that is made of its members is what its JSON text spells, and its compact text where it has one; a detached payload is
 -- handed in beside them.
@@ -253,7 +258,7 @@ TextsSpellObjects = (limits : Limits) (parts : JwsParts) (o : SignedObject) → 
 -- An object that is read can be made of its members.
 abbrev pub ObjectsAreMade : Type 0
 ObjectsAreMade = (limits : Limits) (detached : Option (List ℕ)) (text : List ℕ) (o : SignedObject) → AreOctetsHandedIn detached → IsOctets text → jws_of limits detached text ≡ Ok o
-    → (parts : JwsParts) × (AreMembers parts × (built limits parts ≡ Ok o))
+    → IsMade limits o
 
 -- A compact text that is read is the compact text of the object, but for a line end.
 abbrev pub CompactTextsAreExact : Type 0

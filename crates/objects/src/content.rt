@@ -3,7 +3,7 @@ ghost use Rattle.std.specs.Prelude.{◌≡◌, option_map};
 ghost use Rattle.serde_json.specs.View.{view};
 ghost use Rattle.octets.specs.Base64url.{decoded};
 ghost use Rattle.octets.specs.Outcomes.{AgreesUnlessMemory};
-ghost use Rattle.objects.specs.Texts.{content_by, content_text};
+ghost use Rattle.objects.specs.Texts.{AreOctetsHandedIn, content_by, content_text};
 ghost use Rattle.objects.specs.Views.{content_text_view};
 
 use crate::texts::{required_text, text_at};
@@ -60,5 +60,14 @@ impl<'t> Content<'t> {
                 Ok(octets)
             }
         }
+    }
+}
+
+/// A content that is handed in holds octets.
+pub(crate) fn handed_in_is_octets(detached: &Option<Vec<u8>>)
+    ensures { AreOctetsHandedIn (option_map (λ c. c.items) detached.now) }
+{
+    if let Some(content) = detached {
+        are_octets(content);
     }
 }

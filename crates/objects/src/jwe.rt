@@ -6,16 +6,19 @@ ghost use Rattle.serde_json.specs.View.{members_view};
 ghost use Rattle.octets.specs.Outcomes.{AgreesUnlessMemory};
 ghost use Rattle.keys.specs.Limits.{limits};
 ghost use Rattle.objects.specs.Headers.{all_members};
-ghost use Rattle.objects.specs.Jwe.{jwe_of, object_of_texts as object_of_jwe_texts, encrypted_object as encrypted_object_of, recipients_of, recipients_of_one_enc, have_one_enc as have_one_enc_of, without_ciphertext, is_plain as is_plain_header, are_plain as are_plain_parts};
+ghost use Rattle.objects.specs.Jwe.{IsMade, jwe_of, object_of_texts as object_of_jwe_texts, encrypted_object as encrypted_object_of, recipients_of, recipients_of_one_enc, have_one_enc as have_one_enc_of, without_ciphertext, is_plain as is_plain_header, are_plain as are_plain_parts};
 ghost use Rattle.objects.specs.Views.{header_view, jwe_view, jwe_members_view, texts_view, recipient_view, recipient_members_view};
 
+use crate::content::handed_in_is_octets;
 use crate::header::{Header, read_protected};
 use crate::header_members::HeaderMembers;
 use crate::jwe_texts::{JweTexts, compact_texts, json_texts, read_members};
+use crate::laws::jwe_objects_are_made;
 use crate::recipient::{Recipient, RecipientMembers, RecipientParts, is_plain, read_recipient};
 use crate::recipient_list::RecipientList;
 use crate::texts::is_json_form;
 use keys::{MOST_RECIPIENTS, read_json};
+use octets::laws::are_octets;
 use octets::{Refusal, b64_decode, needs, without_line_end};
 use serde_json::{Map, Value};
 use std::alloc::Global;
@@ -70,18 +73,14 @@ impl Jwe {
     /// `Json`, `Number`, and `Header` where it is no object; `Header` where a joint header is none, or what it says of the
     /// algorithms is wrong, or their `enc` is not the same; and `Unsupported` where a header has a `crit` or a `zip`. Whether
     /// the algorithms are supported is not asked.
-    #[tactic(auto, unfolding(crate::specs::Jwe::jwe_of, crate::specs::Jwe::jwe_texts))]
     pub fn read(alloc: Global, text: &[u8], detached: Option<Vec<u8>>) -> Result<Jwe, Refusal>
-        ensures { AgreesUnlessMemory jwe_view result (jwe_of limits (option_map (λ c. c.items) detached) text.now) }
+        ensures exact { AgreesUnlessMemory jwe_view result (jwe_of limits (option_map (λ c. c.items) detached) text.now) }
+        ensures made { IfOk result (λ jwe. IsMade limits (jwe_view jwe)) }
     {
-        if is_json_form(text) {
-            let value = read_json(alloc, text)?;
-            let texts = json_texts(alloc, &value, detached)?;
-            object_of_texts(alloc, texts)
-        } else {
-            let texts = compact_texts(alloc, without_line_end(text), detached)?;
-            object_of_texts(alloc, texts)
-        }
+        jwe_objects_are_made();
+        are_octets(text);
+        handed_in_is_octets(&detached);
+        object_of_text(alloc, text, detached)
     }
 
     /// The text of the protected header, as it was received. The additional data begin with it (RFC 7516 section 5.1).
@@ -151,6 +150,21 @@ impl Jwe {
             unprotected: Some(&self.unprotected.map),
             per_recipient: Some(recipient.header()),
         }
+    }
+}
+
+/// The object of a text, in the form that it has.
+#[tactic(auto, unfolding(crate::specs::Jwe::jwe_of, crate::specs::Jwe::jwe_texts))]
+fn object_of_text(alloc: Global, text: &[u8], detached: Option<Vec<u8>>) -> Result<Jwe, Refusal>
+    ensures { AgreesUnlessMemory jwe_view result (jwe_of limits (option_map (λ c. c.items) detached) text.now) }
+{
+    if is_json_form(text) {
+        let value = read_json(alloc, text)?;
+        let texts = json_texts(alloc, &value, detached)?;
+        object_of_texts(alloc, texts)
+    } else {
+        let texts = compact_texts(alloc, without_line_end(text), detached)?;
+        object_of_texts(alloc, texts)
     }
 }
 

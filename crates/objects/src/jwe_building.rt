@@ -5,7 +5,7 @@ ghost use Rattle.serde_json.specs.Data.{members_depth};
 ghost use Rattle.octets.specs.Outcomes.{AgreesUnlessMemory};
 ghost use Rattle.keys.specs.Json.{member_numbers_are_whole};
 ghost use Rattle.keys.specs.Limits.{limits};
-ghost use Rattle.objects.specs.Jwe.{built, is_shallow as is_shallow_object, have_whole_numbers as have_whole_numbers_parts};
+ghost use Rattle.objects.specs.Jwe.{AreMembers, IsMade, built, is_shallow as is_shallow_object, have_whole_numbers as have_whole_numbers_parts};
 ghost use Rattle.objects.specs.Views.{jwe_view, jwe_members_view, parts_view, recipient_members_view, recipient_parts_view};
 
 use crate::header::with_whole_numbers;
@@ -21,18 +21,26 @@ impl Jwe {
     /// the next: `Json` where that nests more than 127 deep; `Number` where a header holds a number that is no whole number
     /// of 64 bits; `Form` where there is no recipient; `Limit` where there are more than 64; `Base64` where the text of the
     /// protected header is no base64url text; and then those of `Jwe::read`, from those of the protected header on.
-    #[tactic(auto, unfolding(crate::specs::Jwe::built))]
     pub fn build(alloc: Global, parts: JweParts) -> Result<Jwe, Refusal>
-        ensures { AgreesUnlessMemory jwe_view result (built limits (parts_view parts)) }
+        ensures exact { AgreesUnlessMemory jwe_view result (built limits (parts_view parts)) }
+        ensures made { IfOk result (λ jwe. AreMembers (parts_view parts) → IsMade limits (jwe_view jwe)) }
     {
-        needs(is_shallow(&parts), Refusal::Json)?;
-        needs(have_whole_numbers(&parts), Refusal::Number)?;
-        needs(!parts.recipients.is_empty(), Refusal::Form)?;
-        needs(parts.recipients.len() <= MOST_RECIPIENTS, Refusal::Limit)?;
-        let protected = b64_decode(alloc, parts.protected.as_bytes())?;
-        let members = members_of_parts(alloc, parts)?;
-        encrypted_object(alloc, &protected, members)
+        object_of_parts(alloc, parts)
     }
+}
+
+/// The object with these members.
+#[tactic(auto, unfolding(crate::specs::Jwe::built))]
+fn object_of_parts(alloc: Global, parts: JweParts) -> Result<Jwe, Refusal>
+    ensures { AgreesUnlessMemory jwe_view result (built limits (parts_view parts)) }
+{
+    needs(is_shallow(&parts), Refusal::Json)?;
+    needs(have_whole_numbers(&parts), Refusal::Number)?;
+    needs(!parts.recipients.is_empty(), Refusal::Form)?;
+    needs(parts.recipients.len() <= MOST_RECIPIENTS, Refusal::Limit)?;
+    let protected = b64_decode(alloc, parts.protected.as_bytes())?;
+    let members = members_of_parts(alloc, parts)?;
+    encrypted_object(alloc, &protected, members)
 }
 
 /// No header is too deep for the JSON text.

@@ -2,14 +2,17 @@
 //! form cannot hold.
 ghost use Rattle.std.specs.Prelude.{◌≡◌, ◌≢◌, codes, map, option_map, Err, Ok, IfOk, IfErr, OnOk, OnErr, string_bytes};
 ghost use Rattle.octets.specs.Outcomes.{AgreesUnlessMemory};
+ghost use Rattle.keys.specs.Limits.{limits};
 ghost use Rattle.objects.specs.Frames.{IsJweFrame};
-ghost use Rattle.objects.specs.Jwe.{json_text, jwe_compact_text, jwe_text, is_compact as is_compact_object, key_of_first};
+ghost use Rattle.objects.specs.Jwe.{IsMade, jwe_of, json_text, jwe_compact_text, jwe_text, is_compact as is_compact_object, key_of_first};
+ghost use Rattle.objects.specs.Texts.{handed_in};
 ghost use Rattle.objects.specs.Views.{jwe_view, recipient_view, written_view};
 ghost use Rattle.objects.specs.Writing.{jwe_written, with_parts, with_members, with_alone, with_several, with_items, with_recipient, with_tag};
 
 use crate::frames::{Texts, inside};
 use crate::header::has_members;
 use crate::jwe::Jwe;
+use crate::laws::jwe_texts_spell_objects;
 use crate::recipient::Recipient;
 use keys::laws;
 use octets::laws::{base64url_decodes_exactly, base64url_has_url_characters};
@@ -20,8 +23,10 @@ impl Jwe {
     /// The JSON text, its members in byte order of their names: flattened where there is one recipient, and else general
     /// (RFC 7516 section 7.2). An optional member that is empty is left out, and so is the ciphertext where it is detached.
     pub fn to_json(&self, alloc: Global, detach: bool) -> Result<String, Refusal>
-        ensures { AgreesUnlessMemory string_bytes result (Ok (json_text detach (jwe_view self.now))) }
+        ensures exact { AgreesUnlessMemory string_bytes result (Ok (json_text detach (jwe_view self.now))) }
+        ensures spells { IsMade limits (jwe_view self.now) → IfOk result (λ text. jwe_of limits (handed_in detach (jwe_view self.now).ciphertext) (string_bytes text) ≡ Ok (jwe_view self.now)) }
     {
+        jwe_texts_spell_objects();
         self.whole(alloc, false, detach)
     }
 
@@ -29,8 +34,10 @@ impl Jwe {
     /// `NotCompact` where the object has more than one recipient, a header that is not protected, or additional data of its
     /// own.
     pub fn to_compact(&self, alloc: Global, detach: bool) -> Result<String, Refusal>
-        ensures { AgreesUnlessMemory string_bytes result (jwe_compact_text detach (jwe_view self.now)) }
+        ensures exact { AgreesUnlessMemory string_bytes result (jwe_compact_text detach (jwe_view self.now)) }
+        ensures spells { IsMade limits (jwe_view self.now) → IfOk result (λ text. jwe_of limits (handed_in detach (jwe_view self.now).ciphertext) (string_bytes text) ≡ Ok (jwe_view self.now)) }
     {
+        jwe_texts_spell_objects();
         self.whole(alloc, true, detach)
     }
 

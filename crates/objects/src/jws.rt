@@ -6,18 +6,21 @@ ghost use Rattle.serde_json.specs.View.{members_view};
 ghost use Rattle.octets.specs.Outcomes.{AgreesUnlessMemory};
 ghost use Rattle.keys.specs.Limits.{limits};
 ghost use Rattle.objects.specs.Headers.{all_members};
-ghost use Rattle.objects.specs.Jws.{jws_of, object_of_texts as object_of_jws_texts, signed_object as signed_object_of, signatures_of, headed_signature, signature_by, is_plain as is_plain_signature};
+ghost use Rattle.objects.specs.Jws.{IsMade, jws_of, object_of_texts as object_of_jws_texts, signed_object as signed_object_of, signatures_of, headed_signature, signature_by, is_plain as is_plain_signature};
 ghost use Rattle.objects.specs.Texts.{each};
 ghost use Rattle.objects.specs.Views.{header_view, jws_view, jws_texts_view, signature_view, decoded_view, headed_view};
 
+use crate::content::handed_in_is_octets;
 use crate::header::{has_no_crit, string_there};
 use crate::header_members::HeaderMembers;
 use crate::jws_texts::{JwsTexts, compact_texts, decoded_signatures, json_texts};
+use crate::laws::jws_objects_are_made;
 use crate::parameters::read_parameters;
 use crate::signature_list::SignatureList;
 use crate::texts::is_json_form;
 use crate::{Header, read_protected};
 use keys::{MOST_RECIPIENTS, read_json};
+use octets::laws::are_octets;
 use octets::{Refusal, needs, without_line_end};
 use serde_json::{Map, Value};
 use std::alloc::Global;
@@ -130,18 +133,14 @@ impl Jws {
     /// that derives a key from a password (RFC 7518 section 4.8), has no `p2s` that is the base64url text of at least 8 octets
     /// or no `p2c` that is a whole number from 1; and `Unsupported` where a header has a `crit`, whatever that holds (RFC 7515
     /// section 4.1.11).
-    #[tactic(auto, unfolding(crate::specs::Jws::jws_of, crate::specs::Jws::jws_texts))]
     pub fn read(alloc: Global, text: &[u8], detached: Option<Vec<u8>>) -> Result<Jws, Refusal>
-        ensures { AgreesUnlessMemory jws_view result (jws_of limits (option_map (λ c. c.items) detached) text.now) }
+        ensures exact { AgreesUnlessMemory jws_view result (jws_of limits (option_map (λ c. c.items) detached) text.now) }
+        ensures made { IfOk result (λ jws. IsMade limits (jws_view jws)) }
     {
-        if is_json_form(text) {
-            let value = read_json(alloc, text)?;
-            let texts = json_texts(alloc, &value, detached)?;
-            object_of_texts(alloc, texts)
-        } else {
-            let texts = compact_texts(alloc, without_line_end(text), detached)?;
-            object_of_texts(alloc, texts)
-        }
+        jws_objects_are_made();
+        are_octets(text);
+        handed_in_is_octets(&detached);
+        object_of_text(alloc, text, detached)
     }
 
     /// The octets of the payload.
@@ -157,6 +156,21 @@ impl Jws {
         ensures few { length result.now ≤ limits.recipients }
     {
         &self.signatures.list
+    }
+}
+
+/// The object of a text, in the form that it has.
+#[tactic(auto, unfolding(crate::specs::Jws::jws_of, crate::specs::Jws::jws_texts))]
+fn object_of_text(alloc: Global, text: &[u8], detached: Option<Vec<u8>>) -> Result<Jws, Refusal>
+    ensures { AgreesUnlessMemory jws_view result (jws_of limits (option_map (λ c. c.items) detached) text.now) }
+{
+    if is_json_form(text) {
+        let value = read_json(alloc, text)?;
+        let texts = json_texts(alloc, &value, detached)?;
+        object_of_texts(alloc, texts)
+    } else {
+        let texts = compact_texts(alloc, without_line_end(text), detached)?;
+        object_of_texts(alloc, texts)
     }
 }
 

@@ -5,7 +5,7 @@ ghost use Rattle.serde_json.specs.Data.{members_depth};
 ghost use Rattle.octets.specs.Outcomes.{AgreesUnlessMemory};
 ghost use Rattle.keys.specs.Json.{member_numbers_are_whole};
 ghost use Rattle.keys.specs.Limits.{limits};
-ghost use Rattle.objects.specs.Jws.{built, decoded_signature, nest_at_most as nest_at_most_parts, have_whole_numbers as have_whole_numbers_parts};
+ghost use Rattle.objects.specs.Jws.{AreMembers, IsMade, built, decoded_signature, nest_at_most as nest_at_most_parts, have_whole_numbers as have_whole_numbers_parts};
 ghost use Rattle.objects.specs.Texts.{each};
 ghost use Rattle.objects.specs.Views.{jws_view, jws_parts_view, signature_parts_view, decoded_view};
 
@@ -23,22 +23,30 @@ impl Jws {
     /// the next: `Json` where that nests more than 127 deep; `Number` where a header holds a number that is no whole number
     /// of 64 bits; `Form` where there is no signature; `Limit` where there are more than 64; `Base64` where the text of a
     /// protected header is no base64url text; and then those of `Jws::read`, from those of the protected headers on.
-    #[tactic(auto, unfolding(crate::specs::Jws::built))]
     pub fn build(alloc: Global, parts: JwsParts) -> Result<Jws, Refusal>
-        ensures { AgreesUnlessMemory jws_view result (built limits (jws_parts_view parts)) }
+        ensures exact { AgreesUnlessMemory jws_view result (built limits (jws_parts_view parts)) }
+        ensures made { IfOk result (λ jws. AreMembers (jws_parts_view parts) → IsMade limits (jws_view jws)) }
     {
-        let JwsParts {
-            payload,
-            signatures,
-        } = parts;
-        let depth = depth_of_each(signatures.len());
-        needs(nest_at_most(&signatures, depth), Refusal::Json)?;
-        needs(have_whole_numbers(&signatures), Refusal::Number)?;
-        needs(!signatures.is_empty(), Refusal::Form)?;
-        needs(signatures.len() <= MOST_RECIPIENTS, Refusal::Limit)?;
-        let signatures = decoded_parts(alloc, signatures)?;
-        signed_object(alloc, payload, signatures)
+        object_of_parts(alloc, parts)
     }
+}
+
+/// The object with these members.
+#[tactic(auto, unfolding(crate::specs::Jws::built))]
+fn object_of_parts(alloc: Global, parts: JwsParts) -> Result<Jws, Refusal>
+    ensures { AgreesUnlessMemory jws_view result (built limits (jws_parts_view parts)) }
+{
+    let JwsParts {
+        payload,
+        signatures,
+    } = parts;
+    let depth = depth_of_each(signatures.len());
+    needs(nest_at_most(&signatures, depth), Refusal::Json)?;
+    needs(have_whole_numbers(&signatures), Refusal::Number)?;
+    needs(!signatures.is_empty(), Refusal::Form)?;
+    needs(signatures.len() <= MOST_RECIPIENTS, Refusal::Limit)?;
+    let signatures = decoded_parts(alloc, signatures)?;
+    signed_object(alloc, payload, signatures)
 }
 
 /// No unprotected header nests deeper.

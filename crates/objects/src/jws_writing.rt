@@ -2,14 +2,17 @@
 //! hold.
 ghost use Rattle.std.specs.Prelude.{◌≡◌, ◌≢◌, map, option_map, None, Err, Ok, IfOk, IfErr, OnOk, OnErr, string_bytes};
 ghost use Rattle.octets.specs.Outcomes.{AgreesUnlessMemory};
+ghost use Rattle.keys.specs.Limits.{limits};
 ghost use Rattle.objects.specs.Frames.{IsJwsFrame};
-ghost use Rattle.objects.specs.Jws.{json_text, jws_compact_text, jws_text, is_compact as is_compact_object};
+ghost use Rattle.objects.specs.Jws.{IsMade, jws_of, json_text, jws_compact_text, jws_text, is_compact as is_compact_object};
+ghost use Rattle.objects.specs.Texts.{handed_in};
 ghost use Rattle.objects.specs.Views.{jws_view, signature_view, written_view};
 ghost use Rattle.objects.specs.Writing.{jws_written, with_first, with_signatures, with_signature, with_items};
 
 use crate::frames::{Texts, inside};
 use crate::header::has_members;
 use crate::jws::{Jws, Signature};
+use crate::laws::jws_texts_spell_objects;
 use keys::laws;
 use octets::laws::{base64url_decodes_exactly, base64url_has_url_characters};
 use octets::{Refusal, needs};
@@ -19,16 +22,20 @@ impl Jws {
     /// The JSON text, its members in byte order of their names: flattened where there is one signature, and else general
     /// (RFC 7515 section 7.2). An optional member that is empty is left out, and so is the payload where it is detached.
     pub fn to_json(&self, alloc: Global, detach: bool) -> Result<String, Refusal>
-        ensures { AgreesUnlessMemory string_bytes result (Ok (json_text detach (jws_view self.now))) }
+        ensures exact { AgreesUnlessMemory string_bytes result (Ok (json_text detach (jws_view self.now))) }
+        ensures spells { IsMade limits (jws_view self.now) → IfOk result (λ text. jws_of limits (handed_in detach (jws_view self.now).payload) (string_bytes text) ≡ Ok (jws_view self.now)) }
     {
+        jws_texts_spell_objects();
         self.whole(alloc, false, detach)
     }
 
     /// The compact text (RFC 7515 section 7.1), in which the part of a detached payload is empty. Refused with `NotCompact`
     /// where the object has more than one signature, or a header that is not protected.
     pub fn to_compact(&self, alloc: Global, detach: bool) -> Result<String, Refusal>
-        ensures { AgreesUnlessMemory string_bytes result (jws_compact_text detach (jws_view self.now)) }
+        ensures exact { AgreesUnlessMemory string_bytes result (jws_compact_text detach (jws_view self.now)) }
+        ensures spells { IsMade limits (jws_view self.now) → IfOk result (λ text. jws_of limits (handed_in detach (jws_view self.now).payload) (string_bytes text) ≡ Ok (jws_view self.now)) }
     {
+        jws_texts_spell_objects();
         self.whole(alloc, true, detach)
     }
 

@@ -29,14 +29,14 @@ unfolding jwe_fmt_answer
 returns-in_err-object-clause-answer g c whole whole_content may content_may =
     let t : whole ≡ c.deref.result.now = whole_is g.I.Input.consumed g.I.Input.is_at_end _ _ _ whole c.in_ok-text.ensures.whole.0 c.in_ok-text.ensures.whole.1 may ∙ sym c.deref.ensures.value in
     refused _ _ c.in_err-object.field-0.0 c.from_residual-in_err-object.result c.from_residual-in_err-object.ensures.1
-    (λ inside. rw (t, c.in_ok-beside.ensures.content whole_content content_may, (c.in_err-object.ensures (not_memory _ inside)).0))
+    (λ inside. rw (t, c.in_ok-beside.ensures.content whole_content content_may, (c.in_err-object.ensures.exact (not_memory _ inside)).0))
 
 pub returns-in_err-formed-clause-answer : goal.returns-in_err-formed-clause-answer
 unfolding jwe_fmt_answer
 returns-in_err-formed-clause-answer g c whole whole_content may content_may =
     let t : whole ≡ c.deref.result.now = whole_is g.I.Input.consumed g.I.Input.is_at_end _ _ _ whole c.in_ok-text.ensures.whole.0 c.in_ok-text.ensures.whole.1 may ∙ sym c.deref.ensures.value in
     refused _ _ c.in_err-formed.field-0.0 c.from_residual-in_err-formed.result c.from_residual-in_err-formed.ensures.1
-    (λ inside. rw (t, c.in_ok-beside.ensures.content whole_content content_may, c.in_ok-object.ensures, (c.in_err-formed.ensures (not_memory _ inside)).0))
+    (λ inside. rw (t, c.in_ok-beside.ensures.content whole_content content_may, c.in_ok-object.ensures.exact, (c.in_err-formed.ensures (not_memory _ inside)).0))
 
 pub returns-in_err-emit-clause-beginning : goal.returns-in_err-emit-clause-beginning
 returns-in_err-emit-clause-beginning g c =
@@ -47,7 +47,7 @@ returns-in_err-emit-clause-beginning g c =
     let t : whole ≡ c.deref.result.now = whole_is consumed at_end _ _ _ whole c.in_ok-text.ensures.whole.0 c.in_ok-text.ensures.whole.1 (seen_possible consumed at_end c.args.text.now c.read_to_end.new.input) ∙ sym c.deref.ensures.value in
     let d : given ≡ option_map (λ v. v.items) c.in_ok-beside.beside = c.in_ok-beside.ensures.content _ (seen_possible consumed at_end c.args.content.now c.read_beside.new.content) in
     let a : jwe_fmt_answer c.args.compact c.args.detach given whole ≡ Ok (formatted c.args.detach (jwe_view c.in_ok-object.object) (string_bytes c.in_ok-formed.formed))
-    = answer_is c.args.compact c.args.detach given whole _ _ (rw (t, d) c.in_ok-object.ensures) c.in_ok-formed.ensures in
+    = answer_is c.args.compact c.args.detach given whole _ _ (rw (t, d) c.in_ok-object.ensures.exact) c.in_ok-formed.ensures in
     at_refusal c.from_residual-in_err-emit.result
     (rw (c.in_ok-text.ensures.whole.1, beside_ended _ _ c.in_ok-beside.ensures.ends, a) (AppendsPrefixOf-kept _ _, rw (c.if-detach.true, ← c.ciphertext.ensures) c.in_err-emit.ensures.part))
 
@@ -58,7 +58,7 @@ returns-clause-answer g c whole whole_content may content_may =
     let t : whole ≡ c.deref.result.now = whole_is g.I.Input.consumed g.I.Input.is_at_end _ _ _ whole c.in_ok-text.ensures.whole.0 c.in_ok-text.ensures.whole.1 may ∙ sym c.deref.ensures.value in
     let d : handed_in c.args.given whole_content ≡ option_map (λ v. v.items) c.in_ok-beside.beside = c.in_ok-beside.ensures.content whole_content content_may in
     let a : jwe_fmt_answer c.args.compact c.args.detach (handed_in c.args.given whole_content) whole ≡ Ok (formatted c.args.detach object (string_bytes c.in_ok-formed.formed))
-    = answer_is c.args.compact c.args.detach (handed_in c.args.given whole_content) whole _ object (rw (t, d) c.in_ok-object.ensures) c.in_ok-formed.ensures in
+    = answer_is c.args.compact c.args.detach (handed_in c.args.given whole_content) whole _ object (rw (t, d) c.in_ok-object.ensures.exact) c.in_ok-formed.ensures in
     let beside : written c.if-detach.detached ≡ written c.args.detached.now ++ handed_out c.args.detach object.ciphertext = elim c.if-detach.branch [
       | then-detach+in_ok-emit w ↦ rw (w.if-detach.true, w.detached-is, ← w.ciphertext.ensures) w.in_ok-emit.ensures.all
       | else-detach w ↦ rw (w.if-detach.false, w.detached-is) (sym (append-nil _))
@@ -77,7 +77,7 @@ returns-clause-beginning g c =
     let t : whole ≡ c.deref.result.now = whole_is consumed at_end _ _ _ whole c.in_ok-text.ensures.whole.0 c.in_ok-text.ensures.whole.1 (seen_possible consumed at_end c.args.text.now c.read_to_end.new.input) ∙ sym c.deref.ensures.value in
     let d : given ≡ option_map (λ v. v.items) c.in_ok-beside.beside = c.in_ok-beside.ensures.content _ (seen_possible consumed at_end c.args.content.now c.read_beside.new.content) in
     let a : jwe_fmt_answer c.args.compact c.args.detach given whole ≡ Ok (formatted c.args.detach object (string_bytes c.in_ok-formed.formed))
-    = answer_is c.args.compact c.args.detach given whole _ object (rw (t, d) c.in_ok-object.ensures) c.in_ok-formed.ensures in
+    = answer_is c.args.compact c.args.detach given whole _ object (rw (t, d) c.in_ok-object.ensures.exact) c.in_ok-formed.ensures in
     let beside : written c.if-detach.detached ≡ written c.args.detached.now ++ handed_out c.args.detach object.ciphertext = elim c.if-detach.branch [
       | then-detach+in_ok-emit w ↦ rw (w.if-detach.true, w.detached-is, ← w.ciphertext.ensures) w.in_ok-emit.ensures.all
       | else-detach w ↦ rw (w.if-detach.false, w.detached-is) (sym (append-nil _))
