@@ -6,3 +6,4 @@ pub mod Table
 pub mod Agreement
 pub mod Draws
 pub mod Objects
+pub mod Headline
