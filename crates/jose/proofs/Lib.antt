@@ -7,3 +7,4 @@ pub mod Agreement
 pub mod Draws
 pub mod Objects
 pub mod Spared
+pub mod Headline

@@ -11,3 +11,4 @@ pub mod Jwk
 pub mod Meanings
 pub mod Answer
 pub mod Files
+pub mod Headline

@@ -10,6 +10,7 @@ mod command;
 mod commands;
 mod files;
 mod invocation;
+pub mod laws;
 mod ports;
 mod reading;
 mod reports;

@@ -1,0 +1,63 @@
+-- What the commands promise together: what is encrypted is decrypted, what is signed is verified, and what goes to compact form comes back.
+use Rattle.std.specs.Prelude.{◌≡◌, ℕ, Bool, true, false, List, [], ◌∷◌, ◌++◌, length, if◌then◌else◌, Contains, Option, Result, Ok}
+use Rattle.std.specs.List.{AllByRecursion}
+use Rattle.octets.specs.declared.refusal.Refusal.{Refusal}
+use Rattle.octets.specs.Octets.{IsOctets}
+use Rattle.octets.specs.Plan.{OutputTexts, plan_from, planned}
+use Rattle.keys.specs.declared.operation.Operation.TheVariants.{Verify}
+use Rattle.keys.specs.Keys.{OctetKey, allows}
+use Rattle.keys.specs.KeySets.{key_set}
+use Rattle.keys.specs.Limits.{limits}
+use Rattle.objects.specs.Jwe.{EncryptedObject, jwe_of}
+use Rattle.objects.specs.Jws.{SignedObject, jws_of}
+use Rattle.objects.specs.Texts.{handed_in, AreOctetsHandedIn}
+use Rattle.tokens.specs.Encrypting.{MayDecrypt, OpensNoOther}
+use Rattle.jose.specs.Jwe.{enc_answer, dec_answer}
+use Rattle.jose.specs.Jws.{sig_answer, ver_answer}
+
+-- ---- `jwe enc` and `jwe dec`
+
+-- the key text holds this key alone, as a key or as a set
+abbrev pub HoldsAlone : OctetKey → List ℕ → Type 0
+HoldsAlone key text = key_set limits text false ≡ Ok (key ∷ [])
+
+-- Where a plaintext is encrypted, what is written is the text of an object. Every text that spells this object, with the ciphertext in it
+-- or beside it, is decrypted to the plaintext with a text of one of the keys, which may decrypt and opens nothing else at the recipient
+-- of a key before it.
+abbrev pub EncryptedIsDecrypted : Type 0
+EncryptedIsDecrypted = (compact detach : Bool) (keys template random plaintext : List ℕ) (texts : OutputTexts) → IsOctets random → IsOctets plaintext
+    → planned (plan_from (enc_answer compact detach keys template) random) plaintext ≡ Ok texts
+    → (o : EncryptedObject) × ((jwe_of limits (handed_in detach texts.content) texts.text ≡ Ok o)
+    × ((before after : List OctetKey) (key : OctetKey) (key_text : List ℕ) (detached : Option (List ℕ)) (text : List ℕ)
+    → key_set limits keys true ≡ Ok (before ++ key ∷ after) → HoldsAlone key key_text
+    → MayDecrypt compact (before ++ key ∷ after) key template → OpensNoOther (length before) key o plaintext
+    → jwe_of limits detached text ≡ Ok o
+    → dec_answer key_text detached text ≡ Ok plaintext))
+
+-- ---- `jws sig` and `jws ver`
+
+-- the key text holds some of these keys and no others, each of which may verify
+abbrev pub HoldsSome : List OctetKey → List ℕ → Type 0
+HoldsSome keys text =
+    (held : List OctetKey) × ((key_set limits text false ≡ Ok held) × AllByRecursion (λ key. Contains keys key × (allows key Verify ≡ true)) held)
+
+-- Where keys sign a payload, what is written is the text of an object. Every text that spells this object, with the payload in it or
+-- beside it, is verified with a text of some of the keys, with `-a` and without, and the payload is written where it is asked for.
+abbrev pub SignedIsVerified : Type 0
+SignedIsVerified = (compact detach : Bool) (keys template payload : List ℕ) (texts : OutputTexts) → IsOctets payload
+    → planned (sig_answer compact detach keys template) payload ≡ Ok texts
+    → (o : SignedObject) × ((jws_of limits (handed_in detach texts.content) texts.text ≡ Ok o)
+    × ((signers : List OctetKey) (all wanted : Bool) (key_text : List ℕ) (detached : Option (List ℕ)) (text : List ℕ)
+    → key_set limits keys true ≡ Ok signers → HoldsSome signers key_text
+    → jws_of limits detached text ≡ Ok o
+    → ver_answer all wanted key_text detached text ≡ Ok (if wanted then payload else [])))
+
+-- ---- `jws fmt` and `jwe fmt`
+
+-- What is written in JSON form, then from this in compact form, and from this in JSON form again is the same as at first, with the content
+-- in each text or beside it.
+abbrev pub FormatsGoBack : (Bool → Bool → Option (List ℕ) → List ℕ → Result OutputTexts Refusal) → Type 0
+FormatsGoBack fmt = (beside_json beside_compact : Bool) (detached : Option (List ℕ)) (text : List ℕ) (json compact : OutputTexts) → AreOctetsHandedIn detached → IsOctets text
+    → fmt false beside_json detached text ≡ Ok json
+    → fmt true beside_compact (handed_in beside_json json.content) json.text ≡ Ok compact
+    → fmt false beside_json (handed_in beside_compact compact.content) compact.text ≡ Ok json
