@@ -97,7 +97,7 @@ returns-clause-content_first g c =
     let t : whole ≡ c.deref.result.now = whole_is consumed at_end _ _ _ whole c.in_ok-text.ensures.whole.0 c.in_ok-text.ensures.whole.1 (seen_possible consumed at_end c.args.text.now c.read_to_end.new.input) ∙ sym c.deref.ensures.value in
     let d : given ≡ option_map (λ v. v.items) c.in_ok-beside.beside = c.in_ok-beside.ensures.content _ (seen_possible consumed at_end c.args.content.now c.read_beside.new.content) in
     let a : jwe_fmt_answer c.args.compact c.args.detach given whole ≡ Ok (formatted c.args.detach object (string_bytes c.in_ok-formed.formed))
-    = answer_is c.args.compact c.args.detach given whole _ object (rw (t, d) c.in_ok-object.ensures) c.in_ok-formed.ensures in
+    = answer_is c.args.compact c.args.detach given whole _ object (rw (t, d) c.in_ok-object.ensures.exact) c.in_ok-formed.ensures in
     let beside : written c.if-detach.detached ≡ written c.args.detached.now ++ handed_out c.args.detach object.ciphertext = elim c.if-detach.branch [
       | then-detach+in_ok-emit w ↦ rw (w.if-detach.true, w.detached-is, ← w.ciphertext.ensures) w.in_ok-emit.ensures.all
       | else-detach w ↦ rw (w.if-detach.false, w.detached-is) (sym (append-nil _))
