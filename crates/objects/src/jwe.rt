@@ -140,8 +140,8 @@ impl Jwe {
         &self.recipients.list
     }
 
-    /// The joint header of one of its recipients: the members of the three headers, no two of which had a name in common where
-    /// the object was read or made.
+    /// The JOSE Header of one of its recipients (RFC 7516 section 4): the members of the three headers, no two of which have a
+    /// name in common.
     pub fn joint_header<'j>(&'j self, recipient: &'j Recipient) -> Header<'j>
         ensures { header_view result ≡ all_members (jwe_view self.now).protected_members (jwe_view self.now).unprotected (recipient_view recipient.now).header }
     {

@@ -96,7 +96,7 @@ impl Signature {
         &self.header.map
     }
 
-    /// The joint header: the members of both headers, which had no name in common where the object was read or made.
+    /// The JOSE Header (RFC 7515 section 4): the members of both headers, which have no name in common.
     pub fn joint_header(&self) -> Header<'_>
         ensures { header_view result ≡ all_members (signature_view self.now).protected_members no_members (signature_view self.now).header }
     {
