@@ -41,7 +41,7 @@ pub(crate) const RFC7516_RANDOM: &[u8] =
     b"\x04\xd3\x1f\xc5\x54\x9d\xfc\xfe\x0b\x64\x9d\xfa\x3f\xaa\x6a\xce\x6b\x7c\xd4\x2d\x6f\x6b\x09\xdb\xc8\xb1\x00\xf0\x8f\x9c\x2c\xcf\x03\x16\x3c\x0c\x2b\x43\x68\x69\x6c\x6c\x69\x63\x6f\x74\x68\x65";
 
 /// Its compact text.
-const RFC7516_A3: &str =
+pub(crate) const RFC7516_A3: &str =
     "eyJhbGciOiJBMTI4S1ciLCJlbmMiOiJBMTI4Q0JDLUhTMjU2In0.6KB707dM9YTIgHtLvtgWQ8mKwboJW3of9locizkDTHzBC2IlrT1oOQ.AxY8DCtDaGlsbGljb3RoZQ.KDlTtXchhZTGufMYmOYGS4HffxPSUrfmqCHXaI9wOGY.U0m_YmjN04DJvceFICbCVQ";
 
 /// The same object in flattened form.

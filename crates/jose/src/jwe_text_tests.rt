@@ -71,8 +71,13 @@ const COMPACT_TEXTS: &[(&str, Refusal)] = &[
     ("", Refusal::Form),
     ("...", Refusal::Form),
     (".....", Refusal::Form),
-    // Trailing bits.
+    // Trailing bits, in each part.
+    ("e3.....", Refusal::Form),
+    ("e31....", Refusal::Base64),
     ("e30.AB...", Refusal::Base64),
+    ("e30..AB..", Refusal::Base64),
+    ("e30...AB.", Refusal::Base64),
+    ("e30....AB", Refusal::Base64),
     // No `alg`.
     ("e30....", Refusal::Header),
     ("....", Refusal::Header),
@@ -92,9 +97,15 @@ const JSON_TEXTS: &[(&str, Refusal)] = &[
     ("{\"ciphertext\":1}", Refusal::Form),
     ("{\"ciphertext\":\"AB\",\"iv\":1}", Refusal::Form),
     ("{\"ciphertext\":\"AB\",\"header\":[]}", Refusal::Form),
+    ("{\"ciphertext\":\"AB\",\"tag\":1}", Refusal::Form),
+    ("{\"ciphertext\":\"AB\",\"unprotected\":1}", Refusal::Form),
+    ("{\"ciphertext\":\"AB\",\"aad\":null}", Refusal::Form),
+    ("{\"ciphertext\":\"AB\",\"protected\":{}}", Refusal::Form),
+    ("{\"ciphertext\":\"AB\",\"encrypted_key\":1}", Refusal::Form),
     // Lists that are none, or not of objects, or hold no recipient, and what may not stand beside one.
     ("{\"ciphertext\":\"\",\"recipients\":[]}", Refusal::Form),
     ("{\"ciphertext\":\"\",\"recipients\":{}}", Refusal::Form),
+    ("{\"ciphertext\":\"\",\"recipients\":null}", Refusal::Form),
     (
         "{\"ciphertext\":\"\",\"recipients\":[{},\"\"]}",
         Refusal::Form,
@@ -130,6 +141,23 @@ const JSON_TEXTS: &[(&str, Refusal)] = &[
     ),
     (
         "{\"ciphertext\":\"AB\",\"protected\":\"AA\"}",
+        Refusal::Base64,
+    ),
+    // Each member before the protected header.
+    (
+        "{\"ciphertext\":\"\",\"iv\":\"AB\",\"protected\":\"AA\"}",
+        Refusal::Base64,
+    ),
+    (
+        "{\"ciphertext\":\"\",\"tag\":\"AB\",\"protected\":\"AA\"}",
+        Refusal::Base64,
+    ),
+    (
+        "{\"ciphertext\":\"\",\"aad\":\"AB\",\"protected\":\"AA\"}",
+        Refusal::Base64,
+    ),
+    (
+        "{\"ciphertext\":\"\",\"encrypted_key\":\"AB\",\"protected\":\"AA\"}",
         Refusal::Base64,
     ),
 ];
@@ -171,6 +199,11 @@ const HEADERS: &[(&str, Refusal)] = &[
     ),
     (
         "{\"ciphertext\":\"\",\"unprotected\":{\"alg\":\"dir\"},\"recipients\":[{\"header\":{\"enc\":\"x\",\"zip\":1}},{\"header\":{\"enc\":\"y\"}}]}",
+        Refusal::Header,
+    ),
+    // Another `enc` of the third.
+    (
+        "{\"ciphertext\":\"\",\"unprotected\":{\"alg\":\"dir\"},\"recipients\":[{\"header\":{\"enc\":\"x\"}},{\"header\":{\"enc\":\"x\"}},{\"header\":{\"enc\":\"y\"}}]}",
         Refusal::Header,
     ),
     (

@@ -23,7 +23,7 @@ const MANY: &str =
     "{\"keys\":[{},{},{},{},{},{},{},{},{},{},{},{},{},{},{},{},{},{},{},{},{},{},{},{},{},{},{},{},{},{},{},{},{},{},{},{},{},{},{},{},{},{},{},{},{},{},{},{},{},{},{},{},{},{},{},{},{},{},{},{},{},{},{},{},{}]}";
 
 /// The words write this text of these inputs, or are refused and nothing is written.
-pub(crate) fn writes<R: Abort + AllocGlobal>(
+fn writes<R: Abort + AllocGlobal>(
     rt: &R,
     words: &[&str],
     text: &str,
@@ -104,6 +104,11 @@ fn names_each<R: Abort + AllocGlobal>(rt: &R, rows: &[(&str, Answer<'_>)]) -> Re
 const KEYS: &[(&str, Answer<'_>)] = &[
     (KEY, Answer::Text(NAME)),
     (SET, Answer::Text(NAMES)),
+    // A key of 65 octets (Python's `hashlib`).
+    (
+        "{\"kty\":\"oct\",\"k\":\"AAECAwQFBgcICQoLDA0ODxAREhMUFRYXGBkaGxwdHh8gISIjJCUmJygpKissLS4vMDEyMzQ1Njc4OTo7PD0-P0A\"}",
+        Answer::Text("RK2CO6hMp7UbHMs_vLAiRM19XcD_Dl9e4Vj5duqYuIM"),
+    ),
     ("{\"keys\":[]}", Answer::Refusal(Refusal::Key)),
     (MANY, Answer::Refusal(Refusal::Limit)),
 ];

@@ -71,6 +71,15 @@ const REFUSED: &[(&str, Refusal)] = &[
     // Lists that are none, or not of objects, or hold no signature, and what may not stand beside one.
     ("{\"payload\":\"YWJj\",\"signatures\":[]}", Refusal::Form),
     ("{\"payload\":\"YWJj\",\"signatures\":\"\"}", Refusal::Form),
+    ("{\"payload\":\"YWJj\",\"signatures\":null}", Refusal::Form),
+    (
+        "{\"payload\":\"YWJj\",\"signature\":\"\",\"protected\":null}",
+        Refusal::Form,
+    ),
+    (
+        "{\"payload\":\"YWJj\",\"signature\":\"\",\"header\":null}",
+        Refusal::Form,
+    ),
     ("{\"payload\":\"YWJj\",\"signatures\":[1]}", Refusal::Form),
     ("{\"payload\":\"YWJj\",\"signatures\":[{}]}", Refusal::Form),
     (

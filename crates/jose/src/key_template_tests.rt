@@ -72,6 +72,10 @@ const REFUSED_TEMPLATES: &[(&str, Refusal)] = &[
     ("{\"keys\":[]}", Refusal::Key),
     ("{\"kty\":\"EC\"}", Refusal::Key),
     ("{\"use\":1}", Refusal::Key),
+    ("{\"alg\":1}", Refusal::Key),
+    ("{\"kid\":1,\"bytes\":16}", Refusal::Key),
+    ("{\"key_ops\":\"x\",\"bytes\":16}", Refusal::Key),
+    ("{\"key_ops\":[1],\"bytes\":16}", Refusal::Key),
     ("{\"bytes\":0}", Refusal::Key),
     ("{\"bytes\":\"16\"}", Refusal::Key),
     ("{\"bytes\":-1}", Refusal::Key),
@@ -81,6 +85,10 @@ const REFUSED_TEMPLATES: &[(&str, Refusal)] = &[
     ("{\"alg\":\"dir\"}", Refusal::NoAlgorithm),
     ("{\"alg\":\"HS256\",\"bytes\":16}", Refusal::KeyDoesNotFit),
     ("{\"bytes\":17}", Refusal::Random),
+    // The first cause is told: numbers, the template, the limit, the algorithm.
+    ("{\"bytes\":1.0,\"k\":\"\"}", Refusal::Number),
+    ("{\"k\":\"AA\",\"bytes\":5000,\"alg\":\"x\"}", Refusal::Key),
+    ("{\"bytes\":4097,\"alg\":\"x\"}", Refusal::Limit),
 ];
 
 #[test]
@@ -100,6 +108,29 @@ fn expect_nested<R: Abort + AllocGlobal>(rt: &R, depth: usize, refusal: Option<R
 fn a_key_nests_at_most_64_deep(rt: HostRuntime) {
     expect_nested(&rt, 63, None);
     expect_nested(&rt, 64, Some(Refusal::Limit));
+}
+
+/// Templates whose member `x` is a list that is too deep: what comes before that, and that it comes before the draw.
+const DEEP_TEMPLATES: &[(&str, Refusal)] = &[
+    ("{\"alg\":\"x\",\"x\":", Refusal::Unsupported),
+    ("{\"alg\":\"dir\",\"x\":", Refusal::NoAlgorithm),
+    (
+        "{\"alg\":\"HS256\",\"bytes\":31,\"x\":",
+        Refusal::KeyDoesNotFit,
+    ),
+    ("{\"alg\":\"HS256\",\"x\":", Refusal::Limit),
+];
+
+fn expect_deep<R: Abort + AllocGlobal>(rt: &R, start: &str, refusal: Refusal) {
+    let text = nested(rt.alloc(), start, 70, "}").expect(rt, "memory");
+    expect_refusal(rt, text.as_str(), 0, Some(refusal));
+}
+
+#[test]
+fn the_depth_is_asked_last_and_before_the_draw(rt: HostRuntime) {
+    for &(start, refusal) in DEEP_TEMPLATES {
+        expect_deep(&rt, start, refusal);
+    }
 }
 
 /// The base64url texts of the octets 0, 1, 2 and on: 16, 24, 32, 48 and 64 of them.

@@ -52,7 +52,11 @@ fn main(rt: HostRuntime) -> ExitCode {
 #[cfg(test)]
 mod algorithm_tests;
 #[cfg(test)]
+mod building_tests;
+#[cfg(test)]
 mod detached_tests;
+#[cfg(test)]
+mod form_tests;
 #[cfg(test)]
 mod general_peer_tests;
 #[cfg(test)]
@@ -75,6 +79,8 @@ mod key_template_tests;
 mod key_tests;
 #[cfg(test)]
 mod long_tests;
+#[cfg(test)]
+mod order_tests;
 #[cfg(test)]
 mod password_tests;
 #[cfg(test)]

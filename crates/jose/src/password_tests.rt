@@ -471,6 +471,27 @@ pub(crate) fn expect_work<R: Abort + AllocGlobal>(
     Ok(())
 }
 
+/// `LINE` by `PASSWORD`, with salt inputs of the octets 0 to 64, 128 and 199, and a count of 1,000. In Python:
+///
+/// ```python
+/// derived = hashlib.pbkdf2_hmac(hash, b"password", alg + b"\0" + bytes(range(salt_len)), 1000, key_len)
+/// encrypted_key = aes_key_wrap(derived, bytes(range(16)))       # iv = bytes(range(16, 28))
+/// sealed = AESGCM(bytes(range(16))).encrypt(iv, line, protected)
+/// ```
+const LONG_SALTS: &[&str] = &[
+    "eyJhbGciOiJQQkVTMi1IUzI1NitBMTI4S1ciLCJlbmMiOiJBMTI4R0NNIiwicDJjIjoxMDAwLCJwMnMiOiJBQUVDQXdRRkJnY0lDUW9MREEwT0R4QVJFaE1VRlJZWEdCa2FHeHdkSGg4Z0lTSWpKQ1VtSnlncEtpc3NMUzR2TURFeU16UTFOamM0T1RvN1BEMC1QMEEifQ.z9yJ8Ys_60RwFFaDFbyQ-jabnkc8oaVv.EBESExQVFhcYGRob.iEd1yi8j2YFw_TybowebTFXPBOJE2g.Xzjo2y5UzGkzY5ZIcRvTdg",
+    "eyJhbGciOiJQQkVTMi1IUzM4NCtBMTkyS1ciLCJlbmMiOiJBMTI4R0NNIiwicDJjIjoxMDAwLCJwMnMiOiJBQUVDQXdRRkJnY0lDUW9MREEwT0R4QVJFaE1VRlJZWEdCa2FHeHdkSGg4Z0lTSWpKQ1VtSnlncEtpc3NMUzR2TURFeU16UTFOamM0T1RvN1BEMC1QMEJCUWtORVJVWkhTRWxLUzB4TlRrOVFVVkpUVkZWV1YxaFpXbHRjWFY1ZllHRmlZMlJsWm1kb2FXcHJiRzF1YjNCeGNuTjBkWFozZUhsNmUzeDlmbi1BIn0.07dOUBe34uRXHhfKNl7tAVXIpSYej5Sa.EBESExQVFhcYGRob.iEd1yi8j2YFw_TybowebTFXPBOJE2g.aPOItsEUxWTIc2y7EIazgg",
+    "eyJhbGciOiJQQkVTMi1IUzUxMitBMjU2S1ciLCJlbmMiOiJBMTI4R0NNIiwicDJjIjoxMDAwLCJwMnMiOiJBQUVDQXdRRkJnY0lDUW9MREEwT0R4QVJFaE1VRlJZWEdCa2FHeHdkSGg4Z0lTSWpKQ1VtSnlncEtpc3NMUzR2TURFeU16UTFOamM0T1RvN1BEMC1QMEJCUWtORVJVWkhTRWxLUzB4TlRrOVFVVkpUVkZWV1YxaFpXbHRjWFY1ZllHRmlZMlJsWm1kb2FXcHJiRzF1YjNCeGNuTjBkWFozZUhsNmUzeDlmbi1BZ1lLRGhJV0doNGlKaW91TWpZNlBrSkdTazVTVmxwZVltWnFibkoyZW42Q2hvcU9rcGFhbnFLbXFxNnl0cnEtd3NiS3p0TFcydDdpNXVydTh2YjZfd01IQ3c4VEZ4c2MifQ.cPLvlYe2IsBAGzqQEU2x5Wd8XBaY5-n-.EBESExQVFhcYGRob.iEd1yi8j2YFw_TybowebTFXPBOJE2g.DwCexK7oroeBi9EM9iV5yQ",
+];
+
+#[test]
+fn a_salt_may_be_long(rt: HostRuntime) -> Result<(), Fail> {
+    for text in LONG_SALTS {
+        decrypts(&rt, text, PASSWORD, Answer::Content(LINE))?;
+    }
+    Ok(())
+}
+
 /// Objects that are refused before any work.
 const NOT_READ: &[(&str, Refusal)] = &[
     (

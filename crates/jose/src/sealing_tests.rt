@@ -3,11 +3,14 @@
 //! program in Python built the objects from RFC 7516 and 7518 (AES and its key wrap by its package `cryptography` 48, and
 //! `hashlib`, `hmac`, `base64` and `json`) by the same key and the same random octets, 1 to 80, without a line of ours.
 use crate::detached_tests::{CIPHERTEXT, ENCRYPT_BESIDE, ENCRYPT_COMPACT_BESIDE};
-use crate::jwe_tests::{COMPACT, ENCRYPT, LINE, OCTETS, RFC7516_KEY, RFC7516_RANDOM};
+use crate::jwe_tests::{
+    COMPACT, ENCRYPT, LINE, OCTETS, RFC7516_KEY, RFC7516_RANDOM, decrypts_what_is_written,
+};
 use crate::long_tests::{LENGTHS, PIECE, expect_in_steps, repeated};
 use crate::peer_tests::KEY_16;
 use crate::tests::{Answer, Given, expect_done, expect_same, expect_written, outcome_of_failing};
 use octets::Refusal;
+use std::alloc::{AllocError, Global};
 use std::process::Abort;
 use std::test::Fail;
 
@@ -163,6 +166,55 @@ fn jwe_in_pieces_by_a192gcm(rt: HostRuntime) -> Result<(), Fail> {
 #[test]
 fn jwe_in_pieces_by_a256gcm(rt: HostRuntime) -> Result<(), Fail> {
     seals_each_length(&rt, nth_row(&rt, 5))
+}
+
+/// For each of `ROWS` the SHA-256, in base64url, of the JSON text of 21,000 octets with 1,050 octets of additional data: 1,000 and 50
+/// times the piece. In Python:
+///
+/// ```python
+/// cek, iv = octets[:cek_len], octets[cek_len:cek_len + iv_len]  # octets = bytes(range(1, 81))
+/// aad = protected + b"." + b64(piece * 50)                      # protected = b64(b'{"alg":"A128KW","enc":".."}')
+/// sealed = AESGCM(cek).encrypt(iv, piece * 1000, aad)           # and by AES-CBC and HMAC as RFC 7518 section 5.2.2 says
+/// text = json.dumps({"aad": b64(piece * 50), "ciphertext": b64(sealed[:-16]), "encrypted_key": b64(aes_key_wrap(key, cek)),
+///     "iv": b64(iv), "protected": protected, "tag": b64(sealed[-16:])}, separators=(",", ":"))
+/// b64(hashlib.sha256(text).digest())
+/// ```
+const WITH_AAD: &[&str] = &[
+    "HN4Rrpar16iUZ5j1R0Y1k3NaFrvW2KRctHQxSlDGh_0",
+    "g9fynBiWxLd8wKBgWB_mxKai6ByqacZonhKZAk8I9p0",
+    "PRl9CErL8_hEj7AlKROzSkAR7AUGbeIymSPZ38AFL54",
+    "jR84E2tLaaN223924x_CdxpzpijnmHTlMqdIO7qzIkc",
+    "ikURzEc27-Bytq5UwZxEqq_Y1sTUEJmt41Gn-XSVu40",
+    "OHkFML0wb-RHFW4hr5sDY35g1zfZKhJOh0iH8wSKh1Y",
+];
+
+/// The template with so many copies of the piece as additional data.
+pub(crate) fn with_aad(alloc: Global, count: usize, template: &str) -> Result<String, AllocError> {
+    let mut text = repeated(alloc, "{\"aad\":\"", PIECE.1, count, "\",")?;
+    text.push_str(template.strip_prefix('{').unwrap_or(""))?;
+    Ok(text)
+}
+
+/// Long content with long additional data becomes what has this digest, and comes back.
+fn seals_with_aad<R: Abort + AllocGlobal>(rt: &R, row: &Row, digest: &str) -> Result<(), Fail> {
+    let template = with_aad(rt.alloc(), 50, row.template)?;
+    let content = repeated(rt.alloc(), "", PIECE.0, 1000, "")?;
+    let given = Given {
+        text: &template,
+        content: content.as_bytes(),
+        keys: KEY_16,
+        random: OCTETS,
+    };
+    expect_in_steps(rt, &ENCRYPT, &given, Answer::Digest(digest.as_bytes()))?;
+    decrypts_what_is_written(rt, &ENCRYPT, &template, KEY_16, content.as_bytes())
+}
+
+#[test]
+fn jwe_with_long_additional_data(rt: HostRuntime) -> Result<(), Fail> {
+    for (n, digest) in WITH_AAD.iter().enumerate() {
+        seals_with_aad(&rt, nth_row(&rt, n), digest)?;
+    }
+    Ok(())
 }
 
 /// A content that fails at its first read leaves both outputs as they were, though the text before the ciphertext is known.

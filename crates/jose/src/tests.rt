@@ -36,7 +36,7 @@ pub(crate) const SIGN: [&str; 9] = [
 pub(crate) const VERIFY: [&str; 6] = ["jws", "ver", "-k", "keys", "-O", "payload"];
 
 /// How many octets each output takes, where there is room enough.
-pub(crate) const ROOM: usize = 100_000;
+pub(crate) const ROOM: usize = 3_000_000;
 
 /// What the inputs hold.
 #[derive(Clone, Copy)]
@@ -201,7 +201,7 @@ pub(crate) fn expect_written<R: Abort>(
 }
 
 /// The output is finished, and holds what has this SHA-256, in base64url.
-fn expect_digest<R: Abort>(rt: &R, output: &MemoryOutput, wanted: &[u8], at: &str) {
+pub(crate) fn expect_digest<R: Abort>(rt: &R, output: &MemoryOutput, wanted: &[u8], at: &str) {
     let mut octets = [0; 64];
     let len = digest(HashAlg::S256, output.octets(), &mut octets);
     let mut text = [0; 86];
@@ -285,6 +285,11 @@ const VERIFIED_TOKENS: &[(&str, Answer<'_>)] = &[
     ),
     (
         "eyJhbGciOiJub25lIiwiYWxnIjoiSFMyNTYifQ.YWJj.KrHGDLe8WG112iYP7SuohWclGysCs2_dHvkX-2d8AJ8",
+        Answer::Content(b"abc"),
+    ),
+    // Of a signed object `zip` is a member that is not known.
+    (
+        "eyJhbGciOiJIUzI1NiIsInppcCI6IkRFRiJ9.YWJj.dOXzdgcPTfkkuF4IySuV4nk6gvwW39vS973ZDi64Iko",
         Answer::Content(b"abc"),
     ),
 ];
@@ -781,11 +786,7 @@ const ENCODED: &[(&[u8], &str)] = &[
 ];
 
 /// The octets become this text.
-pub(crate) fn encodes<R: Abort + AllocGlobal>(
-    rt: &R,
-    content: &[u8],
-    text: &str,
-) -> Result<(), Fail> {
+fn encodes<R: Abort + AllocGlobal>(rt: &R, content: &[u8], text: &str) -> Result<(), Fail> {
     let given = Given {
         text: "",
         content,
@@ -804,11 +805,7 @@ fn octets_become_base64url(rt: HostRuntime) -> Result<(), Fail> {
 }
 
 /// The text becomes these octets, or is refused before any is written.
-pub(crate) fn decodes<R: Abort + AllocGlobal>(
-    rt: &R,
-    text: &str,
-    answer: Answer<'_>,
-) -> Result<(), Fail> {
+fn decodes<R: Abort + AllocGlobal>(rt: &R, text: &str, answer: Answer<'_>) -> Result<(), Fail> {
     let given = Given {
         text,
         content: b"",

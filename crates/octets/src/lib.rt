@@ -40,4 +40,6 @@ pub use whole::{Partial, draw, emit, read_piece, read_to_end, write_whole};
 pub use writer::{B64Writer, encode_onto};
 
 #[cfg(test)]
+mod device_tests;
+#[cfg(test)]
 mod tests;

@@ -1,8 +1,8 @@
 //! Outside vectors, and each device at work.
 use crate::{
     B64Writer, Fault, Input, MemoryInput, MemoryOutput, Output, Partial, ReaderInput, Refusal,
-    WriterOutput, b64_append, b64_decode, b64_encode, draw, emit, read_to_end, same_octets,
-    write_whole, xor_into,
+    WriterOutput, b64_append, b64_decode, b64_encode, draw, emit, read_piece, read_to_end,
+    same_octets, write_whole, xor_into,
 };
 use std::alloc::{AllocError, Global};
 use std::fmt::Debug;
@@ -11,12 +11,12 @@ use std::io::{Read, Write};
 use std::process::Abort;
 use std::test::Fail;
 
-fn expect_octets(rt: &impl Abort, found: &[u8], wanted: &[u8]) {
+pub(crate) fn expect_octets(rt: &impl Abort, found: &[u8], wanted: &[u8]) {
     assert_eq!(rt; *found, *wanted);
 }
 
 /// The two are the same; where they are not, the message says at what. An `assert_eq!` at each place would be proved anew.
-fn expect_same<T: PartialEq + Debug + Drop, N: Debug + Drop>(
+pub(crate) fn expect_same<T: PartialEq + Debug + Drop, N: Debug + Drop>(
     rt: &impl Abort,
     found: T,
     wanted: T,
@@ -320,7 +320,7 @@ impl<'a> Write for Slow<'a> {
 }
 
 /// So many times the same octets, and then others.
-fn repeated(
+pub(crate) fn repeated(
     alloc: Global,
     octets: &[u8],
     times: usize,
@@ -374,37 +374,93 @@ fn an_interrupted_and_slow_writer_is_no_fault(rt: HostRuntime) -> Result<(), Fai
     Ok(())
 }
 
-/// 70,000 octets, and their text.
+/// 2,100,001 octets.
+fn long_octets(alloc: Global) -> Result<Vec<u8>, AllocError> {
+    repeated(alloc, b"foo", 700_000, b"f")
+}
+
+/// Their text.
+fn long_text(alloc: Global) -> Result<Vec<u8>, AllocError> {
+    repeated(alloc, b"Zm9v", 700_000, b"Zg")
+}
+
 #[test]
 fn long_octets_have_their_text(rt: HostRuntime) -> Result<(), Fail> {
-    let octets = repeated(rt.alloc(), b"foo", 23_333, b"f")?;
-    let text = repeated(rt.alloc(), b"Zm9v", 23_333, b"Zg")?;
+    let octets = long_octets(rt.alloc())?;
+    let text = long_text(rt.alloc())?;
     expect_octets(&rt, b64_encode(rt.alloc(), &octets)?.as_bytes(), &text);
     expect_octets(&rt, &b64_decode(rt.alloc(), &text)?, &octets);
     expect_octets(&rt, &fed(&rt, rt.alloc(), &octets, 4000)?, &text);
+    Ok(())
+}
+
+#[test]
+fn a_long_text_is_appended(rt: HostRuntime) -> Result<(), Fail> {
     let mut all = String::from_str(rt.alloc(), "Zm9v")?;
-    b64_append(&mut all, &octets)?;
-    let text = repeated(rt.alloc(), b"Zm9v", 23_334, b"Zg")?;
+    b64_append(&mut all, &long_octets(rt.alloc())?)?;
+    let text = repeated(rt.alloc(), b"Zm9v", 700_001, b"Zg")?;
     expect_octets(&rt, all.as_bytes(), &text);
     Ok(())
 }
 
 #[test]
 fn long_octets_are_read(rt: HostRuntime) -> Result<(), Fail> {
-    let octets = repeated(rt.alloc(), b"foo", 23_333, b"f")?;
-    for step in [1, 4096, 70_000usize] {
+    let octets = long_octets(rt.alloc())?;
+    for step in [4096, 3_000_000usize] {
         let mut input = MemoryInput::new(&octets, step);
         expect_octets(&rt, &read_to_end(rt.alloc(), &mut input)?, &octets);
     }
-    let mut input = ReaderInput::new(Slow::new(rt.alloc(), &octets));
+    let mut input = ReaderInput::new(octets.as_slice());
     expect_octets(&rt, &read_to_end(rt.alloc(), &mut input)?, &octets);
     Ok(())
 }
 
 #[test]
-fn long_octets_are_written(rt: HostRuntime) -> Result<(), Fail> {
+fn slow_octets_are_read(rt: HostRuntime) -> Result<(), Fail> {
     let octets = repeated(rt.alloc(), b"foo", 23_333, b"f")?;
-    let mut out = MemoryOutput::new(rt.alloc(), 140_000)?;
+    let mut input = MemoryInput::new(&octets, 1);
+    expect_octets(&rt, &read_to_end(rt.alloc(), &mut input)?, &octets);
+    let mut input = ReaderInput::new(Slow::new(rt.alloc(), &octets));
+    expect_octets(&rt, &read_to_end(rt.alloc(), &mut input)?, &octets);
+    Ok(())
+}
+
+/// The input's next pieces, which are these octets, and then the end.
+fn expect_pieces(rt: &impl Abort, input: &mut MemoryInput<'_>, octets: &[u8]) {
+    let mut buf = [0u8; 4096];
+    for piece in octets.chunks(4096) {
+        let read = read_piece(input, &mut buf);
+        expect_same(rt, read, Ok(piece.len()), "a piece");
+        assert!(rt; piece.len() <= 4096);
+        expect_octets(rt, &buf[..piece.len()], piece);
+    }
+    expect_same(rt, read_piece(input, &mut buf), Ok(0), "the end");
+}
+
+#[test]
+fn long_octets_are_read_in_pieces(rt: HostRuntime) -> Result<(), Fail> {
+    let octets = long_octets(rt.alloc())?;
+    expect_pieces(&rt, &mut MemoryInput::new(&octets, 5000), &octets);
+    Ok(())
+}
+
+#[test]
+fn long_octets_are_drawn(rt: HostRuntime) -> Result<(), Fail> {
+    let octets = long_octets(rt.alloc())?;
+    let mut out = repeated(rt.alloc(), b"\0", octets.len(), b"")?;
+    for step in [4096, 3_000_000usize] {
+        let mut random = MemoryInput::new(&octets, step);
+        expect_same(&rt, draw(&mut random, &mut out), Ok(()), step);
+        expect_octets(&rt, &out, &octets);
+        out.fill(0);
+    }
+    Ok(())
+}
+
+#[test]
+fn long_octets_are_written(rt: HostRuntime) -> Result<(), Fail> {
+    let octets = long_octets(rt.alloc())?;
+    let mut out = MemoryOutput::new(rt.alloc(), 4_200_002)?;
     expect_same(&rt, write_whole(&mut out, &octets), Ok(()), "the first");
     expect_octets(&rt, out.octets(), &octets);
     expect_same(&rt, emit(&mut out, &octets), Ok(()), "the second");
@@ -414,13 +470,13 @@ fn long_octets_are_written(rt: HostRuntime) -> Result<(), Fail> {
 
 #[test]
 fn long_octets_are_added_and_compared(rt: HostRuntime) -> Result<(), Fail> {
-    let octets = repeated(rt.alloc(), b"foo", 23_333, b"f")?;
-    let mut other = repeated(rt.alloc(), b"oof", 23_333, b"o")?;
+    let octets = long_octets(rt.alloc())?;
+    let mut other = repeated(rt.alloc(), b"oof", 700_000, b"o")?;
     assert!(rt; !same_octets(&octets, &other));
     assert!(rt; octets.len() == other.len());
     xor_into(&mut other, &octets);
     // 'o' ^ 'f' is 9.
-    let sum = repeated(rt.alloc(), b"\x09\x00\x09", 23_333, b"\x09")?;
+    let sum = repeated(rt.alloc(), b"\x09\x00\x09", 700_000, b"\x09")?;
     expect_octets(&rt, &other, &sum);
     assert!(rt; same_octets(&other, &sum));
     Ok(())

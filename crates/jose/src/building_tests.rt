@@ -1,0 +1,450 @@
+//! Objects that are made of their members, and the texts around a content and what it is signed or sealed by.
+use crate::jwe_tests::RFC7516_A3;
+use crate::tests::{ABC, expect_same};
+use objects::{Jwe, JweParts, Jws, JwsParts, RecipientParts, SignatureParts};
+use octets::Refusal;
+use serde_json::{Map, Value};
+use std::alloc::{AllocError, Global};
+use std::process::Abort;
+
+/// The members of a JSON object, whose numbers may be any.
+fn members<R: Abort + AllocGlobal>(rt: &R, text: &str) -> Map<String, Value> {
+    match Value::from_str(rt.alloc(), text) {
+        Ok(Value::Object(members)) => members,
+        _ => panic!(rt; "no object: {text}"),
+    }
+}
+
+fn octets<R: Abort + AllocGlobal>(rt: &R, octets: &[u8]) -> Vec<u8> {
+    Vec::from_slice(rt.alloc(), octets).expect(rt, "memory")
+}
+
+fn text<R: Abort + AllocGlobal>(rt: &R, text: &str) -> String {
+    String::from_str(rt.alloc(), text).expect(rt, "memory")
+}
+
+fn signature<R: Abort + AllocGlobal>(rt: &R, protected: &str, header: &str) -> SignatureParts {
+    SignatureParts {
+        protected: text(rt, protected),
+        header: members(rt, header),
+        signature: octets(rt, b"\x01\x02"),
+    }
+}
+
+/// A signed object with so many times the signature.
+fn signed<R: Abort + AllocGlobal>(
+    rt: &R,
+    protected: &str,
+    header: &str,
+    count: usize,
+) -> Result<Jws, Refusal> {
+    let mut signatures = Vec::new(rt.alloc());
+    for _ in 0..count {
+        let pushed = signatures.push(signature(rt, protected, header));
+        assert!(rt; pushed.is_ok());
+    }
+    let payload = octets(rt, b"abc");
+    let parts = JwsParts {
+        payload,
+        signatures,
+    };
+    Jws::build(rt.alloc(), parts)
+}
+
+/// A protected header, an unprotected one, of how many signatures they are, and what refuses the object.
+const SIGNED: &[(&str, &str, usize, Option<Refusal>)] = &[
+    // Whole records, of one signature and of 64.
+    ("eyJhbGciOiJIUzI1NiJ9", "{}", 1, None),
+    ("eyJhbGciOiJIUzI1NiJ9", "{\"kid\":\"1\"}", 64, None),
+    ("", "{\"alg\":\"HS256\"}", 1, None),
+    // The text nests 127 deep at most: one signature has a header of 126.
+    (
+        "eyJhbGciOiJIUzI1NiJ9",
+        "{\"x\":[[[[[[[[[[[[[[[[[[[[[[[[[[[[[[[[[[[[[[[[[[[[[[[[[[[[[[[[[[[[[[[[[[[[[[[[[[[[[[[[[[[[[[[[[[[[[[[[[[[[[[[[[[[[[[[[[[[[[[[[[[[[[]]]]]]]]]]]]]]]]]]]]]]]]]]]]]]]]]]]]]]]]]]]]]]]]]]]]]]]]]]]]]]]]]]]]]]]]]]]]]]]]]]]]]]]]]]]]]]]]]]]]]]]]]]]]]]]]]]]]]]]]]]]]]}",
+        1,
+        None,
+    ),
+    (
+        "eyJhbGciOiJIUzI1NiJ9",
+        "{\"x\":[[[[[[[[[[[[[[[[[[[[[[[[[[[[[[[[[[[[[[[[[[[[[[[[[[[[[[[[[[[[[[[[[[[[[[[[[[[[[[[[[[[[[[[[[[[[[[[[[[[[[[[[[[[[[[[[[[[[[[[[[[[[[[]]]]]]]]]]]]]]]]]]]]]]]]]]]]]]]]]]]]]]]]]]]]]]]]]]]]]]]]]]]]]]]]]]]]]]]]]]]]]]]]]]]]]]]]]]]]]]]]]]]]]]]]]]]]]]]]]]]]]]]]]]]]]]}",
+        1,
+        Some(Refusal::Json),
+    ),
+    // A number that is not whole, none, too many, and what is wrong with the protected header.
+    (
+        "eyJhbGciOiJIUzI1NiJ9",
+        "{\"x\":[1.5]}",
+        1,
+        Some(Refusal::Number),
+    ),
+    ("eyJhbGciOiJIUzI1NiJ9", "{}", 0, Some(Refusal::Form)),
+    ("eyJhbGciOiJIUzI1NiJ9", "{}", 65, Some(Refusal::Limit)),
+    ("AB", "{}", 1, Some(Refusal::Base64)),
+    ("e30=", "{}", 1, Some(Refusal::Base64)),
+    ("ew", "{}", 1, Some(Refusal::Json)),
+    ("MS41", "{}", 1, Some(Refusal::Number)),
+    ("WzFd", "{}", 1, Some(Refusal::Header)),
+    // The joint header, and a `crit`.
+    (
+        "eyJhbGciOiJIUzI1NiJ9",
+        "{\"alg\":\"HS256\"}",
+        1,
+        Some(Refusal::Header),
+    ),
+    ("e30", "{}", 1, Some(Refusal::Header)),
+    ("", "{\"alg\":1}", 1, Some(Refusal::Header)),
+    (
+        "eyJhbGciOiJIUzI1NiJ9",
+        "{\"crit\":[]}",
+        1,
+        Some(Refusal::Unsupported),
+    ),
+    ("eyJhbGciOiJIUzI1NiJ9", "{\"zip\":1}", 1, None),
+];
+
+#[test]
+fn a_signed_object_is_made_or_refused(rt: HostRuntime) {
+    for (protected, header, count, refusal) in SIGNED {
+        let found = signed(&rt, protected, header, *count).err();
+        expect_same(&rt, found, *refusal, (protected, header));
+    }
+}
+
+fn recipient<R: Abort + AllocGlobal>(rt: &R, header: &str) -> RecipientParts {
+    RecipientParts {
+        header: members(rt, header),
+        encrypted_key: octets(rt, b"\x03"),
+    }
+}
+
+/// An encrypted object with so many times the recipient.
+fn encrypted<R: Abort + AllocGlobal>(
+    rt: &R,
+    protected: &str,
+    unprotected: &str,
+    header: &str,
+    count: usize,
+) -> Result<Jwe, Refusal> {
+    let mut recipients = Vec::new(rt.alloc());
+    for _ in 0..count {
+        let pushed = recipients.push(recipient(rt, header));
+        assert!(rt; pushed.is_ok());
+    }
+    let parts = JweParts {
+        protected: text(rt, protected),
+        unprotected: members(rt, unprotected),
+        iv: octets(rt, b"\x04"),
+        aad: octets(rt, b"\x05"),
+        ciphertext: octets(rt, b"\x06"),
+        tag: octets(rt, b"\x07"),
+        recipients,
+    };
+    Jwe::build(rt.alloc(), parts)
+}
+
+/// A protected header, a shared one, that of each recipient, how many these are, and what refuses the object.
+const ENCRYPTED: &[(&str, &str, &str, usize, Option<Refusal>)] = &[
+    // Whole records, of one recipient and of 64.
+    (
+        "eyJlbmMiOiJBMTI4R0NNIn0",
+        "{}",
+        "{\"alg\":\"dir\"}",
+        1,
+        None,
+    ),
+    (
+        "eyJlbmMiOiJBMTI4R0NNIn0",
+        "{\"alg\":\"dir\"}",
+        "{\"kid\":\"1\"}",
+        64,
+        None,
+    ),
+    ("", "{\"alg\":\"dir\",\"enc\":\"A128GCM\"}", "{}", 1, None),
+    // The text nests 127 deep at most: one recipient has a header of 126, and so is the shared one.
+    (
+        "eyJlbmMiOiJBMTI4R0NNIn0",
+        "{}",
+        "{\"alg\":\"dir\",\"x\":[[[[[[[[[[[[[[[[[[[[[[[[[[[[[[[[[[[[[[[[[[[[[[[[[[[[[[[[[[[[[[[[[[[[[[[[[[[[[[[[[[[[[[[[[[[[[[[[[[[[[[[[[[[[[[[[[[[[[[[[[[[[[]]]]]]]]]]]]]]]]]]]]]]]]]]]]]]]]]]]]]]]]]]]]]]]]]]]]]]]]]]]]]]]]]]]]]]]]]]]]]]]]]]]]]]]]]]]]]]]]]]]]]]]]]]]]]]]]]]]]]]]]]]]]]}",
+        1,
+        None,
+    ),
+    (
+        "eyJlbmMiOiJBMTI4R0NNIn0",
+        "{}",
+        "{\"alg\":\"dir\",\"x\":[[[[[[[[[[[[[[[[[[[[[[[[[[[[[[[[[[[[[[[[[[[[[[[[[[[[[[[[[[[[[[[[[[[[[[[[[[[[[[[[[[[[[[[[[[[[[[[[[[[[[[[[[[[[[[[[[[[[[[[[[[[[[[]]]]]]]]]]]]]]]]]]]]]]]]]]]]]]]]]]]]]]]]]]]]]]]]]]]]]]]]]]]]]]]]]]]]]]]]]]]]]]]]]]]]]]]]]]]]]]]]]]]]]]]]]]]]]]]]]]]]]]]]]]]]]]}",
+        1,
+        Some(Refusal::Json),
+    ),
+    (
+        "eyJlbmMiOiJBMTI4R0NNIn0",
+        "{\"x\":[[[[[[[[[[[[[[[[[[[[[[[[[[[[[[[[[[[[[[[[[[[[[[[[[[[[[[[[[[[[[[[[[[[[[[[[[[[[[[[[[[[[[[[[[[[[[[[[[[[[[[[[[[[[[[[[[[[[[[[[[[[[[]]]]]]]]]]]]]]]]]]]]]]]]]]]]]]]]]]]]]]]]]]]]]]]]]]]]]]]]]]]]]]]]]]]]]]]]]]]]]]]]]]]]]]]]]]]]]]]]]]]]]]]]]]]]]]]]]]]]]]]]]]]]]}",
+        "{\"alg\":\"dir\"}",
+        1,
+        None,
+    ),
+    (
+        "eyJlbmMiOiJBMTI4R0NNIn0",
+        "{\"x\":[[[[[[[[[[[[[[[[[[[[[[[[[[[[[[[[[[[[[[[[[[[[[[[[[[[[[[[[[[[[[[[[[[[[[[[[[[[[[[[[[[[[[[[[[[[[[[[[[[[[[[[[[[[[[[[[[[[[[[[[[[[[[[]]]]]]]]]]]]]]]]]]]]]]]]]]]]]]]]]]]]]]]]]]]]]]]]]]]]]]]]]]]]]]]]]]]]]]]]]]]]]]]]]]]]]]]]]]]]]]]]]]]]]]]]]]]]]]]]]]]]]]]]]]]]]]}",
+        "{\"alg\":\"dir\"}",
+        1,
+        Some(Refusal::Json),
+    ),
+    // A number that is not whole, none, too many, and what is wrong with the protected header.
+    (
+        "eyJlbmMiOiJBMTI4R0NNIn0",
+        "{\"x\":1.5}",
+        "{\"alg\":\"dir\"}",
+        1,
+        Some(Refusal::Number),
+    ),
+    (
+        "eyJlbmMiOiJBMTI4R0NNIn0",
+        "{}",
+        "{\"alg\":\"dir\",\"x\":{\"y\":1e2}}",
+        1,
+        Some(Refusal::Number),
+    ),
+    (
+        "eyJlbmMiOiJBMTI4R0NNIn0",
+        "{}",
+        "{\"alg\":\"dir\"}",
+        0,
+        Some(Refusal::Form),
+    ),
+    (
+        "eyJlbmMiOiJBMTI4R0NNIn0",
+        "{}",
+        "{\"alg\":\"dir\"}",
+        65,
+        Some(Refusal::Limit),
+    ),
+    ("AB", "{}", "{}", 1, Some(Refusal::Base64)),
+    ("ew", "{}", "{}", 1, Some(Refusal::Json)),
+    ("MS41", "{}", "{}", 1, Some(Refusal::Number)),
+    ("WzFd", "{}", "{}", 1, Some(Refusal::Header)),
+    // The joint header, a `crit` and a `zip`.
+    (
+        "eyJlbmMiOiJBMTI4R0NNIn0",
+        "{\"alg\":\"dir\"}",
+        "{\"alg\":\"dir\"}",
+        1,
+        Some(Refusal::Header),
+    ),
+    (
+        "eyJlbmMiOiJBMTI4R0NNIn0",
+        "{\"enc\":\"A128GCM\"}",
+        "{\"alg\":\"dir\"}",
+        1,
+        Some(Refusal::Header),
+    ),
+    (
+        "eyJlbmMiOiJBMTI4R0NNIn0",
+        "{}",
+        "{}",
+        1,
+        Some(Refusal::Header),
+    ),
+    (
+        "eyJlbmMiOiJBMTI4R0NNIn0",
+        "{\"alg\":1}",
+        "{}",
+        1,
+        Some(Refusal::Header),
+    ),
+    ("", "{\"alg\":\"dir\"}", "{}", 1, Some(Refusal::Header)),
+    (
+        "eyJlbmMiOiJBMTI4R0NNIn0",
+        "{\"alg\":\"PBES2-HS256+A128KW\",\"p2c\":1}",
+        "{}",
+        1,
+        Some(Refusal::Header),
+    ),
+    (
+        "eyJlbmMiOiJBMTI4R0NNIn0",
+        "{\"alg\":\"dir\"}",
+        "{\"crit\":1}",
+        1,
+        Some(Refusal::Unsupported),
+    ),
+    (
+        "eyJlbmMiOiJBMTI4R0NNIn0",
+        "{\"alg\":\"dir\",\"zip\":\"DEF\"}",
+        "{}",
+        1,
+        Some(Refusal::Unsupported),
+    ),
+];
+
+#[test]
+fn an_encrypted_object_is_made_or_refused(rt: HostRuntime) {
+    for (protected, unprotected, header, count, refusal) in ENCRYPTED {
+        let found = encrypted(&rt, protected, unprotected, header, *count).err();
+        expect_same(&rt, found, *refusal, (protected, unprotected, header));
+    }
+}
+
+/// How a signed object of so many signatures is written.
+fn expect_jws<R: Abort + AllocGlobal>(rt: &R, header: &str, count: usize, json: &str) {
+    let made = signed(rt, "eyJhbGciOiJIUzI1NiJ9", header, count).expect(rt, "an object");
+    let written = made.to_json(rt.alloc(), false).expect(rt, "memory");
+    expect_same(rt, written.as_str(), json, header);
+}
+
+#[test]
+fn signed_objects_are_made_of_their_members(rt: HostRuntime) {
+    expect_jws(
+        &rt,
+        "{}",
+        1,
+        "{\"payload\":\"YWJj\",\"protected\":\"eyJhbGciOiJIUzI1NiJ9\",\"signature\":\"AQI\"}",
+    );
+    expect_jws(
+        &rt,
+        "{\"kid\":\"1\",\"a\":[-9223372036854775808,18446744073709551615]}",
+        2,
+        "{\"payload\":\"YWJj\",\"signatures\":[{\"header\":{\"a\":[-9223372036854775808,18446744073709551615],\"kid\":\"1\"},\"protected\":\"eyJhbGciOiJIUzI1NiJ9\",\"signature\":\"AQI\"},{\"header\":{\"a\":[-9223372036854775808,18446744073709551615],\"kid\":\"1\"},\"protected\":\"eyJhbGciOiJIUzI1NiJ9\",\"signature\":\"AQI\"}]}",
+    );
+}
+
+/// How an encrypted object of so many recipients is written.
+fn expect_jwe<R: Abort + AllocGlobal>(rt: &R, count: usize, json: &str) {
+    let made = encrypted(
+        rt,
+        "eyJlbmMiOiJBMTI4R0NNIn0",
+        "{\"x\":1}",
+        "{\"alg\":\"dir\"}",
+        count,
+    );
+    let made = made.expect(rt, "an object");
+    let written = made.to_json(rt.alloc(), false).expect(rt, "memory");
+    expect_same(rt, written.as_str(), json, count);
+}
+
+#[test]
+fn encrypted_objects_are_made_of_their_members(rt: HostRuntime) {
+    expect_jwe(
+        &rt,
+        1,
+        "{\"aad\":\"BQ\",\"ciphertext\":\"Bg\",\"encrypted_key\":\"Aw\",\"header\":{\"alg\":\"dir\"},\"iv\":\"BA\",\"protected\":\"eyJlbmMiOiJBMTI4R0NNIn0\",\"tag\":\"Bw\",\"unprotected\":{\"x\":1}}",
+    );
+    expect_jwe(
+        &rt,
+        2,
+        "{\"aad\":\"BQ\",\"ciphertext\":\"Bg\",\"iv\":\"BA\",\"protected\":\"eyJlbmMiOiJBMTI4R0NNIn0\",\"recipients\":[{\"encrypted_key\":\"Aw\",\"header\":{\"alg\":\"dir\"}},{\"encrypted_key\":\"Aw\",\"header\":{\"alg\":\"dir\"}}],\"tag\":\"Bw\",\"unprotected\":{\"x\":1}}",
+    );
+}
+
+/// The texts one after another, each with a star behind it.
+fn with_stars(
+    alloc: Global,
+    texts: Result<Vec<String>, Refusal>,
+) -> Result<Result<String, Refusal>, AllocError> {
+    let texts = match texts {
+        Ok(texts) => texts,
+        Err(refusal) => return Ok(Err(refusal)),
+    };
+    let mut all = String::new(alloc);
+    for text in &texts {
+        all.push_str(text)?;
+        all.push('*')?;
+    }
+    Ok(Ok(all))
+}
+
+/// The texts are these, or none are.
+fn expect_frame<R: Abort + AllocGlobal>(
+    rt: &R,
+    texts: Result<Vec<String>, Refusal>,
+    wanted: Result<&str, Refusal>,
+    at: &str,
+) {
+    let found = with_stars(rt.alloc(), texts).expect(rt, "memory");
+    match (found, wanted) {
+        (Ok(found), Ok(wanted)) => expect_same(rt, found.as_str(), wanted, at),
+        (found, wanted) => expect_same(rt, found.err(), wanted.err(), at),
+    }
+}
+
+/// A signed object, whether it is compact and whether the payload is detached, and its texts.
+const JWS_FRAMES: &[(&str, bool, bool, Result<&str, Refusal>)] = &[
+    (ABC, true, false, Ok("eyJhbGciOiJIUzI1NiJ9.*.**")),
+    (ABC, true, true, Ok("eyJhbGciOiJIUzI1NiJ9..**")),
+    (
+        ABC,
+        false,
+        false,
+        Ok("{\"payload\":\"*\",\"protected\":\"eyJhbGciOiJIUzI1NiJ9\",\"signature\":\"*\"}*"),
+    ),
+    (
+        ABC,
+        false,
+        true,
+        Ok("{\"protected\":\"eyJhbGciOiJIUzI1NiJ9\",\"signature\":\"*\"}*"),
+    ),
+    (
+        "{\"payload\":\"YWJj\",\"signatures\":[{\"header\":{\"alg\":\"x\"},\"signature\":\"AA\"},{\"protected\":\"eyJhbGciOiJIUzI1NiJ9\",\"signature\":\"AQ\"}]}",
+        false,
+        false,
+        Ok(
+            "{\"payload\":\"*\",\"signatures\":[{\"header\":{\"alg\":\"x\"},\"signature\":\"*\"},{\"protected\":\"eyJhbGciOiJIUzI1NiJ9\",\"signature\":\"*\"}]}*",
+        ),
+    ),
+    (
+        "{\"payload\":\"YWJj\",\"header\":{\"alg\":\"x\"},\"signature\":\"AA\"}",
+        true,
+        true,
+        Err(Refusal::NotCompact),
+    ),
+];
+
+#[test]
+fn a_signed_object_has_a_frame(rt: HostRuntime) {
+    for (text, compact, detach, wanted) in JWS_FRAMES {
+        let jws = Jws::read(rt.alloc(), text.as_bytes(), None).expect(&rt, "an object");
+        let texts = jws.frame(rt.alloc(), *compact, *detach);
+        expect_frame(&rt, texts, *wanted, text);
+    }
+}
+
+/// An encrypted object, whether it is compact and whether the ciphertext is detached, and its texts.
+const JWE_FRAMES: &[(&str, bool, bool, Result<&str, Refusal>)] = &[
+    (
+        RFC7516_A3,
+        true,
+        false,
+        Ok(
+            "eyJhbGciOiJBMTI4S1ciLCJlbmMiOiJBMTI4Q0JDLUhTMjU2In0.6KB707dM9YTIgHtLvtgWQ8mKwboJW3of9locizkDTHzBC2IlrT1oOQ.AxY8DCtDaGlsbGljb3RoZQ.*.**",
+        ),
+    ),
+    (
+        RFC7516_A3,
+        false,
+        true,
+        Ok(
+            "{\"encrypted_key\":\"6KB707dM9YTIgHtLvtgWQ8mKwboJW3of9locizkDTHzBC2IlrT1oOQ\",\"iv\":\"AxY8DCtDaGlsbGljb3RoZQ\",\"protected\":\"eyJhbGciOiJBMTI4S1ciLCJlbmMiOiJBMTI4Q0JDLUhTMjU2In0\",\"tag\":\"*\"}*",
+        ),
+    ),
+    (
+        "{\"aad\":\"YQ\",\"ciphertext\":\"AA\",\"header\":{\"alg\":\"dir\"},\"tag\":\"AQ\",\"unprotected\":{\"enc\":\"A128GCM\"}}",
+        false,
+        false,
+        Ok(
+            "{\"aad\":\"YQ\",\"ciphertext\":\"*\",\"header\":{\"alg\":\"dir\"},\"tag\":\"*\",\"unprotected\":{\"enc\":\"A128GCM\"}}*",
+        ),
+    ),
+    (
+        "{\"aad\":\"YQ\",\"ciphertext\":\"AA\",\"protected\":\"eyJhbGciOiJkaXIiLCJlbmMiOiJBMTI4R0NNIn0\"}",
+        true,
+        false,
+        Err(Refusal::NotCompact),
+    ),
+];
+
+#[test]
+fn an_encrypted_object_has_a_frame(rt: HostRuntime) {
+    for (text, compact, detach, wanted) in JWE_FRAMES {
+        let jwe = Jwe::read(rt.alloc(), text.as_bytes(), None).expect(&rt, "an object");
+        let texts = jwe.frame(rt.alloc(), *compact, *detach);
+        expect_frame(&rt, texts, *wanted, text);
+    }
+}

@@ -1,0 +1,421 @@
+//! Where several things are wrong the first cause is told: in each row those of later steps stand too.
+use crate::general_tests::with_many;
+use crate::jwe_tests::{COMPACT, DECRYPT, RFC7516_KEY};
+use crate::tests::{
+    Answer, Given, KEY, ROOM, SIGN, VERIFY, expect_done, outcome, outcome_of_failing,
+};
+use octets::Refusal;
+use std::process::Abort;
+use std::test::Fail;
+
+const COMPACT_JWS: [&str; 3] = ["jws", "fmt", "-c"];
+
+const COMPACT_JWE: [&str; 3] = ["jwe", "fmt", "-c"];
+
+/// The words refuse this text with these keys. There are no random octets.
+fn refuses<R: Abort + AllocGlobal>(
+    rt: &R,
+    words: &[&str],
+    text: &str,
+    keys: &str,
+    refusal: Refusal,
+) -> Result<(), Fail> {
+    let given = Given {
+        text,
+        content: b"abc",
+        keys,
+        random: b"",
+    };
+    let done = outcome(rt.alloc(), words, &given, 4096, ROOM)?;
+    expect_done(rt, &done, text, Answer::Refusal(refusal));
+    Ok(())
+}
+
+fn refuses_each<R: Abort + AllocGlobal>(
+    rt: &R,
+    words: &[&str],
+    rows: &[(&str, &str, Refusal)],
+) -> Result<(), Fail> {
+    for (text, keys, refusal) in rows {
+        refuses(rt, words, text, keys, *refusal)?;
+    }
+    Ok(())
+}
+
+/// Templates and keys, and the first cause.
+const SIGNING_TEXTS: &[(&str, &str, Refusal)] = &[
+    // The keys before the template, and their numbers before what they are.
+    ("{", "{\"keys\":1.0}", Refusal::Number),
+    ("{", "{\"keys\":[{}]}", Refusal::Key),
+    // The template's numbers, its form, its headers, and what is not supported, before the keys' algorithms.
+    (
+        "{\"x\":1.0}",
+        "{\"kty\":\"oct\",\"k\":\"a2tra2tra2tra2tra2tra2tra2s\"}",
+        Refusal::Number,
+    ),
+    (
+        "{\"protected\":{\"alg\":1},\"x\":{}}",
+        "{\"kty\":\"oct\",\"k\":\"a2tra2tra2tra2tra2tra2tra2s\"}",
+        Refusal::Form,
+    ),
+    (
+        "{\"protected\":{\"alg\":1,\"crit\":[]}}",
+        "{\"kty\":\"oct\",\"k\":\"a2tra2tra2tra2tra2tra2tra2s\"}",
+        Refusal::Header,
+    ),
+    (
+        "{\"protected\":{\"crit\":[]}}",
+        "{\"kty\":\"oct\",\"k\":\"a2tra2tra2tra2tra2tra2tra2s\"}",
+        Refusal::Unsupported,
+    ),
+];
+
+/// And then what the keys are for, the limits and the form.
+const SIGNING_KEYS: &[(&str, &str, Refusal)] = &[
+    // The algorithm of each key, in their order, before what the keys allow.
+    (
+        "{\"protected\":{\"x\":[[[[[[[[[[[[[[[[[[[[[[[[[[[[[[[[[[[[[[[[[[[[[[[[[[[[[[[[[[[[[[[[]]]]]]]]]]]]]]]]]]]]]]]]]]]]]]]]]]]]]]]]]]]]]]]]]]]]]]]]]]]]]]]]}}",
+        "{\"keys\":[{\"kty\":\"oct\",\"k\":\"a2tra2tra2tra2tra2tra2tra2tra2tra2tra2tra2s\",\"alg\":\"A256KW\"},{\"kty\":\"oct\",\"k\":\"a2tra2tra2tra2tra2tra2tra2s\"}]}",
+        Refusal::KeyDoesNotFit,
+    ),
+    (
+        "{\"protected\":{\"x\":[[[[[[[[[[[[[[[[[[[[[[[[[[[[[[[[[[[[[[[[[[[[[[[[[[[[[[[[[[[[[[[[]]]]]]]]]]]]]]]]]]]]]]]]]]]]]]]]]]]]]]]]]]]]]]]]]]]]]]]]]]]]]]]]}}",
+        "{\"keys\":[{\"kty\":\"oct\",\"k\":\"a2tra2tra2tra2tra2tra2tra2tra2tra2tra2tra2s\",\"use\":\"enc\"},{\"kty\":\"oct\",\"k\":\"a2tra2tra2tra2tra2tra2tra2s\"}]}",
+        Refusal::NoAlgorithm,
+    ),
+    // What the keys allow before the limits, and these before the form.
+    (
+        "{\"protected\":{\"x\":[[[[[[[[[[[[[[[[[[[[[[[[[[[[[[[[[[[[[[[[[[[[[[[[[[[[[[[[[[[[[[[[]]]]]]]]]]]]]]]]]]]]]]]]]]]]]]]]]]]]]]]]]]]]]]]]]]]]]]]]]]]]]]]]},\"header\":{\"y\":1}}",
+        "{\"kty\":\"oct\",\"k\":\"a2tra2tra2tra2tra2tra2tra2tra2tra2tra2tra2s\",\"use\":\"enc\"}",
+        Refusal::KeyDoesNotFit,
+    ),
+    (
+        "{\"protected\":{\"x\":[[[[[[[[[[[[[[[[[[[[[[[[[[[[[[[[[[[[[[[[[[[[[[[[[[[[[[[[[[[[[[[[]]]]]]]]]]]]]]]]]]]]]]]]]]]]]]]]]]]]]]]]]]]]]]]]]]]]]]]]]]]]]]]]},\"header\":{\"y\":1}}",
+        "{\"kty\":\"oct\",\"k\":\"a2tra2tra2tra2tra2tra2tra2tra2tra2tra2tra2s\"}",
+        Refusal::Limit,
+    ),
+    (
+        "{\"header\":{\"y\":1}}",
+        "{\"kty\":\"oct\",\"k\":\"a2tra2tra2tra2tra2tra2tra2tra2tra2tra2tra2s\"}",
+        Refusal::NotCompact,
+    ),
+];
+
+#[test]
+fn signing_tells_the_first_cause(rt: HostRuntime) -> Result<(), Fail> {
+    refuses_each(&rt, &SIGN, SIGNING_TEXTS)?;
+    refuses_each(&rt, &SIGN, SIGNING_KEYS)
+}
+
+/// Templates and keys, and the first cause.
+const ENCRYPTING_TEXTS: &[(&str, &str, Refusal)] = &[
+    // The keys before the template, and their numbers before what they are.
+    ("{", "{\"keys\":1.0}", Refusal::Number),
+    ("{", "{\"keys\":[{}]}", Refusal::Key),
+    // The template's numbers, its form, its base64url texts, its headers, and what is not supported, before the keys' algorithms.
+    (
+        "{\"x\":1.0}",
+        "{\"kty\":\"oct\",\"k\":\"a2tra2tra2tra2tra2tra2tra2s\"}",
+        Refusal::Number,
+    ),
+    (
+        "{\"aad\":\"!\",\"x\":{}}",
+        "{\"kty\":\"oct\",\"k\":\"a2tra2tra2tra2tra2tra2tra2s\"}",
+        Refusal::Form,
+    ),
+    (
+        "{\"aad\":\"!\",\"protected\":{\"alg\":1}}",
+        "{\"kty\":\"oct\",\"k\":\"a2tra2tra2tra2tra2tra2tra2s\"}",
+        Refusal::Base64,
+    ),
+    (
+        "{\"protected\":{\"alg\":1,\"crit\":[]}}",
+        "{\"kty\":\"oct\",\"k\":\"a2tra2tra2tra2tra2tra2tra2s\"}",
+        Refusal::Header,
+    ),
+    (
+        "{\"protected\":{\"crit\":[]}}",
+        "{\"kty\":\"oct\",\"k\":\"a2tra2tra2tra2tra2tra2tra2s\"}",
+        Refusal::Unsupported,
+    ),
+];
+
+/// And then what the keys are for, the limits and the form.
+const ENCRYPTING_KEYS: &[(&str, &str, Refusal)] = &[
+    // The algorithm of each key, in their order, and then whether a direct key is alone.
+    (
+        "{}",
+        "{\"keys\":[{\"kty\":\"oct\",\"k\":\"a2tra2tra2tra2tra2tra2tra2tra2tra2tra2tra2s\",\"alg\":\"HS256\"},{\"kty\":\"oct\",\"k\":\"a2tra2tra2tra2tra2tra2tra2s\"}]}",
+        Refusal::KeyDoesNotFit,
+    ),
+    (
+        "{}",
+        "{\"keys\":[{\"kty\":\"oct\",\"k\":\"a2tra2tra2tra2tra2tra2tra2tra2tra2tra2tra2s\",\"alg\":\"dir\"},{\"kty\":\"oct\",\"k\":\"a2tra2tra2tra2tra2tra2tra2s\"}]}",
+        Refusal::NoAlgorithm,
+    ),
+    (
+        "{}",
+        "{\"keys\":[{\"kty\":\"oct\",\"k\":\"a2tra2tra2tra2tra2tra2tra2s\",\"alg\":\"dir\"},{\"kty\":\"oct\",\"k\":\"a2tra2tra2tra2tra2traw\",\"use\":\"sig\"}]}",
+        Refusal::Header,
+    ),
+    // The content encryption before what the keys allow.
+    (
+        "{}",
+        "{\"kty\":\"oct\",\"k\":\"a2tra2tra2tra2tra2tra2tra2s\",\"alg\":\"dir\",\"use\":\"sig\"}",
+        Refusal::NoAlgorithm,
+    ),
+    // What the keys allow before the count, and this before the limits, and these before the form.
+    (
+        "{\"protected\":{\"p2c\":-1,\"x\":[[[[[[[[[[[[[[[[[[[[[[[[[[[[[[[[[[[[[[[[[[[[[[[[[[[[[[[[[[[[[[[[]]]]]]]]]]]]]]]]]]]]]]]]]]]]]]]]]]]]]]]]]]]]]]]]]]]]]]]]]]]]]]]]}}",
+        "{\"keys\":[{\"kty\":\"oct\",\"k\":\"a2tra2tra2tra2tra2traw\",\"use\":\"sig\"},{\"kty\":\"oct\",\"k\":\"a2tra2tra2s\",\"alg\":\"PBES2-HS256+A128KW\"}]}",
+        Refusal::KeyDoesNotFit,
+    ),
+    (
+        "{\"protected\":{\"p2c\":-1,\"x\":[[[[[[[[[[[[[[[[[[[[[[[[[[[[[[[[[[[[[[[[[[[[[[[[[[[[[[[[[[[[[[[[]]]]]]]]]]]]]]]]]]]]]]]]]]]]]]]]]]]]]]]]]]]]]]]]]]]]]]]]]]]]]]]]}}",
+        "{\"keys\":[{\"kty\":\"oct\",\"k\":\"a2tra2tra2tra2tra2traw\"},{\"kty\":\"oct\",\"k\":\"a2tra2tra2s\",\"alg\":\"PBES2-HS256+A128KW\"}]}",
+        Refusal::Header,
+    ),
+    (
+        "{\"protected\":{\"p2c\":999}}",
+        "{\"keys\":[{\"kty\":\"oct\",\"k\":\"a2tra2tra2tra2tra2traw\"},{\"kty\":\"oct\",\"k\":\"a2tra2tra2s\",\"alg\":\"PBES2-HS256+A128KW\"}]}",
+        Refusal::Limit,
+    ),
+    (
+        "{}",
+        "{\"keys\":[{\"kty\":\"oct\",\"k\":\"a2tra2tra2tra2tra2traw\"},{\"kty\":\"oct\",\"k\":\"a2tra2tra2s\",\"alg\":\"PBES2-HS256+A128KW\"}]}",
+        Refusal::NotCompact,
+    ),
+];
+
+#[test]
+fn encrypting_tells_the_first_cause(rt: HostRuntime) -> Result<(), Fail> {
+    refuses_each(&rt, &COMPACT, ENCRYPTING_TEXTS)?;
+    refuses_each(&rt, &COMPACT, ENCRYPTING_KEYS)
+}
+
+/// Signed objects, and the first cause.
+const SIGNED: &[(&str, &str, Refusal)] = &[
+    // The numbers of a JSON text before its form, and this before base64url.
+    (
+        "{\"payload\":1.0}",
+        "{\"kty\":\"oct\",\"k\":\"a2tra2tra2tra2tra2tra2tra2s\"}",
+        Refusal::Number,
+    ),
+    (
+        "{\"payload\":\"!\",\"signatures\":[1]}",
+        "{\"kty\":\"oct\",\"k\":\"a2tra2tra2tra2tra2tra2tra2s\"}",
+        Refusal::Form,
+    ),
+    // Base64url before the protected header, and of that the text, the numbers and the form.
+    (
+        "ew.!.",
+        "{\"kty\":\"oct\",\"k\":\"a2tra2tra2tra2tra2tra2tra2s\"}",
+        Refusal::Base64,
+    ),
+    (
+        "ew..",
+        "{\"kty\":\"oct\",\"k\":\"a2tra2tra2tra2tra2tra2tra2s\"}",
+        Refusal::Json,
+    ),
+    (
+        "eyJjcml0IjoxLjB9..",
+        "{\"kty\":\"oct\",\"k\":\"a2tra2tra2tra2tra2tra2tra2s\"}",
+        Refusal::Number,
+    ),
+    (
+        "WyJjcml0Il0..",
+        "{\"kty\":\"oct\",\"k\":\"a2tra2tra2tra2tra2tra2tra2s\"}",
+        Refusal::Header,
+    ),
+    // The joint header before `crit`, and this before what the keys are for.
+    (
+        "eyJhbGciOjEsImNyaXQiOltdfQ..",
+        "{\"kty\":\"oct\",\"k\":\"a2tra2tra2tra2tra2tra2tra2s\"}",
+        Refusal::Header,
+    ),
+    (
+        "eyJhbGciOiJ4IiwiY3JpdCI6W119..",
+        "{\"kty\":\"oct\",\"k\":\"a2tra2tra2tra2tra2tra2tra2s\"}",
+        Refusal::Unsupported,
+    ),
+];
+
+/// And then those of verifying alone.
+const VERIFYING: &[(&str, &str, Refusal)] = &[
+    // The keys before the object.
+    ("{", "{\"keys\":1.0}", Refusal::Number),
+    ("{", "{\"keys\":[{}]}", Refusal::Key),
+    // What is supported before the keys that fit, and these before the signature.
+    (
+        "eyJhbGciOiJ4In0..",
+        "{\"kty\":\"oct\",\"k\":\"a2tra2tra2tra2tra2tra2tra2s\"}",
+        Refusal::Unsupported,
+    ),
+    (
+        "eyJhbGciOiJIUzI1NiJ9..",
+        "{\"kty\":\"oct\",\"k\":\"a2tra2tra2tra2tra2tra2tra2s\"}",
+        Refusal::KeyDoesNotFit,
+    ),
+    (
+        "eyJhbGciOiJIUzI1NiJ9..",
+        "{\"kty\":\"oct\",\"k\":\"a2tra2tra2tra2tra2tra2tra2tra2tra2tra2tra2s\"}",
+        Refusal::NotOpened,
+    ),
+];
+
+#[test]
+fn verifying_tells_the_first_cause(rt: HostRuntime) -> Result<(), Fail> {
+    refuses_each(&rt, &VERIFY, SIGNED)?;
+    refuses_each(&rt, &COMPACT_JWS, SIGNED)?;
+    refuses_each(&rt, &VERIFY, VERIFYING)
+}
+
+/// Encrypted objects, and the first cause.
+const ENCRYPTED: &[(&str, &str, Refusal)] = &[
+    // The numbers of a JSON text before its form, and this before base64url.
+    (
+        "{\"ciphertext\":1.0}",
+        "{\"kty\":\"oct\",\"k\":\"a2tra2tra2tra2tra2tra2tra2s\"}",
+        Refusal::Number,
+    ),
+    (
+        "{\"ciphertext\":\"!\",\"recipients\":[1]}",
+        "{\"kty\":\"oct\",\"k\":\"a2tra2tra2tra2tra2tra2tra2s\"}",
+        Refusal::Form,
+    ),
+    // Base64url before the protected header, and of that the text, the numbers and the form.
+    (
+        "ew.!...",
+        "{\"kty\":\"oct\",\"k\":\"a2tra2tra2tra2tra2tra2tra2s\"}",
+        Refusal::Base64,
+    ),
+    (
+        "ew....",
+        "{\"kty\":\"oct\",\"k\":\"a2tra2tra2tra2tra2tra2tra2s\"}",
+        Refusal::Json,
+    ),
+    (
+        "eyJjcml0IjoxLjB9....",
+        "{\"kty\":\"oct\",\"k\":\"a2tra2tra2tra2tra2tra2tra2s\"}",
+        Refusal::Number,
+    ),
+    (
+        "WyJjcml0Il0....",
+        "{\"kty\":\"oct\",\"k\":\"a2tra2tra2tra2tra2tra2tra2s\"}",
+        Refusal::Header,
+    ),
+    // The joint header before `crit`, and this before what the keys are for.
+    (
+        "eyJhbGciOjEsImNyaXQiOltdfQ....",
+        "{\"kty\":\"oct\",\"k\":\"a2tra2tra2tra2tra2tra2tra2s\"}",
+        Refusal::Header,
+    ),
+    (
+        "eyJhbGciOiJ4IiwiZW5jIjoieCIsImNyaXQiOltdfQ....",
+        "{\"kty\":\"oct\",\"k\":\"a2tra2tra2tra2tra2tra2tra2s\"}",
+        Refusal::Unsupported,
+    ),
+];
+
+/// And then those of decrypting alone.
+const DECRYPTING: &[(&str, &str, Refusal)] = &[
+    // The keys before the object.
+    ("{", "{\"keys\":1.0}", Refusal::Number),
+    ("{", "{\"keys\":[{}]}", Refusal::Key),
+    // What is supported before the keys that fit, these before the count, and this before what opens.
+    (
+        "eyJhbGciOiJ4IiwiZW5jIjoiQTEyOEdDTSJ9....",
+        "{\"kty\":\"oct\",\"k\":\"a2tra2tra2tra2tra2tra2tra2s\"}",
+        Refusal::Unsupported,
+    ),
+    (
+        "eyJhbGciOiJQQkVTMi1IUzI1NitBMTI4S1ciLCJlbmMiOiJBMTI4R0NNIiwicDJjIjoxMDAwMDAxLCJwMnMiOiJBQUVDQXdRRkJnYyJ9....",
+        "{\"kty\":\"oct\",\"k\":\"a2tra2tra2tra2tra2tra2tra2s\",\"use\":\"sig\"}",
+        Refusal::KeyDoesNotFit,
+    ),
+    (
+        "eyJhbGciOiJQQkVTMi1IUzI1NitBMTI4S1ciLCJlbmMiOiJBMTI4R0NNIiwicDJjIjoxMDAwMDAxLCJwMnMiOiJBQUVDQXdRRkJnYyJ9....",
+        "{\"kty\":\"oct\",\"k\":\"a2tra2tra2tra2tra2tra2tra2s\"}",
+        Refusal::Limit,
+    ),
+    (
+        "eyJhbGciOiJQQkVTMi1IUzI1NitBMTI4S1ciLCJlbmMiOiJBMTI4R0NNIiwicDJjIjoxLCJwMnMiOiJBQUVDQXdRRkJnYyJ9....",
+        "{\"kty\":\"oct\",\"k\":\"a2tra2tra2tra2tra2tra2tra2s\"}",
+        Refusal::NotOpened,
+    ),
+];
+
+#[test]
+fn decrypting_tells_the_first_cause(rt: HostRuntime) -> Result<(), Fail> {
+    refuses_each(&rt, &DECRYPT, ENCRYPTED)?;
+    refuses_each(&rt, &COMPACT_JWE, ENCRYPTED)?;
+    refuses_each(&rt, &DECRYPT, DECRYPTING)
+}
+
+/// A text with 65 times the element in a list is refused.
+fn refuses_many<R: Abort + AllocGlobal>(
+    rt: &R,
+    words: &[&str],
+    before: &str,
+    element: &str,
+    refusal: Refusal,
+) -> Result<(), Fail> {
+    let text = with_many(rt, before, element, 64, element, "]}")?;
+    refuses(rt, words, &text, "{\"kty\":\"oct\",\"k\":\"AA\"}", refusal)
+}
+
+/// The form comes before the limit of 64, and this before base64url and the protected headers.
+#[test]
+fn a_list_that_is_too_long_is_refused_after_its_form(rt: HostRuntime) -> Result<(), Fail> {
+    let signed = "{\"payload\":\"!\",\"signatures\":[";
+    refuses_many(&rt, &COMPACT_JWS, signed, "1", Refusal::Form)?;
+    let element = "{\"signature\":\"\",\"protected\":\"ew\"}";
+    refuses_many(&rt, &COMPACT_JWS, signed, element, Refusal::Limit)?;
+    refuses_many(&rt, &VERIFY, signed, element, Refusal::Limit)?;
+    let encrypted = "{\"ciphertext\":\"!\",\"recipients\":[";
+    refuses_many(&rt, &COMPACT_JWE, encrypted, "1", Refusal::Form)?;
+    refuses_many(&rt, &COMPACT_JWE, encrypted, "{}", Refusal::Limit)?;
+    refuses_many(&rt, &DECRYPT, encrypted, "{}", Refusal::Limit)
+}
+
+/// Of a set whose objects are no keys, what is no object comes before the limit of 64, and this before the keys.
+#[test]
+fn a_set_that_is_too_long_is_refused_before_its_keys(rt: HostRuntime) -> Result<(), Fail> {
+    let none = with_many(&rt, "{\"keys\":[", "1", 64, "1", "]}")?;
+    refuses(&rt, &SIGN, "{", &none, Refusal::Key)?;
+    refuses(&rt, &VERIFY, "{", &none, Refusal::Key)?;
+    let many = with_many(&rt, "{\"keys\":[", "{}", 64, "{}", "]}")?;
+    refuses(&rt, &SIGN, "{", &many, Refusal::Limit)?;
+    refuses(&rt, &DECRYPT, "{", &many, Refusal::Limit)
+}
+
+/// The words refuse this template where the content fails at its first read.
+fn refuses_before_content<R: Abort + AllocGlobal>(
+    rt: &R,
+    words: &[&str],
+    template: &str,
+    keys: &str,
+    refusal: Refusal,
+) -> Result<(), Fail> {
+    let given = Given {
+        text: template,
+        content: b"",
+        keys,
+        random: b"0123456789abcdef0123456789abcdef0123456789abcde",
+    };
+    let done = outcome_of_failing(rt.alloc(), words, &given)?;
+    expect_done(rt, &done, template, Answer::Refusal(refusal));
+    Ok(())
+}
+
+/// The form comes before the content is read, and so do the random octets, one too few.
+#[test]
+fn a_content_is_read_last(rt: HostRuntime) -> Result<(), Fail> {
+    let template = "{\"header\":{\"y\":1}}";
+    refuses_before_content(&rt, &SIGN, template, KEY, Refusal::NotCompact)?;
+    let template = "{\"aad\":\"YQ\"}";
+    refuses_before_content(&rt, &COMPACT, template, RFC7516_KEY, Refusal::NotCompact)?;
+    refuses_before_content(&rt, &COMPACT, "{}", RFC7516_KEY, Refusal::Random)?;
+    let template = "{\"protected\":{\"enc\":\"A128GCM\"}}";
+    refuses_before_content(&rt, &COMPACT, template, RFC7516_KEY, Refusal::Read)
+}

@@ -1,0 +1,302 @@
+//! Devices over readers and writers that fail, are interrupted, or have long texts to pass.
+use crate::tests::{expect_octets, expect_same, repeated};
+use crate::{Fault, Input, Output, ReaderInput, Refusal, WriterOutput, draw, write_whole};
+use std::alloc::Global;
+use std::io;
+use std::io::{ErrorKind, Read, Write};
+use std::process::Abort;
+use std::test::Fail;
+
+/// A reader and a writer whose first calls fail, so many with one kind. Then it gives its octets, and takes all.
+#[derive(Drop)]
+struct Failing<'a> {
+    kind: ErrorKind,
+    failures: usize,
+    calls: usize,
+    gives: &'a [u8],
+    taken: Vec<u8>,
+    flushes: usize,
+}
+
+impl<'a> Failing<'a> {
+    fn new(alloc: Global, kind: ErrorKind, failures: usize, gives: &'a [u8]) -> Failing<'a> {
+        Failing {
+            kind,
+            failures,
+            calls: 0,
+            gives,
+            taken: Vec::new(alloc),
+            flushes: 0,
+        }
+    }
+
+    fn call(&mut self) -> io::Result<()> {
+        self.calls = self.calls.saturating_add(1);
+        if self.calls <= self.failures {
+            Err(io::Error::from(self.kind))
+        } else {
+            Ok(())
+        }
+    }
+}
+
+impl<'a> Read for Failing<'a> {
+    fn read(&mut self, buf: &mut [u8]) -> io::Result<usize> {
+        self.call()?;
+        self.gives.read(buf)
+    }
+}
+
+impl<'a> Write for Failing<'a> {
+    fn write(&mut self, octets: &[u8]) -> io::Result<usize> {
+        self.call()?;
+        self.taken.extend_from_slice(octets)?;
+        Ok(octets.len())
+    }
+
+    fn flush(&mut self) -> io::Result<()> {
+        self.call()?;
+        self.flushes = self.flushes.saturating_add(1);
+        Ok(())
+    }
+}
+
+/// Each kind of failure but an interruption.
+const KINDS: &[ErrorKind] = &[
+    ErrorKind::NotFound,
+    ErrorKind::PermissionDenied,
+    ErrorKind::ConnectionRefused,
+    ErrorKind::ConnectionReset,
+    ErrorKind::HostUnreachable,
+    ErrorKind::NetworkUnreachable,
+    ErrorKind::ConnectionAborted,
+    ErrorKind::NotConnected,
+    ErrorKind::AddrInUse,
+    ErrorKind::AddrNotAvailable,
+    ErrorKind::NetworkDown,
+    ErrorKind::BrokenPipe,
+    ErrorKind::AlreadyExists,
+    ErrorKind::WouldBlock,
+    ErrorKind::NotADirectory,
+    ErrorKind::IsADirectory,
+    ErrorKind::DirectoryNotEmpty,
+    ErrorKind::ReadOnlyFilesystem,
+    ErrorKind::FilesystemLoop,
+    ErrorKind::StaleNetworkFileHandle,
+    ErrorKind::InvalidInput,
+    ErrorKind::InvalidData,
+    ErrorKind::TimedOut,
+    ErrorKind::WriteZero,
+    ErrorKind::StorageFull,
+    ErrorKind::NotSeekable,
+    ErrorKind::QuotaExceeded,
+    ErrorKind::FileTooLarge,
+    ErrorKind::ResourceBusy,
+    ErrorKind::ExecutableFileBusy,
+    ErrorKind::Deadlock,
+    ErrorKind::CrossesDevices,
+    ErrorKind::TooManyLinks,
+    ErrorKind::InvalidFilename,
+    ErrorKind::ArgumentListTooLong,
+    ErrorKind::Unsupported,
+    ErrorKind::UnexpectedEof,
+    ErrorKind::OutOfMemory,
+    ErrorKind::InProgress,
+    ErrorKind::Other,
+    ErrorKind::Uncategorized,
+];
+
+/// Reading answers so.
+fn expect_reading<R: Read>(
+    rt: &impl Abort,
+    input: &mut ReaderInput<R>,
+    answer: Result<usize, Fault>,
+    kind: ErrorKind,
+) {
+    let mut place = [0u8; 8];
+    expect_same(rt, input.read(&mut place), answer, kind);
+    if answer.is_ok() {
+        expect_octets(rt, &place, b"abc\0\0\0\0\0");
+    }
+}
+
+/// Of a reader that fails so once, the first read is a fault, and no more than it. The next gives the octets from their front.
+fn fails_to_read_once<R: Abort + AllocGlobal>(rt: &R, kind: ErrorKind) {
+    let mut reader = Failing::new(rt.alloc(), kind, 1, b"abc");
+    let mut input = ReaderInput::new(&mut reader);
+    expect_reading(rt, &mut input, Err(Fault::Reading), kind);
+    expect_reading(rt, &mut input, Ok(3), kind);
+    drop(input);
+    expect_same(rt, reader.calls, 2, kind);
+}
+
+/// Of a writer that fails so once, the first write is a fault, and no more than it. The next takes the octets.
+fn fails_to_write_once<R: Abort + AllocGlobal>(rt: &R, kind: ErrorKind) {
+    let mut writer = Failing::new(rt.alloc(), kind, 1, b"");
+    let mut out = WriterOutput::new(&mut writer);
+    expect_same(rt, out.write(b"abc"), Err(Fault::Writing), kind);
+    expect_same(rt, out.write(b"def"), Ok(3), kind);
+    expect_same(rt, out.finish(), Ok(()), kind);
+    drop(out);
+    expect_same(rt, (writer.calls, writer.flushes), (3, 1), kind);
+    expect_octets(rt, &writer.taken, b"def");
+}
+
+/// Of a writer whose flush fails so once, the end is a fault, and no more than it. The next end is none.
+fn fails_to_finish_once<R: Abort + AllocGlobal>(rt: &R, kind: ErrorKind) {
+    let mut writer = Failing::new(rt.alloc(), kind, 1, b"");
+    let mut out = WriterOutput::new(&mut writer);
+    expect_same(rt, out.finish(), Err(Fault::Writing), kind);
+    expect_same(rt, out.finish(), Ok(()), kind);
+    drop(out);
+    expect_same(rt, (writer.calls, writer.flushes), (2, 1), kind);
+}
+
+#[test]
+fn each_kind_of_failure_is_told_once(rt: HostRuntime) {
+    for kind in KINDS {
+        fails_to_read_once(&rt, *kind);
+        fails_to_write_once(&rt, *kind);
+        fails_to_finish_once(&rt, *kind);
+    }
+}
+
+/// A writer whose writes work, and whose flush fails once.
+#[derive(Drop)]
+struct FailingAtItsEnd {
+    taken: Vec<u8>,
+    flushes: usize,
+}
+
+impl Write for FailingAtItsEnd {
+    fn write(&mut self, octets: &[u8]) -> io::Result<usize> {
+        self.taken.extend_from_slice(octets)?;
+        Ok(octets.len())
+    }
+
+    fn flush(&mut self) -> io::Result<()> {
+        self.flushes = self.flushes.saturating_add(1);
+        if self.flushes == 1 {
+            Err(io::Error::from(ErrorKind::StorageFull))
+        } else {
+            Ok(())
+        }
+    }
+}
+
+#[test]
+fn an_end_that_fails_is_told_though_all_was_taken(rt: HostRuntime) {
+    let mut writer = FailingAtItsEnd {
+        taken: Vec::new(rt.alloc()),
+        flushes: 0,
+    };
+    let mut out = WriterOutput::new(&mut writer);
+    expect_same(&rt, write_whole(&mut out, b"abc"), Ok(()), "writing");
+    expect_same(&rt, out.finish(), Err(Fault::Writing), "the first end");
+    expect_same(&rt, out.finish(), Ok(()), "the second end");
+    drop(out);
+    expect_same(&rt, writer.flushes, 2, "flushes");
+    expect_octets(&rt, &writer.taken, b"abc");
+}
+
+/// The end after a write that failed is asked of the writer, and is that of what it took.
+#[test]
+fn an_output_is_finished_after_a_write_that_failed(rt: HostRuntime) {
+    let mut writer = Failing::new(rt.alloc(), ErrorKind::StorageFull, 1, b"");
+    let mut out = WriterOutput::new(&mut writer);
+    expect_same(&rt, out.write(b"abc"), Err(Fault::Writing), "writing");
+    expect_same(&rt, out.finish(), Ok(()), "the end");
+    drop(out);
+    expect_same(&rt, (writer.calls, writer.flushes), (2, 1), "calls");
+    expect_octets(&rt, &writer.taken, b"");
+}
+
+/// How many signals interrupt a call, one after another.
+const MANY: usize = 1000;
+
+#[test]
+fn a_read_is_made_again_after_many_interruptions(rt: HostRuntime) {
+    let mut reader = Failing::new(rt.alloc(), ErrorKind::Interrupted, MANY, b"abc");
+    let mut input = ReaderInput::new(&mut reader);
+    expect_reading(&rt, &mut input, Ok(3), ErrorKind::Interrupted);
+    drop(input);
+    expect_same(&rt, reader.calls, MANY + 1, "calls");
+}
+
+#[test]
+fn a_write_is_made_again_after_many_interruptions(rt: HostRuntime) {
+    let mut writer = Failing::new(rt.alloc(), ErrorKind::Interrupted, MANY, b"");
+    let mut out = WriterOutput::new(&mut writer);
+    expect_same(&rt, out.write(b"abc"), Ok(3), "writing");
+    drop(out);
+    expect_same(&rt, writer.calls, MANY + 1, "calls");
+    expect_octets(&rt, &writer.taken, b"abc");
+}
+
+#[test]
+fn a_flush_is_made_again_after_many_interruptions(rt: HostRuntime) {
+    let mut writer = Failing::new(rt.alloc(), ErrorKind::Interrupted, MANY, b"");
+    let mut out = WriterOutput::new(&mut writer);
+    expect_same(&rt, out.finish(), Ok(()), "the end");
+    drop(out);
+    let calls = (writer.calls, writer.flushes);
+    expect_same(&rt, calls, (MANY + 1, 1), "calls");
+}
+
+/// A read and a write of nothing do not call what is below, which would fail, and the octets are there for the next.
+#[test]
+fn a_read_and_a_write_of_nothing_do_nothing(rt: HostRuntime) {
+    let mut device = Failing::new(rt.alloc(), ErrorKind::Other, 1, b"abc");
+    let mut input = ReaderInput::new(&mut device);
+    expect_same(&rt, input.read(&mut []), Ok(0), "no room");
+    expect_same(&rt, draw(&mut input, &mut []), Ok(()), "no octets");
+    let mut octets = [0u8; 3];
+    let refused = draw(&mut input, &mut octets);
+    expect_same(&rt, refused, Err(Refusal::Read), "the failure");
+    expect_same(&rt, input.read(&mut []), Ok(0), "no room again");
+    expect_same(&rt, draw(&mut input, &mut octets), Ok(()), "the octets");
+    expect_octets(&rt, &octets, b"abc");
+    drop(input);
+    expect_same(&rt, device.calls, 2, "calls");
+    let mut out = WriterOutput::new(&mut device);
+    expect_same(&rt, out.write(b""), Ok(0), "nothing");
+    expect_same(&rt, write_whole(&mut out, b""), Ok(()), "nothing at all");
+    drop(out);
+    expect_same(&rt, device.calls, 2, "calls");
+}
+
+/// The octets go through a reader and a writer, so many at a time.
+fn passes<R: Abort + AllocGlobal>(rt: &R, octets: &[u8], room: usize) -> Result<(), Fail> {
+    let mut buf = repeated(rt.alloc(), b"\0", room, b"")?;
+    let mut input = ReaderInput::new(octets);
+    let mut kept = Vec::new(rt.alloc());
+    let mut out = WriterOutput::new(&mut kept);
+    for _ in 0..octets.len() / room.max(1) + 1 {
+        passes_once(rt, &mut input, &mut out, &mut buf);
+    }
+    expect_same(rt, input.read(&mut buf), Ok(0), "the end");
+    expect_same(rt, out.finish(), Ok(()), "the end");
+    drop(out);
+    expect_octets(rt, &kept, octets);
+    Ok(())
+}
+
+/// What one read gives is taken by one write.
+fn passes_once<I: Input, O: Output>(rt: &impl Abort, input: &mut I, out: &mut O, buf: &mut [u8]) {
+    let n = input.read(buf).unwrap_or(0);
+    assert!(rt; n <= buf.len());
+    expect_same(rt, out.write(&buf[..n]), Ok(n), n);
+}
+
+/// How many octets a read has room for, and a write has.
+const ROOMS: &[usize] = &[4095, 4097, 65536];
+
+/// 2,100,001 octets.
+#[test]
+fn long_octets_pass_through_a_reader_and_a_writer(rt: HostRuntime) -> Result<(), Fail> {
+    let octets = repeated(rt.alloc(), b"foo", 700_000, b"f")?;
+    for room in ROOMS {
+        passes(&rt, &octets, *room)?;
+    }
+    Ok(())
+}
