@@ -10,3 +10,5 @@ pub mod Faults
 pub mod Lent
 pub mod Encoding
 pub mod Search
+pub mod Failing
+pub mod FailingDevices

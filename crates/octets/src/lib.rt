@@ -17,6 +17,7 @@
 
 mod base64url;
 mod devices;
+mod failing;
 mod lanes;
 pub mod laws;
 mod line_ends;
@@ -30,6 +31,7 @@ mod writer;
 
 pub use base64url::{b64_append, b64_decode, b64_encode};
 pub use devices::{Input, Output};
+pub use failing::{Failing, FailingInput, FailingOutput};
 pub use lanes::{same_octets, xor_into};
 pub use line_ends::without_line_end;
 pub use memory::{MemoryInput, MemoryOutput};

@@ -129,6 +129,13 @@ impl MemoryOutput {
         self.octets.as_slice()
     }
 
+    /// What was finished is to be finished again.
+    pub(crate) fn reopen(&mut self)
+        ensures { self.new ≡ record self.old { is_finished = false } }
+    {
+        self.unfinished = true;
+    }
+
     /// Whether what was written was finished.
     pub fn is_finished(&self) -> bool
         ensures { result ≡ self.now.is_finished }

@@ -1,0 +1,241 @@
+//! Devices over memory that fail, to show what a call leaves behind where one of its devices does.
+ghost use Rattle.std.specs.Prelude.{◌≡◌, ◌↔◌, ◌<◌, ◌≤◌, ℕ, [], ◌++◌, length, take, true, false, IfOk, IfErr, OnOk, Ok, Err, MatchResult, IsTrue};
+ghost use Rattle.octets.specs.Devices.{next_count, ComesNearer};
+ghost use Rattle.octets.specs.Failing.{is_due};
+ghost use Rattle.octets.specs.Views.{front_of, is_read, rest_of};
+
+use crate::devices::count_failure;
+use crate::{Fault, Input, MemoryInput, MemoryOutput, Output, Refusal};
+use std::alloc::Global;
+
+/// When a device fails. Its calls are counted from 0: reads with room, writes of something and `finish`.
+#[derive(Clone, Copy, Debug, PartialEq, Eq)]
+pub enum Failing {
+    /// At this call alone.
+    Once(u64),
+    /// At this call and at each later one.
+    From(u64),
+    /// Where so many octets have passed, and then at each call.
+    After(usize),
+}
+
+impl Failing {
+    /// It fails at this call, where so many octets have passed.
+    fn is_due(self, call: u64, passed: usize) -> bool
+        ensures { result ≡ is_due self call passed }
+    {
+        match self {
+            Failing::Once(at) => call == at,
+            Failing::From(first) => first <= call,
+            Failing::After(most) => most <= passed,
+        }
+    }
+
+    /// How many of so many octets may pass.
+    fn room(self, passed: usize, len: usize) -> usize
+        ensures within { result ≤ len }
+        ensures some { (call : ℕ) → is_due self call passed ≡ false → 0 < len → 0 < result }
+    {
+        match self {
+            Failing::After(most) => len.min(most.saturating_sub(passed)),
+            _ => len,
+        }
+    }
+}
+
+/// An input of octets in memory that fails when it is told to.
+#[derive(Drop)]
+pub struct FailingInput<'a> {
+    input: MemoryInput<'a>,
+    failing: Failing,
+    passed: usize,
+    calls: u64,
+    failures: u64,
+}
+
+impl<'a> FailingInput<'a> {
+    ghost use Rattle.octets.specs.FailingDevices.{input_consumed, input_is_at_end, input_failures};
+
+    /// Gives what the input over memory gives, until it fails.
+    pub fn new(input: MemoryInput<'a>, failing: Failing) -> FailingInput<'a>
+        ensures consumed { input_consumed result ≡ front_of input.entry }
+        ensures failures { input_failures result ≡ 0 }
+    {
+        FailingInput {
+            input,
+            failing,
+            passed: 0,
+            calls: 0,
+            failures: 0,
+        }
+    }
+
+    /// How often it has failed.
+    pub fn failures(&self) -> u64
+        ensures { result ≡ input_failures self.now }
+    {
+        self.failures
+    }
+}
+
+impl<'a> Input for FailingInput<'a> {
+    ghost use Rattle.octets.specs.FailingDevices.{input_consumed, input_is_at_end, input_remaining, input_failures, input_is_due};
+
+    ghost consumed = { input_consumed };
+
+    ghost is_at_end = { input_is_at_end };
+
+    ghost remaining = { input_remaining };
+
+    ghost failures = { input_failures };
+
+    ghost gives_octets = { λ s. s.input.fronts_are_octets s.input.position };
+
+    fn read(&mut self, buf: &mut [u8]) -> Result<usize, Fault>
+        ensures due { 0 < length buf.old → (input_is_due self.old ≡ true) ↔ (result ≡ Err Fault.Reading) }
+
+        // What the trait says.
+        ensures octets { IfOk result (λ n. (n ≤ length buf.old)
+            × (input_consumed self.new ≡ input_consumed self.old ++ take n buf.new)) }
+        ensures no_room { length buf.old ≡ 0 → (result ≡ Ok 0) × (self.new ≡ self.old) }
+        ensures end { result ≡ Ok 0 → 0 < length buf.old → IsTrue (input_is_at_end self.new) }
+        ensures stays_at_end { IsTrue (input_is_at_end self.old)
+            → IsTrue (input_is_at_end self.new) × (input_consumed self.new ≡ input_consumed self.old) }
+        ensures nearer { MatchResult result
+            (λ n. ComesNearer (input_remaining self.old) (input_remaining self.new) n)
+            (λ _. ComesNearer (input_remaining self.old) (input_remaining self.new) 0) }
+        ensures works { OnOk result (input_failures self.new ≡ input_failures self.old) }
+        ensures fails { IfErr result (λ e. (e ≡ Fault.Reading)
+            × (input_consumed self.new ≡ input_consumed self.old)
+            × (input_failures self.new ≡ next_count (input_failures self.old))) }
+    {
+        if buf.is_empty() {
+            return Ok(0);
+        }
+        let is_due = self.failing.is_due(self.calls, self.passed);
+        self.calls = self.calls.saturating_add(1);
+        if is_due {
+            count_failure(&mut self.failures);
+            return Err(Fault::Reading);
+        }
+        let room = self.failing.room(self.passed, buf.len());
+        let n = self.input.read(&mut buf[..room])?;
+        self.passed = self.passed.saturating_add(n);
+        Ok(n)
+    }
+}
+
+/// An output that keeps what is written, and fails when it is told to, or past its room.
+#[derive(Drop)]
+pub struct FailingOutput {
+    output: MemoryOutput,
+    failing: Failing,
+    passed: usize,
+    calls: u64,
+    failures: u64,
+}
+
+impl FailingOutput {
+    ghost use Rattle.octets.specs.FailingDevices.{output_written, output_is_finished, output_failures};
+
+    /// An empty output with room for so many octets.
+    pub fn new(alloc: Global, room: usize, failing: Failing) -> Result<FailingOutput, Refusal>
+        ensures empty { IfOk result (λ out. (output_written out ≡ []) × (output_is_finished out ≡ false) × (output_failures out ≡ 0)) }
+        ensures memory { IfErr result (λ e. e ≡ Refusal.Memory) }
+    {
+        Ok(FailingOutput {
+            output: MemoryOutput::new(alloc, room)?,
+            failing,
+            passed: 0,
+            calls: 0,
+            failures: 0,
+        })
+    }
+
+    /// What was written.
+    pub fn octets(&self) -> &[u8]
+        ensures { result.now ≡ output_written self.now }
+    {
+        self.output.octets()
+    }
+
+    /// Whether what was written was finished.
+    pub fn is_finished(&self) -> bool
+        ensures { result ≡ output_is_finished self.now }
+    {
+        self.output.is_finished()
+    }
+
+    /// How often it has failed.
+    pub fn failures(&self) -> u64
+        ensures { result ≡ output_failures self.now }
+    {
+        self.failures
+    }
+
+    /// Whether a call fails that is made now.
+    fn call(&mut self) -> Result<(), Fault>
+        ensures works { OnOk result (self.new.failures ≡ self.old.failures) }
+        ensures fails { IfErr result (λ e. (e ≡ Fault.Writing) × (self.new.failures ≡ next_count self.old.failures)) }
+        ensures same { (self.new.output ≡ self.old.output) × (self.new.failing ≡ self.old.failing) × (self.new.passed ≡ self.old.passed) }
+        ensures due { OnOk result (is_due self.old.failing self.old.calls self.old.passed ≡ false) }
+    {
+        let is_due = self.failing.is_due(self.calls, self.passed);
+        self.calls = self.calls.saturating_add(1);
+        if is_due {
+            count_failure(&mut self.failures);
+            return Err(Fault::Writing);
+        }
+        Ok(())
+    }
+}
+
+impl Output for FailingOutput {
+    ghost use Rattle.octets.specs.FailingDevices.{output_written, output_is_finished, output_failures};
+
+    ghost written = { output_written };
+
+    ghost is_finished = { output_is_finished };
+
+    ghost failures = { output_failures };
+
+    fn write(&mut self, octets: &[u8]) -> Result<usize, Fault>
+        ensures octets { IfOk result (λ n. (n ≤ length octets.now)
+            × (output_written self.new ≡ output_written self.old ++ take n octets.now)) }
+        ensures some { result ≡ Ok 0 → length octets.now ≡ 0 }
+        ensures nothing { length octets.now ≡ 0 → (result ≡ Ok 0) × (self.new ≡ self.old) }
+        ensures unfinished { 0 < length octets.now → output_is_finished self.new ≡ false }
+        ensures works { OnOk result (output_failures self.new ≡ output_failures self.old) }
+        ensures fails { IfErr result (λ e. (e ≡ Fault.Writing)
+            × (output_written self.new ≡ output_written self.old)
+            × (output_failures self.new ≡ next_count (output_failures self.old))) }
+    {
+        if octets.is_empty() {
+            return Ok(0);
+        }
+        self.output.reopen();
+        self.call()?;
+        let room = self.failing.room(self.passed, octets.len());
+        match self.output.write(&octets[..room]) {
+            Ok(n) => {
+                self.passed = self.passed.saturating_add(n);
+                Ok(n)
+            }
+            Err(fault) => {
+                count_failure(&mut self.failures);
+                Err(fault)
+            }
+        }
+    }
+
+    fn finish(&mut self) -> Result<(), Fault>
+        ensures same { output_written self.new ≡ output_written self.old }
+        ensures works { OnOk result (IsTrue (output_is_finished self.new)
+            × (output_failures self.new ≡ output_failures self.old)) }
+        ensures fails { IfErr result (λ e. (e ≡ Fault.Writing)
+            × (output_failures self.new ≡ next_count (output_failures self.old))) }
+    {
+        self.call()?;
+        self.output.finish()
+    }
+}
