@@ -56,6 +56,8 @@ mod building_tests;
 #[cfg(test)]
 mod detached_tests;
 #[cfg(test)]
+mod fault_tests;
+#[cfg(test)]
 mod form_tests;
 #[cfg(test)]
 mod general_peer_tests;

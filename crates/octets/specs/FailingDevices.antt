@@ -33,6 +33,10 @@ output_written s = s.output.octets
 abbrev pub output_is_finished : FailingOutput → Bool
 output_is_finished s = s.output.is_finished
 
+-- how much it takes in all
+abbrev pub output_room : FailingOutput → ℕ
+output_room s = s.output.room
+
 abbrev pub output_failures : FailingOutput → ℕ
 output_failures s = s.failures
 

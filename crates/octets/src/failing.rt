@@ -1,5 +1,5 @@
 //! Devices over memory that fail, to show what a call leaves behind where one of its devices does.
-ghost use Rattle.std.specs.Prelude.{◌≡◌, ◌↔◌, ◌<◌, ◌≤◌, ℕ, [], ◌++◌, length, take, true, false, IfOk, IfErr, OnOk, Ok, Err, MatchResult, IsTrue};
+ghost use Rattle.std.specs.Prelude.{◌≡◌, ◌↔◌, ◌<◌, ◌≤◌, ℕ, [], ◌++◌, length, take, true, false, IfOk, IfErr, IsOk, OnOk, Ok, Err, MatchResult, IsTrue};
 ghost use Rattle.octets.specs.Devices.{next_count, ComesNearer};
 ghost use Rattle.octets.specs.Failing.{is_due};
 ghost use Rattle.octets.specs.Views.{front_of, is_read, rest_of};
@@ -125,26 +125,35 @@ impl<'a> Input for FailingInput<'a> {
     }
 }
 
-/// An output that keeps what is written, and fails when it is told to, or past its room.
+/// An output that keeps what is written, some octets at a write, and fails when it is told to, or past its room.
 #[derive(Drop)]
 pub struct FailingOutput {
     output: MemoryOutput,
+    step: usize,
     failing: Failing,
     passed: usize,
     calls: u64,
     failures: u64,
+    ghost moves: { 0 < step },
 }
 
 impl FailingOutput {
-    ghost use Rattle.octets.specs.FailingDevices.{output_written, output_is_finished, output_failures};
+    ghost use Rattle.octets.specs.FailingDevices.{output_written, output_is_finished, output_failures, output_is_due};
 
-    /// An empty output with room for so many octets.
-    pub fn new(alloc: Global, room: usize, failing: Failing) -> Result<FailingOutput, Refusal>
+    /// An empty output with room for so many octets, that takes at most `step` of them at a write.
+    pub fn new(
+        alloc: Global,
+        room: usize,
+        step: usize,
+        failing: Failing,
+    ) -> Result<FailingOutput, Refusal>
+        requires { 0 < step }
         ensures empty { IfOk result (λ out. (output_written out ≡ []) × (output_is_finished out ≡ false) × (output_failures out ≡ 0)) }
         ensures memory { IfErr result (λ e. e ≡ Refusal.Memory) }
     {
         Ok(FailingOutput {
             output: MemoryOutput::new(alloc, room)?,
+            step,
             failing,
             passed: 0,
             calls: 0,
@@ -177,8 +186,8 @@ impl FailingOutput {
     fn call(&mut self) -> Result<(), Fault>
         ensures works { OnOk result (self.new.failures ≡ self.old.failures) }
         ensures fails { IfErr result (λ e. (e ≡ Fault.Writing) × (self.new.failures ≡ next_count self.old.failures)) }
-        ensures same { (self.new.output ≡ self.old.output) × (self.new.failing ≡ self.old.failing) × (self.new.passed ≡ self.old.passed) }
-        ensures due { OnOk result (is_due self.old.failing self.old.calls self.old.passed ≡ false) }
+        ensures same { (self.new.output ≡ self.old.output) × (self.new.failing ≡ self.old.failing) × (self.new.passed ≡ self.old.passed) × (self.new.step ≡ self.old.step) }
+        ensures due { (output_is_due self.old ≡ true) ↔ (result ≡ Err Fault.Writing) }
     {
         let is_due = self.failing.is_due(self.calls, self.passed);
         self.calls = self.calls.saturating_add(1);
@@ -191,7 +200,7 @@ impl FailingOutput {
 }
 
 impl Output for FailingOutput {
-    ghost use Rattle.octets.specs.FailingDevices.{output_written, output_is_finished, output_failures};
+    ghost use Rattle.octets.specs.FailingDevices.{output_written, output_is_finished, output_failures, output_is_due, output_room};
 
     ghost written = { output_written };
 
@@ -200,6 +209,10 @@ impl Output for FailingOutput {
     ghost failures = { output_failures };
 
     fn write(&mut self, octets: &[u8]) -> Result<usize, Fault>
+        ensures due { 0 < length octets.now → output_is_due self.old ≡ true → result ≡ Err Fault.Writing }
+        ensures succeeds { output_is_due self.old ≡ false → length (output_written self.old) < output_room self.old → IsOk result }
+
+        // What the trait says.
         ensures octets { IfOk result (λ n. (n ≤ length octets.now)
             × (output_written self.new ≡ output_written self.old ++ take n octets.now)) }
         ensures some { result ≡ Ok 0 → length octets.now ≡ 0 }
@@ -215,7 +228,7 @@ impl Output for FailingOutput {
         }
         self.output.reopen();
         self.call()?;
-        let room = self.failing.room(self.passed, octets.len());
+        let room = self.failing.room(self.passed, octets.len().min(self.step));
         match self.output.write(&octets[..room]) {
             Ok(n) => {
                 self.passed = self.passed.saturating_add(n);
@@ -229,6 +242,9 @@ impl Output for FailingOutput {
     }
 
     fn finish(&mut self) -> Result<(), Fault>
+        ensures due { (output_is_due self.old ≡ true) ↔ (result ≡ Err Fault.Writing) }
+
+        // What the trait says.
         ensures same { output_written self.new ≡ output_written self.old }
         ensures works { OnOk result (IsTrue (output_is_finished self.new)
             × (output_failures self.new ≡ output_failures self.old)) }
