@@ -1,10 +1,9 @@
 -- Devices over memory that fail, as clauses see them.
 use Rattle.std.specs.Prelude.{ℕ, Bool, List}
 use Rattle.std.specs.Iterator.{Count}
-use Rattle.octets.specs.declared.failing.Failing.{Failing}
 use Rattle.octets.specs.declared.failing.FailingInput.{FailingInput}
 use Rattle.octets.specs.declared.failing.FailingOutput.{FailingOutput}
-use Rattle.octets.specs.Failing.{is_due}
+use Rattle.octets.specs.Failing.{Course}
 use Rattle.octets.specs.Views.{Contents, Store, front_of, is_read, rest_of}
 
 -- ---- an input
@@ -21,9 +20,8 @@ input_remaining s = rest_of s.input
 abbrev pub input_failures : FailingInput → ℕ
 input_failures s = s.failures
 
--- its next call fails
-abbrev pub input_is_due : FailingInput → Bool
-input_is_due s = is_due s.failing s.calls s.passed
+abbrev pub input_course : FailingInput → Course
+input_course s = record { failing = s.failing; calls = s.calls; passed = s.passed }
 
 -- ---- an output
 
@@ -40,5 +38,9 @@ output_room s = s.output.room
 abbrev pub output_failures : FailingOutput → ℕ
 output_failures s = s.failures
 
-abbrev pub output_is_due : FailingOutput → Bool
-output_is_due s = is_due s.failing s.calls s.passed
+abbrev pub output_course : FailingOutput → Course
+output_course s = record { failing = s.failing; calls = s.calls; passed = s.passed }
+
+-- the most that it takes at a write
+abbrev pub output_step : FailingOutput → ℕ
+output_step s = s.step

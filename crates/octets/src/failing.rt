@@ -1,7 +1,7 @@
 //! Devices over memory that fail, to show what a call leaves behind where one of its devices does.
-ghost use Rattle.std.specs.Prelude.{◌≡◌, ◌↔◌, ◌<◌, ◌≤◌, ℕ, [], ◌++◌, length, take, true, false, IfOk, IfErr, IsOk, OnOk, Ok, Err, MatchResult, IsTrue};
+ghost use Rattle.std.specs.Prelude.{◌≡◌, ◌↔◌, ◌<◌, ◌≤◌, [], ◌++◌, length, take, true, false, IfOk, IfErr, IsOk, OnOk, Ok, Err, MatchResult, IsTrue};
 ghost use Rattle.octets.specs.Devices.{next_count, ComesNearer};
-ghost use Rattle.octets.specs.Failing.{is_due};
+ghost use Rattle.octets.specs.Failing.{is_due, room_for, begun, fails_next, after_call, after_failure};
 ghost use Rattle.octets.specs.Views.{front_of, is_read, rest_of};
 
 use crate::devices::count_failure;
@@ -33,8 +33,7 @@ impl Failing {
 
     /// How many of so many octets may pass.
     fn room(self, passed: usize, len: usize) -> usize
-        ensures within { result ≤ len }
-        ensures some { (call : ℕ) → is_due self call passed ≡ false → 0 < len → 0 < result }
+        ensures { result ≡ room_for self passed len }
     {
         match self {
             Failing::After(most) => len.min(most.saturating_sub(passed)),
@@ -54,11 +53,12 @@ pub struct FailingInput<'a> {
 }
 
 impl<'a> FailingInput<'a> {
-    ghost use Rattle.octets.specs.FailingDevices.{input_consumed, input_is_at_end, input_failures};
+    ghost use Rattle.octets.specs.FailingDevices.{input_consumed, input_failures, input_course};
 
     /// Gives what the input over memory gives, until it fails.
     pub fn new(input: MemoryInput<'a>, failing: Failing) -> FailingInput<'a>
         ensures consumed { input_consumed result ≡ front_of input.entry }
+        ensures course { input_course result ≡ begun failing }
         ensures failures { input_failures result ≡ 0 }
     {
         FailingInput {
@@ -79,7 +79,7 @@ impl<'a> FailingInput<'a> {
 }
 
 impl<'a> Input for FailingInput<'a> {
-    ghost use Rattle.octets.specs.FailingDevices.{input_consumed, input_is_at_end, input_remaining, input_failures, input_is_due};
+    ghost use Rattle.octets.specs.FailingDevices.{input_consumed, input_is_at_end, input_remaining, input_failures, input_course};
 
     ghost consumed = { input_consumed };
 
@@ -92,7 +92,11 @@ impl<'a> Input for FailingInput<'a> {
     ghost gives_octets = { λ s. s.input.fronts_are_octets s.input.position };
 
     fn read(&mut self, buf: &mut [u8]) -> Result<usize, Fault>
-        ensures due { 0 < length buf.old → (input_is_due self.old ≡ true) ↔ (result ≡ Err Fault.Reading) }
+        ensures due { 0 < length buf.old → (fails_next (input_course self.old) ≡ true) ↔ (result ≡ Err Fault.Reading) }
+        ensures room { IfOk result (λ n. n ≤ room_for (input_course self.old).failing (input_course self.old).passed (length buf.old)) }
+        ensures course { 0 < length buf.old → MatchResult result
+            (λ n. input_course self.new ≡ after_call n (input_course self.old))
+            (λ _. input_course self.new ≡ after_failure (input_course self.old)) }
 
         // What the trait says.
         ensures octets { IfOk result (λ n. (n ≤ length buf.old)
@@ -138,7 +142,7 @@ pub struct FailingOutput {
 }
 
 impl FailingOutput {
-    ghost use Rattle.octets.specs.FailingDevices.{output_written, output_is_finished, output_failures, output_is_due};
+    ghost use Rattle.octets.specs.FailingDevices.{output_written, output_is_finished, output_failures, output_course, output_room, output_step};
 
     /// An empty output with room for so many octets, that takes at most `step` of them at a write.
     pub fn new(
@@ -149,6 +153,7 @@ impl FailingOutput {
     ) -> Result<FailingOutput, Refusal>
         requires { 0 < step }
         ensures empty { IfOk result (λ out. (output_written out ≡ []) × (output_is_finished out ≡ false) × (output_failures out ≡ 0)) }
+        ensures course { IfOk result (λ out. (output_course out ≡ begun failing) × (output_room out ≡ room) × (output_step out ≡ step)) }
         ensures memory { IfErr result (λ e. e ≡ Refusal.Memory) }
     {
         Ok(FailingOutput {
@@ -186,8 +191,9 @@ impl FailingOutput {
     fn call(&mut self) -> Result<(), Fault>
         ensures works { OnOk result (self.new.failures ≡ self.old.failures) }
         ensures fails { IfErr result (λ e. (e ≡ Fault.Writing) × (self.new.failures ≡ next_count self.old.failures)) }
-        ensures same { (self.new.output ≡ self.old.output) × (self.new.failing ≡ self.old.failing) × (self.new.passed ≡ self.old.passed) × (self.new.step ≡ self.old.step) }
-        ensures due { (output_is_due self.old ≡ true) ↔ (result ≡ Err Fault.Writing) }
+        ensures same { (self.new.output ≡ self.old.output) × (self.new.step ≡ self.old.step) }
+        ensures course { output_course self.new ≡ after_failure (output_course self.old) }
+        ensures due { (fails_next (output_course self.old) ≡ true) ↔ (result ≡ Err Fault.Writing) }
     {
         let is_due = self.failing.is_due(self.calls, self.passed);
         self.calls = self.calls.saturating_add(1);
@@ -200,7 +206,7 @@ impl FailingOutput {
 }
 
 impl Output for FailingOutput {
-    ghost use Rattle.octets.specs.FailingDevices.{output_written, output_is_finished, output_failures, output_is_due, output_room};
+    ghost use Rattle.octets.specs.FailingDevices.{output_written, output_is_finished, output_failures, output_course, output_room, output_step};
 
     ghost written = { output_written };
 
@@ -209,8 +215,13 @@ impl Output for FailingOutput {
     ghost failures = { output_failures };
 
     fn write(&mut self, octets: &[u8]) -> Result<usize, Fault>
-        ensures due { 0 < length octets.now → output_is_due self.old ≡ true → result ≡ Err Fault.Writing }
-        ensures succeeds { output_is_due self.old ≡ false → length (output_written self.old) < output_room self.old → IsOk result }
+        ensures due { 0 < length octets.now → fails_next (output_course self.old) ≡ true → result ≡ Err Fault.Writing }
+        ensures succeeds { fails_next (output_course self.old) ≡ false → length (output_written self.old) < output_room self.old → IsOk result }
+        ensures room { IfOk result (λ n. (n ≤ room_for (output_course self.old).failing (output_course self.old).passed (length octets.now)) × (n ≤ output_step self.old)) }
+        ensures course { 0 < length octets.now → MatchResult result
+            (λ n. output_course self.new ≡ after_call n (output_course self.old))
+            (λ _. output_course self.new ≡ after_failure (output_course self.old)) }
+        ensures same { (output_room self.new ≡ output_room self.old) × (output_step self.new ≡ output_step self.old) }
 
         // What the trait says.
         ensures octets { IfOk result (λ n. (n ≤ length octets.now)
@@ -242,7 +253,9 @@ impl Output for FailingOutput {
     }
 
     fn finish(&mut self) -> Result<(), Fault>
-        ensures due { (output_is_due self.old ≡ true) ↔ (result ≡ Err Fault.Writing) }
+        ensures due { (fails_next (output_course self.old) ≡ true) ↔ (result ≡ Err Fault.Writing) }
+        ensures course { output_course self.new ≡ after_failure (output_course self.old) }
+        ensures same_room { (output_room self.new ≡ output_room self.old) × (output_step self.new ≡ output_step self.old) }
 
         // What the trait says.
         ensures same { output_written self.new ≡ output_written self.old }

@@ -170,7 +170,7 @@ impl Output for MemoryOutput {
         if octets.is_empty() {
             return Ok(0);
         }
-        self.unfinished = true;
+        self.reopen();
         let n = octets.len().min(self.room - self.octets.len());
         if n == 0 {
             count_failure(&mut self.failures);
