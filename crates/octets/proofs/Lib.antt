@@ -16,3 +16,4 @@ pub mod Chunks
 pub mod Search
 pub mod Sums
 pub mod Differences
+pub mod Pumping

@@ -12,3 +12,4 @@ pub mod Encoding
 pub mod Search
 pub mod Failing
 pub mod FailingDevices
+pub mod Pumps

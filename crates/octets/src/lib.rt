@@ -26,6 +26,7 @@ mod reader;
 mod refusal;
 mod streams;
 mod transcript;
+mod transform;
 mod whole;
 mod writer;
 
@@ -38,6 +39,7 @@ pub use memory::{MemoryInput, MemoryOutput};
 pub use reader::{B64Reader, decode_onto};
 pub use refusal::{Fault, Refusal, needs};
 pub use streams::{ReaderInput, WriterOutput};
+pub use transform::{Transform, pump};
 pub use whole::{Partial, draw, emit, read_piece, read_to_end, write_whole};
 pub use writer::{B64Writer, encode_onto};
 

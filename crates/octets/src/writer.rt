@@ -54,6 +54,14 @@ impl B64Writer {
         written
     }
 
+    /// The octets that wait.
+    pub(crate) fn waiting(&self) -> &[u8]
+        ensures within { length result.now ≤ 2 }
+        ensures all { result.now ≡ self.now }
+    {
+        &self.waiting[..self.count]
+    }
+
     /// Writes the text of the octets that wait to the front of `out`, and answers its length.
     pub fn finish(self, out: &mut [u8; 4]) -> usize
         ensures within { result ≤ 4 }

@@ -1,5 +1,5 @@
 //! The commands `b64 enc` and `b64 dec`, from devices to devices.
-ghost use Rattle.std.specs.Prelude.{◌≡◌, ◌≢◌, ℕ, List, [], ◌∷◌, OnOk, OnErr, IfErr, IsTrue};
+ghost use Rattle.std.specs.Prelude.{◌≡◌, ◌≢◌, ℕ, ◌+◌, ◌-◌, ◌≤◌, List, [], ◌∷◌, length, take, Err, OnOk, OnErr, IfErr, IsTrue};
 ghost use Rattle.std.specs.Iterator.{IsFinite};
 ghost use Rattle.octets.specs.Devices.{appended, observed, IsPossibleInput, AppendsPrefixOf};
 ghost use Rattle.octets.specs.Encoding.{encoding, decoding};
@@ -8,8 +8,8 @@ ghost use Rattle.octets.specs.Outcomes.{AgreesUnlessExternal};
 ghost use Rattle.octets.specs.Plan.{beginning_of};
 
 use octets::{
-    B64Reader, B64Writer, Input, Output, Refusal, decode_onto, emit, read_piece, without_line_end,
-    write_whole,
+    B64Reader, B64Writer, Input, Output, Refusal, decode_onto, emit, pump, read_piece,
+    without_line_end, write_whole,
 };
 
 /// Writes the base64url text of the content as it reads it.
@@ -21,23 +21,15 @@ pub(crate) fn encode<I: Input, O: Output>(content: &mut I, out: &mut O) -> Resul
     ensures finished { OnOk result (IsTrue (O.is_finished out.new)) }
     ensures uncut { IfErr result (λ refusal. refusal ≢ Refusal.Write
         → O.written out.new ≡ O.written out.old → out.new ≡ out.old) }
+    ensures as_long { result ≡ Err Refusal.Read → appended (I.consumed content.old) (I.consumed content.new) ≢ []
+        → length (O.written out.old) + length (encoding.fixed (take (length (appended (I.consumed content.old) (I.consumed content.new)) - 4160) (appended (I.consumed content.old) (I.consumed content.new))))
+        ≤ length (O.written out.new) }
     ensures no_memory { IfErr result (λ refusal. refusal ≢ Refusal.Memory) }
     ensures faults { TellsFaults (counts I.failures content.old content.new ∷ []) (counts O.failures out.old out.new ∷ []) result }
 {
-    let mut buf = [0; 4096];
-    let mut text = [0; 5488];
     let mut writer = B64Writer::start();
-    'pieces: loop {
-        let n = read_piece(content, &mut buf)?;
-        if n == 0 {
-            break;
-        }
-        let len = writer.feed(&buf[..n], &mut text);
-        write_whole(out, &text[..len])?;
-    }
-    let mut last = [0; 4];
-    let len = writer.finish(&mut last);
-    emit(out, &last[..len])
+    pump(content, &mut writer, &[], out)?;
+    Ok(out.finish()?)
 }
 
 /// Writes the octets whose base64url text the input is, with a line end or without, as it reads it.

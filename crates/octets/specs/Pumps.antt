@@ -1,0 +1,22 @@
+-- A content that is pumped through a transform: what is written of it behind another text, and what is refused.
+use Rattle.std.specs.Prelude.{◌≡◌, ℕ, List, [], ◌++◌, Err}
+use Rattle.base64.specs.Engines.{url_safe_no_pad}
+use Rattle.base64.proofs.EngineFacts.{encode_of-nil}
+use Rattle.octets.specs.Base64url.{base64url, whole_groups}
+use Rattle.octets.specs.Encoding.{encoding}
+use Rattle.octets.specs.declared.refusal.Refusal.{Refusal}
+use Rattle.octets.specs.Octets.{IsOctets}
+use Rattle.octets.specs.Plan.{Plan, plan_map}
+
+-- what is written behind a text
+abbrev pub behind : List ℕ → Plan (List ℕ) → Plan (List ℕ)
+behind before plan = plan_map (λ text. before ++ text) plan
+
+-- Every content that begins so is refused.
+abbrev pub RefusesFrom : Plan (List ℕ) → List ℕ → Refusal → Type 0
+RefusesFrom plan p e = (rest : List ℕ) → IsOctets (p ++ rest) → plan.whole (p ++ rest) ≡ Err e
+
+-- no octet fixes no text
+pub encoding_starts : encoding.fixed [] ≡ []
+unfolding base64url whole_groups
+encoding_starts = encode_of-nil url_safe_no_pad
