@@ -9,7 +9,7 @@ use Rattle.octets.specs.Outcomes.{◌>>=◌, AgreesUnlessExternal}
 use Rattle.octets.specs.Plan.{Plan, Begins, Grows, beginning_of}
 use Rattle.octets.specs.Pumps.{behind, RefusesFrom}
 use Rattle.octets.proofs.Decoded.{IsOctets-append, IsOctets-nil}
-use Rattle.octets.proofs.Prefixes.{AppendsPrefixOf-all, AppendsPrefixOf-front, AppendsPrefixOf-kept}
+use Rattle.octets.proofs.Prefixes.{AppendsPrefixOf-all, AppendsPrefixOf-kept}
 use Rattle.octets.proofs.Streaming.{Due, Last, may_stand, read_more}
 
 -- ---- plans behind a text

@@ -4,7 +4,7 @@ use Rattle.std.specs.Iterator.{Count}
 use Rattle.octets.specs.declared.failing.FailingInput.{FailingInput}
 use Rattle.octets.specs.declared.failing.FailingOutput.{FailingOutput}
 use Rattle.octets.specs.Failing.{Course}
-use Rattle.octets.specs.Views.{Contents, Store, front_of, is_read, rest_of}
+use Rattle.octets.specs.Views.{front_of, is_read, rest_of}
 
 -- ---- an input
 

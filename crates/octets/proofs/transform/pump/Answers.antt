@@ -1,14 +1,13 @@
-use Rattle.std.proofs.Common.{rules, [], drop, ◌-◌, ◌≡◌, Ok, Err, ◌++◌, take, sym, ◌∙◌, ap, append-nil, refl, subst, length, ◌≤◌, length-append, arith}
+use Rattle.std.proofs.Common.{rules, [], drop, ◌-◌, ◌≡◌, Ok, ◌++◌, take, sym, ◌∙◌, ap, append-nil, refl, subst, length, ◌≤◌, length-append, arith}
 use Rattle.octets.specs.Devices.{appended}
-use Rattle.octets.specs.Plan.{Plan, Grows}
 use Rattle.octets.specs.Pumps.{behind}
 use Rattle.octets.proofs.Decoded.{IsOctets-take, IsOctets-append, IsOctets-nil}
 use Rattle.octets.specs.Octets.{IsOctets}
 use Rattle.std.proofs.Math.Seq.{drop-length}
 use Rattle.octets.proofs.Agreement.{at_refusal}
 use Rattle.octets.proofs.Prefixes.{AppendsPrefixOf-kept, AppendsPrefixOf-part, AppendsPrefixOf-front}
-use Rattle.octets.proofs.Streaming.{Due, Last, last_may_stand, Stands-written, may_stand, untouched_more, read_more}
-use Rattle.octets.proofs.Pumping.{behind_grows, behind_adds, behind_ends, behind_refuses, extends_itself, extended_by, octets_with, octets_kept, something_read, first_due, due_read, due_more, due_rest, refused_may_stand, last_due, last_rest, refused_all, agrees_err, stands_as_long}
+use Rattle.octets.proofs.Streaming.{Last, last_may_stand, Stands-written, may_stand, untouched_more, read_more}
+use Rattle.octets.proofs.Pumping.{behind_grows, behind_adds, behind_ends, behind_refuses, extends_itself, extended_by, octets_with, something_read, first_due, due_read, due_more, due_rest, refused_may_stand, last_due, last_rest, refused_all, agrees_err, stands_as_long}
 use Rattle.std.proofs.lemmas.List.{take-append-drop}
 use Rattle.octets.proofs.transform.pump.Goals as goal
 
