@@ -7,11 +7,11 @@
 //! let header = Header::joint(Some(&protected), None, None)?;
 //! let alg = header.alg()?; // Some("HS256")
 //!
-//! let jws = Jws::read(alloc, b"eyJhbGciOiJIUzI1NiJ9.YWJj.sxvq")?;
+//! let jws = Jws::read(alloc, b"eyJhbGciOiJIUzI1NiJ9.YWJj.sxvq", None)?;
 //! let payload = jws.payload(); // abc, not verified yet
 //!
-//! let jwe = Jwe::read(alloc, b"eyJhbGciOiJkaXIiLCJlbmMiOiJBMTI4R0NNIn0....")?;
-//! let json = jwe.to_json(alloc)?; // {"ciphertext":"","protected":"eyJhbGciOiJkaXIiLCJlbmMiOiJBMTI4R0NNIn0"}
+//! let jwe = Jwe::read(alloc, b"eyJhbGciOiJkaXIiLCJlbmMiOiJBMTI4R0NNIn0....", None)?;
+//! let json = jwe.to_json(alloc, false)?; // {"ciphertext":"","protected":"eyJhbGciOiJkaXIiLCJlbmMiOiJBMTI4R0NNIn0"}
 //! ```
 #![tactic(auto)]
 
