@@ -1,5 +1,5 @@
 -- Sources and sinks as clauses see them, which of them the value of an option means, and the devices of a run.
-use Rattle.std.specs.Prelude.{◌≡◌, ℕ, ◌&&◌, ◌==◌, Bool, true, false, List, [], drop, Option, None, Some, IsSome, IsNone, codes, slice_index, if◌then◌else◌, ⊤}
+use Rattle.std.specs.Prelude.{◌≡◌, ℕ, ◌&&◌, ◌==◌, Bool, true, false, List, [], drop, Option, None, Some, IsSome, IsNone, codes, slice_index, option_map, if◌then◌else◌, ⊤}
 use Rattle.std.specs.Option.{option_and_then, option_or}
 use Rattle.std.specs.Iterator.{at_most}
 use Rattle.std.specs.Str.{byte, bytes_eq}
@@ -9,14 +9,15 @@ use Rattle.octets.specs.declared.streams.WriterOutput.{WriterOutput}
 use Rattle.octets.specs.Devices.{most_octets}
 use Rattle.octets.specs.Views.{reader_of, consumed_of, is_at_end_of, remaining_of, read_failures_of, writer_of, written_of, is_finished_of, write_failures_of}
 use Rattle.jose.specs.declared.command.Command.{Command}
-use Rattle.jose.specs.declared.command.Command.TheVariants.{JwkGen, JweDec, B64Dec}
+use Rattle.jose.specs.declared.command.Command.TheVariants.{JwkGen, B64Enc, B64Dec, JwsSig, JweEnc, JweDec}
+use Rattle.jose.specs.declared.files.Apart.{Apart as CodeApart}
 use Rattle.jose.specs.declared.files.Source.{Source}
 use Rattle.jose.specs.declared.files.Source.TheVariants as source
 use Rattle.jose.specs.declared.files.Sink.{Sink}
 use Rattle.jose.specs.declared.files.Sink.TheVariants as sink
 use Rattle.jose.specs.declared.ports.Inputs.{Inputs}
 use Rattle.jose.specs.declared.ports.Outputs.{Outputs}
-use Rattle.jose.specs.Invocations.{InvocationView, value_at}
+use Rattle.jose.specs.Invocations.{Settings, InvocationView, value_at}
 
 -- ---- sources
 
@@ -72,36 +73,44 @@ system_random = codes "/dev/urandom"
 
 -- ---- sinks
 
--- nowhere, standard output, or the file of this name, which is its owner's alone where it is made for a secret
+-- what an output file must not be: the file of the content that is read while it is written, and that of the output which is written before it
+pub record Apart : Type 0 where
+  pub content : Option Text
+  pub beside : Option Text
+
+-- nowhere, standard output, or the file of this name, which is its owner's alone where it is made for a secret and is none of the others
 pub data Destination : Type 0 where
   nowhere : Destination
   standard_output : Destination
-  output_file : Text → Bool → Destination
+  output_file : Text → Bool → Apart → Destination
+
+abbrev pub apart_view : CodeApart → Apart
+apart_view apart = record { content = option_map (λ text. text.now) apart.content; beside = option_map (λ text. text.now) apart.beside }
 
 abbrev pub destination_of : {R F D : Type 0} → Sink R F D → Destination
 destination_of sink.Nowhere = nowhere
 destination_of (sink.Standard stdout) = standard_output
-destination_of (sink.File files path is_secret opened) = output_file path.now is_secret
+destination_of (sink.File file) = output_file file.path.now file.is_secret (apart_view file.apart)
 
 -- what the sink holds, where it is known: an open file whose octets are known
 abbrev pub sink_contents : {R F D : Type 0} → (F → Option (List ℕ)) → Sink R F D → Option (List ℕ)
-sink_contents contents (sink.File files path is_secret opened) = option_and_then contents opened
+sink_contents contents (sink.File file) = option_and_then contents file.opened
 sink_contents contents other = None
 
 -- where the sink is a file, it is open
 abbrev pub IsOpenSink : {R F D : Type 0} → Sink R F D → Type 0
-IsOpenSink (sink.File files path is_secret opened) = IsSome opened
+IsOpenSink (sink.File file) = IsSome file.opened
 IsOpenSink other = ⊤
 
 -- where the sink is a file, it is not open yet
 abbrev pub IsUnopenedSink : {R F D : Type 0} → Sink R F D → Type 0
-IsUnopenedSink (sink.File files path is_secret opened) = IsNone opened
+IsUnopenedSink (sink.File file) = IsNone file.opened
 IsUnopenedSink other = ⊤
 
 -- no value means nowhere, `-` standard output, and each other text the file of this name
-abbrev pub destination_named : Bool → Option Text → Destination
-destination_named is_secret None = nowhere
-destination_named is_secret (Some text) = if bytes_eq text (codes "-") then standard_output else output_file text is_secret
+abbrev pub destination_named : Bool → Apart → Option Text → Destination
+destination_named is_secret apart None = nowhere
+destination_named is_secret apart (Some text) = if bytes_eq text (codes "-") then standard_output else output_file text is_secret apart
 
 -- a made key, and what is decrypted
 abbrev pub text_is_secret : Command → Bool
@@ -111,6 +120,35 @@ text_is_secret other = false
 abbrev pub content_is_secret : Command → Bool
 content_is_secret JweDec = true
 content_is_secret other = false
+
+-- the files of the standard streams
+abbrev pub standard_input_file : Text
+standard_input_file = codes "/dev/stdin"
+
+abbrev pub standard_output_file : Text
+standard_output_file = codes "/dev/stdout"
+
+-- the file that an option's value names: of `-` that of the standard stream
+abbrev pub file_named : Text → Option Text → Option Text
+file_named standard = option_map (λ text. if bytes_eq text (codes "-") then standard else text)
+
+-- the content that a command reads while it writes: of the four that do, the octets, the text, the payload or the plaintext
+abbrev pub streamed_value : Command → Settings → Option Text
+streamed_value B64Enc options = value_at (byte "I") options
+streamed_value B64Dec options = value_at (byte "i") options
+streamed_value JwsSig options = value_at (byte "I") options
+streamed_value JweEnc options = value_at (byte "I") options
+streamed_value other options = None
+
+abbrev pub streamed_file : InvocationView → Option Text
+streamed_file invocation = file_named standard_input_file (streamed_value invocation.command invocation.options)
+
+-- the text is not written to its content's file, nor to that of the content beside it, and the content not to its own
+abbrev pub text_apart : InvocationView → Apart
+text_apart invocation = record { content = streamed_file invocation; beside = file_named standard_output_file (value_at (byte "O") invocation.options) }
+
+abbrev pub content_apart : InvocationView → Apart
+content_apart invocation = record { content = streamed_file invocation; beside = None }
 
 -- ---- the devices of a run
 
@@ -138,7 +176,7 @@ pub record AreNewInputs {R F D : Type 0} (invocation : InvocationView) (inputs :
   pub keys : IsNewInput (origin_named true (value_at (byte "k") invocation.options)) inputs.keys
   pub random : IsNewInput (origin_named false (option_or (value_at (byte "R") invocation.options) (Some system_random))) inputs.random
 
--- each output is the one that its option names
+-- each output is the one that its option names, apart from the content that is read while it is written, and the text from the content's output too
 pub record AreNewOutputs {R F D : Type 0} (invocation : InvocationView) (outputs : Outputs (WriterOutput (Sink R F D))) : Type 0 where
-  pub text : IsNewOutput (destination_named (text_is_secret invocation.command) (value_at (byte "o") invocation.options)) outputs.text
-  pub content : IsNewOutput (destination_named (content_is_secret invocation.command) (value_at (byte "O") invocation.options)) outputs.content
+  pub text : IsNewOutput (destination_named (text_is_secret invocation.command) (text_apart invocation) (value_at (byte "o") invocation.options)) outputs.text
+  pub content : IsNewOutput (destination_named (content_is_secret invocation.command) (content_apart invocation) (value_at (byte "O") invocation.options)) outputs.content

@@ -1,26 +1,32 @@
 //! Files, the standard streams and the words themselves, as readers and writers. A file is opened at
 //! its first read; an output file is opened, and cut to nothing, just before its first octet is
-//! written, or when it is finished with none; one that is made for a secret is its owner's alone.
+//! written, or when it is finished with none; one that is made for a secret is its owner's alone. An
+//! output is not opened where it is the file of the content that is read meanwhile, or of the other output.
 ghost use Rattle.std.specs.Prelude.{◌≡◌, ℕ, ◌<◌, ◌++◌, List, length, take, drop, min, option_map, OnOk, Ok};
 ghost use Rattle.std.specs.Result.{result_unwrap_or};
 ghost use Rattle.std.specs.Io.{ReadsAtMost, WritesAtMost};
 ghost use Rattle.std.specs.Io.KnownBytes.{Keeps, ReadConsumes, WriteAppends};
 ghost use Rattle.jose.specs.Invocations.{invocation_view};
 ghost use Rattle.jose.specs.Files.{words, origin_of, origin_named, after_read, source_remaining, IsOpenSource, IsUnopenedSource, AreNewInputs};
-ghost use Rattle.jose.specs.Files.{nowhere, destination_of, destination_named, sink_contents, IsOpenSink, IsUnopenedSink, AreNewOutputs};
+ghost use Rattle.jose.specs.Files.{nowhere, destination_of, destination_named, sink_contents, IsOpenSink, IsUnopenedSink, apart_view, file_named, streamed_file, AreNewOutputs};
 
 use crate::command::Command;
 use crate::invocation::Invocation;
 use crate::ports::{Inputs, Outputs};
 use octets::{ReaderInput, WriterOutput};
-use std::fs::{File, OpenOptions};
+use std::fs::{File, OpenOptions, metadata};
 use std::io;
 use std::io::{Read, Stdin, Stdout, Write};
-use std::os::unix::fs::OpenOptionsExt;
+use std::os::unix::fs::{MetadataExt, OpenOptionsExt};
 use std::rt::Files;
 
 /// The file of random octets where `-R` names none.
 const SYSTEM_RANDOM: &str = "/dev/urandom";
+
+/// The files of the standard streams.
+const STANDARD_INPUT: &str = "/dev/stdin";
+
+const STANDARD_OUTPUT: &str = "/dev/stdout";
 
 /// The mode of a file that is made: readable and writable for its owner alone, or for all that the process's mask leaves.
 const SECRET_MODE: u32 = 0o600;
@@ -87,12 +93,26 @@ pub(crate) enum Sink<'a, R: Files> {
     /// There is no such option. All that is written is taken, and nothing is kept.
     Nowhere,
     Standard(Stdout),
-    File {
-        files: &'a R,
-        path: &'a str,
-        is_secret: bool,
-        opened: Option<R::File>,
-    },
+    File(OutputFile<'a, R>),
+}
+
+/// A file that is opened, and cut to nothing, when it is first written.
+#[derive(Drop)]
+pub(crate) struct OutputFile<'a, R: Files> {
+    files: &'a R,
+    path: &'a str,
+    is_secret: bool,
+    apart: Apart<'a>,
+    opened: Option<R::File>,
+}
+
+/// What an output file must not be, by whatever links.
+#[derive(Clone, Copy)]
+pub(crate) struct Apart<'a> {
+    /// The file of the content that is read while the output is written.
+    content: Option<&'a str>,
+    /// That of the output which is written before it.
+    beside: Option<&'a str>,
 }
 
 impl<'a, R: Files> Write for Sink<'a, R> {
@@ -115,16 +135,11 @@ impl<'a, R: Files> Write for Sink<'a, R> {
         match self {
             Sink::Nowhere => Ok(octets.len()),
             Sink::Standard(stdout) => stdout.write(octets),
-            Sink::File {
-                files,
-                path,
-                is_secret,
-                opened,
-            } => {
-                if opened.is_none() {
-                    *opened = Some(create(*files, *path, *is_secret)?);
+            Sink::File(output) => {
+                if output.opened.is_none() {
+                    output.opened = Some(output.create()?);
                 }
-                match opened {
+                match &mut output.opened {
                     Some(file) => file.write(octets),
                     None => unreachable!(),
                 }
@@ -144,16 +159,11 @@ impl<'a, R: Files> Write for Sink<'a, R> {
         match self {
             Sink::Nowhere => Ok(()),
             Sink::Standard(stdout) => stdout.flush(),
-            Sink::File {
-                files,
-                path,
-                is_secret,
-                opened,
-            } => {
-                if opened.is_none() {
-                    *opened = Some(create(*files, *path, *is_secret)?);
+            Sink::File(output) => {
+                if output.opened.is_none() {
+                    output.opened = Some(output.create()?);
                 }
-                match opened {
+                match &mut output.opened {
                     Some(file) => file.flush(),
                     None => unreachable!(),
                 }
@@ -162,16 +172,33 @@ impl<'a, R: Files> Write for Sink<'a, R> {
     }
 }
 
-/// Opens the file for writing, and cuts it to nothing. Where it is not there it is made, for its owner alone where it is for a
-/// secret, and else with the mode that the process's mask leaves.
-fn create<R: Files>(files: &R, path: &str, is_secret: bool) -> io::Result<R::File> {
-    let mode = if is_secret { SECRET_MODE } else { MODE };
-    OpenOptions::new()
-        .write(true)
-        .create(true)
-        .truncate(true)
-        .mode(mode)
-        .open(files, path)
+impl<'a, R: Files> OutputFile<'a, R> {
+    /// Opens the file for writing, and cuts it to nothing. Where it is not there it is made, for its owner alone where it is for a
+    /// secret, and else with the mode that the process's mask leaves. Where it is one that it must not be it is left as it is.
+    fn create(&self) -> io::Result<R::File> {
+        for other in [self.apart.content, self.apart.beside] {
+            if other.is_some_and(|other| are_one_file(self.files, self.path, other)) {
+                return Err(io::Error::from(io::ErrorKind::ResourceBusy));
+            }
+        }
+        let mode = if self.is_secret { SECRET_MODE } else { MODE };
+        OpenOptions::new()
+            .write(true)
+            .create(true)
+            .truncate(true)
+            .mode(mode)
+            .open(self.files, self.path)
+    }
+}
+
+/// Both names are those of one regular file, by whatever links. Where either can't be looked at they are not.
+fn are_one_file<R: Files>(files: &R, path: &str, other: &str) -> bool {
+    match (metadata(files, path), metadata(files, other)) {
+        (Ok(file), Ok(other)) => {
+            file.is_file() && file.dev() == other.dev() && file.ino() == other.ino()
+        }
+        _ => false,
+    }
 }
 
 /// The inputs that the options name. JSON may stand in the words for `-i`, `-s` and `-k`, but for the
@@ -216,7 +243,8 @@ fn source_of<'a, R: Files>(
     }
 }
 
-/// The outputs that the options name. A made key and what is decrypted are secrets.
+/// The outputs that the options name. A made key and what is decrypted are secrets. The text is kept apart from the content that is
+/// read while it is written and from the content beside it, which is written before.
 pub(crate) fn outputs<'a, R: Files>(
     files: &'a R,
     standard: Stdout,
@@ -226,14 +254,51 @@ pub(crate) fn outputs<'a, R: Files>(
 {
     let text_is_secret = invocation.command == Command::JwkGen;
     let content_is_secret = invocation.command == Command::JweDec;
+    let content = streamed_file(invocation);
+    let beside = file_named(STANDARD_OUTPUT, invocation.value('O'));
+    let text_apart = Apart { content, beside };
+    let content_apart = Apart {
+        content,
+        beside: None,
+    };
     Outputs {
-        text: WriterOutput::new(sink_of(files, standard, invocation.value('o'), text_is_secret)),
+        text: WriterOutput::new(sink_of(
+            files,
+            standard,
+            invocation.value('o'),
+            text_is_secret,
+            text_apart,
+        )),
         content: WriterOutput::new(sink_of(
             files,
             standard,
             invocation.value('O'),
             content_is_secret,
+            content_apart,
         )),
+    }
+}
+
+/// The file of the content that the command reads while it writes.
+fn streamed_file(invocation: &Invocation) -> Option<&str>
+    ensures { option_map (λ text. text.now) result ≡ streamed_file (invocation_view invocation.now) }
+{
+    let value = match invocation.command {
+        Command::B64Dec => invocation.value('i'),
+        Command::B64Enc | Command::JwsSig | Command::JweEnc => invocation.value('I'),
+        _ => None,
+    };
+    file_named(STANDARD_INPUT, value)
+}
+
+/// The file that an option's value names, which is this one where it is `-`.
+fn file_named<'a>(standard: &'static str, value: Option<&'a str>) -> Option<&'a str>
+    ensures { option_map (λ text. text.now) result
+        ≡ file_named standard.now (option_map (λ text. text.now) value.entry) }
+{
+    match value {
+        Some("-") => Some(standard),
+        named => named,
     }
 }
 
@@ -242,19 +307,22 @@ fn sink_of<'a, R: Files>(
     standard: Stdout,
     value: Option<&'a str>,
     is_secret: bool,
+    apart: Apart<'a>,
 ) -> Sink<'a, R>
     ensures named { destination_of result
-        ≡ destination_named is_secret (option_map (λ text. text.now) value.entry) }
+        ≡ destination_named is_secret (apart_view apart.entry)
+        (option_map (λ text. text.now) value.entry) }
     ensures unopened { IsUnopenedSink result }
 {
     match value {
         None => Sink::Nowhere,
         Some("-") => Sink::Standard(standard),
-        Some(path) => Sink::File {
+        Some(path) => Sink::File(OutputFile {
             files,
             path,
             is_secret,
+            apart,
             opened: None,
-        },
+        }),
     }
 }
