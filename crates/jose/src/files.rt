@@ -173,8 +173,8 @@ impl<'a, R: Files> Write for Sink<'a, R> {
 }
 
 impl<'a, R: Files> OutputFile<'a, R> {
-    /// Opens the file for writing, and cuts it to nothing. Where it is not there it is made, for its owner alone where it is for a
-    /// secret, and else with the mode that the process's mask leaves. Where it is one that it must not be it is left as it is.
+    /// Opens the file for writing, and cuts it to nothing. Where it is not there it is made, for its owner alone where it is
+    /// for a secret, and else with the mode that the process's mask leaves. One that it must not be is left as it is.
     fn create(&self) -> io::Result<R::File> {
         for other in [self.apart.content, self.apart.beside] {
             if other.is_some_and(|other| are_one_file(self.files, self.path, other)) {
@@ -243,8 +243,8 @@ fn source_of<'a, R: Files>(
     }
 }
 
-/// The outputs that the options name. A made key and what is decrypted are secrets. The text is kept apart from the content that is
-/// read while it is written and from the content beside it, which is written before.
+/// The outputs that the options name. A made key and what is decrypted are secrets. Both are kept apart from the content that
+/// is read while they are written, and the text from the content beside it, which is written before.
 pub(crate) fn outputs<'a, R: Files>(
     files: &'a R,
     standard: Stdout,
