@@ -1,4 +1,4 @@
-use Rattle.std.proofs.Common.{rules, [], ◌≡◌, Ok, sym, ◌∙◌, ap}
+use Rattle.std.proofs.Common.{rules, Ok, sym, ◌∙◌, ap}
 use Rattle.octets.specs.Devices.{appended}
 use Rattle.octets.specs.Encoding.{encoding}
 use Rattle.octets.proofs.Agreement.{at_refusal, seen_possible}
