@@ -9,7 +9,7 @@ use Rattle.keys.specs.JsonTexts.{UrlTextsAreJson}
 use Rattle.objects.specs.Frames.{filled, in_places, jwe_frame, sealed_with, IsJweFrame}
 use Rattle.objects.specs.Jwe.{Recipient, EncryptedObject, json_text, is_compact, joined, key_of_first, jwe_compact_text}
 use Rattle.objects.specs.Texts.{has_text, kept}
-use Rattle.objects.specs.Writing.{Written, all_texts, nothing_written, inside, with_members, with_parts, jwe_written}
+use Rattle.objects.specs.Writing.{all_texts, nothing_written, inside, with_members, with_parts, jwe_written}
 use Rattle.objects.proofs.DetachedContent.{no_octets}
 use Rattle.objects.proofs.JweWritten.{json_written}
 use Rattle.objects.proofs.Places.{Begins, is_filled, places_count, plain_content, with_value_of, with_value_if_there}
