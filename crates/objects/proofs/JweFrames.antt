@@ -6,10 +6,10 @@ use Rattle.octets.specs.Octets.{IsOctets}
 use Rattle.octets.specs.Outcomes.{needs}
 use Rattle.octets.proofs.Decoded.{IsOctets-nil, first_or, decoded-nil}
 use Rattle.keys.specs.JsonTexts.{UrlTextsAreJson}
-use Rattle.objects.specs.Frames.{filled, in_places, sealed_with, IsJweFrame}
+use Rattle.objects.specs.Frames.{filled, in_places, jwe_frame, sealed_with, IsJweFrame}
 use Rattle.objects.specs.Jwe.{Recipient, EncryptedObject, json_text, is_compact, joined, key_of_first, jwe_compact_text}
 use Rattle.objects.specs.Texts.{has_text, kept}
-use Rattle.objects.specs.Writing.{Written, all_texts, nothing_written, inside, with_members, with_parts, jwe_written}
+use Rattle.objects.specs.Writing.{all_texts, nothing_written, inside, with_members, with_parts, jwe_written}
 use Rattle.objects.proofs.DetachedContent.{no_octets}
 use Rattle.objects.proofs.JweWritten.{json_written}
 use Rattle.objects.proofs.Places.{Begins, is_filled, places_count, plain_content, with_value_of, with_value_if_there}
@@ -85,9 +85,11 @@ compact_frame exact detach o fits = record {
 
 -- ---- both forms
 
-pub jwe_frame : UrlTextsAreJson → HasUrlCharacters → DecodesExactly → (compact detach : Bool) (o : EncryptedObject) (w : Written) → jwe_written true compact detach o ≡ Ok w
-    → IsJweFrame compact detach o (all_texts w)
-jwe_frame url characters exact true detach o w h =
-    let fits = steps (needs (is_compact o o.recipients) NotCompact) _ w h in
-    subst (λ w. IsJweFrame true detach o (all_texts w)) (same_answer _ w fits.2) (compact_frame exact detach o (passed _ NotCompact fits.0 fits.1))
-jwe_frame url characters exact false detach o w h = subst (λ w. IsJweFrame false detach o (all_texts w)) (same_answer _ w h) (json_frame url characters exact detach o)
+pub is_jwe_frame : UrlTextsAreJson → HasUrlCharacters → DecodesExactly → (compact detach : Bool) (o : EncryptedObject) (texts : List (List ℕ)) → jwe_frame compact detach o ≡ Ok texts
+    → IsJweFrame compact detach o texts
+is_jwe_frame url characters exact true detach o texts h =
+    let w = steps (jwe_written true true detach o) _ texts h in
+    let fits = steps (needs (is_compact o o.recipients) NotCompact) _ w.0 w.1 in
+    subst (IsJweFrame true detach o) (ap all_texts (same_answer _ w.0 fits.2) ∙ same_answer _ texts w.2)
+    (compact_frame exact detach o (passed _ NotCompact fits.0 fits.1))
+is_jwe_frame url characters exact false detach o texts h = subst (IsJweFrame false detach o) (same_answer _ texts h) (json_frame url characters exact detach o)

@@ -8,7 +8,7 @@ use Rattle.octets.specs.Octets.{IsOctets}
 use Rattle.octets.specs.Outcomes.{needs}
 use Rattle.octets.proofs.Decoded.{IsOctets-nil}
 use Rattle.keys.specs.JsonTexts.{UrlTextsAreJson}
-use Rattle.objects.specs.Frames.{filled, in_places, with_octets, signed_with, IsJwsFrame}
+use Rattle.objects.specs.Frames.{filled, in_places, with_octets, jws_frame, signed_with, IsJwsFrame}
 use Rattle.objects.specs.Jws.{Signature, SignedObject, json_text, is_compact, joined, jws_compact_text, jws_text}
 use Rattle.objects.specs.Texts.{kept}
 use Rattle.objects.specs.Writing.{Written, all_texts, nothing_written, opened, closed, inside, with_content, with_signature, with_signatures, with_first, with_items, with_list, jws_json, jws_written}
@@ -136,9 +136,11 @@ compact_frame exact detach payload (s ∷ (other ∷ rest)) fits = cc fits
 
 -- ---- both forms
 
-pub jws_frame : UrlTextsAreJson → HasUrlCharacters → DecodesExactly → (compact detach : Bool) (o : SignedObject) (w : Written) → jws_written true compact detach o ≡ Ok w
-    → IsJwsFrame compact detach o (all_texts w)
-jws_frame url characters exact true detach o w h =
-    let fits = steps (needs (is_compact o.signatures) NotCompact) _ w h in
-    subst (λ w. IsJwsFrame true detach o (all_texts w)) (same_answer _ w fits.2) (compact_frame exact detach o.payload o.signatures (passed _ NotCompact fits.0 fits.1))
-jws_frame url characters exact false detach o w h = subst (λ w. IsJwsFrame false detach o (all_texts w)) (same_answer _ w h) (json_frame url characters detach o)
+pub is_jws_frame : UrlTextsAreJson → HasUrlCharacters → DecodesExactly → (compact detach : Bool) (o : SignedObject) (texts : List (List ℕ)) → jws_frame compact detach o ≡ Ok texts
+    → IsJwsFrame compact detach o texts
+is_jws_frame url characters exact true detach o texts h =
+    let w = steps (jws_written true true detach o) _ texts h in
+    let fits = steps (needs (is_compact o.signatures) NotCompact) _ w.0 w.1 in
+    subst (IsJwsFrame true detach o) (ap all_texts (same_answer _ w.0 fits.2) ∙ same_answer _ texts w.2)
+    (compact_frame exact detach o.payload o.signatures (passed _ NotCompact fits.0 fits.1))
+is_jws_frame url characters exact false detach o texts h = subst (IsJwsFrame false detach o) (same_answer _ texts h) (json_frame url characters detach o)

@@ -1,10 +1,13 @@
 -- The texts that stand round a content, and round the signatures or the tag after it, so that these can be written as they come.
-use Rattle.std.specs.Prelude.{◌≡◌, ℕ, ◌+◌, Bool, true, false, List, [], ◌∷◌, ◌++◌, length, map, nat_le, if◌then◌else◌, Ok}
+use Rattle.std.specs.Prelude.{◌≡◌, ℕ, ◌+◌, Bool, true, false, List, [], ◌∷◌, ◌++◌, length, map, nat_le, if◌then◌else◌, Result, Ok}
 use Rattle.std.specs.List.{AllByRecursion}
+use Rattle.octets.specs.declared.refusal.Refusal.{Refusal}
 use Rattle.octets.specs.Base64url.{base64url}
 use Rattle.octets.specs.Octets.{IsOctets}
+use Rattle.octets.specs.Outcomes.{◌>>=◌}
 use Rattle.objects.specs.Jws.{Signature, SignedObject, jws_text}
 use Rattle.objects.specs.Jwe.{EncryptedObject, jwe_text}
+use Rattle.objects.specs.Writing.{all_texts, jws_written, jwe_written}
 
 -- with values in the places between the texts
 abbrev pub filled : List (List ℕ) → List (List ℕ) → List ℕ
@@ -17,7 +20,18 @@ abbrev pub in_places : Bool → List ℕ → List (List ℕ) → List (List ℕ)
 in_places true content others = map base64url others
 in_places false content others = base64url content ∷ map base64url others
 
+-- the first of the texts, which stands before all places; nothing where there is no frame
+abbrev pub first_text : Result (List (List ℕ)) Refusal → List ℕ
+first_text (Ok (text ∷ rest)) = text
+first_text r = []
+
 -- ---- signed objects (RFC 7515 section 7)
+
+-- the texts round the payload and the signatures, in the form that is asked for
+abbrev pub jws_frame : Bool → Bool → SignedObject → Result (List (List ℕ)) Refusal
+jws_frame compact detach o = do
+  w ← jws_written true compact detach o
+  Ok (all_texts w)
 
 -- the signatures with these octets in place of their own, in order
 abbrev pub with_octets : List Signature → List (List ℕ) → List Signature
@@ -35,6 +49,12 @@ pub record IsJwsFrame (compact detach : Bool) (o : SignedObject) (texts : List (
       → jws_text compact detach (signed_with o payload signatures) ≡ Ok (filled texts (in_places detach payload signatures))
 
 -- ---- encrypted objects (RFC 7516 section 7)
+
+-- the texts round the ciphertext and the tag, in the form that is asked for
+abbrev pub jwe_frame : Bool → Bool → EncryptedObject → Result (List (List ℕ)) Refusal
+jwe_frame compact detach o = do
+  w ← jwe_written true compact detach o
+  Ok (all_texts w)
 
 -- the object with this ciphertext and this tag in place of its own
 abbrev pub sealed_with : EncryptedObject → List ℕ → List ℕ → EncryptedObject

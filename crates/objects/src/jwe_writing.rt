@@ -3,7 +3,7 @@
 ghost use Rattle.std.specs.Prelude.{◌≡◌, ◌≢◌, codes, map, option_map, Err, Ok, IfOk, IfErr, OnOk, OnErr, string_bytes};
 ghost use Rattle.octets.specs.Outcomes.{AgreesUnlessMemory};
 ghost use Rattle.keys.specs.Limits.{limits};
-ghost use Rattle.objects.specs.Frames.{IsJweFrame};
+ghost use Rattle.objects.specs.Frames.{IsJweFrame, jwe_frame};
 ghost use Rattle.objects.specs.Jwe.{IsMade, jwe_of, json_text, jwe_compact_text, jwe_text, is_compact as is_compact_object, key_of_first};
 ghost use Rattle.objects.specs.Texts.{handed_in};
 ghost use Rattle.objects.specs.Views.{jwe_view, recipient_view, written_view};
@@ -54,6 +54,7 @@ impl Jwe {
     /// detached, and of the tag; in compact form where that is asked for, or else in JSON form. The object's own ciphertext
     /// and tag do not matter. Refused with `NotCompact` as `to_compact` is.
     pub fn frame(&self, alloc: Global, compact: bool, detach: bool) -> Result<Vec<String>, Refusal>
+        ensures exact { AgreesUnlessMemory (λ texts. map string_bytes texts.items) result (jwe_frame compact detach (jwe_view self.now)) }
         ensures texts { IfOk result (λ texts. IsJweFrame compact detach (jwe_view self.now) (map string_bytes texts.items)) }
         ensures refused { IfErr result (λ e. e ≢ Refusal.Memory → (e ≡ Refusal.NotCompact) × (jwe_text compact detach (jwe_view self.now) ≡ Err Refusal.NotCompact)) }
     {

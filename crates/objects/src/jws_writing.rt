@@ -3,7 +3,7 @@
 ghost use Rattle.std.specs.Prelude.{◌≡◌, ◌≢◌, map, option_map, None, Err, Ok, IfOk, IfErr, OnOk, OnErr, string_bytes};
 ghost use Rattle.octets.specs.Outcomes.{AgreesUnlessMemory};
 ghost use Rattle.keys.specs.Limits.{limits};
-ghost use Rattle.objects.specs.Frames.{IsJwsFrame};
+ghost use Rattle.objects.specs.Frames.{IsJwsFrame, jws_frame};
 ghost use Rattle.objects.specs.Jws.{IsMade, jws_of, json_text, jws_compact_text, jws_text, is_compact as is_compact_object};
 ghost use Rattle.objects.specs.Texts.{handed_in};
 ghost use Rattle.objects.specs.Views.{jws_view, signature_view, written_view};
@@ -52,6 +52,7 @@ impl Jws {
     /// detached, and of the signatures in order; in compact form where that is asked for, or else in JSON form. The object's
     /// own payload and signatures do not matter. Refused with `NotCompact` as `to_compact` is.
     pub fn frame(&self, alloc: Global, compact: bool, detach: bool) -> Result<Vec<String>, Refusal>
+        ensures exact { AgreesUnlessMemory (λ texts. map string_bytes texts.items) result (jws_frame compact detach (jws_view self.now)) }
         ensures texts { IfOk result (λ texts. IsJwsFrame compact detach (jws_view self.now) (map string_bytes texts.items)) }
         ensures refused { IfErr result (λ e. e ≢ Refusal.Memory → (e ≡ Refusal.NotCompact) × (jws_text compact detach (jws_view self.now) ≡ Err Refusal.NotCompact)) }
     {

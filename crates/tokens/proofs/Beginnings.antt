@@ -1,17 +1,12 @@
--- Lists that begin others: behind a list, in base64url texts, among the members of a JSON text, and on both outputs of a call.
-use Rattle.std.proofs.Common.{◌≡◌, ℕ, zero, suc, ◌<◌, length, take, length-append, Bool, true, false, List, [], ◌∷◌, ◌++◌, Ok, refl, sym, ap, ap₂, ◌∙◌, subst, arith, append_assoc}
-use Rattle.serde_json.specs.Data.{Data, string, Members, member}
-use Rattle.serde_json.specs.Written.{comma_if, compact_text, members_text}
+-- Lists that begin others: behind a list, in base64url texts, in a frame, and on both outputs of a call.
+use Rattle.std.proofs.Common.{◌≡◌, ℕ, ◌≤◌, length, map, take, length-append, Bool, true, false, List, [], ◌∷◌, ◌++◌, Ok, refl, sym, ap, ◌∙◌, subst, arith, append_assoc}
 use Rattle.octets.specs.Base64url.{base64url, whole_groups, part_group}
 use Rattle.octets.specs.Devices.{AppendsPrefixOf}
 use Rattle.octets.specs.Octets.{IsOctets}
 use Rattle.octets.specs.Plan.{OutputTexts, Plan, Begins, Grows, plan_map, BothGrow}
-use Rattle.octets.proofs.Characters.{spells_six_bits}
-use Rattle.octets.proofs.Decoded.{IsOctets-nil}
 use Rattle.octets.proofs.Groups.{base64url_whole-append, base64url_whole_part}
-use Rattle.keys.proofs.UrlTexts.{url_texts_are_json}
+use Rattle.objects.specs.Frames.{filled, in_places, first_text}
 use Rattle.objects.specs.Texts.{handed_in, handed_out}
-use Rattle.objects.proofs.Characters.{IsUrlText}
 use Rattle.objects.proofs.Steps.{steps, same_answer}
 
 -- ---- lists
@@ -48,22 +43,15 @@ text_grows x y b =
     begins_all (base64url (whole_groups x)) (base64url (whole_groups y)) (base64url y) (groups_grow x y b)
     (record { rest = base64url (part_group y); continues = base64url_whole_part y })
 
--- ---- members
+-- ---- frames
 
--- a name of letters, digits, `-` and `_` stands between quotes as it is
-pub named_text : (later : Bool) (name : List ℕ) (value : Data) (rest : Members) → IsUrlText name
-    → members_text later (member name value rest) ≡ comma_if later ++ (34 ∷ (name ++ 34 ∷ 58 ∷ (compact_text value ++ members_text true rest)))
-named_text later name value rest is_name =
-    ap (λ t. comma_if later ++ (t ++ 58 ∷ (compact_text value ++ members_text true rest))) (url_texts_are_json name is_name).1
-    ∙ ap (λ t. comma_if later ++ (34 ∷ t)) (append_assoc name (34 ∷ []) (58 ∷ (compact_text value ++ members_text true rest)))
-
--- so does such a text
-pub member_text : (later : Bool) (name text : List ℕ) (rest : Members) → IsUrlText name → IsUrlText text
-    → members_text later (member name (string text) rest) ≡ comma_if later ++ (34 ∷ (name ++ 34 ∷ 58 ∷ 34 ∷ (text ++ 34 ∷ members_text true rest)))
-member_text later name text rest is_name is_text =
-    named_text later name (string text) rest is_name
-    ∙ ap (λ t. comma_if later ++ (34 ∷ (name ++ 34 ∷ 58 ∷ (t ++ members_text true rest)))) (url_texts_are_json text is_text).1
-    ∙ ap (λ t. comma_if later ++ (34 ∷ (name ++ 34 ∷ 58 ∷ 34 ∷ t))) (append_assoc text (34 ∷ []) (members_text true rest))
+-- What a content's beginning fixes, behind the first text of a frame, begins the frame with the content in it.
+pub frame_begins : (texts : List (List ℕ)) (x content : List ℕ) (others : List (List ℕ)) → 1 ≤ length texts → Begins x content
+    → Begins (first_text (Ok texts) ++ base64url (whole_groups x)) (filled texts (in_places false content others))
+frame_begins [] x content others some b = absurd (omega (arith, some))
+frame_begins (first ∷ rest) x content others some b =
+    let text : List ℕ = base64url content in
+    begins_behind first _ _ (begins_all _ text _ (text_grows x content b) (record { rest = filled rest (map base64url others); continues = refl }))
 
 -- ---- both outputs
 
@@ -99,47 +87,3 @@ both_grow_by_beginnings plan more whole = record {
   text = output_grows plan (λ texts. texts.text) (λ p q. (more p q).text) (λ p q texts octets h. (whole p q texts octets h).text);
   content = output_grows plan (λ texts. texts.content) (λ p q. (more p q).content) (λ p q texts octets h. (whole p q texts octets h).content);
 }
-
--- ---- a text that stands before every content
-
-split_at : (f t : List ℕ) (a b : ℕ) (x y z w : List ℕ) → f ++ (a ∷ x) ≡ t ++ (a ∷ y) → f ++ (b ∷ z) ≡ t ++ (b ∷ w) → (a ≡ b → ⊥) → f ≡ t
-split_at [] [] a b x y z w e h apart = refl
-split_at [] (c ∷ t) a b x y z w e h apart =
-    let first : a ≡ c = cc e in
-    let second : b ≡ c = cc h in
-    absurd (apart (first ∙ sym second))
-split_at (c ∷ f) [] a b x y z w e h apart =
-    let first : c ≡ a = cc e in
-    let second : c ≡ b = cc h in
-    absurd (apart (sym first ∙ second))
-split_at (c ∷ f) (d ∷ t) a b x y z w e h apart =
-    let same : c ≡ d = cc e in
-    let front : f ++ (a ∷ x) ≡ t ++ (a ∷ y) = cc e in
-    let back : f ++ (b ∷ z) ≡ t ++ (b ∷ w) = cc h in
-    ap₂ (λ c l. c ∷ l) same (split_at f t a b x y z w front back apart)
-
-pub one_octet : (x : ℕ) → x < 256 → IsOctets (x ∷ [])
-one_octet x lt zero = lt
-one_octet x lt (suc i) = IsOctets-nil i
-
-text_of_zero : base64url (0 ∷ []) ≡ 65 ∷ 65 ∷ []
-text_of_zero = spells_six_bits (0 ∷ []) (one_octet 0 (omega arith))
-
-text_of_last : base64url (255 ∷ []) ≡ 95 ∷ 119 ∷ []
-text_of_last = spells_six_bits (255 ∷ []) (one_octet 255 (omega arith))
-
--- Two texts of which each stands before the base64url text of every content are one.
-module _ (first before : List ℕ) (after : List ℕ → List ℕ) (both : (content : List ℕ) → IsOctets content → Begins (before ++ base64url content) (first ++ (base64url content ++ after content))) where
-  with_text : (content text : List ℕ) → IsOctets content → base64url content ≡ text → (x : List ℕ) × (y : List ℕ) × (first ++ (text ++ x) ≡ before ++ (text ++ y))
-  with_text content text octets is =
-      let b = both content octets in (
-        after content,
-        b.rest,
-        ap (λ t. first ++ (t ++ after content)) (sym is) ∙ b.continues ∙ append_assoc before (base64url content) b.rest ∙ ap (λ t. before ++ (t ++ b.rest)) is,
-      )
-
-  pub same_before : first ≡ before
-  same_before =
-      let a = with_text (0 ∷ []) (65 ∷ 65 ∷ []) (one_octet 0 (omega arith)) text_of_zero in
-      let b = with_text (255 ∷ []) (95 ∷ 119 ∷ []) (one_octet 255 (omega arith)) text_of_last in
-      split_at first before 65 95 _ _ _ _ a.2 b.2 (λ same. absurd (omega (arith, same)))

@@ -1,5 +1,5 @@
 -- What is encrypted: the object that keys and a template settle for a plaintext by the random octets that are drawn.
-use Rattle.std.proofs.Common.{◌≡◌, ℕ, ◌<◌, Bool, true, not, nat_le, List, [], ◌∷◌, length, take, map, Option, Some, None, Ok, refl, sym, ◌∙◌, ap, subst, arith, length-drop}
+use Rattle.std.proofs.Common.{◌≡◌, ℕ, ◌<◌, Bool, true, not, nat_le, List, [], ◌∷◌, length, take, map, Option, Some, None, Ok, refl, sym, ◌∙◌, ap, arith, length-drop}
 use Rattle.std.proofs.lemmas.Bool.{and_from, leb-true, le-leb}
 use Rattle.std.proofs.lemmas.Bool.Decides.{Decides-not, Decides-ltb}
 use Rattle.std.proofs.lemmas.List.{length-take-le, length-map}
@@ -28,7 +28,7 @@ use Rattle.keys.specs.Keys.{OctetKey, AreOctetKeys}
 use Rattle.keys.specs.Limits.{limits}
 use Rattle.keys.proofs.ReadingBack.{numbers_whole}
 use Rattle.keys.proofs.UrlTexts.{url_texts_are_json}
-use Rattle.objects.specs.Jwe.{RecipientParts, EncryptedObject, have_one_enc, is_plain, encrypted_object, built, key_of_first, AreMembers, recipients_of_one_enc}
+use Rattle.objects.specs.Jwe.{RecipientParts, EncryptedObject, have_one_enc, is_plain, encrypted_object, built, AreMembers, recipients_of_one_enc}
 use Rattle.objects.specs.Texts.{header_depth, depth_of_each, handed_out}
 use Rattle.objects.proofs.EachRead.{all_both, all_images}
 use Rattle.objects.proofs.SpellingJwe.{is_built}
@@ -36,7 +36,7 @@ use Rattle.objects.proofs.Steps.{steps, passed, same_answer}
 use Rattle.tokens.specs.Algorithms.{content_alg, key_alg}
 use Rattle.tokens.specs.Choosing.{Receiver, Encryption, encryption_of}
 use Rattle.tokens.specs.Decrypting.{authenticated}
-use Rattle.tokens.specs.Encrypting.{salts_drawn, cek_drawn, octets_drawn, salts_by, after_salts, cek_by, iv_by, header_of, header_by, recipients_by, sealing_by, sealed_by, parts_by, encrypted, text_of, first_key, written_of, plan_by, encrypting_by}
+use Rattle.tokens.specs.Encrypting.{salts_drawn, cek_drawn, octets_drawn, salts_by, after_salts, cek_by, iv_by, header_of, header_by, recipients_by, sealing_by, sealed_by, parts_by, encrypted, text_of, written_of, plan_by, encrypting_by}
 use Rattle.tokens.proofs.DeliveredKeys.{IsCek, Delivers, after_long, cek_by_is, each_delivered}
 use Rattle.tokens.proofs.HeaderTexts.{shallow_enough}
 use Rattle.tokens.proofs.EncryptedHeaders.{salted_by, IsWritten, Writes, writes, given_by, made_by, recipients_are, as_many_salted, recipients_are_read}
@@ -116,27 +116,11 @@ built_is keys e random s by is few =
       plain,
     ) refl
 
--- what an object has of the members that it is made of, as far as its texts begin with them
-pub record Has (e : Encryption) (random : List ℕ) (s : Sealed) (o : EncryptedObject) : Type 0 where
-  pub protected : o.protected ≡ base64url (header_by e random)
-  pub iv : o.iv ≡ iv_by e random
-  pub aad : o.aad ≡ e.aad
-  pub ciphertext : o.ciphertext ≡ s.ciphertext
-  pub key : key_of_first o.recipients ≡ first_key (recipients_by e (cek_by e random) e.receivers (salts_by e random))
-
--- so it is of what is made
-pub has : (e : Encryption) (random : List ℕ) (s : Sealed) → Has e random s (object_by e random s)
-has e random s = record {
-  protected = refl;
-  iv = refl;
-  aad = refl;
-  ciphertext = refl;
-  key = first_alike (salted_by e random) ∙ ap first_key (sym (recipients_are e (cek_by e random) e.receivers (salts_by e random)));
-}
-  where
-    first_alike : (xs : List (Receiver × List ℕ)) → key_of_first (map (made_by e (cek_by e random)) xs) ≡ first_key (map (given_by e (cek_by e random)) xs)
-    first_alike [] = refl
-    first_alike (x ∷ rest) = refl
+-- what is built has no more receivers than an object may have
+pub few_receivers : (e : Encryption) (random : List ℕ) (s : Sealed) (o : EncryptedObject) → built limits (parts_by e random s) ≡ Ok o → nat_le (length e.receivers) limits.recipients ≡ true
+few_receivers e random s o made =
+    let given : length (recipients_by e (cek_by e random) e.receivers (salts_by e random)) ≡ length e.receivers = rw recipients_are (as_many e random) in
+    ap (λ k. nat_le k 64) (sym given) ∙ (is_built limits (parts_by e random s) o made).few
 
 -- ---- what is sealed
 
@@ -154,17 +138,11 @@ sealed_is s p made h =
 
 -- ---- what is encrypted
 
--- What is encrypted by just as many random octets as are drawn: what the plaintext is sealed to, which is octets, and an object that
--- has it. The headers are written, the content encryption key is delivered to each receiver, the plaintext opens what is sealed, and
--- the object is made of members that are as JSON has them, or octets.
+-- What is encrypted by just as many random octets as are drawn: what the plaintext is sealed to, and the object that is made of it. The
+-- content encryption key is delivered to each receiver, the plaintext opens what is sealed, and the members are as JSON has them, or
+-- octets.
 pub record IsEncrypted (e : Encryption) (random plaintext : List ℕ) (o : EncryptedObject) : Type 0 where
   pub sealed : Sealed
-  pub short : IsTooLong (sealing_by e random) plaintext → ⊥
-  pub same : (sealing_by e random).sealed plaintext ≡ sealed
-  pub octets : IsOctets sealed.ciphertext
-  pub aad : IsOctets e.aad
-  pub has : Has e random sealed o
-  pub writes : Writes e random
   pub delivers : AllByRecursion (Delivers e (cek_by e random)) (salted_by e random)
   pub opens : IsOpening (content_alg e.encryption) (cek_by e random) (iv_by e random) (authenticated (base64url (header_by e random)) e.aad) sealed.ciphertext sealed.tag plaintext
   pub members : AreMembers (parts_by e random sealed)
@@ -191,7 +169,7 @@ are_members laws keys e random s by w random_octets delivers ciphertext tag =
     }
 
 -- the steps of encrypting
-encrypting_steps : (e : Encryption) (random plaintext : List ℕ) (o : EncryptedObject) → encrypted e random plaintext ≡ Ok o
+pub encrypting_steps : (e : Encryption) (random plaintext : List ℕ) (o : EncryptedObject) → encrypted e random plaintext ≡ Ok o
     → (s : Sealed) × (sealed_by (sealing_by e random) plaintext ≡ Ok s) × (built limits (parts_by e random s) ≡ Ok o)
 unfolding encrypted
 encrypting_steps e random plaintext o h = steps (sealed_by (sealing_by e random) plaintext) (λ s. built limits (parts_by e random s)) o h
@@ -221,22 +199,13 @@ is_encrypted laws keys e random plaintext o key_octets random_octets octets long
       is_tag = ap (λ (x : Sealed). x.tag) sealed.1;
     } in
     let both = laws.opened enc cek iv authentic s.ciphertext s.tag plaintext is_cek.octets start opens in
-    let given : length (recipients_by e cek e.receivers (salts_by e random)) ≡ length e.receivers = rw recipients_are (as_many e random) in
-    let few : nat_le (length e.receivers) limits.recipients ≡ true = ap (λ k. nat_le k 64) (sym given) ∙ (is_built limits (parts_by e random s) o made.2).few in
-    let same : object_by e random s ≡ o = same_answer (object_by e random s) o (sym (built_is keys e random s by w few) ∙ made.2) in
     record {
       sealed = s;
-      short = sealed.0;
-      same = sealed.1;
-      octets = both.0;
-      aad = by.aad;
-      has = subst (Has e random s) same (has e random s);
-      writes = w;
       delivers = delivers;
       opens = opens;
       members = are_members laws keys e random s by w random_octets delivers both.0 both.1;
       made = made.2;
-      is = same;
+      is = same_answer (object_by e random s) o (sym (built_is keys e random s by w (few_receivers e random s o made.2)) ∙ made.2);
     }
 
 -- what is written of an object is its text, and its ciphertext beside it where this is detached

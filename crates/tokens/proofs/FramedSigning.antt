@@ -1,5 +1,5 @@
 -- The texts that stand round the payload and the signatures of what is signed, and what may stand of them.
-use Rattle.std.proofs.Common.{◌≡◌, ℕ, Bool, true, false, List, [], ◌∷◌, ◌++◌, length, map, codes, Ok, Err, refl, sym, ap, ap₂, ◌∙◌, append_assoc, append-nil}
+use Rattle.std.proofs.Common.{◌≡◌, ℕ, Bool, true, false, List, [], ◌∷◌, ◌++◌, length, map, codes, Result, Ok, Err, refl, sym, ap, ap₂, ◌∙◌, append_assoc, append-nil}
 use Rattle.std.proofs.lemmas.List.{length-map}
 use Rattle.std.specs.List.{AllByRecursion}
 use Rattle.std.specs.Result.{result_unwrap_or}
@@ -8,24 +8,24 @@ use Rattle.octets.specs.declared.refusal.Refusal.{Refusal}
 use Rattle.octets.specs.declared.refusal.Refusal.TheVariants.{Memory, NotCompact}
 use Rattle.octets.specs.Base64url.{base64url, whole_groups}
 use Rattle.octets.specs.Octets.{IsOctets}
-use Rattle.octets.specs.Outcomes.{◌>>=◌, is_memory, is_external}
-use Rattle.octets.specs.Plan.{Begins, beginning_of, planned}
+use Rattle.octets.specs.Outcomes.{◌>>=◌, is_memory}
+use Rattle.octets.specs.Plan.{OutputTexts, Begins, beginning_of, planned}
 use Rattle.prf.specs.Hmac.{hmac}
 use Rattle.keys.specs.Keys.{OctetKey}
 use Rattle.keys.specs.Limits.{limits}
-use Rattle.objects.specs.Frames.{filled, in_places, signed_with, IsJwsFrame}
+use Rattle.objects.specs.Frames.{filled, in_places, first_text, jws_frame, signed_with, IsJwsFrame}
 use Rattle.objects.specs.Jws.{Signature, signature_parts_of, SignatureTexts, SignedObject, JwsTexts, JwsParts, built, jws_text}
 use Rattle.objects.specs.Texts.{handed_out}
+use Rattle.objects.specs.Writing.{Written, all_texts, jws_written}
+use Rattle.objects.proofs.JwsWritten.{jws_refused}
 use Rattle.objects.proofs.SpellingJws.{signature_spelled, spelled, parts_spelled, is_built, object_keeps}
 use Rattle.tokens.specs.Signatures.{signature_hash, signature_of}
-use Rattle.tokens.specs.Signing.{Signer, Signing, protected_by, signature_by, signed, text_of, text_before, written_of, plan_by, signing_of, signing_by}
-use Rattle.tokens.specs.SigningInputs.{signature_text, unsigned_part_by, unsigned_by, unsigned_protected}
+use Rattle.tokens.specs.Signing.{Signer, Signing, protected_by, signature_by, unsigned_part_by, unsigned_by, signed, text_of, text_before, written_of, plan_by, signing_of, signing_by}
+use Rattle.tokens.specs.SigningInputs.{signature_text, unsigned_protected}
 use Rattle.tokens.specs.WrittenContents.{encoded_behind}
-use Rattle.tokens.proofs.Beginnings.{same_before}
 use Rattle.tokens.proofs.SignedAlike.{with_all, put_part, built_alike, refused_alike}
 use Rattle.tokens.proofs.SignedObjects.{is_written}
 use Rattle.tokens.proofs.SignedRoundTrip.{signature_octets}
-use Rattle.tokens.proofs.SigningGrowth.{text_begins}
 
 -- ---- the octets of the signatures
 
@@ -115,17 +115,26 @@ module _ (compact detach : Bool) (s : Signing) (o : SignedObject) (texts : List 
       ap (λ r. r >>= written_of compact detach) (signed_is_with s o payload made)
       ∙ is_written compact detach (signed_with o payload (map (octets_by payload) s.signers)) _ (object_text payload octets)
 
+-- what is written has a frame
+pub has_frame : (compact detach : Bool) (s : Signing) (payload : List ℕ) (written : OutputTexts) → (plan_by compact detach s).whole payload ≡ Ok written
+    → (o : SignedObject) × (texts : List (List ℕ)) × (unsigned_by s ≡ Ok o) × (jws_frame compact detach o ≡ Ok texts)
+has_frame compact detach s payload written h = by_object (unsigned_by s) refl
+  where
+    by_texts : (o : SignedObject) (r : Result Written Refusal) → unsigned_by s ≡ Ok o → jws_written true compact detach o ≡ r
+        → (o : SignedObject) × (texts : List (List ℕ)) × (unsigned_by s ≡ Ok o) × (jws_frame compact detach o ≡ Ok texts)
+    by_texts o (Ok w) made is = (o, all_texts w, made, ap (λ r. r >>= λ w. Ok (all_texts w)) is)
+    by_texts o (Err e) made is = cc (sym h ∙ text_refused compact detach s o payload made (jws_refused true compact detach o e is).1)
+
+    by_object : (r : Result SignedObject Refusal) → unsigned_by s ≡ r → (o : SignedObject) × (texts : List (List ℕ)) × (unsigned_by s ≡ Ok o) × (jws_frame compact detach o ≡ Ok texts)
+    by_object (Ok o) made = by_texts o (jws_written true compact detach o) made refl
+    by_object (Err e) made = cc (sym h ∙ object_refused compact detach s payload e made)
+
 -- ---- the first text of one that holds its payload
 
-module _ (compact : Bool) (s : Signing) (o : SignedObject) (first : List ℕ) (rest : List (List ℕ)) (made : unsigned_by s ≡ Ok o) (frame : IsJwsFrame compact false o (first ∷ rest)) where
-  -- both stand before the text of every payload
-  both_before : (payload : List ℕ) → IsOctets payload
-      → Begins (text_before compact s.header s.signers ++ base64url payload) (first ++ (base64url payload ++ filled rest (map base64url (map (octets_by payload) s.signers))))
-  both_before payload octets =
-      text_begins compact s payload _ (signed_with o payload (map (octets_by payload) s.signers)) octets (signed_is_with s o payload made) (object_text compact false s o (first ∷ rest) made frame payload octets)
-
-  first_is : first ≡ text_before compact s.header s.signers
-  first_is = same_before first (text_before compact s.header s.signers) (λ payload. filled rest (map base64url (map (octets_by payload) s.signers))) both_before
+module _ (compact : Bool) (s : Signing) (o : SignedObject) (first : List ℕ) (rest : List (List ℕ)) (made : unsigned_by s ≡ Ok o) (framed : jws_frame compact false o ≡ Ok (first ∷ rest))
+    (frame : IsJwsFrame compact false o (first ∷ rest)) where
+  first_is : first ≡ text_before compact s
+  first_is = ap first_text (sym (ap (λ r. r >>= jws_frame compact false) made ∙ framed))
 
   -- with the text of what was read of the payload it begins what may stand
   pub inside_begins : (payload : List ℕ) (ended : Bool) → IsOctets payload
@@ -151,10 +160,6 @@ signing_refused compact detach keys template payload e h = ap (λ r. planned (r 
 
 -- ---- causes
 
--- a cause that stands in no device and is no want of memory is not memory
-pub not_memory : (e : Refusal) → is_external e ≡ false → is_memory e ≡ false
-not_memory Memory h = cc h
-not_memory e h = refl
-
+-- a cause that is not memory
 pub memory_apart : (e : Refusal) → is_memory e ≡ false → e ≡ Memory → ⊥
 memory_apart e h is = let both : true ≡ false = sym (ap is_memory is) ∙ h in cc both

@@ -22,10 +22,9 @@ use Rattle.objects.specs.Jws as jws
 use Rattle.objects.specs.Jws.{SignatureParts, Signature, SignedObject, DecodedSignature, HeadedSignature, decoded_signature, headed_signature, is_plain, signatures_of, signed_object, built}
 use Rattle.objects.specs.Texts.{each, handed_out, depth_of_each}
 use Rattle.objects.proofs.EachRead.{all_passed, all_both}
-use Rattle.objects.proofs.SpellingJws.{is_built}
 use Rattle.objects.proofs.Steps.{steps, same_answer, passed}
 use Rattle.tokens.specs.Signatures.{signature_of}
-use Rattle.tokens.specs.Signing.{Signer, Signing, signer_by, may_sign, has_no_more, signing_with, signing_of, protected_by, signature_by, parts_by, signed, text_of, written_of}
+use Rattle.tokens.specs.Signing.{Signer, Signing, signer_by, may_sign, has_no_more, signing_with, signing_of, protected_by, signature_by, signed, text_of, written_of}
 use Rattle.tokens.specs.Template.{SignatureTemplate, template_of, header_text, is_shallow}
 use Rattle.tokens.proofs.HeaderTexts.{ReadsBack, read_back, shallow_enough}
 use Rattle.tokens.proofs.ReadLists.{each_gives, each_made, all_pass}
@@ -141,14 +140,6 @@ signed_is compact keys s payload is some few =
     let plain : list_all is_plain (map (headed_by s.header payload) s.signers) ≡ true =
     all_pass is_plain (headed_by s.header payload) (λ x h. and_from (has_no_crit x.protected) (has_no_crit s.header) h.settled.plain is.plain) s.signers is.signs in
     rw (shallow, whole, some_parts, few_parts, decoded, headed, made, plain) refl
-
--- an object that signing makes has the payload
-pub payload_is : (s : Signing) (payload : List ℕ) (o : SignedObject) → signed s payload ≡ Ok o → o.payload ≡ payload
-unfolding signed signed_object
-payload_is s payload o h =
-    let is = is_built limits (parts_by s payload) o h in
-    let signatures = steps (signatures_of is.decoded) _ o is.made in
-    ap (λ (o : SignedObject). o.payload) (sym (same_answer _ o signatures.2))
 
 -- ---- what is written of it
 

@@ -11,7 +11,7 @@ use Rattle.octets.proofs.Agreement.{appended-append, begun_whole}
 use Rattle.octets.proofs.Streaming.{AppendsPrefixOf-Begins}
 use Rattle.ciphers.specs.Sealing.{Sealed, Sealing}
 use Rattle.keys.specs.Limits.{limits}
-use Rattle.objects.specs.Frames.{filled}
+use Rattle.objects.specs.Frames.{filled, first_text}
 use Rattle.objects.specs.Jwe.{built}
 use Rattle.objects.proofs.Steps.{steps, same_answer}
 use Rattle.tokens.specs.Choosing.{Encryption}
@@ -85,7 +85,7 @@ module _ {S : Type 0} (is_sealing : S → Sealing → List ℕ → Type 0) (comp
     s = sealing_by u.encryption u.random
 
     is_first : first ≡ text_before compact u.encryption u.random
-    is_first = let b = u.before refl in let same : first ∷ rest ≡ text_before compact u.encryption u.random ∷ b.0 = sym are ∙ b.1 in cc same
+    is_first = ap first_text (sym (u.framed ∙ ap Ok are))
 
     pub inside_places : length rest ≡ 2
     inside_places = omega (arith, ap length are, u.places)
@@ -128,9 +128,6 @@ module _ {S : Type 0} (is_sealing : S → Sealing → List ℕ → Type 0) (comp
         (so_far : sealed_text (encoded_behind first) (sealing_by u.encryption u.random) p ≡ Ok (record { text = appended old between; tag = tag })) where
       k : IsWritten (encoded_behind first) (sealing_by u.encryption u.random) p (appended old between) tag
       k = is_written (encoded_behind first) (sealing_by u.encryption u.random) p (appended old between) tag so_far
-
-      stands : between ≡ old ++ appended old between
-      stands = grown
 
       inside_whole : planned plan p ≡ Ok (record { text = appended old between ++ filled rest (base64url tag ∷ []); content = [] })
       inside_whole =

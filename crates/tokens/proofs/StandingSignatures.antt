@@ -63,7 +63,7 @@ module _ {S : Type 0} (has_taken : S → HashFunction → List ℕ → List ℕ 
           → Begins (beginning_of (encoded_behind first) (record { octets = p; ended = ended })) (begun plan (record { octets = p; ended = ended })).text
       inside_text p ended octets =
           subst (λ r. Begins (beginning_of (encoded_behind first) (record { octets = p; ended = ended })) (begun r (record { octets = p; ended = ended })).text) (sym f.is)
-          (inside_begins compact f.signing f.object first rest f.made own_frame p ended octets)
+          (inside_begins compact f.signing f.object first rest f.made (f.texts_are ∙ ap Ok are) own_frame p ended octets)
 
       -- the first text, and the payload's behind it, was written in part
       pub inside_part : (p : List ℕ) (ended : Bool) (old new : List ℕ) → IsOctets p → AppendsPrefixOf (beginning_of (encoded_behind first) (record { octets = p; ended = ended })) old new

@@ -16,6 +16,7 @@ use Rattle.keys.specs.declared.algorithm.ManagementAlg.{ManagementAlg}
 use Rattle.keys.specs.Algorithms.{management_name, is_password_based, management_operations}
 use Rattle.keys.specs.Keys.{OctetKey, AreOctetKeys, allows}
 use Rattle.keys.specs.Limits.{Limits, limits}
+use Rattle.objects.specs.Frames.{first_text, jwe_frame}
 use Rattle.objects.specs.Jwe.{RecipientParts, JweParts, EncryptedObject, built, json_text, jwe_compact_text, jwe_of}
 use Rattle.objects.specs.Texts.{handed_in, handed_out}
 use Rattle.tokens.specs.Algorithms.{content_alg, key_alg}
@@ -140,6 +141,15 @@ encrypted e random plaintext = do
   s ← sealed_by (sealing_by e random) plaintext
   built limits (parts_by e random s)
 
+-- ---- the object before there is a ciphertext
+
+abbrev pub unsealed : Sealed
+unsealed = record { ciphertext = []; tag = [] }
+
+-- the texts that stand round its ciphertext and its tag
+abbrev pub frame_by : Bool → Bool → Encryption → List ℕ → Result (List (List ℕ)) Refusal
+frame_by compact detach e random = built limits (parts_by e random unsealed) >>= jwe_frame compact detach
+
 -- ---- its text
 
 -- compact or JSON, with the ciphertext or without
@@ -147,19 +157,9 @@ abbrev pub text_of : Bool → Bool → EncryptedObject → Result (List ℕ) Ref
 text_of true detach o = jwe_compact_text detach o
 text_of false detach o = Ok (json_text detach o)
 
--- what stands before the ciphertext's text: the parts of a compact text, or the first members of a JSON text
-abbrev pub aad_member : List ℕ → List ℕ
-aad_member [] = []
-aad_member (a ∷ aad) = codes "\"aad\":\"" ++ base64url (a ∷ aad) ++ codes "\","
-
-abbrev pub first_key : List RecipientParts → List ℕ
-first_key [] = []
-first_key (r ∷ rest) = r.encrypted_key
-
+-- what stands before the ciphertext's text: the first text of the object's frame
 abbrev pub text_before : Bool → Encryption → List ℕ → List ℕ
-text_before true e random =
-    base64url (header_by e random) ++ codes "." ++ base64url (first_key (recipients_by e (cek_by e random) e.receivers (salts_by e random))) ++ codes "." ++ base64url (iv_by e random) ++ codes "."
-text_before false e random = codes "{" ++ aad_member e.aad ++ codes "\"ciphertext\":\""
+text_before compact e random = first_text (frame_by compact false e random)
 
 abbrev pub within_longest : Option ℕ → List ℕ → List ℕ
 within_longest None front = front

@@ -1,9 +1,8 @@
 -- Signing with each key of a set (RFC 7515 section 5.1), in compact form (section 7.1) or in JSON form (section 7.2).
-use Rattle.std.specs.Prelude.{◌≡◌, ℕ, ◌&&◌, Bool, true, false, List, [], ◌∷◌, ◌++◌, length, map, codes, nat_le, if◌then◌else◌, Option, Some, None, Result, Ok}
+use Rattle.std.specs.Prelude.{◌≡◌, ℕ, ◌&&◌, Bool, true, false, List, [], ◌++◌, length, map, nat_le, if◌then◌else◌, Option, Some, None, Result, Ok}
 use Rattle.std.specs.List.{list_all}
 use Rattle.std.specs.Option.{ok_or}
-use Rattle.serde_json.specs.Data.{Members, no_members, member, object}
-use Rattle.serde_json.specs.Written.{compact_text}
+use Rattle.serde_json.specs.Data.{Members}
 use Rattle.octets.specs.declared.refusal.Refusal.{Refusal}
 use Rattle.octets.specs.declared.refusal.Refusal.TheVariants.{NoAlgorithm, KeyDoesNotFit, Limit, NotCompact}
 use Rattle.octets.specs.Outcomes.{◌>>=◌, needs}
@@ -17,6 +16,7 @@ use Rattle.keys.specs.Algorithms.{signature_alg_of}
 use Rattle.keys.specs.Json.{json_value}
 use Rattle.keys.specs.Limits.{Limits, limits}
 use Rattle.keys.specs.Keys.{OctetKey, allows, fits}
+use Rattle.objects.specs.Frames.{first_text, jws_frame}
 use Rattle.objects.specs.Jws.{SignatureParts, JwsParts, SignedObject, built, json_text, jws_compact_text}
 use Rattle.objects.specs.Texts.{each, handed_out}
 use Rattle.tokens.specs.Template.{SignatureTemplate, template_of, with_alg, header_text, is_shallow, is_empty}
@@ -104,6 +104,15 @@ parts_by s payload = record { payload = payload; signatures = map (signature_by 
 unfoldable pub signed : Signing → List ℕ → Result SignedObject Refusal
 signed s payload = built limits (parts_by s payload)
 
+-- ---- the object before there is a payload
+
+-- what is known of a signature
+abbrev pub unsigned_part_by : Members → Signer → SignatureParts
+unsigned_part_by header s = record { protected = protected_by s; header = header; signature = [] }
+
+unfoldable pub unsigned_by : Signing → Result SignedObject Refusal
+unsigned_by s = built limits (record { payload = []; signatures = map (unsigned_part_by s.header) s.signers })
+
 -- ---- its text
 
 -- compact or JSON, with the payload or without
@@ -111,29 +120,21 @@ abbrev pub text_of : Bool → Bool → SignedObject → Result (List ℕ) Refusa
 text_of true detach o = jws_compact_text detach o
 text_of false detach o = Ok (json_text detach o)
 
--- a header that stands before the other members
-abbrev pub header_member : Members → List ℕ
-header_member no_members = []
-header_member (member k d rest) = codes "\"header\":" ++ compact_text (object (member k d rest)) ++ codes ","
-
--- what stands before the payload's text: the first part of a compact text, or the first members of a JSON text
-abbrev pub text_before : Bool → Members → List Signer → List ℕ
-text_before compact header [] = codes "{\"payload\":\""
-text_before true header (s ∷ rest) = protected_by s ++ codes "."
-text_before false header (s ∷ []) = codes "{" ++ header_member header ++ codes "\"payload\":\""
-text_before false header (s ∷ (other ∷ rest)) = codes "{\"payload\":\""
-
 -- what is written of the object: its text, and the payload beside it where it is detached
 abbrev pub written_of : Bool → Bool → SignedObject → Result OutputTexts Refusal
 written_of compact detach o = do
   text ← text_of compact detach o
   Ok (record { text = text; content = handed_out detach o.payload })
 
+-- what stands before the payload's text: the first text of the object's frame
+abbrev pub text_before : Bool → Signing → List ℕ
+text_before compact s = first_text (unsigned_by s >>= jws_frame compact false)
+
 -- The whole groups of a beginning of the payload fix the text before it and their own; where it is detached, nothing of the text
 -- is written before its end.
 abbrev pub text_fixed : Bool → Bool → Signing → List ℕ → List ℕ
 text_fixed compact true s front = []
-text_fixed compact false s front = text_before compact s.header s.signers ++ base64url (whole_groups front)
+text_fixed compact false s front = text_before compact s ++ base64url (whole_groups front)
 
 -- what is written by the payload
 abbrev pub plan_by : Bool → Bool → Signing → Plan OutputTexts

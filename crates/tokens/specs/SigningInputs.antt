@@ -9,12 +9,10 @@ use Rattle.octets.specs.declared.refusal.Refusal.{Refusal}
 use Rattle.octets.specs.Base64url.{base64url}
 use Rattle.octets.specs.Plan.{OutputTexts, Plan}
 use Rattle.prf.specs.Hmac.{hmac}
-use Rattle.serde_json.specs.Data.{Members}
-use Rattle.keys.specs.Limits.{limits}
-use Rattle.objects.specs.Frames.{IsJwsFrame}
-use Rattle.objects.specs.Jws.{Signature, SignatureParts, SignedObject, built}
+use Rattle.objects.specs.Frames.{IsJwsFrame, jws_frame}
+use Rattle.objects.specs.Jws.{Signature, SignedObject}
 use Rattle.tokens.specs.Signatures.{signature_hash}
-use Rattle.tokens.specs.Signing.{Signer, Signing, protected_by, plan_by}
+use Rattle.tokens.specs.Signing.{Signer, Signing, protected_by, unsigned_by, plan_by}
 
 -- what is said of the one code that there is
 abbrev pub on_hmac_input : HmacInput → (Hmac Sha256 → Type 0) → (Hmac Sha384 → Type 0) → (Hmac Sha512 → Type 0) → Type 0
@@ -36,21 +34,15 @@ signature_text text s = base64url (hmac (signature_hash s.alg) s.key.octets ((pr
 
 -- ---- the object before there is a payload
 
--- what is known of a signature
-abbrev pub unsigned_part_by : Members → Signer → SignatureParts
-unsigned_part_by header s = record { protected = protected_by s; header = header; signature = [] }
-
-unfoldable pub unsigned_by : Signing → Result SignedObject Refusal
-unsigned_by s = built limits (record { payload = []; signatures = map (unsigned_part_by s.header) s.signers })
-
 abbrev pub unsigned_protected : List Signature → List (List ℕ)
 unsigned_protected signatures = map (λ s. s.protected) signatures
 
--- The texts stand round the payload and the signatures of what the plan is of, and the inputs were begun for its signers.
+-- The texts are those of the frame of what the plan is of, and the inputs were begun for its signers.
 pub record IsFramed {S : Type 0} (has_taken : S → HashFunction → List ℕ → List ℕ → Type 0) (compact detach : Bool) (plan : Result (Plan OutputTexts) Refusal) (inputs : List S) (texts : List (List ℕ)) : Type 0 where
   pub signing : Signing
   pub object : SignedObject
   pub is : plan ≡ Ok (plan_by compact detach signing)
   pub made : unsigned_by signing ≡ Ok object
+  pub texts_are : jws_frame compact detach object ≡ Ok texts
   pub frame : IsJwsFrame compact detach object texts
   pub begun : HoldEach has_taken inputs signing.signers []

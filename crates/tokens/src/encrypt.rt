@@ -1,5 +1,5 @@
 //! Encrypting to each key of a set (RFC 7516 section 5.1), in compact or in JSON form.
-ghost use Rattle.std.specs.Prelude.{◌≡◌, ◌≢◌, ◌⊎◌, ◌≤◌, ◌<◌, ◌*◌, ◌||◌, ◌++◌, ℕ, if◌then◌else◌, IsOk, IsErr, true, false, not, nat_le, List, [], ◌∷◌, length, map, is_some, Err, option_map, IfOk, IfErr, OnOk, OnErr, IsTrue, string_bytes};
+ghost use Rattle.std.specs.Prelude.{◌≡◌, ◌≢◌, ◌⊎◌, ◌≤◌, ◌<◌, ◌*◌, ◌||◌, ◌++◌, ℕ, if◌then◌else◌, IsOk, IsErr, true, false, not, nat_le, List, [], ◌∷◌, length, map, is_some, Ok, Err, option_map, IfOk, IfErr, OnOk, OnErr, IsTrue, string_bytes};
 ghost use Rattle.std.specs.Iterator.{IsFinite};
 ghost use Rattle.std.specs.List.{AllByRecursion};
 ghost use Rattle.std.specs.Option.{unwrap_or};
@@ -23,8 +23,8 @@ ghost use Rattle.objects.specs.Frames.{filled};
 ghost use Rattle.objects.specs.Views.{recipient_parts_view};
 ghost use Rattle.tokens.specs.Algorithms.{content_alg as content_alg_of};
 ghost use Rattle.tokens.specs.Choosing.{with_p2c};
-ghost use Rattle.tokens.specs.Encrypting.{encrypting_by, sealing_by, octets_drawn, salt_drawn, salts_drawn, direct_key, cek_drawn, cek_by, with_salt, with_parameters, protected_header, own_header, recipient_by, recipients_by};
-ghost use Rattle.tokens.specs.SealedTexts.{unsealed, texts_of_sealed, IsEncryptionFrame, IsUnsealed};
+ghost use Rattle.tokens.specs.Encrypting.{encrypting_by, frame_by, sealing_by, octets_drawn, salt_drawn, salts_drawn, direct_key, cek_drawn, cek_by, with_salt, with_parameters, protected_header, own_header, recipient_by, recipients_by};
+ghost use Rattle.tokens.specs.SealedTexts.{IsUnsealed};
 ghost use Rattle.tokens.specs.Views.{receiver_view, given_view, encryption_view};
 
 use crate::algorithms::{content_alg, key_alg};
@@ -198,9 +198,9 @@ fn begin_sealing(
     detach: bool,
 ) -> Result<Framed, Refusal>
     requires long { length random.now ≡ octets_drawn (encryption_view encryption) }
-    requires made { IsOk (texts_of_sealed compact detach (encryption_view encryption) random.now unsealed) }
+    requires made { IsOk (frame_by compact detach (encryption_view encryption) random.now) }
     ensures sealing { IfOk result (λ made. ⟦<ContentSealer as Sealer>⟧.is_sealing made.sealer (sealing_by (encryption_view encryption.entry) random.now) []) }
-    ensures framed { IfOk result (λ made. IsEncryptionFrame compact detach (encryption_view encryption.entry) random.now (map string_bytes made.texts.items)) }
+    ensures framed { IfOk result (λ made. frame_by compact detach (encryption_view encryption.entry) random.now ≡ Ok (map string_bytes made.texts.items)) }
     ensures cek { IfOk result (λ made. IsOctets (cek_by (encryption_view encryption.entry) random.now)
         × (length (cek_by (encryption_view encryption.entry) random.now) ≡ cek_len (content_alg_of (encryption_view encryption.entry).encryption))) }
     ensures memory { IfErr result (λ e. e ≡ Refusal.Memory) }

@@ -52,6 +52,7 @@ returns-clause-framed c =
       object = jws_view c.in_ok-jws.jws;
       is = by_signing c.args.compact c.args.detach c.args.keys.now c.args.template.now s c.in_ok-signing.ensures;
       made = c.in_ok-jws.ensures;
+      texts_are = c.in_ok-texts.ensures.exact;
       frame = c.in_ok-texts.ensures.texts;
       begun = subst (λ l. HoldEach has_taken-value.it c.in_ok-inputs.inputs.items (map signer_view l) []) c.deref.ensures.value c.in_ok-inputs.ensures.begun;
     }
