@@ -33,9 +33,9 @@ long:
 faults:
 	@scripts/faults
 
-# Measures the built program beside what the machine has.
+# Measures the built program beside what the machine has; where BESIDE names another build of it, its commands alone, in turns with that.
 bench:
-	@scripts/bench
+	@scripts/bench $(if $(BESIDE),commands $(BESIDE))
 
 # Compares the pages and the completions with the program's table of commands, and tries the refusals that the pages list, the
 # completions, install and uninstall.

@@ -1,4 +1,5 @@
 pub mod Finding
+pub mod Fixed
 pub mod Lines
 pub mod Parses
 pub mod Settings

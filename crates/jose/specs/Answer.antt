@@ -5,7 +5,8 @@ use Rattle.octets.specs.declared.refusal.Refusal.TheVariants.{Usage, Write, Memo
 use Rattle.octets.specs.Devices.{Observed}
 use Rattle.octets.specs.Faults.{counts, DidNotFail}
 use Rattle.octets.specs.Outcomes.{AgreesUnlessExternal, is_external}
-use Rattle.octets.specs.Plan.{OutputTexts, Draft, drawn_of, plan_from, planned, planned_beginning}
+use Rattle.octets.specs.Plan.{OutputTexts, Draft, drawn_of, plan_from, fixed_by, planned, planned_beginning}
+use Rattle.octets.specs.Pumps.{KeepsUp}
 use Rattle.clap.specs.Words.{Text}
 use Rattle.jose.specs.declared.command.Command.{Command}
 use Rattle.jose.specs.declared.ports.Inputs.{Inputs}
@@ -129,6 +130,18 @@ abbrev pub AreUnread : {D : Type 0} → (D → ℕ) → InvocationView → Obser
 AreUnread failures invocation seen old new refusal =
     (meaning_of invocation.command).holds_back ≡ false → (content_seen invocation seen).octets ≡ []
     → AreSpared failures old new refusal (new.text ≡ old.text) (new.content ≡ old.content)
+
+-- what so much of the content fixes, where the other inputs are as they were seen
+abbrev pub fixed_of : InvocationView → ObservedInputs → List ℕ → OutputTexts
+fixed_of invocation seen front = fixed_by (plan_from (draft_of invocation seen.text.octets seen.keys.octets) seen.random.octets) front
+
+-- Where the content of a command that writes as it reads fails, and something of it was read, what stands is at most 4,160 octets
+-- behind what was read.
+abbrev pub AreKeptUp : {D : Type 0} → (D → List ℕ) → InvocationView → ObservedInputs → Outputs D → Outputs D → Type 0
+AreKeptUp written invocation seen old new =
+    (meaning_of invocation.command).holds_back ≡ false → (content_seen invocation seen).octets ≢ []
+    → KeepsUp (λ front. (fixed_of invocation seen front).text) (content_seen invocation seen).octets (written old.text) (written new.text)
+    × KeepsUp (λ front. (fixed_of invocation seen front).content) (content_seen invocation seen).octets (written old.content) (written new.content)
 
 -- The text is not begun before the content stands whole beside it, where it goes out there.
 abbrev pub IsContentFirst : {D : Type 0} → (D → List ℕ) → (D → Bool) → InvocationView → ObservedInputs → Outputs D → Outputs D → Type 0

@@ -1,10 +1,10 @@
 //! The one entry point of all commands.
-ghost use Rattle.std.specs.Prelude.{OnOk, OnErr, IfErr};
+ghost use Rattle.std.specs.Prelude.{◌≡◌, Err, OnOk, OnErr, IfErr};
 ghost use Rattle.std.specs.Iterator.{IsFinite};
 ghost use Rattle.jose.specs.Invocations.{invocation_view};
 ghost use Rattle.octets.specs.Faults.{TellsFaults};
 ghost use Rattle.jose.specs.Ports.{observed_inputs, written_texts, AreFinite, AppendPrefixesOf, input_counts, output_counts};
-ghost use Rattle.jose.specs.Answer.{Answers, DrawsAll, DrawsNoMore, AreFinished, AreUntouched, AreUncut, AreUnread, IsContentFirst, AreInOrder, ReadsFirst, DrawsFirst, TakesMemoryFirst, RefusesFirst, HoldsBack, beginning};
+ghost use Rattle.jose.specs.Answer.{Answers, DrawsAll, DrawsNoMore, AreFinished, AreUntouched, AreUncut, AreUnread, AreKeptUp, IsContentFirst, AreInOrder, ReadsFirst, DrawsFirst, TakesMemoryFirst, RefusesFirst, HoldsBack, beginning};
 
 use crate::command::Command;
 use crate::commands::{b64, jwe, jwk, jws};
@@ -34,6 +34,7 @@ pub fn run<I: Input, O: Output>(
     ensures held_back { IfErr result (HoldsBack O.failures (invocation_view invocation.now) outputs.old outputs.new) }
     ensures uncut { IfErr result (AreUncut O.failures O.written outputs.old outputs.new) }
     ensures unread { IfErr result (AreUnread O.failures (invocation_view invocation.now) (observed_inputs I.consumed I.is_at_end inputs.old inputs.new) outputs.old outputs.new) }
+    ensures keeps_up { result ≡ Err Refusal.Read → AreKeptUp O.written (invocation_view invocation.now) (observed_inputs I.consumed I.is_at_end inputs.old inputs.new) outputs.old outputs.new }
     ensures content_first { OnErr result (IsContentFirst O.written O.is_finished (invocation_view invocation.now) (observed_inputs I.consumed I.is_at_end inputs.old inputs.new) outputs.old outputs.new) }
 
     // Inputs are read one after another, and what comes last only where all before it is accepted.

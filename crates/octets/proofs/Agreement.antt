@@ -1,5 +1,5 @@
 -- What a call did on an output, held against its answer.
-use Rattle.std.proofs.Common.{◌≡◌, ◌⊎◌, List, [], ◌++◌, ℕ, length, take, nat_le, Bool, true, false, Option, Some, None, is_some, MutBor, Result, Ok, Err, OnOk, OnErr, IsTrue, refl, sym, ◌∙◌, ap, append-nil, rules}
+use Rattle.std.proofs.Common.{◌≡◌, ◌⊎◌, List, [], ◌++◌, ℕ, length, take, nat_le, Bool, true, false, Option, Some, None, is_some, MutBor, Result, Ok, Err, OnOk, OnErr, IfErr, IsTrue, refl, sym, ◌∙◌, ap, subst, append-nil, rules}
 use Rattle.std.proofs.Math.Seq.{drop-append_seam}
 use lib.Dec.{leb-zero}
 use Rattle.octets.specs.declared.refusal.Refusal.{Refusal}
@@ -67,19 +67,23 @@ planned_without_content f (Ok x) nil = refl
 planned_without_content f (Err r) nil = refl
 
 -- a fact at an answer, by another
-pub on_success : {P Q : Type 0} (r : Result (Unit {0}) Refusal) → OnOk r P → (P → Q) → OnOk r Q
+pub on_success : {X P Q : Type 0} (r : Result X Refusal) → OnOk r P → (P → Q) → OnOk r Q
 on_success (Ok done) p f = f p
 on_success (Err e) p f = tt
 
 -- a fact at a refusal, as everywhere
-pub at_refusal : {P : Type 0} (r : Result (Unit {0}) Refusal) → P → OnErr r P
+pub at_refusal : {X P : Type 0} (r : Result X Refusal) → P → OnErr r P
 at_refusal (Ok done) p = tt
 at_refusal (Err e) p = p
 
 -- a fact at a refusal, by another
-pub on_refusal : {P Q : Type 0} (r : Result (Unit {0}) Refusal) → OnErr r P → (P → Q) → OnErr r Q
+pub on_refusal : {X P Q : Type 0} (r : Result X Refusal) → OnErr r P → (P → Q) → OnErr r Q
 on_refusal (Ok done) p f = tt
 on_refusal (Err e) p f = f p
+
+-- a fact of the refusal
+pub of_refusal : {X : Type 0} (P : Refusal → Type 0) (r : Result X Refusal) (e : Refusal) → r ≡ Err e → P e → IfErr r P
+of_refusal P r e is fact = subst (λ r. IfErr r P) (sym is) fact
 
 -- what was seen of an input may be all of it
 pub seen_possible : {D : Type 0} (consumed : D → List ℕ) (is_at_end : D → Bool) (old new : D) → IsPossibleInput (observed consumed is_at_end old new) (appended (consumed old) (consumed new))

@@ -1,23 +1,21 @@
 -- A text that is decoded as it is read.
-use Rattle.std.proofs.Common.{◌≡◌, ℕ, suc, ◌+◌, ◌-◌, ◌*◌, ◌/◌, ◌%◌, ◌==◌, ◌≤◌, Bool, true, false, cond, List, [], ◌∷◌, ◌++◌, length, take, drop, slice_index, Result, Ok, Err, IsTrue, inl, inr, refl, sym, ◌∙◌, ap, subst, arith, append_assoc, append-nil, length-append}
-use Rattle.std.proofs.Math.Seq.{take-append-add, take-length, drop-length}
+use Rattle.std.proofs.Common.{◌≡◌, ℕ, suc, ◌+◌, ◌-◌, ◌*◌, ◌/◌, ◌%◌, ◌==◌, ◌≤◌, Bool, true, false, cond, List, [], ◌∷◌, ◌++◌, length, take, drop, slice_index, Result, Ok, Err, inl, inr, refl, sym, ◌∙◌, ap, subst, arith, append_assoc, append-nil, length-append}
+use Rattle.std.proofs.Math.Seq.{take-append-add, take-length}
 use Rattle.std.proofs.lemmas.List.{take-append-le, take-append-drop, take-take, get_or-append_right, nil_from_length, length-take}
 use Rattle.std.proofs.lemmas.Bool.{cases_lt}
 use Rattle.std.specs.Result.{result_unwrap_or}
 use Rattle.octets.specs.declared.refusal.Refusal.{Refusal}
 use Rattle.octets.specs.declared.refusal.Refusal.TheVariants.{Base64}
 use Rattle.octets.specs.Octets.{IsOctets}
-use Rattle.octets.specs.Devices.{appended, Extends, IsPossibleInput, AppendsPrefixOf}
-use Rattle.octets.specs.Outcomes.{AgreesUnlessExternal}
 use Rattle.octets.specs.Base64url.{decoded, settled, unsettled}
-use Rattle.octets.proofs.Decoded.{IsOctets-take, IsOctets-append, IsOctets-nil, IsOctets-front, decoded-nil, meaning_of_parts, parts_of_meaning}
-use Rattle.octets.proofs.Settling.{settled-unsettled, length-settled, length-unsettled, are_groups, decoded_settled-append, no_settled-append}
+use Rattle.octets.proofs.Decoded.{IsOctets-take, IsOctets-front, decoded-nil, meaning_of_parts, parts_of_meaning}
+use Rattle.octets.proofs.Settling.{settled-unsettled, length-settled, length-unsettled, are_groups, decoded_settled-append, no_settled-append, settled-append, unsettled-nil}
+use Rattle.octets.proofs.Growing.{groups_go_on, decoding_grows}
 use Rattle.octets.proofs.Meanings.{decodes_exactly}
 use Rattle.octets.specs.LineEnds.{without_line_end}
-use Rattle.octets.specs.Encoding.{and_octets, octets_of_groups, decoding}
-use Rattle.octets.specs.Plan.{Begins, beginning_of}
-use Rattle.octets.proofs.Prefixes.{AppendsPrefixOf-all}
-use Rattle.octets.proofs.Streaming.{Last, read_more, AppendsPrefixOf-Begins}
+use Rattle.octets.specs.Encoding.{and_octets, octets_of_groups, decoding, settling}
+use Rattle.octets.specs.Plan.{Begins, Grows, beginning_of}
+use Rattle.octets.specs.Pumps.{RefusesFrom}
 
 -- ---- line ends
 
@@ -83,16 +81,6 @@ waiting_kept p = elim (cases_lt (length (settled p)) 1) [
 settled_octets : (p : List ℕ) → IsOctets p → IsOctets (settled p)
 settled_octets p h = IsOctets-front (settled p) (unsettled p) (subst IsOctets (sym (settled-unsettled p)) h)
 
--- the groups of a text with a meaning
-pub begins_whole : (p r x w : List ℕ) → IsOctets (p ++ r) → decoded (settled p) ≡ Ok x → decoded (without_line_end (p ++ r)) ≡ Ok w → Begins x w
-begins_whole p r x w octets front ok =
-    let k = settled_kept p r in
-    let parts = parts_of_meaning (settled p) k.0 w (subst IsOctets k.1 (octets_kept (p ++ r) octets)) (are_groups p) (ap decoded (sym k.1) ∙ ok) in
-    let n : ℕ = length (settled p) / 4 * 3 in
-    let both : Ok x ≡ Ok (take n w) = sym front ∙ parts.0 in
-    let same : x ≡ take n w = cc both in
-    record { rest = drop n w; continues = sym (take-append-drop n w) ∙ ap (λ l. l ++ drop n w) (sym same) }
-
 -- where they mean nothing no text that goes on does
 pub refused_whole : (p r : List ℕ) → IsOctets (p ++ r) → ((z : List ℕ) → decoded (settled p) ≡ Ok z → ⊥) → decoded (without_line_end (p ++ r)) ≡ Err Base64
 refused_whole p r octets none = by_answer (decoded (without_line_end (p ++ r))) refl
@@ -139,120 +127,60 @@ octets_of_good (a ∷ b ∷ c ∷ d ∷ rest) h x octets groups ok =
     ∙ ap (λ l. take 3 x ++ l) (octets_of_good rest h (drop 3 x) (λ k. octets (suc (suc (suc (suc k))))) (omega arith) parts.1)
     ∙ sym (append_assoc (take 3 x) (drop 3 x) (octets_of_groups h)) ∙ ap (λ l. l ++ octets_of_groups h) (take-append-drop 3 x)
 
-begins_beginning : (p q x : List ℕ) (ended : Bool) → IsOctets (p ++ q) → decoded (settled p) ≡ Ok x → Begins x (beginning_of decoding (record { octets = p ++ q; ended = ended }))
-begins_beginning p q x ended octets ok = by_end ended
+good_octets : (g x : List ℕ) → IsOctets g → length g % 4 ≡ 0 → decoded g ≡ Ok x → octets_of_groups g ≡ x
+unfolding octets_of_groups
+good_octets g x octets groups ok = ap octets_of_groups (sym (append-nil g)) ∙ octets_of_good g [] x octets groups ok ∙ append-nil x
+
+-- of a text that begins nothing is settled, and nothing waits
+pub reading_starts : (waiting : List ℕ) → waiting ≡ [] → (waiting ≡ unsettled []) × (decoded (settled []) ≡ Ok (octets_of_groups (settled [])))
+unfolding settled octets_of_groups
+reading_starts waiting none = (none ∙ sym unsettled-nil, decoded-nil)
+
+-- what is settled of a text goes on by the octets of the groups that a piece completes
+pub settled_adds : (p piece text : List ℕ) → IsOctets (p ++ piece) → decoded (settled p) ≡ Ok (octets_of_groups (settled p)) → decoded (settled (unsettled p ++ piece)) ≡ Ok text
+    → (decoded (settled (p ++ piece)) ≡ Ok (octets_of_groups (settled (p ++ piece)))) × (octets_of_groups (settled (p ++ piece)) ≡ octets_of_groups (settled p) ++ text)
+settled_adds p piece text octets front back =
+    let both = decoded_settled-append p piece (octets_of_groups (settled p)) text octets front back in
+    let same = good_octets (settled (p ++ piece)) (octets_of_groups (settled p) ++ text) (settled_octets (p ++ piece) octets) (are_groups (p ++ piece)) both in
+    (both ∙ ap Ok (sym same), same)
+
+-- and no text that goes on means anything, where these mean nothing
+pub settled_refuses : (p piece : List ℕ) → decoded (settled (unsettled p ++ piece)) ≡ Err Base64 → RefusesFrom settling (p ++ piece) Base64
+settled_refuses p piece none rest octets =
+    refused_whole (p ++ piece) rest octets (λ z. no_settled-append p piece z (IsOctets-front (p ++ piece) rest octets) none)
+
+-- ---- what is settled, held against what is fixed
+
+pub settling_grows : Grows settling
+settling_grows = record {
+  more = λ p q. subst (λ l. Begins (octets_of_groups (settled p)) (octets_of_groups l)) (sym (settled-append p q)) (groups_go_on (settled p) (settled (unsettled p ++ q)));
+  whole = λ p q w octets e. begins_all (octets_of_groups (settled p)) (octets_of_groups p) w (settled_begins p) (decoding_grows.whole p q w octets e);
+}
   where
-    fixed : Begins x (octets_of_groups (p ++ q))
-    fixed = record {
-      rest = octets_of_groups (unsettled p ++ q);
-      continues = ap (λ l. octets_of_groups (l ++ q)) (sym (settled-unsettled p)) ∙ ap octets_of_groups (append_assoc (settled p) (unsettled p) q)
-          ∙ octets_of_good (settled p) (unsettled p ++ q) x (settled_octets p (IsOctets-front p q octets)) (are_groups p) ok;
-    }
+    begins_all : (x y z : List ℕ) → Begins x y → Begins y z → Begins x z
+    begins_all x y z a b = record { rest = a.rest ++ b.rest; continues = b.continues ∙ ap (λ l. l ++ b.rest) a.continues ∙ append_assoc x a.rest b.rest }
 
-    by_answer : (a : Result (List ℕ) Refusal) → decoded (without_line_end (p ++ q)) ≡ a → Begins x (result_unwrap_or a (octets_of_groups (p ++ q)))
-    by_answer (Ok w) e = begins_whole p q x w octets ok e
-    by_answer (Err r) e = fixed
+    settled_begins : (p : List ℕ) → Begins (octets_of_groups (settled p)) (octets_of_groups p)
+    settled_begins p = subst (λ l. Begins (octets_of_groups (settled p)) (octets_of_groups l)) (settled-unsettled p) (groups_go_on (settled p) (unsettled p))
 
-    by_end : (b : Bool) → Begins x (beginning_of decoding (record { octets = p ++ q; ended = b }))
-    by_end true = by_answer (decoded (without_line_end (p ++ q))) refl
-    by_end false = fixed
+-- what may stand of what is settled begins what may stand
+pub settling_begins : (p : List ℕ) (ended : Bool) → Begins (beginning_of settling (record { octets = p; ended = ended })) (beginning_of decoding (record { octets = p; ended = ended }))
+settling_begins p false = subst (λ l. Begins (octets_of_groups (settled p)) (octets_of_groups l)) (settled-unsettled p) (groups_go_on (settled p) (unsettled p))
+settling_begins p true = by_answer (decoding.whole p)
+  where
+    by_answer : (a : Result (List ℕ) Refusal) → Begins (result_unwrap_or a (octets_of_groups (settled p))) (result_unwrap_or a (octets_of_groups p))
+    by_answer (Ok w) = record { rest = []; continues = sym (append-nil w) }
+    by_answer (Err r) = subst (λ l. Begins (octets_of_groups (settled p)) (octets_of_groups l)) (settled-unsettled p) (groups_go_on (settled p) (unsettled p))
 
--- ---- what was read, and what stands
-
--- Of the text this was read, and what is settled of it was decoded and written.
-pub record Decodes (old_read read old_written written : List ℕ) : Type 0 where
-  pub extends : Extends old_read read
-  pub octets : IsOctets (appended old_read read)
-  pub grows : Extends old_written written
-  pub stands : decoded (settled (appended old_read read)) ≡ Ok (appended old_written written)
-
-nothing_decoded : decoded (settled []) ≡ Ok []
+-- and is as long as what all but some last characters fix
+pub settling_keeps_up : (p : List ℕ) → length (octets_of_groups (take (length p - 4160) p)) ≤ length (octets_of_groups (settled p))
 unfolding settled
-nothing_decoded = decoded-nil
-
-pub Decodes-first : (read written : List ℕ) → Decodes read read written written
-Decodes-first read written = record {
-  extends = sym (append-nil read) ∙ ap (λ l. read ++ l) (sym (drop-length read));
-  octets = subst IsOctets (sym (drop-length read)) IsOctets-nil;
-  grows = sym (append-nil written) ∙ ap (λ l. written ++ l) (sym (drop-length written));
-  stands = ap (λ l. decoded (settled l)) (drop-length read) ∙ nothing_decoded ∙ ap Ok (sym (drop-length written));
-}
-
-extends_more : (first read now piece : List ℕ) → Extends first read → now ≡ read ++ piece → Extends first now
-extends_more first read now piece e more =
-    more ∙ ap (λ l. l ++ piece) e ∙ append_assoc first (appended first read) piece ∙ ap (λ l. first ++ l) (sym (read_more first read now piece e more))
-
-pub Decodes-more : (first read now old written wrote piece text waits : List ℕ) → Decodes first read old written → now ≡ read ++ piece → IsOctets piece → waits ≡ unsettled (appended first read)
-    → decoded (settled (waits ++ piece)) ≡ Ok text → wrote ≡ written ++ text → Decodes first now old wrote
-Decodes-more first read now old written wrote piece text waits d more octets wait ok e =
-    let p = appended first read in
-    let all : IsOctets (p ++ piece) = IsOctets-append p piece d.octets octets in
-    let same : appended first now ≡ p ++ piece = read_more first read now piece d.extends more in
-    let wrote_same : appended old wrote ≡ appended old written ++ text = read_more old written wrote text d.grows e in
-    record {
-      extends = extends_more first read now piece d.extends more;
-      octets = subst IsOctets (sym same) all;
-      grows = extends_more old written wrote text d.grows e;
-      stands = ap (λ l. decoded (settled l)) same
-          ∙ decoded_settled-append p piece (appended old written) text all d.stands (ap (λ l. decoded (settled (l ++ piece))) (sym wait) ∙ ok) ∙ ap Ok (sym wrote_same);
-    }
-
--- no more was written, whatever was read
-pub decodes_may_stand : (first read now old written piece : List ℕ) (ended : Bool) → Decodes first read old written → now ≡ read ++ piece → IsOctets piece
-    → AppendsPrefixOf (beginning_of decoding (record { octets = appended first now; ended = ended })) old written
-decodes_may_stand first read now old written piece ended d more octets =
-    let p = appended first read in
-    let same : appended first now ≡ p ++ piece = read_more first read now piece d.extends more in
-    let begins = begins_beginning p piece (appended old written) ended (IsOctets-append p piece d.octets octets) d.stands in
-    subst (λ l. AppendsPrefixOf (beginning_of decoding (record { octets = l; ended = ended })) old written) (sym same)
-    (AppendsPrefixOf-Begins (appended old written) (beginning_of decoding (record { octets = p ++ piece; ended = ended })) old written begins (AppendsPrefixOf-all (appended old written) old written d.grows))
-
--- some of a text was written, and then no more
-pub decodes_may_break : (first now old written text wrote : List ℕ) (ended : Bool) → Decodes first now old (written ++ text) → length old ≤ length written → AppendsPrefixOf text written wrote
-    → AppendsPrefixOf (beginning_of decoding (record { octets = appended first now; ended = ended })) old wrote
-decodes_may_break first now old written text wrote ended d grown part =
-    let p = appended first now in
-    let x = appended old (written ++ text) in
-    let begins : Begins x (beginning_of decoding (record { octets = p; ended = ended })) =
-    subst (λ l. Begins x (beginning_of decoding (record { octets = l; ended = ended }))) (append-nil p) (begins_beginning p [] x ended (IsOctets-append p [] d.octets IsOctets-nil) d.stands) in
-    AppendsPrefixOf-Begins x (beginning_of decoding (record { octets = p; ended = ended })) old wrote begins (omega (arith, grown, part.0), ap (take (length wrote)) (sym d.grows) ∙ part.1)
-
-pub Decodes-grown : (first read old written : List ℕ) → Decodes first read old written → length old ≤ length written
-Decodes-grown first read old written d = omega (arith, ap length d.grows, length-append old (appended old written))
-
--- what the piece completes has no meaning
-pub refused_within : (first read now old written piece waits : List ℕ) (ended : Bool) → Decodes first read old written → now ≡ read ++ piece → IsOctets piece → waits ≡ unsettled (appended first read)
-    → decoded (settled (waits ++ piece)) ≡ Err Base64 → (whole : List ℕ) → IsPossibleInput (record { octets = appended first now; ended = ended }) whole → decoding.whole whole ≡ Err Base64
-refused_within first read now old written piece waits ended d more octets wait none whole possible =
-    let p = appended first read in
-    let all : IsOctets (p ++ piece) = IsOctets-append p piece d.octets octets in
-    let same : appended first now ≡ p ++ piece = read_more first read now piece d.extends more in
-    ap (λ l. decoded (without_line_end l)) (possible.continues ∙ ap (λ l. l ++ possible.rest) same)
-    ∙ refused_whole (p ++ piece) possible.rest (IsOctets-append (p ++ piece) possible.rest all possible.octets)
-    (λ z. no_settled-append p piece z all (ap (λ l. decoded (settled (l ++ piece))) (sym wait) ∙ none))
-
--- what waits at the end has none
-pub refused_at_end : (first read old written waits : List ℕ) (ended : Bool) → Decodes first read old written → IsTrue ended → waits ≡ unsettled (appended first read)
-    → decoded (without_line_end waits) ≡ Err Base64 → (whole : List ℕ) → IsPossibleInput (record { octets = appended first read; ended = ended }) whole → decoding.whole whole ≡ Err Base64
-refused_at_end first read old written waits ended d at_end wait none whole possible =
-    let p = appended first read in
-    ap (λ l. decoded (without_line_end l)) (possible.continues ∙ ap (λ rest. p ++ rest) (possible.ends at_end) ∙ append-nil p)
-    ∙ last_refused p d.octets (ap (λ l. decoded (without_line_end l)) (sym wait) ∙ none)
-
-pub Last-decoded : (first read old written text waits : List ℕ) → Decodes first read old written → waits ≡ unsettled (appended first read) → decoded (without_line_end waits) ≡ Ok text
-    → Last decoding first read old written text
-Last-decoded first read old written text waits d wait ok = record {
-  answer = appended old written ++ text;
-  grown = Decodes-grown first read old written d;
-  is = last_decoded (appended first read) (appended old written) text d.octets d.stands (ap (λ l. decoded (without_line_end l)) (sym wait) ∙ ok);
-  due = ap (λ l. l ++ text) d.grows ∙ append_assoc old (appended old written) text;
-}
-
-pub Decodes-same : (first read now old written : List ℕ) → Decodes first read old written → now ≡ read → Decodes first now old written
-Decodes-same first read now old written d same = subst (λ l. Decodes first l old written) (sym same) d
+settling_keeps_up p =
+    let n : ℕ = length p - 4160 in
+    let k : ℕ = (length p - 2) / 4 * 4 in
+    let b = groups_go_on (take n p) (drop n (settled p)) in
+    let same : take n p ++ drop n (settled p) ≡ settled p = ap (λ l. l ++ drop n (settled p)) (sym (take-take n k p (omega arith))) ∙ take-append-drop n (settled p) in
+    omega (arith, ap length b.continues, length-append (octets_of_groups (take n p)) b.rest, ap (λ l. length (octets_of_groups l)) same)
 
 pub short_kept : (text : List ℕ) → length (without_line_end text) ≤ length text
 short_kept text = let c = cut text in omega (arith, ap length c.1, length-take c.0 text)
-
-pub agrees_refused : (answer : Result (List ℕ) Refusal) (wrote : List ℕ) (r : Result (Unit {0}) Refusal) → r ≡ Err Base64 → answer ≡ Err Base64 → AgreesUnlessExternal answer wrote r
-agrees_refused answer wrote r is e = subst (λ q. AgreesUnlessExternal answer wrote q) (sym is) (λ inside. e)

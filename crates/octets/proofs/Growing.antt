@@ -8,7 +8,8 @@ use Rattle.octets.specs.declared.refusal.Refusal.{Refusal}
 use Rattle.octets.specs.Octets.{IsOctets}
 use Rattle.octets.specs.Base64url.{base64url, decoded, is_url_character, whole_groups, part_group}
 use Rattle.octets.specs.LineEnds.{without_line_end}
-use Rattle.octets.specs.Plan.{Begins, Grows}
+use Rattle.octets.specs.Pumps.{most_behind, KeepsUp}
+use Rattle.octets.specs.Plan.{Begins, Grows, beginning_of, as_it_is}
 use Rattle.octets.specs.Encoding.{encoding, and_octets, octets_of_groups, decoding, IsLongestDecoded, FixesLongest}
 use Rattle.octets.proofs.Decoded.{IsOctets-nil, IsOctets-append, IsOctets-take, IsOctets-drop, IsOctets-front, octets_of_meaning, parts_of_meaning, same_front}
 use Rattle.octets.proofs.Groups.{base64url-append, length-base64url, base64url_whole-append, base64url_whole_part}
@@ -36,7 +37,7 @@ and_goes_on : (first : Result (List ℕ) Refusal) (x y : List ℕ) → Begins x 
 and_goes_on (Ok octets) x y b = record { rest = b.rest; continues = ap (λ l. octets ++ l) b.continues ∙ sym (append_assoc octets x b.rest) }
 and_goes_on (Err r) x y b = record { rest = []; continues = refl }
 
-groups_go_on : (p q : List ℕ) → Begins (octets_of_groups p) (octets_of_groups (p ++ q))
+pub groups_go_on : (p q : List ℕ) → Begins (octets_of_groups p) (octets_of_groups (p ++ q))
 unfolding octets_of_groups
 groups_go_on [] q = record { rest = octets_of_groups q; continues = refl }
 groups_go_on (a ∷ []) q = record { rest = octets_of_groups (a ∷ q); continues = refl }
@@ -190,3 +191,22 @@ fixes_longest (a ∷ b ∷ []) octets = few_fix (a ∷ b ∷ []) (omega arith)
 fixes_longest (a ∷ b ∷ c ∷ []) octets = few_fix (a ∷ b ∷ c ∷ []) (omega arith)
 fixes_longest (a ∷ b ∷ c ∷ d ∷ rest) octets =
     longer a b c d rest (octets_of_groups rest) (decoded (a ∷ b ∷ c ∷ d ∷ [])) refl octets (fixes_longest rest (λ k. octets (suc (suc (suc (suc k))))))
+
+-- ---- a content that is written as it is
+
+pub as_it_is_grows : Grows as_it_is
+as_it_is_grows = record {
+  more = λ p q. record { rest = q; continues = refl };
+  whole = λ p q w octets e. record { rest = q; continues = cc e };
+}
+
+-- all that was read may stand of it
+pub plain_beginning : (p : List ℕ) (ended : Bool) → beginning_of as_it_is (record { octets = p; ended = ended }) ≡ p
+plain_beginning p true = refl
+plain_beginning p false = refl
+
+-- ---- what is written once all is read
+
+-- an output that nothing is written to before then keeps up
+pub kept_up_by_none : (fixed : List ℕ → List ℕ) → ((q : List ℕ) → fixed q ≡ []) → (read old : List ℕ) → KeepsUp fixed read old old
+kept_up_by_none fixed none read old = omega (arith, ap length (none (take (length read - most_behind) read)))

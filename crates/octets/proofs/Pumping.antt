@@ -1,13 +1,14 @@
 -- A content that is pumped through a transform.
-use Rattle.std.proofs.Common.{◌≡◌, ℕ, ◌+◌, ◌≤◌, List, [], ◌++◌, length, take, Bool, Result, Ok, Err, IsTrue, refl, sym, ap, ◌∙◌, subst, arith, append_assoc, append-nil, length-append, length-take}
+use Rattle.std.proofs.Common.{◌≡◌, ℕ, ◌+◌, ◌-◌, ◌≤◌, drop, List, [], ◌++◌, length, take, Bool, true, false, Result, Ok, Err, IsTrue, refl, sym, ap, ◌∙◌, subst, arith, append_assoc, append-nil, length-append, length-take}
 use Rattle.std.proofs.Math.Seq.{drop-length}
+use Rattle.std.proofs.lemmas.List.{take-append-drop}
 use Rattle.std.specs.Result.{result_unwrap_or}
 use Rattle.octets.specs.declared.refusal.Refusal.{Refusal}
 use Rattle.octets.specs.Devices.{appended, Extends, AppendsPrefixOf, IsPossibleInput}
 use Rattle.octets.specs.Octets.{IsOctets}
-use Rattle.octets.specs.Outcomes.{◌>>=◌, AgreesUnlessExternal}
+use Rattle.octets.specs.Outcomes.{◌>>=◌, is_external, GivesUnlessExternal, AgreesUnlessExternal}
 use Rattle.octets.specs.Plan.{Plan, Begins, Grows, beginning_of}
-use Rattle.octets.specs.Pumps.{behind, RefusesFrom}
+use Rattle.octets.specs.Pumps.{behind, RefusesFrom, most_behind, KeepsUp}
 use Rattle.octets.proofs.Decoded.{IsOctets-append, IsOctets-nil}
 use Rattle.octets.proofs.Prefixes.{AppendsPrefixOf-all, AppendsPrefixOf-kept}
 use Rattle.octets.proofs.Streaming.{Due, Last, may_stand, read_more}
@@ -37,6 +38,25 @@ behind_ends before plan p text h = ap (λ a. a >>= λ t. Ok (before ++ t)) h ∙
 
 pub behind_refuses : (before : List ℕ) (plan : Plan (List ℕ)) (p : List ℕ) (e : Refusal) → plan.whole p ≡ Err e → (behind before plan).whole p ≡ Err e
 behind_refuses before plan p e h = ap (λ a. a >>= λ t. Ok (before ++ t)) h
+
+pub behind_refused : (before : List ℕ) (plan : Plan (List ℕ)) (content : List ℕ) (e : Refusal) → (behind before plan).whole content ≡ Err e → plan.whole content ≡ Err e
+behind_refused before plan content e h = by_answer (plan.whole content) refl
+  where
+    by_answer : (a : Result (List ℕ) Refusal) → plan.whole content ≡ a → a ≡ Err e
+    by_answer (Ok text) is = let never : Ok (before ++ text) ≡ Err e = ap (λ a. a >>= λ text. Ok (before ++ text)) (sym is) ∙ h in cc never
+    by_answer (Err r) is = ap (λ a. a >>= λ text. Ok (before ++ text)) (sym is) ∙ h
+
+-- behind nothing it is the plan itself
+pub behind_nothing : (plan : Plan (List ℕ)) (content : List ℕ) → (behind [] plan).whole content ≡ plan.whole content
+behind_nothing plan content = by_answer (plan.whole content)
+  where
+    by_answer : (a : Result (List ℕ) Refusal) → (a >>= λ text. Ok ([] ++ text)) ≡ a
+    by_answer (Ok text) = refl
+    by_answer (Err r) = refl
+
+pub beginning_behind_nothing : (plan : Plan (List ℕ)) (p : List ℕ) (ended : Bool) → beginning_of (behind [] plan) (record { octets = p; ended = ended }) ≡ beginning_of plan (record { octets = p; ended = ended })
+beginning_behind_nothing plan p false = refl
+beginning_behind_nothing plan p true = ap (λ a. result_unwrap_or a (plan.fixed p)) (behind_nothing plan p)
 
 -- ---- what was read
 
@@ -126,10 +146,6 @@ last_rest plan first read old_written written front text now l e = record {
 
 -- ---- refusals
 
--- what was read is all that the input may be
-pub all_of_it : (first now whole : List ℕ) (ended : Bool) → IsTrue ended → IsPossibleInput (record { octets = appended first now; ended = ended }) whole → whole ≡ appended first now
-all_of_it first now whole ended at_end possible = possible.continues ∙ ap (λ rest. appended first now ++ rest) (possible.ends at_end) ∙ append-nil (appended first now)
-
 pub refused_all : (plan : Plan (List ℕ)) (first read now piece whole : List ℕ) (ended : Bool) (e : Refusal) → Extends first read → IsOctets (appended first read) → now ≡ read ++ piece → IsOctets piece
     → RefusesFrom plan (appended first read ++ piece) e → IsPossibleInput (record { octets = appended first now; ended = ended }) whole → plan.whole whole ≡ Err e
 refused_all plan first read now piece whole ended e extends octets more is refuses possible =
@@ -146,9 +162,26 @@ stands_as_long plan grows p q old_written written e =
     let b = grows.more p q in
     omega (arith, ap length e, length-append old_written (plan.fixed (p ++ q)), ap length b.continues, length-append (plan.fixed p) b.rest)
 
+-- So it keeps up, where this is what the plan fixes.
+pub keeps_up : (plan : Plan (List ℕ)) → Grows plan → (fixed : List ℕ → List ℕ) → ((q : List ℕ) → fixed q ≡ plan.fixed q) → (p old written : List ℕ) → written ≡ old ++ plan.fixed p → KeepsUp fixed p old written
+keeps_up plan grows fixed same p old written e =
+    let n : ℕ = length p - most_behind in
+    let long = stands_as_long plan grows (take n p) (drop n p) old written (e ∙ ap (λ l. old ++ plan.fixed l) (sym (take-append-drop n p))) in
+    omega (arith, long, ap length (same (take n p)))
+
+-- ---- the end of the content, from without
+
+-- what was written is the answer
+pub all_written : (answer : Result (List ℕ) Refusal) (old out w : List ℕ) → answer ≡ Ok (appended old out) → Extends old out → answer ≡ Ok w → out ≡ old ++ w
+all_written answer old out w e extends is = let same : Ok (appended old out) ≡ Ok w = sym e ∙ is in extends ∙ ap (λ l. old ++ l) (cc same)
+
+-- a refusal is passed on
+pub passed_on : {W : Type 0} (answer : Result W Refusal) (wrote : W) (r : Result (Unit {0}) Refusal) (e : Refusal) → r ≡ Err e → (is_external e ≡ false → answer ≡ Err e) → AgreesUnlessExternal answer wrote r
+passed_on answer wrote r e is refused = subst (AgreesUnlessExternal answer wrote) (sym is) refused
+
 -- the call refused as the plan does
-pub agrees_err : {W : Type 0} (answer : Result W Refusal) (wrote : W) (r : Result (Unit {0}) Refusal) (e : Refusal) → r ≡ Err e → answer ≡ Err e → AgreesUnlessExternal answer wrote r
-agrees_err answer wrote r e is none = subst (AgreesUnlessExternal answer wrote) (sym is) (λ inside. none)
+pub agrees_err : {X W : Type 0} (answer : Result W Refusal) (view : X → W) (r : Result X Refusal) (e : Refusal) → r ≡ Err e → answer ≡ Err e → GivesUnlessExternal view r answer
+agrees_err answer view r e is none = subst (λ r. GivesUnlessExternal view r answer) (sym is) (λ inside. none)
 
 -- all of it stands, once the end was found
 pub whole_stands : (plan : Plan (List ℕ)) (first read old written now : List ℕ) (ended : Bool) → IsTrue ended → plan.whole (appended first read) ≡ Ok (appended old written) → Extends old written → now ≡ written
@@ -157,6 +190,3 @@ whole_stands plan first read old written now ended at_end whole extends same =
     let is : beginning_of plan (record { octets = appended first read; ended = ended }) ≡ appended old written =
     ap (λ b. beginning_of plan (record { octets = appended first read; ended = b })) at_end ∙ ap (λ a. result_unwrap_or a (plan.fixed (appended first read))) whole in
     subst (λ t. AppendsPrefixOf t old now) (sym is) (AppendsPrefixOf-all (appended old written) old now (same ∙ extends))
-
-pub agrees_same : {W : Type 0} (answer : Result W Refusal) (wrote : W) (r s : Result (Unit {0}) Refusal) → r ≡ s → AgreesUnlessExternal answer wrote s → AgreesUnlessExternal answer wrote r
-agrees_same answer wrote r s same h = subst (AgreesUnlessExternal answer wrote) (sym same) h

@@ -1,15 +1,12 @@
 -- A command that writes what its plan fixes as it reads its content.
-use Rattle.std.proofs.Common.{◌≡◌, ℕ, ◌≤◌, List, [], ◌++◌, length, take, Bool, true, false, Result, Ok, Err, OnOk, OnErr, IsTrue, subst, refl, sym, ◌∙◌, ap, arith, append_assoc, append-nil, length-append}
-use Rattle.std.proofs.Math.Seq.{drop-append_seam, drop-length}
+use Rattle.std.proofs.Common.{◌≡◌, ℕ, ◌≤◌, List, [], ◌++◌, length, take, Bool, true, false, Result, Ok, Err, IsTrue, subst, refl, sym, ◌∙◌, ap, arith, append_assoc, append-nil, length-append}
+use Rattle.std.proofs.Math.Seq.{drop-append_seam}
 use Rattle.std.specs.Result.{result_unwrap_or}
 use Rattle.octets.specs.Octets.{IsOctets}
 use Rattle.octets.specs.declared.refusal.Refusal.{Refusal}
-use Rattle.octets.specs.declared.refusal.Refusal.TheVariants.{Write}
-use Rattle.octets.specs.Devices.{appended, IsPossibleInput, Extends, AppendsPrefixOf}
-use Rattle.octets.specs.Outcomes.{AgreesUnlessExternal}
+use Rattle.octets.specs.Devices.{appended, Extends, AppendsPrefixOf}
 use Rattle.octets.proofs.Decoded.{IsOctets-nil, IsOctets-append}
 use Rattle.octets.specs.Plan.{Plan, Begins, Grows, beginning_of}
-use Rattle.octets.proofs.Agreement.{agrees_last}
 use Rattle.octets.proofs.Prefixes.{AppendsPrefixOf-all, AppendsPrefixOf-front}
 
 -- ---- what was read, and what stands
@@ -25,36 +22,9 @@ pub record Due (plan : Plan (List ℕ)) (old_read read old_written written text 
 abbrev pub Stands : Plan (List ℕ) → List ℕ → List ℕ → List ℕ → List ℕ → Type 0
 Stands plan old_read read old_written written = Due plan old_read read old_written written []
 
--- Nothing was read yet, and what is fixed before that stands.
-pub Stands-first : (plan : Plan (List ℕ)) (read old_written written : List ℕ) → written ≡ old_written ++ plan.fixed [] → Stands plan read read old_written written
-Stands-first plan read old_written written e =
-    let none : appended read read ≡ [] = drop-length read in record {
-      extends = sym (append-nil read) ∙ ap (λ l. read ++ l) (sym none);
-      octets = subst IsOctets (sym none) IsOctets-nil;
-      grown = omega (arith, ap length e, length-append old_written (plan.fixed []));
-      due = append-nil written ∙ e ∙ ap (λ l. old_written ++ plan.fixed l) (sym none);
-    }
-
 pub read_more : (first read now piece : List ℕ) → Extends first read → now ≡ read ++ piece → appended first now ≡ appended first read ++ piece
 read_more first read now piece e more =
     ap (appended first) (more ∙ ap (λ l. l ++ piece) e ∙ append_assoc first (appended first read) piece) ∙ drop-append_seam first (appended first read ++ piece)
-
--- a piece was read, and the text that it adds is due
-pub Due-read : (plan : Plan (List ℕ)) (first read now old_written written piece text : List ℕ) → Stands plan first read old_written written → now ≡ read ++ piece → IsOctets piece
-    → plan.fixed (appended first read ++ piece) ≡ plan.fixed (appended first read) ++ text → Due plan first now old_written written text
-Due-read plan first read now old_written written piece text s more octets adds =
-    let p = appended first read in
-    let same : appended first now ≡ p ++ piece = read_more first read now piece s.extends more in record {
-      extends = more ∙ ap (λ l. l ++ piece) s.extends ∙ append_assoc first p piece ∙ ap (λ l. first ++ l) (sym same);
-      octets = subst IsOctets (sym same) (IsOctets-append p piece s.octets octets);
-      grown = s.grown;
-      due = ap (λ l. l ++ text) (sym (append-nil written) ∙ s.due) ∙ append_assoc old_written (plan.fixed p) text
-          ∙ ap (λ l. old_written ++ l) (sym adds ∙ ap plan.fixed (sym same));
-    }
-
--- nothing more was read
-pub Stands-read : (plan : Plan (List ℕ)) (first read now old_written written : List ℕ) → Stands plan first read old_written written → now ≡ read → Stands plan first now old_written written
-Stands-read plan first read now old_written written s same = subst (λ l. Stands plan first l old_written written) (sym same) s
 
 -- the text was written
 pub Stands-written : (plan : Plan (List ℕ)) (first read old_written written text now : List ℕ) → Due plan first read old_written written text → now ≡ written ++ text
@@ -101,24 +71,6 @@ pub record Last (plan : Plan (List ℕ)) (first read old_written written text : 
   pub grown : length old_written ≤ length written
   pub is : plan.whole (appended first read) ≡ Ok answer
   pub due : written ++ text ≡ old_written ++ answer
-
-pub Last-read : (plan : Plan (List ℕ)) (first read old_written written text : List ℕ) → Stands plan first read old_written written
-    → plan.whole (appended first read) ≡ Ok (plan.fixed (appended first read) ++ text) → Last plan first read old_written written text
-Last-read plan first read old_written written text s e = record {
-  answer = plan.fixed (appended first read) ++ text;
-  grown = s.grown;
-  is = e;
-  due = ap (λ l. l ++ text) (sym (append-nil written) ∙ s.due) ∙ append_assoc old_written (plan.fixed (appended first read)) text;
-}
-
--- all of it was written, or the output failed
-pub last_agrees : (plan : Plan (List ℕ)) (first read old_written written text now : List ℕ) (ended : Bool) (r : Result (Unit {0}) Refusal) → Last plan first read old_written written text → IsTrue ended
-    → OnOk r (now ≡ written ++ text) → OnErr r (r ≡ Err Write)
-    → (whole : List ℕ) → IsPossibleInput (record { octets = appended first read; ended = ended }) whole → AgreesUnlessExternal (plan.whole whole) (appended old_written now) r
-last_agrees plan first read old_written written text now ended r l at_end all cause whole possible =
-    let same : whole ≡ appended first read = possible.continues ∙ ap (λ rest. appended first read ++ rest) (possible.ends at_end) ∙ append-nil (appended first read) in
-    agrees_last (plan.whole whole) (appended old_written now) r all cause (λ e.
-    ap plan.whole same ∙ l.is ∙ ap Ok (sym (ap (appended old_written) (e ∙ l.due) ∙ drop-append_seam old_written l.answer)))
 
 pub last_may_stand : (plan : Plan (List ℕ)) (first read old_written written text now : List ℕ) (ended : Bool) → Last plan first read old_written written text → IsTrue ended
     → AppendsPrefixOf text written now → AppendsPrefixOf (beginning_of plan (record { octets = appended first read; ended = ended })) old_written now

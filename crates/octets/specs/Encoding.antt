@@ -1,7 +1,8 @@
 -- Base64url of a content, and of a text: what all of it becomes, and what a beginning of it fixes.
 use Rattle.std.specs.Prelude.{◌≡◌, ◌≤◌, ℕ, ◌%◌, List, [], ◌∷◌, ◌++◌, length, Result, Ok, Err}
+use Rattle.std.proofs.Common.{refl}
 use Rattle.octets.specs.declared.refusal.Refusal.{Refusal}
-use Rattle.octets.specs.Base64url.{base64url, decoded, whole_groups}
+use Rattle.octets.specs.Base64url.{base64url, decoded, whole_groups, settled}
 use Rattle.octets.specs.LineEnds.{without_line_end}
 use Rattle.octets.specs.Octets.{IsOctets}
 use Rattle.octets.specs.Plan.{Plan, Begins}
@@ -23,6 +24,14 @@ octets_of_groups rest = []
 -- the octets whose text it is, with a line end or without; each good group of four characters fixes three octets
 abbrev pub decoding : Plan (List ℕ)
 decoding = record { whole = λ text. decoded (without_line_end text); fixed = octets_of_groups }
+
+-- the same octets, each group once no line end at the end of the text can reach it
+abbrev pub settling : Plan (List ℕ)
+settling = record { whole = decoding.whole; fixed = λ front. octets_of_groups (settled front) }
+
+pub settling_starts : settling.fixed [] ≡ []
+unfolding settled octets_of_groups
+settling_starts = refl
 
 -- What a beginning of a text fixes is x: whole groups of octets, whose text begins it, and none longer are.
 pub record IsLongestDecoded (text x : List ℕ) : Type 0 where

@@ -1,5 +1,5 @@
 -- What a call is to write, once all but its content is read and accepted.
-use Rattle.std.specs.Prelude.{◌≡◌, ℕ, Bool, List, [], ◌++◌, length, take, nat_le, if◌then◌else◌, Result, Ok, Err}
+use Rattle.std.specs.Prelude.{◌≡◌, ℕ, Bool, List, [], ◌++◌, length, take, nat_le, false, if◌then◌else◌, Result, Ok, Err}
 use Rattle.std.specs.Result.{result_unwrap_or}
 use Rattle.octets.specs.declared.refusal.Refusal.{Refusal}
 use Rattle.octets.specs.declared.refusal.Refusal.TheVariants.{Random}
@@ -53,6 +53,10 @@ pub record BothGrow (plan : Plan OutputTexts) : Type 0 where
   pub text : Grows (plan_map (λ texts. texts.text) plan)
   pub content : Grows (plan_map (λ texts. texts.content) plan)
 
+-- a content that is written as it is
+abbrev pub as_it_is : Plan (List ℕ)
+as_it_is = record { whole = λ content. Ok content; fixed = λ front. front }
+
 -- a call without a content
 abbrev pub without_content : {W : Type 0} → W → Plan W
 without_content texts = record { whole = λ content. Ok texts; fixed = λ front. texts }
@@ -104,6 +108,10 @@ planned plan content = plan >>= λ p. p.whole content
 abbrev pub begun : Result (Plan OutputTexts) Refusal → Observed → OutputTexts
 begun (Ok plan) seen = beginning_of plan seen
 begun (Err r) seen = nothing
+
+-- what so much of the content fixes
+abbrev pub fixed_by : Result (Plan OutputTexts) Refusal → List ℕ → OutputTexts
+fixed_by plan front = begun plan (record { octets = front; ended = false })
 
 abbrev pub planned_beginning : Bool → Result (Plan OutputTexts) Refusal → Observed → OutputTexts
 planned_beginning others_read plan seen = if others_read then begun plan seen else nothing

@@ -1,5 +1,5 @@
 -- A content that is pumped through a transform: what is written of it behind another text, and what is refused.
-use Rattle.std.specs.Prelude.{◌≡◌, ℕ, List, [], ◌++◌, Err}
+use Rattle.std.specs.Prelude.{◌≡◌, ◌≤◌, ℕ, ◌+◌, ◌-◌, List, [], ◌++◌, length, take, Err}
 use Rattle.base64.specs.Engines.{url_safe_no_pad}
 use Rattle.base64.proofs.EngineFacts.{encode_of-nil}
 use Rattle.octets.specs.Base64url.{base64url, whole_groups}
@@ -15,6 +15,14 @@ behind before plan = plan_map (λ text. before ++ text) plan
 -- Every content that begins so is refused.
 abbrev pub RefusesFrom : Plan (List ℕ) → List ℕ → Refusal → Type 0
 RefusesFrom plan p e = (rest : List ℕ) → IsOctets (p ++ rest) → plan.whole (p ++ rest) ≡ Err e
+
+-- how many octets that were read what is written may leave out, where the content fails
+abbrev pub most_behind : ℕ
+most_behind = 4160
+
+-- What stands is at least as long as what is fixed by all that was read but these.
+abbrev pub KeepsUp : (List ℕ → List ℕ) → List ℕ → List ℕ → List ℕ → Type 0
+KeepsUp fixed read old new = length old + length (fixed (take (length read - most_behind) read)) ≤ length new
 
 -- no octet fixes no text
 pub encoding_starts : encoding.fixed [] ≡ []

@@ -2,8 +2,9 @@
 ghost use Rattle.std.specs.Prelude.{◌≡◌, ℕ, ◌+◌, ◌*◌, ◌/◌, ◌≤◌, List, [], ◌++◌, length, take, drop, IfOk, OnOk, OnErr, IfErr, Ok, Err};
 ghost use Rattle.octets.specs.Base64url.{decoded, settled, unsettled};
 
-use crate::Refusal;
+use crate::transform::Transform;
 use crate::writer::join;
+use crate::{Refusal, without_line_end};
 use base64::engine::general_purpose::URL_SAFE_NO_PAD as BASE64URL;
 use std::marker::Model;
 
@@ -37,11 +38,11 @@ impl B64Reader {
     }
 
     /// Takes the next piece, of at most 4,096 characters. Writes the octets of the groups that are
-    /// settled now to the front of `out`, and answers how many. Refused with `Base64` where they have none;
+    /// settled now to the front of `out`, which has room for 3,072, and answers how many. Refused with `Base64` where they have none;
     /// then it holds what it held, and nothing is said of `out`.
-    pub fn feed(&mut self, piece: &[u8], out: &mut [u8; 3072]) -> Result<usize, Refusal>
-        requires { length piece.now ≤ 4096 }
-        ensures within { IfOk result (λ n. n ≤ 3072) }
+    pub fn feed(&mut self, piece: &[u8], out: &mut [u8]) -> Result<usize, Refusal>
+        requires { (length piece.now ≤ 4096) × (3072 ≤ length out.old) }
+        ensures within { IfOk result (λ n. n ≤ length out.old) }
         ensures waits { OnOk result (self.new ≡ unsettled (self.old ++ piece.now)) }
         ensures octets { IfOk result (λ n. decoded (settled (self.old ++ piece.now)) ≡ Ok (take n out.new)) }
         ensures refused { IfErr result (λ e. (e ≡ Refusal.Base64) × (decoded (settled (self.old ++ piece.now)) ≡ Err Refusal.Base64)) }
@@ -59,11 +60,42 @@ impl B64Reader {
     }
 
     /// The characters that wait.
-    pub fn waiting(&self) -> &[u8]
+    pub(crate) fn waiting(&self) -> &[u8]
         ensures within { length result.now ≤ 5 }
         ensures all { result.now ≡ self.now }
     {
         &self.waiting[..self.count]
+    }
+}
+
+impl Transform for B64Reader {
+    type Rest = ();
+
+    ghost use Rattle.std.specs.Prelude.{⊤};
+    ghost use Rattle.octets.specs.Encoding.{settling, octets_of_groups, settling_starts};
+
+    ghost Job = { Unit {0} };
+
+    ghost plan = { λ job. settling };
+
+    ghost is_fed = { λ x job p. (x ≡ unsettled p) × (decoded (settled p) ≡ Ok (octets_of_groups (settled p))) };
+
+    ghost is_left = { λ x job p. ⊤ };
+
+    ghost starts_with_nothing = { λ x job fed. settling_starts };
+
+    fn feed<'t>(
+        &mut self,
+        piece: &'t [u8],
+        space: &'t mut [u8; 5488],
+    ) -> Result<&'t [u8], Refusal> {
+        let len = B64Reader::feed(self, piece, space)?;
+        Ok(&space[..len])
+    }
+
+    fn finish<'t>(self, space: &'t mut [u8; 5488]) -> Result<(&'t [u8], ()), Refusal> {
+        let len = decode_onto(without_line_end(self.waiting()), space)?;
+        Ok((&space[..len], ()))
     }
 }
 

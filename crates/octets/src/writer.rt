@@ -2,6 +2,8 @@
 ghost use Rattle.std.specs.Prelude.{◌≡◌, ℕ, ◌+◌, ◌*◌, ◌/◌, ◌≤◌, List, [], ◌++◌, length, take};
 ghost use Rattle.octets.specs.Base64url.{base64url, whole_groups, part_group};
 
+use crate::Refusal;
+use crate::transform::Transform;
 use base64::engine::general_purpose::URL_SAFE_NO_PAD as BASE64URL;
 use std::marker::Model;
 
@@ -39,6 +41,7 @@ impl B64Writer {
     pub fn feed(&mut self, piece: &[u8], out: &mut [u8; 5488]) -> usize
         requires { length piece.now ≤ 4112 }
         ensures within { result ≤ 5488 }
+        ensures len { result ≡ (length self.old + length piece.now) / 3 * 4 }
         ensures waits { (fed : List ℕ) → self.old ≡ part_group fed → self.new ≡ part_group (fed ++ piece.now) }
         ensures text { (fed : List ℕ) → self.old ≡ part_group fed
             → base64url (whole_groups (fed ++ piece.now)) ≡ base64url (whole_groups fed) ++ take result out.new }
@@ -69,6 +72,39 @@ impl B64Writer {
             → base64url fed ≡ base64url (whole_groups fed) ++ take result out.new }
     {
         encode_onto(&self.waiting[..self.count], out)
+    }
+}
+
+impl Transform for B64Writer {
+    type Rest = ();
+
+    ghost use Rattle.std.specs.Prelude.{⊤};
+    ghost use Rattle.octets.specs.Base64url.{part_group};
+    ghost use Rattle.octets.specs.Encoding.{encoding};
+    ghost use Rattle.octets.specs.Pumps.{encoding_starts};
+
+    ghost Job = { Unit {0} };
+
+    ghost plan = { λ job. encoding };
+
+    ghost is_fed = { λ x job p. x ≡ part_group p };
+
+    ghost is_left = { λ x job p. ⊤ };
+
+    ghost starts_with_nothing = { λ x job fed. encoding_starts };
+
+    fn feed<'t>(
+        &mut self,
+        piece: &'t [u8],
+        space: &'t mut [u8; 5488],
+    ) -> Result<&'t [u8], Refusal> {
+        let len = B64Writer::feed(self, piece, space);
+        Ok(&space[..len])
+    }
+
+    fn finish<'t>(self, space: &'t mut [u8; 5488]) -> Result<(&'t [u8], ()), Refusal> {
+        let len = encode_onto(self.waiting(), space);
+        Ok((&space[..len], ()))
     }
 }
 

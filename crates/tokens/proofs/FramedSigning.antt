@@ -22,7 +22,8 @@ use Rattle.objects.proofs.SpellingJws.{signature_spelled, spelled, parts_spelled
 use Rattle.tokens.specs.Signatures.{signature_hash, signature_of}
 use Rattle.tokens.specs.Signing.{Signer, Signing, protected_by, signature_by, unsigned_part_by, unsigned_by, signed, text_of, text_before, written_of, plan_by, signing_of, signing_by}
 use Rattle.tokens.specs.SigningInputs.{signature_text, unsigned_protected}
-use Rattle.tokens.specs.WrittenContents.{encoded_behind}
+use Rattle.octets.specs.Encoding.{encoding}
+use Rattle.octets.specs.Pumps.{behind}
 use Rattle.tokens.proofs.SignedAlike.{with_all, put_part, built_alike, refused_alike}
 use Rattle.tokens.proofs.SignedObjects.{is_written}
 use Rattle.tokens.proofs.SignedRoundTrip.{signature_octets}
@@ -133,12 +134,12 @@ has_frame compact detach s payload written h = by_object (unsigned_by s) refl
 
 module _ (compact : Bool) (s : Signing) (o : SignedObject) (first : List ℕ) (rest : List (List ℕ)) (made : unsigned_by s ≡ Ok o) (framed : jws_frame compact false o ≡ Ok (first ∷ rest))
     (frame : IsJwsFrame compact false o (first ∷ rest)) where
-  first_is : first ≡ text_before compact s
+  pub first_is : first ≡ text_before compact s
   first_is = ap first_text (sym (ap (λ r. r >>= jws_frame compact false) made ∙ framed))
 
   -- with the text of what was read of the payload it begins what may stand
   pub inside_begins : (payload : List ℕ) (ended : Bool) → IsOctets payload
-      → Begins (beginning_of (encoded_behind first) (record { octets = payload; ended = ended })) (beginning_of (plan_by compact false s) (record { octets = payload; ended = ended })).text
+      → Begins (beginning_of (behind first encoding) (record { octets = payload; ended = ended })) (beginning_of (plan_by compact false s) (record { octets = payload; ended = ended })).text
   inside_begins payload false octets = record { rest = []; continues = ap (λ t. t ++ base64url (whole_groups payload)) (sym first_is) ∙ sym (append-nil (first ++ base64url (whole_groups payload))) }
   inside_begins payload true octets = record {
     rest = filled rest (map base64url (map (octets_by payload) s.signers));

@@ -1,7 +1,6 @@
 pub mod Tests
 pub mod Encoded
 pub mod HeldInputs
-pub mod Pieces
 pub mod UnsignedInputs
 pub mod WrittenSignatures
 pub mod SignedAlike

@@ -6,7 +6,9 @@ use Rattle.octets.specs.Base64url.{base64url, whole_groups}
 use Rattle.octets.specs.Devices.{appended, Extends, IsPossibleInput, AppendsPrefixOf}
 use Rattle.octets.specs.Octets.{IsOctets}
 use Rattle.octets.specs.Outcomes.{◌>>=◌}
-use Rattle.octets.specs.Plan.{OutputTexts, Plan, Begins, Grows, beginning_of, begun, planned}
+use Rattle.octets.specs.Encoding.{encoding}
+use Rattle.octets.specs.Plan.{OutputTexts, Plan, Begins, Grows, as_it_is, beginning_of, begun, fixed_by, planned}
+use Rattle.octets.specs.Pumps.{behind}
 use Rattle.octets.proofs.Agreement.{appended-append, begun_whole}
 use Rattle.octets.proofs.Streaming.{AppendsPrefixOf-Begins}
 use Rattle.ciphers.specs.Sealing.{Sealed, Sealing}
@@ -16,9 +18,8 @@ use Rattle.objects.specs.Jwe.{built}
 use Rattle.objects.proofs.Steps.{steps, same_answer}
 use Rattle.tokens.specs.Choosing.{Encryption}
 use Rattle.tokens.specs.Encrypting.{sealing_by, sealed_by, text_before, parts_by, written_of, encrypted, plan_by, ciphertext_fixed}
-use Rattle.tokens.specs.SealedTexts.{SealedText, sealed_text, sealed_plan, IsUnsealed}
-use Rattle.tokens.specs.WrittenContents.{as_it_is, encoded_behind}
-use Rattle.tokens.proofs.Beginnings.{begins_behind, AppendsPrefixOf-behind, groups_grow, text_grows}
+use Rattle.tokens.specs.SealedTexts.{sealed_plan, IsUnsealed}
+use Rattle.tokens.proofs.Beginnings.{AppendsPrefixOf-behind, groups_grow, text_grows}
 use Rattle.tokens.proofs.EncryptedObjects.{sealed_is}
 use Rattle.tokens.proofs.EncryptingGrowth.{more_fixed, fixed_begins}
 use Rattle.tokens.proofs.StandingSignatures.{all_read}
@@ -36,10 +37,9 @@ sealed_grows plan e random fixed whole = record {
       whole _ made.0.ciphertext w (subst (λ (x : Sealed). Begins (ciphertext_fixed e random p) x.ciphertext) is.1 (fixed_begins e random p q is.0)) made.2;
 }
 
-pub encoded_grows : (before : List ℕ) (e : Encryption) (random : List ℕ) → Grows (sealed_plan (encoded_behind before) (sealing_by e random))
-encoded_grows before e random =
-    sealed_grows (encoded_behind before) e random (λ x y b. begins_behind before _ _ (groups_grow x y b))
-    (λ x y w b h. subst (Begins (before ++ base64url (whole_groups x))) (same_answer (before ++ base64url y) w h) (begins_behind before _ _ (text_grows x y b)))
+pub encoded_grows : (e : Encryption) (random : List ℕ) → Grows (sealed_plan encoding (sealing_by e random))
+encoded_grows e random =
+    sealed_grows encoding e random groups_grow (λ x y w b h. subst (Begins (base64url (whole_groups x))) (same_answer (base64url y) w h) (text_grows x y b))
 
 pub plain_grows : (e : Encryption) (random : List ℕ) → Grows (sealed_plan as_it_is (sealing_by e random))
 plain_grows e random = sealed_grows as_it_is e random (λ x y b. b) (λ x y w b h. subst (Begins x) (same_answer y w h) b)
@@ -47,25 +47,34 @@ plain_grows e random = sealed_grows as_it_is e random (λ x y b. b) (λ x y w b 
 -- ---- what is written of a sealed plaintext
 
 -- its ciphertext and tag, by what was written
-pub record IsWritten (plan : Plan (List ℕ)) (s : Sealing) (p text tag : List ℕ) : Type 0 where
-  pub sealed : Sealed
-  pub is : sealed_by s p ≡ Ok sealed
-  pub whole : plan.whole sealed.ciphertext ≡ Ok text
-  pub is_tag : sealed.tag ≡ tag
+record IsWritten (plan : Plan (List ℕ)) (s : Sealing) (p text tag : List ℕ) : Type 0 where
+  sealed : Sealed
+  is : sealed_by s p ≡ Ok sealed
+  whole : plan.whole sealed.ciphertext ≡ Ok text
+  is_tag : sealed.tag ≡ tag
 
-pub is_written : (plan : Plan (List ℕ)) (s : Sealing) (p text tag : List ℕ) → sealed_text plan s p ≡ Ok (record { text = text; tag = tag }) → IsWritten plan s p text tag
-is_written plan s p text tag h =
-    let made = steps (sealed_by s p) _ _ h in
-    let written = steps (plan.whole made.0.ciphertext) _ _ made.2 in
-    let same : record { text = written.0; tag = made.0.tag } ≡ record { text = text; tag = tag } = same_answer _ _ written.2 in
+is_written : (plan : Plan (List ℕ)) (s : Sealing) (p text tag : List ℕ) → (sealed_plan plan s).whole p ≡ Ok text → (s.sealed p).tag ≡ tag → IsWritten plan s p text tag
+is_written plan s p text tag h is_tag =
+    let made = steps (sealed_by s p) (λ sealed. plan.whole sealed.ciphertext) text h in
     record {
       sealed = made.0;
       is = made.1;
-      whole = written.1 ∙ ap (λ (t : SealedText). Ok t.text) same;
-      is_tag = ap (λ (t : SealedText). t.tag) same;
+      whole = made.2;
+      is_tag = ap (λ (x : Sealed). x.tag) (sym (sealed_is s p made.0 made.1).1) ∙ is_tag;
     }
 
 -- ---- a plaintext that is refused
+
+-- what all of it becomes is written, so it is refused as it is sealed
+pub sealed_refused : (plan : Plan (List ℕ)) (s : Sealing) (p : List ℕ) (r : Refusal) → ((c : List ℕ) (e : Refusal) → plan.whole c ≡ Err e → ⊥) → (sealed_plan plan s).whole p ≡ Err r → sealed_by s p ≡ Err r
+sealed_refused plan s p r never h = by_answer (sealed_by s p) refl
+  where
+    by_answer : (a : Result Sealed Refusal) → sealed_by s p ≡ a → a ≡ Err r
+    by_answer (Ok sealed) is = absurd (never sealed.ciphertext r (ap (λ a. a >>= λ sealed. plan.whole sealed.ciphertext) (sym is) ∙ h))
+    by_answer (Err e) is =
+        let both = ap (λ a. a >>= λ sealed. plan.whole sealed.ciphertext) (sym is) ∙ h in
+        let same : e ≡ r = cc both in
+        ap Err same
 
 -- is so as a whole
 pub encryption_refused : (compact detach : Bool) (e : Encryption) (random p : List ℕ) (r : Refusal) → sealed_by (sealing_by e random) p ≡ Err r → (plan_by compact detach e random).whole p ≡ Err r
@@ -81,7 +90,7 @@ module _ {S : Type 0} (is_sealing : S → Sealing → List ℕ → Type 0) (comp
   -- ---- the ciphertext stands inside
 
   module _ (texts : List (List ℕ)) (u : IsUnsealed is_sealing compact false plan sealer texts) (first : List ℕ) (rest : List (List ℕ)) (are : texts ≡ first ∷ rest) where
-    s : Sealing
+    abbrev s : Sealing
     s = sealing_by u.encryption u.random
 
     is_first : first ≡ text_before compact u.encryption u.random
@@ -92,7 +101,7 @@ module _ {S : Type 0} (is_sealing : S → Sealing → List ℕ → Type 0) (comp
 
     -- what may stand of the ciphertext begins what may stand
     by_answer : (p : List ℕ) (a : Result Sealed Refusal) → IsOctets p → sealed_by (sealing_by u.encryption u.random) p ≡ a
-        → Begins (result_unwrap_or (a >>= λ sealed. Ok (first ++ base64url sealed.ciphertext)) (first ++ base64url (whole_groups (ciphertext_fixed u.encryption u.random p))))
+        → Begins (result_unwrap_or ((a >>= λ sealed. encoding.whole sealed.ciphertext) >>= λ text. Ok (first ++ text)) (first ++ base64url (whole_groups (ciphertext_fixed u.encryption u.random p))))
         (result_unwrap_or ((plan_by compact false u.encryption u.random).whole p) ((plan_by compact false u.encryption u.random).fixed p)).text
     by_answer p (Ok sealed) octets h = record {
       rest = filled rest (base64url sealed.tag ∷ []);
@@ -107,7 +116,7 @@ module _ {S : Type 0} (is_sealing : S → Sealing → List ℕ → Type 0) (comp
     }
 
     inside_begins : (p : List ℕ) (ended : Bool) → IsOctets p
-        → Begins (beginning_of (sealed_plan (encoded_behind first) (sealing_by u.encryption u.random)) (record { octets = p; ended = ended })) (begun plan (record { octets = p; ended = ended })).text
+        → Begins (beginning_of (behind first (sealed_plan encoding (sealing_by u.encryption u.random))) (record { octets = p; ended = ended })) (begun plan (record { octets = p; ended = ended })).text
     inside_begins p false octets = record {
       rest = [];
       continues = ap (λ r. (begun r (record { octets = p; ended = false })).text) u.is
@@ -117,22 +126,31 @@ module _ {S : Type 0} (is_sealing : S → Sealing → List ℕ → Type 0) (comp
         let b = by_answer p (sealed_by (sealing_by u.encryption u.random) p) octets refl in
         record { rest = b.rest; continues = ap (λ r. (begun r (record { octets = p; ended = true })).text) u.is ∙ b.continues }
 
+    -- what so much of the plaintext fixes
+    pub inside_fixed : (q : List ℕ) → (fixed_by plan q).text ≡ (behind first (sealed_plan encoding (sealing_by u.encryption u.random))).fixed q
+    inside_fixed q = ap (λ r. (fixed_by r q).text) u.is ∙ ap (λ t. t ++ base64url (whole_groups (ciphertext_fixed u.encryption u.random q))) (sym is_first)
+
     -- the text before it, and the ciphertext's behind that, was written in part
     pub inside_part : (p : List ℕ) (ended : Bool) (old new : List ℕ) → IsOctets p
-        → AppendsPrefixOf (beginning_of (sealed_plan (encoded_behind first) (sealing_by u.encryption u.random)) (record { octets = p; ended = ended })) old new
+        → AppendsPrefixOf (beginning_of (behind first (sealed_plan encoding (sealing_by u.encryption u.random))) (record { octets = p; ended = ended })) old new
         → AppendsPrefixOf (begun plan (record { octets = p; ended = ended })).text old new
     inside_part p ended old new octets part = AppendsPrefixOf-Begins _ _ old new (inside_begins p ended octets) part
 
     -- all of it was
     module _ (p : List ℕ) (ended : Bool) (old between tag : List ℕ) (octets : IsOctets p) (at_end : IsTrue ended) (grown : Extends old between)
-        (so_far : sealed_text (encoded_behind first) (sealing_by u.encryption u.random) p ≡ Ok (record { text = appended old between; tag = tag })) where
-      k : IsWritten (encoded_behind first) (sealing_by u.encryption u.random) p (appended old between) tag
-      k = is_written (encoded_behind first) (sealing_by u.encryption u.random) p (appended old between) tag so_far
+        (so_far : (behind first (sealed_plan encoding (sealing_by u.encryption u.random))).whole p ≡ Ok (appended old between)) (tagged : ((sealing_by u.encryption u.random).sealed p).tag ≡ tag) where
+      written_text : (text : List ℕ) × ((sealed_plan encoding s).whole p ≡ Ok text) × (first ++ text ≡ appended old between)
+      written_text =
+          let made = steps ((sealed_plan encoding s).whole p) (λ text. Ok (first ++ text)) (appended old between) so_far in
+          (made.0, made.1, same_answer _ _ made.2)
+
+      k : IsWritten encoding s p written_text.0 tag
+      k = is_written encoding s p written_text.0 tag written_text.1 tagged
 
       inside_whole : planned plan p ≡ Ok (record { text = appended old between ++ filled rest (base64url tag ∷ []); content = [] })
       inside_whole =
           let c = k.sealed.ciphertext in
-          let text : first ++ base64url c ≡ appended old between = same_answer _ _ k.whole in
+          let text : first ++ base64url c ≡ appended old between = ap (λ t. first ++ t) (same_answer (base64url c) written_text.0 k.whole) ∙ written_text.2 in
           ap (λ r. planned r p) u.is ∙ u.whole p k.sealed octets k.is
           ∙ ap (λ t. Ok (record { text = filled t (base64url c ∷ base64url k.sealed.tag ∷ []); content = [] })) are
           ∙ ap (λ t. Ok (record { text = t; content = [] }))
@@ -161,6 +179,10 @@ module _ {S : Type 0} (is_sealing : S → Sealing → List ℕ → Type 0) (comp
     pub beside_places : length texts ≡ 2
     beside_places = u.places
 
+    -- what so much of the plaintext fixes
+    pub beside_fixed : (q : List ℕ) → ((fixed_by plan q).text ≡ []) × ((fixed_by plan q).content ≡ (sealed_plan as_it_is (sealing_by u.encryption u.random)).fixed q)
+    beside_fixed q = (ap (λ r. (fixed_by r q).text) u.is, ap (λ r. (fixed_by r q).content) u.is)
+
     beside_by_answer : (p : List ℕ) (a : Result Sealed Refusal) → IsOctets p → sealed_by (sealing_by u.encryption u.random) p ≡ a
         → (result_unwrap_or ((plan_by compact true u.encryption u.random).whole p) ((plan_by compact true u.encryption u.random).fixed p)).content
         ≡ result_unwrap_or (a >>= λ sealed. Ok sealed.ciphertext) (ciphertext_fixed u.encryption u.random p)
@@ -175,11 +197,11 @@ module _ {S : Type 0} (is_sealing : S → Sealing → List ℕ → Type 0) (comp
     beside_is p true octets =
         ap (λ r. (begun r (record { octets = p; ended = true })).content) u.is ∙ beside_by_answer p (sealed_by (sealing_by u.encryption u.random) p) octets refl
 
-    module _ (p : List ℕ) (ended : Bool) (old_beside new_beside tag : List ℕ) (octets : IsOctets p) (at_end : IsTrue ended) (grown : Extends old_beside new_beside)
-        (so_far : sealed_text as_it_is (sealing_by u.encryption u.random) p ≡ Ok (record { text = appended old_beside new_beside; tag = tag })) where
+    module _ (p : List ℕ) (ended : Bool) (old_beside new_beside tag : List ℕ) (octets : IsOctets p) (at_end : IsTrue ended)
+        (so_far : (sealed_plan as_it_is (sealing_by u.encryption u.random)).whole p ≡ Ok (appended old_beside new_beside)) (tagged : ((sealing_by u.encryption u.random).sealed p).tag ≡ tag) where
       beside_whole : planned plan p ≡ Ok (record { text = filled texts (base64url tag ∷ []); content = appended old_beside new_beside })
       beside_whole =
-          let k = is_written as_it_is (sealing_by u.encryption u.random) p (appended old_beside new_beside) tag so_far in
+          let k = is_written as_it_is (sealing_by u.encryption u.random) p (appended old_beside new_beside) tag so_far tagged in
           let text : k.sealed.ciphertext ≡ appended old_beside new_beside = same_answer _ _ k.whole in
           ap (λ r. planned r p) u.is ∙ u.whole p k.sealed octets k.is
           ∙ ap (λ c. Ok (record { text = filled texts (base64url k.sealed.tag ∷ []); content = c })) text

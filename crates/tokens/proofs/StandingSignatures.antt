@@ -3,10 +3,10 @@ use Rattle.std.proofs.Common.{◌≡◌, ℕ, ◌+◌, ◌-◌, Bool, true, fals
 use Rattle.std.proofs.Math.Seq.{drop-length}
 use Rattle.std.proofs.lemmas.List.{take_all, take-append-le, length-drop}
 use Rattle.octets.specs.declared.refusal.Refusal.{Refusal}
-use Rattle.octets.specs.Base64url.{base64url}
+use Rattle.octets.specs.Base64url.{base64url, whole_groups}
 use Rattle.octets.specs.Devices.{appended, IsPossibleInput, AppendsPrefixOf}
 use Rattle.octets.specs.Octets.{IsOctets}
-use Rattle.octets.specs.Plan.{OutputTexts, Plan, Begins, beginning_of, begun, planned}
+use Rattle.octets.specs.Plan.{OutputTexts, Plan, Begins, beginning_of, begun, fixed_by, planned}
 use Rattle.octets.proofs.Agreement.{appended-append, begun_whole, both_written}
 use Rattle.octets.proofs.Decoded.{IsOctets-nil}
 use Rattle.octets.proofs.Streaming.{AppendsPrefixOf-Begins}
@@ -14,9 +14,10 @@ use Rattle.prf.specs.HashFunction.{HashFunction}
 use Rattle.objects.specs.Frames.{filled, IsJwsFrame}
 use Rattle.tokens.specs.Signing.{Signer}
 use Rattle.tokens.specs.SigningInputs.{HoldEach, IsFramed, signature_text}
-use Rattle.tokens.specs.WrittenContents.{encoded_behind}
+use Rattle.octets.specs.Encoding.{encoding}
+use Rattle.octets.specs.Pumps.{behind}
 use Rattle.tokens.proofs.Beginnings.{AppendsPrefixOf-behind}
-use Rattle.tokens.proofs.FramedSigning.{texts_are, unsigned_count, whole_is, inside_begins}
+use Rattle.tokens.proofs.FramedSigning.{texts_are, unsigned_count, whole_is, first_is, inside_begins}
 
 -- an input that was read to its end was this
 pub all_read : (p payload : List ℕ) (ended : Bool) → IsPossibleInput (record { octets = p; ended = ended }) payload → IsTrue ended → payload ≡ p
@@ -60,15 +61,19 @@ module _ {S : Type 0} (has_taken : S → HashFunction → List ℕ → List ℕ 
       own_frame = subst (λ t. IsJwsFrame compact false f.object t) are f.frame
 
       inside_text : (p : List ℕ) (ended : Bool) → IsOctets p
-          → Begins (beginning_of (encoded_behind first) (record { octets = p; ended = ended })) (begun plan (record { octets = p; ended = ended })).text
+          → Begins (beginning_of (behind first encoding) (record { octets = p; ended = ended })) (begun plan (record { octets = p; ended = ended })).text
       inside_text p ended octets =
-          subst (λ r. Begins (beginning_of (encoded_behind first) (record { octets = p; ended = ended })) (begun r (record { octets = p; ended = ended })).text) (sym f.is)
+          subst (λ r. Begins (beginning_of (behind first encoding) (record { octets = p; ended = ended })) (begun r (record { octets = p; ended = ended })).text) (sym f.is)
           (inside_begins compact f.signing f.object first rest f.made (f.texts_are ∙ ap Ok are) own_frame p ended octets)
 
       -- the first text, and the payload's behind it, was written in part
-      pub inside_part : (p : List ℕ) (ended : Bool) (old new : List ℕ) → IsOctets p → AppendsPrefixOf (beginning_of (encoded_behind first) (record { octets = p; ended = ended })) old new
+      pub inside_part : (p : List ℕ) (ended : Bool) (old new : List ℕ) → IsOctets p → AppendsPrefixOf (beginning_of (behind first encoding) (record { octets = p; ended = ended })) old new
           → AppendsPrefixOf (begun plan (record { octets = p; ended = ended })).text old new
       inside_part p ended old new octets part = AppendsPrefixOf-Begins _ _ old new (inside_text p ended octets) part
+
+      -- what so much of it fixes
+      pub inside_fixed : (q : List ℕ) → (fixed_by plan q).text ≡ (behind first encoding).fixed q
+      inside_fixed q = ap (λ r. (fixed_by r q).text) f.is ∙ ap (λ t. t ++ base64url (whole_groups q)) (sym (first_is compact f.signing f.object first rest f.made (f.texts_are ∙ ap Ok are) own_frame))
 
       -- all of it
       abbrev all_inside : List ℕ → List ℕ
@@ -105,6 +110,10 @@ module _ {S : Type 0} (has_taken : S → HashFunction → List ℕ → List ℕ 
     module _ (texts : List (List ℕ)) (f : IsFramed has_taken compact true plan inputs texts) where
       pub beside_places : (now : List S) (text : List ℕ) → HoldEach has_taken now f.signing.signers text → length texts ≡ 1 + length now
       beside_places now text h = omega (arith, f.frame.places, unsigned_count f.signing f.object f.made, hold_count now f.signing.signers text h)
+
+      -- what so much of it fixes
+      pub beside_fixed : (q : List ℕ) → ((fixed_by plan q).text ≡ []) × ((fixed_by plan q).content ≡ q)
+      beside_fixed q = (ap (λ r. (fixed_by r q).text) f.is, ap (λ r. (fixed_by r q).content) f.is)
 
       beside_whole : (p : List ℕ) → IsOctets p → planned plan p ≡ Ok (record { text = filled texts (map (signature_text (base64url p)) f.signing.signers); content = p })
       beside_whole p octets =

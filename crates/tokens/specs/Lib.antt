@@ -8,6 +8,5 @@ pub mod Decrypting
 pub mod EncryptionTemplate
 pub mod Choosing
 pub mod Encrypting
-pub mod WrittenContents
 pub mod SealedTexts
 pub mod Views

@@ -1,10 +1,13 @@
 -- What is written of a content that is sealed as it is read: its ciphertext, with the tag that comes out at its end.
-use Rattle.std.specs.Prelude.{◌≡◌, ℕ, Bool, List, [], ◌∷◌, length, if◌then◌else◌, Result, Ok}
+use Rattle.std.specs.Prelude.{◌≡◌, ℕ, Bool, List, [], ◌∷◌, length, if◌then◌else◌, Option, Some, None, Result, Ok}
+use Rattle.std.proofs.Common.{zero, suc, refl, ap, ◌∙◌, arith}
+use Rattle.std.proofs.lemmas.List.{nil_from_length}
 use Rattle.octets.specs.declared.refusal.Refusal.{Refusal}
+use Rattle.octets.specs.Base64url.{part_group}
 use Rattle.octets.specs.Octets.{IsOctets}
 use Rattle.octets.specs.Outcomes.{◌>>=◌}
 use Rattle.octets.specs.Plan.{OutputTexts, Plan}
-use Rattle.ciphers.specs.Sealing.{Sealed, Sealing}
+use Rattle.ciphers.specs.Sealing.{Sealed, Sealing, IsTooLong, KeepsPace}
 use Rattle.objects.specs.Frames.{filled, in_places}
 use Rattle.objects.specs.Texts.{handed_out}
 use Rattle.tokens.specs.Choosing.{Encryption}
@@ -19,16 +22,24 @@ sealed_plan plan s = record {
   fixed = λ front. plan.fixed (s.fixed (within_longest s.longest front));
 }
 
--- what is written of the ciphertext, and the tag
-pub record SealedText : Type 0 where
-  pub text : List ℕ
-  pub tag : List ℕ
+-- no plaintext fixes no text
+within_nothing : (longest : Option ℕ) → within_longest longest [] ≡ []
+within_nothing None = refl
+within_nothing (Some zero) = refl
+within_nothing (Some (suc most)) = refl
 
-abbrev pub sealed_text : Plan (List ℕ) → Sealing → List ℕ → Result SealedText Refusal
-sealed_text plan s plaintext = do
-  sealed ← sealed_by s plaintext
-  text ← plan.whole sealed.ciphertext
-  Ok (record { text = text; tag = sealed.tag })
+pub nothing_starts : (plan : Plan (List ℕ)) (s : Sealing) → KeepsPace s [] → plan.fixed [] ≡ [] → (sealed_plan plan s).fixed [] ≡ []
+nothing_starts plan s pace none =
+    ap (λ front. plan.fixed (s.fixed front)) (within_nothing s.longest) ∙ ap plan.fixed (nil_from_length (s.fixed []) (omega (arith, pace.within))) ∙ none
+
+-- This was fed, and is not too long.
+pub record IsFed {X : Type 0} (is_sealing : X → Sealing → List ℕ → Type 0) (x : X) (s : Sealing) (p : List ℕ) : Type 0 where
+  pub holds : is_sealing x s p
+  pub short : IsTooLong s p → ⊥
+
+-- and the octets after the whole groups of what it fixes of the ciphertext wait
+abbrev pub IsSealingText : {X : Type 0} → (X → Sealing → List ℕ → Type 0) → X → List ℕ → Sealing → List ℕ → Type 0
+IsSealingText is_sealing x waiting s p = IsFed is_sealing x s p × (waiting ≡ part_group (s.fixed p))
 
 -- ---- the object
 

@@ -6,7 +6,7 @@ use Rattle.prf.specs.declared.hmac.Hmac.{Hmac}
 use Rattle.tokens.specs.declared.signing_input.HmacInput.{HmacInput}
 use Rattle.tokens.specs.declared.signing_input.HmacInput.TheVariants.{Hs256, Hs384, Hs512}
 use Rattle.octets.specs.declared.refusal.Refusal.{Refusal}
-use Rattle.octets.specs.Base64url.{base64url}
+use Rattle.octets.specs.Base64url.{base64url, whole_groups, part_group}
 use Rattle.octets.specs.Plan.{OutputTexts, Plan}
 use Rattle.prf.specs.Hmac.{hmac}
 use Rattle.objects.specs.Frames.{IsJwsFrame, jws_frame}
@@ -27,6 +27,10 @@ HoldEach has_taken [] (s ∷ signers) text = ⊥
 HoldEach has_taken (x ∷ inputs) [] text = ⊥
 HoldEach has_taken (x ∷ inputs) (s ∷ signers) text =
     has_taken x (signature_hash s.alg) s.key.octets ((protected_by s ++ codes ".") ++ text) × HoldEach has_taken inputs signers text
+
+-- They have taken the text of the whole groups of what was read of the payload, and the octets after these wait.
+abbrev pub HaveTaken : {S : Type 0} → (S → HashFunction → List ℕ → List ℕ → Type 0) → List S → List ℕ → List Signer → List ℕ → Type 0
+HaveTaken has_taken inputs waiting signers p = HoldEach has_taken inputs signers (base64url (whole_groups p)) × (waiting ≡ part_group p)
 
 -- the text of the signature that a signer makes of the payload's text
 abbrev pub signature_text : List ℕ → Signer → List ℕ

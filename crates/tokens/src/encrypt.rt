@@ -9,7 +9,8 @@ ghost use Rattle.octets.specs.Faults.{TellsFaults, DidNotFail, counts};
 ghost use Rattle.octets.specs.Lent.{lent, wrote_on, IfLent, counts_of};
 ghost use Rattle.octets.specs.Octets.{IsOctets};
 ghost use Rattle.octets.specs.Outcomes.{AgreesUnlessExternal, is_external};
-ghost use Rattle.octets.specs.Plan.{begun, planned, plan_from, drawn_of};
+ghost use Rattle.octets.specs.Plan.{begun, fixed_by, planned, plan_from, drawn_of};
+ghost use Rattle.octets.specs.Pumps.{KeepsUp};
 ghost use Rattle.octets.specs.declared.refusal.Refusal.{Refusal};
 ghost use Rattle.serde_json.specs.View.{members_view};
 ghost use Rattle.serde_json.specs.Written.{members_have_float};
@@ -33,14 +34,14 @@ use crate::copies::copied;
 use crate::decrypt::authenticated;
 use crate::encryption::{Encryption, Given};
 use crate::receiver::Receiver;
-use crate::sealing::{Tag, seal_beside, seal_inside};
+use crate::sealing::{Ciphertext, EncodedCiphertext, Tag};
 use crate::template::header_text;
 use ciphers::laws::what_is_opened_is_octets;
 use ciphers::{Cek, ContentSealer, KeyParameters, Sealer};
 use keys::{KeySet, MOST_KEYS, ManagementAlg, laws};
 use objects::{Jwe, JweParts, RecipientParts};
 use octets::laws::are_octets;
-use octets::{Input, Output, Refusal, b64_encode, draw, emit, encode_onto, write_whole};
+use octets::{Input, Output, Refusal, b64_encode, draw, emit, encode_onto, pump, write_whole};
 use serde_json::{Map, Value};
 use std::alloc::{AllocError, Global};
 
@@ -110,6 +111,12 @@ pub fn jwe_encrypt<I: Input, O: Output>(
         (observed I.consumed I.is_at_end content.old content.new)).content (O.written old) (O.written new))) }
     ensures finished { OnOk result (IsTrue (O.is_finished out.new) × IfLent (lent detached.entry detached.exit) (λ old new. IsTrue (O.is_finished new))) }
 
+    // Where the content fails, what stands is at most 4,160 octets behind what was read of it.
+    ensures keeps_up { result ≡ Err Refusal.Read → appended (I.consumed content.old) (I.consumed content.new) ≢ []
+        → KeepsUp (λ front. (fixed_by (plan_from (encrypting_by limits compact (is_some detached.entry) keys.now template.now) (appended (I.consumed random.old) (I.consumed random.new))) front).text) (appended (I.consumed content.old) (I.consumed content.new)) (O.written out.old) (O.written out.new)
+        × IfLent (lent detached.entry detached.exit) (λ old new.
+        KeepsUp (λ front. (fixed_by (plan_from (encrypting_by limits compact (is_some detached.entry) keys.now template.now) (appended (I.consumed random.old) (I.consumed random.new))) front).content) (appended (I.consumed content.old) (I.consumed content.new)) (O.written old) (O.written new)) }
+
     // What the template and the keys refuse is refused before anything is drawn, and the content is touched once all is drawn.
     ensures content_last { (refusal : Refusal) → encrypting_by limits compact (is_some detached.entry) keys.now template.now ≡ Err refusal
         → (random.new ≡ random.old) × (content.new ≡ content.old) }
@@ -137,12 +144,14 @@ pub fn jwe_encrypt<I: Input, O: Output>(
     match detached {
         None => {
             let Framed { texts, sealer } = prepare(alloc, keys, template, compact, false, random)?;
-            let tag = seal_inside(content, sealer, texts[0].as_bytes(), out)?;
+            let ciphertext = EncodedCiphertext::start(sealer);
+            let tag = pump(content, ciphertext, texts[0].as_bytes(), out)?;
             write_tag(&tag, &texts[1..], out)
         }
         Some(detached) => {
             let Framed { texts, sealer } = prepare(alloc, keys, template, compact, true, random)?;
-            let tag = seal_beside(content, sealer, detached)?;
+            let tag = pump(content, Ciphertext::start(sealer), &[], detached)?;
+            detached.finish()?;
             write_tag(&tag, &texts, out)
         }
     }

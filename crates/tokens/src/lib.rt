@@ -20,6 +20,7 @@ mod encryption_template;
 pub mod laws;
 mod pair;
 mod pairs;
+mod payload;
 mod receiver;
 mod sealing;
 mod sign;

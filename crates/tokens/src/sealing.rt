@@ -1,20 +1,10 @@
-//! Sealing a content as it is read (RFC 7516 section 5.1, steps 15 and 16). It sees no object.
-ghost use Rattle.std.specs.Prelude.{◌≡◌, ◌≢◌, ◌≤◌, ◌++◌, ℕ, length, List, [], ◌∷◌, false, Ok, Err, IfOk, IfErr, OnOk, OnErr, IsTrue};
-ghost use Rattle.std.specs.Iterator.{IsFinite};
-ghost use Rattle.octets.specs.declared.refusal.Refusal.{Refusal};
-ghost use Rattle.octets.specs.Base64url.{base64url, whole_groups, part_group};
-ghost use Rattle.octets.specs.Devices.{appended, observed, Extends, IsPossibleInput, AppendsPrefixOf};
-ghost use Rattle.octets.specs.Faults.{TellsFaults, counts};
-ghost use Rattle.octets.specs.Octets.{IsOctets};
-ghost use Rattle.octets.specs.Outcomes.{is_external};
-ghost use Rattle.octets.specs.Plan.{Grows, beginning_of};
+//! A content that is sealed as it is read (RFC 7516 section 5.1, steps 15 and 16). It sees no object.
+ghost use Rattle.std.specs.Prelude.{◌≡◌, ◌≤◌, ◌++◌, ℕ, length, take, List, []};
 ghost use Rattle.ciphers.specs.Sealing.{Sealing};
-ghost use Rattle.tokens.specs.Encrypting.{sealed_by};
-ghost use Rattle.tokens.specs.SealedTexts.{sealed_plan, sealed_text};
-ghost use Rattle.tokens.specs.WrittenContents.{as_it_is, encoded_behind};
+ghost use Rattle.tokens.specs.SealedTexts.{sealed_plan, IsFed, IsSealingText};
 
 use ciphers::Sealer;
-use octets::{B64Writer, Input, Output, Refusal, emit, read_piece, write_whole};
+use octets::{B64Writer, Refusal, Transform};
 use std::marker::Model;
 
 /// The authentication tag. It is seen as its octets.
@@ -43,128 +33,126 @@ impl Tag {
     }
 }
 
-/// Writes the text that stands before the ciphertext, once a first piece of the plaintext was read, then the base64url text of
-/// the ciphertext as the plaintext is read, and answers the tag. Refused with `Read` where the plaintext fails, `Limit` where it
-/// is too long, and `Write`.
-pub(crate) fn seal_inside<I: Input, O: Output, S: Sealer>(
-    plaintext: &mut I,
-    mut sealer: S,
-    before: &[u8],
-    out: &mut O,
-) -> Result<Tag, Refusal>
-    requires { IsFinite (I.remaining plaintext.old) }
-    ensures octets { IsOctets (appended (I.consumed plaintext.old) (I.consumed plaintext.new)) }
-    ensures cause { (s : Sealing) (whole : List ℕ) → S.is_sealing sealer s []
-        → IsPossibleInput (observed I.consumed I.is_at_end plaintext.old plaintext.new) whole
-        → IfErr result (λ e. is_external e ≡ false → sealed_by s whole ≡ Err e) }
-    ensures no_memory { IfErr result (λ e. e ≢ Refusal.Memory) }
-    ensures ends { OnOk result (IsTrue (I.is_at_end plaintext.new)) }
-    ensures sealed { (s : Sealing) → S.is_sealing sealer s []
-        → IfOk result (λ tag. sealed_text (encoded_behind before.now) s (appended (I.consumed plaintext.old) (I.consumed plaintext.new))
-        ≡ Ok (record { text = appended (O.written out.old) (O.written out.new); tag = tag })) }
-    ensures extends { (s : Sealing) → S.is_sealing sealer s [] → OnOk result (Extends (O.written out.old) (O.written out.new)) }
-    ensures beginning { (s : Sealing) → S.is_sealing sealer s [] → Grows (sealed_plan (encoded_behind before.now) s)
-        → OnErr result (AppendsPrefixOf (beginning_of (sealed_plan (encoded_behind before.now) s) (observed I.consumed I.is_at_end plaintext.old plaintext.new))
-        (O.written out.old) (O.written out.new)) }
-    ensures unread { IfErr result (λ refusal. refusal ≢ Refusal.Write → appended (I.consumed plaintext.old) (I.consumed plaintext.new) ≡ [] → out.new ≡ out.old) }
-    ensures uncut { IfErr result (λ refusal. refusal ≢ Refusal.Write → O.written out.new ≡ O.written out.old → out.new ≡ out.old) }
-    ensures faults { TellsFaults (counts I.failures plaintext.old plaintext.new ∷ []) (counts O.failures out.old out.new ∷ []) result }
+/// Ends a sealing: writes what is left of the ciphertext to the front of `last`, and answers its length and the tag.
+fn end<S: Sealer>(sealer: S, last: &mut [u8; 16]) -> (usize, Tag)
+    ensures within { result.0 ≤ 16 }
+    ensures ciphertext { (s : Sealing) (p : List ℕ) → S.is_sealing sealer s p
+        → (s.sealed p).ciphertext ≡ s.fixed p ++ take result.0 last.new }
+    ensures tag { (s : Sealing) (p : List ℕ) → S.is_sealing sealer s p → (s.sealed p).tag ≡ result.1 }
 {
-    let mut buf = [0; 4096];
-    let mut ciphertext = [0; 4112];
-    let mut text = [0; 5488];
-    let mut writer = B64Writer::start();
-    let mut front = before;
-    'pieces: loop {
-        let n = read_piece(plaintext, &mut buf)?;
-        write_whole(out, front)?;
-        front = &[];
-        if n == 0 {
-            return finish_inside(sealer, writer, out);
-        }
-        let len = sealer.feed(&buf[..n], &mut ciphertext)?;
-        let len = writer.feed(&ciphertext[..len], &mut text);
-        write_whole(out, &text[..len])?;
-    }
+    let mut octets = [0; 32];
+    let (last_len, len) = sealer.finish(last, &mut octets);
+    (last_len, Tag { octets, len })
 }
 
-/// Writes the text of what is left of the ciphertext, and answers the tag.
-fn finish_inside<O: Output, S: Sealer>(
+/// A ciphertext that goes out as its base64url text.
+#[derive(Drop)]
+pub(crate) struct EncodedCiphertext<S: Sealer> {
     sealer: S,
-    mut writer: B64Writer,
-    out: &mut O,
-) -> Result<Tag, Refusal>
-    ensures tag { (s : Sealing) (p : List ℕ) → S.is_sealing sealer s p → IfOk result (λ tag. (s.sealed p).tag ≡ tag) }
-    ensures all { (s : Sealing) (p front : List ℕ) → S.is_sealing sealer s p → writer ≡ part_group (s.fixed p)
-        → O.written out.old ≡ front ++ base64url (whole_groups (s.fixed p)) → OnOk result (O.written out.new ≡ front ++ base64url (s.sealed p).ciphertext) }
-    ensures beginning { (s : Sealing) (p front : List ℕ) → S.is_sealing sealer s p → writer ≡ part_group (s.fixed p)
-        → O.written out.old ≡ front ++ base64url (whole_groups (s.fixed p)) → OnErr result (AppendsPrefixOf (base64url (s.sealed p).ciphertext) front (O.written out.new)) }
-    ensures cause { OnErr result (result ≡ Err Refusal.Write) }
-    ensures faults { TellsFaults [] (counts O.failures out.old out.new ∷ []) result }
-{
-    let mut last = [0; 16];
-    let mut octets = [0; 32];
-    let (last_len, len) = sealer.finish(&mut last, &mut octets);
-    let mut text = [0; 5488];
-    let text_len = writer.feed(&last[..last_len], &mut text);
-    write_whole(out, &text[..text_len])?;
-    let mut end = [0; 4];
-    let end_len = writer.finish(&mut end);
-    write_whole(out, &end[..end_len])?;
-    Ok(Tag { octets, len })
+    writer: B64Writer,
 }
 
-/// Writes the ciphertext as it is, as the plaintext is read, finishes, and answers the tag. Refused as `seal_inside` is.
-pub(crate) fn seal_beside<I: Input, O: Output, S: Sealer>(
-    plaintext: &mut I,
-    mut sealer: S,
-    out: &mut O,
-) -> Result<Tag, Refusal>
-    requires { IsFinite (I.remaining plaintext.old) }
-    ensures octets { IsOctets (appended (I.consumed plaintext.old) (I.consumed plaintext.new)) }
-    ensures cause { (s : Sealing) (whole : List ℕ) → S.is_sealing sealer s []
-        → IsPossibleInput (observed I.consumed I.is_at_end plaintext.old plaintext.new) whole
-        → IfErr result (λ e. is_external e ≡ false → sealed_by s whole ≡ Err e) }
-    ensures no_memory { IfErr result (λ e. e ≢ Refusal.Memory) }
-    ensures ends { OnOk result (IsTrue (I.is_at_end plaintext.new)) }
-    ensures sealed { (s : Sealing) → S.is_sealing sealer s []
-        → IfOk result (λ tag. sealed_text as_it_is s (appended (I.consumed plaintext.old) (I.consumed plaintext.new))
-        ≡ Ok (record { text = appended (O.written out.old) (O.written out.new); tag = tag })) }
-    ensures extends { (s : Sealing) → S.is_sealing sealer s [] → OnOk result (Extends (O.written out.old) (O.written out.new)) }
-    ensures finished { OnOk result (IsTrue (O.is_finished out.new)) }
-    ensures beginning { (s : Sealing) → S.is_sealing sealer s [] → Grows (sealed_plan as_it_is s)
-        → OnErr result (AppendsPrefixOf (beginning_of (sealed_plan as_it_is s) (observed I.consumed I.is_at_end plaintext.old plaintext.new))
-        (O.written out.old) (O.written out.new)) }
-    ensures unread { IfErr result (λ refusal. refusal ≢ Refusal.Write → appended (I.consumed plaintext.old) (I.consumed plaintext.new) ≡ [] → out.new ≡ out.old) }
-    ensures uncut { IfErr result (λ refusal. refusal ≢ Refusal.Write → O.written out.new ≡ O.written out.old → out.new ≡ out.old) }
-    ensures faults { TellsFaults (counts I.failures plaintext.old plaintext.new ∷ []) (counts O.failures out.old out.new ∷ []) result }
-{
-    let mut buf = [0; 4096];
-    let mut ciphertext = [0; 4112];
-    'pieces: loop {
-        let n = read_piece(plaintext, &mut buf)?;
-        if n == 0 {
-            return finish_beside(sealer, out);
+impl<S: Sealer> EncodedCiphertext<S> {
+    /// Nothing of the plaintext was read yet.
+    pub(crate) fn start(sealer: S) -> EncodedCiphertext<S>
+        ensures { (s : Sealing) → S.is_sealing sealer s [] → IsSealingText S.is_sealing result.sealer result.writer s [] }
+    {
+        EncodedCiphertext {
+            sealer,
+            writer: B64Writer::start(),
         }
-        let len = sealer.feed(&buf[..n], &mut ciphertext)?;
-        write_whole(out, &ciphertext[..len])?;
     }
 }
 
-/// Writes what is left of the ciphertext, finishes, and answers the tag.
-fn finish_beside<O: Output, S: Sealer>(sealer: S, out: &mut O) -> Result<Tag, Refusal>
-    ensures tag { (s : Sealing) (p : List ℕ) → S.is_sealing sealer s p → IfOk result (λ tag. (s.sealed p).tag ≡ tag) }
-    ensures all { (s : Sealing) (p front : List ℕ) → S.is_sealing sealer s p
-        → O.written out.old ≡ front ++ s.fixed p → OnOk result (O.written out.new ≡ front ++ (s.sealed p).ciphertext) }
-    ensures finished { OnOk result (IsTrue (O.is_finished out.new)) }
-    ensures beginning { (s : Sealing) (p front : List ℕ) → S.is_sealing sealer s p
-        → O.written out.old ≡ front ++ s.fixed p → OnErr result (AppendsPrefixOf (s.sealed p).ciphertext front (O.written out.new)) }
-    ensures cause { OnErr result (result ≡ Err Refusal.Write) }
-    ensures faults { TellsFaults [] (counts O.failures out.old out.new ∷ []) result }
-{
-    let mut last = [0; 16];
-    let mut octets = [0; 32];
-    let (last_len, len) = sealer.finish(&mut last, &mut octets);
-    emit(out, &last[..last_len])?;
-    Ok(Tag { octets, len })
+impl<S: Sealer> Transform for EncodedCiphertext<S> {
+    type Rest = Tag;
+
+    ghost use Rattle.octets.specs.Encoding.{encoding};
+    ghost use Rattle.octets.specs.Pumps.{encoding_starts};
+    ghost use Rattle.tokens.specs.SealedTexts.{nothing_starts};
+
+    ghost Job = { Sealing };
+
+    ghost plan = { λ s. sealed_plan encoding s };
+
+    ghost is_fed = { λ x s p. IsSealingText S.is_sealing x.sealer x.writer s p };
+
+    ghost is_left = { λ tag s p. (s.sealed p).tag ≡ tag };
+
+    ghost starts_with_nothing = { λ x s fed. nothing_starts encoding s (S.keeps_pace x.sealer s [] fed.0.holds) encoding_starts };
+
+    fn feed<'t>(
+        &mut self,
+        piece: &'t [u8],
+        space: &'t mut [u8; 5488],
+    ) -> Result<&'t [u8], Refusal> {
+        let mut ciphertext = [0; 4112];
+        let len = self.sealer.feed(piece, &mut ciphertext)?;
+        let len = self.writer.feed(&ciphertext[..len], space);
+        Ok(&space[..len])
+    }
+
+    fn finish<'t>(self, space: &'t mut [u8; 5488]) -> Result<(&'t [u8], Tag), Refusal> {
+        let EncodedCiphertext { sealer, mut writer } = self;
+        let mut last = [0; 16];
+        let (len, tag) = end(sealer, &mut last);
+        let len = writer.feed(&last[..len], space);
+        let mut end = [0; 4];
+        let end_len = writer.finish(&mut end);
+        space[len..len + end_len].copy_from_slice(&end[..end_len]);
+        Ok((&space[..len + end_len], tag))
+    }
+}
+
+/// A ciphertext that goes out as it is.
+#[derive(Drop)]
+pub(crate) struct Ciphertext<S: Sealer> {
+    sealer: S,
+}
+
+impl<S: Sealer> Ciphertext<S> {
+    /// Nothing of the plaintext was read yet.
+    pub(crate) fn start(sealer: S) -> Ciphertext<S>
+        ensures { (s : Sealing) → S.is_sealing sealer s [] → IsFed S.is_sealing result.sealer s [] }
+    {
+        Ciphertext { sealer }
+    }
+}
+
+impl<S: Sealer> Transform for Ciphertext<S> {
+    type Rest = Tag;
+
+    ghost use Rattle.octets.specs.Plan.{as_it_is};
+    ghost use Rattle.tokens.specs.SealedTexts.{nothing_starts};
+
+    ghost Job = { Sealing };
+
+    ghost plan = { λ s. sealed_plan as_it_is s };
+
+    ghost is_fed = { λ x s p. IsFed S.is_sealing x.sealer s p };
+
+    ghost is_left = { λ tag s p. (s.sealed p).tag ≡ tag };
+
+    ghost starts_with_nothing = { λ x s fed. nothing_starts as_it_is s (S.keeps_pace x.sealer s [] fed.holds) (λ i. []) };
+
+    fn feed<'t>(
+        &mut self,
+        piece: &'t [u8],
+        space: &'t mut [u8; 5488],
+    ) -> Result<&'t [u8], Refusal> {
+        let Some(ciphertext) = space.first_chunk_mut::<4112>() else {
+            unreachable!()
+        };
+        let len = self.sealer.feed(piece, ciphertext)?;
+        Ok(&ciphertext[..len])
+    }
+
+    fn finish<'t>(self, space: &'t mut [u8; 5488]) -> Result<(&'t [u8], Tag), Refusal> {
+        let Ciphertext { sealer } = self;
+        let Some(last) = space.first_chunk_mut::<16>() else {
+            unreachable!()
+        };
+        let (len, tag) = end(sealer, last);
+        Ok((&last[..len], tag))
+    }
 }

@@ -10,7 +10,8 @@ ghost use Rattle.octets.specs.Faults.{TellsFaults, DidNotFail, counts};
 ghost use Rattle.octets.specs.Octets.{IsOctets};
 ghost use Rattle.octets.specs.Lent.{lent, wrote_on, IfLent, counts_of};
 ghost use Rattle.octets.specs.Outcomes.{AgreesUnlessMemory, AgreesUnlessExternal, is_memory, is_external};
-ghost use Rattle.octets.specs.Plan.{beginning_of, begun, planned};
+ghost use Rattle.octets.specs.Plan.{begun, fixed_by, planned};
+ghost use Rattle.octets.specs.Pumps.{KeepsUp};
 ghost use Rattle.octets.specs.declared.refusal.Refusal.{Refusal};
 ghost use Rattle.keys.specs.Limits.{limits};
 ghost use Rattle.keys.specs.Views.{key_view};
@@ -21,19 +22,16 @@ ghost use Rattle.tokens.specs.Signing.{signing_by, signing_of, signing_with as s
 ghost use Rattle.tokens.specs.SigningInputs.{HoldEach, IsFramed, signature_text, unsigned_protected};
 ghost use Rattle.tokens.specs.Template.{is_shallow as is_shallow_header};
 ghost use Rattle.tokens.specs.Views.{signer_view, signing_view, template_view};
-ghost use Rattle.tokens.specs.WrittenContents.{encoded_behind};
 
+use crate::payload::{EncodedPayload, Payload};
 use crate::signer::Signer;
-use crate::signing_input::{HmacInput, SigningInput, take_each};
+use crate::signing_input::{HmacInput, SigningInput};
 use crate::template::{Template, copy, header_text, is_empty, is_shallow, read_template, with_alg};
 use keys::{
     Algorithm, Key, KeySet, MOST_DEPTH, Operation, SignatureAlg, object_nests_at_most, read_json,
 };
 use objects::{Jws, JwsParts, SignatureParts};
-use octets::{
-    B64Writer, Input, Output, Refusal, b64_encode, emit, encode_onto, needs, read_piece,
-    write_whole,
-};
+use octets::{Input, Output, Refusal, b64_encode, emit, encode_onto, needs, pump, write_whole};
 use serde_json::{Map, Value};
 use std::alloc::Global;
 
@@ -72,6 +70,12 @@ pub fn jws_sign<I: Input, O: Output>(
         AppendsPrefixOf (begun (signing_by limits compact (is_some detached.entry) keys.now template.now) (observed I.consumed I.is_at_end content.old content.new)).content (O.written old) (O.written new))) }
     ensures finished { OnOk result (IsTrue (O.is_finished out.new) × IfLent (lent detached.entry detached.exit) (λ old new. IsTrue (O.is_finished new))) }
 
+    // Where the content fails, what stands is at most 4,160 octets behind what was read of it.
+    ensures keeps_up { result ≡ Err Refusal.Read → appended (I.consumed content.old) (I.consumed content.new) ≢ []
+        → KeepsUp (λ front. (fixed_by (signing_by limits compact (is_some detached.entry) keys.now template.now) front).text) (appended (I.consumed content.old) (I.consumed content.new)) (O.written out.old) (O.written out.new)
+        × IfLent (lent detached.entry detached.exit) (λ old new.
+        KeepsUp (λ front. (fixed_by (signing_by limits compact (is_some detached.entry) keys.now template.now) front).content) (appended (I.consumed content.old) (I.consumed content.new)) (O.written old) (O.written new)) }
+
     // What the template and the keys refuse is refused before the content is touched; an output on which nothing was
     // written is as it was, unless it failed.
     ensures content_last { (refusal : Refusal) → signing_by limits compact (is_some detached.entry) keys.now template.now ≡ Err refusal
@@ -96,13 +100,15 @@ pub fn jws_sign<I: Input, O: Output>(
 {
     match detached {
         None => {
-            let Framed { texts, mut inputs } = prepare(alloc, keys, template, compact, false)?;
-            sign_inside(content, &mut inputs, texts[0].as_bytes(), out)?;
+            let Framed { texts, inputs } = prepare(alloc, keys, template, compact, false)?;
+            let payload = EncodedPayload::start(inputs);
+            let inputs = pump(content, payload, texts[0].as_bytes(), out)?;
             write_signatures(inputs, &texts[1..], out)
         }
         Some(detached) => {
-            let Framed { texts, mut inputs } = prepare(alloc, keys, template, compact, true)?;
-            sign_beside(content, &mut inputs, detached)?;
+            let Framed { texts, inputs } = prepare(alloc, keys, template, compact, true)?;
+            let inputs = pump(content, Payload::start(inputs), &[], detached)?;
+            detached.finish()?;
             write_signatures(inputs, &texts, out)
         }
     }
@@ -133,88 +139,6 @@ fn prepare(
     let texts = jws.frame(alloc, compact, detach)?;
     let inputs = signing_inputs(alloc, &signing.signers, &jws)?;
     Ok(Framed { texts, inputs })
-}
-
-/// Writes the text that stands before the payload, once a first piece of it was read, then the base64url text of the payload as
-/// it is read, and gives that to each signing input.
-fn sign_inside<I: Input, O: Output, S: SigningInput>(
-    payload: &mut I,
-    inputs: &mut [S],
-    before: &[u8],
-    out: &mut O,
-) -> Result<(), Refusal>
-    requires { IsFinite (I.remaining payload.old) }
-    ensures octets { IsOctets (appended (I.consumed payload.old) (I.consumed payload.new)) }
-    ensures cause { IfErr result (λ e. is_external e ≡ true) }
-    ensures no_memory { IfErr result (λ e. e ≢ Refusal.Memory) }
-    ensures ends { OnOk result (IsTrue (I.is_at_end payload.new)) }
-    ensures text { OnOk result (O.written out.new ≡ O.written out.old ++ (before.now ++ base64url (appended (I.consumed payload.old) (I.consumed payload.new)))) }
-    ensures taken { (signers : List SignerOfKey) (text : List ℕ) → HoldEach S.has_taken inputs.old signers text
-        → OnOk result (HoldEach S.has_taken inputs.new signers (text ++ base64url (appended (I.consumed payload.old) (I.consumed payload.new)))) }
-    ensures beginning { OnErr result (AppendsPrefixOf (beginning_of (encoded_behind before.now) (observed I.consumed I.is_at_end payload.old payload.new))
-        (O.written out.old) (O.written out.new)) }
-    ensures unread { IfErr result (λ refusal. refusal ≢ Refusal.Write → appended (I.consumed payload.old) (I.consumed payload.new) ≡ [] → out.new ≡ out.old) }
-    ensures uncut { IfErr result (λ refusal. refusal ≢ Refusal.Write → O.written out.new ≡ O.written out.old → out.new ≡ out.old) }
-    ensures faults { TellsFaults (counts I.failures payload.old payload.new ∷ []) (counts O.failures out.old out.new ∷ []) result }
-{
-    let mut buf = [0; 4096];
-    let mut text = [0; 5488];
-    let mut writer = B64Writer::start();
-    let mut front = before;
-    'pieces: loop {
-        let n = read_piece(payload, &mut buf)?;
-        write_whole(out, front)?;
-        front = &[];
-        if n == 0 {
-            break;
-        }
-        let len = writer.feed(&buf[..n], &mut text);
-        take_each(inputs, &text[..len]);
-        write_whole(out, &text[..len])?;
-    }
-    let mut last = [0; 4];
-    let len = writer.finish(&mut last);
-    take_each(inputs, &last[..len]);
-    Ok(write_whole(out, &last[..len])?)
-}
-
-/// Writes the payload as it is and finishes, and gives its base64url text to each signing input.
-fn sign_beside<I: Input, O: Output, S: SigningInput>(
-    payload: &mut I,
-    inputs: &mut [S],
-    out: &mut O,
-) -> Result<(), Refusal>
-    requires { IsFinite (I.remaining payload.old) }
-    ensures octets { IsOctets (appended (I.consumed payload.old) (I.consumed payload.new)) }
-    ensures cause { IfErr result (λ e. is_external e ≡ true) }
-    ensures no_memory { IfErr result (λ e. e ≢ Refusal.Memory) }
-    ensures ends { OnOk result (IsTrue (I.is_at_end payload.new)) }
-    ensures all { OnOk result (O.written out.new ≡ O.written out.old ++ appended (I.consumed payload.old) (I.consumed payload.new)) }
-    ensures finished { OnOk result (IsTrue (O.is_finished out.new)) }
-    ensures taken { (signers : List SignerOfKey) (text : List ℕ) → HoldEach S.has_taken inputs.old signers text
-        → OnOk result (HoldEach S.has_taken inputs.new signers (text ++ base64url (appended (I.consumed payload.old) (I.consumed payload.new)))) }
-    ensures beginning { OnErr result (AppendsPrefixOf (appended (I.consumed payload.old) (I.consumed payload.new))
-        (O.written out.old) (O.written out.new)) }
-    ensures unread { IfErr result (λ refusal. refusal ≢ Refusal.Write → appended (I.consumed payload.old) (I.consumed payload.new) ≡ [] → out.new ≡ out.old) }
-    ensures uncut { IfErr result (λ refusal. refusal ≢ Refusal.Write → O.written out.new ≡ O.written out.old → out.new ≡ out.old) }
-    ensures faults { TellsFaults (counts I.failures payload.old payload.new ∷ []) (counts O.failures out.old out.new ∷ []) result }
-{
-    let mut buf = [0; 4096];
-    let mut text = [0; 5488];
-    let mut writer = B64Writer::start();
-    'pieces: loop {
-        let n = read_piece(payload, &mut buf)?;
-        if n == 0 {
-            break;
-        }
-        let len = writer.feed(&buf[..n], &mut text);
-        take_each(inputs, &text[..len]);
-        write_whole(out, &buf[..n])?;
-    }
-    let mut last = [0; 4];
-    let len = writer.finish(&mut last);
-    take_each(inputs, &last[..len]);
-    Ok(out.finish()?)
 }
 
 /// Writes the first text, and then each signature and the text after it, and finishes.

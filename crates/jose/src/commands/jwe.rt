@@ -5,7 +5,8 @@ ghost use Rattle.octets.specs.Devices.{appended, observed, IsPossibleInput, Appe
 ghost use Rattle.octets.specs.declared.refusal.Refusal.{Refusal};
 ghost use Rattle.octets.specs.Faults.{TellsFaults, DidNotFail, counts};
 ghost use Rattle.octets.specs.Outcomes.{AgreesUnlessExternal, AgreesUnlessMemory, is_external};
-ghost use Rattle.octets.specs.Plan.{accepted, drawn_of, plan_from, planned, planned_beginning};
+ghost use Rattle.octets.specs.Plan.{accepted, drawn_of, fixed_by, plan_from, planned, planned_beginning};
+ghost use Rattle.octets.specs.Pumps.{KeepsUp};
 ghost use Rattle.objects.specs.Texts.{handed_in};
 ghost use Rattle.objects.specs.Views.{jwe_view};
 ghost use Rattle.tokens.specs.Encrypting.{text_of};
@@ -84,6 +85,13 @@ pub(crate) fn encrypt<I: Input, O: Output>(
         × (refusal ≢ Refusal.Write → O.written detached.new ≡ O.written detached.old → detached.new ≡ detached.old)) }
     ensures unread { IfErr result (λ refusal. appended (I.consumed content.old) (I.consumed content.new) ≡ []
         → (DidNotFail refusal (counts O.failures out.old out.new) → out.new ≡ out.old) × (refusal ≢ Refusal.Write → detached.new ≡ detached.old)) }
+    ensures keeps_up { result ≡ Err Refusal.Read → appended (I.consumed content.old) (I.consumed content.new) ≢ []
+        → KeepsUp (λ front. (fixed_by (plan_from (enc_answer compact detach (appended (I.consumed keys.old) (I.consumed keys.new)) (appended (I.consumed template.old) (I.consumed template.new)))
+        (appended (I.consumed random.old) (I.consumed random.new))) front).text)
+        (appended (I.consumed content.old) (I.consumed content.new)) (O.written out.old) (O.written out.new)
+        × KeepsUp (λ front. (fixed_by (plan_from (enc_answer compact detach (appended (I.consumed keys.old) (I.consumed keys.new)) (appended (I.consumed template.old) (I.consumed template.new)))
+        (appended (I.consumed random.old) (I.consumed random.new))) front).content)
+        (appended (I.consumed content.old) (I.consumed content.new)) (O.written detached.old) (O.written detached.new) }
     ensures content_first { OnErr result ((out.new ≡ out.old) ⊎ (IsTrue detach → IsTrue (I.is_at_end content.new) × IsTrue (O.is_finished detached.new)
         × (O.written detached.new ≡ O.written detached.old ++ (planned_beginning (I.is_at_end keys.new && I.is_at_end template.new)
         (plan_from (enc_answer compact detach (appended (I.consumed keys.old) (I.consumed keys.new)) (appended (I.consumed template.old) (I.consumed template.new)))

@@ -8,6 +8,7 @@ use Rattle.octets.specs.Outcomes.{◌>>=◌}
 use Rattle.octets.specs.Encoding.{encoding, decoding}
 use Rattle.octets.proofs.Agreement.{on_refusal, on_success, plan_from-by_plan, plan_of_plan, plan_of_text, planned_without_content}
 use Rattle.octets.proofs.Prefixes.{AppendsPrefixOf-none}
+use Rattle.octets.proofs.Growing.{kept_up_by_none}
 use Rattle.octets.proofs.Unread.{unread_untouched, encoding_fixes_nothing, decoding_fixes_nothing}
 use Rattle.keys.specs.Generating.{gen_answer}
 use Rattle.keys.specs.Limits.{limits}
@@ -109,6 +110,13 @@ returns-in-B64Enc-clause-unread g c =
     rw c.in-B64Enc.is (unread_alone g.O.Output.failures _ _ _ _ c.encode.result c.encode.ensures.faults
     (unread_untouched g.O.Output.written c.args.outputs.now.text c.encode.new.out encoding content c.encode.result encoding_fixes_nothing c.encode.ensures.beginning c.encode.ensures.uncut))
 
+pub returns-in-B64Enc-clause-keeps_up : goal.returns-in-B64Enc-clause-keeps_up
+returns-in-B64Enc-clause-keeps_up g c is =
+    let consumed = g.I.Input.consumed in
+    let read = appended (consumed c.args.inputs.now.content) (consumed c.encode.new.content) in
+    rw (c.in-B64Enc.is, plan_of_plan as_text (Ok encoding) (appended (consumed c.args.inputs.now.random) (consumed c.args.inputs.now.random)))
+    (λ streams some. (c.encode.ensures.keeps_up is some, kept_up_by_none _ (λ q. refl) read (g.O.Output.written c.args.outputs.now.content)))
+
 -- ---- b64 dec
 
 pub returns-in-B64Dec-clause-answer : goal.returns-in-B64Dec-clause-answer
@@ -135,6 +143,13 @@ returns-in-B64Dec-clause-unread g c =
     let text = observed g.I.Input.consumed g.I.Input.is_at_end c.args.inputs.now.text c.decode.new.text in
     rw c.in-B64Dec.is (unread_beside g.O.Output.failures _ _ _ _ c.decode.result
     (unread_untouched g.O.Output.written c.args.outputs.now.content c.decode.new.out decoding text c.decode.result decoding_fixes_nothing c.decode.ensures.beginning c.decode.ensures.uncut))
+
+pub returns-in-B64Dec-clause-keeps_up : goal.returns-in-B64Dec-clause-keeps_up
+returns-in-B64Dec-clause-keeps_up g c is =
+    let consumed = g.I.Input.consumed in
+    let read = appended (consumed c.args.inputs.now.text) (consumed c.decode.new.text) in
+    rw (c.in-B64Dec.is, plan_of_plan as_content (Ok decoding) (appended (consumed c.args.inputs.now.random) (consumed c.args.inputs.now.random)))
+    (λ streams some. (kept_up_by_none _ (λ q. refl) read (g.O.Output.written c.args.outputs.now.text), c.decode.ensures.keeps_up is some))
 
 -- ---- jws sig
 
@@ -167,6 +182,14 @@ returns-in-JwsSig-clause-in_order g c =
 pub returns-in-JwsSig-clause-content_last : goal.returns-in-JwsSig-clause-content_last
 returns-in-JwsSig-clause-content_last g c refusal is =
     (refl, c.sign.ensures.content_last refusal (by_plan_refused _ refusal (rw (c.in-JwsSig.is, ← c.has-compact.ensures, ← c.has-detach.ensures) at is)))
+
+pub returns-in-JwsSig-clause-keeps_up : goal.returns-in-JwsSig-clause-keeps_up
+returns-in-JwsSig-clause-keeps_up g c is =
+    let consumed = g.I.Input.consumed in
+    let old = c.args.inputs.now in
+    let plan = sig_answer c.has-compact.result c.has-detach.result (appended (consumed old.keys) (consumed c.sign.new.keys)) (appended (consumed old.text) (consumed c.sign.new.template)) in
+    rw (c.in-JwsSig.is, ← c.has-compact.ensures, ← c.has-detach.ensures, plan_from-by_plan plan (appended (consumed old.random) (consumed old.random)))
+    (λ streams some. c.sign.ensures.keeps_up is some)
 
 -- ---- jws ver
 
@@ -285,6 +308,10 @@ returns-in-JweEnc-clause-in_order g c =
 pub returns-in-JweEnc-clause-content_last : goal.returns-in-JweEnc-clause-content_last
 returns-in-JweEnc-clause-content_last g c refusal is =
     c.encrypt.ensures.content_last refusal (rw (c.in-JweEnc.is, ← c.has-compact-in-JweEnc.ensures, ← c.has-detach-in-JweEnc.ensures) at is)
+
+pub returns-in-JweEnc-clause-keeps_up : goal.returns-in-JweEnc-clause-keeps_up
+returns-in-JweEnc-clause-keeps_up g c is =
+    rw (c.in-JweEnc.is, ← c.has-compact-in-JweEnc.ensures, ← c.has-detach-in-JweEnc.ensures) (λ streams some. c.encrypt.ensures.keeps_up is some)
 
 -- ---- jwe dec
 

@@ -1,90 +1,145 @@
-use Rattle.std.proofs.Common.{◌+◌, ◌++◌, [], length, map, drop, string_bytes, arith, sym, ap, subst, ◌∙◌, rules, IsTrue}
+use Rattle.std.proofs.Common.{rules, ◌++◌, length, map, drop, string_bytes, sym, ap, subst, refl, ◌∙◌, IsTrue}
 use Rattle.std.proofs.lemmas.List.{length-map}
 use Rattle.octets.specs.Base64url.{base64url}
 use Rattle.octets.specs.Devices.{appended, AppendsPrefixOf}
-use Rattle.octets.proofs.Agreement.{agrees_last, at_refusal, on_refusal, on_success}
+use Rattle.octets.specs.Encoding.{encoding}
+use Rattle.octets.specs.Octets.{IsOctets}
+use Rattle.octets.specs.Plan.{as_it_is}
+use Rattle.octets.specs.Pumps.{behind}
+use Rattle.octets.proofs.Agreement.{agrees_last, at_refusal, on_refusal, on_success, seen_possible}
+use Rattle.octets.proofs.Decoded.{IsOctets-drop}
+use Rattle.octets.proofs.Growing.{encoding_grows, as_it_is_grows, plain_beginning, kept_up_by_none}
 use Rattle.octets.proofs.Prefixes.{AppendsPrefixOf-all, AppendsPrefixOf-kept}
+use Rattle.octets.proofs.Pumping.{behind_grows, beginning_behind_nothing, keeps_up, all_written, passed_on}
 use Rattle.octets.proofs.Spared.{stands_first}
 use Rattle.objects.specs.Frames.{filled}
-use Rattle.tokens.specs.SigningInputs.{HoldEach, signature_text}
+use Rattle.tokens.specs.SigningInputs.{signature_text}
 use Rattle.tokens.specs.contracts.signing_input.HmacInputSigningInput.TheImpl.{has_taken-value}
-use Rattle.tokens.proofs.StandingSignatures.{first_and_others, others_are, written_back, hold_count, inside_places, inside_part, inside_signatures_part, inside_answer, beside_places, beside_is, text_is, beside_answer}
+use Rattle.tokens.proofs.StandingSignatures.{first_and_others, others_are, inside_places, inside_part, inside_fixed, inside_signatures_part, inside_answer, beside_places, beside_is, beside_fixed, text_is, beside_answer}
 use Rattle.tokens.proofs.sign.jws_sign.Goals as goal
 
-pub returns-in_err-sign_inside-in-None-clause-beginning : goal.returns-in_err-sign_inside-in-None-clause-beginning
-returns-in_err-sign_inside-in-None-clause-beginning g c =
+pub returns-in_err-inputs-in-None-clause-answer : goal.returns-in_err-inputs-in-None-clause-answer
+returns-in_err-inputs-in-None-clause-answer g c payload may =
+    let made = c.in_ok-texts-in-None in
+    let f = made.ensures.framed in
+    let signers = f.signing.signers in
+    let fed = c.start-payload.ensures signers f.begun in
+    rw (c.in-None.is) (passed_on _ _ _ c.in_err-inputs-in-None.field-0.0 (search rules) (λ inside. let never = c.in_err-inputs-in-None.ensures.answer signers payload fed may inside in cc never))
+
+pub returns-in_err-inputs-in-None-clause-beginning : goal.returns-in_err-inputs-in-None-clause-beginning
+returns-in_err-inputs-in-None-clause-beginning g c =
     let consumed = g.I.Input.consumed in
     let written = g.O.Output.written in
     let made = c.in_ok-texts-in-None in
     let f = made.ensures.framed in
     let items = made.field-0.texts.items in
+    let first = c.as_bytes.result.now in
     let rest = map string_bytes (drop 1 items) in
-    let are = first_and_others string_bytes items c.index.result.now _ c.as_bytes.result.now f.frame.places c.index.ensures c.as_bytes.ensures.value in
-    let p = appended (consumed c.args.content.now) (consumed c.sign_inside.new.payload) in
-    rw (c.in-None.is) (at_refusal _ (inside_part has_taken-value.it c.args.compact _ made.field-0.inputs.items _ f c.as_bytes.result.now rest are
-    p (g.I.Input.is_at_end c.sign_inside.new.payload) (written c.args.out.now) (written c.sign_inside.new.out) c.sign_inside.ensures.octets c.in_err-sign_inside-in-None.ensures.beginning))
+    let are = first_and_others string_bytes items c.index.result.now _ first f.frame.places c.index.ensures c.as_bytes.ensures.value in
+    let signers = f.signing.signers in
+    let fed = c.start-payload.ensures signers f.begun in
+    let before = consumed c.args.content.now in
+    let p = appended before (consumed c.pump.new.content) in
+    let ended = g.I.Input.is_at_end c.pump.new.content in
+    let octets : IsOctets p = IsOctets-drop (length before) _ (g.met.I.Input.gives_octets c.pump.new.content) in
+    let old = written c.args.out.now in
+    let out = written c.pump.new.out in
+    rw (c.in-None.is) (at_refusal _ (inside_part has_taken-value.it c.args.compact _ made.field-0.inputs.items _ f first rest are p ended old out octets (c.in_err-inputs-in-None.ensures.beginning signers fed encoding_grows)))
+
+pub returns-in_err-inputs-in-None-clause-keeps_up : goal.returns-in_err-inputs-in-None-clause-keeps_up
+returns-in_err-inputs-in-None-clause-keeps_up g c is some =
+    let consumed = g.I.Input.consumed in
+    let written = g.O.Output.written in
+    let made = c.in_ok-texts-in-None in
+    let f = made.ensures.framed in
+    let items = made.field-0.texts.items in
+    let first = c.as_bytes.result.now in
+    let rest = map string_bytes (drop 1 items) in
+    let are = first_and_others string_bytes items c.index.result.now _ first f.frame.places c.index.ensures c.as_bytes.ensures.value in
+    let signers = f.signing.signers in
+    let fed = c.start-payload.ensures signers f.begun in
+    let before = consumed c.args.content.now in
+    let p = appended before (consumed c.pump.new.content) in
+    let old = written c.args.out.now in
+    let out = written c.pump.new.out in
+    let exact = c.pump.ensures.stands signers fed (search rules) some in
+    rw (c.in-None.is) (keeps_up (behind first encoding) (behind_grows first encoding encoding_grows) _ (inside_fixed has_taken-value.it c.args.compact _ made.field-0.inputs.items _ f first rest are) p old out exact, tt)
 
 pub write_signatures-requires : goal.write_signatures-requires
 write_signatures-requires g c =
     let consumed = g.I.Input.consumed in
-    let written = g.O.Output.written in
     let made = c.in_ok-texts-in-None in
     let f = made.ensures.framed in
     let items = made.field-0.texts.items in
+    let first = c.as_bytes.result.now in
     let rest = map string_bytes (drop 1 items) in
-    let are = first_and_others string_bytes items c.index.result.now _ c.as_bytes.result.now f.frame.places c.index.ensures c.as_bytes.ensures.value in
-    let p = appended (consumed c.args.content.now) (consumed c.sign_inside.new.payload) in
+    let are = first_and_others string_bytes items c.index.result.now _ first f.frame.places c.index.ensures c.as_bytes.ensures.value in
     let signers = f.signing.signers in
-    let taken = c.in_ok-sign_inside-in-None.ensures.taken signers [] (subst (λ i. HoldEach has_taken-value.it i signers []) (sym c.deref_mut.ensures.value) f.begun) in
-    let back = written_back c.sign_inside.new.inputs made.field-0.inputs.items made.field-0.inputs.len (omega (arith, made.field-0.inputs.ok.0))
-    (hold_count has_taken-value.it c.sign_inside.new.inputs signers (base64url p) taken ∙ sym (hold_count has_taken-value.it made.field-0.inputs.items signers [] f.begun)) in
+    let fed = c.start-payload.ensures signers f.begun in
+    let before = consumed c.args.content.now in
+    let p = appended before (consumed c.pump.new.content) in
+    let pumped = c.in_ok-inputs-in-None.ensures in
+    let taken = pumped.left signers fed in
     let others = others_are c.deref.result.now items c.deref.ensures.value in
-    let places = inside_places has_taken-value.it c.args.compact _ made.field-0.inputs.items _ f c.as_bytes.result.now rest are c.sign_inside.new.inputs (base64url p) taken in
-    ap length others ∙ sym (length-map (drop 1 items) string_bytes) ∙ places ∙ ap (λ i. 1 + length i) (sym back)
+    ap length others ∙ sym (length-map (drop 1 items) string_bytes) ∙ inside_places has_taken-value.it c.args.compact _ made.field-0.inputs.items _ f first rest are c.in_ok-inputs-in-None.inputs.items (base64url p) taken
 
-pub returns-in_ok-sign_inside-in-None-clause-answer : goal.returns-in_ok-sign_inside-in-None-clause-answer
-returns-in_ok-sign_inside-in-None-clause-answer g c payload may =
+pub returns-in_ok-inputs-in-None-clause-answer : goal.returns-in_ok-inputs-in-None-clause-answer
+returns-in_ok-inputs-in-None-clause-answer g c payload may =
     let consumed = g.I.Input.consumed in
     let written = g.O.Output.written in
     let made = c.in_ok-texts-in-None in
     let f = made.ensures.framed in
     let items = made.field-0.texts.items in
+    let first = c.as_bytes.result.now in
     let rest = map string_bytes (drop 1 items) in
-    let are = first_and_others string_bytes items c.index.result.now _ c.as_bytes.result.now f.frame.places c.index.ensures c.as_bytes.ensures.value in
-    let p = appended (consumed c.args.content.now) (consumed c.sign_inside.new.payload) in
+    let are = first_and_others string_bytes items c.index.result.now _ first f.frame.places c.index.ensures c.as_bytes.ensures.value in
     let signers = f.signing.signers in
-    let taken = c.in_ok-sign_inside-in-None.ensures.taken signers [] (subst (λ i. HoldEach has_taken-value.it i signers []) (sym c.deref_mut.ensures.value) f.begun) in
-    let back = written_back c.sign_inside.new.inputs made.field-0.inputs.items made.field-0.inputs.len (omega (arith, made.field-0.inputs.ok.0))
-    (hold_count has_taken-value.it c.sign_inside.new.inputs signers (base64url p) taken ∙ sym (hold_count has_taken-value.it made.field-0.inputs.items signers [] f.begun)) in
+    let fed = c.start-payload.ensures signers f.begun in
+    let before = consumed c.args.content.now in
+    let p = appended before (consumed c.pump.new.content) in
+    let ended = g.I.Input.is_at_end c.pump.new.content in
+    let octets : IsOctets p = IsOctets-drop (length before) _ (g.met.I.Input.gives_octets c.pump.new.content) in
+    let old = written c.args.out.now in
+    let out = written c.pump.new.out in
+    let pumped = c.in_ok-inputs-in-None.ensures in
+    let whole = pumped.answer signers p fed (seen_possible consumed g.I.Input.is_at_end c.args.content.now c.pump.new.content) in
+    let stands = all_written _ old out (first ++ base64url p) whole pumped.extends refl in
+    let taken = pumped.left signers fed in
     let others = others_are c.deref.result.now items c.deref.ensures.value in
     let values = map (signature_text (base64url p)) signers in
-    rw (c.in-None.is) (agrees_last _ _ c.write_signatures.result (c.write_signatures.ensures.all signers (base64url p) (subst (λ i. HoldEach has_taken-value.it i signers (base64url p)) (sym back) taken)) c.write_signatures.ensures.cause
-    (λ all. inside_answer has_taken-value.it c.args.compact _ made.field-0.inputs.items _ f c.as_bytes.result.now rest are
-    p payload (g.I.Input.is_at_end c.sign_inside.new.payload) (written c.args.out.now) (written c.sign_inside.new.out) (written c.write_signatures.new.out)
-    c.sign_inside.ensures.octets may c.in_ok-sign_inside-in-None.ensures.ends c.in_ok-sign_inside-in-None.ensures.text
-    (all ∙ ap (λ l. written c.sign_inside.new.out ++ filled (map string_bytes l) values) others)))
+    rw (c.in-None.is) (agrees_last _ _ c.write_signatures.result (c.write_signatures.ensures.all signers (base64url p) taken) c.write_signatures.ensures.cause
+    (λ all. inside_answer has_taken-value.it c.args.compact _ made.field-0.inputs.items _ f first rest are
+    p payload ended old out (written c.write_signatures.new.out) octets may pumped.ends stands
+    (all ∙ ap (λ l. out ++ filled (map string_bytes l) values) others)))
 
-pub returns-in_ok-sign_inside-in-None-clause-beginning : goal.returns-in_ok-sign_inside-in-None-clause-beginning
-returns-in_ok-sign_inside-in-None-clause-beginning g c =
+pub returns-in_ok-inputs-in-None-clause-beginning : goal.returns-in_ok-inputs-in-None-clause-beginning
+returns-in_ok-inputs-in-None-clause-beginning g c =
     let consumed = g.I.Input.consumed in
     let written = g.O.Output.written in
     let made = c.in_ok-texts-in-None in
     let f = made.ensures.framed in
     let items = made.field-0.texts.items in
+    let first = c.as_bytes.result.now in
     let rest = map string_bytes (drop 1 items) in
-    let are = first_and_others string_bytes items c.index.result.now _ c.as_bytes.result.now f.frame.places c.index.ensures c.as_bytes.ensures.value in
-    let p = appended (consumed c.args.content.now) (consumed c.sign_inside.new.payload) in
+    let are = first_and_others string_bytes items c.index.result.now _ first f.frame.places c.index.ensures c.as_bytes.ensures.value in
     let signers = f.signing.signers in
-    let taken = c.in_ok-sign_inside-in-None.ensures.taken signers [] (subst (λ i. HoldEach has_taken-value.it i signers []) (sym c.deref_mut.ensures.value) f.begun) in
-    let back = written_back c.sign_inside.new.inputs made.field-0.inputs.items made.field-0.inputs.len (omega (arith, made.field-0.inputs.ok.0))
-    (hold_count has_taken-value.it c.sign_inside.new.inputs signers (base64url p) taken ∙ sym (hold_count has_taken-value.it made.field-0.inputs.items signers [] f.begun)) in
+    let fed = c.start-payload.ensures signers f.begun in
+    let before = consumed c.args.content.now in
+    let p = appended before (consumed c.pump.new.content) in
+    let ended = g.I.Input.is_at_end c.pump.new.content in
+    let octets : IsOctets p = IsOctets-drop (length before) _ (g.met.I.Input.gives_octets c.pump.new.content) in
+    let old = written c.args.out.now in
+    let out = written c.pump.new.out in
+    let pumped = c.in_ok-inputs-in-None.ensures in
+    let whole = pumped.answer signers p fed (seen_possible consumed g.I.Input.is_at_end c.args.content.now c.pump.new.content) in
+    let stands = all_written _ old out (first ++ base64url p) whole pumped.extends refl in
+    let taken = pumped.left signers fed in
     let others = others_are c.deref.result.now items c.deref.ensures.value in
     let values = map (signature_text (base64url p)) signers in
-    rw (c.in-None.is) (on_refusal c.write_signatures.result (c.write_signatures.ensures.beginning signers (base64url p) (subst (λ i. HoldEach has_taken-value.it i signers (base64url p)) (sym back) taken))
-    (λ part. inside_signatures_part has_taken-value.it c.args.compact _ made.field-0.inputs.items _ f c.as_bytes.result.now rest are
-    p (g.I.Input.is_at_end c.sign_inside.new.payload) (written c.args.out.now) (written c.sign_inside.new.out) (written c.write_signatures.new.out)
-    c.sign_inside.ensures.octets c.in_ok-sign_inside-in-None.ensures.ends c.in_ok-sign_inside-in-None.ensures.text
-    (subst (λ l. AppendsPrefixOf (filled (map string_bytes l) values) (written c.sign_inside.new.out) (written c.write_signatures.new.out)) others part)))
+    rw (c.in-None.is) (on_refusal c.write_signatures.result (c.write_signatures.ensures.beginning signers (base64url p) taken)
+    (λ part. inside_signatures_part has_taken-value.it c.args.compact _ made.field-0.inputs.items _ f first rest are
+    p ended old out (written c.write_signatures.new.out) octets pumped.ends stands
+    (subst (λ l. AppendsPrefixOf (filled (map string_bytes l) values) out (written c.write_signatures.new.out)) others part)))
 
 pub returns-in_err-texts-in-Some-clause-beginning_beside : goal.returns-in_err-texts-in-Some-clause-beginning_beside
 returns-in_err-texts-in-Some-clause-beginning_beside g c =
@@ -98,113 +153,204 @@ pub returns-in_err-texts-in-Some-clause-unread : goal.returns-in_err-texts-in-So
 returns-in_err-texts-in-Some-clause-unread g c =
     rw (c.in-Some.is) (search rules)
 
-pub returns-in_err-sign_beside-in-Some-clause-beginning_beside : goal.returns-in_err-sign_beside-in-Some-clause-beginning_beside
-returns-in_err-sign_beside-in-Some-clause-beginning_beside g c =
+pub returns-in_err-texts-in-Some-clause-faults : goal.returns-in_err-texts-in-Some-clause-faults
+returns-in_err-texts-in-Some-clause-faults g c =
+    rw (c.in-Some.is) (search rules)
+
+pub returns-in_err-inputs-in-Some-clause-answer : goal.returns-in_err-inputs-in-Some-clause-answer
+returns-in_err-inputs-in-Some-clause-answer g c payload may =
+    let made = c.in_ok-texts-in-Some in
+    let f = made.ensures.framed in
+    let signers = f.signing.signers in
+    let fed = c.start.ensures signers f.begun in
+    rw (c.in-Some.is) (passed_on _ _ _ c.in_err-inputs-in-Some.field-0.0 (search rules) (λ inside. let never = c.in_err-inputs-in-Some.ensures.answer signers payload fed may inside in cc never))
+
+pub returns-in_err-inputs-in-Some-clause-beginning_beside : goal.returns-in_err-inputs-in-Some-clause-beginning_beside
+returns-in_err-inputs-in-Some-clause-beginning_beside g c =
     let consumed = g.I.Input.consumed in
     let written = g.O.Output.written in
     let made = c.in_ok-texts-in-Some in
     let f = made.ensures.framed in
-    let items = made.field-0.texts.items in
-    let p = appended (consumed c.args.content.now) (consumed c.sign_beside.new.payload) in
-    let is = beside_is has_taken-value.it c.args.compact _ made.field-0.inputs.items _ f p (g.I.Input.is_at_end c.sign_beside.new.payload) c.sign_beside.ensures.octets in
-    rw (c.in-Some.is) (at_refusal _ (subst (λ t. AppendsPrefixOf t (written c.in-Some.detached.now) (written c.sign_beside.new.out)) (sym is) c.in_err-sign_beside-in-Some.ensures.beginning))
+    let signers = f.signing.signers in
+    let fed = c.start.ensures signers f.begun in
+    let before = consumed c.args.content.now in
+    let p = appended before (consumed c.pump-in-Some.new.content) in
+    let ended = g.I.Input.is_at_end c.pump-in-Some.new.content in
+    let octets : IsOctets p = IsOctets-drop (length before) _ (g.met.I.Input.gives_octets c.pump-in-Some.new.content) in
+    let old = written c.in-Some.detached.now in
+    let out = written c.pump-in-Some.new.out in
+    let is = beside_is has_taken-value.it c.args.compact _ made.field-0.inputs.items _ f p ended octets in
+    rw (c.in-Some.is) (at_refusal _ (subst (λ t. AppendsPrefixOf t old out) (beginning_behind_nothing as_it_is p ended ∙ plain_beginning p ended ∙ sym is) (c.in_err-inputs-in-Some.ensures.beginning signers fed as_it_is_grows)))
 
-pub returns-in_err-sign_beside-in-Some-clause-uncut : goal.returns-in_err-sign_beside-in-Some-clause-uncut
-returns-in_err-sign_beside-in-Some-clause-uncut g c =
+pub returns-in_err-inputs-in-Some-clause-keeps_up : goal.returns-in_err-inputs-in-Some-clause-keeps_up
+returns-in_err-inputs-in-Some-clause-keeps_up g c is some =
+    let consumed = g.I.Input.consumed in
+    let written = g.O.Output.written in
+    let made = c.in_ok-texts-in-Some in
+    let f = made.ensures.framed in
+    let signers = f.signing.signers in
+    let fed = c.start.ensures signers f.begun in
+    let before = consumed c.args.content.now in
+    let p = appended before (consumed c.pump-in-Some.new.content) in
+    let old = written c.in-Some.detached.now in
+    let out = written c.pump-in-Some.new.out in
+    let exact = c.pump-in-Some.ensures.stands signers fed (search rules) some in
+    let fixed = beside_fixed has_taken-value.it c.args.compact _ made.field-0.inputs.items _ f in
+    rw (c.in-Some.is) (
+      kept_up_by_none _ (λ q. (fixed q).0) p (written c.args.out.now),
+      keeps_up as_it_is as_it_is_grows _ (λ q. (fixed q).1) p old out exact,
+    )
+
+pub returns-in_err-inputs-in-Some-clause-uncut : goal.returns-in_err-inputs-in-Some-clause-uncut
+returns-in_err-inputs-in-Some-clause-uncut g c =
     rw (c.in-Some.is) (search rules)
 
-pub returns-in_err-sign_beside-in-Some-clause-unread : goal.returns-in_err-sign_beside-in-Some-clause-unread
-returns-in_err-sign_beside-in-Some-clause-unread g c =
+pub returns-in_err-inputs-in-Some-clause-unread : goal.returns-in_err-inputs-in-Some-clause-unread
+returns-in_err-inputs-in-Some-clause-unread g c =
     rw (c.in-Some.is) (search rules)
 
-pub returns-in_err-sign_beside-in-Some-clause-faults : goal.returns-in_err-sign_beside-in-Some-clause-faults
-returns-in_err-sign_beside-in-Some-clause-faults g c =
+pub returns-in_err-inputs-in-Some-clause-faults : goal.returns-in_err-inputs-in-Some-clause-faults
+returns-in_err-inputs-in-Some-clause-faults g c =
+    rw (c.in-Some.is) (search rules)
+
+pub returns-in_err-finish-in-Some-clause-beginning_beside : goal.returns-in_err-finish-in-Some-clause-beginning_beside
+returns-in_err-finish-in-Some-clause-beginning_beside g c =
+    let consumed = g.I.Input.consumed in
+    let written = g.O.Output.written in
+    let made = c.in_ok-texts-in-Some in
+    let f = made.ensures.framed in
+    let signers = f.signing.signers in
+    let fed = c.start.ensures signers f.begun in
+    let before = consumed c.args.content.now in
+    let p = appended before (consumed c.pump-in-Some.new.content) in
+    let ended = g.I.Input.is_at_end c.pump-in-Some.new.content in
+    let octets : IsOctets p = IsOctets-drop (length before) _ (g.met.I.Input.gives_octets c.pump-in-Some.new.content) in
+    let old = written c.in-Some.detached.now in
+    let out = written c.pump-in-Some.new.out in
+    let pumped = c.in_ok-inputs-in-Some.ensures in
+    let whole = pumped.answer signers p fed (seen_possible consumed g.I.Input.is_at_end c.args.content.now c.pump-in-Some.new.content) in
+    let stands = all_written _ old out p whole pumped.extends refl in
+    let is = beside_is has_taken-value.it c.args.compact _ made.field-0.inputs.items _ f p ended octets in
+    let same = c.finish.ensures.same in
+    rw (c.in-Some.is) (at_refusal _ (subst (λ t. AppendsPrefixOf t old (written c.finish.new.self)) (sym is) (AppendsPrefixOf-all _ _ _ (same ∙ stands))))
+
+pub returns-in_err-finish-in-Some-clause-faults : goal.returns-in_err-finish-in-Some-clause-faults
+returns-in_err-finish-in-Some-clause-faults g c =
     rw (c.in-Some.is) (search rules)
 
 pub write_signatures-requires-in-Some : goal.write_signatures-requires-in-Some
 write_signatures-requires-in-Some g c =
     let consumed = g.I.Input.consumed in
-    let written = g.O.Output.written in
     let made = c.in_ok-texts-in-Some in
     let f = made.ensures.framed in
     let items = made.field-0.texts.items in
-    let p = appended (consumed c.args.content.now) (consumed c.sign_beside.new.payload) in
     let signers = f.signing.signers in
-    let taken = c.in_ok-sign_beside-in-Some.ensures.taken signers [] (subst (λ i. HoldEach has_taken-value.it i signers []) (sym c.deref_mut-in-Some.ensures.value) f.begun) in
-    let back = written_back c.sign_beside.new.inputs made.field-0.inputs.items made.field-0.inputs.len (omega (arith, made.field-0.inputs.ok.0))
-    (hold_count has_taken-value.it c.sign_beside.new.inputs signers (base64url p) taken ∙ sym (hold_count has_taken-value.it made.field-0.inputs.items signers [] f.begun)) in
-    let places = beside_places has_taken-value.it c.args.compact _ made.field-0.inputs.items _ f c.sign_beside.new.inputs (base64url p) taken in
-    ap length c.deref-in-Some.ensures.value ∙ sym (length-map items string_bytes) ∙ places ∙ ap (λ i. 1 + length i) (sym back)
+    let fed = c.start.ensures signers f.begun in
+    let before = consumed c.args.content.now in
+    let p = appended before (consumed c.pump-in-Some.new.content) in
+    let pumped = c.in_ok-inputs-in-Some.ensures in
+    let taken = pumped.left signers fed in
+    ap length c.deref-in-Some.ensures.value ∙ sym (length-map items string_bytes) ∙ beside_places has_taken-value.it c.args.compact _ made.field-0.inputs.items _ f c.in_ok-inputs-in-Some.inputs.items (base64url p) taken
 
-pub returns-in_ok-sign_beside-in-Some-clause-answer : goal.returns-in_ok-sign_beside-in-Some-clause-answer
-returns-in_ok-sign_beside-in-Some-clause-answer g c payload may =
+pub returns-in_ok-finish-in-Some-clause-answer : goal.returns-in_ok-finish-in-Some-clause-answer
+returns-in_ok-finish-in-Some-clause-answer g c payload may =
     let consumed = g.I.Input.consumed in
     let written = g.O.Output.written in
     let made = c.in_ok-texts-in-Some in
     let f = made.ensures.framed in
-    let items = made.field-0.texts.items in
-    let p = appended (consumed c.args.content.now) (consumed c.sign_beside.new.payload) in
     let signers = f.signing.signers in
-    let taken = c.in_ok-sign_beside-in-Some.ensures.taken signers [] (subst (λ i. HoldEach has_taken-value.it i signers []) (sym c.deref_mut-in-Some.ensures.value) f.begun) in
-    let back = written_back c.sign_beside.new.inputs made.field-0.inputs.items made.field-0.inputs.len (omega (arith, made.field-0.inputs.ok.0))
-    (hold_count has_taken-value.it c.sign_beside.new.inputs signers (base64url p) taken ∙ sym (hold_count has_taken-value.it made.field-0.inputs.items signers [] f.begun)) in
+    let fed = c.start.ensures signers f.begun in
+    let before = consumed c.args.content.now in
+    let p = appended before (consumed c.pump-in-Some.new.content) in
+    let ended = g.I.Input.is_at_end c.pump-in-Some.new.content in
+    let octets : IsOctets p = IsOctets-drop (length before) _ (g.met.I.Input.gives_octets c.pump-in-Some.new.content) in
+    let old = written c.in-Some.detached.now in
+    let out = written c.pump-in-Some.new.out in
+    let pumped = c.in_ok-inputs-in-Some.ensures in
+    let whole = pumped.answer signers p fed (seen_possible consumed g.I.Input.is_at_end c.args.content.now c.pump-in-Some.new.content) in
+    let stands = all_written _ old out p whole pumped.extends refl in
+    let taken = pumped.left signers fed in
+    let same = c.finish.ensures.same in
     let values = map (signature_text (base64url p)) signers in
-    rw (c.in-Some.is) (agrees_last _ _ c.write_signatures-in-Some.result (c.write_signatures-in-Some.ensures.all signers (base64url p) (subst (λ i. HoldEach has_taken-value.it i signers (base64url p)) (sym back) taken)) c.write_signatures-in-Some.ensures.cause
-    (λ all. beside_answer has_taken-value.it c.args.compact _ made.field-0.inputs.items _ f p payload (g.I.Input.is_at_end c.sign_beside.new.payload)
-    (written c.args.out.now) (written c.write_signatures-in-Some.new.out) (written c.in-Some.detached.now) (written c.sign_beside.new.out)
-    c.sign_beside.ensures.octets may c.in_ok-sign_beside-in-Some.ensures.ends c.in_ok-sign_beside-in-Some.ensures.all
+    rw (c.in-Some.is) (agrees_last _ _ c.write_signatures-in-Some.result (c.write_signatures-in-Some.ensures.all signers (base64url p) taken) c.write_signatures-in-Some.ensures.cause
+    (λ all. beside_answer has_taken-value.it c.args.compact _ made.field-0.inputs.items _ f p payload ended (written c.args.out.now) (written c.write_signatures-in-Some.new.out) old (written c.finish.new.self) octets may pumped.ends (same ∙ stands)
     (all ∙ ap (λ l. written c.args.out.now ++ filled (map string_bytes l) values) c.deref-in-Some.ensures.value)))
 
-pub returns-in_ok-sign_beside-in-Some-clause-beginning : goal.returns-in_ok-sign_beside-in-Some-clause-beginning
-returns-in_ok-sign_beside-in-Some-clause-beginning g c =
+pub returns-in_ok-finish-in-Some-clause-beginning : goal.returns-in_ok-finish-in-Some-clause-beginning
+returns-in_ok-finish-in-Some-clause-beginning g c =
     let consumed = g.I.Input.consumed in
     let written = g.O.Output.written in
     let made = c.in_ok-texts-in-Some in
     let f = made.ensures.framed in
-    let items = made.field-0.texts.items in
-    let p = appended (consumed c.args.content.now) (consumed c.sign_beside.new.payload) in
     let signers = f.signing.signers in
-    let taken = c.in_ok-sign_beside-in-Some.ensures.taken signers [] (subst (λ i. HoldEach has_taken-value.it i signers []) (sym c.deref_mut-in-Some.ensures.value) f.begun) in
-    let back = written_back c.sign_beside.new.inputs made.field-0.inputs.items made.field-0.inputs.len (omega (arith, made.field-0.inputs.ok.0))
-    (hold_count has_taken-value.it c.sign_beside.new.inputs signers (base64url p) taken ∙ sym (hold_count has_taken-value.it made.field-0.inputs.items signers [] f.begun)) in
+    let fed = c.start.ensures signers f.begun in
+    let before = consumed c.args.content.now in
+    let p = appended before (consumed c.pump-in-Some.new.content) in
+    let ended = g.I.Input.is_at_end c.pump-in-Some.new.content in
+    let octets : IsOctets p = IsOctets-drop (length before) _ (g.met.I.Input.gives_octets c.pump-in-Some.new.content) in
+    let pumped = c.in_ok-inputs-in-Some.ensures in
+    let taken = pumped.left signers fed in
     let values = map (signature_text (base64url p)) signers in
-    let is = text_is has_taken-value.it c.args.compact _ made.field-0.inputs.items _ f p (g.I.Input.is_at_end c.sign_beside.new.payload) c.sign_beside.ensures.octets c.in_ok-sign_beside-in-Some.ensures.ends in
-    rw (c.in-Some.is) (on_refusal c.write_signatures-in-Some.result (c.write_signatures-in-Some.ensures.beginning signers (base64url p) (subst (λ i. HoldEach has_taken-value.it i signers (base64url p)) (sym back) taken))
+    let is = text_is has_taken-value.it c.args.compact _ made.field-0.inputs.items _ f p ended octets pumped.ends in
+    rw (c.in-Some.is) (on_refusal c.write_signatures-in-Some.result (c.write_signatures-in-Some.ensures.beginning signers (base64url p) taken)
     (λ part. subst (λ t. AppendsPrefixOf t (written c.args.out.now) (written c.write_signatures-in-Some.new.out)) (ap (λ l. filled (map string_bytes l) values) c.deref-in-Some.ensures.value ∙ sym is) part))
 
-pub returns-in_ok-sign_beside-in-Some-clause-beginning_beside : goal.returns-in_ok-sign_beside-in-Some-clause-beginning_beside
-returns-in_ok-sign_beside-in-Some-clause-beginning_beside g c =
+pub returns-in_ok-finish-in-Some-clause-beginning_beside : goal.returns-in_ok-finish-in-Some-clause-beginning_beside
+returns-in_ok-finish-in-Some-clause-beginning_beside g c =
     let consumed = g.I.Input.consumed in
     let written = g.O.Output.written in
     let made = c.in_ok-texts-in-Some in
     let f = made.ensures.framed in
-    let items = made.field-0.texts.items in
-    let p = appended (consumed c.args.content.now) (consumed c.sign_beside.new.payload) in
-    let is = beside_is has_taken-value.it c.args.compact _ made.field-0.inputs.items _ f p (g.I.Input.is_at_end c.sign_beside.new.payload) c.sign_beside.ensures.octets in
-    rw (c.in-Some.is) (at_refusal _ (subst (λ t. AppendsPrefixOf t (written c.in-Some.detached.now) (written c.sign_beside.new.out)) (sym is) (AppendsPrefixOf-all _ _ _ c.in_ok-sign_beside-in-Some.ensures.all)))
+    let signers = f.signing.signers in
+    let fed = c.start.ensures signers f.begun in
+    let before = consumed c.args.content.now in
+    let p = appended before (consumed c.pump-in-Some.new.content) in
+    let ended = g.I.Input.is_at_end c.pump-in-Some.new.content in
+    let octets : IsOctets p = IsOctets-drop (length before) _ (g.met.I.Input.gives_octets c.pump-in-Some.new.content) in
+    let old = written c.in-Some.detached.now in
+    let out = written c.pump-in-Some.new.out in
+    let pumped = c.in_ok-inputs-in-Some.ensures in
+    let whole = pumped.answer signers p fed (seen_possible consumed g.I.Input.is_at_end c.args.content.now c.pump-in-Some.new.content) in
+    let stands = all_written _ old out p whole pumped.extends refl in
+    let is = beside_is has_taken-value.it c.args.compact _ made.field-0.inputs.items _ f p ended octets in
+    let same = c.finish.ensures.same in
+    rw (c.in-Some.is) (at_refusal _ (subst (λ t. AppendsPrefixOf t old (written c.finish.new.self)) (sym is) (AppendsPrefixOf-all _ _ _ (same ∙ stands))))
 
-pub returns-in_ok-sign_beside-in-Some-clause-finished : goal.returns-in_ok-sign_beside-in-Some-clause-finished
-returns-in_ok-sign_beside-in-Some-clause-finished g c =
+pub returns-in_ok-finish-in-Some-clause-finished : goal.returns-in_ok-finish-in-Some-clause-finished
+returns-in_ok-finish-in-Some-clause-finished g c =
     let finished = g.O.Output.is_finished in
-    rw (c.in-Some.is) (on_success {Q = IsTrue (finished c.write_signatures-in-Some.new.out) × IsTrue (finished c.sign_beside.new.out)} c.write_signatures-in-Some.result c.write_signatures-in-Some.ensures.finished
-    (λ text. (text, c.in_ok-sign_beside-in-Some.ensures.finished)))
+    rw (c.in-Some.is) (on_success {Q = IsTrue (finished c.write_signatures-in-Some.new.out) × IsTrue (finished c.finish.new.self)} c.write_signatures-in-Some.result c.write_signatures-in-Some.ensures.finished
+    (λ text. (text, c.in_ok-finish-in-Some.ensures.works.0)))
 
-pub returns-in_ok-sign_beside-in-Some-clause-faults : goal.returns-in_ok-sign_beside-in-Some-clause-faults
-returns-in_ok-sign_beside-in-Some-clause-faults g c =
-    rw (c.in-Some.is) (search rules)
-
-pub returns-in_err-texts-in-Some-clause-faults : goal.returns-in_err-texts-in-Some-clause-faults
-returns-in_err-texts-in-Some-clause-faults g c =
-    rw (c.in-Some.is) (search rules)
-
-pub returns-in_ok-sign_beside-in-Some-clause-content_first : goal.returns-in_ok-sign_beside-in-Some-clause-content_first
-returns-in_ok-sign_beside-in-Some-clause-content_first g c =
+pub returns-in_ok-finish-in-Some-clause-content_first : goal.returns-in_ok-finish-in-Some-clause-content_first
+returns-in_ok-finish-in-Some-clause-content_first g c =
     let consumed = g.I.Input.consumed in
     let written = g.O.Output.written in
     let made = c.in_ok-texts-in-Some in
     let f = made.ensures.framed in
-    let items = made.field-0.texts.items in
-    let p = appended (consumed c.args.content.now) (consumed c.sign_beside.new.payload) in
-    let is = beside_is has_taken-value.it c.args.compact _ made.field-0.inputs.items _ f p (g.I.Input.is_at_end c.sign_beside.new.payload) c.sign_beside.ensures.octets in
-    let beside = c.in_ok-sign_beside-in-Some.ensures in
-    rw (c.in-Some.is) (stands_first _ _ beside.ends beside.finished (beside.all ∙ ap (λ t. written c.in-Some.detached.now ++ t) (sym is)))
+    let signers = f.signing.signers in
+    let fed = c.start.ensures signers f.begun in
+    let before = consumed c.args.content.now in
+    let p = appended before (consumed c.pump-in-Some.new.content) in
+    let ended = g.I.Input.is_at_end c.pump-in-Some.new.content in
+    let octets : IsOctets p = IsOctets-drop (length before) _ (g.met.I.Input.gives_octets c.pump-in-Some.new.content) in
+    let old = written c.in-Some.detached.now in
+    let out = written c.pump-in-Some.new.out in
+    let pumped = c.in_ok-inputs-in-Some.ensures in
+    let whole = pumped.answer signers p fed (seen_possible consumed g.I.Input.is_at_end c.args.content.now c.pump-in-Some.new.content) in
+    let stands = all_written _ old out p whole pumped.extends refl in
+    let is = beside_is has_taken-value.it c.args.compact _ made.field-0.inputs.items _ f p ended octets in
+    let same = c.finish.ensures.same in
+    rw (c.in-Some.is) (stands_first _ _ pumped.ends c.in_ok-finish-in-Some.ensures.works.0 (same ∙ stands ∙ ap (λ t. old ++ t) (sym is)))
+
+pub returns-in_ok-finish-in-Some-clause-faults : goal.returns-in_ok-finish-in-Some-clause-faults
+returns-in_ok-finish-in-Some-clause-faults g c =
+    rw (c.in-Some.is) (search rules)
+
+pub returns-in_err-inputs-in-None-clause-uncut : goal.returns-in_err-inputs-in-None-clause-uncut
+returns-in_err-inputs-in-None-clause-uncut g c =
+    rw (c.in-None.is) (search rules)
+
+pub returns-in_err-inputs-in-None-clause-unread : goal.returns-in_err-inputs-in-None-clause-unread
+returns-in_err-inputs-in-None-clause-unread g c =
+    rw (c.in-None.is) (search rules)

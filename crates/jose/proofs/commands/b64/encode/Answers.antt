@@ -1,29 +1,33 @@
-use Rattle.std.proofs.Common.{rules, Ok, sym, ◌∙◌, ap}
+use Rattle.std.proofs.Common.{rules, Ok, refl, sym, ◌∙◌, ap}
 use Rattle.octets.specs.Devices.{appended}
 use Rattle.octets.specs.Encoding.{encoding}
 use Rattle.octets.proofs.Agreement.{at_refusal, seen_possible}
 use Rattle.octets.proofs.Growing.{encoding_grows}
-use Rattle.octets.proofs.Pumping.{agrees_same, whole_stands}
+use Rattle.octets.proofs.Pumping.{keeps_up, passed_on, whole_stands}
 use Rattle.jose.proofs.commands.b64.encode.Goals as goal
 
 pub returns-in_err-pump-clause-answer : goal.returns-in_err-pump-clause-answer
 returns-in_err-pump-clause-answer g c whole possible =
-    agrees_same _ _ c.from_residual.result c.pump.result (search rules) (c.pump.ensures.answer tt whole c.start-writer.ensures possible)
+    passed_on _ _ c.from_residual.result c.in_err-pump.field-0.0 (search rules) (λ inside. c.in_err-pump.ensures.answer tt whole c.start.ensures possible inside)
 
 pub returns-in_err-pump-clause-beginning : goal.returns-in_err-pump-clause-beginning
-returns-in_err-pump-clause-beginning g c = at_refusal _ (c.in_err-pump.ensures.beginning tt c.start-writer.ensures encoding_grows)
+returns-in_err-pump-clause-beginning g c = at_refusal _ (c.in_err-pump.ensures.beginning tt c.start.ensures encoding_grows)
 
-pub returns-in_err-pump-clause-as_long : goal.returns-in_err-pump-clause-as_long
-returns-in_err-pump-clause-as_long g c is = c.pump.ensures.as_long tt c.start-writer.ensures encoding_grows (search rules)
+pub returns-in_err-pump-clause-keeps_up : goal.returns-in_err-pump-clause-keeps_up
+returns-in_err-pump-clause-keeps_up g c is some =
+    let consumed = g.I.Input.consumed in
+    let written = g.O.Output.written in
+    let p = appended (consumed c.args.content.now) (consumed c.pump.new.content) in
+    keeps_up encoding encoding_grows encoding.fixed (λ q. refl) p (written c.args.out.now) (written c.pump.new.out) (c.pump.ensures.stands tt c.start.ensures (search rules) some)
 
 pub returns-in_err-finish-clause-beginning : goal.returns-in_err-finish-clause-beginning
 returns-in_err-finish-clause-beginning g c =
     let consumed = g.I.Input.consumed in
     let written = g.O.Output.written in
-    let whole = c.in_ok-pump.ensures.answer tt (appended (consumed c.args.content.now) (consumed c.pump.new.content)) c.start-writer.ensures (seen_possible consumed g.I.Input.is_at_end c.args.content.now c.pump.new.content) in
+    let whole = c.in_ok-pump.ensures.answer tt (appended (consumed c.args.content.now) (consumed c.pump.new.content)) c.start.ensures (seen_possible consumed g.I.Input.is_at_end c.args.content.now c.pump.new.content) in
     at_refusal _ (whole_stands encoding (consumed c.args.content.now) (consumed c.pump.new.content) (written c.args.out.now) (written c.pump.new.out) (written c.finish.new.self) (g.I.Input.is_at_end c.pump.new.content)
     c.in_ok-pump.ensures.ends whole c.in_ok-pump.ensures.extends c.finish.ensures.same)
 
 pub returns-clause-answer : goal.returns-clause-answer
 returns-clause-answer g c whole possible =
-    c.in_ok-pump.ensures.answer tt whole c.start-writer.ensures possible ∙ ap (λ l. Ok (appended (g.O.Output.written c.args.out.now) l)) (sym c.finish.ensures.same)
+    c.in_ok-pump.ensures.answer tt whole c.start.ensures possible ∙ ap (λ l. Ok (appended (g.O.Output.written c.args.out.now) l)) (sym c.finish.ensures.same)

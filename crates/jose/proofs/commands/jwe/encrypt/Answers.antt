@@ -5,9 +5,11 @@ use Rattle.keys.specs.Limits.{limits}
 use Rattle.octets.specs.Devices.{appended}
 use Rattle.octets.specs.Outcomes.{AgreesUnlessExternal}
 use Rattle.octets.specs.Plan.{plan_from, planned}
+use Rattle.octets.proofs.Growing.{kept_up_by_none}
 use Rattle.octets.proofs.Agreement.{on_refusal, on_success, seen_possible, unlent}
 use Rattle.tokens.specs.Encrypting.{encrypting_by}
 use Rattle.jose.proofs.Agreement.{refused}
+use Rattle.jose.proofs.Fixed.{encrypted_inside}
 use Rattle.jose.proofs.commands.jwe.encrypt.Goals as goal
 
 pub returns-in_err-template-clause-answer : goal.returns-in_err-template-clause-answer
@@ -150,3 +152,36 @@ returns-then-detach-clause-content_first g c =
     let k : key_set limits keys true ≡ Ok c.in_ok-template.set = c.in_ok-template.ensures.keys keys (seen_possible consumed at_end old.keys.now new.keys) in
     on_refusal c.jwe_encrypt.result c.jwe_encrypt.ensures.content_first
     (λ first. rw (c.in_ok-template.ensures.ends.0, c.in_ok-template.ensures.ends.1, k, t, c.if-detach.true) (elim first [ inl same ↦ inl same | inr whole ↦ inr (λ is. whole) ]))
+
+pub returns-in_err-template-clause-keeps_up : goal.returns-in_err-template-clause-keeps_up
+returns-in_err-template-clause-keeps_up g c is some = absurd (some (drop-length (g.I.Input.consumed c.args.content.now)))
+
+pub returns-then-detach-clause-keeps_up : goal.returns-then-detach-clause-keeps_up
+returns-then-detach-clause-keeps_up g c is some =
+    let consumed = g.I.Input.consumed in
+    let at_end = g.I.Input.is_at_end in
+    let old = c.args in
+    let new = c.read_with_keys.new in
+    let template = appended (consumed old.template.now) (consumed new.text) in
+    let keys = appended (consumed old.keys.now) (consumed new.keys) in
+    let t : template ≡ c.deref.result.now = c.in_ok-template.ensures.text template (seen_possible consumed at_end old.template.now new.text) ∙ sym c.deref.ensures.value in
+    let k : key_set limits keys true ≡ Ok c.in_ok-template.set = c.in_ok-template.ensures.keys keys (seen_possible consumed at_end old.keys.now new.keys) in
+    rw (k, t, c.if-detach.true) (c.jwe_encrypt.ensures.keeps_up is some)
+
+pub returns-clause-keeps_up : goal.returns-clause-keeps_up
+returns-clause-keeps_up g c is some =
+    let consumed = g.I.Input.consumed in
+    let at_end = g.I.Input.is_at_end in
+    let old = c.args in
+    let new = c.read_with_keys.new in
+    let template = appended (consumed old.template.now) (consumed new.text) in
+    let keys = appended (consumed old.keys.now) (consumed new.keys) in
+    let t : template ≡ c.deref-else-detach.result.now = c.in_ok-template.ensures.text template (seen_possible consumed at_end old.template.now new.text) ∙ sym c.deref-else-detach.ensures.value in
+    let k : key_set limits keys true ≡ Ok c.in_ok-template.set = c.in_ok-template.ensures.keys keys (seen_possible consumed at_end old.keys.now new.keys) in
+    let read = appended (consumed old.content.now) (consumed c.jwe_encrypt-else-detach.new.content) in
+    let random = appended (consumed old.random.now) (consumed c.jwe_encrypt-else-detach.new.random) in
+    let text = (c.jwe_encrypt-else-detach.ensures.keeps_up is some).0 in
+    rw (k, t, c.if-detach.false) (
+      rw (c.no_output.ensures) at text,
+      kept_up_by_none _ (encrypted_inside old.compact c.in_ok-template.set c.deref-else-detach.result.now random) read (g.O.Output.written old.detached.now),
+    )

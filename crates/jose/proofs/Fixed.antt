@@ -1,0 +1,34 @@
+-- What a beginning of the content fixes, and what stands of it.
+use Rattle.std.proofs.Common.{◌≡◌, ℕ, Bool, true, false, nat_le, take, List, [], length, Result, Ok, Err, refl}
+use Rattle.octets.specs.declared.refusal.Refusal.{Refusal}
+use Rattle.octets.specs.declared.refusal.Refusal.TheVariants.{Random}
+use Rattle.octets.specs.Outcomes.{◌>>=◌, needs}
+use Rattle.octets.specs.Plan.{fixed_by, plan_from}
+use Rattle.keys.specs.Keys.{OctetKey}
+use Rattle.keys.specs.Limits.{limits}
+use Rattle.tokens.specs.Choosing.{Encryption, encryption_of}
+use Rattle.tokens.specs.Encrypting.{octets_drawn, plan_by as encrypting, encrypting_by}
+use Rattle.tokens.specs.Signing.{Signing, plan_by as signing, signing_of, signing_by}
+
+-- what is signed inside goes nowhere else
+pub signed_inside : (compact : Bool) (keys : List OctetKey) (template q : List ℕ) → (fixed_by (signing_by limits compact false keys template) q).content ≡ []
+unfolding signing_by
+signed_inside compact keys template q = by_answer (signing_of limits compact keys template)
+  where
+    by_answer : (a : Result Signing Refusal) → (fixed_by (a >>= λ s. Ok (signing compact false s)) q).content ≡ []
+    by_answer (Ok s) = refl
+    by_answer (Err r) = refl
+
+-- nor does what is encrypted inside
+pub encrypted_inside : (compact : Bool) (keys : List OctetKey) (template random q : List ℕ) → (fixed_by (plan_from (encrypting_by limits compact false keys template) random) q).content ≡ []
+unfolding encrypting_by
+encrypted_inside compact keys template random q = by_answer (encryption_of limits compact keys template)
+  where
+    by_room : (e : Encryption) (enough : Bool) → (fixed_by (needs enough Random >>= λ _. Ok (encrypting compact false e (take (octets_drawn e) random))) q).content ≡ []
+    by_room e true = refl
+    by_room e false = refl
+
+    by_answer : (a : Result Encryption Refusal)
+        → (fixed_by (plan_from (a >>= λ e. Ok (record { drawn = octets_drawn e; plan = encrypting compact false e })) random) q).content ≡ []
+    by_answer (Ok e) = by_room e (nat_le (octets_drawn e) (length random))
+    by_answer (Err r) = refl
