@@ -38,11 +38,11 @@ impl B64Reader {
     }
 
     /// Takes the next piece, of at most 4,096 characters. Writes the octets of the groups that are
-    /// settled now to the front of `out`, which has room for 3,072, and answers how many. Refused with `Base64` where they have none;
+    /// settled now to the front of `out`, and answers how many. Refused with `Base64` where they have none;
     /// then it holds what it held, and nothing is said of `out`.
-    pub fn feed(&mut self, piece: &[u8], out: &mut [u8]) -> Result<usize, Refusal>
-        requires { (length piece.now ≤ 4096) × (3072 ≤ length out.old) }
-        ensures within { IfOk result (λ n. n ≤ length out.old) }
+    pub fn feed(&mut self, piece: &[u8], out: &mut [u8; 3072]) -> Result<usize, Refusal>
+        requires { length piece.now ≤ 4096 }
+        ensures within { IfOk result (λ n. n ≤ 3072) }
         ensures waits { OnOk result (self.new ≡ unsettled (self.old ++ piece.now)) }
         ensures octets { IfOk result (λ n. decoded (settled (self.old ++ piece.now)) ≡ Ok (take n out.new)) }
         ensures refused { IfErr result (λ e. (e ≡ Refusal.Base64) × (decoded (settled (self.old ++ piece.now)) ≡ Err Refusal.Base64)) }
@@ -89,8 +89,11 @@ impl Transform for B64Reader {
         piece: &'t [u8],
         space: &'t mut [u8; 5488],
     ) -> Result<&'t [u8], Refusal> {
-        let len = B64Reader::feed(self, piece, space)?;
-        Ok(&space[..len])
+        let Some(octets) = space.first_chunk_mut::<3072>() else {
+            unreachable!()
+        };
+        let len = B64Reader::feed(self, piece, octets)?;
+        Ok(&octets[..len])
     }
 
     fn finish<'t>(self, space: &'t mut [u8; 5488]) -> Result<(&'t [u8], ()), Refusal> {
