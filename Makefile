@@ -2,7 +2,7 @@
 
 PREFIX ?= /usr/local
 
-.PHONY: demo test edits build ports long faults bench pages tour interop latchset dist dist-try install uninstall clean
+.PHONY: demo test edits build calls ports long faults hostile bench pages tour interop latchset dist dist-try install uninstall clean
 
 # Signs a document and verifies it, makes a key, encrypts a secret and decrypts it, and shows what changed texts and wrong keys give.
 demo:
@@ -21,6 +21,10 @@ edits:
 build:
 	@scripts/build
 
+# Compares docs/CALLS.md, what each public call may refuse and change, with the sources.
+calls:
+	@scripts/calls
+
 # Runs the built program over files.
 ports:
 	@scripts/ports
@@ -29,9 +33,13 @@ ports:
 long:
 	@scripts/long
 
-# Refuses each growth of the tests' work in turn.
+# Refuses each growth of memory that the built program asks for in turn, for each command.
 faults:
 	@scripts/faults
+
+# Runs the built program over some thousands of inputs that were changed by chance: another seed each time, or the one in SEED.
+hostile:
+	@scripts/hostile $(SEED)
 
 # Measures the built program beside what the machine has; where BESIDE names another build of it, its commands alone, in turns with that.
 bench:

@@ -16,7 +16,10 @@ const AROUND_COMPACT: &[(&str, &str, Option<Refusal>)] = &[
     ("", "\r", Some(Refusal::Base64)),
     ("", " ", Some(Refusal::Base64)),
     ("", " \n", Some(Refusal::Base64)),
+    ("", "\0", Some(Refusal::Base64)),
     ("\n", "", Some(Refusal::Base64)),
+    ("\0", "", Some(Refusal::Base64)),
+    ("\u{feff}", "", Some(Refusal::Base64)),
     ("\t", "\n", Some(Refusal::Base64)),
     ("", ".\n", Some(Refusal::Form)),
 ];

@@ -53,7 +53,7 @@ const SMALL_KEYS: &str =
 const ABC: &str = "eyJhbGciOiJIUzI1NiJ9.YWJj.sxvqVTS8XjHJPVB24OsGa2pZqgR8ZX_Ab4pTTtgI47Y";
 
 /// The same in flattened JSON form.
-const FLATTENED: &str =
+pub(crate) const FLATTENED: &str =
     "{\"payload\":\"YWJj\",\"protected\":\"eyJhbGciOiJIUzI1NiJ9\",\"signature\":\"sxvqVTS8XjHJPVB24OsGa2pZqgR8ZX_Ab4pTTtgI47Y\"}";
 
 /// `abc` signed with both keys.

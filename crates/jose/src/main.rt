@@ -64,9 +64,9 @@ mod general_peer_tests;
 #[cfg(test)]
 mod general_tests;
 #[cfg(test)]
-mod growth_tests;
-#[cfg(test)]
 mod header_tests;
+#[cfg(test)]
+mod hostile_tests;
 #[cfg(test)]
 mod jwe_tests;
 #[cfg(test)]

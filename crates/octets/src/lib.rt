@@ -36,11 +36,11 @@ pub use failing::{Failing, FailingInput, FailingOutput};
 pub use lanes::{same_octets, xor_into};
 pub use line_ends::without_line_end;
 pub use memory::{MemoryInput, MemoryOutput};
-pub use reader::{B64Reader, decode_onto};
+pub use reader::B64Reader;
 pub use refusal::{Fault, Refusal, needs};
 pub use streams::{ReaderInput, WriterOutput};
 pub use transform::{Transform, pump};
-pub use whole::{Partial, draw, emit, read_piece, read_to_end, write_whole};
+pub use whole::{Partial, draw, emit, read_to_end, write_whole};
 pub use writer::{B64Writer, encode_onto};
 
 #[cfg(test)]

@@ -40,7 +40,7 @@ impl B64Reader {
     /// Takes the next piece, of at most 4,096 characters. Writes the octets of the groups that are
     /// settled now to the front of `out`, and answers how many. Refused with `Base64` where they have none;
     /// then it holds what it held, and nothing is said of `out`.
-    pub fn feed(&mut self, piece: &[u8], out: &mut [u8; 3072]) -> Result<usize, Refusal>
+    pub(crate) fn feed(&mut self, piece: &[u8], out: &mut [u8; 3072]) -> Result<usize, Refusal>
         requires { length piece.now ≤ 4096 }
         ensures within { IfOk result (λ n. n ≤ 3072) }
         ensures waits { OnOk result (self.new ≡ unsettled (self.old ++ piece.now)) }
@@ -105,7 +105,7 @@ impl Transform for B64Reader {
 /// Writes the octets that the text means to the front, and answers how many. Refused with `Base64`
 /// where it means none. Past three octets for each four characters, or part of four, `out` is as it was.
 #[tactic(auto, unfolding(crate::specs::Base64url::decoded))]
-pub fn decode_onto(text: &[u8], out: &mut [u8]) -> Result<usize, Refusal>
+pub(crate) fn decode_onto(text: &[u8], out: &mut [u8]) -> Result<usize, Refusal>
     requires { (length text.now + 3) / 4 * 3 ≤ length out.old }
     ensures within { IfOk result (λ n. n ≤ length out.old) }
     ensures octets { IfOk result (λ n. decoded text.now ≡ Ok (take n out.new)) }

@@ -1,8 +1,9 @@
 //! Outside vectors, and each device at work.
+use crate::whole::read_piece;
 use crate::{
     B64Writer, Fault, Input, MemoryInput, MemoryOutput, Output, Partial, ReaderInput, Refusal,
-    WriterOutput, b64_append, b64_decode, b64_encode, draw, emit, read_piece, read_to_end,
-    same_octets, write_whole, xor_into,
+    WriterOutput, b64_append, b64_decode, b64_encode, draw, emit, read_to_end, same_octets,
+    write_whole, xor_into,
 };
 use std::alloc::{AllocError, Global};
 use std::fmt::Debug;
@@ -480,78 +481,6 @@ fn long_octets_are_added_and_compared(rt: HostRuntime) -> Result<(), Fail> {
     expect_octets(&rt, &other, &sum);
     assert!(rt; same_octets(&other, &sum));
     Ok(())
-}
-
-/// A growth may be refused: then the answer is `Memory`.
-fn expect_memory(rt: &impl Abort, refusal: Refusal, may_be_refused: bool) {
-    assert!(rt; may_be_refused && refusal == Refusal::Memory);
-}
-
-fn encoding_grows<R: Abort + AllocGlobal>(rt: &R, may_be_refused: bool) {
-    match b64_encode(rt.alloc(), b"foobar") {
-        Ok(text) => expect_octets(rt, text.as_bytes(), b"Zm9vYmFy"),
-        Err(refusal) => expect_memory(rt, refusal, may_be_refused),
-    }
-}
-
-fn decoding_grows<R: Abort + AllocGlobal>(rt: &R, may_be_refused: bool) {
-    match b64_decode(rt.alloc(), b"Zm9vYmFy") {
-        Ok(octets) => expect_octets(rt, &octets, b"foobar"),
-        Err(refusal) => expect_memory(rt, refusal, may_be_refused),
-    }
-    let refusal = b64_decode(rt.alloc(), b"Zm9vYmF").err();
-    assert!(rt;
-        refusal == Some(Refusal::Base64) || may_be_refused && refusal == Some(Refusal::Memory)
-    );
-}
-
-/// What was lent is as it was where the growth is refused.
-fn appending_grows<R: Abort + AllocGlobal>(rt: &R, may_be_refused: bool) {
-    if let Ok(mut text) = String::from_str(rt.alloc(), "foo") {
-        let wanted = match b64_append(&mut text, b"foobar") {
-            Ok(()) => "fooZm9vYmFy",
-            Err(refusal) => {
-                expect_memory(rt, refusal, may_be_refused);
-                "foo"
-            }
-        };
-        expect_octets(rt, text.as_bytes(), wanted.as_bytes());
-    }
-}
-
-fn reading_grows<R: Abort + AllocGlobal>(rt: &R, may_be_refused: bool) {
-    let content = [7u8; 10_000];
-    let mut input = MemoryInput::new(&content, 5000);
-    match read_to_end(rt.alloc(), &mut input) {
-        Ok(octets) => expect_octets(rt, &octets, &content),
-        Err(refusal) => expect_memory(rt, refusal, may_be_refused),
-    }
-}
-
-fn an_output_grows<R: Abort + AllocGlobal>(rt: &R, may_be_refused: bool) {
-    match MemoryOutput::new(rt.alloc(), 10) {
-        Ok(out) => expect_octets(rt, out.octets(), b""),
-        Err(refusal) => expect_memory(rt, refusal, may_be_refused),
-    }
-}
-
-/// Each call that grows, with its answer.
-fn grows<R: Abort + AllocGlobal>(rt: &R, may_be_refused: bool) {
-    encoding_grows(rt, may_be_refused);
-    decoding_grows(rt, may_be_refused);
-    reading_grows(rt, may_be_refused);
-    appending_grows(rt, may_be_refused);
-    an_output_grows(rt, may_be_refused);
-}
-
-#[test]
-fn a_refused_growth_0(rt: HostRuntime) {
-    grows(&rt, true);
-}
-
-#[test]
-fn ample_memory_refuses_no_growth(rt: HostRuntime) {
-    grows(&rt, false);
 }
 
 #[test]

@@ -8,7 +8,8 @@ ghost use Rattle.octets.specs.Outcomes.{GivesUnlessExternal, is_external};
 ghost use Rattle.octets.specs.Plan.{Plan, Grows, beginning_of};
 ghost use Rattle.octets.specs.Pumps.{behind, RefusesFrom};
 
-use crate::{Input, Output, Refusal, read_piece, write_whole};
+use crate::whole::read_piece;
+use crate::{Input, Output, Refusal, write_whole};
 
 /// What takes a content in pieces, and gives what they fix of its plan.
 pub trait Transform: Drop {

@@ -35,7 +35,7 @@ pub fn read_to_end<I: Input>(alloc: Global, input: &mut I) -> Result<Vec<u8>, Re
 
 /// Reads the next piece of a content into the front of `buf`, and answers its length: 0 only at the end. Refused with `Read`
 /// where the input fails.
-pub fn read_piece<I: Input>(content: &mut I, buf: &mut [u8; 4096]) -> Result<usize, Refusal>
+pub(crate) fn read_piece<I: Input>(content: &mut I, buf: &mut [u8; 4096]) -> Result<usize, Refusal>
     requires { IsFinite (I.remaining content.old) }
     ensures within { IfOk result (λ n. n ≤ 4096) }
     ensures piece { IfOk result (λ n. I.consumed content.new ≡ I.consumed content.old ++ take n buf.new) }

@@ -1,5 +1,6 @@
 //! Decrypting with any key of a set (RFC 7516 section 5.2).
-ghost use Rattle.std.specs.Prelude.{◌≡◌, ◌≢◌, ◌+◌, ◌≤◌, ◌*◌, [], ◌∷◌, true, length, take, map, option_map, OnOk, OnErr, IfOk, IfErr, IfNone, IsTrue, string_bytes};
+ghost use Rattle.std.specs.Prelude.{◌≡◌, ◌≢◌, ◌+◌, ◌≤◌, ◌*◌, [], ◌∷◌, true, length, take, map, option_map, OnOk, OnErr, IfOk, IfErr, IfNone, IsTrue};
+ghost use Rattle.std.specs.Cow.{cow_str_bytes};
 ghost use Rattle.std.specs.Result.{result_unwrap_or};
 ghost use Rattle.octets.specs.Devices.{appended, AppendsPrefixOf};
 ghost use Rattle.octets.specs.Faults.{TellsFaults, counts};
@@ -19,6 +20,7 @@ use objects::Jwe;
 use octets::laws::are_octets;
 use octets::{Output, Refusal, b64_append, emit};
 use std::alloc::Global;
+use std::borrow::CowStr;
 
 /// What was done to open an object, over the pairs of a recipient and a key that were tried.
 #[derive(Clone, Copy, Debug, PartialEq, Eq)]
@@ -120,16 +122,21 @@ fn open_first(alloc: Global, keys: &KeySet, jwe: Jwe, work: &mut Work) -> Result
 
 /// The additional data: the text of the protected header, and after a dot that of the others, where there are some
 /// (RFC 7516 section 5.2, step 14).
-pub(crate) fn authenticated(alloc: Global, protected: &str, aad: &[u8]) -> Result<String, Refusal>
-    ensures text { IfOk result (λ text. string_bytes text ≡ authenticated protected.now aad.now) }
+pub(crate) fn authenticated<'t>(
+    alloc: Global,
+    protected: &'t str,
+    aad: &[u8],
+) -> Result<CowStr<'t>, Refusal>
+    ensures text { IfOk result (λ text. cow_str_bytes text ≡ authenticated protected.now aad.now) }
     ensures memory { IfErr result (λ e. e ≡ Refusal.Memory) }
 {
-    let mut text = String::from_str(alloc, protected)?;
-    if !aad.is_empty() {
-        text.push('.')?;
-        b64_append(&mut text, aad)?;
+    if aad.is_empty() {
+        return Ok(CowStr::Borrowed(protected));
     }
-    Ok(text)
+    let mut text = String::from_str(alloc, protected)?;
+    text.push('.')?;
+    b64_append(&mut text, aad)?;
+    Ok(CowStr::Owned(text))
 }
 
 /// Opens the ciphertext where it stands by the first pair that opens it, and answers the length of the plaintext.

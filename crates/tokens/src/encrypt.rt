@@ -232,8 +232,10 @@ fn begin_sealing(
     let header = protected_header(alloc, given, p2c, &receivers, salts, protected)?;
     let header = header_text(alloc, header)?;
     let protected = b64_encode(alloc, header.as_bytes())?;
-    let data = authenticated(alloc, &protected, &aad)?;
-    let sealer = alg.seal(cek.octets(), iv, data.as_bytes());
+    let sealer = {
+        let data = authenticated(alloc, &protected, &aad)?;
+        alg.seal(cek.octets(), iv, data.as_bytes())
+    };
     let jwe = Jwe::build(
         alloc,
         JweParts {
