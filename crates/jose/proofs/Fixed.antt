@@ -15,7 +15,7 @@ pub signed_inside : (compact : Bool) (keys : List OctetKey) (template q : List �
 unfolding signing_by
 signed_inside compact keys template q = by_answer (signing_of limits compact keys template)
   where
-    by_answer : (a : Result Signing Refusal) → (fixed_by (a >>= λ s. Ok (signing compact false s)) q).content ≡ []
+    by_answer : (a : Result Signing Refusal) → (fixed_by (a >>= λ s. Ok (signing limits compact false s)) q).content ≡ []
     by_answer (Ok s) = refl
     by_answer (Err r) = refl
 
@@ -24,11 +24,11 @@ pub encrypted_inside : (compact : Bool) (keys : List OctetKey) (template random 
 unfolding encrypting_by
 encrypted_inside compact keys template random q = by_answer (encryption_of limits compact keys template)
   where
-    by_room : (e : Encryption) (enough : Bool) → (fixed_by (needs enough Random >>= λ _. Ok (encrypting compact false e (take (octets_drawn e) random))) q).content ≡ []
+    by_room : (e : Encryption) (enough : Bool) → (fixed_by (needs enough Random >>= λ _. Ok (encrypting limits compact false e (take (octets_drawn e) random))) q).content ≡ []
     by_room e true = refl
     by_room e false = refl
 
     by_answer : (a : Result Encryption Refusal)
-        → (fixed_by (plan_from (a >>= λ e. Ok (record { drawn = octets_drawn e; plan = encrypting compact false e })) random) q).content ≡ []
+        → (fixed_by (plan_from (a >>= λ e. Ok (record { drawn = octets_drawn e; plan = encrypting limits compact false e })) random) q).content ≡ []
     by_answer (Ok e) = by_room e (nat_le (octets_drawn e) (length random))
     by_answer (Err r) = refl

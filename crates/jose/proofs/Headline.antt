@@ -201,13 +201,13 @@ module _ {O : Type 0} (read : Option (List ℕ) → List ℕ → Result O Refusa
       let in_compact : written true beside_compact o.0 ≡ Ok compact = subst (λ o. written true beside_compact o ≡ Ok compact) same again.2 in
       ap (λ r. r >>= written false beside_json) (read_back true beside_compact compact in_compact) ∙ o.2
 
-pub signed_objects_go_back : jws.ObjectsAreMade → jws.TextsSpellObjects → FormatsGoBack jws_fmt_answer
+pub signed_objects_go_back : jws.ObjectsAreMade → jws.TextsSpellObjects → FormatsGoBack (jws_fmt_answer limits)
 unfolding jws_fmt_answer
 signed_objects_go_back made spells =
     goes_back (jws.jws_of limits) jws.json_text jws.jws_compact_text (λ o. o.payload)
     (λ detached text o handed octets read. let m = made limits detached text o handed octets read in spells limits m.0 o m.1.0 m.1.1)
 
-pub encrypted_objects_go_back : jwe.ObjectsAreMade → jwe.TextsSpellObjects → FormatsGoBack jwe_fmt_answer
+pub encrypted_objects_go_back : jwe.ObjectsAreMade → jwe.TextsSpellObjects → FormatsGoBack (jwe_fmt_answer limits)
 unfolding jwe_fmt_answer
 encrypted_objects_go_back made spells =
     goes_back (jwe.jwe_of limits) jwe.json_text jwe.jwe_compact_text (λ o. o.ciphertext)

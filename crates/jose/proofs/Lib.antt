@@ -9,3 +9,4 @@ pub mod Draws
 pub mod Objects
 pub mod Spared
 pub mod Headline
+pub mod WiderLimits

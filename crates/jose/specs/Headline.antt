@@ -26,13 +26,13 @@ HoldsAlone key text = key_set limits text false ≡ Ok (key ∷ [])
 -- of a key before it.
 abbrev pub EncryptedIsDecrypted : Type 0
 EncryptedIsDecrypted = (compact detach : Bool) (keys template random plaintext : List ℕ) (texts : OutputTexts) → IsOctets random → IsOctets plaintext
-    → planned (plan_from (enc_answer compact detach keys template) random) plaintext ≡ Ok texts
+    → planned (plan_from (enc_answer limits compact detach keys template) random) plaintext ≡ Ok texts
     → (o : EncryptedObject) × ((jwe_of limits (handed_in detach texts.content) texts.text ≡ Ok o)
     × ((before after : List OctetKey) (key : OctetKey) (key_text : List ℕ) (detached : Option (List ℕ)) (text : List ℕ)
     → key_set limits keys true ≡ Ok (before ++ key ∷ after) → HoldsAlone key key_text
     → MayDecrypt compact (before ++ key ∷ after) key template → OpensNoOther (length before) key o plaintext
     → jwe_of limits detached text ≡ Ok o
-    → dec_answer key_text detached text ≡ Ok plaintext))
+    → dec_answer limits key_text detached text ≡ Ok plaintext))
 
 -- ---- `jws sig` and `jws ver`
 
@@ -45,12 +45,12 @@ HoldsSome keys text =
 -- beside it, is verified with a text of some of the keys, with `-a` and without, and the payload is written where it is asked for.
 abbrev pub SignedIsVerified : Type 0
 SignedIsVerified = (compact detach : Bool) (keys template payload : List ℕ) (texts : OutputTexts) → IsOctets payload
-    → planned (sig_answer compact detach keys template) payload ≡ Ok texts
+    → planned (sig_answer limits compact detach keys template) payload ≡ Ok texts
     → (o : SignedObject) × ((jws_of limits (handed_in detach texts.content) texts.text ≡ Ok o)
     × ((signers : List OctetKey) (all wanted : Bool) (key_text : List ℕ) (detached : Option (List ℕ)) (text : List ℕ)
     → key_set limits keys true ≡ Ok signers → HoldsSome signers key_text
     → jws_of limits detached text ≡ Ok o
-    → ver_answer all wanted key_text detached text ≡ Ok (if wanted then payload else [])))
+    → ver_answer limits all wanted key_text detached text ≡ Ok (if wanted then payload else [])))
 
 -- ---- `jws fmt` and `jwe fmt`
 

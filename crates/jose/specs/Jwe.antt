@@ -4,27 +4,27 @@ use Rattle.octets.specs.declared.refusal.Refusal.{Refusal}
 use Rattle.octets.specs.Outcomes.{◌>>=◌}
 use Rattle.octets.specs.Plan.{OutputTexts, Draft}
 use Rattle.keys.specs.KeySets.{key_set}
-use Rattle.keys.specs.Limits.{limits}
+use Rattle.keys.specs.Limits.{Limits}
 use Rattle.objects.specs.Jwe.{jwe_of}
 use Rattle.tokens.specs.Encrypting.{encrypting_by, written_of}
 use Rattle.tokens.specs.Decrypting.{decrypted}
 
 -- the text of a plaintext that is encrypted to the keys, as the template asks, by octets of the random input, with the ciphertext
 -- or beside it
-abbrev pub enc_answer : Bool → Bool → List ℕ → List ℕ → Result (Draft OutputTexts) Refusal
-enc_answer compact detach keys template = do
+abbrev pub enc_answer : Limits → Bool → Bool → List ℕ → List ℕ → Result (Draft OutputTexts) Refusal
+enc_answer limits compact detach keys template = do
   set ← key_set limits keys true
   encrypting_by limits compact detach set template
 
 -- the plaintext of the object, whose ciphertext may have been handed in
-abbrev pub dec_answer : List ℕ → Option (List ℕ) → List ℕ → Result (List ℕ) Refusal
-dec_answer keys detached text = do
+abbrev pub dec_answer : Limits → List ℕ → Option (List ℕ) → List ℕ → Result (List ℕ) Refusal
+dec_answer limits keys detached text = do
   set ← key_set limits keys false
   jwe ← jwe_of limits detached text
   decrypted limits set jwe
 
 -- the text of the object in the other form, or in the same, with the ciphertext or beside it
-unfoldable pub jwe_fmt_answer : Bool → Bool → Option (List ℕ) → List ℕ → Result OutputTexts Refusal
-jwe_fmt_answer compact detach detached text = do
+unfoldable pub jwe_fmt_answer : Limits → Bool → Bool → Option (List ℕ) → List ℕ → Result OutputTexts Refusal
+jwe_fmt_answer limits compact detach detached text = do
   jwe ← jwe_of limits detached text
   written_of compact detach jwe

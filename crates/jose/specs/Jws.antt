@@ -4,26 +4,26 @@ use Rattle.octets.specs.declared.refusal.Refusal.{Refusal}
 use Rattle.octets.specs.Outcomes.{◌>>=◌}
 use Rattle.octets.specs.Plan.{OutputTexts, Plan}
 use Rattle.keys.specs.KeySets.{key_set}
-use Rattle.keys.specs.Limits.{limits}
+use Rattle.keys.specs.Limits.{Limits}
 use Rattle.objects.specs.Jws.{jws_of}
 use Rattle.tokens.specs.Signing.{signing_by, written_of}
 use Rattle.tokens.specs.Verifying.{verifying_by}
 
 -- the text of a payload that the keys sign, as the template asks, with the payload or beside it
-abbrev pub sig_answer : Bool → Bool → List ℕ → List ℕ → Result (Plan OutputTexts) Refusal
-sig_answer compact detach keys template = do
+abbrev pub sig_answer : Limits → Bool → Bool → List ℕ → List ℕ → Result (Plan OutputTexts) Refusal
+sig_answer limits compact detach keys template = do
   set ← key_set limits keys true
   signing_by limits compact detach set template
 
 -- what is written of the object, whose payload may have been handed in: the payload, where it is asked for
-abbrev pub ver_answer : Bool → Bool → List ℕ → Option (List ℕ) → List ℕ → Result (List ℕ) Refusal
-ver_answer all wanted keys detached text = do
+abbrev pub ver_answer : Limits → Bool → Bool → List ℕ → Option (List ℕ) → List ℕ → Result (List ℕ) Refusal
+ver_answer limits all wanted keys detached text = do
   set ← key_set limits keys false
   jws ← jws_of limits detached text
   verifying_by all wanted set jws
 
 -- the text of the object in the other form, or in the same, with the payload or beside it
-unfoldable pub jws_fmt_answer : Bool → Bool → Option (List ℕ) → List ℕ → Result OutputTexts Refusal
-jws_fmt_answer compact detach detached text = do
+unfoldable pub jws_fmt_answer : Limits → Bool → Bool → Option (List ℕ) → List ℕ → Result OutputTexts Refusal
+jws_fmt_answer limits compact detach detached text = do
   jws ← jws_of limits detached text
   written_of compact detach jws

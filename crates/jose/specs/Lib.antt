@@ -12,3 +12,4 @@ pub mod Meanings
 pub mod Answer
 pub mod Files
 pub mod Headline
+pub mod WiderLimits

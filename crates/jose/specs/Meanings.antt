@@ -7,6 +7,7 @@ use Rattle.octets.specs.declared.refusal.Refusal.TheVariants.{Usage}
 use Rattle.octets.specs.Outcomes.{◌>>=◌}
 use Rattle.octets.specs.Plan.{OutputTexts, nothing, Draft, without_random, placed, by_plan, by_text}
 use Rattle.octets.specs.Encoding.{encoding, decoding}
+use Rattle.keys.specs.Limits.{limits}
 use Rattle.jose.specs.declared.command.Command.{Command}
 use Rattle.jose.specs.declared.command.Command.TheVariants.{JwkGen, JwkThp, B64Enc, B64Dec, JwsSig, JwsVer, JwsFmt, JweEnc, JweDec, JweFmt}
 use Rattle.jose.specs.Invocations.{Settings, value_at, hash_asked}
@@ -92,7 +93,7 @@ jws_sig = record {
   content = λ settings. the_content;
   holds_back = false;
   takes_memory = true;
-  draft = λ settings text keys. by_plan (sig_answer (is_compact_asked settings) (is_content_wanted settings) keys text);
+  draft = λ settings text keys. by_plan (sig_answer limits (is_compact_asked settings) (is_content_wanted settings) keys text);
 }
 
 abbrev pub jws_ver : Meaning
@@ -101,7 +102,7 @@ jws_ver = record {
   holds_back = true;
   takes_memory = true;
   draft = λ settings text keys.
-      placed as_content (of_object (is_content_given settings) [] (λ detached. ver_answer (is_all_asked settings) (is_content_wanted settings) keys detached text));
+      placed as_content (of_object (is_content_given settings) [] (λ detached. ver_answer limits (is_all_asked settings) (is_content_wanted settings) keys detached text));
 }
 
 abbrev pub jws_fmt : Meaning
@@ -109,7 +110,7 @@ jws_fmt = record {
   content = content_beside;
   holds_back = true;
   takes_memory = true;
-  draft = λ settings text keys. of_object (is_content_given settings) nothing (λ detached. jws_fmt_answer (is_compact_asked settings) (is_content_wanted settings) detached text);
+  draft = λ settings text keys. of_object (is_content_given settings) nothing (λ detached. jws_fmt_answer limits (is_compact_asked settings) (is_content_wanted settings) detached text);
 }
 
 abbrev pub jwe_enc : Meaning
@@ -117,7 +118,7 @@ jwe_enc = record {
   content = λ settings. the_content;
   holds_back = false;
   takes_memory = true;
-  draft = λ settings text keys. enc_answer (is_compact_asked settings) (is_content_wanted settings) keys text;
+  draft = λ settings text keys. enc_answer limits (is_compact_asked settings) (is_content_wanted settings) keys text;
 }
 
 abbrev pub jwe_dec : Meaning
@@ -125,7 +126,7 @@ jwe_dec = record {
   content = content_beside;
   holds_back = true;
   takes_memory = true;
-  draft = λ settings text keys. placed as_content (of_object (is_content_given settings) [] (λ detached. dec_answer keys detached text));
+  draft = λ settings text keys. placed as_content (of_object (is_content_given settings) [] (λ detached. dec_answer limits keys detached text));
 }
 
 abbrev pub jwe_fmt : Meaning
@@ -133,7 +134,7 @@ jwe_fmt = record {
   content = content_beside;
   holds_back = true;
   takes_memory = true;
-  draft = λ settings text keys. of_object (is_content_given settings) nothing (λ detached. jwe_fmt_answer (is_compact_asked settings) (is_content_wanted settings) detached text);
+  draft = λ settings text keys. of_object (is_content_given settings) nothing (λ detached. jwe_fmt_answer limits (is_compact_asked settings) (is_content_wanted settings) detached text);
 }
 
 abbrev pub meaning_of : Command → Meaning

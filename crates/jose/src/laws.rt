@@ -1,7 +1,10 @@
-//! What the commands promise together, as laws of their answers, each the contract of a function that does nothing.
+//! What the commands promise together, and what wider limits keep, as laws of their answers, each the contract of a function that
+//! does nothing.
+ghost use Rattle.keys.specs.Limits.{Limits, limits};
 ghost use Rattle.jose.specs.Headline.{EncryptedIsDecrypted, FormatsGoBack, SignedIsVerified};
 ghost use Rattle.jose.specs.Jwe.{jwe_fmt_answer};
 ghost use Rattle.jose.specs.Jws.{jws_fmt_answer};
+ghost use Rattle.jose.specs.WiderLimits.{AreWider, EncryptsAsBefore, ReadsAsBefore};
 
 use keys::laws::keys_have_octets;
 use objects::laws::{
@@ -27,7 +30,7 @@ pub fn what_is_signed_is_verified()
 
 /// What `jws fmt` writes in JSON form is the same again after it went to compact form and back.
 pub fn signed_objects_go_to_compact_form_and_back()
-    ensures { FormatsGoBack jws_fmt_answer }
+    ensures { FormatsGoBack (jws_fmt_answer limits) }
 {
     jws_objects_are_made();
     jws_texts_spell_objects();
@@ -35,8 +38,19 @@ pub fn signed_objects_go_to_compact_form_and_back()
 
 /// What `jwe fmt` writes in JSON form is the same again after it went to compact form and back.
 pub fn encrypted_objects_go_to_compact_form_and_back()
-    ensures { FormatsGoBack jwe_fmt_answer }
+    ensures { FormatsGoBack (jwe_fmt_answer limits) }
 {
     jwe_objects_are_made();
     jwe_texts_spell_objects();
 }
+
+/// Under wider limits `jwe dec`, `jws ver`, `jws fmt` and `jwe fmt` answer as under the narrower ones, for all keys and objects,
+/// unless they answer `Limit` under these.
+pub fn wider_limits_keep_what_is_read()
+    ensures { (narrower wider : Limits) → AreWider narrower wider → ReadsAsBefore narrower wider }
+{}
+
+/// So does `jwe enc`, where no recipient is a password, or the template gives the count of iterations.
+pub fn wider_limits_keep_what_is_encrypted()
+    ensures { (narrower wider : Limits) → AreWider narrower wider → EncryptsAsBefore narrower wider }
+{}

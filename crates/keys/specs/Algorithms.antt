@@ -58,8 +58,11 @@ encryption_algs = A128CbcHs256 ∷ A192CbcHs384 ∷ A256CbcHs512 ∷ A128Gcm ∷
 unfoldable pub signature_alg_of : List ℕ → Option SignatureAlg
 signature_alg_of name = find (λ alg. bytes_eq name (signature_name alg)) signature_algs
 
-unfoldable pub management_alg_of : List ℕ → Option ManagementAlg
-management_alg_of name = find (λ alg. bytes_eq name (management_name alg)) management_algs
+unfoldable pub management_alg_among : List ManagementAlg → List ℕ → Option ManagementAlg
+management_alg_among algs name = find (λ alg. bytes_eq name (management_name alg)) algs
+
+abbrev pub management_alg_of : List ℕ → Option ManagementAlg
+management_alg_of name = management_alg_among management_algs name
 
 unfoldable pub encryption_alg_of : List ℕ → Option EncryptionAlg
 encryption_alg_of name = find (λ alg. bytes_eq name (encryption_name alg)) encryption_algs

@@ -1,5 +1,8 @@
--- The limits of this profile. A definition that tests one takes them, so that a law can speak of two values.
-use Rattle.std.specs.Prelude.{ℕ}
+-- The limits of this profile, and the algorithms that it has. A definition that tests one takes them, so that a law can speak of two
+-- values.
+use Rattle.std.specs.Prelude.{ℕ, List}
+use Rattle.keys.specs.declared.algorithm.ManagementAlg.{ManagementAlg}
+use Rattle.keys.specs.Algorithms.{management_algs}
 
 pub record Limits : Type 0 where
   -- the most keys of a set, the good and the others, and the most octets of a key
@@ -16,6 +19,8 @@ pub record Limits : Type 0 where
   pub usual_p2c : ℕ
   -- the greatest sum of p2c over the recipients of an object, and over the pairs that are tried
   pub p2c_sum : ℕ
+  -- the algorithms of key management
+  pub management : List ManagementAlg
 
 -- those of this profile
 abbrev pub limits : Limits
@@ -29,4 +34,5 @@ limits = record {
   greatest_p2c = 1000000;
   usual_p2c = 10000;
   p2c_sum = 4000000;
+  management = management_algs;
 }

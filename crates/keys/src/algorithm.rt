@@ -115,7 +115,7 @@ impl SignatureAlg {
 
 impl ManagementAlg {
     /// The algorithm of this name.
-    #[tactic(auto, unfolding(crate::specs::Algorithms::management_alg_of))]
+    #[tactic(auto, unfolding(crate::specs::Algorithms::management_alg_among))]
     pub fn named(name: &str) -> Option<ManagementAlg>
         ensures { result ≡ management_alg_of name.now }
     {
@@ -132,7 +132,7 @@ impl ManagementAlg {
     }
 
     /// Its name.
-    #[tactic(auto, unfolding(crate::specs::Algorithms::management_alg_of))]
+    #[tactic(auto, unfolding(crate::specs::Algorithms::management_alg_among))]
     pub fn name(self) -> &'static str
         ensures name { result.now ≡ management_name self }
         ensures found { management_alg_of result.now ≡ Some self }

@@ -73,7 +73,7 @@ object_spelled limits t o h =
     let a = steps (needs (nat_le (length t.recipients) limits.recipients) Limit) _ o h in
     let b = steps (decoded t.shared.protected) _ o a.2 in
     let c = steps (parts_of_texts t) _ o b.2 in
-    parts_spelled t (parts_of o) (c.1 ∙ ap Ok (sym (object_is b.0 c.0 o c.2)))
+    parts_spelled t (parts_of o) (c.1 ∙ ap Ok (sym (object_is limits.management b.0 c.0 o c.2)))
 
 -- one recipient without a header stands in a compact text, where nothing is shared that is not protected
 compact_text_is : (detach : Bool) (o : EncryptedObject) (r : RecipientParts) → map recipient_parts_of o.recipients ≡ r ∷ [] → o.unprotected ≡ no_members → r.header ≡ no_members → o.aad ≡ []

@@ -57,7 +57,7 @@ object_spelled limits t o h =
     let a = steps (needs (nat_le (length t.signatures) limits.recipients) Limit) _ o h in
     let b = steps (decoded t.payload) _ o a.2 in
     let c = steps (each decoded_texts t.signatures) _ o b.2 in
-    let is = signed_is b.0 c.0 o c.2 in
+    let is = signed_is limits.management b.0 c.0 o c.2 in
     record { payload = b.1 ∙ ap Ok (sym is.payload); decoded_signatures = c.0; decodes = c.1; signatures = is.signatures }
 
 -- one signature without an unprotected header stands in a compact text

@@ -12,6 +12,7 @@ use Rattle.octets.specs.Base64url.{base64url, decoded}
 use Rattle.octets.specs.Octets.{IsOctets}
 use Rattle.octets.specs.Outcomes.{◌>>=◌, needs}
 use Rattle.keys.specs.JsonTexts.{IsJson, AreJsonMembers}
+use Rattle.keys.specs.declared.algorithm.ManagementAlg.{ManagementAlg}
 use Rattle.keys.specs.Limits.{Limits}
 use Rattle.objects.specs.Headers.{header_at}
 use Rattle.objects.specs.Jwe.{JweParts, RecipientParts, EncryptedObject, JweTexts, RecipientTexts, shared_texts, recipient_texts, content_texts, no_recipient_at, recipients_by, recipient_objects, json_texts, recipient_parts, parts_of_texts, encrypted_object, object_of_texts, nest_at_most, is_shallow, have_whole_numbers, built, put_shared, put_recipient, put_recipients, parts_of, AreMembers}
@@ -139,8 +140,8 @@ members_are_put detach parts =
 -- ---- the members of which an object is made
 
 -- an object has their texts
-pub object_keeps : (octets : List ℕ) (parts : JweParts) (o : EncryptedObject) → encrypted_object octets parts ≡ Ok o → spelled o ≡ parts_spelled parts
-object_keeps octets parts o h = ap parts_spelled (object_is octets parts o h)
+pub object_keeps : (algs : List ManagementAlg) (octets : List ℕ) (parts : JweParts) (o : EncryptedObject) → encrypted_object algs octets parts ≡ Ok o → spelled o ≡ parts_spelled parts
+object_keeps algs octets parts o h = ap parts_spelled (object_is algs octets parts o h)
 
 -- what holds of an object that is made of these parts
 pub record IsBuilt (limits : Limits) (parts : JweParts) (o : EncryptedObject) : Type 0 where
@@ -149,7 +150,7 @@ pub record IsBuilt (limits : Limits) (parts : JweParts) (o : EncryptedObject) : 
   pub few : nat_le (length parts.recipients) limits.recipients ≡ true
   pub octets : List ℕ
   pub decodes : decoded parts.protected ≡ Ok octets
-  pub made : encrypted_object octets parts ≡ Ok o
+  pub made : encrypted_object limits.management octets parts ≡ Ok o
 
 pub is_built : (limits : Limits) (parts : JweParts) (o : EncryptedObject) → built limits parts ≡ Ok o → IsBuilt limits parts o
 unfolding built
@@ -158,7 +159,7 @@ is_built limits parts o h =
     let b = steps (needs (have_whole_numbers parts) Number) _ o a.2 in
     let c = steps (needs (nat_le 1 (length parts.recipients)) Form) _ o b.2 in
     let d = steps (needs (nat_le (length parts.recipients) limits.recipients) Limit) _ o c.2 in
-    let e = steps (decoded parts.protected) (λ octets. encrypted_object octets parts) o d.2 in
+    let e = steps (decoded parts.protected) (λ octets. encrypted_object limits.management octets parts) o d.2 in
     record {
       shallow = passed _ Json a.0 a.1;
       some = passed _ Form c.0 c.1;
@@ -173,7 +174,7 @@ abbrev pub decoding : Limits → JweParts → Result EncryptedObject Refusal
 decoding limits parts = do
   few ← needs (nat_le (length parts.recipients) limits.recipients) Limit
   octets ← decoded parts.protected
-  encrypted_object octets parts
+  encrypted_object limits.management octets parts
 
 -- the texts of the parts decode to these
 parts_read : Laws → (parts : JweParts) → AreMembers parts → parts_of_texts (parts_spelled parts) ≡ Ok parts

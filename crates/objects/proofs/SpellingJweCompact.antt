@@ -76,7 +76,7 @@ compact_text_spells laws spells limits parts o members is detach text h =
     let ciphertext : List ℕ = base64url o.ciphertext in
     let tag : List ℕ = base64url o.tag in
     let texts : parts_spelled parts ≡ compact protected key iv ciphertext tag =
-    sym (object_keeps is.octets parts o is.made) ∙ only_recipient spells o o.recipients refl (passed _ NotCompact a.0 a.1) in
+    sym (object_keeps limits.management is.octets parts o is.made) ∙ only_recipient spells o o.recipients refl (passed _ NotCompact a.0 a.1) in
     let part = kept_text laws.exact detach o.ciphertext in
     let joined : text ≡ between_dots (protected ∷ key ∷ iv ∷ kept detach ciphertext ∷ tag ∷ []) = sym (same_answer _ text a.2) ∙ rw part (simp append_assoc) in
     ap (jwe_of limits (handed_in detach o.ciphertext)) joined
@@ -88,7 +88,7 @@ json_text_spells : BuildingIsReading → (limits : Limits) (parts : JweParts) (o
     → jwe_of limits (handed_in detach o.ciphertext) (json_text detach o) ≡ Ok o
 json_text_spells reading limits parts o members h detach =
     let is = is_built limits parts o h in
-    ap (λ (p : JweParts). jwe_of limits (handed_in detach p.ciphertext) (members_text detach p)) (object_is is.octets parts o is.made) ∙ sym (reading limits parts members detach) ∙ h
+    ap (λ (p : JweParts). jwe_of limits (handed_in detach p.ciphertext) (members_text detach p)) (object_is limits.management is.octets parts o is.made) ∙ sym (reading limits parts members detach) ∙ h
 
 -- an object that is made of its members is what its texts spell
 pub texts_spell_objects : Laws → DeepTextsAreRefused → SpellsSixBits → TextsSpellObjects

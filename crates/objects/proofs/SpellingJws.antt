@@ -118,7 +118,7 @@ pub record IsBuilt (limits : Limits) (parts : JwsParts) (o : SignedObject) : Typ
   pub few : nat_le (length parts.signatures) limits.recipients ≡ true
   pub decoded : List DecodedSignature
   pub decodes : each decoded_signature parts.signatures ≡ Ok decoded
-  pub made : signed_object parts.payload decoded ≡ Ok o
+  pub made : signed_object limits.management parts.payload decoded ≡ Ok o
 
 pub is_built : (limits : Limits) (parts : JwsParts) (o : SignedObject) → built limits parts ≡ Ok o → IsBuilt limits parts o
 unfolding built
@@ -127,7 +127,7 @@ is_built limits parts o h =
     let b = steps (needs (have_whole_numbers parts.signatures) Number) _ o a.2 in
     let c = steps (needs (nat_le 1 (length parts.signatures)) Form) _ o b.2 in
     let d = steps (needs (nat_le (length parts.signatures) limits.recipients) Limit) _ o c.2 in
-    let e = steps (each decoded_signature parts.signatures) (λ signatures. signed_object parts.payload signatures) o d.2 in
+    let e = steps (each decoded_signature parts.signatures) (λ signatures. signed_object limits.management parts.payload signatures) o d.2 in
     record {
       shallow = passed _ Json a.0 a.1;
       some = passed _ Form c.0 c.1;
@@ -146,7 +146,7 @@ decoded_is p d h =
 -- an object has these members
 pub parts_are : (limits : Limits) (parts : JwsParts) (o : SignedObject) → IsBuilt limits parts o → parts_of o ≡ parts
 parts_are limits parts o is =
-    let signed = signed_is parts.payload is.decoded o is.made in
+    let signed = signed_is limits.management parts.payload is.decoded o is.made in
     let kept = each_keeps decoded_signature (λ p. p) (λ (d : DecodedSignature). d.parts) decoded_is parts.signatures is.decoded is.decodes ∙ map-id parts.signatures in
     ap₂ (λ payload signatures. let p : JwsParts = record { payload = payload; signatures = signatures } in p) signed.payload (signed.signatures ∙ kept)
 
@@ -159,7 +159,7 @@ abbrev pub decoding : Limits → JwsParts → Result SignedObject Refusal
 decoding limits parts = do
   few ← needs (nat_le (length parts.signatures) limits.recipients) Limit
   signatures ← each decoded_signature parts.signatures
-  signed_object parts.payload signatures
+  signed_object limits.management parts.payload signatures
 
 -- the texts of the parts are read so
 pub decoding_is : Laws → (limits : Limits) (parts : JwsParts) → AreMembers parts → object_of_texts limits (parts_spelled parts) ≡ decoding limits parts

@@ -8,7 +8,7 @@ use Rattle.octets.specs.declared.refusal.Refusal.TheVariants.{Form, Header}
 use Rattle.octets.specs.Outcomes.{◌>>=◌, needs}
 use Rattle.octets.specs.Base64url.{decoded}
 use Rattle.keys.specs.declared.algorithm.ManagementAlg.{ManagementAlg}
-use Rattle.keys.specs.Algorithms.{management_alg_of, is_password_based}
+use Rattle.keys.specs.Algorithms.{management_alg_among, is_password_based}
 use Rattle.keys.specs.Json.{json_value}
 
 -- ---- a header in a JSON value
@@ -141,9 +141,9 @@ password_parameters header = do
   some ← needs (nat_le 1 p2c) Header
   Ok (record { p2s = p2s; p2c = p2c })
 
-abbrev pub parameters_of : List ℕ → Members → Result PasswordParameters Refusal
-parameters_of alg header =
-    if reads_password (management_alg_of alg) then password_parameters header else Ok (record { p2s = []; p2c = 0 })
+abbrev pub parameters_of : List ManagementAlg → List ℕ → Members → Result PasswordParameters Refusal
+parameters_of algs alg header =
+    if reads_password (management_alg_among algs alg) then password_parameters header else Ok (record { p2s = []; p2c = 0 })
 
 -- ---- members that are refused
 

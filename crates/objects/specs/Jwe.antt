@@ -11,6 +11,7 @@ use Rattle.octets.specs.Outcomes.{◌>>=◌, needs}
 use Rattle.octets.specs.Octets.{IsOctets}
 use Rattle.octets.specs.Base64url.{base64url, decoded}
 use Rattle.octets.specs.LineEnds.{without_line_end}
+use Rattle.keys.specs.declared.algorithm.ManagementAlg.{ManagementAlg}
 use Rattle.keys.specs.Json.{json_value, member_numbers_are_whole}
 use Rattle.keys.specs.JsonTexts.{AreJsonMembers}
 use Rattle.keys.specs.Limits.{Limits}
@@ -179,21 +180,21 @@ without_ciphertext o = record {
 -- ---- the header of a recipient
 
 -- a recipient, by its joint header
-unfoldable pub recipient_by : Members → RecipientParts → Result Recipient Refusal
-recipient_by header parts = do
+unfoldable pub recipient_by : List ManagementAlg → Members → RecipientParts → Result Recipient Refusal
+recipient_by algs header parts = do
   alg ← string_there (codes "alg") header
   enc ← string_there (codes "enc") header
-  parameters ← parameters_of alg header
+  parameters ← parameters_of algs alg header
   Ok (record { header = parts.header; encrypted_key = parts.encrypted_key; alg = alg; enc = enc; p2s = parameters.p2s; p2c = parameters.p2c })
 
-unfoldable pub recipient_of : Members → Members → RecipientParts → Result Recipient Refusal
-recipient_of protected unprotected parts = do
+unfoldable pub recipient_of : List ManagementAlg → Members → Members → RecipientParts → Result Recipient Refusal
+recipient_of algs protected unprotected parts = do
   header ← joint_header protected unprotected parts.header
-  recipient_by header parts
+  recipient_by algs header parts
 
 -- all of them, in order
-abbrev pub recipients_of : Members → Members → List RecipientParts → Result (List Recipient) Refusal
-recipients_of protected unprotected parts = each (recipient_of protected unprotected) parts
+abbrev pub recipients_of : List ManagementAlg → Members → Members → List RecipientParts → Result (List Recipient) Refusal
+recipients_of algs protected unprotected parts = each (recipient_of algs protected unprotected) parts
 
 -- `enc` is the same for all
 abbrev pub have_enc : List ℕ → List Recipient → Bool
@@ -203,9 +204,9 @@ abbrev pub have_one_enc : List Recipient → Bool
 have_one_enc [] = true
 have_one_enc (first ∷ rest) = have_enc first.enc (first ∷ rest)
 
-unfoldable pub recipients_of_one_enc : Members → Members → List RecipientParts → Result (List Recipient) Refusal
-recipients_of_one_enc protected unprotected parts = do
-  recipients ← recipients_of protected unprotected parts
+unfoldable pub recipients_of_one_enc : List ManagementAlg → Members → Members → List RecipientParts → Result (List Recipient) Refusal
+recipients_of_one_enc algs protected unprotected parts = do
+  recipients ← recipients_of algs protected unprotected parts
   one ← needs (have_one_enc recipients) Header
   Ok recipients
 
@@ -220,10 +221,10 @@ abbrev pub are_plain : Members → Members → List RecipientParts → Bool
 are_plain protected unprotected recipients = is_plain protected && (is_plain unprotected && list_all (λ r. is_plain r.header) recipients)
 
 -- the object with these members and these octets of its protected header
-unfoldable pub encrypted_object : List ℕ → JweParts → Result EncryptedObject Refusal
-encrypted_object octets parts = do
+unfoldable pub encrypted_object : List ManagementAlg → List ℕ → JweParts → Result EncryptedObject Refusal
+encrypted_object algs octets parts = do
   protected ← protected_members octets
-  recipients ← recipients_of_one_enc protected parts.unprotected parts.recipients
+  recipients ← recipients_of_one_enc algs protected parts.unprotected parts.recipients
   plain ← needs (are_plain protected parts.unprotected parts.recipients) Unsupported
   Ok (record { protected = parts.protected; protected_members = protected; unprotected = parts.unprotected; iv = parts.iv; aad = parts.aad; ciphertext = parts.ciphertext; tag = parts.tag; recipients = recipients })
 
@@ -233,7 +234,7 @@ object_of_texts limits texts = do
   few ← needs (nat_le (length texts.recipients) limits.recipients) Limit
   octets ← decoded texts.shared.protected
   parts ← parts_of_texts texts
-  encrypted_object octets parts
+  encrypted_object limits.management octets parts
 
 -- the object of a text, and of a ciphertext where one was handed in, or the first refusal
 unfoldable pub jwe_of : Limits → Option (List ℕ) → List ℕ → Result EncryptedObject Refusal
@@ -261,7 +262,7 @@ built limits parts = do
   some ← needs (nat_le 1 (length parts.recipients)) Form
   few ← needs (nat_le (length parts.recipients) limits.recipients) Limit
   octets ← decoded parts.protected
-  encrypted_object octets parts
+  encrypted_object limits.management octets parts
 
 -- ---- its texts
 

@@ -11,6 +11,7 @@ use Rattle.octets.specs.Outcomes.{◌>>=◌, needs}
 use Rattle.octets.specs.Octets.{IsOctets}
 use Rattle.octets.specs.Base64url.{base64url, decoded}
 use Rattle.octets.specs.LineEnds.{without_line_end}
+use Rattle.keys.specs.declared.algorithm.ManagementAlg.{ManagementAlg}
 use Rattle.keys.specs.Json.{json_value, member_numbers_are_whole}
 use Rattle.keys.specs.JsonTexts.{AreJsonMembers}
 use Rattle.keys.specs.Limits.{Limits}
@@ -126,11 +127,11 @@ headed_signature s = do
   Ok (record { members = members; parts = s.parts })
 
 -- Its headers have no name in common, and name the algorithm together, with the parameters of a password where it reads them.
-unfoldable pub signature_by : HeadedSignature → Result Signature Refusal
-signature_by s = do
+unfoldable pub signature_by : List ManagementAlg → HeadedSignature → Result Signature Refusal
+signature_by algs s = do
   header ← joint_header s.members no_members s.parts.header
   alg ← string_there (codes "alg") header
-  parameters ← parameters_of alg header
+  parameters ← parameters_of algs alg header
   Ok (record { protected = s.parts.protected; protected_members = s.members; header = s.parts.header; signature = s.parts.signature; alg = alg })
 
 -- neither header has a `crit`
@@ -138,17 +139,17 @@ abbrev pub is_plain : HeadedSignature → Bool
 is_plain s = has_no_crit s.members && has_no_crit s.parts.header
 
 -- Each step is taken for every signature before the next.
-unfoldable pub signatures_of : List DecodedSignature → Result (List Signature) Refusal
-signatures_of decoded = do
+unfoldable pub signatures_of : List ManagementAlg → List DecodedSignature → Result (List Signature) Refusal
+signatures_of algs decoded = do
   headed ← each headed_signature decoded
-  signatures ← each signature_by headed
+  signatures ← each (signature_by algs) headed
   plain ← needs (list_all is_plain headed) Unsupported
   Ok signatures
 
 -- the object of a payload and these signatures
-unfoldable pub signed_object : List ℕ → List DecodedSignature → Result SignedObject Refusal
-signed_object payload decoded = do
-  signatures ← signatures_of decoded
+unfoldable pub signed_object : List ManagementAlg → List ℕ → List DecodedSignature → Result SignedObject Refusal
+signed_object algs payload decoded = do
+  signatures ← signatures_of algs decoded
   Ok (record { payload = payload; signatures = signatures })
 
 -- the object whose members have these texts; it has not too many signatures
@@ -157,7 +158,7 @@ object_of_texts limits texts = do
   few ← needs (nat_le (length texts.signatures) limits.recipients) Limit
   payload ← decoded texts.payload
   signatures ← each decoded_texts texts.signatures
-  signed_object payload signatures
+  signed_object limits.management payload signatures
 
 -- the object of a text, and of a payload where one was handed in, or the first refusal
 unfoldable pub jws_of : Limits → Option (List ℕ) → List ℕ → Result SignedObject Refusal
@@ -181,7 +182,7 @@ built limits parts = do
   some ← needs (nat_le 1 (length parts.signatures)) Form
   few ← needs (nat_le (length parts.signatures) limits.recipients) Limit
   signatures ← each decoded_signature parts.signatures
-  signed_object parts.payload signatures
+  signed_object limits.management parts.payload signatures
 
 -- ---- its texts
 

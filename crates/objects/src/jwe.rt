@@ -187,7 +187,7 @@ pub(crate) fn encrypted_object(
     members: JweMembers,
 ) -> Result<Jwe, Refusal>
     requires few { length members.recipients.items ≤ limits.recipients }
-    ensures { AgreesUnlessMemory jwe_view result (encrypted_object_of octets.now (jwe_members_view members)) }
+    ensures { AgreesUnlessMemory jwe_view result (encrypted_object_of limits.management octets.now (jwe_members_view members)) }
 {
     let JweMembers {
         protected,
@@ -250,7 +250,7 @@ fn recipients_of_one_enc(
 ) -> Result<Vec<Recipient>, Refusal>
     ensures as_many { IfOk result (λ recipients. length recipients.items ≡ length parts.items) }
     ensures exact { AgreesUnlessMemory (λ recipients. map recipient_view recipients.items) result
-        (recipients_of_one_enc (members_view protected.now.entries) (members_view unprotected.now.entries) (map recipient_members_view parts.items)) }
+        (recipients_of_one_enc limits.management (members_view protected.now.entries) (members_view unprotected.now.entries) (map recipient_members_view parts.items)) }
 {
     let recipients = read_recipients(alloc, protected, unprotected, parts)?;
     needs(have_one_enc(&recipients), Refusal::Header)?;
@@ -266,7 +266,7 @@ fn read_recipients(
     parts: Vec<RecipientMembers>,
 ) -> Result<Vec<Recipient>, Refusal>
     ensures { AgreesUnlessMemory (λ recipients. map recipient_view recipients.items) result
-        (recipients_of (members_view protected.now.entries) (members_view unprotected.now.entries) (map recipient_members_view parts.items)) }
+        (recipients_of limits.management (members_view protected.now.entries) (members_view unprotected.now.entries) (map recipient_members_view parts.items)) }
 {
     let mut recipients = Vec::new(alloc);
     for recipient in parts {

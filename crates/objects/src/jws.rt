@@ -197,7 +197,7 @@ pub(crate) fn signed_object(
     signatures: Vec<DecodedSignature>,
 ) -> Result<Jws, Refusal>
     requires few { length signatures.items ≤ limits.recipients }
-    ensures { AgreesUnlessMemory jws_view result (signed_object_of payload.items (map decoded_view signatures.items)) }
+    ensures { AgreesUnlessMemory jws_view result (signed_object_of limits.management payload.items (map decoded_view signatures.items)) }
 {
     let signatures = read_signatures(alloc, signatures)?;
     Ok(Jws {
@@ -209,7 +209,7 @@ pub(crate) fn signed_object(
 /// The signatures, by their headers. Each step is taken for all before the next.
 #[tactic(auto, unfolding(crate::specs::Jws::signatures_of))]
 fn read_signatures(alloc: Global, decoded: Vec<DecodedSignature>) -> Result<Vec<Signature>, Refusal>
-    ensures exact { AgreesUnlessMemory (λ signatures. map signature_view signatures.items) result (signatures_of (map decoded_view decoded.items)) }
+    ensures exact { AgreesUnlessMemory (λ signatures. map signature_view signatures.items) result (signatures_of limits.management (map decoded_view decoded.items)) }
     ensures as_many { IfOk result (λ signatures. length signatures.items ≡ length decoded.items) }
 {
     let headed = with_headers(alloc, decoded)?;
@@ -262,7 +262,7 @@ fn is_plain(headed: &HeadedSignature) -> bool
 /// With the algorithms that their joint headers name, and have the parameters of.
 #[tactic(auto, using(crate::proofs::Each::reading))]
 fn by_headers(alloc: Global, headed: Vec<HeadedSignature>) -> Result<Vec<Signature>, Refusal>
-    ensures exact { AgreesUnlessMemory (λ signatures. map signature_view signatures.items) result (each signature_by (map headed_view headed.items)) }
+    ensures exact { AgreesUnlessMemory (λ signatures. map signature_view signatures.items) result (each (signature_by limits.management) (map headed_view headed.items)) }
     ensures as_many { IfOk result (λ signatures. length signatures.items ≡ length headed.items) }
 {
     let mut signatures = Vec::new(alloc);
@@ -274,7 +274,7 @@ fn by_headers(alloc: Global, headed: Vec<HeadedSignature>) -> Result<Vec<Signatu
 
 #[tactic(auto, unfolding(crate::specs::Jws::signature_by, crate::specs::Headers::string_there))]
 fn by_header(alloc: Global, headed: HeadedSignature) -> Result<Signature, Refusal>
-    ensures { AgreesUnlessMemory signature_view result (signature_by (headed_view headed)) }
+    ensures { AgreesUnlessMemory signature_view result (signature_by limits.management (headed_view headed)) }
 {
     let header = Header::joint(
         Some(&headed.protected),

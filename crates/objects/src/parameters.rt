@@ -2,6 +2,7 @@
 ghost use Rattle.std.specs.Prelude.{◌≡◌, ◌≤◌, true, IfOk};
 ghost use Rattle.octets.specs.Outcomes.{AgreesUnlessMemory};
 ghost use Rattle.keys.specs.Algorithms.{management_alg_of};
+ghost use Rattle.keys.specs.Limits.{limits};
 ghost use Rattle.objects.specs.Headers.{parameters_of, password_parameters, reads_password as reads_password_by, is_count_of};
 ghost use Rattle.objects.specs.Views.{header_view, parameters_view};
 
@@ -24,7 +25,7 @@ pub(crate) fn read_parameters(
     alg: &str,
     header: Header<'_>,
 ) -> Result<Parameters, Refusal>
-    ensures exact { AgreesUnlessMemory parameters_view result (parameters_of alg.now (header_view header.entry)) }
+    ensures exact { AgreesUnlessMemory parameters_view result (parameters_of limits.management alg.now (header_view header.entry)) }
     ensures counted { IfOk result (λ parameters. is_count_of (management_alg_of alg.now) parameters.p2c ≡ true) }
 {
     if reads_password(ManagementAlg::named(alg)) {

@@ -5,6 +5,7 @@ ghost use Rattle.octets.specs.Outcomes.{AgreesUnlessMemory};
 ghost use Rattle.objects.specs.Headers.{is_count_of};
 ghost use Rattle.objects.specs.Jwe.{recipient_of, is_plain as is_plain_header};
 ghost use Rattle.keys.specs.Algorithms.{management_alg_of};
+ghost use Rattle.keys.specs.Limits.{limits};
 ghost use Rattle.objects.specs.Views.{recipient_view, recipient_members_view};
 
 use crate::Header;
@@ -51,7 +52,7 @@ pub(crate) fn read_recipient(
     unprotected: &Map<String, Value>,
     members: RecipientMembers,
 ) -> Result<Recipient, Refusal>
-    ensures { AgreesUnlessMemory recipient_view result (recipient_of (members_view protected.now.entries)
+    ensures { AgreesUnlessMemory recipient_view result (recipient_of limits.management (members_view protected.now.entries)
         (members_view unprotected.now.entries) (recipient_members_view members)) }
 {
     let header = Header::joint(

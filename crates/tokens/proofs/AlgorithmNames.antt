@@ -9,11 +9,11 @@ use Rattle.keys.specs.declared.algorithm.EncryptionAlg.{EncryptionAlg}
 use Rattle.keys.specs.declared.algorithm.EncryptionAlg.TheVariants.{A128CbcHs256, A192CbcHs384, A256CbcHs512, A128Gcm, A192Gcm, A256Gcm}
 use Rattle.keys.specs.declared.algorithm.ManagementAlg.{ManagementAlg}
 use Rattle.keys.specs.declared.algorithm.ManagementAlg.TheVariants.{Dir, A128Kw, A192Kw, A256Kw, Pbes2Hs256A128Kw, Pbes2Hs384A192Kw, Pbes2Hs512A256Kw}
-use Rattle.keys.specs.Algorithms.{management_name, encryption_name, management_algs, encryption_algs, management_alg_of, encryption_alg_of}
+use Rattle.keys.specs.Algorithms.{management_name, encryption_name, management_algs, encryption_algs, management_alg_among, management_alg_of, encryption_alg_of}
 
 -- the name of a key management names it
 pub management_named : (alg : ManagementAlg) → management_alg_of (management_name alg) ≡ Some alg
-unfolding management_alg_of
+unfolding management_alg_among
 management_named Dir = refl
 management_named A128Kw = refl
 management_named A192Kw = refl
@@ -44,7 +44,7 @@ found_by_name name_of name a (first ∷ rest) h = by_test (bytes_eq name (name_o
 
 -- so a name that names a key management is its name
 pub management_name_is : (name : List ℕ) (alg : ManagementAlg) → management_alg_of name ≡ Some alg → name ≡ management_name alg
-unfolding management_alg_of
+unfolding management_alg_among
 management_name_is name alg h = found_by_name management_name name alg management_algs h
 
 -- and one that names a content encryption

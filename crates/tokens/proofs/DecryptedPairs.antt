@@ -26,13 +26,13 @@ abbrev pub pair_by : Encryption → List ℕ → OctetKey → Receiver × List �
 pair_by e cek key x = record { recipient = made_by e cek x; algorithms = algorithms_by e x.0; key = key }
 
 -- the recipient names them
-algorithms_are : (e : Encryption) (cek : List ℕ) (x : Receiver × List ℕ) → algorithms_of (made_by e cek x) ≡ Some (algorithms_by e x.0)
+algorithms_are : (e : Encryption) (cek : List ℕ) (x : Receiver × List ℕ) → algorithms_of limits.management (made_by e cek x) ≡ Some (algorithms_by e x.0)
 unfolding algorithms_of
 algorithms_are e cek x = rw (management_named, encryption_named) refl
 
 -- so the key and the recipient are a pair where the key is a candidate
 pairs_are : (e : Encryption) (cek : List ℕ) (key : OctetKey) (x : Receiver × List ℕ)
-    → pairs_of (key ∷ []) (made_by e cek x) ≡ (if is_candidate (algorithms_by e x.0) key then pair_by e cek key x ∷ [] else [])
+    → pairs_of limits.management (key ∷ []) (made_by e cek x) ≡ (if is_candidate (algorithms_by e x.0) key then pair_by e cek key x ∷ [] else [])
 pairs_are e cek key x = rw algorithms_are (by_test (is_candidate (algorithms_by e x.0) key))
   where
     by_test : (candidate : Bool) → map (λ k. record { recipient = made_by e cek x; algorithms = algorithms_by e x.0; key = k }) (if candidate then key ∷ [] else [])
@@ -56,15 +56,15 @@ one_more false n p2c few = (omega arith, omega arith)
 -- so the pairs of all recipients take as many for each password
 pub take_at_most : (e : Encryption) (cek : List ℕ) (key : OctetKey) (receivers : List Receiver) (salts : List ℕ)
     → AllByRecursion (λ r. is_password_based r.management ≡ true → e.p2c ≤ 1000000) receivers
-    → TakeAtMost (passwords receivers * e.p2c) (all_pairs (key ∷ []) (map (made_by e cek) (salted receivers salts)))
+    → TakeAtMost (passwords receivers * e.p2c) (all_pairs limits.management (key ∷ []) (map (made_by e cek) (salted receivers salts)))
 take_at_most e cek key [] salts few = record { each_few = refl; all_few = omega arith }
 take_at_most e cek key (r ∷ rest) salts few =
     rw (pairs_are e cek key (r, take (salt_drawn r) salts))
     (by_test (is_candidate (algorithms_by e r) key) (take_at_most e cek key rest (drop (salt_drawn r) salts) few.1))
   where
-    by_test : (candidate : Bool) → TakeAtMost (passwords rest * e.p2c) (all_pairs (key ∷ []) (map (made_by e cek) (salted rest (drop (salt_drawn r) salts))))
+    by_test : (candidate : Bool) → TakeAtMost (passwords rest * e.p2c) (all_pairs limits.management (key ∷ []) (map (made_by e cek) (salted rest (drop (salt_drawn r) salts))))
         → TakeAtMost (passwords (r ∷ rest) * e.p2c)
-        ((if candidate then pair_by e cek key (r, take (salt_drawn r) salts) ∷ [] else []) ++ all_pairs (key ∷ []) (map (made_by e cek) (salted rest (drop (salt_drawn r) salts))))
+        ((if candidate then pair_by e cek key (r, take (salt_drawn r) salts) ∷ [] else []) ++ all_pairs limits.management (key ∷ []) (map (made_by e cek) (salted rest (drop (salt_drawn r) salts))))
     by_test true all =
         let here = one_more (is_password_based r.management) (passwords rest) e.p2c few.0 in
         record { each_few = and_from _ _ (le-leb _ 1000000 here.0) all.each_few; all_few = omega (arith, here.1, all.all_few) }
@@ -100,8 +100,8 @@ Opens e cek key s plaintext x = x.0.key ≡ key → (is_candidate (algorithms_by
 -- so the first pair that opens gives the plaintext, where the key opens nothing else at the recipient of a key before it
 pub first_opens : (e : Encryption) (cek : List ℕ) (key : OctetKey) (s : SealedContent) (plaintext : List ℕ) (before after : List OctetKey) (xs : List (Receiver × List ℕ))
     → map (λ x. x.0.key) xs ≡ before ++ key ∷ after → AllByRecursion (Opens e cek key s plaintext) xs
-    → AllByRecursion (OpensOnly s plaintext) (all_pairs (key ∷ []) (take (length before) (map (made_by e cek) xs)))
-    → first_opened s (all_pairs (key ∷ []) (map (made_by e cek) xs)) ≡ Some plaintext
+    → AllByRecursion (OpensOnly s plaintext) (all_pairs limits.management (key ∷ []) (take (length before) (map (made_by e cek) xs)))
+    → first_opened s (all_pairs limits.management (key ∷ []) (map (made_by e cek) xs)) ≡ Some plaintext
 first_opens e cek key s plaintext [] after [] keys all only = cc keys
 first_opens e cek key s plaintext [] after (x ∷ rest) keys all only =
     let same : x.0.key ≡ key = cc keys in
@@ -110,17 +110,17 @@ first_opens e cek key s plaintext [] after (x ∷ rest) keys all only =
 first_opens e cek key s plaintext (k ∷ before) after [] keys all only = cc keys
 first_opens e cek key s plaintext (k ∷ before) after (x ∷ rest) keys all only =
     let later : map (λ x. x.0.key) rest ≡ before ++ key ∷ after = cc keys in
-    let both = all_of_both (OpensOnly s plaintext) (pairs_of (key ∷ []) (made_by e cek x)) (all_pairs (key ∷ []) (take (length before) (map (made_by e cek) rest))) only in
-    opened_later s plaintext (pairs_of (key ∷ []) (made_by e cek x)) (all_pairs (key ∷ []) (map (made_by e cek) rest)) both.0
+    let both = all_of_both (OpensOnly s plaintext) (pairs_of limits.management (key ∷ []) (made_by e cek x)) (all_pairs limits.management (key ∷ []) (take (length before) (map (made_by e cek) rest))) only in
+    opened_later s plaintext (pairs_of limits.management (key ∷ []) (made_by e cek x)) (all_pairs limits.management (key ∷ []) (map (made_by e cek) rest)) both.0
     (first_opens e cek key s plaintext before after rest later all.1 both.1)
 
 -- ---- what is decrypted
 
 -- a recipient that is made is supported
-pub supported : (e : Encryption) (cek : List ℕ) (xs : List (Receiver × List ℕ)) → 1 ≤ length xs → list_any (λ r. is_some (algorithms_of r)) (map (made_by e cek) xs) ≡ true
+pub supported : (e : Encryption) (cek : List ℕ) (xs : List (Receiver × List ℕ)) → 1 ≤ length xs → list_any (λ r. is_some (algorithms_of limits.management r)) (map (made_by e cek) xs) ≡ true
 supported e cek [] some = absurd (omega arith)
 supported e cek (x ∷ rest) some =
-    or_left (is_some (algorithms_of (made_by e cek x))) (list_any (λ r. is_some (algorithms_of r)) (map (made_by e cek) rest)) (ap is_some (algorithms_are e cek x))
+    or_left (is_some (algorithms_of limits.management (made_by e cek x))) (list_any (λ r. is_some (algorithms_of limits.management r)) (map (made_by e cek) rest)) (ap is_some (algorithms_are e cek x))
 
 -- pairs of which one opens are some
 some_pairs : (s : SealedContent) (plaintext : List ℕ) (pairs : List Pair) → first_opened s pairs ≡ Some plaintext → has_pairs pairs ≡ true
@@ -128,11 +128,11 @@ some_pairs s plaintext [] h = cc h
 some_pairs s plaintext (pair ∷ pairs) h = refl
 
 -- so the object is decrypted to the plaintext
-pub opened_is_decrypted : (key : OctetKey) (o : EncryptedObject) (plaintext : List ℕ) → list_any (λ r. is_some (algorithms_of r)) o.recipients ≡ true
-    → TakeAtMost 4000000 (all_pairs (key ∷ []) o.recipients) → first_opened (sealed_content o) (all_pairs (key ∷ []) o.recipients) ≡ Some plaintext
+pub opened_is_decrypted : (key : OctetKey) (o : EncryptedObject) (plaintext : List ℕ) → list_any (λ r. is_some (algorithms_of limits.management r)) o.recipients ≡ true
+    → TakeAtMost 4000000 (all_pairs limits.management (key ∷ []) o.recipients) → first_opened (sealed_content o) (all_pairs limits.management (key ∷ []) o.recipients) ≡ Some plaintext
     → decrypted limits (key ∷ []) o ≡ Ok plaintext
 unfolding decrypted pairs_to_try
 opened_is_decrypted key o plaintext supported few opens =
-    let pairs : List Pair = all_pairs (key ∷ []) o.recipients in
+    let pairs : List Pair = all_pairs limits.management (key ∷ []) o.recipients in
     let sum : nat_le (all_iterations pairs) 4000000 ≡ true = le-leb (all_iterations pairs) 4000000 few.all_few in
     rw (supported, some_pairs (sealed_content o) plaintext pairs opens, few.each_few, sum, opens) refl

@@ -8,6 +8,7 @@ use Rattle.octets.specs.Octets.{IsOctets}
 use Rattle.octets.proofs.Decoded.{IsOctets-take, IsOctets-drop}
 use Rattle.ciphers.specs.Delivery.{encrypted_key_of}
 use Rattle.keys.specs.Keys.{OctetKey}
+use Rattle.keys.specs.Limits.{limits}
 use Rattle.objects.specs.Headers.{are_disjoint}
 use Rattle.objects.specs.Jwe.{RecipientParts, Recipient, recipient_of}
 use Rattle.objects.specs.Texts.{each}
@@ -157,9 +158,9 @@ as_many_salted (r ∷ rest) salts = ap suc (as_many_salted rest (drop (salt_draw
 
 -- so they are read
 pub recipients_are_read : (keys : List OctetKey) (e : Encryption) (random cek : List ℕ) → Settles keys e → Writes e random
-    → each (recipient_of (header_of e random) e.unprotected) (map (given_by e cek) (salted_by e random)) ≡ Ok (map (made_by e cek) (salted_by e random))
+    → each (recipient_of limits.management (header_of e random) e.unprotected) (map (given_by e cek) (salted_by e random)) ≡ Ok (map (made_by e cek) (salted_by e random))
 recipients_are_read keys e random cek by is =
-    each_made {P = IsWritten e random} (recipient_of (header_of e random) e.unprotected) (given_by e cek) (made_by e cek)
+    each_made {P = IsWritten e random} (recipient_of limits.management (header_of e random) e.unprotected) (given_by e cek) (made_by e cek)
     (λ x written.
     recipient_is_read e.given e.p2c x.0.management e.encryption x.1 (header_of e random) e.unprotected (own_header e x.0.management x.1) (joint_of e)
     (given_by e cek x).encrypted_key written.headed.joint written.salted.holds.awaits by.enc written.salted.octets written.salted.long)

@@ -169,14 +169,14 @@ are_members laws keys e random s by w random_octets delivers ciphertext tag =
     }
 
 -- the steps of encrypting
-pub encrypting_steps : (e : Encryption) (random plaintext : List ℕ) (o : EncryptedObject) → encrypted e random plaintext ≡ Ok o
+pub encrypting_steps : (e : Encryption) (random plaintext : List ℕ) (o : EncryptedObject) → encrypted limits e random plaintext ≡ Ok o
     → (s : Sealed) × (sealed_by (sealing_by e random) plaintext ≡ Ok s) × (built limits (parts_by e random s) ≡ Ok o)
 unfolding encrypted
 encrypting_steps e random plaintext o h = steps (sealed_by (sealing_by e random) plaintext) (λ s. built limits (parts_by e random s)) o h
 
 -- all this holds of it
 pub is_encrypted : OctetLaws → (keys : List OctetKey) (e : Encryption) (random plaintext : List ℕ) (o : EncryptedObject) → AreOctetKeys keys → IsOctets random → IsOctets plaintext
-    → length random ≡ octets_drawn e → Settles keys e → encrypted e random plaintext ≡ Ok o → IsEncrypted e random plaintext o
+    → length random ≡ octets_drawn e → Settles keys e → encrypted limits e random plaintext ≡ Ok o → IsEncrypted e random plaintext o
 is_encrypted laws keys e random plaintext o key_octets random_octets octets long by h =
     let enc = content_alg e.encryption in
     let cek : List ℕ = cek_by e random in
@@ -220,15 +220,15 @@ written_is compact detach o texts h =
 -- what a template and keys settle, and the plan by the random octets that are drawn
 pub plan_is : (compact detach : Bool) (keys : List OctetKey) (template random : List ℕ) (plan : Plan OutputTexts) → plan_from (encrypting_by limits compact detach keys template) random ≡ Ok plan
     → (e : Encryption) × (encryption_of limits compact keys template ≡ Ok e) × (length (take (octets_drawn e) random) ≡ octets_drawn e)
-    × (plan_by compact detach e (take (octets_drawn e) random) ≡ plan)
+    × (plan_by limits compact detach e (take (octets_drawn e) random) ≡ plan)
 unfolding encrypting_by
 plan_is compact detach keys template random plan h =
     let draft = steps (encrypting_by limits compact detach keys template) _ plan h in
     let enough = steps (needs (nat_le draft.0.drawn (length random)) Random) _ plan draft.2 in
     let settled = steps (encryption_of limits compact keys template) _ draft.0 draft.1 in
     let e : Encryption = settled.0 in
-    let made : Draft OutputTexts = record { drawn = octets_drawn e; plan = plan_by compact detach e } in
+    let made : Draft OutputTexts = record { drawn = octets_drawn e; plan = plan_by limits compact detach e } in
     let same : made ≡ draft.0 = same_answer made draft.0 settled.2 in
     let room : nat_le (octets_drawn e) (length random) ≡ true = ap (λ (d : Draft OutputTexts). nat_le d.drawn (length random)) same ∙ passed _ Random enough.0 enough.1 in
-    let whole : plan_by compact detach e (take (octets_drawn e) random) ≡ plan = ap (λ (d : Draft OutputTexts). d.plan (take d.drawn random)) same ∙ same_answer _ plan enough.2 in
+    let whole : plan_by limits compact detach e (take (octets_drawn e) random) ≡ plan = ap (λ (d : Draft OutputTexts). d.plan (take d.drawn random)) same ∙ same_answer _ plan enough.2 in
     (e, settled.1, length-take-le (octets_drawn e) random (leb-true (octets_drawn e) (length random) room), whole)

@@ -97,19 +97,19 @@ decrypts laws before after key e random plaintext o by random_octets long may is
     all_both (λ x may delivers. key_opens laws e cek key x s plaintext is.members.iv may.holds.0 may.holds.1 delivers is.opens) xs each_may is.delivers in
     let few : AllByRecursion (λ r. is_password_based r.management ≡ true → e.p2c ≤ 1000000) e.receivers =
     all_then (Receives e) _ (λ r receives password. (receives.awaits.count password).few) e.receivers by.receive in
-    let most : TakeAtMost (passwords e.receivers * e.p2c) (all_pairs (key ∷ []) all.recipients) = take_at_most e cek key e.receivers (salts_by e random) few in
+    let most : TakeAtMost (passwords e.receivers * e.p2c) (all_pairs limits.management (key ∷ []) all.recipients) = take_at_most e cek key e.receivers (salts_by e random) few in
     opened_is_decrypted key all plaintext (supported e cek xs (omega (arith, as_many_salted e.receivers (salts_by e random), by.some)))
     (record { each_few = most.each_few; all_few = omega (arith, most.all_few, by.few) })
     (first_opens e cek key s plaintext before after xs (keys_of_salted e.receivers (salts_by e random) ∙ by.keys_are) each_opens only)
 
 -- so what is written of it is that of an object which is decrypted
 read_and_decrypted : Laws → (compact detach : Bool) (keys : List OctetKey) (e : Encryption) (random plaintext : List ℕ) (texts : OutputTexts)
-    → AreOctetKeys keys → IsOctets random → IsOctets plaintext → length random ≡ octets_drawn e → Settles keys e → (encrypted e random plaintext >>= written_of compact detach) ≡ Ok texts
+    → AreOctetKeys keys → IsOctets random → IsOctets plaintext → length random ≡ octets_drawn e → Settles keys e → (encrypted limits e random plaintext >>= written_of compact detach) ≡ Ok texts
     → (o : EncryptedObject) × ((jwe_of limits (handed_in detach texts.content) texts.text ≡ Ok o)
     × ((before after : List OctetKey) (key : OctetKey) → keys ≡ before ++ key ∷ after → AllByRecursion (λ r. r.key ≡ key → allows key (management_operations r.management).1 ≡ true) e.receivers
     → OpensNoOther (length before) key o plaintext → decrypted limits (key ∷ []) o ≡ Ok plaintext))
 read_and_decrypted laws compact detach keys e random plaintext texts key_octets random_octets octets long by h =
-    let o = steps (encrypted e random plaintext) (written_of compact detach) texts h in
+    let o = steps (encrypted limits e random plaintext) (written_of compact detach) texts h in
     let is : IsEncrypted e random plaintext o.0 = is_encrypted laws.octets keys e random plaintext o.0 key_octets random_octets octets long by o.1 in (
       o.0,
       (

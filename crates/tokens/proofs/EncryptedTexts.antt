@@ -47,7 +47,7 @@ has_text false detach e random s alone some = (json_text detach (object_by e ran
 
 -- and every plaintext that is not too long
 whole_text : (compact detach : Bool) (keys : List OctetKey) (e : Encryption) (random plaintext : List ℕ) → Settles keys e → Writes e random → nat_le (length e.receivers) limits.recipients ≡ true
-    → holds_no_more compact e ≡ true → IfErr ((plan_by compact detach e random).whole plaintext) (λ refusal. refusal ≡ Limit)
+    → holds_no_more compact e ≡ true → IfErr ((plan_by limits compact detach e random).whole plaintext) (λ refusal. refusal ≡ Limit)
 unfolding encrypted sealed_by
 whole_text compact detach keys e random plaintext by w few alone = by_test (not (is_longer (length plaintext) (sealing_by e random).longest))
   where

@@ -52,13 +52,13 @@ fixed_begins e random p q short =
 -- ---- the text
 
 -- what is fixed of it goes on as what is fixed of the ciphertext does
-text_goes_on : (compact detach : Bool) (e : Encryption) (random x y : List ℕ) → Begins x y → Begins (text_fixed compact detach e random x) (text_fixed compact detach e random y)
+text_goes_on : (compact detach : Bool) (e : Encryption) (random x y : List ℕ) → Begins x y → Begins (text_fixed limits compact detach e random x) (text_fixed limits compact detach e random y)
 text_goes_on compact true e random x y b = empty_begins []
-text_goes_on compact false e random x y b = begins_behind (text_before compact e random) _ _ (groups_grow x y b)
+text_goes_on compact false e random x y b = begins_behind (text_before limits compact e random) _ _ (groups_grow x y b)
 
 -- and begins the frame with the ciphertext and the tag in it
-text_begins : (compact detach : Bool) (e : Encryption) (random : List ℕ) (texts : List (List ℕ)) (x : List ℕ) (s : Sealed) → frame_by compact detach e random ≡ Ok texts
-    → length texts ≡ (if detach then 2 else 3) → Begins x s.ciphertext → Begins (text_fixed compact detach e random x) (filled texts (in_places detach s.ciphertext (s.tag ∷ [])))
+text_begins : (compact detach : Bool) (e : Encryption) (random : List ℕ) (texts : List (List ℕ)) (x : List ℕ) (s : Sealed) → frame_by limits compact detach e random ≡ Ok texts
+    → length texts ≡ (if detach then 2 else 3) → Begins x s.ciphertext → Begins (text_fixed limits compact detach e random x) (filled texts (in_places detach s.ciphertext (s.tag ∷ [])))
 text_begins compact true e random texts x s is places b = empty_begins _
 text_begins compact false e random texts x s is places b =
     subst (λ r. Begins (first_text r ++ base64url (whole_groups x)) (filled texts (in_places false s.ciphertext (s.tag ∷ [])))) (sym is)
@@ -68,11 +68,11 @@ text_begins compact false e random texts x s is places b =
 
 -- by just as many random octets as are drawn, what is fixed begins what is written
 written_begins : OctetLaws → (compact detach : Bool) (keys : List OctetKey) (template : List ℕ) (e : Encryption) (random p q : List ℕ) (texts : OutputTexts) → AreOctetKeys keys → IsOctets random
-    → IsOctets (p ++ q) → length random ≡ octets_drawn e → encryption_of limits compact keys template ≡ Ok e → (plan_by compact detach e random).whole (p ++ q) ≡ Ok texts
-    → BothBegin ((plan_by compact detach e random).fixed p) texts
+    → IsOctets (p ++ q) → length random ≡ octets_drawn e → encryption_of limits compact keys template ≡ Ok e → (plan_by limits compact detach e random).whole (p ++ q) ≡ Ok texts
+    → BothBegin ((plan_by limits compact detach e random).fixed p) texts
 written_begins laws compact detach keys template e random p q texts key_octets random_octets octets long is h =
     let front : List ℕ = ciphertext_fixed e random p in
-    let o = steps (encrypted e random (p ++ q)) (written_of compact detach) texts h in
+    let o = steps (encrypted limits e random (p ++ q)) (written_of compact detach) texts h in
     let made = encrypting_steps e random (p ++ q) o.0 o.1 in
     let s : Sealed = made.0 in
     let sealed = sealed_is (sealing_by e random) (p ++ q) s made.1 in
@@ -81,7 +81,7 @@ written_begins laws compact detach keys template e random p q texts key_octets r
     let framed = has_frame compact keys template e random is few random_octets long detach in
     let begins : Begins front s.ciphertext = subst (λ (x : Sealed). Begins front x.ciphertext) sealed.1 (fixed_begins e random p q sealed.0) in
     let whole = whole_is compact keys template e random is few random_octets long laws.opened cek.octets cek.fits detach framed.0 framed.1 (p ++ q) s octets made.1 in
-    subst (BothBegin ((plan_by compact detach e random).fixed p)) (same_answer _ texts (sym whole ∙ h))
+    subst (BothBegin ((plan_by limits compact detach e random).fixed p)) (same_answer _ texts (sym whole ∙ h))
     (record {
       text = text_begins compact detach e random framed.0 front s framed.1 (frame compact keys template e random is few random_octets long detach framed.0 framed.1).places begins;
       content = handed_out_begins detach front s.ciphertext begins;
@@ -95,6 +95,6 @@ encrypting_grows laws compact detach keys template random plan key_octets random
     let drawn : List ℕ = take (octets_drawn e) random in
     let drawn_octets : IsOctets drawn = IsOctets-take (octets_drawn e) random random_octets in
     subst BothGrow is.3
-    (both_grow_by_beginnings (plan_by compact detach e drawn)
+    (both_grow_by_beginnings (plan_by limits compact detach e drawn)
     (λ p q. record { text = text_goes_on compact detach e drawn _ _ (more_fixed e drawn p q); content = handed_out_begins detach _ _ (more_fixed e drawn p q) })
     (λ p q texts octets h. written_begins laws compact detach keys template e drawn p q texts key_octets drawn_octets octets is.2 is.1 h))

@@ -12,7 +12,7 @@ use Rattle.tokens.specs.Encrypting.{encrypting_by, octets_drawn, plan_by}
 -- by the octets that are drawn, whatever the random input goes on to give, the plan is theirs
 pub plan_of_drawn : (limits : Limits) (compact detach : Bool) (keys : List OctetKey) (template : List ℕ) (e : Encryption) (random octets rest : List ℕ)
     → encryption_of limits compact keys template ≡ Ok e → length random ≡ octets_drawn e → octets ≡ random ++ rest
-    → plan_from (encrypting_by limits compact detach keys template) octets ≡ Ok (plan_by compact detach e random)
+    → plan_from (encrypting_by limits compact detach keys template) octets ≡ Ok (plan_by limits compact detach e random)
 unfolding encrypting_by
 plan_of_drawn limits compact detach keys template e random octets rest is drawn continues =
     let enough : nat_le (octets_drawn e) (length octets) ≡ true = le-leb (octets_drawn e) (length octets) (omega (arith, drawn, ap length continues, length-append random rest)) in

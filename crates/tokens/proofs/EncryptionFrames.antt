@@ -48,10 +48,10 @@ module _ (compact : Bool) (keys : List OctetKey) (template : List ℕ) (e : Encr
   w = writes keys e random by random_octets long
 
   -- the object without a ciphertext has a frame
-  pub has_frame : (detach : Bool) → (texts : List (List ℕ)) × (frame_by compact detach e random ≡ Ok texts)
+  pub has_frame : (detach : Bool) → (texts : List (List ℕ)) × (frame_by limits compact detach e random ≡ Ok texts)
   has_frame detach = by_written (jwe_written true compact detach (object_by e random unsealed)) refl
     where
-      by_written : (r : Result Written Refusal) → jwe_written true compact detach (object_by e random unsealed) ≡ r → (texts : List (List ℕ)) × (frame_by compact detach e random ≡ Ok texts)
+      by_written : (r : Result Written Refusal) → jwe_written true compact detach (object_by e random unsealed) ≡ r → (texts : List (List ℕ)) × (frame_by limits compact detach e random ≡ Ok texts)
       by_written (Ok written) h = (
         all_texts written,
         ap (λ r. r >>= jwe_frame compact detach) (built_is keys e random unsealed by w few) ∙ ap (λ r. r >>= λ w. Ok (all_texts w)) h,
@@ -61,7 +61,7 @@ module _ (compact : Bool) (keys : List OctetKey) (template : List ℕ) (e : Encr
           let both : Ok text.0 ≡ Err NotCompact = sym text.1 ∙ same_text compact detach (object_by e random unsealed) ∙ (jwe_refused true compact detach (object_by e random unsealed) r h).1 in
           cc both
 
-  module _ (detach : Bool) (texts : List (List ℕ)) (framed : frame_by compact detach e random ≡ Ok texts) where
+  module _ (detach : Bool) (texts : List (List ℕ)) (framed : frame_by limits compact detach e random ≡ Ok texts) where
     -- the texts stand round the ciphertext and the tag of the object
     pub frame : IsJweFrame compact detach (object_by e random unsealed) texts
     frame =
@@ -94,8 +94,8 @@ module _ (compact : Bool) (keys : List OctetKey) (template : List ℕ) (e : Encr
         })
 
     -- they are what is written of it
-    pub whole_is : (detach : Bool) (texts : List (List ℕ)) → frame_by compact detach e random ≡ Ok texts → (p : List ℕ) (sealed : Sealed) → IsOctets p → sealed_by (sealing_by e random) p ≡ Ok sealed
-        → (plan_by compact detach e random).whole p ≡ Ok (record { text = filled texts (in_places detach sealed.ciphertext (sealed.tag ∷ [])); content = handed_out detach sealed.ciphertext })
+    pub whole_is : (detach : Bool) (texts : List (List ℕ)) → frame_by limits compact detach e random ≡ Ok texts → (p : List ℕ) (sealed : Sealed) → IsOctets p → sealed_by (sealing_by e random) p ≡ Ok sealed
+        → (plan_by limits compact detach e random).whole p ≡ Ok (record { text = filled texts (in_places detach sealed.ciphertext (sealed.tag ∷ [])); content = handed_out detach sealed.ciphertext })
     unfolding encrypted
     whole_is detach texts framed p sealed octets h =
         let is_sealed = sealed_is (sealing_by e random) p sealed h in
@@ -110,7 +110,7 @@ module _ (compact : Bool) (keys : List OctetKey) (template : List ℕ) (e : Encr
 pub is_unsealed : {S : Type 0} (is_sealing : S → Sealing → List ℕ → Type 0) (compact detach : Bool) (keys : List OctetKey) (template : List ℕ) (e : Encryption) (random octets rest : List ℕ) (sealer : S) (texts : List (List ℕ))
     → encryption_of limits compact keys template ≡ Ok e → nat_le (length e.receivers) limits.recipients ≡ true → IsOctets random → length random ≡ octets_drawn e → octets ≡ random ++ rest
     → ((alg : ContentAlg) (cek iv aad c tag p : List ℕ) → IsOctets cek → IsOctets iv → IsOpening alg cek iv aad c tag p → IsOctets c × IsOctets tag)
-    → is_sealing sealer (sealing_by e random) [] → frame_by compact detach e random ≡ Ok texts → IsOctets (cek_by e random) × (length (cek_by e random) ≡ cek_len (content_alg e.encryption))
+    → is_sealing sealer (sealing_by e random) [] → frame_by limits compact detach e random ≡ Ok texts → IsOctets (cek_by e random) × (length (cek_by e random) ≡ cek_len (content_alg e.encryption))
     → IsUnsealed is_sealing compact detach (plan_from (encrypting_by limits compact detach keys template) octets) sealer texts
 is_unsealed is_sealing compact detach keys template e random octets rest sealer texts is few random_octets long continues opened begun framed cek = record {
   encryption = e;

@@ -53,7 +53,7 @@ parts_alike header payload [] = refl
 parts_alike header payload (s ∷ signers) = ap (λ l. signature_by header payload s ∷ l) (parts_alike header payload signers)
 
 -- what is signed is the object without a payload, with this and the signatures put into it
-signed_alike : (s : Signing) (payload : List ℕ) → signed s payload ≡ (unsigned_by s >>= λ o. Ok (signed_with o payload (map (octets_by payload) s.signers)))
+signed_alike : (s : Signing) (payload : List ℕ) → signed limits s payload ≡ (unsigned_by limits s >>= λ o. Ok (signed_with o payload (map (octets_by payload) s.signers)))
 unfolding signed unsigned_by
 signed_alike s payload =
     ap (λ l. built limits (record { payload = payload; signatures = l })) (parts_alike s.header payload s.signers)
@@ -69,19 +69,19 @@ given_texts header [] = refl
 given_texts header (s ∷ signers) = ap (λ l. protected_by s ∷ l) (given_texts header signers)
 
 -- its signatures have the texts of the protected headers
-pub unsigned_are : (s : Signing) (o : SignedObject) → unsigned_by s ≡ Ok o → unsigned_protected o.signatures ≡ map protected_by s.signers
+pub unsigned_are : (s : Signing) (o : SignedObject) → unsigned_by limits s ≡ Ok o → unsigned_protected o.signatures ≡ map protected_by s.signers
 unfolding unsigned_by
 unsigned_are s o made =
     let parts : JwsParts = record { payload = []; signatures = map (unsigned_part_by s.header) s.signers } in
     let kept : spelled o ≡ parts_spelled parts = object_keeps limits parts o (is_built limits parts o made) in
     own_texts o.signatures ∙ ap (λ (t : JwsTexts). map (λ (x : SignatureTexts). x.protected) t.signatures) kept ∙ given_texts s.header s.signers
 
-pub unsigned_count : (s : Signing) (o : SignedObject) → unsigned_by s ≡ Ok o → length o.signatures ≡ length s.signers
+pub unsigned_count : (s : Signing) (o : SignedObject) → unsigned_by limits s ≡ Ok o → length o.signatures ≡ length s.signers
 unsigned_count s o made = sym (length-map o.signatures (λ x. x.protected)) ∙ ap length (unsigned_are s o made) ∙ length-map s.signers protected_by
 
 -- ---- refusals
 
-pub object_refused : (compact detach : Bool) (s : Signing) (payload : List ℕ) (e : Refusal) → unsigned_by s ≡ Err e → (plan_by compact detach s).whole payload ≡ Err e
+pub object_refused : (compact detach : Bool) (s : Signing) (payload : List ℕ) (e : Refusal) → unsigned_by limits s ≡ Err e → (plan_by limits compact detach s).whole payload ≡ Err e
 object_refused compact detach s payload e h =
     ap (λ r. r >>= written_of compact detach) (signed_alike s payload ∙ ap (λ r. r >>= λ o. Ok (signed_with o payload (map (octets_by payload) s.signers))) h)
 
@@ -89,11 +89,11 @@ same_text : (compact detach : Bool) (o : SignedObject) → text_of compact detac
 same_text true detach o = refl
 same_text false detach o = refl
 
-signed_is_with : (s : Signing) (o : SignedObject) (payload : List ℕ) → unsigned_by s ≡ Ok o → signed s payload ≡ Ok (signed_with o payload (map (octets_by payload) s.signers))
+signed_is_with : (s : Signing) (o : SignedObject) (payload : List ℕ) → unsigned_by limits s ≡ Ok o → signed limits s payload ≡ Ok (signed_with o payload (map (octets_by payload) s.signers))
 signed_is_with s o payload made = signed_alike s payload ∙ ap (λ r. r >>= λ o. Ok (signed_with o payload (map (octets_by payload) s.signers))) made
 
-pub text_refused : (compact detach : Bool) (s : Signing) (o : SignedObject) (payload : List ℕ) → unsigned_by s ≡ Ok o → jws_text compact detach o ≡ Err NotCompact
-    → (plan_by compact detach s).whole payload ≡ Err NotCompact
+pub text_refused : (compact detach : Bool) (s : Signing) (o : SignedObject) (payload : List ℕ) → unsigned_by limits s ≡ Ok o → jws_text compact detach o ≡ Err NotCompact
+    → (plan_by limits compact detach s).whole payload ≡ Err NotCompact
 text_refused compact detach s o payload made h =
     let with_all_put : SignedObject = signed_with o payload (map (octets_by payload) s.signers) in
     ap (λ r. r >>= written_of compact detach) (signed_is_with s o payload made)
@@ -102,7 +102,7 @@ text_refused compact detach s o payload made h =
 
 -- ---- what is written
 
-module _ (compact detach : Bool) (s : Signing) (o : SignedObject) (texts : List (List ℕ)) (made : unsigned_by s ≡ Ok o) (frame : IsJwsFrame compact detach o texts) where
+module _ (compact detach : Bool) (s : Signing) (o : SignedObject) (texts : List (List ℕ)) (made : unsigned_by limits s ≡ Ok o) (frame : IsJwsFrame compact detach o texts) where
   object_text : (payload : List ℕ) → IsOctets payload
       → text_of compact detach (signed_with o payload (map (octets_by payload) s.signers)) ≡ Ok (filled texts (in_places detach payload (map (octets_by payload) s.signers)))
   object_text payload octets =
@@ -111,53 +111,53 @@ module _ (compact detach : Bool) (s : Signing) (o : SignedObject) (texts : List 
 
   -- it fills the texts
   pub whole_is : (payload : List ℕ) → IsOctets payload
-      → (plan_by compact detach s).whole payload ≡ Ok (record { text = filled texts (in_places detach payload (map (octets_by payload) s.signers)); content = handed_out detach payload })
+      → (plan_by limits compact detach s).whole payload ≡ Ok (record { text = filled texts (in_places detach payload (map (octets_by payload) s.signers)); content = handed_out detach payload })
   whole_is payload octets =
       ap (λ r. r >>= written_of compact detach) (signed_is_with s o payload made)
       ∙ is_written compact detach (signed_with o payload (map (octets_by payload) s.signers)) _ (object_text payload octets)
 
 -- what is written has a frame
-pub has_frame : (compact detach : Bool) (s : Signing) (payload : List ℕ) (written : OutputTexts) → (plan_by compact detach s).whole payload ≡ Ok written
-    → (o : SignedObject) × (texts : List (List ℕ)) × (unsigned_by s ≡ Ok o) × (jws_frame compact detach o ≡ Ok texts)
-has_frame compact detach s payload written h = by_object (unsigned_by s) refl
+pub has_frame : (compact detach : Bool) (s : Signing) (payload : List ℕ) (written : OutputTexts) → (plan_by limits compact detach s).whole payload ≡ Ok written
+    → (o : SignedObject) × (texts : List (List ℕ)) × (unsigned_by limits s ≡ Ok o) × (jws_frame compact detach o ≡ Ok texts)
+has_frame compact detach s payload written h = by_object (unsigned_by limits s) refl
   where
-    by_texts : (o : SignedObject) (r : Result Written Refusal) → unsigned_by s ≡ Ok o → jws_written true compact detach o ≡ r
-        → (o : SignedObject) × (texts : List (List ℕ)) × (unsigned_by s ≡ Ok o) × (jws_frame compact detach o ≡ Ok texts)
+    by_texts : (o : SignedObject) (r : Result Written Refusal) → unsigned_by limits s ≡ Ok o → jws_written true compact detach o ≡ r
+        → (o : SignedObject) × (texts : List (List ℕ)) × (unsigned_by limits s ≡ Ok o) × (jws_frame compact detach o ≡ Ok texts)
     by_texts o (Ok w) made is = (o, all_texts w, made, ap (λ r. r >>= λ w. Ok (all_texts w)) is)
     by_texts o (Err e) made is = cc (sym h ∙ text_refused compact detach s o payload made (jws_refused true compact detach o e is).1)
 
-    by_object : (r : Result SignedObject Refusal) → unsigned_by s ≡ r → (o : SignedObject) × (texts : List (List ℕ)) × (unsigned_by s ≡ Ok o) × (jws_frame compact detach o ≡ Ok texts)
+    by_object : (r : Result SignedObject Refusal) → unsigned_by limits s ≡ r → (o : SignedObject) × (texts : List (List ℕ)) × (unsigned_by limits s ≡ Ok o) × (jws_frame compact detach o ≡ Ok texts)
     by_object (Ok o) made = by_texts o (jws_written true compact detach o) made refl
     by_object (Err e) made = cc (sym h ∙ object_refused compact detach s payload e made)
 
 -- ---- the first text of one that holds its payload
 
-module _ (compact : Bool) (s : Signing) (o : SignedObject) (first : List ℕ) (rest : List (List ℕ)) (made : unsigned_by s ≡ Ok o) (framed : jws_frame compact false o ≡ Ok (first ∷ rest))
+module _ (compact : Bool) (s : Signing) (o : SignedObject) (first : List ℕ) (rest : List (List ℕ)) (made : unsigned_by limits s ≡ Ok o) (framed : jws_frame compact false o ≡ Ok (first ∷ rest))
     (frame : IsJwsFrame compact false o (first ∷ rest)) where
-  pub first_is : first ≡ text_before compact s
+  pub first_is : first ≡ text_before limits compact s
   first_is = ap first_text (sym (ap (λ r. r >>= jws_frame compact false) made ∙ framed))
 
   -- with the text of what was read of the payload it begins what may stand
   pub inside_begins : (payload : List ℕ) (ended : Bool) → IsOctets payload
-      → Begins (beginning_of (behind first encoding) (record { octets = payload; ended = ended })) (beginning_of (plan_by compact false s) (record { octets = payload; ended = ended })).text
+      → Begins (beginning_of (behind first encoding) (record { octets = payload; ended = ended })) (beginning_of (plan_by limits compact false s) (record { octets = payload; ended = ended })).text
   inside_begins payload false octets = record { rest = []; continues = ap (λ t. t ++ base64url (whole_groups payload)) (sym first_is) ∙ sym (append-nil (first ++ base64url (whole_groups payload))) }
   inside_begins payload true octets = record {
     rest = filled rest (map base64url (map (octets_by payload) s.signers));
-    continues = ap (λ r. (result_unwrap_or r ((plan_by compact false s).fixed payload)).text) (whole_is compact false s o (first ∷ rest) made frame payload octets)
+    continues = ap (λ r. (result_unwrap_or r ((plan_by limits compact false s).fixed payload)).text) (whole_is compact false s o (first ∷ rest) made frame payload octets)
         ∙ sym (append_assoc first (base64url payload) (filled rest (map base64url (map (octets_by payload) s.signers))));
   }
 
 -- ---- what may stand
 
 pub by_signing : (compact detach : Bool) (keys : List OctetKey) (template : List ℕ) (s : Signing) → signing_of limits compact keys template ≡ Ok s
-    → signing_by limits compact detach keys template ≡ Ok (plan_by compact detach s)
+    → signing_by limits compact detach keys template ≡ Ok (plan_by limits compact detach s)
 unfolding signing_by
-by_signing compact detach keys template s h = ap (λ r. r >>= λ s. Ok (plan_by compact detach s)) h
+by_signing compact detach keys template s h = ap (λ r. r >>= λ s. Ok (plan_by limits compact detach s)) h
 
 pub signing_refused : (compact detach : Bool) (keys : List OctetKey) (template payload : List ℕ) (e : Refusal) → signing_of limits compact keys template ≡ Err e
     → planned (signing_by limits compact detach keys template) payload ≡ Err e
 unfolding signing_by
-signing_refused compact detach keys template payload e h = ap (λ r. planned (r >>= λ s. Ok (plan_by compact detach s)) payload) h
+signing_refused compact detach keys template payload e h = ap (λ r. planned (r >>= λ s. Ok (plan_by limits compact detach s)) payload) h
 
 -- ---- causes
 

@@ -14,6 +14,7 @@ use Rattle.octets.proofs.Meanings.{decodes_exactly}
 use Rattle.keys.specs.declared.algorithm.EncryptionAlg.{EncryptionAlg}
 use Rattle.keys.specs.declared.algorithm.ManagementAlg.{ManagementAlg}
 use Rattle.keys.specs.Algorithms.{management_name, encryption_name, is_password_based}
+use Rattle.keys.specs.Limits.{limits}
 use Rattle.keys.proofs.UrlTexts.{url_texts_are_json}
 use Rattle.objects.specs.Headers.{all_members, joint_header, required, if_there, string_parameter, string_there, number_parameter, salt_parameter, PasswordParameters, password_parameters, parameters_of}
 use Rattle.objects.specs.Jwe.{Recipient, recipient_by, recipient_of}
@@ -226,7 +227,7 @@ password_there named counted false alg p2c salt header before members is e = cc 
 pub recipient_is_read : (given : Given) (p2c : ℕ) (alg : ManagementAlg) (enc : EncryptionAlg) (salt : List ℕ) (p u own before : Members) (key : List ℕ)
     → IsJoint p u own (parameters_by given p2c alg salt) before → Awaits given.alg given.p2c (is_password_based alg) (management_name alg) p2c before
     → if_there as_str (get_member (codes "enc") before) ≡ Ok (Some (encryption_name enc)) → IsOctets salt → length salt ≡ (if is_password_based alg then salt_len else 0)
-    → recipient_of p u (record { header = own; encrypted_key = key }) ≡ Ok (recipient own key alg enc salt p2c)
+    → recipient_of limits.management p u (record { header = own; encrypted_key = key }) ≡ Ok (recipient own key alg enc salt p2c)
 unfolding recipient_of joint_header recipient_by string_there string_parameter
 recipient_is_read given p2c alg enc salt p u own before key joint awaits enc_there octets long =
     let header : Members = all_members p u own in
@@ -235,7 +236,7 @@ recipient_is_read given p2c alg enc salt p u own before key joint awaits enc_the
     ap (if_there as_str) (joint.members (codes "alg"))
     ∙ there_with as_str given.alg (string (management_name alg)) (management_name alg) (get_member (codes "alg") before) refl awaits.alg_there in
     let enc_read : if_there as_str (get_member (codes "enc") header) ≡ Ok (Some (encryption_name enc)) = ap (if_there as_str) (joint.members (codes "enc")) ∙ enc_there in
-    let read : parameters_of (management_name alg) header ≡ Ok (record { p2s = salt; p2c = if password then p2c else 0 }) =
+    let read : parameters_of limits.management (management_name alg) header ≡ Ok (record { p2s = salt; p2c = if password then p2c else 0 }) =
     rw management_named (read_parameters password salt p2c header
     (password_there given.alg given.p2c password (management_name alg) p2c salt header before joint.members awaits) octets long) in
     rw (joint.disjoint, alg_read, enc_read, read) refl

@@ -36,3 +36,4 @@ pub mod EncryptedRoundTrip
 pub mod EncryptingGrowth
 pub mod EncryptionFrames
 pub mod StandingCiphertexts
+pub mod MoreAlgorithms

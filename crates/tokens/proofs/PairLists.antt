@@ -4,6 +4,7 @@ use Rattle.std.proofs.lemmas.List.{length-append, length-map}
 use Rattle.std.specs.List.{filter}
 use Rattle.keys.specs.declared.key.Key.{Key}
 use Rattle.keys.specs.Keys.{OctetKey}
+use Rattle.keys.specs.Limits.{limits}
 use Rattle.keys.specs.Views.{key_view}
 use Rattle.objects.specs.declared.recipient.Recipient.{Recipient as Code}
 use Rattle.objects.specs.Jwe.{Recipient}
@@ -42,11 +43,11 @@ one_more_key r a so_far now all left rest key here added whole =
 
 -- one more recipient
 pub one_more_recipient : (keys : List OctetKey) (so_far now all : List Pair) (left rest : List Code) (r : Code) → left ≡ r ∷ rest
-    → now ≡ so_far ++ pairs_of keys (recipient_view r) → so_far ++ all_pairs keys (map recipient_view left) ≡ all → now ++ all_pairs keys (map recipient_view rest) ≡ all
+    → now ≡ so_far ++ pairs_of limits.management keys (recipient_view r) → so_far ++ all_pairs limits.management keys (map recipient_view left) ≡ all → now ++ all_pairs limits.management keys (map recipient_view rest) ≡ all
 one_more_recipient keys so_far now all left rest r here added whole =
-    let later = all_pairs keys (map recipient_view rest) in
-    ap (λ l. l ++ later) added ∙ append_assoc so_far (pairs_of keys (recipient_view r)) later
-    ∙ ap (λ l. so_far ++ all_pairs keys (map recipient_view l)) (sym here) ∙ whole
+    let later = all_pairs limits.management keys (map recipient_view rest) in
+    ap (λ l. l ++ later) added ∙ append_assoc so_far (pairs_of limits.management keys (recipient_view r)) later
+    ∙ ap (λ l. so_far ++ all_pairs limits.management keys (map recipient_view l)) (sym here) ∙ whole
 
 -- ---- how many there are
 
@@ -66,13 +67,13 @@ few_of keys r None = omega arith
 few_of keys r (Some a) = omega (arith, length-map {B = Pair} (filter (is_candidate a) keys) (λ key. record { recipient = r; algorithms = a; key = key }), few_filtered (is_candidate a) keys)
 
 -- all recipients have at most one for each of them and each key
-few : (keys : List OctetKey) (recipients : List Recipient) → length (all_pairs keys recipients) ≤ length keys * length recipients
+few : (keys : List OctetKey) (recipients : List Recipient) → length (all_pairs limits.management keys recipients) ≤ length keys * length recipients
 few keys [] = omega arith
 few keys (r ∷ recipients) =
-    omega (arith, length-append (pairs_of keys r) (all_pairs keys recipients), few_of keys r (algorithms_of r), few keys recipients)
+    omega (arith, length-append (pairs_of limits.management keys r) (all_pairs limits.management keys recipients), few_of keys r (algorithms_of limits.management r), few keys recipients)
 
 -- and so have the pairs of the code
-pub few_pairs : (keys : List Key) (recipients : List Code) (pairs : List CodePair) → map pair_view pairs ≡ all_pairs (map key_view keys) (map recipient_view recipients)
+pub few_pairs : (keys : List Key) (recipients : List Code) (pairs : List CodePair) → map pair_view pairs ≡ all_pairs limits.management (map key_view keys) (map recipient_view recipients)
     → length pairs ≤ length keys * length recipients
 few_pairs keys recipients pairs h =
     let most = few (map key_view keys) (map recipient_view recipients) in

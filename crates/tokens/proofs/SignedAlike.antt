@@ -6,6 +6,7 @@ use Rattle.octets.specs.declared.refusal.Refusal.{Refusal}
 use Rattle.octets.specs.declared.refusal.Refusal.TheVariants.{Json, Number, Form, Unsupported, Limit, NotCompact}
 use Rattle.octets.specs.Base64url.{decoded}
 use Rattle.octets.specs.Outcomes.{◌>>=◌, needs}
+use Rattle.keys.specs.declared.algorithm.ManagementAlg.{ManagementAlg}
 use Rattle.keys.specs.Json.{member_numbers_are_whole}
 use Rattle.keys.specs.Limits.{Limits}
 use Rattle.objects.specs.Frames.{with_octets, signed_with}
@@ -90,9 +91,9 @@ headed_alike d v = by_answer (protected_members d.octets)
     by_answer (Ok own) = refl
     by_answer (Err e) = refl
 
-signature_alike : (h : HeadedSignature) (v : List ℕ) → signature_by (put_headed h v) ≡ (signature_by h >>= λ s. Ok (put_octets s v))
+signature_alike : (algs : List ManagementAlg) (h : HeadedSignature) (v : List ℕ) → signature_by algs (put_headed h v) ≡ (signature_by algs h >>= λ s. Ok (put_octets s v))
 unfolding signature_by
-signature_alike h v = by_header (joint_header h.members no_members h.parts.header)
+signature_alike algs h v = by_header (joint_header h.members no_members h.parts.header)
   where
     by_parameters : (alg : List ℕ) (r : Result PasswordParameters Refusal)
         → (r >>= λ parameters. Ok (made_with h v alg)) ≡ ((r >>= λ parameters. Ok (made_with h h.parts.signature alg)) >>= λ s. Ok (put_octets s v))
@@ -100,20 +101,20 @@ signature_alike h v = by_header (joint_header h.members no_members h.parts.heade
     by_parameters alg (Err e) = refl
 
     by_alg : (header : Members) (r : Result (List ℕ) Refusal)
-        → (r >>= λ alg. parameters_of alg header >>= λ parameters. Ok (made_with h v alg))
-        ≡ ((r >>= λ alg. parameters_of alg header >>= λ parameters. Ok (made_with h h.parts.signature alg)) >>= λ s. Ok (put_octets s v))
-    by_alg header (Ok alg) = by_parameters alg (parameters_of alg header)
+        → (r >>= λ alg. parameters_of algs alg header >>= λ parameters. Ok (made_with h v alg))
+        ≡ ((r >>= λ alg. parameters_of algs alg header >>= λ parameters. Ok (made_with h h.parts.signature alg)) >>= λ s. Ok (put_octets s v))
+    by_alg header (Ok alg) = by_parameters alg (parameters_of algs alg header)
     by_alg header (Err e) = refl
 
     by_header : (r : Result Members Refusal)
-        → (r >>= λ header. string_there (codes "alg") header >>= λ alg. parameters_of alg header >>= λ parameters. Ok (made_with h v alg))
-        ≡ ((r >>= λ header. string_there (codes "alg") header >>= λ alg. parameters_of alg header >>= λ parameters. Ok (made_with h h.parts.signature alg)) >>= λ s. Ok (put_octets s v))
+        → (r >>= λ header. string_there (codes "alg") header >>= λ alg. parameters_of algs alg header >>= λ parameters. Ok (made_with h v alg))
+        ≡ ((r >>= λ header. string_there (codes "alg") header >>= λ alg. parameters_of algs alg header >>= λ parameters. Ok (made_with h h.parts.signature alg)) >>= λ s. Ok (put_octets s v))
     by_header (Ok header) = by_alg header (string_there (codes "alg") header)
     by_header (Err e) = refl
 
-signatures_alike : (ds : List DecodedSignature) (values : List (List ℕ)) → signatures_of (with_all put_decoded ds values) ≡ (signatures_of ds >>= λ ss. Ok (with_all put_octets ss values))
+signatures_alike : (algs : List ManagementAlg) (ds : List DecodedSignature) (values : List (List ℕ)) → signatures_of algs (with_all put_decoded ds values) ≡ (signatures_of algs ds >>= λ ss. Ok (with_all put_octets ss values))
 unfolding signatures_of
-signatures_alike ds values = rw (each-with_all headed_signature put_decoded put_headed headed_alike ds values) (by_headed (each headed_signature ds))
+signatures_alike algs ds values = rw (each-with_all headed_signature put_decoded put_headed headed_alike ds values) (by_headed (each headed_signature ds))
   where
     by_signatures : (plain : Bool) (r : Result (List Signature) Refusal)
         → ((r >>= λ ss. Ok (with_all put_octets ss values)) >>= λ ss. needs plain Unsupported >>= λ u. Ok ss) ≡ ((r >>= λ ss. needs plain Unsupported >>= λ u. Ok ss) >>= λ ss. Ok (with_all put_octets ss values))
@@ -122,11 +123,11 @@ signatures_alike ds values = rw (each-with_all headed_signature put_decoded put_
     by_signatures plain (Err e) = refl
 
     by_headed : (r : Result (List HeadedSignature) Refusal)
-        → ((r >>= λ hs. Ok (with_all put_headed hs values)) >>= λ hs. each signature_by hs >>= λ ss. needs (list_all is_plain hs) Unsupported >>= λ u. Ok ss)
-        ≡ ((r >>= λ hs. each signature_by hs >>= λ ss. needs (list_all is_plain hs) Unsupported >>= λ u. Ok ss) >>= λ ss. Ok (with_all put_octets ss values))
+        → ((r >>= λ hs. Ok (with_all put_headed hs values)) >>= λ hs. each (signature_by algs) hs >>= λ ss. needs (list_all is_plain hs) Unsupported >>= λ u. Ok ss)
+        ≡ ((r >>= λ hs. each (signature_by algs) hs >>= λ ss. needs (list_all is_plain hs) Unsupported >>= λ u. Ok ss) >>= λ ss. Ok (with_all put_octets ss values))
     by_headed (Ok hs) =
-        rw (each-with_all signature_by put_headed put_octets signature_alike hs values, all-with_all put_headed is_plain (λ h v. refl) hs values)
-        (by_signatures (list_all is_plain hs) (each signature_by hs))
+        rw (each-with_all (signature_by algs) put_headed put_octets (signature_alike algs) hs values, all-with_all put_headed is_plain (λ h v. refl) hs values)
+        (by_signatures (list_all is_plain hs) (each (signature_by algs) hs))
     by_headed (Err e) = refl
 
 with_octets_is : (ss : List Signature) (values : List (List ℕ)) → with_all put_octets ss values ≡ with_octets ss values
@@ -157,16 +158,16 @@ built_alike limits own payload parts values =
     by_signatures (Err e) = refl
 
     by_decoded : (r : Result (List DecodedSignature) Refusal)
-        → ((r >>= λ ds. Ok (with_all put_decoded ds values)) >>= λ ds. signatures_of ds >>= λ ss. Ok (record { payload = payload; signatures = ss }))
-        ≡ ((r >>= λ ds. signatures_of ds >>= λ ss. (let o : Result SignedObject Refusal = Ok (record { payload = own; signatures = ss }) in o)) >>= λ o. Ok (signed_with o payload values))
-    by_decoded (Ok ds) = rw (signatures_alike ds values) (by_signatures (signatures_of ds))
+        → ((r >>= λ ds. Ok (with_all put_decoded ds values)) >>= λ ds. signatures_of limits.management ds >>= λ ss. Ok (record { payload = payload; signatures = ss }))
+        ≡ ((r >>= λ ds. signatures_of limits.management ds >>= λ ss. (let o : Result SignedObject Refusal = Ok (record { payload = own; signatures = ss }) in o)) >>= λ o. Ok (signed_with o payload values))
+    by_decoded (Ok ds) = rw (signatures_alike limits.management ds values) (by_signatures (signatures_of limits.management ds))
     by_decoded (Err e) = refl
 
     by_tests : (shallow whole some few : Bool) (r : Result (List DecodedSignature) Refusal)
         → (needs shallow Json >>= λ _. needs whole Number >>= λ _. needs some Form >>= λ _. needs few Limit
-        >>= λ _. (r >>= λ ds. Ok (with_all put_decoded ds values)) >>= λ ds. signatures_of ds >>= λ ss. Ok (record { payload = payload; signatures = ss }))
+        >>= λ _. (r >>= λ ds. Ok (with_all put_decoded ds values)) >>= λ ds. signatures_of limits.management ds >>= λ ss. Ok (record { payload = payload; signatures = ss }))
         ≡ ((needs shallow Json >>= λ _. needs whole Number >>= λ _. needs some Form >>= λ _. needs few Limit
-        >>= λ _. r >>= λ ds. signatures_of ds >>= λ ss. (let o : Result SignedObject Refusal = Ok (record { payload = own; signatures = ss }) in o)) >>= λ o. Ok (signed_with o payload values))
+        >>= λ _. r >>= λ ds. signatures_of limits.management ds >>= λ ss. (let o : Result SignedObject Refusal = Ok (record { payload = own; signatures = ss }) in o)) >>= λ o. Ok (signed_with o payload values))
     by_tests false whole some few r = refl
     by_tests true false some few r = refl
     by_tests true true false few r = refl

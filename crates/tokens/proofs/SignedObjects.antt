@@ -10,7 +10,7 @@ use Rattle.octets.specs.Plan.{OutputTexts}
 use Rattle.octets.proofs.Meanings.{meaning_of_text}
 use Rattle.keys.specs.declared.algorithm.SignatureAlg.{SignatureAlg}
 use Rattle.keys.specs.declared.algorithm.SignatureAlg.TheVariants.{Hs256, Hs384, Hs512}
-use Rattle.keys.specs.Algorithms.{signature_name, management_alg_of}
+use Rattle.keys.specs.Algorithms.{signature_name, management_alg_among, management_alg_of}
 use Rattle.keys.specs.Json.{json_value, member_numbers_are_whole}
 use Rattle.keys.specs.JsonTexts.{AreJsonMembers}
 use Rattle.keys.specs.Keys.{OctetKey}
@@ -111,18 +111,18 @@ reads header payload s is = rw is.back.members refl
 
 -- no algorithm of signatures reads a password
 no_password : (alg : SignatureAlg) → reads_password (management_alg_of (signature_name alg)) ≡ false
-unfolding management_alg_of
+unfolding management_alg_among
 no_password Hs256 = refl
 no_password Hs384 = refl
 no_password Hs512 = refl
 
-makes : (header : Members) (payload : List ℕ) (s : Signer) → Signs header s → jws.signature_by (headed_by header payload s) ≡ Ok (made_by header payload s)
+makes : (header : Members) (payload : List ℕ) (s : Signer) → Signs header s → jws.signature_by limits.management (headed_by header payload s) ≡ Ok (made_by header payload s)
 unfolding jws.signature_by joint_header string_there
 makes header payload s is = rw (is.settled.disjoint, is.settled.alg, no_password s.alg) refl
 
 -- so signing makes the object of its signers' signatures
 pub signed_is : (compact : Bool) (keys : List OctetKey) (s : Signing) (payload : List ℕ) → IsSigning compact keys s → nat_le 1 (length s.signers) ≡ true → nat_le (length s.signers) limits.recipients ≡ true
-    → signed s payload ≡ Ok (object_by s payload)
+    → signed limits s payload ≡ Ok (object_by s payload)
 unfolding signed built signed_object signatures_of
 signed_is compact keys s payload is some few =
     let given : Signer → SignatureParts = signature_by s.header payload in
@@ -136,7 +136,7 @@ signed_is compact keys s payload is some few =
     let few_parts : nat_le (length (map given s.signers)) 64 ≡ true = ap (λ k. nat_le k 64) long ∙ few in
     let decoded = each_made decoded_signature given (decoded_by s.header payload) (decodes s.header payload) s.signers is.signs in
     let headed = each_made headed_signature (decoded_by s.header payload) (headed_by s.header payload) (reads s.header payload) s.signers is.signs in
-    let made = each_made jws.signature_by (headed_by s.header payload) (made_by s.header payload) (makes s.header payload) s.signers is.signs in
+    let made = each_made (jws.signature_by limits.management) (headed_by s.header payload) (made_by s.header payload) (makes s.header payload) s.signers is.signs in
     let plain : list_all is_plain (map (headed_by s.header payload) s.signers) ≡ true =
     all_pass is_plain (headed_by s.header payload) (λ x h. and_from (has_no_crit x.protected) (has_no_crit s.header) h.settled.plain is.plain) s.signers is.signs in
     rw (shallow, whole, some_parts, few_parts, decoded, headed, made, plain) refl

@@ -66,10 +66,10 @@ form_is_read false detach handed o text json compact h = ap (jws_of limits hande
 
 -- so what is written is read as the object that signing makes
 texts_are_read : TextsSpellObjects → (compact detach : Bool) (keys : List OctetKey) (s : Signing) (payload : List ℕ) (texts : OutputTexts) → IsOctets payload → IsSigning compact keys s
-    → (signed s payload >>= written_of compact detach) ≡ Ok texts → jws_of limits (handed_in detach texts.content) texts.text ≡ Ok (object_by s payload)
+    → (signed limits s payload >>= written_of compact detach) ≡ Ok texts → jws_of limits (handed_in detach texts.content) texts.text ≡ Ok (object_by s payload)
 unfolding signed
 texts_are_read spells compact detach keys s payload texts octets is h =
-    let o = steps (signed s payload) (written_of compact detach) texts h in
+    let o = steps (signed limits s payload) (written_of compact detach) texts h in
     let built = is_built limits (parts_by s payload) o.0 o.1 in
     let long : length (map (signature_by s.header payload) s.signers) ≡ length s.signers = length-map s.signers (signature_by s.header payload) in
     let some : nat_le 1 (length s.signers) ≡ true = ap (nat_le 1) (sym long) ∙ built.some in
@@ -130,9 +130,9 @@ pub signed_verifies : TextsSpellObjects → SignedVerifies
 unfolding signing_by
 signed_verifies spells compact detach keys template payload texts octets h =
     let plan = steps (signing_by limits compact detach keys template) (λ plan. plan.whole payload) texts h in
-    let s = steps (signing_of limits compact keys template) (λ s. Ok (plan_by compact detach s)) plan.0 plan.1 in
-    let whole : (signed s.0 payload >>= written_of compact detach) ≡ Ok texts =
-    ap (λ (p : Plan OutputTexts). p.whole payload) (same_answer (plan_by compact detach s.0) plan.0 s.2) ∙ plan.2 in
+    let s = steps (signing_of limits compact keys template) (λ s. Ok (plan_by limits compact detach s)) plan.0 plan.1 in
+    let whole : (signed limits s.0 payload >>= written_of compact detach) ≡ Ok texts =
+    ap (λ (p : Plan OutputTexts). p.whole payload) (same_answer (plan_by limits compact detach s.0) plan.0 s.2) ∙ plan.2 in
     let is : IsSigning compact keys s.0 = is_signing compact keys template s.0 s.1 in (
       object_by s.0 payload,
       (

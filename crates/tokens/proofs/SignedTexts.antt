@@ -42,7 +42,7 @@ signing_makes_texts compact detach keys template payload plan some few h =
     let few_signers : nat_le (length s.0.signers) limits.recipients ≡ true = ap (λ n. nat_le n limits.recipients) long ∙ few in
     let made = signed_is compact keys s.0 payload is some_signers few_signers in
     let text = has_text compact detach s.0 payload is.alone some_signers in
-    let planned : plan.whole payload ≡ (signed s.0 payload >>= written_of compact detach) =
-    ap (λ (p : Plan OutputTexts). p.whole payload) (sym (same_answer (plan_by compact detach s.0) plan s.2)) in
+    let planned : plan.whole payload ≡ (signed limits s.0 payload >>= written_of compact detach) =
+    ap (λ (p : Plan OutputTexts). p.whole payload) (sym (same_answer (plan_by limits compact detach s.0) plan s.2)) in
     let written = is_written compact detach (object_by s.0 payload) text.0 text.1 in
     (record { text = text.0; content = handed_out detach payload }, planned ∙ ap (λ r. r >>= written_of compact detach) made ∙ written)

@@ -6,6 +6,7 @@ use Rattle.octets.specs.Outcomes.{◌>>=◌}
 use Rattle.octets.specs.Plan.{OutputTexts, Begins}
 use Rattle.octets.proofs.Characters.{has_url_characters}
 use Rattle.octets.proofs.Meanings.{decodes_exactly}
+use Rattle.keys.specs.Limits.{limits}
 use Rattle.keys.proofs.UrlTexts.{url_texts_are_json}
 use Rattle.objects.specs.Frames.{filled, in_places, first_text, jws_frame, IsJwsFrame}
 use Rattle.objects.proofs.JwsFrames.{is_jws_frame}
@@ -15,35 +16,35 @@ use Rattle.tokens.proofs.Beginnings.{begins_behind, empty_begins, groups_grow, f
 use Rattle.tokens.proofs.FramedSigning.{octets_by, whole_is, has_frame}
 
 -- what is fixed of the text goes on
-text_goes_on : (compact detach : Bool) (s : Signing) (p q : List ℕ) → Begins (text_fixed compact detach s p) (text_fixed compact detach s (p ++ q))
+text_goes_on : (compact detach : Bool) (s : Signing) (p q : List ℕ) → Begins (text_fixed limits compact detach s p) (text_fixed limits compact detach s (p ++ q))
 text_goes_on compact true s p q = empty_begins []
-text_goes_on compact false s p q = begins_behind (text_before compact s) _ _ (groups_grow p (p ++ q) (record { rest = q; continues = refl }))
+text_goes_on compact false s p q = begins_behind (text_before limits compact s) _ _ (groups_grow p (p ++ q) (record { rest = q; continues = refl }))
 
 -- and begins the frame with the payload and the signatures in it
-text_begins : (compact detach : Bool) (s : Signing) (texts : List (List ℕ)) (p q : List ℕ) (signatures : List (List ℕ)) (n : ℕ) → (unsigned_by s >>= jws_frame compact detach) ≡ Ok texts
-    → length texts ≡ (if detach then 1 else 2) + n → Begins (text_fixed compact detach s p) (filled texts (in_places detach (p ++ q) signatures))
+text_begins : (compact detach : Bool) (s : Signing) (texts : List (List ℕ)) (p q : List ℕ) (signatures : List (List ℕ)) (n : ℕ) → (unsigned_by limits s >>= jws_frame compact detach) ≡ Ok texts
+    → length texts ≡ (if detach then 1 else 2) + n → Begins (text_fixed limits compact detach s p) (filled texts (in_places detach (p ++ q) signatures))
 text_begins compact true s texts p q signatures n is places = empty_begins _
 text_begins compact false s texts p q signatures n is places =
     subst (λ r. Begins (first_text r ++ base64url (whole_groups p)) (filled texts (in_places false (p ++ q) signatures))) (sym is)
     (frame_begins texts p (p ++ q) signatures (omega (arith, places)) (record { rest = q; continues = refl }))
 
 -- what a beginning of the payload fixes goes on with the payload
-both_go_on : (compact detach : Bool) (s : Signing) (p q : List ℕ) → BothBegin ((plan_by compact detach s).fixed p) ((plan_by compact detach s).fixed (p ++ q))
+both_go_on : (compact detach : Bool) (s : Signing) (p q : List ℕ) → BothBegin ((plan_by limits compact detach s).fixed p) ((plan_by limits compact detach s).fixed (p ++ q))
 both_go_on compact detach s p q = record {
   text = text_goes_on compact detach s p q;
   content = handed_out_begins detach p (p ++ q) (record { rest = q; continues = refl });
 }
 
 -- and begins all that is written
-both_begin_all : (compact detach : Bool) (s : Signing) (p q : List ℕ) (written : OutputTexts) → IsOctets (p ++ q) → (plan_by compact detach s).whole (p ++ q) ≡ Ok written
-    → BothBegin ((plan_by compact detach s).fixed p) written
+both_begin_all : (compact detach : Bool) (s : Signing) (p q : List ℕ) (written : OutputTexts) → IsOctets (p ++ q) → (plan_by limits compact detach s).whole (p ++ q) ≡ Ok written
+    → BothBegin ((plan_by limits compact detach s).fixed p) written
 both_begin_all compact detach s p q written octets h =
     let has = has_frame compact detach s (p ++ q) written h in
     let o = has.0 in
     let texts = has.1 in
     let frame : IsJwsFrame compact detach o texts = is_jws_frame url_texts_are_json has_url_characters decodes_exactly compact detach o texts has.3 in
     let is = ap (λ r. r >>= jws_frame compact detach) has.2 ∙ has.3 in
-    subst (BothBegin ((plan_by compact detach s).fixed p)) (same_answer _ written (sym (whole_is compact detach s o texts has.2 frame (p ++ q) octets) ∙ h))
+    subst (BothBegin ((plan_by limits compact detach s).fixed p)) (same_answer _ written (sym (whole_is compact detach s o texts has.2 frame (p ++ q) octets) ∙ h))
     (record {
       text = text_begins compact detach s texts p q (map (octets_by (p ++ q)) s.signers) (length o.signatures) is frame.places;
       content = handed_out_begins detach p (p ++ q) (record { rest = q; continues = refl });
@@ -51,4 +52,4 @@ both_begin_all compact detach s p q written octets h =
 
 -- so the plan of every signing goes on as its payload does
 pub signing_grows : SigningGrows
-signing_grows compact detach s = both_grow_by_beginnings (plan_by compact detach s) (both_go_on compact detach s) (both_begin_all compact detach s)
+signing_grows compact detach s = both_grow_by_beginnings (plan_by limits compact detach s) (both_go_on compact detach s) (both_begin_all compact detach s)

@@ -77,7 +77,7 @@ sealed_refused plan s p r never h = by_answer (sealed_by s p) refl
         ap Err same
 
 -- is so as a whole
-pub encryption_refused : (compact detach : Bool) (e : Encryption) (random p : List ℕ) (r : Refusal) → sealed_by (sealing_by e random) p ≡ Err r → (plan_by compact detach e random).whole p ≡ Err r
+pub encryption_refused : (compact detach : Bool) (e : Encryption) (random p : List ℕ) (r : Refusal) → sealed_by (sealing_by e random) p ≡ Err r → (plan_by limits compact detach e random).whole p ≡ Err r
 unfolding encrypted
 encryption_refused compact detach e random p r h = ap (λ x. (x >>= λ s. built limits (parts_by e random s)) >>= written_of compact detach) h
 
@@ -93,7 +93,7 @@ module _ {S : Type 0} (is_sealing : S → Sealing → List ℕ → Type 0) (comp
     abbrev s : Sealing
     s = sealing_by u.encryption u.random
 
-    is_first : first ≡ text_before compact u.encryption u.random
+    is_first : first ≡ text_before limits compact u.encryption u.random
     is_first = ap first_text (sym (u.framed ∙ ap Ok are))
 
     pub inside_places : length rest ≡ 2
@@ -102,16 +102,16 @@ module _ {S : Type 0} (is_sealing : S → Sealing → List ℕ → Type 0) (comp
     -- what may stand of the ciphertext begins what may stand
     by_answer : (p : List ℕ) (a : Result Sealed Refusal) → IsOctets p → sealed_by (sealing_by u.encryption u.random) p ≡ a
         → Begins (result_unwrap_or ((a >>= λ sealed. encoding.whole sealed.ciphertext) >>= λ text. Ok (first ++ text)) (first ++ base64url (whole_groups (ciphertext_fixed u.encryption u.random p))))
-        (result_unwrap_or ((plan_by compact false u.encryption u.random).whole p) ((plan_by compact false u.encryption u.random).fixed p)).text
+        (result_unwrap_or ((plan_by limits compact false u.encryption u.random).whole p) ((plan_by limits compact false u.encryption u.random).fixed p)).text
     by_answer p (Ok sealed) octets h = record {
       rest = filled rest (base64url sealed.tag ∷ []);
-      continues = ap (λ r. (result_unwrap_or r ((plan_by compact false u.encryption u.random).fixed p)).text) (u.whole p sealed octets h)
+      continues = ap (λ r. (result_unwrap_or r ((plan_by limits compact false u.encryption u.random).fixed p)).text) (u.whole p sealed octets h)
           ∙ ap (λ t. filled t (base64url sealed.ciphertext ∷ base64url sealed.tag ∷ [])) are
           ∙ sym (append_assoc first (base64url sealed.ciphertext) (filled rest (base64url sealed.tag ∷ [])));
     }
     by_answer p (Err r) octets h = record {
       rest = [];
-      continues = ap (λ r. (result_unwrap_or r ((plan_by compact false u.encryption u.random).fixed p)).text) (encryption_refused compact false u.encryption u.random p r h)
+      continues = ap (λ r. (result_unwrap_or r ((plan_by limits compact false u.encryption u.random).fixed p)).text) (encryption_refused compact false u.encryption u.random p r h)
           ∙ ap (λ t. t ++ base64url (whole_groups (ciphertext_fixed u.encryption u.random p))) (sym is_first) ∙ sym (append-nil _);
     }
 
@@ -184,11 +184,11 @@ module _ {S : Type 0} (is_sealing : S → Sealing → List ℕ → Type 0) (comp
     beside_fixed q = (ap (λ r. (fixed_by r q).text) u.is, ap (λ r. (fixed_by r q).content) u.is)
 
     beside_by_answer : (p : List ℕ) (a : Result Sealed Refusal) → IsOctets p → sealed_by (sealing_by u.encryption u.random) p ≡ a
-        → (result_unwrap_or ((plan_by compact true u.encryption u.random).whole p) ((plan_by compact true u.encryption u.random).fixed p)).content
+        → (result_unwrap_or ((plan_by limits compact true u.encryption u.random).whole p) ((plan_by limits compact true u.encryption u.random).fixed p)).content
         ≡ result_unwrap_or (a >>= λ sealed. Ok sealed.ciphertext) (ciphertext_fixed u.encryption u.random p)
-    beside_by_answer p (Ok sealed) octets h = ap (λ r. (result_unwrap_or r ((plan_by compact true u.encryption u.random).fixed p)).content) (u.whole p sealed octets h)
+    beside_by_answer p (Ok sealed) octets h = ap (λ r. (result_unwrap_or r ((plan_by limits compact true u.encryption u.random).fixed p)).content) (u.whole p sealed octets h)
     beside_by_answer p (Err r) octets h =
-        ap (λ r. (result_unwrap_or r ((plan_by compact true u.encryption u.random).fixed p)).content) (encryption_refused compact true u.encryption u.random p r h)
+        ap (λ r. (result_unwrap_or r ((plan_by limits compact true u.encryption u.random).fixed p)).content) (encryption_refused compact true u.encryption u.random p r h)
 
     -- what may stand beside is what may stand of the ciphertext
     pub beside_is : (p : List ℕ) (ended : Bool) → IsOctets p

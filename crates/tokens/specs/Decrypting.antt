@@ -12,7 +12,7 @@ use Rattle.keys.specs.declared.algorithm.Algorithm.TheVariants.{Encryption}
 use Rattle.keys.specs.declared.algorithm.EncryptionAlg.{EncryptionAlg}
 use Rattle.keys.specs.declared.algorithm.ManagementAlg.{ManagementAlg}
 use Rattle.keys.specs.declared.algorithm.ManagementAlg.TheVariants.{Dir, A128Kw, A192Kw, A256Kw, Pbes2Hs256A128Kw, Pbes2Hs384A192Kw, Pbes2Hs512A256Kw}
-use Rattle.keys.specs.Algorithms.{management_alg_of, encryption_alg_of, is_password_based, management_operations}
+use Rattle.keys.specs.Algorithms.{management_alg_among, encryption_alg_of, is_password_based, management_operations}
 use Rattle.keys.specs.Keys.{OctetKey, allows, fits}
 use Rattle.keys.specs.Limits.{Limits, limits}
 use Rattle.objects.specs.Jwe.{Recipient, EncryptedObject}
@@ -26,8 +26,8 @@ algorithms_by (Some alg) None = None
 algorithms_by (Some alg) (Some enc) = Some (record { management = alg; encryption = enc })
 
 -- the algorithms of a recipient, where both are supported
-unfoldable pub algorithms_of : Recipient → Option Algorithms
-algorithms_of r = algorithms_by (management_alg_of r.alg) (encryption_alg_of r.enc)
+unfoldable pub algorithms_of : List ManagementAlg → Recipient → Option Algorithms
+algorithms_of algs r = algorithms_by (management_alg_among algs r.alg) (encryption_alg_of r.enc)
 
 -- the key allows what the receiver does, and fits
 unfoldable pub is_candidate : Algorithms → OctetKey → Bool
@@ -46,13 +46,13 @@ abbrev pub pairs_by : List OctetKey → Recipient → Option Algorithms → List
 pairs_by keys r None = []
 pairs_by keys r (Some a) = pairs_with r a keys
 
-abbrev pub pairs_of : List OctetKey → Recipient → List Pair
-pairs_of keys r = pairs_by keys r (algorithms_of r)
+abbrev pub pairs_of : List ManagementAlg → List OctetKey → Recipient → List Pair
+pairs_of algs keys r = pairs_by keys r (algorithms_of algs r)
 
 -- of the recipients in order
-abbrev pub all_pairs : List OctetKey → List Recipient → List Pair
-all_pairs keys [] = []
-all_pairs keys (r ∷ recipients) = pairs_of keys r ++ all_pairs keys recipients
+abbrev pub all_pairs : List ManagementAlg → List OctetKey → List Recipient → List Pair
+all_pairs algs keys [] = []
+all_pairs algs keys (r ∷ recipients) = pairs_of algs keys r ++ all_pairs algs keys recipients
 
 abbrev pub has_pairs : List Pair → Bool
 has_pairs [] = false
@@ -74,10 +74,10 @@ are_within limits pairs =
 -- some recipient's algorithms are supported; then some key is a candidate; then the work is within the limits
 unfoldable pub pairs_to_try : Limits → List OctetKey → List Recipient → Result (List Pair) Refusal
 pairs_to_try limits keys recipients = do
-  supported ← needs (list_any (λ r. is_some (algorithms_of r)) recipients) Unsupported
-  candidates ← needs (has_pairs (all_pairs keys recipients)) KeyDoesNotFit
-  few ← needs (are_within limits (all_pairs keys recipients)) Limit
-  Ok (all_pairs keys recipients)
+  supported ← needs (list_any (λ r. is_some (algorithms_of limits.management r)) recipients) Unsupported
+  candidates ← needs (has_pairs (all_pairs limits.management keys recipients)) KeyDoesNotFit
+  few ← needs (are_within limits (all_pairs limits.management keys recipients)) Limit
+  Ok (all_pairs limits.management keys recipients)
 
 -- ---- what a pair opens
 

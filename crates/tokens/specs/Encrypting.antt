@@ -136,8 +136,8 @@ parts_by e random s = record {
   recipients = recipients_by e (cek_by e random) e.receivers (salts_by e random);
 }
 
-unfoldable pub encrypted : Encryption → List ℕ → List ℕ → Result EncryptedObject Refusal
-encrypted e random plaintext = do
+unfoldable pub encrypted : Limits → Encryption → List ℕ → List ℕ → Result EncryptedObject Refusal
+encrypted limits e random plaintext = do
   s ← sealed_by (sealing_by e random) plaintext
   built limits (parts_by e random s)
 
@@ -147,8 +147,8 @@ abbrev pub unsealed : Sealed
 unsealed = record { ciphertext = []; tag = [] }
 
 -- the texts that stand round its ciphertext and its tag
-abbrev pub frame_by : Bool → Bool → Encryption → List ℕ → Result (List (List ℕ)) Refusal
-frame_by compact detach e random = built limits (parts_by e random unsealed) >>= jwe_frame compact detach
+abbrev pub frame_by : Limits → Bool → Bool → Encryption → List ℕ → Result (List (List ℕ)) Refusal
+frame_by limits compact detach e random = built limits (parts_by e random unsealed) >>= jwe_frame compact detach
 
 -- ---- its text
 
@@ -158,8 +158,8 @@ text_of true detach o = jwe_compact_text detach o
 text_of false detach o = Ok (json_text detach o)
 
 -- what stands before the ciphertext's text: the first text of the object's frame
-abbrev pub text_before : Bool → Encryption → List ℕ → List ℕ
-text_before compact e random = first_text (frame_by compact false e random)
+abbrev pub text_before : Limits → Bool → Encryption → List ℕ → List ℕ
+text_before limits compact e random = first_text (frame_by limits compact false e random)
 
 abbrev pub within_longest : Option ℕ → List ℕ → List ℕ
 within_longest None front = front
@@ -177,22 +177,22 @@ ciphertext_fixed e random front = (sealing_by e random).fixed (within_longest (s
 
 -- It fixes the text before the ciphertext, and whole groups of what it fixes of this; where it is detached, nothing of the text is
 -- written before its end.
-abbrev pub text_fixed : Bool → Bool → Encryption → List ℕ → List ℕ → List ℕ
-text_fixed compact true e random ciphertext = []
-text_fixed compact false e random ciphertext = text_before compact e random ++ base64url (whole_groups ciphertext)
+abbrev pub text_fixed : Limits → Bool → Bool → Encryption → List ℕ → List ℕ → List ℕ
+text_fixed _ compact true e random ciphertext = []
+text_fixed limits compact false e random ciphertext = text_before limits compact e random ++ base64url (whole_groups ciphertext)
 
 -- what is written by the plaintext
-abbrev pub plan_by : Bool → Bool → Encryption → List ℕ → Plan OutputTexts
-plan_by compact detach e random = record {
-  whole = λ plaintext. encrypted e random plaintext >>= written_of compact detach;
-  fixed = λ front. record { text = text_fixed compact detach e random (ciphertext_fixed e random front); content = handed_out detach (ciphertext_fixed e random front) };
+abbrev pub plan_by : Limits → Bool → Bool → Encryption → List ℕ → Plan OutputTexts
+plan_by limits compact detach e random = record {
+  whole = λ plaintext. encrypted limits e random plaintext >>= written_of compact detach;
+  fixed = λ front. record { text = text_fixed limits compact detach e random (ciphertext_fixed e random front); content = handed_out detach (ciphertext_fixed e random front) };
 }
 
 -- what keys and a template's text settle, or the first refusal
 unfoldable pub encrypting_by : Limits → Bool → Bool → List OctetKey → List ℕ → Result (Draft OutputTexts) Refusal
 encrypting_by limits compact detach keys text = do
   e ← encryption_of limits compact keys text
-  Ok (record { drawn = octets_drawn e; plan = plan_by compact detach e })
+  Ok (record { drawn = octets_drawn e; plan = plan_by limits compact detach e })
 
 -- ---- what it fixes, and what it makes
 
@@ -218,7 +218,7 @@ MayDecrypt compact keys key template =
 -- at each of the first n recipients the key opens nothing, or this plaintext
 abbrev pub OpensNoOther : ℕ → OctetKey → EncryptedObject → List ℕ → Type 0
 OpensNoOther n key o plaintext =
-    AllByRecursion (λ pair. (other : List ℕ) → opened_by (sealed_content o) pair ≡ Some other → other ≡ plaintext) (all_pairs (key ∷ []) (take n o.recipients))
+    AllByRecursion (λ pair. (other : List ℕ) → opened_by (sealed_content o) pair ≡ Some other → other ≡ plaintext) (all_pairs limits.management (key ∷ []) (take n o.recipients))
 
 -- Where a plaintext is encrypted to keys, what is written is an object, which each of the keys, alone, decrypts to the plaintext,
 -- where it may decrypt and opens nothing else at the recipient of a key before it.

@@ -10,3 +10,4 @@ pub mod Choosing
 pub mod Encrypting
 pub mod SealedTexts
 pub mod Views
+pub mod MoreAlgorithms

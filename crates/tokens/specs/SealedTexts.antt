@@ -8,6 +8,7 @@ use Rattle.octets.specs.Octets.{IsOctets}
 use Rattle.octets.specs.Outcomes.{◌>>=◌}
 use Rattle.octets.specs.Plan.{OutputTexts, Plan}
 use Rattle.ciphers.specs.Sealing.{Sealed, Sealing, IsTooLong, KeepsPace}
+use Rattle.keys.specs.Limits.{limits}
 use Rattle.objects.specs.Frames.{filled, in_places}
 use Rattle.objects.specs.Texts.{handed_out}
 use Rattle.tokens.specs.Choosing.{Encryption}
@@ -48,10 +49,10 @@ IsSealingText is_sealing x waiting s p = IsFed is_sealing x s p × (waiting ≡ 
 pub record IsUnsealed {S : Type 0} (is_sealing : S → Sealing → List ℕ → Type 0) (compact detach : Bool) (plan : Result (Plan OutputTexts) Refusal) (sealer : S) (texts : List (List ℕ)) : Type 0 where
   pub encryption : Encryption
   pub random : List ℕ
-  pub is : plan ≡ Ok (plan_by compact detach encryption random)
+  pub is : plan ≡ Ok (plan_by limits compact detach encryption random)
   pub begun : is_sealing sealer (sealing_by encryption random) []
   pub places : length texts ≡ (if detach then 2 else 3)
-  pub framed : frame_by compact detach encryption random ≡ Ok texts
+  pub framed : frame_by limits compact detach encryption random ≡ Ok texts
   pub whole : (plaintext : List ℕ) (sealed : Sealed) → IsOctets plaintext → sealed_by (sealing_by encryption random) plaintext ≡ Ok sealed
-      → (plan_by compact detach encryption random).whole plaintext
+      → (plan_by limits compact detach encryption random).whole plaintext
       ≡ Ok (record { text = filled texts (in_places detach sealed.ciphertext (sealed.tag ∷ [])); content = handed_out detach sealed.ciphertext })

@@ -101,8 +101,8 @@ signature_by header payload s = record {
 abbrev pub parts_by : Signing → List ℕ → JwsParts
 parts_by s payload = record { payload = payload; signatures = map (signature_by s.header payload) s.signers }
 
-unfoldable pub signed : Signing → List ℕ → Result SignedObject Refusal
-signed s payload = built limits (parts_by s payload)
+unfoldable pub signed : Limits → Signing → List ℕ → Result SignedObject Refusal
+signed limits s payload = built limits (parts_by s payload)
 
 -- ---- the object before there is a payload
 
@@ -110,8 +110,8 @@ signed s payload = built limits (parts_by s payload)
 abbrev pub unsigned_part_by : Members → Signer → SignatureParts
 unsigned_part_by header s = record { protected = protected_by s; header = header; signature = [] }
 
-unfoldable pub unsigned_by : Signing → Result SignedObject Refusal
-unsigned_by s = built limits (record { payload = []; signatures = map (unsigned_part_by s.header) s.signers })
+unfoldable pub unsigned_by : Limits → Signing → Result SignedObject Refusal
+unsigned_by limits s = built limits (record { payload = []; signatures = map (unsigned_part_by s.header) s.signers })
 
 -- ---- its text
 
@@ -127,31 +127,31 @@ written_of compact detach o = do
   Ok (record { text = text; content = handed_out detach o.payload })
 
 -- what stands before the payload's text: the first text of the object's frame
-abbrev pub text_before : Bool → Signing → List ℕ
-text_before compact s = first_text (unsigned_by s >>= jws_frame compact false)
+abbrev pub text_before : Limits → Bool → Signing → List ℕ
+text_before limits compact s = first_text (unsigned_by limits s >>= jws_frame compact false)
 
 -- The whole groups of a beginning of the payload fix the text before it and their own; where it is detached, nothing of the text
 -- is written before its end.
-abbrev pub text_fixed : Bool → Bool → Signing → List ℕ → List ℕ
-text_fixed compact true s front = []
-text_fixed compact false s front = text_before compact s ++ base64url (whole_groups front)
+abbrev pub text_fixed : Limits → Bool → Bool → Signing → List ℕ → List ℕ
+text_fixed _ compact true s front = []
+text_fixed limits compact false s front = text_before limits compact s ++ base64url (whole_groups front)
 
 -- what is written by the payload
-abbrev pub plan_by : Bool → Bool → Signing → Plan OutputTexts
-plan_by compact detach s = record {
-  whole = λ payload. signed s payload >>= written_of compact detach;
-  fixed = λ front. record { text = text_fixed compact detach s front; content = handed_out detach front };
+abbrev pub plan_by : Limits → Bool → Bool → Signing → Plan OutputTexts
+plan_by limits compact detach s = record {
+  whole = λ payload. signed limits s payload >>= written_of compact detach;
+  fixed = λ front. record { text = text_fixed limits compact detach s front; content = handed_out detach front };
 }
 
 -- that of the signers of keys and a template's text, or the first refusal
 unfoldable pub signing_by : Limits → Bool → Bool → List OctetKey → List ℕ → Result (Plan OutputTexts) Refusal
 signing_by limits compact detach keys template = do
   s ← signing_of limits compact keys template
-  Ok (plan_by compact detach s)
+  Ok (plan_by limits compact detach s)
 
 -- the plan of every signing goes on as its payload does
 abbrev pub SigningGrows : Type 0
-SigningGrows = (compact detach : Bool) (s : Signing) → BothGrow (plan_by compact detach s)
+SigningGrows = (compact detach : Bool) (s : Signing) → BothGrow (plan_by limits compact detach s)
 
 -- What keys and a template settle makes an object of every payload, and its texts.
 abbrev pub SigningMakesTexts : Type 0

@@ -9,6 +9,7 @@ use Rattle.octets.specs.declared.refusal.Refusal.{Refusal}
 use Rattle.octets.specs.Base64url.{base64url, whole_groups, part_group}
 use Rattle.octets.specs.Plan.{OutputTexts, Plan}
 use Rattle.prf.specs.Hmac.{hmac}
+use Rattle.keys.specs.Limits.{limits}
 use Rattle.objects.specs.Frames.{IsJwsFrame, jws_frame}
 use Rattle.objects.specs.Jws.{Signature, SignedObject}
 use Rattle.tokens.specs.Signatures.{signature_hash}
@@ -45,8 +46,8 @@ unsigned_protected signatures = map (λ s. s.protected) signatures
 pub record IsFramed {S : Type 0} (has_taken : S → HashFunction → List ℕ → List ℕ → Type 0) (compact detach : Bool) (plan : Result (Plan OutputTexts) Refusal) (inputs : List S) (texts : List (List ℕ)) : Type 0 where
   pub signing : Signing
   pub object : SignedObject
-  pub is : plan ≡ Ok (plan_by compact detach signing)
-  pub made : unsigned_by signing ≡ Ok object
+  pub is : plan ≡ Ok (plan_by limits compact detach signing)
+  pub made : unsigned_by limits signing ≡ Ok object
   pub texts_are : jws_frame compact detach object ≡ Ok texts
   pub frame : IsJwsFrame compact detach object texts
   pub begun : HoldEach has_taken inputs signing.signers []

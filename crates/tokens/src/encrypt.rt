@@ -207,9 +207,9 @@ fn begin_sealing(
     detach: bool,
 ) -> Result<Framed, Refusal>
     requires long { length random.now ≡ octets_drawn (encryption_view encryption) }
-    requires made { IsOk (frame_by compact detach (encryption_view encryption) random.now) }
+    requires made { IsOk (frame_by limits compact detach (encryption_view encryption) random.now) }
     ensures sealing { IfOk result (λ made. ⟦<ContentSealer as Sealer>⟧.is_sealing made.sealer (sealing_by (encryption_view encryption.entry) random.now) []) }
-    ensures framed { IfOk result (λ made. frame_by compact detach (encryption_view encryption.entry) random.now ≡ Ok (map string_bytes made.texts.items)) }
+    ensures framed { IfOk result (λ made. frame_by limits compact detach (encryption_view encryption.entry) random.now ≡ Ok (map string_bytes made.texts.items)) }
     ensures cek { IfOk result (λ made. IsOctets (cek_by (encryption_view encryption.entry) random.now)
         × (length (cek_by (encryption_view encryption.entry) random.now) ≡ cek_len (content_alg_of (encryption_view encryption.entry).encryption))) }
     ensures memory { IfErr result (λ e. e ≡ Refusal.Memory) }

@@ -1,5 +1,9 @@
 //! Laws of the definitions, each the contract of a function that does nothing.
+ghost use Rattle.std.specs.Prelude.{List};
+ghost use Rattle.keys.specs.declared.algorithm.ManagementAlg.{ManagementAlg};
+ghost use Rattle.keys.specs.Limits.{Limits};
 ghost use Rattle.tokens.specs.Encrypting.{EncryptedDecrypts, EncryptingGrows, EncryptingMakesTexts};
+ghost use Rattle.tokens.specs.MoreAlgorithms.{OpensAlike};
 ghost use Rattle.tokens.specs.Signing.{SigningGrows, SigningMakesTexts};
 ghost use Rattle.tokens.specs.Verifying.{SignedVerifies};
 
@@ -50,3 +54,9 @@ pub fn what_is_encrypted_decrypts()
     what_delivers_is_octets();
     jwe_texts_spell_objects();
 }
+
+/// Where further algorithms of key management are known, the objects whose names are those of algorithms that were known before, or
+/// of none of the further ones, are read as before, and the encrypted ones are decrypted as before.
+pub fn more_algorithms_open_alike()
+    ensures { (limits : Limits) (known further : List ManagementAlg) → OpensAlike limits known further }
+{}

@@ -67,7 +67,7 @@ pub(crate) fn iterations(pair: &Pair<'_>) -> u64
 
 /// The algorithms of some recipient are supported.
 fn has_supported(recipients: &[Recipient]) -> bool
-    ensures { result ≡ list_any (λ r. is_some (algorithms_of (recipient_view r))) recipients.now }
+    ensures { result ≡ list_any (λ r. is_some (algorithms_of limits.management (recipient_view r))) recipients.now }
 {
     recipients
         .iter()
@@ -81,7 +81,7 @@ fn all_pairs<'a>(
     keys: &'a [Key],
     recipients: &'a [Recipient],
 ) -> Result<Vec<Pair<'a>>, Refusal>
-    ensures pairs { IfOk result (λ pairs. map pair_view pairs.items ≡ all_pairs (map key_view keys.now) (map recipient_view recipients.now)) }
+    ensures pairs { IfOk result (λ pairs. map pair_view pairs.items ≡ all_pairs limits.management (map key_view keys.now) (map recipient_view recipients.now)) }
     ensures few { IfOk result (λ pairs. length pairs.items ≤ length keys.now * length recipients.now) }
     ensures memory { IfErr result (λ e. e ≡ Refusal.Memory) }
 {
@@ -99,7 +99,7 @@ fn push_pairs<'a>(
     recipient: &'a Recipient,
 ) -> Result<(), Refusal>
     ensures pushed { OnOk result (map pair_view pairs.new.items
-        ≡ map pair_view pairs.old.items ++ pairs_of (map key_view keys.now) (recipient_view recipient.now)) }
+        ≡ map pair_view pairs.old.items ++ pairs_of limits.management (map key_view keys.now) (recipient_view recipient.now)) }
     ensures memory { OnErr result (result ≡ Err Refusal.Memory) }
 {
     match algorithms_of(recipient) {
@@ -151,7 +151,7 @@ fn push_candidate<'a>(
 /// The algorithms of a recipient, where both of its names are those of algorithms.
 #[tactic(auto, unfolding(crate::specs::Decrypting::algorithms_of))]
 fn algorithms_of(recipient: &Recipient) -> Option<Algorithms>
-    ensures named { option_map algorithms_view result ≡ algorithms_of (recipient_view recipient.now) }
+    ensures named { option_map algorithms_view result ≡ algorithms_of limits.management (recipient_view recipient.now) }
     ensures counted { IfSome result (λ a. is_count_of (Some a.management) (recipient_view recipient.now).p2c ≡ true) }
 {
     Algorithms::named(

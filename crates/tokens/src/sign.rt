@@ -301,7 +301,7 @@ fn alg_by_length(len: usize) -> Option<SignatureAlg>
 
 /// The object of what is signed, without a payload and with empty signatures.
 fn unsigned(alloc: Global, signing: &Signing<'_>) -> Result<Jws, Refusal>
-    ensures { AgreesUnlessMemory jws_view result (unsigned_by (signing_view signing.now)) }
+    ensures { AgreesUnlessMemory jws_view result (unsigned_by limits (signing_view signing.now)) }
 {
     let signatures = unsigned_parts(alloc, signing)?;
     Jws::build(

@@ -7,6 +7,7 @@ ghost use Rattle.octets.specs.Faults.{TellsFaults, DidNotFail, counts};
 ghost use Rattle.octets.specs.Outcomes.{AgreesUnlessExternal, AgreesUnlessMemory, is_external};
 ghost use Rattle.octets.specs.Plan.{accepted, drawn_of, fixed_by, plan_from, planned, planned_beginning};
 ghost use Rattle.octets.specs.Pumps.{KeepsUp};
+ghost use Rattle.keys.specs.Limits.{limits};
 ghost use Rattle.objects.specs.Texts.{handed_in};
 ghost use Rattle.objects.specs.Views.{jwe_view};
 ghost use Rattle.tokens.specs.Encrypting.{text_of};
@@ -40,26 +41,26 @@ pub(crate) fn encrypt<I: Input, O: Output>(
         → IsPossibleInput (observed I.consumed I.is_at_end keys.old keys.new) whole_keys
         → IsPossibleInput (observed I.consumed I.is_at_end random.old random.new) octets
         → IsPossibleInput (observed I.consumed I.is_at_end content.old content.new) plaintext
-        → AgreesUnlessExternal (planned (plan_from (enc_answer compact detach whole_keys whole_template) octets) plaintext)
+        → AgreesUnlessExternal (planned (plan_from (enc_answer limits compact detach whole_keys whole_template) octets) plaintext)
         (record { text = appended (O.written out.old) (O.written out.new); content = appended (O.written detached.old) (O.written detached.new) }) result }
 
     // Exactly what the answer draws is read of the random input, and no more before a refusal.
     ensures drawn { OnOk result ((whole_template whole_keys : List ℕ)
         → IsPossibleInput (observed I.consumed I.is_at_end template.old template.new) whole_template
         → IsPossibleInput (observed I.consumed I.is_at_end keys.old keys.new) whole_keys
-        → length (appended (I.consumed random.old) (I.consumed random.new)) ≡ drawn_of (enc_answer compact detach whole_keys whole_template)) }
+        → length (appended (I.consumed random.old) (I.consumed random.new)) ≡ drawn_of (enc_answer limits compact detach whole_keys whole_template)) }
     ensures at_most { (whole_template whole_keys : List ℕ)
         → IsPossibleInput (observed I.consumed I.is_at_end template.old template.new) whole_template
         → IsPossibleInput (observed I.consumed I.is_at_end keys.old keys.new) whole_keys
-        → length (appended (I.consumed random.old) (I.consumed random.new)) ≤ drawn_of (enc_answer compact detach whole_keys whole_template) }
+        → length (appended (I.consumed random.old) (I.consumed random.new)) ≤ drawn_of (enc_answer limits compact detach whole_keys whole_template) }
     ensures beginning { OnErr result (AppendsPrefixOf
         (planned_beginning (I.is_at_end keys.new && I.is_at_end template.new)
-        (plan_from (enc_answer compact detach (appended (I.consumed keys.old) (I.consumed keys.new)) (appended (I.consumed template.old) (I.consumed template.new)))
+        (plan_from (enc_answer limits compact detach (appended (I.consumed keys.old) (I.consumed keys.new)) (appended (I.consumed template.old) (I.consumed template.new)))
         (appended (I.consumed random.old) (I.consumed random.new)))
         (observed I.consumed I.is_at_end content.old content.new)).text (O.written out.old) (O.written out.new)) }
     ensures beginning_beside { OnErr result (AppendsPrefixOf
         (planned_beginning (I.is_at_end keys.new && I.is_at_end template.new)
-        (plan_from (enc_answer compact detach (appended (I.consumed keys.old) (I.consumed keys.new)) (appended (I.consumed template.old) (I.consumed template.new)))
+        (plan_from (enc_answer limits compact detach (appended (I.consumed keys.old) (I.consumed keys.new)) (appended (I.consumed template.old) (I.consumed template.new)))
         (appended (I.consumed random.old) (I.consumed random.new)))
         (observed I.consumed I.is_at_end content.old content.new)).content (O.written detached.old) (O.written detached.new)) }
     ensures finished { OnOk result (IsTrue (O.is_finished out.new) × (IsTrue detach → IsTrue (O.is_finished detached.new))) }
@@ -70,12 +71,12 @@ pub(crate) fn encrypt<I: Input, O: Output>(
     ensures in_order { (I.is_at_end template.new ≡ false → keys.new ≡ keys.old)
         × (I.is_at_end keys.new && I.is_at_end template.new ≡ false → (random.new ≡ random.old) × (content.new ≡ content.old)) }
     ensures content_last { (refusal : Refusal)
-        → enc_answer compact detach (appended (I.consumed keys.old) (I.consumed keys.new)) (appended (I.consumed template.old) (I.consumed template.new)) ≡ Err refusal
+        → enc_answer limits compact detach (appended (I.consumed keys.old) (I.consumed keys.new)) (appended (I.consumed template.old) (I.consumed template.new)) ≡ Err refusal
         → (random.new ≡ random.old) × (content.new ≡ content.old) }
     ensures reads_first { IfErr result (λ refusal. is_external refusal ≡ false → IsTrue (I.is_at_end template.new) × IsTrue (I.is_at_end keys.new)) }
     ensures memory_first { IfErr result (λ refusal. refusal ≡ Refusal.Memory → content.new ≡ content.old) }
     ensures random_first { length (appended (I.consumed random.old) (I.consumed random.new))
-        < drawn_of (enc_answer compact detach (appended (I.consumed keys.old) (I.consumed keys.new)) (appended (I.consumed template.old) (I.consumed template.new)))
+        < drawn_of (enc_answer limits compact detach (appended (I.consumed keys.old) (I.consumed keys.new)) (appended (I.consumed template.old) (I.consumed template.new)))
         → content.new ≡ content.old }
 
     // An output that did not fail, and on which nothing was written, is as it was; and the text is not begun before the content
@@ -86,15 +87,15 @@ pub(crate) fn encrypt<I: Input, O: Output>(
     ensures unread { IfErr result (λ refusal. appended (I.consumed content.old) (I.consumed content.new) ≡ []
         → (DidNotFail refusal (counts O.failures out.old out.new) → out.new ≡ out.old) × (refusal ≢ Refusal.Write → detached.new ≡ detached.old)) }
     ensures keeps_up { result ≡ Err Refusal.Read → appended (I.consumed content.old) (I.consumed content.new) ≢ []
-        → KeepsUp (λ front. (fixed_by (plan_from (enc_answer compact detach (appended (I.consumed keys.old) (I.consumed keys.new)) (appended (I.consumed template.old) (I.consumed template.new)))
+        → KeepsUp (λ front. (fixed_by (plan_from (enc_answer limits compact detach (appended (I.consumed keys.old) (I.consumed keys.new)) (appended (I.consumed template.old) (I.consumed template.new)))
         (appended (I.consumed random.old) (I.consumed random.new))) front).text)
         (appended (I.consumed content.old) (I.consumed content.new)) (O.written out.old) (O.written out.new)
-        × KeepsUp (λ front. (fixed_by (plan_from (enc_answer compact detach (appended (I.consumed keys.old) (I.consumed keys.new)) (appended (I.consumed template.old) (I.consumed template.new)))
+        × KeepsUp (λ front. (fixed_by (plan_from (enc_answer limits compact detach (appended (I.consumed keys.old) (I.consumed keys.new)) (appended (I.consumed template.old) (I.consumed template.new)))
         (appended (I.consumed random.old) (I.consumed random.new))) front).content)
         (appended (I.consumed content.old) (I.consumed content.new)) (O.written detached.old) (O.written detached.new) }
     ensures content_first { OnErr result ((out.new ≡ out.old) ⊎ (IsTrue detach → IsTrue (I.is_at_end content.new) × IsTrue (O.is_finished detached.new)
         × (O.written detached.new ≡ O.written detached.old ++ (planned_beginning (I.is_at_end keys.new && I.is_at_end template.new)
-        (plan_from (enc_answer compact detach (appended (I.consumed keys.old) (I.consumed keys.new)) (appended (I.consumed template.old) (I.consumed template.new)))
+        (plan_from (enc_answer limits compact detach (appended (I.consumed keys.old) (I.consumed keys.new)) (appended (I.consumed template.old) (I.consumed template.new)))
         (appended (I.consumed random.old) (I.consumed random.new)))
         (observed I.consumed I.is_at_end content.old content.new)).content))) }
     ensures faults { TellsFaults (counts I.failures template.old template.new ∷ counts I.failures keys.old keys.new
@@ -143,12 +144,12 @@ pub(crate) fn decrypt<I: Input, O: Output>(
         → IsPossibleInput (observed I.consumed I.is_at_end text.old text.new) whole_text
         → IsPossibleInput (observed I.consumed I.is_at_end keys.old keys.new) whole_keys
         → IsPossibleInput (observed I.consumed I.is_at_end content.old content.new) whole_content
-        → AgreesUnlessExternal (dec_answer whole_keys (handed_in given whole_content) whole_text) (appended (O.written out.old) (O.written out.new)) result }
+        → AgreesUnlessExternal (dec_answer limits whole_keys (handed_in given whole_content) whole_text) (appended (O.written out.old) (O.written out.new)) result }
 
     // The output is not touched before a key has opened the object.
     ensures held_back { IfErr result (λ refusal. refusal ≢ Refusal.Write → out.new ≡ out.old) }
     ensures beginning { OnErr result (AppendsPrefixOf
-        (accepted (dec_answer (appended (I.consumed keys.old) (I.consumed keys.new)) (handed_in given (appended (I.consumed content.old) (I.consumed content.new))) (appended (I.consumed text.old) (I.consumed text.new)))
+        (accepted (dec_answer limits (appended (I.consumed keys.old) (I.consumed keys.new)) (handed_in given (appended (I.consumed content.old) (I.consumed content.new))) (appended (I.consumed text.old) (I.consumed text.new)))
         (I.is_at_end keys.new && I.is_at_end text.new && (not given || I.is_at_end content.new))) (O.written out.old) (O.written out.new)) }
     ensures finished { OnOk result (IsTrue (O.is_finished out.new)) }
     ensures in_order { (I.is_at_end text.new ≡ false → keys.new ≡ keys.old)
@@ -181,7 +182,7 @@ pub(crate) fn format<I: Input, O: Output>(
     ensures answer { (whole whole_content : List ℕ)
         → IsPossibleInput (observed I.consumed I.is_at_end text.old text.new) whole
         → IsPossibleInput (observed I.consumed I.is_at_end content.old content.new) whole_content
-        → AgreesUnlessExternal (jwe_fmt_answer compact detach (handed_in given whole_content) whole)
+        → AgreesUnlessExternal (jwe_fmt_answer limits compact detach (handed_in given whole_content) whole)
         (record { text = appended (O.written out.old) (O.written out.new); content = appended (O.written detached.old) (O.written detached.new) }) result }
 
     // The outputs are not touched before all is accepted, and the text's not before the content stands whole beside it, where it
@@ -189,12 +190,12 @@ pub(crate) fn format<I: Input, O: Output>(
     ensures held_back { IfErr result (λ refusal. (DidNotFail refusal (counts O.failures out.old out.new) → out.new ≡ out.old)
         × (refusal ≢ Refusal.Write → detached.new ≡ detached.old)) }
     ensures content_first { OnErr result ((out.new ≡ out.old) ⊎ (IsTrue detach → (IsTrue given → IsTrue (I.is_at_end content.new)) × IsTrue (O.is_finished detached.new)
-        × (O.written detached.new ≡ O.written detached.old ++ (formed (jwe_fmt_answer compact detach (handed_in given (appended (I.consumed content.old) (I.consumed content.new))) (appended (I.consumed text.old) (I.consumed text.new)))
+        × (O.written detached.new ≡ O.written detached.old ++ (formed (jwe_fmt_answer limits compact detach (handed_in given (appended (I.consumed content.old) (I.consumed content.new))) (appended (I.consumed text.old) (I.consumed text.new)))
         (I.is_at_end text.new && (not given || I.is_at_end content.new))).content))) }
     ensures beginning { OnErr result (
-        (AppendsPrefixOf (formed (jwe_fmt_answer compact detach (handed_in given (appended (I.consumed content.old) (I.consumed content.new))) (appended (I.consumed text.old) (I.consumed text.new)))
+        (AppendsPrefixOf (formed (jwe_fmt_answer limits compact detach (handed_in given (appended (I.consumed content.old) (I.consumed content.new))) (appended (I.consumed text.old) (I.consumed text.new)))
         (I.is_at_end text.new && (not given || I.is_at_end content.new))).text (O.written out.old) (O.written out.new))
-        × (AppendsPrefixOf (formed (jwe_fmt_answer compact detach (handed_in given (appended (I.consumed content.old) (I.consumed content.new))) (appended (I.consumed text.old) (I.consumed text.new)))
+        × (AppendsPrefixOf (formed (jwe_fmt_answer limits compact detach (handed_in given (appended (I.consumed content.old) (I.consumed content.new))) (appended (I.consumed text.old) (I.consumed text.new)))
         (I.is_at_end text.new && (not given || I.is_at_end content.new))).content (O.written detached.old) (O.written detached.new))) }
     ensures finished { OnOk result (IsTrue (O.is_finished out.new) × (IsTrue detach → IsTrue (O.is_finished detached.new))) }
 

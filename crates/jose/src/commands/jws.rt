@@ -7,6 +7,7 @@ ghost use Rattle.octets.specs.Faults.{TellsFaults, DidNotFail, counts};
 ghost use Rattle.octets.specs.Outcomes.{AgreesUnlessExternal, AgreesUnlessMemory, is_external};
 ghost use Rattle.octets.specs.Plan.{accepted, fixed_by, planned, planned_beginning};
 ghost use Rattle.octets.specs.Pumps.{KeepsUp};
+ghost use Rattle.keys.specs.Limits.{limits};
 ghost use Rattle.objects.specs.Texts.{handed_in};
 ghost use Rattle.objects.specs.Views.{jws_view};
 ghost use Rattle.tokens.specs.Signing.{text_of};
@@ -38,15 +39,15 @@ pub(crate) fn sign<I: Input, O: Output>(
         → IsPossibleInput (observed I.consumed I.is_at_end template.old template.new) whole_template
         → IsPossibleInput (observed I.consumed I.is_at_end keys.old keys.new) whole_keys
         → IsPossibleInput (observed I.consumed I.is_at_end content.old content.new) payload
-        → AgreesUnlessExternal (planned (sig_answer compact detach whole_keys whole_template) payload)
+        → AgreesUnlessExternal (planned (sig_answer limits compact detach whole_keys whole_template) payload)
         (record { text = appended (O.written out.old) (O.written out.new); content = appended (O.written detached.old) (O.written detached.new) }) result }
     ensures beginning { OnErr result (AppendsPrefixOf
         (planned_beginning (I.is_at_end keys.new && I.is_at_end template.new)
-        (sig_answer compact detach (appended (I.consumed keys.old) (I.consumed keys.new)) (appended (I.consumed template.old) (I.consumed template.new)))
+        (sig_answer limits compact detach (appended (I.consumed keys.old) (I.consumed keys.new)) (appended (I.consumed template.old) (I.consumed template.new)))
         (observed I.consumed I.is_at_end content.old content.new)).text (O.written out.old) (O.written out.new)) }
     ensures beginning_beside { OnErr result (AppendsPrefixOf
         (planned_beginning (I.is_at_end keys.new && I.is_at_end template.new)
-        (sig_answer compact detach (appended (I.consumed keys.old) (I.consumed keys.new)) (appended (I.consumed template.old) (I.consumed template.new)))
+        (sig_answer limits compact detach (appended (I.consumed keys.old) (I.consumed keys.new)) (appended (I.consumed template.old) (I.consumed template.new)))
         (observed I.consumed I.is_at_end content.old content.new)).content (O.written detached.old) (O.written detached.new)) }
     ensures finished { OnOk result (IsTrue (O.is_finished out.new) × (IsTrue detach → IsTrue (O.is_finished detached.new))) }
     ensures untouched { detach ≡ false → detached.new ≡ detached.old }
@@ -55,7 +56,7 @@ pub(crate) fn sign<I: Input, O: Output>(
     ensures in_order { (I.is_at_end template.new ≡ false → keys.new ≡ keys.old)
         × (I.is_at_end keys.new && I.is_at_end template.new ≡ false → content.new ≡ content.old) }
     ensures content_last { (refusal : Refusal)
-        → sig_answer compact detach (appended (I.consumed keys.old) (I.consumed keys.new)) (appended (I.consumed template.old) (I.consumed template.new)) ≡ Err refusal
+        → sig_answer limits compact detach (appended (I.consumed keys.old) (I.consumed keys.new)) (appended (I.consumed template.old) (I.consumed template.new)) ≡ Err refusal
         → content.new ≡ content.old }
     ensures reads_first { IfErr result (λ refusal. is_external refusal ≡ false → IsTrue (I.is_at_end template.new) × IsTrue (I.is_at_end keys.new)) }
     ensures memory_first { IfErr result (λ refusal. refusal ≡ Refusal.Memory → content.new ≡ content.old) }
@@ -68,13 +69,13 @@ pub(crate) fn sign<I: Input, O: Output>(
     ensures unread { IfErr result (λ refusal. appended (I.consumed content.old) (I.consumed content.new) ≡ []
         → (DidNotFail refusal (counts O.failures out.old out.new) → out.new ≡ out.old) × (refusal ≢ Refusal.Write → detached.new ≡ detached.old)) }
     ensures keeps_up { result ≡ Err Refusal.Read → appended (I.consumed content.old) (I.consumed content.new) ≢ []
-        → KeepsUp (λ front. (fixed_by (sig_answer compact detach (appended (I.consumed keys.old) (I.consumed keys.new)) (appended (I.consumed template.old) (I.consumed template.new))) front).text)
+        → KeepsUp (λ front. (fixed_by (sig_answer limits compact detach (appended (I.consumed keys.old) (I.consumed keys.new)) (appended (I.consumed template.old) (I.consumed template.new))) front).text)
         (appended (I.consumed content.old) (I.consumed content.new)) (O.written out.old) (O.written out.new)
-        × KeepsUp (λ front. (fixed_by (sig_answer compact detach (appended (I.consumed keys.old) (I.consumed keys.new)) (appended (I.consumed template.old) (I.consumed template.new))) front).content)
+        × KeepsUp (λ front. (fixed_by (sig_answer limits compact detach (appended (I.consumed keys.old) (I.consumed keys.new)) (appended (I.consumed template.old) (I.consumed template.new))) front).content)
         (appended (I.consumed content.old) (I.consumed content.new)) (O.written detached.old) (O.written detached.new) }
     ensures content_first { OnErr result ((out.new ≡ out.old) ⊎ (IsTrue detach → IsTrue (I.is_at_end content.new) × IsTrue (O.is_finished detached.new)
         × (O.written detached.new ≡ O.written detached.old ++ (planned_beginning (I.is_at_end keys.new && I.is_at_end template.new)
-        (sig_answer compact detach (appended (I.consumed keys.old) (I.consumed keys.new)) (appended (I.consumed template.old) (I.consumed template.new)))
+        (sig_answer limits compact detach (appended (I.consumed keys.old) (I.consumed keys.new)) (appended (I.consumed template.old) (I.consumed template.new)))
         (observed I.consumed I.is_at_end content.old content.new)).content))) }
     ensures faults { TellsFaults (counts I.failures template.old template.new ∷ counts I.failures keys.old keys.new ∷ counts I.failures content.old content.new ∷ [])
         (counts O.failures out.old out.new ∷ counts O.failures detached.old detached.new ∷ []) result }
@@ -122,12 +123,12 @@ pub(crate) fn verify<I: Input, O: Output>(
         → IsPossibleInput (observed I.consumed I.is_at_end text.old text.new) whole_text
         → IsPossibleInput (observed I.consumed I.is_at_end keys.old keys.new) whole_keys
         → IsPossibleInput (observed I.consumed I.is_at_end content.old content.new) whole_content
-        → AgreesUnlessExternal (ver_answer all wanted whole_keys (handed_in given whole_content) whole_text) (appended (O.written out.old) (O.written out.new)) result }
+        → AgreesUnlessExternal (ver_answer limits all wanted whole_keys (handed_in given whole_content) whole_text) (appended (O.written out.old) (O.written out.new)) result }
 
     // The output is not touched before all is accepted.
     ensures held_back { IfErr result (λ refusal. refusal ≢ Refusal.Write → out.new ≡ out.old) }
     ensures beginning { OnErr result (AppendsPrefixOf
-        (accepted (ver_answer all wanted (appended (I.consumed keys.old) (I.consumed keys.new)) (handed_in given (appended (I.consumed content.old) (I.consumed content.new))) (appended (I.consumed text.old) (I.consumed text.new)))
+        (accepted (ver_answer limits all wanted (appended (I.consumed keys.old) (I.consumed keys.new)) (handed_in given (appended (I.consumed content.old) (I.consumed content.new))) (appended (I.consumed text.old) (I.consumed text.new)))
         (I.is_at_end keys.new && I.is_at_end text.new && (not given || I.is_at_end content.new))) (O.written out.old) (O.written out.new)) }
     ensures finished { OnOk result (IsTrue wanted → IsTrue (O.is_finished out.new)) }
     ensures untouched { (wanted ≡ false → out.new ≡ out.old) × (given ≡ false → content.new ≡ content.old) }
@@ -164,7 +165,7 @@ pub(crate) fn format<I: Input, O: Output>(
     ensures answer { (whole whole_content : List ℕ)
         → IsPossibleInput (observed I.consumed I.is_at_end text.old text.new) whole
         → IsPossibleInput (observed I.consumed I.is_at_end content.old content.new) whole_content
-        → AgreesUnlessExternal (jws_fmt_answer compact detach (handed_in given whole_content) whole)
+        → AgreesUnlessExternal (jws_fmt_answer limits compact detach (handed_in given whole_content) whole)
         (record { text = appended (O.written out.old) (O.written out.new); content = appended (O.written detached.old) (O.written detached.new) }) result }
 
     // The outputs are not touched before all is accepted, and the text's not before the content stands whole beside it, where it
@@ -172,12 +173,12 @@ pub(crate) fn format<I: Input, O: Output>(
     ensures held_back { IfErr result (λ refusal. (DidNotFail refusal (counts O.failures out.old out.new) → out.new ≡ out.old)
         × (refusal ≢ Refusal.Write → detached.new ≡ detached.old)) }
     ensures content_first { OnErr result ((out.new ≡ out.old) ⊎ (IsTrue detach → (IsTrue given → IsTrue (I.is_at_end content.new)) × IsTrue (O.is_finished detached.new)
-        × (O.written detached.new ≡ O.written detached.old ++ (formed (jws_fmt_answer compact detach (handed_in given (appended (I.consumed content.old) (I.consumed content.new))) (appended (I.consumed text.old) (I.consumed text.new)))
+        × (O.written detached.new ≡ O.written detached.old ++ (formed (jws_fmt_answer limits compact detach (handed_in given (appended (I.consumed content.old) (I.consumed content.new))) (appended (I.consumed text.old) (I.consumed text.new)))
         (I.is_at_end text.new && (not given || I.is_at_end content.new))).content))) }
     ensures beginning { OnErr result (
-        (AppendsPrefixOf (formed (jws_fmt_answer compact detach (handed_in given (appended (I.consumed content.old) (I.consumed content.new))) (appended (I.consumed text.old) (I.consumed text.new)))
+        (AppendsPrefixOf (formed (jws_fmt_answer limits compact detach (handed_in given (appended (I.consumed content.old) (I.consumed content.new))) (appended (I.consumed text.old) (I.consumed text.new)))
         (I.is_at_end text.new && (not given || I.is_at_end content.new))).text (O.written out.old) (O.written out.new))
-        × (AppendsPrefixOf (formed (jws_fmt_answer compact detach (handed_in given (appended (I.consumed content.old) (I.consumed content.new))) (appended (I.consumed text.old) (I.consumed text.new)))
+        × (AppendsPrefixOf (formed (jws_fmt_answer limits compact detach (handed_in given (appended (I.consumed content.old) (I.consumed content.new))) (appended (I.consumed text.old) (I.consumed text.new)))
         (I.is_at_end text.new && (not given || I.is_at_end content.new))).content (O.written detached.old) (O.written detached.new))) }
     ensures finished { OnOk result (IsTrue (O.is_finished out.new) × (IsTrue detach → IsTrue (O.is_finished detached.new))) }
 

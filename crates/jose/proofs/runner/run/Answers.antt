@@ -155,7 +155,7 @@ returns-in-B64Dec-clause-keeps_up g c is =
 
 pub returns-in-JwsSig-clause-answer : goal.returns-in-JwsSig-clause-answer
 returns-in-JwsSig-clause-answer g c inputs may =
-    rw (c.in-JwsSig.is, ← c.has-compact.ensures, ← c.has-detach.ensures, plan_from-by_plan (sig_answer c.has-compact.result c.has-detach.result inputs.keys inputs.text) inputs.random)
+    rw (c.in-JwsSig.is, ← c.has-compact.ensures, ← c.has-detach.ensures, plan_from-by_plan (sig_answer limits c.has-compact.result c.has-detach.result inputs.keys inputs.text) inputs.random)
     (c.sign.ensures.answer inputs.text inputs.keys inputs.content may.text may.keys may.content)
 
 pub returns-in-JwsSig-clause-beginning : goal.returns-in-JwsSig-clause-beginning
@@ -163,14 +163,14 @@ returns-in-JwsSig-clause-beginning g c =
     let consumed = g.I.Input.consumed in
     let old = c.args.inputs.now in
     let random = consumed old.random in
-    let plan = sig_answer c.has-compact.result c.has-detach.result (appended (consumed old.keys) (consumed c.sign.new.keys)) (appended (consumed old.text) (consumed c.sign.new.template)) in
+    let plan = sig_answer limits c.has-compact.result c.has-detach.result (appended (consumed old.keys) (consumed c.sign.new.keys)) (appended (consumed old.text) (consumed c.sign.new.template)) in
     both_on_refusal c.sign.result c.sign.ensures.beginning c.sign.ensures.beginning_beside
     (λ text content. rw (c.in-JwsSig.is, ← c.has-compact.ensures, ← c.has-detach.ensures, plan_from-by_plan plan (appended random random)) (record { text = text; content = content }))
 
 pub returns-in-JwsSig-clause-drawn : goal.returns-in-JwsSig-clause-drawn
 returns-in-JwsSig-clause-drawn g c =
     on_success c.sign.result c.sign.ensures.finished
-    (λ done inputs may. rw (c.in-JwsSig.is, ← c.has-compact.ensures, ← c.has-detach.ensures, by_plan_drawn (sig_answer c.has-compact.result c.has-detach.result inputs.keys inputs.text)) (nothing_drawn (g.I.Input.consumed c.args.inputs.now.random)))
+    (λ done inputs may. rw (c.in-JwsSig.is, ← c.has-compact.ensures, ← c.has-detach.ensures, by_plan_drawn (sig_answer limits c.has-compact.result c.has-detach.result inputs.keys inputs.text)) (nothing_drawn (g.I.Input.consumed c.args.inputs.now.random)))
 
 pub returns-in-JwsSig-clause-at_most : goal.returns-in-JwsSig-clause-at_most
 returns-in-JwsSig-clause-at_most g c inputs may = none_drawn (g.I.Input.consumed c.args.inputs.now.random) _
@@ -187,7 +187,7 @@ pub returns-in-JwsSig-clause-keeps_up : goal.returns-in-JwsSig-clause-keeps_up
 returns-in-JwsSig-clause-keeps_up g c is =
     let consumed = g.I.Input.consumed in
     let old = c.args.inputs.now in
-    let plan = sig_answer c.has-compact.result c.has-detach.result (appended (consumed old.keys) (consumed c.sign.new.keys)) (appended (consumed old.text) (consumed c.sign.new.template)) in
+    let plan = sig_answer limits c.has-compact.result c.has-detach.result (appended (consumed old.keys) (consumed c.sign.new.keys)) (appended (consumed old.text) (consumed c.sign.new.template)) in
     rw (c.in-JwsSig.is, ← c.has-compact.ensures, ← c.has-detach.ensures, plan_from-by_plan plan (appended (consumed old.random) (consumed old.random)))
     (λ streams some. c.sign.ensures.keeps_up is some)
 
@@ -196,7 +196,7 @@ returns-in-JwsSig-clause-keeps_up g c is =
 pub returns-in-JwsVer-clause-answer : goal.returns-in-JwsVer-clause-answer
 returns-in-JwsVer-clause-answer g c inputs may =
     let given = c.has-given.result in
-    let a = λ (detached : Option (List ℕ)). ver_answer c.has-all.result c.has-wanted.result inputs.keys detached inputs.text in
+    let a = λ (detached : Option (List ℕ)). ver_answer limits c.has-all.result c.has-wanted.result inputs.keys detached inputs.text in
     let h = c.verify.ensures.answer inputs.text inputs.keys inputs.content may.text may.keys may.content in
     rw (c.in-JwsVer.is, ← c.has-given.ensures, ← c.has-all.ensures, ← c.has-wanted.ensures, placed_of_object as_content given [] a, planned_of_object given nothing (λ detached. a detached >>= λ content. Ok (as_content content)) inputs.random inputs.text inputs.content)
     (agrees_as_content (a (handed_in given inputs.content)) _ _ _ (drop-length (g.O.Output.written c.args.outputs.now.text)) h)
@@ -212,7 +212,7 @@ returns-in-JwsVer-clause-beginning g c =
     let text = observed consumed at_end old.text new.text in
     let content = observed consumed at_end old.content new.content in
     let others = at_end new.keys && at_end new.text in
-    let a = λ (detached : Option (List ℕ)). ver_answer c.has-all.result c.has-wanted.result (appended (consumed old.keys) (consumed new.keys)) detached text.octets in
+    let a = λ (detached : Option (List ℕ)). ver_answer limits c.has-all.result c.has-wanted.result (appended (consumed old.keys) (consumed new.keys)) detached text.octets in
     on_refusal c.verify.result c.verify.ensures.beginning
     (λ h. rw (
       c.in-JwsVer.is,
@@ -227,7 +227,7 @@ returns-in-JwsVer-clause-beginning g c =
 
 pub returns-in-JwsVer-clause-drawn : goal.returns-in-JwsVer-clause-drawn
 returns-in-JwsVer-clause-drawn g c =
-    let a = λ (inputs : InputTexts) (detached : Option (List ℕ)). ver_answer c.has-all.result c.has-wanted.result inputs.keys detached inputs.text in
+    let a = λ (inputs : InputTexts) (detached : Option (List ℕ)). ver_answer limits c.has-all.result c.has-wanted.result inputs.keys detached inputs.text in
     on_success c.verify.result c.verify.ensures.finished
     (λ done inputs may. rw (c.in-JwsVer.is, ← c.has-given.ensures, ← c.has-all.ensures, ← c.has-wanted.ensures, placed_drawn as_content (of_object c.has-given.result [] (a inputs)), drawn_of_object c.has-given.result [] (a inputs)) (nothing_drawn (g.I.Input.consumed c.args.inputs.now.random)))
 
@@ -246,7 +246,7 @@ returns-in-JwsVer-clause-content_last g c refusal is =
 
 pub returns-in-JwsFmt-clause-answer : goal.returns-in-JwsFmt-clause-answer
 returns-in-JwsFmt-clause-answer g c inputs may =
-    let a = λ (detached : Option (List ℕ)). jws_fmt_answer c.has-compact-in-JwsFmt.result c.has-detach-in-JwsFmt.result detached inputs.text in
+    let a = λ (detached : Option (List ℕ)). jws_fmt_answer limits c.has-compact-in-JwsFmt.result c.has-detach-in-JwsFmt.result detached inputs.text in
     rw (c.in-JwsFmt.is, ← c.has-given-in-JwsFmt.ensures, ← c.has-compact-in-JwsFmt.ensures, ← c.has-detach-in-JwsFmt.ensures, planned_of_object c.has-given-in-JwsFmt.result nothing a inputs.random inputs.text inputs.content)
     (c.format.ensures.answer inputs.text inputs.content may.text may.content)
 
@@ -260,14 +260,14 @@ returns-in-JwsFmt-clause-beginning g c =
     let random = consumed old.random in
     let text = observed consumed at_end old.text new.text in
     let content = observed consumed at_end old.content new.content in
-    let a = λ (detached : Option (List ℕ)). jws_fmt_answer c.has-compact-in-JwsFmt.result c.has-detach-in-JwsFmt.result detached text.octets in
+    let a = λ (detached : Option (List ℕ)). jws_fmt_answer limits c.has-compact-in-JwsFmt.result c.has-detach-in-JwsFmt.result detached text.octets in
     on_refusal c.format.result c.format.ensures.beginning
     (λ h. rw (c.in-JwsFmt.is, ← c.has-given-in-JwsFmt.ensures, ← c.has-compact-in-JwsFmt.ensures, ← c.has-detach-in-JwsFmt.ensures, has_template_beside given true, begun_of_object given text.ended a (appended random random) text content) (record { text = h.0; content = h.1 }))
 
 pub returns-in-JwsFmt-clause-drawn : goal.returns-in-JwsFmt-clause-drawn
 returns-in-JwsFmt-clause-drawn g c =
     on_success c.format.result c.format.ensures.finished
-    (λ done inputs may. rw (c.in-JwsFmt.is, ← c.has-given-in-JwsFmt.ensures, ← c.has-compact-in-JwsFmt.ensures, ← c.has-detach-in-JwsFmt.ensures, drawn_of_object c.has-given-in-JwsFmt.result nothing (λ detached. jws_fmt_answer c.has-compact-in-JwsFmt.result c.has-detach-in-JwsFmt.result detached inputs.text)) (nothing_drawn (g.I.Input.consumed c.args.inputs.now.random)))
+    (λ done inputs may. rw (c.in-JwsFmt.is, ← c.has-given-in-JwsFmt.ensures, ← c.has-compact-in-JwsFmt.ensures, ← c.has-detach-in-JwsFmt.ensures, drawn_of_object c.has-given-in-JwsFmt.result nothing (λ detached. jws_fmt_answer limits c.has-compact-in-JwsFmt.result c.has-detach-in-JwsFmt.result detached inputs.text)) (nothing_drawn (g.I.Input.consumed c.args.inputs.now.random)))
 
 pub returns-in-JwsFmt-clause-at_most : goal.returns-in-JwsFmt-clause-at_most
 returns-in-JwsFmt-clause-at_most g c inputs may = none_drawn (g.I.Input.consumed c.args.inputs.now.random) _
@@ -318,7 +318,7 @@ returns-in-JweEnc-clause-keeps_up g c is =
 pub returns-in-JweDec-clause-answer : goal.returns-in-JweDec-clause-answer
 returns-in-JweDec-clause-answer g c inputs may =
     let given = c.has-given-in-JweDec.result in
-    let a = λ (detached : Option (List ℕ)). dec_answer inputs.keys detached inputs.text in
+    let a = λ (detached : Option (List ℕ)). dec_answer limits inputs.keys detached inputs.text in
     let h = c.decrypt.ensures.answer inputs.text inputs.keys inputs.content may.text may.keys may.content in
     rw (c.in-JweDec.is, ← c.has-given-in-JweDec.ensures, placed_of_object as_content given [] a, planned_of_object given nothing (λ detached. a detached >>= λ content. Ok (as_content content)) inputs.random inputs.text inputs.content)
     (agrees_as_content (a (handed_in given inputs.content)) _ _ _ (drop-length (g.O.Output.written c.args.outputs.now.text)) h)
@@ -334,7 +334,7 @@ returns-in-JweDec-clause-beginning g c =
     let text = observed consumed at_end old.text new.text in
     let content = observed consumed at_end old.content new.content in
     let others = at_end new.keys && at_end new.text in
-    let a = λ (detached : Option (List ℕ)). dec_answer (appended (consumed old.keys) (consumed new.keys)) detached text.octets in
+    let a = λ (detached : Option (List ℕ)). dec_answer limits (appended (consumed old.keys) (consumed new.keys)) detached text.octets in
     on_refusal c.decrypt.result c.decrypt.ensures.beginning
     (λ h. rw (
       c.in-JweDec.is,
@@ -347,7 +347,7 @@ returns-in-JweDec-clause-beginning g c =
 
 pub returns-in-JweDec-clause-drawn : goal.returns-in-JweDec-clause-drawn
 returns-in-JweDec-clause-drawn g c =
-    let a = λ (inputs : InputTexts) (detached : Option (List ℕ)). dec_answer inputs.keys detached inputs.text in
+    let a = λ (inputs : InputTexts) (detached : Option (List ℕ)). dec_answer limits inputs.keys detached inputs.text in
     on_success c.decrypt.result c.decrypt.ensures.finished
     (λ done inputs may. rw (c.in-JweDec.is, ← c.has-given-in-JweDec.ensures, placed_drawn as_content (of_object c.has-given-in-JweDec.result [] (a inputs)), drawn_of_object c.has-given-in-JweDec.result [] (a inputs)) (nothing_drawn (g.I.Input.consumed c.args.inputs.now.random)))
 
@@ -366,7 +366,7 @@ returns-in-JweDec-clause-content_last g c refusal is =
 
 pub returns-in-JweFmt-clause-answer : goal.returns-in-JweFmt-clause-answer
 returns-in-JweFmt-clause-answer g c inputs may =
-    let a = λ (detached : Option (List ℕ)). jwe_fmt_answer c.has-compact-in-JweFmt.result c.has-detach-in-JweFmt.result detached inputs.text in
+    let a = λ (detached : Option (List ℕ)). jwe_fmt_answer limits c.has-compact-in-JweFmt.result c.has-detach-in-JweFmt.result detached inputs.text in
     rw (c.in-JweFmt.is, ← c.has-given-in-JweFmt.ensures, ← c.has-compact-in-JweFmt.ensures, ← c.has-detach-in-JweFmt.ensures, planned_of_object c.has-given-in-JweFmt.result nothing a inputs.random inputs.text inputs.content)
     (c.format-in-JweFmt.ensures.answer inputs.text inputs.content may.text may.content)
 
@@ -380,14 +380,14 @@ returns-in-JweFmt-clause-beginning g c =
     let random = consumed old.random in
     let text = observed consumed at_end old.text new.text in
     let content = observed consumed at_end old.content new.content in
-    let a = λ (detached : Option (List ℕ)). jwe_fmt_answer c.has-compact-in-JweFmt.result c.has-detach-in-JweFmt.result detached text.octets in
+    let a = λ (detached : Option (List ℕ)). jwe_fmt_answer limits c.has-compact-in-JweFmt.result c.has-detach-in-JweFmt.result detached text.octets in
     on_refusal c.format-in-JweFmt.result c.format-in-JweFmt.ensures.beginning
     (λ h. rw (c.in-JweFmt.is, ← c.has-given-in-JweFmt.ensures, ← c.has-compact-in-JweFmt.ensures, ← c.has-detach-in-JweFmt.ensures, has_template_beside given true, begun_of_object given text.ended a (appended random random) text content) (record { text = h.0; content = h.1 }))
 
 pub returns-in-JweFmt-clause-drawn : goal.returns-in-JweFmt-clause-drawn
 returns-in-JweFmt-clause-drawn g c =
     on_success c.format-in-JweFmt.result c.format-in-JweFmt.ensures.finished
-    (λ done inputs may. rw (c.in-JweFmt.is, ← c.has-given-in-JweFmt.ensures, ← c.has-compact-in-JweFmt.ensures, ← c.has-detach-in-JweFmt.ensures, drawn_of_object c.has-given-in-JweFmt.result nothing (λ detached. jwe_fmt_answer c.has-compact-in-JweFmt.result c.has-detach-in-JweFmt.result detached inputs.text)) (nothing_drawn (g.I.Input.consumed c.args.inputs.now.random)))
+    (λ done inputs may. rw (c.in-JweFmt.is, ← c.has-given-in-JweFmt.ensures, ← c.has-compact-in-JweFmt.ensures, ← c.has-detach-in-JweFmt.ensures, drawn_of_object c.has-given-in-JweFmt.result nothing (λ detached. jwe_fmt_answer limits c.has-compact-in-JweFmt.result c.has-detach-in-JweFmt.result detached inputs.text)) (nothing_drawn (g.I.Input.consumed c.args.inputs.now.random)))
 
 pub returns-in-JweFmt-clause-at_most : goal.returns-in-JweFmt-clause-at_most
 returns-in-JweFmt-clause-at_most g c inputs may = none_drawn (g.I.Input.consumed c.args.inputs.now.random) _

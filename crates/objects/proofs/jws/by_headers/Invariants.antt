@@ -1,4 +1,5 @@
 use Rattle.std.proofs.Common.{◌≡◌, map}
+use Rattle.keys.specs.Limits.{limits}
 use Rattle.objects.specs.Jws.{signature_by}
 use Rattle.objects.specs.Texts.{each}
 use Rattle.objects.specs.Views.{headed_view, signature_view}
@@ -8,4 +9,4 @@ use Rattle.objects.proofs.jws.by_headers.Given as goal
 -- the signatures so far and those that are left are all of them
 abbrev pub invariant-loop-signature : goal.invariant-loop-signature
 invariant-loop-signature l =
-    each signature_by (map headed_view l.fn.headed.items) ≡ with_done signature_by (map signature_view l.signatures.items) (map headed_view l.signature-iterator.rest.items)
+    each (signature_by limits.management) (map headed_view l.fn.headed.items) ≡ with_done (signature_by limits.management) (map signature_view l.signatures.items) (map headed_view l.signature-iterator.rest.items)

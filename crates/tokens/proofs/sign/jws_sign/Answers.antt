@@ -1,17 +1,18 @@
-use Rattle.std.proofs.Common.{rules, ◌++◌, length, map, drop, string_bytes, sym, ap, subst, refl, ◌∙◌, IsTrue}
+use Rattle.std.proofs.Common.{rules, ◌++◌, length, map, drop, string_bytes, sym, ap, subst, refl, ◌∙◌, IsTrue, Err}
 use Rattle.std.proofs.lemmas.List.{length-map}
 use Rattle.octets.specs.Base64url.{base64url}
 use Rattle.octets.specs.Devices.{appended, AppendsPrefixOf}
 use Rattle.octets.specs.Encoding.{encoding}
+use Rattle.octets.specs.Faults.{counts}
 use Rattle.octets.specs.Octets.{IsOctets}
 use Rattle.octets.specs.Plan.{as_it_is}
 use Rattle.octets.specs.Pumps.{behind}
-use Rattle.octets.proofs.Agreement.{agrees_last, at_refusal, on_refusal, on_success, seen_possible}
+use Rattle.octets.proofs.Agreement.{agrees_last, at_refusal, of_refusal, on_refusal, on_success, seen_possible}
 use Rattle.octets.proofs.Decoded.{IsOctets-drop}
 use Rattle.octets.proofs.Growing.{encoding_grows, as_it_is_grows, plain_beginning, kept_up_by_none}
 use Rattle.octets.proofs.Prefixes.{AppendsPrefixOf-all, AppendsPrefixOf-kept}
 use Rattle.octets.proofs.Pumping.{behind_grows, beginning_behind_nothing, keeps_up, all_written, passed_on}
-use Rattle.octets.proofs.Spared.{stands_first}
+use Rattle.octets.proofs.Spared.{not_told, stands_first}
 use Rattle.objects.specs.Frames.{filled}
 use Rattle.tokens.specs.SigningInputs.{signature_text}
 use Rattle.tokens.specs.contracts.signing_input.HmacInputSigningInput.TheImpl.{has_taken-value}
@@ -353,4 +354,7 @@ returns-in_err-inputs-in-None-clause-uncut g c =
 
 pub returns-in_err-inputs-in-None-clause-unread : goal.returns-in_err-inputs-in-None-clause-unread
 returns-in_err-inputs-in-None-clause-unread g c =
-    rw (c.in-None.is) (search rules)
+    let e = c.in_err-inputs-in-None.field-0.0 in
+    let refused = c.in_err-inputs-in-None.ensures in
+    let counted = counts g.O.Output.failures c.args.out.now c.pump.new.out in
+    rw (c.in-None.is) (of_refusal _ c.from_residual-in_err-inputs-in-None.result e (search rules) (λ nothing. (λ spared. refused.unread (not_told e counted (λ is. refused.faults.write (ap Err is)) spared) nothing, tt)))

@@ -20,7 +20,7 @@ formatted detach object text = record { text = text; content = handed_out detach
 -- the object that was read, and its text
 answer_is : (compact detach : Bool) (detached : Option (List ℕ)) (text formed : List ℕ) (object : SignedObject)
     → jws_of limits detached text ≡ Ok object → text_of compact detach object ≡ Ok formed
-    → jws_fmt_answer compact detach detached text ≡ Ok (formatted detach object formed)
+    → jws_fmt_answer limits compact detach detached text ≡ Ok (formatted detach object formed)
 unfolding jws_fmt_answer
 answer_is compact detach detached text formed object read made = rw (read, made)
 
@@ -46,7 +46,7 @@ returns-in_err-emit-clause-beginning g c =
     let given = handed_in c.args.given (appended (consumed c.args.content.now) (consumed c.read_beside.new.content)) in
     let t : whole ≡ c.deref.result.now = whole_is consumed at_end _ _ _ whole c.in_ok-text.ensures.whole.0 c.in_ok-text.ensures.whole.1 (seen_possible consumed at_end c.args.text.now c.read_to_end.new.input) ∙ sym c.deref.ensures.value in
     let d : given ≡ option_map (λ v. v.items) c.in_ok-beside.beside = c.in_ok-beside.ensures.content _ (seen_possible consumed at_end c.args.content.now c.read_beside.new.content) in
-    let a : jws_fmt_answer c.args.compact c.args.detach given whole ≡ Ok (formatted c.args.detach (jws_view c.in_ok-object.object) (string_bytes c.in_ok-formed.formed))
+    let a : jws_fmt_answer limits c.args.compact c.args.detach given whole ≡ Ok (formatted c.args.detach (jws_view c.in_ok-object.object) (string_bytes c.in_ok-formed.formed))
     = answer_is c.args.compact c.args.detach given whole _ _ (rw (t, d) c.in_ok-object.ensures.exact) c.in_ok-formed.ensures in
     at_refusal c.from_residual-in_err-emit.result
     (rw (c.in_ok-text.ensures.whole.1, beside_ended _ _ c.in_ok-beside.ensures.ends, a) (AppendsPrefixOf-kept _ _, rw (c.if-detach.true, ← c.payload.ensures) c.in_err-emit.ensures.part))
@@ -57,7 +57,7 @@ returns-clause-answer g c whole whole_content may content_may =
     let object = jws_view c.in_ok-object.object in
     let t : whole ≡ c.deref.result.now = whole_is g.I.Input.consumed g.I.Input.is_at_end _ _ _ whole c.in_ok-text.ensures.whole.0 c.in_ok-text.ensures.whole.1 may ∙ sym c.deref.ensures.value in
     let d : handed_in c.args.given whole_content ≡ option_map (λ v. v.items) c.in_ok-beside.beside = c.in_ok-beside.ensures.content whole_content content_may in
-    let a : jws_fmt_answer c.args.compact c.args.detach (handed_in c.args.given whole_content) whole ≡ Ok (formatted c.args.detach object (string_bytes c.in_ok-formed.formed))
+    let a : jws_fmt_answer limits c.args.compact c.args.detach (handed_in c.args.given whole_content) whole ≡ Ok (formatted c.args.detach object (string_bytes c.in_ok-formed.formed))
     = answer_is c.args.compact c.args.detach (handed_in c.args.given whole_content) whole _ object (rw (t, d) c.in_ok-object.ensures.exact) c.in_ok-formed.ensures in
     let beside : written c.if-detach.detached ≡ written c.args.detached.now ++ handed_out c.args.detach object.payload = elim c.if-detach.branch [
       | then-detach+in_ok-emit w ↦ rw (w.if-detach.true, w.detached-is, ← w.payload.ensures) w.in_ok-emit.ensures.all
@@ -76,7 +76,7 @@ returns-clause-beginning g c =
     let given = handed_in c.args.given (appended (consumed c.args.content.now) (consumed c.read_beside.new.content)) in
     let t : whole ≡ c.deref.result.now = whole_is consumed at_end _ _ _ whole c.in_ok-text.ensures.whole.0 c.in_ok-text.ensures.whole.1 (seen_possible consumed at_end c.args.text.now c.read_to_end.new.input) ∙ sym c.deref.ensures.value in
     let d : given ≡ option_map (λ v. v.items) c.in_ok-beside.beside = c.in_ok-beside.ensures.content _ (seen_possible consumed at_end c.args.content.now c.read_beside.new.content) in
-    let a : jws_fmt_answer c.args.compact c.args.detach given whole ≡ Ok (formatted c.args.detach object (string_bytes c.in_ok-formed.formed))
+    let a : jws_fmt_answer limits c.args.compact c.args.detach given whole ≡ Ok (formatted c.args.detach object (string_bytes c.in_ok-formed.formed))
     = answer_is c.args.compact c.args.detach given whole _ object (rw (t, d) c.in_ok-object.ensures.exact) c.in_ok-formed.ensures in
     let beside : written c.if-detach.detached ≡ written c.args.detached.now ++ handed_out c.args.detach object.payload = elim c.if-detach.branch [
       | then-detach+in_ok-emit w ↦ rw (w.if-detach.true, w.detached-is, ← w.payload.ensures) w.in_ok-emit.ensures.all
@@ -96,7 +96,7 @@ returns-clause-content_first g c =
     let given = handed_in c.args.given (appended (consumed c.args.content.now) (consumed c.read_beside.new.content)) in
     let t : whole ≡ c.deref.result.now = whole_is consumed at_end _ _ _ whole c.in_ok-text.ensures.whole.0 c.in_ok-text.ensures.whole.1 (seen_possible consumed at_end c.args.text.now c.read_to_end.new.input) ∙ sym c.deref.ensures.value in
     let d : given ≡ option_map (λ v. v.items) c.in_ok-beside.beside = c.in_ok-beside.ensures.content _ (seen_possible consumed at_end c.args.content.now c.read_beside.new.content) in
-    let a : jws_fmt_answer c.args.compact c.args.detach given whole ≡ Ok (formatted c.args.detach object (string_bytes c.in_ok-formed.formed))
+    let a : jws_fmt_answer limits c.args.compact c.args.detach given whole ≡ Ok (formatted c.args.detach object (string_bytes c.in_ok-formed.formed))
     = answer_is c.args.compact c.args.detach given whole _ object (rw (t, d) c.in_ok-object.ensures.exact) c.in_ok-formed.ensures in
     let beside : written c.if-detach.detached ≡ written c.args.detached.now ++ handed_out c.args.detach object.payload = elim c.if-detach.branch [
       | then-detach+in_ok-emit w ↦ rw (w.if-detach.true, w.detached-is, ← w.payload.ensures) w.in_ok-emit.ensures.all

@@ -1,0 +1,54 @@
+-- What stays as it is where limits are wider: every answer that is not Limit.
+use Rattle.std.specs.Prelude.{◌≡◌, ◌≢◌, ◌||◌, ◌==◌, ℕ, ◌≤◌, Bool, true, List, Option, Result, Ok, Err}
+use Rattle.serde_json.specs.Data.{Data}
+use Rattle.octets.specs.declared.refusal.Refusal.{Refusal}
+use Rattle.octets.specs.declared.refusal.Refusal.TheVariants.{Limit}
+use Rattle.octets.specs.Plan.{drawn_of, plan_from, planned}
+use Rattle.keys.specs.Json.{json_value}
+use Rattle.keys.specs.Keys.{OctetKey}
+use Rattle.keys.specs.KeySets.{key_set}
+use Rattle.keys.specs.Limits.{Limits}
+use Rattle.objects.specs.Texts.{each}
+use Rattle.tokens.specs.Choosing.{Receiver, receiver_by, passwords, is_given}
+use Rattle.tokens.specs.EncryptionTemplate.{EncryptionTemplate, encryption_template}
+use Rattle.jose.specs.Jwe.{enc_answer, dec_answer, jwe_fmt_answer}
+use Rattle.jose.specs.Jws.{ver_answer, jws_fmt_answer}
+
+-- The second limits allow what the first do. Those of keys and of depth, and the algorithms, are the same.
+pub record AreWider (narrower wider : Limits) : Type 0 where
+  pub keys : wider.keys ≡ narrower.keys
+  pub key_octets : wider.key_octets ≡ narrower.key_octets
+  pub depth : wider.depth ≡ narrower.depth
+  pub recipients : narrower.recipients ≤ wider.recipients
+  pub greatest_p2c_read : narrower.greatest_p2c_read ≤ wider.greatest_p2c_read
+  pub least_p2c : wider.least_p2c ≤ narrower.least_p2c
+  pub greatest_p2c : narrower.greatest_p2c ≤ wider.greatest_p2c
+  pub p2c_sum : narrower.p2c_sum ≤ wider.p2c_sum
+  pub management : wider.management ≡ narrower.management
+
+-- an answer that is not Limit stays
+abbrev pub StaysUnlessLimit : {X : Type 0} → Result X Refusal → Result X Refusal → Type 0
+StaysUnlessLimit narrower wider = narrower ≢ Err Limit → wider ≡ narrower
+
+-- what is read of an object by `jwe dec`, `jws ver` and both `fmt`, of all keys and objects
+pub record ReadsAsBefore (narrower wider : Limits) : Type 0 where
+  pub dec : (keys : List ℕ) (detached : Option (List ℕ)) (text : List ℕ) → StaysUnlessLimit (dec_answer narrower keys detached text) (dec_answer wider keys detached text)
+  pub ver : (all wanted : Bool) (keys : List ℕ) (detached : Option (List ℕ)) (text : List ℕ)
+      → StaysUnlessLimit (ver_answer narrower all wanted keys detached text) (ver_answer wider all wanted keys detached text)
+  pub jws_fmt : (compact detach : Bool) (detached : Option (List ℕ)) (text : List ℕ)
+      → StaysUnlessLimit (jws_fmt_answer narrower compact detach detached text) (jws_fmt_answer wider compact detach detached text)
+  pub jwe_fmt : (compact detach : Bool) (detached : Option (List ℕ)) (text : List ℕ)
+      → StaysUnlessLimit (jwe_fmt_answer narrower compact detach detached text) (jwe_fmt_answer wider compact detach detached text)
+
+-- no receiver is a password, or the template gives the iterations
+abbrev pub IsCounted : List OctetKey → List ℕ → Type 0
+IsCounted keys text =
+    (value : Data) (template : EncryptionTemplate) (receivers : List Receiver) → json_value text ≡ Ok value → encryption_template value ≡ Ok template
+    → each (receiver_by template.asked.management) keys ≡ Ok receivers → (passwords receivers == 0 || is_given template.asked.p2c) ≡ true
+
+-- what `jwe enc` writes, and how many random octets it takes
+abbrev pub EncryptsAsBefore : Limits → Limits → Type 0
+EncryptsAsBefore narrower wider =
+    (compact detach : Bool) (keys : List ℕ) (template random plaintext : List ℕ) → ((set : List OctetKey) → key_set narrower keys true ≡ Ok set → IsCounted set template)
+    → StaysUnlessLimit (planned (plan_from (enc_answer narrower compact detach keys template) random) plaintext) (planned (plan_from (enc_answer wider compact detach keys template) random) plaintext)
+    × ((enc_answer narrower compact detach keys template ≢ Err Limit) → drawn_of (enc_answer wider compact detach keys template) ≡ drawn_of (enc_answer narrower compact detach keys template))

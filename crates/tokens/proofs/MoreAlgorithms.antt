@@ -1,0 +1,253 @@
+-- Objects that need none of the further algorithms of key management are read and decrypted alike.
+use Rattle.std.proofs.Common.{◌≡◌, ℕ, Bool, true, false, not, ◌||◌, is_some, List, [], ◌∷◌, ◌++◌, length, codes, nat_le, if◌then◌else◌, Option, Some, None, Result, Ok, refl, sym, ap, subst, ◌∙◌}
+use Rattle.std.specs.List.{list_all, list_any, AllByRecursion}
+use Rattle.std.specs.Option.{option_or}
+use Rattle.std.specs.Str.{bytes_eq}
+use Rattle.serde_json.specs.Data.{Members, no_members}
+use Rattle.octets.specs.declared.refusal.Refusal.{Refusal}
+use Rattle.octets.specs.declared.refusal.Refusal.TheVariants.{Header, Unsupported, Limit}
+use Rattle.octets.specs.Base64url.{decoded}
+use Rattle.octets.specs.Outcomes.{needs}
+use Rattle.keys.specs.declared.algorithm.ManagementAlg.{ManagementAlg}
+use Rattle.keys.specs.Algorithms.{management_name, management_alg_among}
+use Rattle.keys.specs.Keys.{OctetKey}
+use Rattle.keys.specs.Limits.{Limits}
+use Rattle.objects.specs.Headers.{protected_members, joint_header, string_there, reads_password, PasswordParameters, password_parameters, parameters_of}
+use Rattle.objects.specs.Jwe.{JweTexts, RecipientParts, Recipient, JweParts, EncryptedObject, recipient_by, recipient_of, recipients_of, have_one_enc, recipients_of_one_enc, are_plain, encrypted_object, parts_of_texts, object_of_texts, jwe_texts, jwe_of}
+use Rattle.objects.specs.Jws as jws
+use Rattle.objects.specs.Jws.{JwsTexts, DecodedSignature, HeadedSignature, Signature, SignedObject, decoded_texts, headed_signature, signature_by, signatures_of, signed_object, jws_texts, jws_of}
+use Rattle.objects.specs.Texts.{each}
+use Rattle.objects.proofs.EachRead.{all_passed}
+use Rattle.objects.proofs.Steps.{steps, passed, same_answer}
+use Rattle.tokens.specs.Decrypting.{algorithms_of, all_pairs, pairs_to_try, decrypted}
+use Rattle.tokens.specs.MoreAlgorithms.{knowing, needs_no_more, OpensAlike}
+
+-- ---- names
+
+-- a name is looked up among the first algorithms, and then among the others
+found_among : (known further : List ManagementAlg) (name : List ℕ)
+    → management_alg_among (known ++ further) name ≡ option_or (management_alg_among known name) (management_alg_among further name)
+unfolding management_alg_among
+found_among [] further name = refl
+found_among (alg ∷ known) further name = by_test (bytes_eq name (management_name alg)) _ _ _ (found_among known further name)
+  where
+    by_test : (named : Bool) (all first others : Option ManagementAlg) → all ≡ option_or first others
+        → (if named then Some alg else all) ≡ option_or (if named then Some alg else first) others
+    by_test true all first others rest = refl
+    by_test false all first others rest = rest
+
+-- so one that needs none of the others names the same with them
+named_alike : (known further : List ManagementAlg) (name : List ℕ) → needs_no_more known further name ≡ true
+    → management_alg_among (known ++ further) name ≡ management_alg_among known name
+named_alike known further name enough = found_among known further name ∙ by_found (management_alg_among known name) (management_alg_among further name) enough
+  where
+    by_found : (first other : Option ManagementAlg) → (is_some first || not (is_some other)) ≡ true → option_or first other ≡ first
+    by_found (Some alg) other enough = refl
+    by_found None None enough = refl
+    by_found None (Some alg) enough = cc enough
+
+-- ---- lists
+
+-- What is read of each is read alike of all, where it is so of each that is read.
+each_alike : {X Y : Type 0} (P : Y → Type 0) (read other : X → Result Y Refusal) → ((x : X) (y : Y) → P y → read x ≡ Ok y → other x ≡ Ok y)
+    → (xs : List X) (ys : List Y) → AllByRecursion P ys → each read xs ≡ Ok ys → each other xs ≡ Ok ys
+each_alike P read other alike [] ys all h = h
+each_alike P read other alike (x ∷ xs) ys all h =
+    let first = steps (read x) _ ys h in
+    let rest = steps (each read xs) _ ys first.2 in
+    let same : first.0 ∷ rest.0 ≡ ys = same_answer (first.0 ∷ rest.0) ys rest.2 in
+    let both = subst (AllByRecursion P) (sym same) all in
+    rw (alike x first.0 both.0 first.1, each_alike P read other alike xs rest.0 both.1 rest.1) (ap Ok same)
+
+-- ---- the steps of reading
+
+-- of a recipient
+abbrev recipient_with : RecipientParts → List ℕ → List ℕ → PasswordParameters → Recipient
+recipient_with parts alg enc q = record { header = parts.header; encrypted_key = parts.encrypted_key; alg = alg; enc = enc; p2s = q.p2s; p2c = q.p2c }
+
+recipient_made : (algs : List ManagementAlg) (p u header : Members) (parts : RecipientParts) (alg enc : List ℕ) (q : PasswordParameters) → joint_header p u parts.header ≡ Ok header
+    → string_there (codes "alg") header ≡ Ok alg → string_there (codes "enc") header ≡ Ok enc → parameters_of algs alg header ≡ Ok q
+    → recipient_of algs p u parts ≡ Ok (recipient_with parts alg enc q)
+unfolding recipient_of recipient_by
+recipient_made algs p u header parts alg enc q a b c d = rw (a, b, c, d) refl
+
+-- of an encrypted object
+abbrev object_with : JweParts → Members → List Recipient → EncryptedObject
+object_with parts protected recipients = record {
+  protected = parts.protected;
+  protected_members = protected;
+  unprotected = parts.unprotected;
+  iv = parts.iv;
+  aad = parts.aad;
+  ciphertext = parts.ciphertext;
+  tag = parts.tag;
+  recipients = recipients;
+}
+
+object_made : (algs : List ManagementAlg) (octets : List ℕ) (parts : JweParts) (protected : Members) (recipients : List Recipient) → protected_members octets ≡ Ok protected
+    → recipients_of algs protected parts.unprotected parts.recipients ≡ Ok recipients → have_one_enc recipients ≡ true → are_plain protected parts.unprotected parts.recipients ≡ true
+    → encrypted_object algs octets parts ≡ Ok (object_with parts protected recipients)
+unfolding encrypted_object recipients_of_one_enc
+object_made algs octets parts protected recipients a b c d = rw (a, b, c, d) refl
+
+-- and of its text
+text_read : (limits : Limits) (algs : List ManagementAlg) (detached : Option (List ℕ)) (text octets : List ℕ) (texts : JweTexts) (parts : JweParts) → jwe_texts detached text ≡ Ok texts
+    → nat_le (length texts.recipients) limits.recipients ≡ true → decoded texts.shared.protected ≡ Ok octets → parts_of_texts texts ≡ Ok parts
+    → jwe_of (knowing limits algs) detached text ≡ encrypted_object algs octets parts
+unfolding jwe_of object_of_texts
+text_read limits algs detached text octets texts parts a b c d = rw (a, b, c, d) refl
+
+-- of a signature
+abbrev signature_with : HeadedSignature → List ℕ → Signature
+signature_with s alg = record { protected = s.parts.protected; protected_members = s.members; header = s.parts.header; signature = s.parts.signature; alg = alg }
+
+signature_made : (algs : List ManagementAlg) (s : HeadedSignature) (header : Members) (alg : List ℕ) (q : PasswordParameters) → joint_header s.members no_members s.parts.header ≡ Ok header
+    → string_there (codes "alg") header ≡ Ok alg → parameters_of algs alg header ≡ Ok q → signature_by algs s ≡ Ok (signature_with s alg)
+unfolding signature_by
+signature_made algs s header alg q a b c = rw (a, b, c) refl
+
+-- of a signed object
+signed_made : (algs : List ManagementAlg) (payload : List ℕ) (decoded : List DecodedSignature) (headed : List HeadedSignature) (signatures : List Signature)
+    → each headed_signature decoded ≡ Ok headed → each (signature_by algs) headed ≡ Ok signatures → list_all jws.is_plain headed ≡ true
+    → signed_object algs payload decoded ≡ Ok (record { payload = payload; signatures = signatures })
+unfolding signed_object signatures_of
+signed_made algs payload decoded headed signatures a b c = rw (a, b, c) refl
+
+-- and of its text
+signed_text_read : (limits : Limits) (algs : List ManagementAlg) (detached : Option (List ℕ)) (text payload : List ℕ) (texts : JwsTexts) (signatures : List DecodedSignature)
+    → jws_texts detached text ≡ Ok texts → nat_le (length texts.signatures) limits.recipients ≡ true → decoded texts.payload ≡ Ok payload
+    → each decoded_texts texts.signatures ≡ Ok signatures → jws_of (knowing limits algs) detached text ≡ signed_object algs payload signatures
+unfolding jws_of jws.object_of_texts
+signed_text_read limits algs detached text payload texts signatures a b c d = rw (a, b, c, d) refl
+
+-- ---- where enough names name the same among two lists of algorithms
+module _ (limits : Limits) (algs others : List ManagementAlg) (enough : List ℕ → Bool)
+    (alike : (name : List ℕ) → enough name ≡ true → management_alg_among algs name ≡ management_alg_among others name) where
+  -- the parameters that are read are the same
+  parameters_alike : (header : Members) (alg : List ℕ) (q : PasswordParameters) → enough alg ≡ true → parameters_of algs alg header ≡ Ok q → parameters_of others alg header ≡ Ok q
+  parameters_alike header alg q is h =
+      let none : Result PasswordParameters Refusal = Ok (record { p2s = []; p2c = 0 }) in
+      ap (λ found. if reads_password found then password_parameters header else none) (sym (alike alg is)) ∙ h
+
+  -- a recipient that is read is read alike
+  recipient_alike : (p u : Members) (parts : RecipientParts) (r : Recipient) → enough r.alg ≡ true → recipient_of algs p u parts ≡ Ok r → recipient_of others p u parts ≡ Ok r
+  unfolding recipient_of recipient_by
+  recipient_alike p u parts r is h =
+      let header = steps (joint_header p u parts.header) _ r h in
+      let alg = steps (string_there (codes "alg") header.0) _ r header.2 in
+      let enc = steps (string_there (codes "enc") header.0) _ r alg.2 in
+      let parameters = steps (parameters_of algs alg.0 header.0) _ r enc.2 in
+      let named : alg.0 ≡ r.alg = ap (λ (r : Recipient). r.alg) (same_answer _ r parameters.2) in
+      let read = parameters_alike header.0 alg.0 parameters.0 (ap enough named ∙ is) parameters.1 in
+      recipient_made others p u header.0 parts alg.0 enc.0 parameters.0 header.1 alg.1 enc.1 read ∙ parameters.2
+
+  -- so is an encrypted object
+  object_alike : (octets : List ℕ) (parts : JweParts) (o : EncryptedObject) → list_all (λ r. enough r.alg) o.recipients ≡ true → encrypted_object algs octets parts ≡ Ok o
+      → encrypted_object others octets parts ≡ Ok o
+  unfolding encrypted_object recipients_of_one_enc
+  object_alike octets parts o all h =
+      let protected = steps (protected_members octets) _ o h in
+      let read = steps (recipients_of_one_enc algs protected.0 parts.unprotected parts.recipients) _ o protected.2 in
+      let plain = steps (needs (are_plain protected.0 parts.unprotected parts.recipients) Unsupported) _ o read.2 in
+      let recipients = steps (recipients_of algs protected.0 parts.unprotected parts.recipients) _ read.0 read.1 in
+      let one = steps (needs (have_one_enc recipients.0) Header) _ read.0 recipients.2 in
+      let same : recipients.0 ≡ read.0 = same_answer recipients.0 read.0 one.2 in
+      let theirs : recipients.0 ≡ o.recipients = same ∙ ap (λ (o : EncryptedObject). o.recipients) (same_answer _ o plain.2) in
+      let each_enough : AllByRecursion (λ r. enough r.alg ≡ true) recipients.0 =
+      subst (AllByRecursion (λ r. enough r.alg ≡ true)) (sym theirs) (all_passed (λ r. enough r.alg) o.recipients all) in
+      let read_alike : recipients_of others protected.0 parts.unprotected parts.recipients ≡ Ok recipients.0 =
+      each_alike (λ r. enough r.alg ≡ true) (recipient_of algs protected.0 parts.unprotected) (recipient_of others protected.0 parts.unprotected)
+      (recipient_alike protected.0 parts.unprotected) parts.recipients recipients.0 each_enough recipients.1 in
+      object_made others octets parts protected.0 recipients.0 protected.1 read_alike (passed _ Header one.0 one.1) (passed _ Unsupported plain.0 plain.1)
+      ∙ ap (λ rs. let r : Result EncryptedObject Refusal = Ok (object_with parts protected.0 rs) in r) same ∙ plain.2
+
+  -- of a text
+  read_alike : (detached : Option (List ℕ)) (text : List ℕ) (o : EncryptedObject) → list_all (λ r. enough r.alg) o.recipients ≡ true → jwe_of (knowing limits algs) detached text ≡ Ok o
+      → jwe_of (knowing limits others) detached text ≡ Ok o
+  unfolding jwe_of object_of_texts
+  read_alike detached text o all h =
+      let texts = steps (jwe_texts detached text) _ o h in
+      let few = steps (needs (nat_le (length texts.0.recipients) limits.recipients) Limit) _ o texts.2 in
+      let octets = steps (decoded texts.0.shared.protected) _ o few.2 in
+      let parts = steps (parts_of_texts texts.0) _ o octets.2 in
+      text_read limits others detached text octets.0 texts.0 parts.0 texts.1 (passed _ Limit few.0 few.1) octets.1 parts.1 ∙ object_alike octets.0 parts.0 o all parts.2
+
+  -- so is a signature
+  signature_alike : (h : HeadedSignature) (s : Signature) → enough s.alg ≡ true → signature_by algs h ≡ Ok s → signature_by others h ≡ Ok s
+  unfolding signature_by
+  signature_alike d s is h =
+      let header = steps (joint_header d.members no_members d.parts.header) _ s h in
+      let alg = steps (string_there (codes "alg") header.0) _ s header.2 in
+      let parameters = steps (parameters_of algs alg.0 header.0) _ s alg.2 in
+      let named : alg.0 ≡ s.alg = ap (λ (s : Signature). s.alg) (same_answer _ s parameters.2) in
+      let read = parameters_alike header.0 alg.0 parameters.0 (ap enough named ∙ is) parameters.1 in
+      signature_made others d header.0 alg.0 parameters.0 header.1 alg.1 read ∙ parameters.2
+
+  -- and a signed object
+  signed_object_alike : (payload : List ℕ) (decoded : List DecodedSignature) (o : SignedObject) → list_all (λ s. enough s.alg) o.signatures ≡ true → signed_object algs payload decoded ≡ Ok o
+      → signed_object others payload decoded ≡ Ok o
+  unfolding signed_object signatures_of
+  signed_object_alike payload decoded o all h =
+      let read = steps (signatures_of algs decoded) _ o h in
+      let headed = steps (each headed_signature decoded) _ read.0 read.1 in
+      let signatures = steps (each (signature_by algs) headed.0) _ read.0 headed.2 in
+      let plain = steps (needs (list_all jws.is_plain headed.0) Unsupported) _ read.0 signatures.2 in
+      let same : signatures.0 ≡ read.0 = same_answer signatures.0 read.0 plain.2 in
+      let theirs : signatures.0 ≡ o.signatures = same ∙ ap (λ (o : SignedObject). o.signatures) (same_answer _ o read.2) in
+      let each_enough : AllByRecursion (λ s. enough s.alg ≡ true) signatures.0 =
+      subst (AllByRecursion (λ s. enough s.alg ≡ true)) (sym theirs) (all_passed (λ s. enough s.alg) o.signatures all) in
+      let read_alike : each (signature_by others) headed.0 ≡ Ok signatures.0 =
+      each_alike (λ s. enough s.alg ≡ true) (signature_by algs) (signature_by others) signature_alike headed.0 signatures.0 each_enough signatures.1 in
+      signed_made others payload decoded headed.0 signatures.0 headed.1 read_alike (passed _ Unsupported plain.0 plain.1)
+      ∙ ap (λ ss. let r : Result SignedObject Refusal = Ok (record { payload = payload; signatures = ss }) in r) same ∙ read.2
+
+  -- of a text
+  signed_read_alike : (detached : Option (List ℕ)) (text : List ℕ) (o : SignedObject) → list_all (λ s. enough s.alg) o.signatures ≡ true → jws_of (knowing limits algs) detached text ≡ Ok o
+      → jws_of (knowing limits others) detached text ≡ Ok o
+  unfolding jws_of jws.object_of_texts
+  signed_read_alike detached text o all h =
+      let texts = steps (jws_texts detached text) _ o h in
+      let few = steps (needs (nat_le (length texts.0.signatures) limits.recipients) Limit) _ o texts.2 in
+      let payload = steps (decoded texts.0.payload) _ o few.2 in
+      let signatures = steps (each decoded_texts texts.0.signatures) _ o payload.2 in
+      signed_text_read limits others detached text payload.0 texts.0 signatures.0 texts.1 (passed _ Limit few.0 few.1) payload.1 signatures.1
+      ∙ signed_object_alike payload.0 signatures.0 o all signatures.2
+
+  -- the pairs that are tried are the same
+  pairs_alike : (keys : List OctetKey) (recipients : List Recipient) → AllByRecursion (λ r. enough r.alg ≡ true) recipients → all_pairs algs keys recipients ≡ all_pairs others keys recipients
+  unfolding algorithms_of
+  pairs_alike keys [] all = refl
+  pairs_alike keys (r ∷ rest) all = rw (alike r.alg all.0, pairs_alike keys rest all.1) refl
+
+  -- and as many algorithms are supported
+  supported_alike : (recipients : List Recipient) → AllByRecursion (λ r. enough r.alg ≡ true) recipients
+      → list_any (λ r. is_some (algorithms_of algs r)) recipients ≡ list_any (λ r. is_some (algorithms_of others r)) recipients
+  unfolding algorithms_of
+  supported_alike [] all = refl
+  supported_alike (r ∷ rest) all = rw (alike r.alg all.0, supported_alike rest all.1) refl
+
+  decrypted_alike : (keys : List OctetKey) (o : EncryptedObject) → list_all (λ r. enough r.alg) o.recipients ≡ true
+      → decrypted (knowing limits algs) keys o ≡ decrypted (knowing limits others) keys o
+  unfolding decrypted pairs_to_try
+  decrypted_alike keys o all =
+      let each_enough = all_passed (λ r. enough r.alg) o.recipients all in
+      rw (supported_alike o.recipients each_enough, pairs_alike keys o.recipients each_enough) refl
+
+-- ---- with and without the further algorithms
+
+pub opens_alike : (limits : Limits) (known further : List ManagementAlg) → OpensAlike limits known further
+opens_alike limits known further =
+    let more : List ManagementAlg = known ++ further in
+    let enough : List ℕ → Bool = needs_no_more known further in
+    let back : (name : List ℕ) → enough name ≡ true → management_alg_among known name ≡ management_alg_among more name = λ name is. sym (named_alike known further name is) in
+    record {
+      read = λ detached text o all. (
+        read_alike limits more known enough (named_alike known further) detached text o all,
+        read_alike limits known more enough back detached text o all,
+      );
+      opens = decrypted_alike limits more known enough (named_alike known further);
+      signed = λ detached text o all. (
+        signed_read_alike limits more known enough (named_alike known further) detached text o all,
+        signed_read_alike limits known more enough back detached text o all,
+      );
+    }
