@@ -8,13 +8,13 @@ use Rattle.aes.specs.Block.{IsBlock, IsCipher}
 use Rattle.aes.specs.Cipher.{encrypted_block}
 use Rattle.aes.specs.InverseCipher.{inverse_cipher}
 use Rattle.aes.specs.KeyExpansion.{key_expansion}
-use Rattle.ciphers.specs.Delivery.{encrypted_key_of, IsDelivered}
-use Rattle.ciphers.specs.Openings.{is_direct_key, is_encrypted_to, delivered, is_longer, is_sealed_to, opening}
+use Rattle.ciphers.specs.Delivery.{Parameters, IsIvOf, IsTagOf, encrypted_key_of, key_tag_of, IsDelivered}
+use Rattle.ciphers.specs.Openings.{is_direct_key, is_iv_of, is_tag_of, is_encrypted_to, delivered, is_longer, is_sealed_to, opening}
 use Rattle.ciphers.specs.Sealing.{Sealing, IsTooLong, sealing, cek_len, iv_len, IsOpening}
 use Rattle.ciphers.specs.declared.content_alg.ContentAlg.{ContentAlg}
 use Rattle.ciphers.specs.declared.content_alg.ContentAlg.TheVariants.{A128CbcHs256, A192CbcHs384, A256CbcHs512, A128Gcm, A192Gcm, A256Gcm}
 use Rattle.ciphers.specs.declared.key_alg.KeyAlg.{KeyAlg}
-use Rattle.ciphers.specs.declared.key_alg.KeyAlg.TheVariants.{Dir, A128Kw, A192Kw, A256Kw, Pbes2Hs256A128Kw, Pbes2Hs384A192Kw, Pbes2Hs512A256Kw}
+use Rattle.ciphers.specs.declared.key_alg.KeyAlg.TheVariants.{Dir, A128Kw, A192Kw, A256Kw, A128GcmKw, A192GcmKw, A256GcmKw, Pbes2Hs256A128Kw, Pbes2Hs384A192Kw, Pbes2Hs512A256Kw}
 use Rattle.modes.specs.Cbc.{cbc}
 use Rattle.modes.specs.Ctr.{counter_block}
 use Rattle.modes.specs.Gcm.{gcm_ciphertext, pre_counter_block}
@@ -63,26 +63,59 @@ direct_decided Dir key cek = Decides-like _ (λ e _. e) (λ e. e refl) (bytes_eq
 direct_decided A128Kw key cek = (λ _ e. cc e, λ _. refl)
 direct_decided A192Kw key cek = (λ _ e. cc e, λ _. refl)
 direct_decided A256Kw key cek = (λ _ e. cc e, λ _. refl)
+direct_decided A128GcmKw key cek = (λ _ e. cc e, λ _. refl)
+direct_decided A192GcmKw key cek = (λ _ e. cc e, λ _. refl)
+direct_decided A256GcmKw key cek = (λ _ e. cc e, λ _. refl)
 direct_decided Pbes2Hs256A128Kw key cek = (λ _ e. cc e, λ _. refl)
 direct_decided Pbes2Hs384A192Kw key cek = (λ _ e. cc e, λ _. refl)
 direct_decided Pbes2Hs512A256Kw key cek = (λ _ e. cc e, λ _. refl)
 
-module _ (finds : FindsOctets) (alg : KeyAlg) (enc : ContentAlg) (key p2s : List ℕ) (p2c : ℕ) (encrypted : List ℕ)
-    (one : (x y : List ℕ) → IsDelivered alg enc key p2s p2c encrypted x → IsDelivered alg enc key p2s p2c encrypted y → x ≡ y) where
-  -- the test of a content encryption key decides that it is of its length, the direct key and encrypted to what was received
-  decided : (cek : List ℕ) → Decides (is_encrypted_to alg enc key p2s p2c encrypted cek)
-      ((length cek ≡ cek_len enc) × ((alg ≡ Dir → cek ≡ key) × (encrypted_key_of alg key p2s p2c cek ≡ encrypted)))
+-- the test of an IV decides that it has its length, where one is read
+iv_decided : (alg : KeyAlg) (iv : List ℕ) → Decides (is_iv_of alg iv) (IsIvOf alg iv)
+iv_decided A128GcmKw iv = Decides-eqb (length iv) 12
+iv_decided A192GcmKw iv = Decides-eqb (length iv) 12
+iv_decided A256GcmKw iv = Decides-eqb (length iv) 12
+iv_decided Dir iv = (λ _. tt, λ _. refl)
+iv_decided A128Kw iv = (λ _. tt, λ _. refl)
+iv_decided A192Kw iv = (λ _. tt, λ _. refl)
+iv_decided A256Kw iv = (λ _. tt, λ _. refl)
+iv_decided Pbes2Hs256A128Kw iv = (λ _. tt, λ _. refl)
+iv_decided Pbes2Hs384A192Kw iv = (λ _. tt, λ _. refl)
+iv_decided Pbes2Hs512A256Kw iv = (λ _. tt, λ _. refl)
+
+-- and that of a tag that it is the one that was made
+tag_decided : (alg : KeyAlg) (made given : List ℕ) → Decides (is_tag_of alg made given) (IsTagOf alg made given)
+tag_decided A128GcmKw made given = bytes_eq-Decides made given
+tag_decided A192GcmKw made given = bytes_eq-Decides made given
+tag_decided A256GcmKw made given = bytes_eq-Decides made given
+tag_decided Dir made given = (λ _. tt, λ _. refl)
+tag_decided A128Kw made given = (λ _. tt, λ _. refl)
+tag_decided A192Kw made given = (λ _. tt, λ _. refl)
+tag_decided A256Kw made given = (λ _. tt, λ _. refl)
+tag_decided Pbes2Hs256A128Kw made given = (λ _. tt, λ _. refl)
+tag_decided Pbes2Hs384A192Kw made given = (λ _. tt, λ _. refl)
+tag_decided Pbes2Hs512A256Kw made given = (λ _. tt, λ _. refl)
+
+module _ (finds : FindsOctets) (alg : KeyAlg) (enc : ContentAlg) (key : List ℕ) (p : Parameters) (encrypted : List ℕ)
+    (one : (x y : List ℕ) → IsDelivered alg enc key p encrypted x → IsDelivered alg enc key p encrypted y → x ≡ y) where
+  -- the test of a content encryption key decides that it is of its length, the direct key, and encrypted to what was received
+  decided : (cek : List ℕ) → Decides (is_encrypted_to alg enc key p encrypted cek)
+      ((length cek ≡ cek_len enc) × ((alg ≡ Dir → cek ≡ key) × (IsIvOf alg p.iv × ((encrypted_key_of alg key p cek ≡ encrypted) × IsTagOf alg (key_tag_of alg key p cek) p.tag))))
   decided cek =
       Decides-and _ _ (Decides-eqb (length cek) (cek_len enc))
-      (Decides-and _ _ (direct_decided alg key cek) (bytes_eq-Decides (encrypted_key_of alg key p2s p2c cek) encrypted))
+      (Decides-and _ _ (direct_decided alg key cek)
+      (Decides-and _ _ (iv_decided alg p.iv)
+      (Decides-and _ _ (bytes_eq-Decides (encrypted_key_of alg key p cek) encrypted) (tag_decided alg (key_tag_of alg key p cek) p.tag))))
 
   -- the search gives exactly the key that is delivered
-  pub delivers : (cek : List ℕ) → (delivered alg enc key p2s p2c encrypted ≡ Some cek) ↔ IsDelivered alg enc key p2s p2c encrypted cek
+  pub delivers : (cek : List ℕ) → (delivered alg enc key p encrypted ≡ Some cek) ↔ IsDelivered alg enc key p encrypted cek
   unfolding delivered
   delivers =
-      finds_exactly finds (cek_len enc) (is_encrypted_to alg enc key p2s p2c encrypted) (IsDelivered alg enc key p2s p2c encrypted)
-      (λ x octets h. let r = (decided x).0 h in record { octets = octets; fits = r.0; direct = r.1.0; is_encrypted = r.1.1 })
-      (λ x d. (d.octets, omega (arith, d.fits), (decided x).1 (d.fits, (d.direct, d.is_encrypted))))
+      finds_exactly finds (cek_len enc) (is_encrypted_to alg enc key p encrypted) (IsDelivered alg enc key p encrypted)
+      (λ x octets h.
+      let r = (decided x).0 h in
+      record { octets = octets; fits = r.0; direct = r.1.0; iv_fits = r.1.1.0; is_encrypted = r.1.1.1.0; is_tag = r.1.1.1.1 })
+      (λ x d. (d.octets, omega (arith, d.fits), (decided x).1 (d.fits, (d.direct, (d.iv_fits, (d.is_encrypted, d.is_tag))))))
       one
 
 -- ---- contents

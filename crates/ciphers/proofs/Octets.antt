@@ -1,18 +1,19 @@
 -- What is opened, and an encrypted key that delivers, are octets.
-use Rattle.std.proofs.Common.{◌≡◌, ℕ, suc, ◌+◌, ◌*◌, ◌/◌, ◌<◌, ◌≤◌, List, ◌∷◌, ◌++◌, length, drop, codes, slice_index, subst, arith, lit≤}
+use Rattle.std.proofs.Common.{◌≡◌, ℕ, suc, ◌+◌, ◌*◌, ◌/◌, ◌<◌, ◌≤◌, List, [], ◌∷◌, ◌++◌, length, drop, codes, slice_index, subst, arith, lit≤}
 use Rattle.aes.specs.Block.{IsCipher}
 use Rattle.aes.specs.Cipher.{encrypted_block}
 use Rattle.aes.specs.InverseCipher.{inverse_cipher}
 use Rattle.aes.specs.KeyExpansion.{key_expansion}
-use Rattle.ciphers.specs.Delivery.{derived_key, encrypted_key_of, IsDelivered}
+use Rattle.ciphers.specs.Delivery.{Parameters, IsIvOf, derived_key, encrypted_key_of, key_tag_of, IsDelivered}
 use Rattle.ciphers.specs.KeyWrap.{table, wrapped}
 use Rattle.ciphers.specs.Sealing.{cbc_tag, sealing, cek_len, iv_len, IsOpening}
 use Rattle.ciphers.specs.declared.content_alg.ContentAlg.{ContentAlg}
 use Rattle.ciphers.specs.declared.content_alg.ContentAlg.TheVariants.{A128CbcHs256, A192CbcHs384, A256CbcHs512, A128Gcm, A192Gcm, A256Gcm}
 use Rattle.ciphers.specs.declared.key_alg.KeyAlg.{KeyAlg}
-use Rattle.ciphers.specs.declared.key_alg.KeyAlg.TheVariants.{Dir, A128Kw, A192Kw, A256Kw, Pbes2Hs256A128Kw, Pbes2Hs384A192Kw, Pbes2Hs512A256Kw}
+use Rattle.ciphers.specs.declared.key_alg.KeyAlg.TheVariants.{Dir, A128Kw, A192Kw, A256Kw, A128GcmKw, A192GcmKw, A256GcmKw, Pbes2Hs256A128Kw, Pbes2Hs384A192Kw, Pbes2Hs512A256Kw}
 use Rattle.ciphers.proofs.Table.{table_is_half}
 use Rattle.modes.specs.Cbc.{cbc}
+use Rattle.modes.specs.Gcm.{gcm_ciphertext, gcm_tag}
 use Rattle.modes.proofs.Octets.{joined_octets, cbc_octets, gcm_ciphertext_octets, gcm_tag_octets}
 use Rattle.octets.specs.Octets.{IsOctets}
 use Rattle.octets.proofs.Decoded.{IsOctets-nil, IsOctets-take, IsOctets-drop}
@@ -70,20 +71,28 @@ module _ (cipher : (nk : ℕ) (k : List ℕ) → ((i : ℕ) → slice_index k i 
     unfolding derived_key
     derived f name len key p2s p2c is = derives f key (name ++ 0 ∷ p2s) p2c len is
 
-    -- an encrypted key that delivers is octets
-    pub delivering_is_octets : (alg : KeyAlg) (enc : ContentAlg) (key p2s : List ℕ) (p2c : ℕ) (encrypted cek : List ℕ) → IsOctets key → IsDelivered alg enc key p2s p2c encrypted cek → IsOctets encrypted
-    unfolding encrypted_key_of
-    delivering_is_octets alg enc key p2s p2c encrypted cek octets is =
-        subst IsOctets is.is_encrypted (by_algorithm alg)
+    -- an encrypted key that delivers is octets, and so is the tag that is made with it
+    pub delivering_is_octets : (alg : KeyAlg) (enc : ContentAlg) (key : List ℕ) (p : Parameters) (encrypted cek : List ℕ) → IsOctets key → IsOctets p.iv
+        → IsDelivered alg enc key p encrypted cek → IsOctets encrypted × IsOctets (key_tag_of alg key p cek)
+    unfolding encrypted_key_of key_tag_of
+    delivering_is_octets alg enc key p encrypted cek octets start is =
+        (subst IsOctets is.is_encrypted (by_algorithm alg is.iv_fits).0, (by_algorithm alg is.iv_fits).1)
       where
         under : (nk : ℕ) (kek : List ℕ) → IsOctets kek → IsOctets (wrapped (encrypted_block nk kek) cek)
         under nk kek small = wrapped_octets _ _ (cipher nk kek small) cek is.octets (omega (arith, is.fits, two_parts enc))
 
-        by_algorithm : (alg : KeyAlg) → IsOctets (encrypted_key_of alg key p2s p2c cek)
-        by_algorithm Dir = IsOctets-nil
-        by_algorithm A128Kw = under 4 key octets
-        by_algorithm A192Kw = under 6 key octets
-        by_algorithm A256Kw = under 8 key octets
-        by_algorithm Pbes2Hs256A128Kw = under 4 _ (derived sha256_function (codes "PBES2-HS256+A128KW") 16 key p2s p2c sha256_is_hash_function)
-        by_algorithm Pbes2Hs384A192Kw = under 6 _ (derived sha384_function (codes "PBES2-HS384+A192KW") 24 key p2s p2c sha384_is_hash_function)
-        by_algorithm Pbes2Hs512A256Kw = under 8 _ (derived sha512_function (codes "PBES2-HS512+A256KW") 32 key p2s p2c sha512_is_hash_function)
+        under_gcm : (nk : ℕ) → length p.iv ≡ 12 → IsOctets (gcm_ciphertext (encrypted_block nk key) p.iv cek)
+            × IsOctets (gcm_tag (encrypted_block nk key) p.iv [] (gcm_ciphertext (encrypted_block nk key) p.iv cek))
+        under_gcm nk fits = (gcm_ciphertext_octets _ _ (cipher nk key octets) p.iv cek fits start is.octets, gcm_tag_octets _ _ (cipher nk key octets) p.iv [] _ fits start)
+
+        by_algorithm : (alg : KeyAlg) → IsIvOf alg p.iv → IsOctets (encrypted_key_of alg key p cek) × IsOctets (key_tag_of alg key p cek)
+        by_algorithm Dir fits = (IsOctets-nil, IsOctets-nil)
+        by_algorithm A128Kw fits = (under 4 key octets, IsOctets-nil)
+        by_algorithm A192Kw fits = (under 6 key octets, IsOctets-nil)
+        by_algorithm A256Kw fits = (under 8 key octets, IsOctets-nil)
+        by_algorithm A128GcmKw fits = under_gcm 4 fits
+        by_algorithm A192GcmKw fits = under_gcm 6 fits
+        by_algorithm A256GcmKw fits = under_gcm 8 fits
+        by_algorithm Pbes2Hs256A128Kw fits = (under 4 _ (derived sha256_function (codes "PBES2-HS256+A128KW") 16 key p.p2s p.p2c sha256_is_hash_function), IsOctets-nil)
+        by_algorithm Pbes2Hs384A192Kw fits = (under 6 _ (derived sha384_function (codes "PBES2-HS384+A192KW") 24 key p.p2s p.p2c sha384_is_hash_function), IsOctets-nil)
+        by_algorithm Pbes2Hs512A256Kw fits = (under 8 _ (derived sha512_function (codes "PBES2-HS512+A256KW") 32 key p.p2s p.p2c sha512_is_hash_function), IsOctets-nil)

@@ -1,19 +1,25 @@
 -- What contracts see of the registers of a key wrap, of its cipher, and of running sealings.
-use Rattle.std.specs.Prelude.{◌≡◌, ℕ, suc, ◌*◌, ◌/◌, ◌<◌, List, ◌++◌, length}
+use Rattle.std.specs.Prelude.{◌≡◌, ◌↔◌, ℕ, suc, ◌*◌, ◌/◌, ◌<◌, List, [], ◌++◌, length}
 use Rattle.aes.specs.Block.{IsCipher}
 use Rattle.aes.specs.declared.aes.Aes128.{Aes128}
 use Rattle.aes.specs.declared.aes.Aes192.{Aes192}
 use Rattle.aes.specs.declared.aes.Aes256.{Aes256}
-use Rattle.ciphers.specs.KeyWrap.{part, table}
+use Rattle.ciphers.specs.Delivery.{Parameters, IsIvOf, IsTagOf, encrypted_key_of, key_tag_of}
+use Rattle.ciphers.specs.KeyWrap.{part, table, wrapped}
 use Rattle.ciphers.specs.Sealing.{Sealing, KeepsPace, cbc_hmac, gcm}
 use Rattle.ciphers.specs.declared.authentication.Authentication.{Authentication}
 use Rattle.ciphers.specs.declared.cbc_hmac.CbcHmac.{CbcHmac}
 use Rattle.ciphers.specs.declared.kek.Kek.{Kek}
 use Rattle.ciphers.specs.declared.kek.Kek.TheVariants.{A128, A192, A256}
+use Rattle.ciphers.specs.declared.kek.Way.{Way}
+use Rattle.ciphers.specs.declared.kek.Way.TheVariants.{Direct, Wrap, Encrypt}
+use Rattle.ciphers.specs.declared.key_alg.KeyAlg.{KeyAlg}
+use Rattle.ciphers.specs.declared.key_alg.KeyAlg.TheVariants.{Dir}
+use Rattle.ciphers.specs.declared.key_alg.KeyParameters.{KeyParameters}
 use Rattle.ciphers.specs.declared.sealer.ContentSealer.{ContentSealer}
 use Rattle.ciphers.specs.declared.sealer.ContentSealer.TheVariants.{A128CbcHs256, A192CbcHs384, A256CbcHs512, A128Gcm, A192Gcm, A256Gcm}
 use Rattle.modes.specs.Cbc.{cbc_blocks}
-use Rattle.modes.specs.Gcm.{bit_length, gcm_ciphertext}
+use Rattle.modes.specs.Gcm.{bit_length, gcm_ciphertext, gcm_tag}
 use Rattle.modes.specs.Views as modes
 use Rattle.modes.specs.declared.gcm.Gcm.{Gcm}
 use Rattle.prf.specs.HashFunction.{HashFunction}
@@ -40,6 +46,34 @@ pub on_each_kek : {e d : Aes128 → List ℕ → List ℕ} {e' d' : Aes192 → L
 on_each_kek a b c (A128 k) = a k
 on_each_kek a b c (A192 k) = b k
 on_each_kek a b c (A256 k) = c k
+
+-- ---- key management
+
+-- what a recipient's header gives
+abbrev pub parameters_view : KeyParameters → Parameters
+parameters_view p = record { iv = p.iv.now; tag = p.tag.now; p2s = p.p2s.now; p2c = p.p2c }
+
+-- the algorithm wraps keys, by a cipher that sends blocks by e, and reads no IV and no tag
+pub record IsWrap (alg : KeyAlg) (key : List ℕ) (p : Parameters) (e : List ℕ → List ℕ) : Type 0 where
+  pub other : alg ≡ Dir → ⊥
+  pub wraps : (cek : List ℕ) → encrypted_key_of alg key p cek ≡ wrapped e cek
+  pub iv : IsIvOf alg p.iv
+  pub no_tag : (cek : List ℕ) → key_tag_of alg key p cek ≡ []
+  pub any_tag : (made given : List ℕ) → IsTagOf alg made given
+
+-- it encrypts them by GCM
+pub record IsGcmWrap (alg : KeyAlg) (key : List ℕ) (p : Parameters) (e : List ℕ → List ℕ) : Type 0 where
+  pub other : alg ≡ Dir → ⊥
+  pub encrypts : (cek : List ℕ) → encrypted_key_of alg key p cek ≡ gcm_ciphertext e p.iv cek
+  pub tags : (cek : List ℕ) → key_tag_of alg key p cek ≡ gcm_tag e p.iv [] (gcm_ciphertext e p.iv cek)
+  pub iv : IsIvOf alg p.iv ↔ (length p.iv ≡ 12)
+  pub tag : (made given : List ℕ) → IsTagOf alg made given ↔ (made ≡ given)
+
+-- how a content encryption key is delivered
+abbrev pub IsWayOf : KeyAlg → List ℕ → Parameters → (Kek → List ℕ → List ℕ) → Way → Type 0
+IsWayOf alg key p encrypted Direct = alg ≡ Dir
+IsWayOf alg key p encrypted (Wrap kek) = IsWrap alg key p (encrypted kek)
+IsWayOf alg key p encrypted (Encrypt kek) = IsGcmWrap alg key p (encrypted kek)
 
 -- ---- a running sealing: what it was started with, and what it was fed
 

@@ -11,6 +11,14 @@ pub(crate) enum Kek {
     A256(Aes256),
 }
 
+/// How a content encryption key is delivered: the key is it, or the cipher wraps it, or encrypts it in GCM.
+#[derive(Drop)]
+pub(crate) enum Way {
+    Direct,
+    Wrap(Kek),
+    Encrypt(Kek),
+}
+
 impl Block for Kek {
     ghost use Rattle.ciphers.specs.Views.{on_kek, on_each_kek};
 

@@ -1,15 +1,18 @@
-//! The algorithms of key management (RFC 7518, sections 4.4, 4.5 and 4.8).
-ghost use Rattle.std.specs.Prelude.{◌≡◌, ◌↔◌, ℕ, ◌%◌, ◌≤◌, List, [], ◌++◌, length, take, IsNone, IfSome, IfNone};
-ghost use Rattle.ciphers.specs.Delivery.{IsKeyOf, IsCountOf, encrypted_key_of, IsDelivered};
-ghost use Rattle.ciphers.specs.KeyWrap.{wrapped, IsUnwrapping};
+//! The algorithms of key management (RFC 7518, sections 4.4, 4.5, 4.7 and 4.8).
+ghost use Rattle.std.specs.Prelude.{◌≡◌, ℕ, ◌%◌, ◌≤◌, List, [], ◌++◌, length, take, IfSome, IfNone};
+ghost use Rattle.ciphers.specs.Delivery.{IsKeyOf, IsCountOf, IsIvOf, encrypted_key_of, key_tag_of, IsDelivered};
+ghost use Rattle.ciphers.specs.KeyWrap.{IsUnwrapping};
 ghost use Rattle.ciphers.specs.Sealing.{cek_len};
+ghost use Rattle.ciphers.specs.Views.{parameters_view, IsWayOf};
+ghost use Rattle.modes.specs.Gcm.{gcm_ciphertext, gcm_tag, IsGcmOpening};
 ghost use Rattle.prf.specs.Pbkdf2.{pbkdf2};
 
 use crate::cek::Cek;
 use crate::content_alg::{ContentAlg, array};
-use crate::kek::Kek;
+use crate::kek::{Kek, Way};
 use crate::key_wrap::{unwrap, wrap};
 use aes::{Aes128, Aes192, Aes256, Block};
+use modes::{Gcm, gcm_open};
 use prf::{Hash, Sha256, Sha384, Sha512, pbkdf2};
 
 /// An algorithm of key management: how a recipient's key delivers a content encryption key.
@@ -23,6 +26,12 @@ pub enum KeyAlg {
     A192Kw,
     /// AES key wrap with a key of 256 bits: `A256KW`.
     A256Kw,
+    /// Encryption by AES in GCM with a key of 128 bits: `A128GCMKW`.
+    A128GcmKw,
+    /// Encryption by AES in GCM with a key of 192 bits: `A192GCMKW`.
+    A192GcmKw,
+    /// Encryption by AES in GCM with a key of 256 bits: `A256GCMKW`.
+    A256GcmKw,
     /// AES key wrap with a key of 128 bits that is derived from a password by HMAC SHA-256: `PBES2-HS256+A128KW`.
     Pbes2Hs256A128Kw,
     /// AES key wrap with a key of 192 bits that is derived from a password by HMAC SHA-384: `PBES2-HS384+A192KW`.
@@ -31,40 +40,50 @@ pub enum KeyAlg {
     Pbes2Hs512A256Kw,
 }
 
-/// The header parameters of a recipient that its algorithm reads (section 4.8.1): the salt input p2s and the count
-/// p2c. They are empty and 0 where it reads none.
+/// The header parameters of a recipient that its algorithm reads: the initialization vector and the tag of an encryption in
+/// GCM (section 4.7.1), or the salt input p2s and the count p2c of a password (section 4.8.1). They are empty and 0 where it
+/// reads none. The tag is read where a key is unwrapped.
 #[derive(Clone, Copy)]
 pub struct KeyParameters<'p> {
+    pub iv: &'p [u8],
+    pub tag: &'p [u8],
     pub p2s: &'p [u8],
     pub p2c: u32,
 }
 
 impl KeyAlg {
-    /// Encrypts the content encryption key, of 16 to 64 octets in parts of 8, to the front of `encrypted_key`, and
-    /// answers that one's length: 0 for `Dir`, where it has to be the key itself, and else 8 octets more than its own.
+    /// Encrypts the content encryption key, of 16 to 64 octets in parts of 8, to the front of `encrypted_key`, and answers that
+    /// one's length: 0 for `Dir`, where it has to be the key itself; its own, where it is encrypted in GCM; and else 8 octets
+    /// more. The second length is that of the tag at the front of `tag`: 16 in GCM, and else 0.
     pub fn wrap_cek(
         self,
         key: &[u8],
         parameters: KeyParameters<'_>,
         cek: &Cek,
         encrypted_key: &mut [u8; 72],
-    ) -> usize
+        tag: &mut [u8; 16],
+    ) -> (usize, usize)
         requires key_fits { IsKeyOf self key.now }
         requires count_fits { IsCountOf self parameters.p2c }
         requires parts { length cek.now % 8 ≡ 0 }
         requires size { (16 ≤ length cek.now) × (length cek.now ≤ 64) }
         requires direct { self ≡ KeyAlg.Dir → cek.now ≡ key.now }
-        ensures within { result ≤ 72 }
-        ensures encrypted { take result encrypted_key.new
-            ≡ encrypted_key_of self key.now parameters.entry.p2s.now parameters.entry.p2c cek.now }
+        requires iv_fits { IsIvOf self parameters.iv.now }
+        ensures within { (result.0 ≤ 72) × (result.1 ≤ 16) }
+        ensures encrypted { take result.0 encrypted_key.new ≡ encrypted_key_of self key.now (parameters_view parameters.entry) cek.now }
+        ensures tag { take result.1 tag.new ≡ key_tag_of self key.now (parameters_view parameters.entry) cek.now }
     {
-        match self.kek(key, parameters) {
-            None => 0,
-            Some(kek) => {
+        match self.way(key, parameters) {
+            Way::Direct => (0, 0),
+            Way::Wrap(kek) => {
                 let octets = cek.octets();
                 let len = octets.len() + 8;
                 wrap(&kek, octets, &mut encrypted_key[..len]);
-                len
+                (len, 0)
+            }
+            Way::Encrypt(kek) => {
+                let len = encrypt_cek(kek, &array(parameters.iv), cek.octets(), encrypted_key, tag);
+                (len, 16)
             }
         }
     }
@@ -79,45 +98,103 @@ impl KeyAlg {
     ) -> Option<Cek>
         requires key_fits { IsKeyOf self key.now }
         requires count_fits { IsCountOf self parameters.p2c }
-        ensures delivers { IfSome result (λ cek. IsDelivered self enc key.now parameters.entry.p2s.now
-            parameters.entry.p2c encrypted_key.now cek) }
-        ensures nothing { IfNone result ((cek : List ℕ) → IsDelivered self enc key.now parameters.entry.p2s.now
-            parameters.entry.p2c encrypted_key.now cek → ⊥) }
+        ensures delivers { IfSome result (IsDelivered self enc key.now (parameters_view parameters.entry) encrypted_key.now) }
+        ensures nothing { IfNone result ((cek : List ℕ)
+            → IsDelivered self enc key.now (parameters_view parameters.entry) encrypted_key.now cek → ⊥) }
     {
-        match self.kek(key, parameters) {
-            None => direct_cek(enc, key, encrypted_key),
-            Some(kek) => unwrapped_cek(enc, &kek, encrypted_key),
+        match self.way(key, parameters) {
+            Way::Direct => direct_cek(enc, key, encrypted_key),
+            Way::Wrap(kek) => unwrapped_cek(enc, &kek, encrypted_key),
+            Way::Encrypt(kek) => opened_cek(
+                enc,
+                &kek,
+                parameters.iv,
+                encrypted_key,
+                parameters.tag,
+            ),
         }
     }
 
-    /// The cipher of the key wrap. `Dir` has none.
-    fn kek(self, key: &[u8], parameters: KeyParameters<'_>) -> Option<Kek>
+    /// How a content encryption key is delivered, with the cipher of the key wrap or of GCM.
+    fn way(self, key: &[u8], parameters: KeyParameters<'_>) -> Way
         requires key_fits { IsKeyOf self key.now }
         requires count_fits { IsCountOf self parameters.p2c }
-        ensures none { IsNone result ↔ (self ≡ KeyAlg.Dir) }
-        ensures wraps { IfSome result (λ kek. (cek : List ℕ)
-            → encrypted_key_of self key.now parameters.entry.p2s.now parameters.entry.p2c cek
-            ≡ wrapped (⟦<Kek as Block>⟧.encrypted kek) cek) }
+        ensures { IsWayOf self key.now (parameters_view parameters.entry) ⟦<Kek as Block>⟧.encrypted result }
     {
         match self {
-            KeyAlg::Dir => None,
-            KeyAlg::A128Kw => Some(Kek::A128(Aes128::new(&array(key)))),
-            KeyAlg::A192Kw => Some(Kek::A192(Aes192::new(&array(key)))),
-            KeyAlg::A256Kw => Some(Kek::A256(Aes256::new(&array(key)))),
+            KeyAlg::Dir => Way::Direct,
+            KeyAlg::A128Kw => Way::Wrap(Kek::A128(Aes128::new(&array(key)))),
+            KeyAlg::A192Kw => Way::Wrap(Kek::A192(Aes192::new(&array(key)))),
+            KeyAlg::A256Kw => Way::Wrap(Kek::A256(Aes256::new(&array(key)))),
+            KeyAlg::A128GcmKw => Way::Encrypt(Kek::A128(Aes128::new(&array(key)))),
+            KeyAlg::A192GcmKw => Way::Encrypt(Kek::A192(Aes192::new(&array(key)))),
+            KeyAlg::A256GcmKw => Way::Encrypt(Kek::A256(Aes256::new(&array(key)))),
             KeyAlg::Pbes2Hs256A128Kw => {
                 let derived = derive_key::<Sha256, 16>(b"PBES2-HS256+A128KW\0", key, parameters);
-                Some(Kek::A128(Aes128::new(&derived)))
+                Way::Wrap(Kek::A128(Aes128::new(&derived)))
             }
             KeyAlg::Pbes2Hs384A192Kw => {
                 let derived = derive_key::<Sha384, 24>(b"PBES2-HS384+A192KW\0", key, parameters);
-                Some(Kek::A192(Aes192::new(&derived)))
+                Way::Wrap(Kek::A192(Aes192::new(&derived)))
             }
             KeyAlg::Pbes2Hs512A256Kw => {
                 let derived = derive_key::<Sha512, 32>(b"PBES2-HS512+A256KW\0", key, parameters);
-                Some(Kek::A256(Aes256::new(&derived)))
+                Way::Wrap(Kek::A256(Aes256::new(&derived)))
             }
         }
     }
+}
+
+/// Encrypts the content encryption key in GCM to the front of `encrypted_key`, and answers its length, which is the same (section
+/// 4.7).
+fn encrypt_cek<B: Block>(
+    kek: B,
+    iv: &[u8; 12],
+    cek: &[u8],
+    encrypted_key: &mut [u8; 72],
+    tag: &mut [u8; 16],
+) -> usize
+    requires size { length cek.now ≤ 64 }
+    ensures within { result ≤ 72 }
+    ensures encrypted { take result encrypted_key.new ≡ gcm_ciphertext (B.encrypted kek) iv.now cek.now }
+    ensures tag { tag.new ≡ gcm_tag (B.encrypted kek) iv.now [] (gcm_ciphertext (B.encrypted kek) iv.now cek.now) }
+{
+    let mut gcm = Gcm::start(kek, iv, &[]);
+    let mut text = [0; 4112];
+    let len = match gcm.feed(cek, &mut text) {
+        Ok(len) => len,
+        Err(_) => unreachable!(),
+    };
+    encrypted_key[..len].copy_from_slice(&text[..len]);
+    *tag = gcm.finish();
+    len
+}
+
+/// What the encrypted key opens to in GCM, where that fits (section 4.7).
+fn opened_cek<B: Block>(
+    enc: ContentAlg,
+    kek: &B,
+    iv: &[u8],
+    encrypted_key: &[u8],
+    tag: &[u8],
+) -> Option<Cek>
+    ensures delivers { IfSome result (λ cek. (length cek ≡ cek_len enc) × (length iv.now ≡ 12)
+        × IsGcmOpening (B.encrypted kek.now) iv.now [] encrypted_key.now tag.now cek) }
+    ensures nothing { IfNone result ((cek : List ℕ) → length cek ≡ cek_len enc → length iv.now ≡ 12
+        → IsGcmOpening (B.encrypted kek.now) iv.now [] encrypted_key.now tag.now cek → ⊥) }
+{
+    let len = enc.cek_len();
+    if iv.len() != 12 {
+        return None;
+    }
+    if encrypted_key.len() != len {
+        return None;
+    }
+    let mut octets = [0; 64];
+    let octets = &mut octets[..len];
+    octets.copy_from_slice(encrypted_key);
+    let n = gcm_open(kek, &array(iv), &[], octets, tag)?;
+    Some(Cek::new(&octets[..n]))
 }
 
 /// The key that PBES2 derives from a password, for a salt with this prefix (section 4.8.1.1).

@@ -1,6 +1,6 @@
 //! Key management: RFC 7516 appendix A.3, RFC 7517 appendix C and rows of another program, changed texts and lengths.
 ghost use Rattle.std.specs.Prelude.{◌≡◌, ◌≢◌, ◌+◌, ◌%◌, ◌<◌, ◌≤◌, length};
-ghost use Rattle.ciphers.specs.Delivery.{IsKeyOf, IsCountOf};
+ghost use Rattle.ciphers.specs.Delivery.{IsKeyOf, IsCountOf, IsIvOf};
 
 use crate::content_alg_tests::{expect_octets, front};
 use crate::{Cek, ContentAlg, KeyAlg, KeyParameters};
@@ -32,10 +32,13 @@ fn expect_delivery(
     requires parts { length cek.now % 8 ≡ 0 }
     requires size { (16 ≤ length cek.now) × (length cek.now ≤ 64) }
     requires direct { alg ≡ KeyAlg.Dir → cek.now ≡ key.now }
+    requires iv_fits { IsIvOf alg parameters.iv.now }
 {
     let mut out = [0; 72];
-    let len = alg.wrap_cek(key, parameters, &Cek::new(cek), &mut out);
+    let mut tag = [0; 16];
+    let (len, tag_len) = alg.wrap_cek(key, parameters, &Cek::new(cek), &mut out, &mut tag);
     expect_octets(rt, &out[..len], encrypted_key);
+    expect_octets(rt, &tag[..tag_len], parameters.tag);
     let delivered = alg.unwrap_cek(enc, key, parameters, encrypted_key);
     expect_cek(rt, delivered, cek);
     expect_exact(rt, alg, enc, key, parameters, encrypted_key);
@@ -88,7 +91,12 @@ fn rfc7516_appendix_a_3_and_key_wraps(rt: HostRuntime) {
         KeyAlg::Dir,
         ContentAlg::A128CbcHs256,
         b"\x00\x01\x02\x03\x04\x05\x06\x07\x08\x09\x0a\x0b\x0c\x0d\x0e\x0f\x10\x11\x12\x13\x14\x15\x16\x17\x18\x19\x1a\x1b\x1c\x1d\x1e\x1f",
-        KeyParameters { p2s: b"", p2c: 0 },
+        KeyParameters {
+            iv: b"",
+            tag: b"",
+            p2s: b"",
+            p2c: 0,
+        },
         b"\x00\x01\x02\x03\x04\x05\x06\x07\x08\x09\x0a\x0b\x0c\x0d\x0e\x0f\x10\x11\x12\x13\x14\x15\x16\x17\x18\x19\x1a\x1b\x1c\x1d\x1e\x1f",
         b"",
     );
@@ -97,7 +105,12 @@ fn rfc7516_appendix_a_3_and_key_wraps(rt: HostRuntime) {
         KeyAlg::A128Kw,
         ContentAlg::A128CbcHs256,
         b"\x19\xac\x20\x82\xe1\x72\x1a\xb5\x8a\x6a\xfe\xc0\x5f\x85\x4a\x52",
-        KeyParameters { p2s: b"", p2c: 0 },
+        KeyParameters {
+            iv: b"",
+            tag: b"",
+            p2s: b"",
+            p2c: 0,
+        },
         b"\x04\xd3\x1f\xc5\x54\x9d\xfc\xfe\x0b\x64\x9d\xfa\x3f\xaa\x6a\xce\x6b\x7c\xd4\x2d\x6f\x6b\x09\xdb\xc8\xb1\x00\xf0\x8f\x9c\x2c\xcf",
         b"\xe8\xa0\x7b\xd3\xb7\x4c\xf5\x84\xc8\x80\x7b\x4b\xbe\xd8\x16\x43\xc9\x8a\xc1\xba\x09\x5b\x7a\x1f\xf6\x5a\x1c\x8b\x39\x03\x4c\x7c\xc1\x0b\x62\x25\xad\x3d\x68\x39",
     );
@@ -106,7 +119,12 @@ fn rfc7516_appendix_a_3_and_key_wraps(rt: HostRuntime) {
         KeyAlg::A192Kw,
         ContentAlg::A192CbcHs384,
         b"\x00\x01\x02\x03\x04\x05\x06\x07\x08\x09\x0a\x0b\x0c\x0d\x0e\x0f\x10\x11\x12\x13\x14\x15\x16\x17",
-        KeyParameters { p2s: b"", p2c: 0 },
+        KeyParameters {
+            iv: b"",
+            tag: b"",
+            p2s: b"",
+            p2c: 0,
+        },
         b"\x40\x41\x42\x43\x44\x45\x46\x47\x48\x49\x4a\x4b\x4c\x4d\x4e\x4f\x50\x51\x52\x53\x54\x55\x56\x57\x58\x59\x5a\x5b\x5c\x5d\x5e\x5f\x60\x61\x62\x63\x64\x65\x66\x67\x68\x69\x6a\x6b\x6c\x6d\x6e\x6f",
         b"\x3f\x15\x64\x4c\x8d\x42\x75\x13\x27\x6d\x04\x93\x07\xa4\x9a\x8d\xcc\x3e\x10\x18\xc5\x6f\x0d\x09\x4b\x3d\xf7\x4a\x84\x11\xac\x0d\xbf\x84\xb1\xb5\x41\x8c\x55\xf9\x11\xb5\x27\xf6\xe3\x90\x6b\xed\xd9\x1d\xb2\x45\x99\x97\x30\xb8",
     );
@@ -115,7 +133,12 @@ fn rfc7516_appendix_a_3_and_key_wraps(rt: HostRuntime) {
         KeyAlg::A256Kw,
         ContentAlg::A128Gcm,
         b"\x00\x01\x02\x03\x04\x05\x06\x07\x08\x09\x0a\x0b\x0c\x0d\x0e\x0f\x10\x11\x12\x13\x14\x15\x16\x17\x18\x19\x1a\x1b\x1c\x1d\x1e\x1f",
-        KeyParameters { p2s: b"", p2c: 0 },
+        KeyParameters {
+            iv: b"",
+            tag: b"",
+            p2s: b"",
+            p2c: 0,
+        },
         b"\x40\x41\x42\x43\x44\x45\x46\x47\x48\x49\x4a\x4b\x4c\x4d\x4e\x4f",
         b"\x51\x96\x46\xf4\xbd\xf9\x99\x80\xfa\xc8\x13\x86\xe9\xdd\xd7\xb1\xd0\xf7\x99\x3c\xe8\x19\xc4\x0f",
     );
@@ -129,6 +152,8 @@ fn rfc7517_appendix_c_and_passwords(rt: HostRuntime) {
         ContentAlg::A256Gcm,
         PASSWORD,
         KeyParameters {
+            iv: b"",
+            tag: b"",
             p2s: b"\xd9\x60\x93\x70\x96\x75\x46\xf7\x7f\x08\x9b\x89\xae\x2a\x50\xd7",
             p2c: 4096,
         },
@@ -141,6 +166,8 @@ fn rfc7517_appendix_c_and_passwords(rt: HostRuntime) {
         ContentAlg::A192Gcm,
         PASSWORD,
         KeyParameters {
+            iv: b"",
+            tag: b"",
             p2s: b"\xd9\x60\x93\x70\x96\x75\x46\xf7\x7f\x08\x9b\x89\xae\x2a\x50\xd7",
             p2c: 2,
         },
@@ -153,10 +180,70 @@ fn rfc7517_appendix_c_and_passwords(rt: HostRuntime) {
         ContentAlg::A256CbcHs512,
         PASSWORD,
         KeyParameters {
+            iv: b"",
+            tag: b"",
             p2s: b"\xd9\x60\x93\x70\x96\x75\x46\xf7\x7f\x08\x9b\x89\xae\x2a\x50\xd7",
             p2c: 2,
         },
         b"\x40\x41\x42\x43\x44\x45\x46\x47\x48\x49\x4a\x4b\x4c\x4d\x4e\x4f\x50\x51\x52\x53\x54\x55\x56\x57\x58\x59\x5a\x5b\x5c\x5d\x5e\x5f\x60\x61\x62\x63\x64\x65\x66\x67\x68\x69\x6a\x6b\x6c\x6d\x6e\x6f\x70\x71\x72\x73\x74\x75\x76\x77\x78\x79\x7a\x7b\x7c\x7d\x7e\x7f",
         b"\xbf\x35\x51\xf2\x35\xba\x51\x02\xa1\xc0\xc7\x0d\x28\x51\xdc\x63\xb7\xc9\x35\xad\x25\xcb\xa4\xd8\xc5\xed\x89\xeb\xf5\xeb\xa3\x8d\xb5\x57\x44\xab\xaf\x77\x64\x26\x2b\x9c\xf7\xbb\xa7\x2d\x4f\x14\x26\xf9\x44\xfa\xde\x7a\x49\xcf\x5b\x6a\x70\xe3\xac\x04\xdb\x4d\x47\xb9\xbd\x36\x88\x72\x87\x5e",
+    );
+}
+
+// The GCM specification's test case 2, and its parameters changed or cut.
+#[test]
+fn encryption_in_gcm(rt: HostRuntime) {
+    let key = [0; 16];
+    let parameters = KeyParameters {
+        iv: b"\x00\x00\x00\x00\x00\x00\x00\x00\x00\x00\x00\x00",
+        tag: b"\xab\x6e\x47\xd4\x2c\xec\x13\xbd\xf5\x3a\x67\xb2\x12\x57\xbd\xdf",
+        p2s: b"",
+        p2c: 0,
+    };
+    let encrypted_key = b"\x03\x88\xda\xce\x60\xb6\xa3\x92\xf3\x28\xc2\xb9\x71\xb2\xfe\x78";
+    expect_delivery(
+        &rt,
+        KeyAlg::A128GcmKw,
+        ContentAlg::A128Gcm,
+        &key,
+        parameters,
+        &[0; 16],
+        encrypted_key,
+    );
+    let cut = KeyParameters {
+        iv: &parameters.iv[..11],
+        ..parameters
+    };
+    expect_nothing(
+        &rt,
+        KeyAlg::A128GcmKw,
+        ContentAlg::A128Gcm,
+        &key,
+        cut,
+        encrypted_key,
+    );
+    let other = KeyParameters {
+        tag: &[0; 16],
+        ..parameters
+    };
+    expect_nothing(
+        &rt,
+        KeyAlg::A128GcmKw,
+        ContentAlg::A128Gcm,
+        &key,
+        other,
+        encrypted_key,
+    );
+    let short = KeyParameters {
+        tag: &parameters.tag[..12],
+        ..parameters
+    };
+    expect_nothing(
+        &rt,
+        KeyAlg::A128GcmKw,
+        ContentAlg::A128Gcm,
+        &key,
+        short,
+        encrypted_key,
     );
 }

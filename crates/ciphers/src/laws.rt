@@ -1,7 +1,7 @@
 //! Laws of the definitions in `specs/`: functions that do nothing, whose contracts are the laws.
 ghost use Rattle.std.specs.Prelude.{◌≡◌, ℕ, ◌≤◌, List, length};
 ghost use Rattle.aes.specs.Block.{IsCipher};
-ghost use Rattle.ciphers.specs.Delivery.{IsDelivered};
+ghost use Rattle.ciphers.specs.Delivery.{Parameters, IsDelivered, key_tag_of};
 ghost use Rattle.ciphers.specs.KeyWrap.{IsUnwrapping};
 ghost use Rattle.ciphers.specs.Openings.{OpensExactly, DeliversExactly};
 ghost use Rattle.ciphers.specs.Sealing.{IsOpening};
@@ -24,12 +24,13 @@ pub fn unwrapping_is_unique()
 /// A recipient's key, its header parameters and an encrypted key deliver at most one content encryption key, so what
 /// `KeyAlg::unwrap_cek` gives is what was delivered (RFC 7516, section 5.2).
 pub fn delivery_is_unique()
-    ensures { (alg : KeyAlg) (enc : ContentAlg) (key p2s : List ℕ) (p2c : ℕ) (encrypted cek other : List ℕ)
-        → IsOctets key → IsDelivered alg enc key p2s p2c encrypted cek
-        → IsDelivered alg enc key p2s p2c encrypted other → cek ≡ other }
+    ensures { (alg : KeyAlg) (enc : ContentAlg) (key : List ℕ) (p : Parameters) (encrypted cek other : List ℕ)
+        → IsOctets key → IsDelivered alg enc key p encrypted cek
+        → IsDelivered alg enc key p encrypted other → cek ≡ other }
 {
     encrypted_block_is_cipher();
     derived_key_is_octets();
+    gcm_plaintext_is_unique();
 }
 
 /// At most one plaintext opens a ciphertext and its tag, so what `ContentAlg::open` gives is what was sealed.
@@ -67,10 +68,10 @@ pub fn what_is_opened_is_octets()
     encrypted_block_is_cipher();
 }
 
-/// An encrypted key that delivers a content encryption key is octets.
+/// An encrypted key that delivers a content encryption key is octets, and so is the tag that is made with it.
 pub fn what_delivers_is_octets()
-    ensures { (alg : KeyAlg) (enc : ContentAlg) (key p2s : List ℕ) (p2c : ℕ) (encrypted cek : List ℕ) → IsOctets key
-        → IsDelivered alg enc key p2s p2c encrypted cek → IsOctets encrypted }
+    ensures { (alg : KeyAlg) (enc : ContentAlg) (key : List ℕ) (p : Parameters) (encrypted cek : List ℕ) → IsOctets key → IsOctets p.iv
+        → IsDelivered alg enc key p encrypted cek → IsOctets encrypted × IsOctets (key_tag_of alg key p cek) }
 {
     encrypted_block_is_cipher();
     derived_key_is_octets();

@@ -7,8 +7,8 @@
 //! ```rust
 //! // A recipient's encrypted key, and content that is sealed in pieces.
 //! let (alg, enc) = (KeyAlg::A128Kw, ContentAlg::A128Gcm);
-//! let parameters = KeyParameters { p2s: b"", p2c: 0 };
-//! let len = alg.wrap_cek(&key, parameters, &cek, &mut encrypted_key); // &encrypted_key[..len]
+//! let parameters = KeyParameters { iv: b"", tag: b"", p2s: b"", p2c: 0 };
+//! let (len, tag_len) = alg.wrap_cek(&key, parameters, &cek, &mut encrypted_key, &mut tag); // &encrypted_key[..len]
 //! let mut sealer = enc.seal(cek.octets(), &iv, aad);
 //! let n = sealer.feed(piece, &mut out)?; // &out[..n] is what the piece adds to the ciphertext
 //! let (end, tag_len) = sealer.finish(&mut last, &mut tag); // &last[..end] is its end

@@ -1,6 +1,6 @@
 //! The lengths of RFC 7518's algorithms, row by row. What each is made of is shown by the vectors of the other tests.
 ghost use Rattle.std.specs.Prelude.{◌≡◌, ◌≢◌, ◌%◌, ◌≤◌, length};
-ghost use Rattle.ciphers.specs.Delivery.{IsKeyOf, IsCountOf};
+ghost use Rattle.ciphers.specs.Delivery.{IsKeyOf, IsCountOf, IsIvOf};
 
 use crate::content_alg_tests::{expect_len, front, seal};
 use crate::key_alg_tests::{expect_cek, expect_no_cek};
@@ -57,12 +57,19 @@ fn expect_key(
     requires key_fits { IsKeyOf alg key.now }
     requires count_fits { IsCountOf alg parameters.p2c }
     requires wraps { alg ≢ KeyAlg.Dir }
+    requires iv_fits { IsIvOf alg parameters.iv.now }
     requires parts { length cek.now % 8 ≡ 0 }
     requires size { (16 ≤ length cek.now) × (length cek.now ≤ 64) }
 {
     let mut out = [0; 72];
-    let n = alg.wrap_cek(key, parameters, &Cek::new(cek), &mut out);
-    expect_len(rt, n, cek.len() + 8);
+    let mut tag = [0; 16];
+    let (n, tag_len) = alg.wrap_cek(key, parameters, &Cek::new(cek), &mut out, &mut tag);
+    let longer = if parameters.iv.is_empty() { 8 } else { 0 };
+    expect_len(rt, n, cek.len() + longer);
+    let parameters = KeyParameters {
+        tag: &tag[..tag_len],
+        ..parameters
+    };
     let delivered = alg.unwrap_cek(enc, key, parameters, &out[..n]);
     expect_cek(rt, delivered, cek);
 }
@@ -72,6 +79,7 @@ fn expect_every_key(rt: &impl Abort, alg: KeyAlg, key: &[u8], parameters: KeyPar
     requires key_fits { IsKeyOf alg key.now }
     requires count_fits { IsCountOf alg parameters.p2c }
     requires wraps { alg ≢ KeyAlg.Dir }
+    requires iv_fits { IsIvOf alg parameters.iv.now }
 {
     for (enc, len, _, _) in CONTENT {
         assert!(rt; 16 <= len && len <= 64 && len % 8 == 0);
@@ -81,16 +89,37 @@ fn expect_every_key(rt: &impl Abort, alg: KeyAlg, key: &[u8], parameters: KeyPar
 
 #[test]
 fn keys_of_key_wrap(rt: HostRuntime) {
-    let none = KeyParameters { p2s: b"", p2c: 0 };
+    let none = KeyParameters {
+        iv: b"",
+        tag: b"",
+        p2s: b"",
+        p2c: 0,
+    };
     expect_every_key(&rt, KeyAlg::A128Kw, &OCTETS[..16], none);
     expect_every_key(&rt, KeyAlg::A192Kw, &OCTETS[..24], none);
     expect_every_key(&rt, KeyAlg::A256Kw, &OCTETS[..32], none);
+}
+
+// Encrypted in GCM it is as long (section 4.7).
+#[test]
+fn keys_of_gcm(rt: HostRuntime) {
+    let parameters = KeyParameters {
+        iv: &OCTETS[..12],
+        tag: b"",
+        p2s: b"",
+        p2c: 0,
+    };
+    expect_every_key(&rt, KeyAlg::A128GcmKw, &OCTETS[..16], parameters);
+    expect_every_key(&rt, KeyAlg::A192GcmKw, &OCTETS[..24], parameters);
+    expect_every_key(&rt, KeyAlg::A256GcmKw, &OCTETS[..32], parameters);
 }
 
 // Passwords of one octet and of 4,096.
 #[test]
 fn passwords_of_pbes2(rt: HostRuntime) {
     let parameters = KeyParameters {
+        iv: b"",
+        tag: b"",
         p2s: b"salt",
         p2c: 1,
     };
@@ -102,15 +131,25 @@ fn passwords_of_pbes2(rt: HostRuntime) {
 }
 
 fn direct(enc: ContentAlg, key: &[u8], encrypted_key: &[u8]) -> Option<Cek> {
-    let none = KeyParameters { p2s: b"", p2c: 0 };
+    let none = KeyParameters {
+        iv: b"",
+        tag: b"",
+        p2s: b"",
+        p2c: 0,
+    };
     KeyAlg::Dir.unwrap_cek(enc, key, none, encrypted_key)
 }
 
 fn expect_no_encrypted_key(rt: &impl Abort, len: usize) {
     assert!(rt; 16 <= len && len <= 64 && len % 8 == 0);
     let key = &OCTETS[..len];
-    let none = KeyParameters { p2s: b"", p2c: 0 };
-    let n = KeyAlg::Dir.wrap_cek(key, none, &Cek::new(key), &mut [0; 72]);
+    let none = KeyParameters {
+        iv: b"",
+        tag: b"",
+        p2s: b"",
+        p2c: 0,
+    };
+    let (n, _) = KeyAlg::Dir.wrap_cek(key, none, &Cek::new(key), &mut [0; 72], &mut [0; 16]);
     expect_len(rt, n, 0);
 }
 

@@ -1,8 +1,10 @@
 //! Encrypted objects that are read and written, and texts that are refused.
 use crate::tests::{expect_octets, expect_same};
-use objects::{Jwe, Recipient};
+use objects::{Jwe, KeyManagement, Recipient};
 use octets::Refusal;
+use std::alloc::AllocGlobal;
 use std::process::Abort;
+use std::test::Fail;
 
 /// RFC 7516 appendix A.3.7.
 const COMPACT: &str =
@@ -12,12 +14,24 @@ const COMPACT: &str =
 const FLATTENED: &str =
     "{\"protected\":\"eyJlbmMiOiJBMTI4Q0JDLUhTMjU2In0\",\"unprotected\":{\"jku\":\"https://server.example.com/keys.jwks\"},\"header\":{\"alg\":\"A128KW\",\"kid\":\"7\"},\"x\":1,\"encrypted_key\":\"6KB707dM9YTIgHtLvtgWQ8mKwboJW3of9locizkDTHzBC2IlrT1oOQ\",\"iv\":\"AxY8DCtDaGlsbGljb3RoZQ\",\"ciphertext\":\"KDlTtXchhZTGufMYmOYGS4HffxPSUrfmqCHXaI9wOGY\",\"tag\":\"Mz-VPPyU4RlcuYv1IwIvzw\"}";
 
+/// Which way the key of a recipient is managed, with the salt input and the count of a password.
+fn expect_management(rt: &impl Abort, recipient: &Recipient, way: &str, salt: &[u8], count: u64) {
+    let (found, p2s, p2c): (&str, &[u8], u64) = match recipient.management() {
+        KeyManagement::Unknown => ("unknown", b"", 0),
+        KeyManagement::Direct => ("direct", b"", 0),
+        KeyManagement::KeyWrap => ("key wrap", b"", 0),
+        KeyManagement::Password { p2s, p2c } => ("password", p2s, *p2c),
+    };
+    expect_octets(rt, found.as_bytes(), way.as_bytes(), recipient.alg());
+    expect_octets(rt, p2s, salt, recipient.alg());
+    expect_same(rt, p2c, count, recipient.alg());
+}
+
 fn expect_recipient(rt: &impl Abort, recipient: &Recipient) {
     expect_octets(rt, recipient.alg().as_bytes(), b"A128KW", "alg");
     expect_octets(rt, recipient.enc().as_bytes(), b"A128CBC-HS256", "enc");
     expect_same(rt, recipient.encrypted_key().len(), 40, "encrypted_key");
-    expect_same(rt, recipient.p2s().len(), 0, "p2s");
-    expect_same(rt, recipient.p2c(), 0, "p2c");
+    expect_management(rt, recipient, "key wrap", b"", 0);
 }
 
 fn expect_parts(rt: &impl Abort, jwe: &Jwe, tag: &[u8]) {
@@ -53,6 +67,49 @@ fn rfc7516_appendix_a5(rt: HostRuntime) {
         &jwe,
         b"\x33\x3f\x95\x3c\xfc\x94\xe1\x19\x5c\xb9\x8b\xf5\x23\x02\x2f\xcf",
     );
+}
+
+/// Joint headers, and how the key of their recipient is managed (RFC 7518 section 4.1): the way, the salt input and the count.
+const MANAGED: &[(&str, &str, &[u8], u64)] = &[
+    ("\"alg\":\"dir\"", "direct", b"", 0),
+    ("\"alg\":\"A128KW\"", "key wrap", b"", 0),
+    ("\"alg\":\"A192KW\"", "key wrap", b"", 0),
+    ("\"alg\":\"A256KW\",\"p2c\":true", "key wrap", b"", 0),
+    (
+        "\"alg\":\"PBES2-HS256+A128KW\",\"p2s\":\"AAECAwQFBgc\",\"p2c\":1",
+        "password",
+        b"\0\x01\x02\x03\x04\x05\x06\x07",
+        1,
+    ),
+    (
+        "\"alg\":\"PBES2-HS384+A192KW\",\"p2s\":\"_____________w\",\"p2c\":4096",
+        "password",
+        b"\xff\xff\xff\xff\xff\xff\xff\xff\xff\xff",
+        4096,
+    ),
+    (
+        "\"alg\":\"PBES2-HS512+A256KW\",\"p2s\":\"AAECAwQFBgc\",\"p2c\":18446744073709551615",
+        "password",
+        b"\0\x01\x02\x03\x04\x05\x06\x07",
+        18446744073709551615,
+    ),
+    ("\"alg\":\"RSA1_5\",\"p2s\":8", "unknown", b"", 0),
+    ("\"alg\":\"a128kw\"", "unknown", b"", 0),
+];
+
+#[test]
+fn a_key_is_managed_by_its_algorithm(rt: HostRuntime) -> Result<(), Fail> {
+    for (members, way, salt, count) in MANAGED {
+        let text = format!(in rt.alloc();
+            "{{\"header\":{{{members},\"enc\":\"A128GCM\"}},\"ciphertext\":\"\"}}"
+        )?;
+        let jwe = Jwe::read(rt.alloc(), text.as_bytes(), None).expect(&rt, members);
+        match jwe.recipients() {
+            [recipient] => expect_management(&rt, recipient, way, salt, *count),
+            _ => assert!(rt; false),
+        }
+    }
+    Ok(())
 }
 
 /// These texts are refused, and why.

@@ -4,6 +4,7 @@ pub mod Each
 pub mod EachRead
 pub mod Items
 pub mod HeaderMembers
+pub mod KeyManagements
 pub mod WrittenItems
 pub mod Recipients
 pub mod Members

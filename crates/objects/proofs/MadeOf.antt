@@ -6,9 +6,10 @@ use Rattle.octets.specs.declared.refusal.Refusal.TheVariants.{Header, Unsupporte
 use Rattle.octets.specs.Outcomes.{needs}
 use Rattle.serde_json.specs.Data.{Members, no_members}
 use Rattle.keys.specs.declared.algorithm.ManagementAlg.{ManagementAlg}
-use Rattle.objects.specs.Headers.{protected_members, joint_header, string_there, parameters_of}
+use Rattle.objects.specs.Headers.{protected_members, joint_header, string_there}
 use Rattle.objects.specs.Jwe.{RecipientParts, Recipient, JweParts, EncryptedObject, recipient_parts_of, parts_of, recipient_by, recipient_of, recipients_of, recipients_of_one_enc, have_one_enc, are_plain, encrypted_object}
 use Rattle.objects.specs.Jws.{SignatureParts, Signature, DecodedSignature, HeadedSignature, SignedObject, signature_parts_of, headed_signature, signature_by, is_plain, signatures_of, signed_object}
+use Rattle.objects.specs.KeyManagement.{key_management}
 use Rattle.objects.specs.Texts.{each}
 use Rattle.objects.proofs.EachRead.{each_keeps}
 use Rattle.objects.proofs.Steps.{steps, same_answer}
@@ -20,7 +21,7 @@ unfolding recipient_by
 recipient_by_is algs header p r h =
     let a = steps (string_there (codes "alg") header) _ r h in
     let b = steps (string_there (codes "enc") header) _ r a.2 in
-    let c = steps (parameters_of algs a.0 header) _ r b.2 in
+    let c = steps (key_management algs a.0 header) _ r b.2 in
     ap recipient_parts_of (sym (same_answer _ r c.2))
 
 recipient_is : (algs : List ManagementAlg) (protected unprotected : Members) (p : RecipientParts) (r : Recipient) → recipient_of algs protected unprotected p ≡ Ok r → recipient_parts_of r ≡ p
@@ -55,7 +56,7 @@ unfolding signature_by
 signature_is algs d s h =
     let a = steps (joint_header d.members no_members d.parts.header) _ s h in
     let b = steps (string_there (codes "alg") a.0) _ s a.2 in
-    let c = steps (parameters_of algs b.0 a.0) _ s b.2 in
+    let c = steps (key_management algs b.0 a.0) _ s b.2 in
     ap signature_parts_of (sym (same_answer _ s c.2))
 
 -- what is known of the object of a payload and these signatures

@@ -1,5 +1,5 @@
 -- JOSE headers (RFC 7515 section 4, RFC 7516 section 4): their members, and the parameters that this profile reads.
-use Rattle.std.specs.Prelude.{◌≡◌, ℕ, ◌==◌, ◌||◌, Bool, true, false, not, List, [], length, codes, nat_le, is_some, is_none, if◌then◌else◌, Option, Some, None, option_and_then, Result, Ok, Err}
+use Rattle.std.specs.Prelude.{◌≡◌, ℕ, ◌||◌, Bool, true, false, not, List, length, codes, nat_le, is_some, is_none, if◌then◌else◌, Option, Some, None, option_and_then, Result, Ok, Err}
 use Rattle.std.specs.Option.{ok_or}
 use Rattle.serde_json.specs.Data.{Data, Members, no_members, member, put}
 use Rattle.serde_json.specs.Find.{get, get_member, as_str, as_number, as_u64, as_object}
@@ -7,8 +7,6 @@ use Rattle.octets.specs.declared.refusal.Refusal.{Refusal}
 use Rattle.octets.specs.declared.refusal.Refusal.TheVariants.{Form, Header}
 use Rattle.octets.specs.Outcomes.{◌>>=◌, needs}
 use Rattle.octets.specs.Base64url.{decoded}
-use Rattle.keys.specs.declared.algorithm.ManagementAlg.{ManagementAlg}
-use Rattle.keys.specs.Algorithms.{management_alg_among, is_password_based}
 use Rattle.keys.specs.Json.{json_value}
 
 -- ---- a header in a JSON value
@@ -115,35 +113,6 @@ unfoldable pub salt_parameter : List ℕ → Members → Result (Option (List �
 salt_parameter name header = do
   text ← string_parameter name header
   salt_if_there text
-
--- ---- the parameters of a password (RFC 7518 section 4.8)
-
--- the algorithm derives a key from a password
-abbrev pub reads_password : Option ManagementAlg → Bool
-reads_password None = false
-reads_password (Some alg) = is_password_based alg
-
--- p2c is at least 1 where it is read, and else 0
-abbrev pub is_count_of : Option ManagementAlg → ℕ → Bool
-is_count_of alg p2c = if reads_password alg then nat_le 1 p2c else p2c == 0
-
--- p2s and p2c, which is at least 1, where the algorithm reads them
-pub record PasswordParameters : Type 0 where
-  pub p2s : List ℕ
-  pub p2c : ℕ
-
-unfoldable pub password_parameters : Members → Result PasswordParameters Refusal
-password_parameters header = do
-  salt ← salt_parameter (codes "p2s") header
-  p2s ← ok_or salt Header
-  count ← number_parameter (codes "p2c") header
-  p2c ← ok_or count Header
-  some ← needs (nat_le 1 p2c) Header
-  Ok (record { p2s = p2s; p2c = p2c })
-
-abbrev pub parameters_of : List ManagementAlg → List ℕ → Members → Result PasswordParameters Refusal
-parameters_of algs alg header =
-    if reads_password (management_alg_among algs alg) then password_parameters header else Ok (record { p2s = []; p2c = 0 })
 
 -- ---- members that are refused
 

@@ -15,7 +15,8 @@ use Rattle.keys.specs.declared.algorithm.ManagementAlg.{ManagementAlg}
 use Rattle.keys.specs.Json.{json_value, member_numbers_are_whole}
 use Rattle.keys.specs.JsonTexts.{AreJsonMembers}
 use Rattle.keys.specs.Limits.{Limits}
-use Rattle.objects.specs.Headers.{header_at, protected_members, joint_header, string_there, has_no_crit, parameters_of}
+use Rattle.objects.specs.Headers.{header_at, protected_members, joint_header, string_there, has_no_crit}
+use Rattle.objects.specs.KeyManagement.{KeyManagement, key_management}
 use Rattle.objects.specs.Texts.{each, each_item, is_json_form, split_at_dot, three_parts, text_at, content_by, content_text, handed_in, AreOctetsHandedIn, object_list, has_text, has_members, kept, put_text, put_content, put_header, put_each, header_depth, depth_of_each}
 
 -- ---- the members of an object
@@ -144,14 +145,13 @@ parts_of_texts texts = do
 
 -- ---- the object
 
--- A recipient: its per-recipient unprotected header, its encrypted key, and what its joint header says. Where it reads no p2s and p2c, they are empty and 0.
+-- A recipient: its per-recipient unprotected header, its encrypted key, and what its joint header says.
 pub record Recipient : Type 0 where
   pub header : Members
   pub encrypted_key : List ℕ
   pub alg : List ℕ
   pub enc : List ℕ
-  pub p2s : List ℕ
-  pub p2c : ℕ
+  pub management : KeyManagement
 
 -- An encrypted object. Beside the text of its protected header stand the members that this holds.
 pub record EncryptedObject : Type 0 where
@@ -184,8 +184,8 @@ unfoldable pub recipient_by : List ManagementAlg → Members → RecipientParts 
 recipient_by algs header parts = do
   alg ← string_there (codes "alg") header
   enc ← string_there (codes "enc") header
-  parameters ← parameters_of algs alg header
-  Ok (record { header = parts.header; encrypted_key = parts.encrypted_key; alg = alg; enc = enc; p2s = parameters.p2s; p2c = parameters.p2c })
+  management ← key_management algs alg header
+  Ok (record { header = parts.header; encrypted_key = parts.encrypted_key; alg = alg; enc = enc; management = management })
 
 unfoldable pub recipient_of : List ManagementAlg → Members → Members → RecipientParts → Result Recipient Refusal
 recipient_of algs protected unprotected parts = do

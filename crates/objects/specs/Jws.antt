@@ -15,7 +15,8 @@ use Rattle.keys.specs.declared.algorithm.ManagementAlg.{ManagementAlg}
 use Rattle.keys.specs.Json.{json_value, member_numbers_are_whole}
 use Rattle.keys.specs.JsonTexts.{AreJsonMembers}
 use Rattle.keys.specs.Limits.{Limits}
-use Rattle.objects.specs.Headers.{header_at, protected_members, joint_header, string_there, has_no_crit, parameters_of}
+use Rattle.objects.specs.Headers.{header_at, protected_members, joint_header, string_there, has_no_crit}
+use Rattle.objects.specs.KeyManagement.{key_management}
 use Rattle.objects.specs.Texts.{each, each_item, is_json_form, three_parts, text_at, required_text, content_by, content_text, handed_in, AreOctetsHandedIn, object_list, has_text, has_members, kept, put_text, put_content, put_header, put_each, depth_of_each}
 
 -- ---- the members of an object
@@ -126,12 +127,13 @@ headed_signature s = do
   members ← protected_members s.octets
   Ok (record { members = members; parts = s.parts })
 
--- Its headers have no name in common, and name the algorithm together, with the parameters of a password where it reads them.
+-- Its headers have no name in common, and name the algorithm together. Where that is one of key management, they have the parameters
+-- that it reads.
 unfoldable pub signature_by : List ManagementAlg → HeadedSignature → Result Signature Refusal
 signature_by algs s = do
   header ← joint_header s.members no_members s.parts.header
   alg ← string_there (codes "alg") header
-  parameters ← parameters_of algs alg header
+  management ← key_management algs alg header
   Ok (record { protected = s.parts.protected; protected_members = s.members; header = s.parts.header; signature = s.parts.signature; alg = alg })
 
 -- neither header has a `crit`

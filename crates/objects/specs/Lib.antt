@@ -1,4 +1,6 @@
 pub mod Headers
+pub mod KeyManagement
+pub mod KeyManagementView
 pub mod Texts
 pub mod Jws
 pub mod Jwe

@@ -7,9 +7,10 @@ use Rattle.serde_json.specs.Data.{Members, no_members}
 use Rattle.serde_json.specs.View.{members_view}
 use Rattle.serde_json.specs.declared.value.Value.{Value}
 use Rattle.octets.specs.Base64url.{base64url}
-use Rattle.objects.specs.Headers.{PasswordParameters, all_members}
+use Rattle.objects.specs.Headers.{all_members}
 use Rattle.objects.specs.Jwe.{RecipientParts, Recipient, SharedTexts, RecipientTexts, ContentTexts, JweTexts, JweParts, EncryptedObject}
 use Rattle.objects.specs.Jws.{SignatureParts, JwsParts, SignatureTexts, JwsTexts, Signature, DecodedSignature, HeadedSignature, SignedObject}
+use Rattle.objects.specs.KeyManagementView.{management_view}
 use Rattle.objects.specs.Writing.{Written}
 use Rattle.objects.specs.declared.content.Content.{Content}
 use Rattle.objects.specs.declared.content.Content.TheVariants.{Text, Octets}
@@ -31,7 +32,6 @@ use Rattle.objects.specs.declared.jws.SignatureMembers as signature_members
 use Rattle.objects.specs.declared.jws.SignatureParts as signature_parts
 use Rattle.objects.specs.declared.jws_texts.JwsTexts as jws_texts
 use Rattle.objects.specs.declared.jws_texts.SignatureTexts as signature_texts
-use Rattle.objects.specs.declared.parameters.Parameters as parameters
 use Rattle.objects.specs.declared.recipient.Recipient as recipient
 use Rattle.objects.specs.declared.recipient.RecipientMembers as members
 use Rattle.objects.specs.declared.recipient.RecipientParts as parts
@@ -97,17 +97,13 @@ recipient_parts_view p = record { header = members_view p.header.entries; encryp
 abbrev pub recipient_members_view : members.RecipientMembers → RecipientParts
 recipient_members_view m = record { header = members_view m.header.map.entries; encrypted_key = m.encrypted_key.items }
 
-abbrev pub parameters_view : parameters.Parameters → PasswordParameters
-parameters_view p = record { p2s = p.p2s.items; p2c = p.p2c }
-
 abbrev pub recipient_view : recipient.Recipient → Recipient
 recipient_view r = record {
   header = members_view r.header.map.entries;
   encrypted_key = r.encrypted_key.items;
-  alg = string_bytes r.management.alg;
+  alg = string_bytes r.named.alg;
   enc = string_bytes r.enc;
-  p2s = r.management.p2s.items;
-  p2c = r.management.p2c;
+  management = management_view r.named.management;
 }
 
 abbrev pub shared_view : shared.SharedTexts → SharedTexts

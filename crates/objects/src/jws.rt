@@ -14,8 +14,8 @@ use crate::content::handed_in_is_octets;
 use crate::header::{has_no_crit, string_there};
 use crate::header_members::HeaderMembers;
 use crate::jws_texts::{JwsTexts, compact_texts, decoded_signatures, json_texts};
+use crate::key_management::read_key_management;
 use crate::laws::jws_objects_are_made;
-use crate::parameters::read_parameters;
 use crate::signature_list::SignatureList;
 use crate::texts::is_json_form;
 use crate::{Header, read_protected};
@@ -282,7 +282,7 @@ fn by_header(alloc: Global, headed: HeadedSignature) -> Result<Signature, Refusa
         Some(&headed.members.header.map),
     )?;
     let alg = string_there(alloc, header.alg()?)?;
-    read_parameters(alloc, &alg, header)?;
+    read_key_management(alloc, &alg, header)?;
     let HeadedSignature {
         protected: protected_members,
         members,

@@ -1,14 +1,77 @@
-//! What a recipient's joint header says of the management of its key (RFC 7518 section 4).
-ghost use Rattle.std.specs.Prelude.{◌≡◌, true, string_bytes};
+//! How a recipient's key delivers the content encryption key (RFC 7518 section 4), as a joint header says it. It sees no key.
+ghost use Rattle.std.specs.Prelude.{◌≡◌, true, IfOk};
+ghost use Rattle.octets.specs.Outcomes.{AgreesUnlessMemory};
 ghost use Rattle.keys.specs.Algorithms.{management_alg_of};
-ghost use Rattle.objects.specs.Headers.{is_count_of};
+ghost use Rattle.keys.specs.Limits.{limits};
+ghost use Rattle.objects.specs.KeyManagement.{key_management, management_by, password_management, is_management_of};
+ghost use Rattle.objects.specs.KeyManagementView.{management_view};
+ghost use Rattle.objects.specs.Views.{header_view};
 
-/// The name of the algorithm, and the parameters p2s and p2c where it derives a key from a password (RFC 7518 section
-/// 4.8.1): p2c is then at least 1. They are empty and 0 for any other.
+use crate::Header;
+use keys::ManagementAlg;
+use octets::{Refusal, needs};
+use std::alloc::Global;
+
+/// How a recipient's key delivers the content encryption key (RFC 7518 section 4), with the header parameters that its
+/// algorithm reads.
 #[derive(Drop)]
-pub(crate) struct KeyManagement {
-    pub(crate) alg: String,
-    pub(crate) p2s: Vec<u8>,
-    pub(crate) p2c: u64,
-    ghost counted: { is_count_of (management_alg_of (string_bytes alg)) p2c ≡ true },
+pub enum KeyManagement {
+    /// An algorithm that is not known, of which nothing is read.
+    Unknown,
+    /// The key is the content encryption key (section 4.5).
+    Direct,
+    /// AES key wrap (section 4.4).
+    KeyWrap,
+    /// Key wrap with a key that is derived from a password (section 4.8).
+    Password {
+        /// The salt input, of 8 octets or more (section 4.8.1.1).
+        p2s: Vec<u8>,
+        /// The count of iterations of PBKDF2, which is 1 or more (section 4.8.1.2).
+        p2c: u64,
+    },
+}
+
+/// What a header says by the algorithm of this name.
+pub(crate) fn read_key_management(
+    alloc: Global,
+    alg: &str,
+    header: Header<'_>,
+) -> Result<KeyManagement, Refusal>
+    ensures exact { AgreesUnlessMemory management_view result (key_management limits.management alg.now (header_view header.entry)) }
+    ensures of_alg { IfOk result (λ management. is_management_of (management_alg_of alg.now) (management_view management) ≡ true) }
+{
+    read_management(alloc, ManagementAlg::named(alg), header)
+}
+
+/// What a header says by an algorithm.
+fn read_management(
+    alloc: Global,
+    alg: Option<ManagementAlg>,
+    header: Header<'_>,
+) -> Result<KeyManagement, Refusal>
+    ensures { AgreesUnlessMemory management_view result (management_by alg (header_view header.entry)) }
+{
+    match alg {
+        None => Ok(KeyManagement::Unknown),
+        Some(ManagementAlg::Dir) => Ok(KeyManagement::Direct),
+        Some(ManagementAlg::A128Kw | ManagementAlg::A192Kw | ManagementAlg::A256Kw) => {
+            Ok(KeyManagement::KeyWrap)
+        }
+        Some(
+            ManagementAlg::Pbes2Hs256A128Kw
+            | ManagementAlg::Pbes2Hs384A192Kw
+            | ManagementAlg::Pbes2Hs512A256Kw,
+        ) => read_password(alloc, header),
+    }
+}
+
+/// The parameters of a password (section 4.8.1).
+#[tactic(auto, unfolding(crate::specs::KeyManagement::password_management))]
+fn read_password(alloc: Global, header: Header<'_>) -> Result<KeyManagement, Refusal>
+    ensures { AgreesUnlessMemory management_view result (password_management (header_view header.entry)) }
+{
+    let p2s = header.p2s(alloc)?.ok_or(Refusal::Header)?;
+    let p2c = header.p2c()?.ok_or(Refusal::Header)?;
+    needs(p2c >= 1, Refusal::Header)?;
+    Ok(KeyManagement::Password { p2s, p2c })
 }

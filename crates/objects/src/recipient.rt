@@ -2,17 +2,18 @@
 ghost use Rattle.std.specs.Prelude.{◌≡◌, true, string_bytes};
 ghost use Rattle.serde_json.specs.View.{members_view};
 ghost use Rattle.octets.specs.Outcomes.{AgreesUnlessMemory};
-ghost use Rattle.objects.specs.Headers.{is_count_of};
-ghost use Rattle.objects.specs.Jwe.{recipient_of, is_plain as is_plain_header};
 ghost use Rattle.keys.specs.Algorithms.{management_alg_of};
 ghost use Rattle.keys.specs.Limits.{limits};
+ghost use Rattle.objects.specs.Jwe.{recipient_of, is_plain as is_plain_header};
+ghost use Rattle.objects.specs.KeyManagement.{is_management_of};
+ghost use Rattle.objects.specs.KeyManagementView.{management_view};
 ghost use Rattle.objects.specs.Views.{recipient_view, recipient_members_view};
 
-use crate::Header;
 use crate::header::{has_no_crit, part_member, string_there};
 use crate::header_members::HeaderMembers;
-use crate::key_management::KeyManagement;
-use crate::parameters::{Parameters, read_parameters};
+use crate::key_management::read_key_management;
+use crate::named_management::NamedManagement;
+use crate::{Header, KeyManagement};
 use octets::Refusal;
 use serde_json::{Map, Value};
 use std::alloc::Global;
@@ -38,7 +39,7 @@ pub(crate) struct RecipientMembers {
 pub struct Recipient {
     pub(crate) header: HeaderMembers,
     encrypted_key: Vec<u8>,
-    management: KeyManagement,
+    named: NamedManagement,
     enc: String,
 }
 
@@ -62,7 +63,7 @@ pub(crate) fn read_recipient(
     )?;
     let alg = string_there(alloc, header.alg()?)?;
     let enc = string_there(alloc, header.enc()?)?;
-    let Parameters { p2s, p2c } = read_parameters(alloc, &alg, header)?;
+    let management = read_key_management(alloc, &alg, header)?;
     let RecipientMembers {
         header,
         encrypted_key,
@@ -70,7 +71,7 @@ pub(crate) fn read_recipient(
     Ok(Recipient {
         header,
         encrypted_key,
-        management: KeyManagement { alg, p2s, p2c },
+        named: NamedManagement { alg, management },
         enc,
     })
 }
@@ -94,7 +95,7 @@ impl Recipient {
     pub fn alg(&self) -> &str
         ensures { result.now ≡ (recipient_view self.now).alg }
     {
-        &self.management.alg
+        &self.named.alg
     }
 
     /// The name of the algorithm of content encryption (RFC 7516 section 4.1.2).
@@ -104,19 +105,12 @@ impl Recipient {
         &self.enc
     }
 
-    /// The salt input p2s, of no octets where the algorithm reads none.
-    pub fn p2s(&self) -> &[u8]
-        ensures { result.now ≡ (recipient_view self.now).p2s }
+    /// How its key delivers the content encryption key, with the parameters that its algorithm reads (RFC 7518 section 4).
+    pub fn management(&self) -> &KeyManagement
+        ensures management { management_view result.now ≡ (recipient_view self.now).management }
+        ensures of_alg { is_management_of (management_alg_of (recipient_view self.now).alg) (recipient_view self.now).management ≡ true }
     {
-        &self.management.p2s
-    }
-
-    /// The count p2c, which is at least 1 where the algorithm reads it, and else 0.
-    pub fn p2c(&self) -> u64
-        ensures p2c { result ≡ (recipient_view self.now).p2c }
-        ensures counted { is_count_of (management_alg_of (recipient_view self.now).alg) result ≡ true }
-    {
-        self.management.p2c
+        &self.named.management
     }
 }
 

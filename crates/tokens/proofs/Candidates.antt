@@ -1,5 +1,5 @@
 -- A key that may decrypt by an algorithm has a length that its cipher takes.
-use Rattle.std.proofs.Common.{◌≡◌, ℕ, Bool, true, false, Some, length, refl, ◌∙◌}
+use Rattle.std.proofs.Common.{◌≡◌, nat_le, Bool, true, false, Some, length, refl, ◌∙◌}
 use Rattle.std.proofs.lemmas.Bool.{eqb-true, leb-true}
 use Rattle.std.specs.Prelude.{◌&&◌}
 use Rattle.ciphers.specs.Delivery.{IsKeyOf, IsCountOf}
@@ -11,8 +11,8 @@ use Rattle.keys.specs.declared.algorithm.ManagementAlg.{ManagementAlg}
 use Rattle.keys.specs.declared.algorithm.ManagementAlg.TheVariants.{Dir, A128Kw, A192Kw, A256Kw, Pbes2Hs256A128Kw, Pbes2Hs384A192Kw, Pbes2Hs512A256Kw}
 use Rattle.keys.specs.Algorithms.{key_len, has_len, cek_len}
 use Rattle.keys.specs.Keys.{OctetKey, fits}
-use Rattle.objects.specs.Headers.{is_count_of}
-use Rattle.tokens.specs.Algorithms.{key_alg, content_alg}
+use Rattle.objects.specs.KeyManagement.{KeyManagement, Password, is_management_of}
+use Rattle.tokens.specs.Algorithms.{key_alg, content_alg, parameters_by}
 
 last : (a b : Bool) → (a && b) ≡ true → b ≡ true
 last true b h = h
@@ -32,15 +32,18 @@ pub is_key_of : (alg : ManagementAlg) (enc : EncryptionAlg) (key : OctetKey) →
 unfolding fits
 is_key_of alg enc key h = by_length alg enc key (last _ (has_len (key_len (Encryption alg enc)) (length key.octets)) h)
 
--- where a count is as it has to be, the algorithm takes it
-pub counts : (alg : ManagementAlg) (p2c : ℕ) → is_count_of (Some alg) p2c ≡ true → IsCountOf (key_alg alg) p2c
-counts Dir p2c h = tt
-counts A128Kw p2c h = tt
-counts A192Kw p2c h = tt
-counts A256Kw p2c h = tt
-counts Pbes2Hs256A128Kw p2c h = leb-true 1 p2c h
-counts Pbes2Hs384A192Kw p2c h = leb-true 1 p2c h
-counts Pbes2Hs512A256Kw p2c h = leb-true 1 p2c h
+-- what a header says by an algorithm has a count that this takes
+pub counts : (alg : ManagementAlg) (m : KeyManagement) → is_management_of (Some alg) m ≡ true → IsCountOf (key_alg alg) (parameters_by m).p2c
+counts Dir m h = tt
+counts A128Kw m h = tt
+counts A192Kw m h = tt
+counts A256Kw m h = tt
+counts Pbes2Hs256A128Kw (Password p2s p2c) h = leb-true 1 p2c (last (nat_le 8 (length p2s)) (nat_le 1 p2c) h)
+counts Pbes2Hs256A128Kw m h = cc h
+counts Pbes2Hs384A192Kw (Password p2s p2c) h = leb-true 1 p2c (last (nat_le 8 (length p2s)) (nat_le 1 p2c) h)
+counts Pbes2Hs384A192Kw m h = cc h
+counts Pbes2Hs512A256Kw (Password p2s p2c) h = leb-true 1 p2c (last (nat_le 8 (length p2s)) (nat_le 1 p2c) h)
+counts Pbes2Hs512A256Kw m h = cc h
 
 -- both crates give a content encryption key the same length
 pub same_cek_len : (enc : EncryptionAlg) → cek_len enc ≡ ciphers.cek_len (content_alg enc)

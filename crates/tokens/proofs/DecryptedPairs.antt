@@ -4,16 +4,19 @@ use Rattle.std.proofs.Common.{◌≡◌, ℕ, suc, ◌+◌, ◌*◌, ◌≤◌, 
 use Rattle.std.proofs.lemmas.Bool.{and_from, or_left, le-leb}
 use Rattle.std.specs.List.{AllByRecursion, list_all, list_any}
 use Rattle.std.specs.Option.{option_or}
+use Rattle.keys.specs.declared.algorithm.ManagementAlg.{ManagementAlg}
+use Rattle.keys.specs.declared.algorithm.ManagementAlg.TheVariants.{Dir, A128Kw, A192Kw, A256Kw, Pbes2Hs256A128Kw, Pbes2Hs384A192Kw, Pbes2Hs512A256Kw}
 use Rattle.keys.specs.Algorithms.{is_password_based}
 use Rattle.keys.specs.Keys.{OctetKey}
 use Rattle.keys.specs.Limits.{limits}
 use Rattle.objects.specs.Jwe.{EncryptedObject}
 use Rattle.tokens.specs.Algorithms.{Algorithms}
 use Rattle.tokens.specs.Choosing.{Receiver, passwords, Encryption}
-use Rattle.tokens.specs.Decrypting.{algorithms_of, is_candidate, Pair, pairs_of, all_pairs, has_pairs, iterations_of, all_iterations, pairs_to_try, SealedContent, sealed_content, opened_by, first_opened, decrypted}
+use Rattle.tokens.specs.Decrypting.{algorithms_of, is_candidate, Pair, pairs_of, all_pairs, has_pairs, iterations_by, iterations_of, all_iterations, pairs_to_try, SealedContent, sealed_content, opened_by, first_opened, decrypted}
 use Rattle.tokens.specs.Encrypting.{salt_drawn}
 use Rattle.tokens.proofs.AlgorithmNames.{management_named, encryption_named}
 use Rattle.tokens.proofs.EncryptedHeaders.{salted, made_by}
+use Rattle.tokens.proofs.JointParameters.{delivery_by}
 
 -- ---- the pairs
 
@@ -47,9 +50,19 @@ pub record TakeAtMost (n : ℕ) (pairs : List Pair) : Type 0 where
   pub each_few : list_all (λ pair. nat_le (iterations_of pair) limits.greatest_p2c_read) pairs ≡ true
   pub all_few : all_iterations pairs ≤ n
 
+-- a password alone takes iterations
+iterations_are : (alg : ManagementAlg) (salt : List ℕ) (p2c : ℕ) → iterations_by (delivery_by alg salt p2c) ≡ (if is_password_based alg then p2c else 0)
+iterations_are Dir salt p2c = refl
+iterations_are A128Kw salt p2c = refl
+iterations_are A192Kw salt p2c = refl
+iterations_are A256Kw salt p2c = refl
+iterations_are Pbes2Hs256A128Kw salt p2c = refl
+iterations_are Pbes2Hs384A192Kw salt p2c = refl
+iterations_are Pbes2Hs512A256Kw salt p2c = refl
+
 -- one more receiver counts for the iterations of its pair
 one_more : (password : Bool) (n p2c : ℕ) → (password ≡ true → p2c ≤ 1000000)
-    → (let i : ℕ = if password then (if password then p2c else 0) else 0 in (i ≤ 1000000) × (i + n * p2c ≤ (if password then suc n else n) * p2c))
+    → (let i : ℕ = if password then p2c else 0 in (i ≤ 1000000) × (i + n * p2c ≤ (if password then suc n else n) * p2c))
 one_more true n p2c few = (few refl, omega arith)
 one_more false n p2c few = (omega arith, omega arith)
 
@@ -67,7 +80,8 @@ take_at_most e cek key (r ∷ rest) salts few =
         ((if candidate then pair_by e cek key (r, take (salt_drawn r) salts) ∷ [] else []) ++ all_pairs limits.management (key ∷ []) (map (made_by e cek) (salted rest (drop (salt_drawn r) salts))))
     by_test true all =
         let here = one_more (is_password_based r.management) (passwords rest) e.p2c few.0 in
-        record { each_few = and_from _ _ (le-leb _ 1000000 here.0) all.each_few; all_few = omega (arith, here.1, all.all_few) }
+        let takes = iterations_are r.management (take (salt_drawn r) salts) e.p2c in
+        record { each_few = and_from _ _ (le-leb _ 1000000 (rw takes here.0)) all.each_few; all_few = omega (arith, takes, here.1, all.all_few) }
     by_test false all =
         let here = one_more (is_password_based r.management) (passwords rest) e.p2c few.0 in
         record { each_few = all.each_few; all_few = omega (arith, here.1, all.all_few) }

@@ -5,22 +5,23 @@ use Rattle.std.proofs.lemmas.Bool.{lt-leb, not-true, or_parts}
 use Rattle.std.specs.List.{AllByRecursion, list_any}
 use Rattle.std.specs.Option.{unwrap_or}
 use Rattle.octets.specs.Octets.{IsOctets}
-use Rattle.ciphers.specs.Delivery.{encrypted_key_of, IsDelivered}
-use Rattle.octets.proofs.Decoded.{IsOctets-take, IsOctets-drop}
+use Rattle.ciphers.specs.Delivery.{IsTagOf, encrypted_key_of, IsDelivered}
+use Rattle.octets.proofs.Decoded.{IsOctets-nil, IsOctets-take, IsOctets-drop}
 use Rattle.ciphers.specs.Sealing.{cek_len, iv_len}
 use Rattle.ciphers.specs.declared.key_alg.KeyAlg.TheVariants as delivery
 use Rattle.keys.specs.declared.algorithm.Algorithm.TheVariants.{Encryption as EncryptionWith}
 use Rattle.keys.specs.declared.algorithm.EncryptionAlg.{EncryptionAlg}
 use Rattle.keys.specs.declared.algorithm.ManagementAlg.{ManagementAlg}
 use Rattle.keys.specs.declared.algorithm.ManagementAlg.TheVariants.{Dir, A128Kw, A192Kw, A256Kw, Pbes2Hs256A128Kw, Pbes2Hs384A192Kw, Pbes2Hs512A256Kw}
-use Rattle.keys.specs.Algorithms.{is_password_based}
 use Rattle.keys.specs.Keys.{OctetKey, AreOctetKeys, fits}
 use Rattle.objects.proofs.EachRead.{all_then, all_both}
-use Rattle.tokens.specs.Algorithms.{content_alg, key_alg}
+use Rattle.tokens.specs.Algorithms.{content_alg, key_alg, parameters_by}
 use Rattle.tokens.specs.Choosing.{Receiver, is_direct, is_alone, stand_together, Encryption}
-use Rattle.tokens.specs.Encrypting.{salts_drawn, direct_key, drawn_cek, cek_drawn, octets_drawn, salts_by, after_salts, cek_by}
+use Rattle.tokens.specs.Encrypting.{salts_drawn, direct_key, drawn_cek, cek_drawn, octets_drawn, salts_by, after_salts, cek_by, parameters_with}
 use Rattle.tokens.proofs.Candidates.{direct_key_fits}
 use Rattle.tokens.proofs.EncryptedHeaders.{IsSalted, all_salted, salted_by, made_by}
+use Rattle.tokens.proofs.JointParameters.{delivery_by}
+use Rattle.tokens.proofs.Receivers.{no_iv}
 use Rattle.tokens.proofs.SettledEncryptions.{Receives, Settles}
 
 -- ---- what is chosen or drawn
@@ -87,33 +88,57 @@ direct_alg Pbes2Hs256A128Kw h = cc h
 direct_alg Pbes2Hs384A192Kw h = cc h
 direct_alg Pbes2Hs512A256Kw h = cc h
 
--- the count of iterations matters to a password alone
-count_of_password : (alg : ManagementAlg) (key salt : List ℕ) (p2c : ℕ) (cek : List ℕ)
-    → encrypted_key_of (key_alg alg) key salt (if is_password_based alg then p2c else 0) cek ≡ encrypted_key_of (key_alg alg) key salt p2c cek
+-- the salt and the count of iterations matter to a password alone
+encrypted_alike : (alg : ManagementAlg) (key salt : List ℕ) (p2c : ℕ) (cek : List ℕ)
+    → encrypted_key_of (key_alg alg) key (parameters_by (delivery_by alg salt p2c)) cek ≡ encrypted_key_of (key_alg alg) key (parameters_with salt p2c) cek
 unfolding encrypted_key_of
-count_of_password Dir key salt p2c cek = refl
-count_of_password A128Kw key salt p2c cek = refl
-count_of_password A192Kw key salt p2c cek = refl
-count_of_password A256Kw key salt p2c cek = refl
-count_of_password Pbes2Hs256A128Kw key salt p2c cek = refl
-count_of_password Pbes2Hs384A192Kw key salt p2c cek = refl
-count_of_password Pbes2Hs512A256Kw key salt p2c cek = refl
+encrypted_alike Dir key salt p2c cek = refl
+encrypted_alike A128Kw key salt p2c cek = refl
+encrypted_alike A192Kw key salt p2c cek = refl
+encrypted_alike A256Kw key salt p2c cek = refl
+encrypted_alike Pbes2Hs256A128Kw key salt p2c cek = refl
+encrypted_alike Pbes2Hs384A192Kw key salt p2c cek = refl
+encrypted_alike Pbes2Hs512A256Kw key salt p2c cek = refl
 
--- the recipient that is made is delivered the content encryption key, by a key of octets
+-- an initialization vector that is read is octets
+iv_octets : (alg : ManagementAlg) (salt : List ℕ) (p2c : ℕ) → IsOctets (parameters_by (delivery_by alg salt p2c)).iv
+iv_octets Dir salt p2c = IsOctets-nil
+iv_octets A128Kw salt p2c = IsOctets-nil
+iv_octets A192Kw salt p2c = IsOctets-nil
+iv_octets A256Kw salt p2c = IsOctets-nil
+iv_octets Pbes2Hs256A128Kw salt p2c = IsOctets-nil
+iv_octets Pbes2Hs384A192Kw salt p2c = IsOctets-nil
+iv_octets Pbes2Hs512A256Kw salt p2c = IsOctets-nil
+
+-- no algorithm reads a tag
+any_tag : (alg : ManagementAlg) (made given : List ℕ) → IsTagOf (key_alg alg) made given
+any_tag Dir made given = tt
+any_tag A128Kw made given = tt
+any_tag A192Kw made given = tt
+any_tag A256Kw made given = tt
+any_tag Pbes2Hs256A128Kw made given = tt
+any_tag Pbes2Hs384A192Kw made given = tt
+any_tag Pbes2Hs512A256Kw made given = tt
+
+-- The recipient that is made is delivered the content encryption key, by a key of octets and an initialization vector of octets.
 pub record Delivers (e : Encryption) (cek : List ℕ) (x : Receiver × List ℕ) : Type 0 where
   pub key : IsOctets x.0.key.octets
-  pub delivers : IsDelivered (key_alg x.0.management) (content_alg e.encryption) x.0.key.octets (made_by e cek x).p2s (made_by e cek x).p2c (made_by e cek x).encrypted_key cek
+  pub iv : IsOctets (parameters_by (made_by e cek x).management).iv
+  pub delivers : IsDelivered (key_alg x.0.management) (content_alg e.encryption) x.0.key.octets (parameters_by (made_by e cek x).management) (made_by e cek x).encrypted_key cek
 
 -- so it is where it is the content encryption key of the receivers
 pub delivered_to : (e : Encryption) (cek : List ℕ) (x : Receiver × List ℕ) → IsOctets cek → length cek ≡ cek_len (content_alg e.encryption) → IsOctets x.0.key.octets
     → (is_direct x.0.management ≡ true → cek ≡ x.0.key.octets) → Delivers e cek x
 delivered_to e cek x octets long key direct = record {
   key = key;
+  iv = iv_octets x.0.management x.1 e.p2c;
   delivers = record {
     octets = octets;
     fits = long;
     direct = λ is. direct (direct_alg x.0.management is);
-    is_encrypted = count_of_password x.0.management x.0.key.octets x.1 e.p2c cek;
+    iv_fits = no_iv x.0.management _;
+    is_encrypted = encrypted_alike x.0.management x.0.key.octets x.1 e.p2c cek;
+    is_tag = any_tag x.0.management _ _;
   };
 }
 

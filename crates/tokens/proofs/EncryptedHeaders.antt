@@ -16,7 +16,7 @@ use Rattle.objects.proofs.EachRead.{all_then, all_both}
 use Rattle.objects.proofs.Members.{Entries}
 use Rattle.tokens.specs.Algorithms.{key_alg}
 use Rattle.tokens.specs.Choosing.{Receiver, is_alone, Encryption}
-use Rattle.tokens.specs.Encrypting.{salt_drawn, salts_drawn, octets_drawn, salts_by, with_parameters, protected_header, own_header, header_of, recipient_by, recipients_by}
+use Rattle.tokens.specs.Encrypting.{salt_drawn, salts_drawn, octets_drawn, salts_by, with_parameters, protected_header, own_header, header_of, parameters_with, recipient_by, recipients_by}
 use Rattle.tokens.proofs.HeaderTexts.{ReadsBack, read_back}
 use Rattle.tokens.proofs.JointHeaders.{AreFree, IsJoint, into_protected, into_own, IsHeader, empty_header}
 use Rattle.tokens.proofs.JointParameters.{parameters_by, with_parameters_is, free_names, header_with, recipient, recipient_is_read}
@@ -144,7 +144,7 @@ given_by e cek x = recipient_by e cek x.0 x.1
 -- the recipient that is made of it
 abbrev pub made_by : Encryption → List ℕ → Receiver × List ℕ → Recipient
 made_by e cek x =
-    recipient (own_header e x.0.management x.1) (encrypted_key_of (key_alg x.0.management) x.0.key.octets x.1 e.p2c cek) x.0.management e.encryption x.1 e.p2c
+    recipient (own_header e x.0.management x.1) (encrypted_key_of (key_alg x.0.management) x.0.key.octets (parameters_with x.1 e.p2c) cek) x.0.management e.encryption x.1 e.p2c
 
 -- the recipients are given by the receivers with their salts
 pub recipients_are : (e : Encryption) (cek : List ℕ) (receivers : List Receiver) (salts : List ℕ) → recipients_by e cek receivers salts ≡ map (given_by e cek) (salted receivers salts)

@@ -16,7 +16,7 @@ use Rattle.octets.specs.Plan.{OutputTexts, Plan, Draft, plan_from}
 use Rattle.octets.proofs.Characters.{has_url_characters}
 use Rattle.octets.proofs.Decoded.{IsOctets-drop}
 use Rattle.octets.proofs.Meanings.{meaning_of_text}
-use Rattle.ciphers.specs.Delivery.{IsDelivered}
+use Rattle.ciphers.specs.Delivery.{Parameters, key_tag_of, IsDelivered}
 use Rattle.ciphers.specs.Openings.{is_longer}
 use Rattle.ciphers.specs.Sealing.{Sealed, Sealing, IsTooLong, IsOpening}
 use Rattle.ciphers.specs.declared.content_alg.ContentAlg.{ContentAlg}
@@ -46,8 +46,8 @@ pub use Rattle.tokens.proofs.SettledEncryptions.{Settles, settles}
 -- the laws of ciphers that say what is octets
 pub record OctetLaws : Type 0 where
   pub opened : (alg : ContentAlg) (cek iv aad c tag p : List ℕ) → IsOctets cek → IsOctets iv → IsOpening alg cek iv aad c tag p → IsOctets c × IsOctets tag
-  pub delivering : (alg : KeyAlg) (enc : ContentAlg) (key p2s : List ℕ) (p2c : ℕ) (encrypted cek : List ℕ) → IsOctets key
-      → IsDelivered alg enc key p2s p2c encrypted cek → IsOctets encrypted
+  pub delivering : (alg : KeyAlg) (enc : ContentAlg) (key : List ℕ) (p : Parameters) (encrypted cek : List ℕ) → IsOctets key → IsOctets p.iv
+      → IsDelivered alg enc key p encrypted cek → IsOctets encrypted × IsOctets (key_tag_of alg key p cek)
 
 -- ---- the object
 
@@ -164,7 +164,7 @@ are_members laws keys e random s by w random_octets delivers ciphertext tag =
       ciphertext = ciphertext;
       tag = tag;
       recipients = rw recipients_are (all_images {P = λ x. IsWritten e random x × Delivers e cek x} P (given_by e cek)
-          (λ x is. (is.0.headed.written.json, laws.delivering (key_alg x.0.management) (content_alg e.encryption) x.0.key.octets x.1 _ _ cek is.1.key is.1.delivers))
+          (λ x is. (is.0.headed.written.json, (laws.delivering (key_alg x.0.management) (content_alg e.encryption) x.0.key.octets _ _ cek is.1.key is.1.iv is.1.delivers).0))
           (salted_by e random) (all_both (λ x written delivers. (written, delivers)) (salted_by e random) w.each_written delivers));
     }
 

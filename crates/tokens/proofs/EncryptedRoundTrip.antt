@@ -16,7 +16,7 @@ use Rattle.objects.specs.Jwe.{JweParts, EncryptedObject, built, json_text, jwe_o
 use Rattle.objects.specs.Texts.{handed_in}
 use Rattle.objects.proofs.EachRead.{all_then, all_both}
 use Rattle.objects.proofs.Steps.{steps, same_answer}
-use Rattle.tokens.specs.Algorithms.{content_alg, key_alg}
+use Rattle.tokens.specs.Algorithms.{content_alg, key_alg, parameters_by}
 use Rattle.tokens.specs.Choosing.{Receiver, passwords, Encryption}
 use Rattle.tokens.specs.Decrypting.{all_pairs, is_candidate, SealedContent, sealed_content, cek_of, opened_by, decrypted}
 use Rattle.tokens.specs.Encrypting.{salt_drawn, salts_drawn, octets_drawn, salts_by, cek_by, encrypted, text_of, written_of, parts_by, encrypting_by, OpensNoOther, EncryptedDecrypts}
@@ -61,7 +61,7 @@ opened_is : Laws → (e : Encryption) (cek : List ℕ) (x : Receiver × List ℕ
 unfolding opened_by cek_of
 opened_is laws e cek x s plaintext start is opens =
     let r = made_by e cek x in
-    rw ((laws.delivers (key_alg x.0.management) (content_alg e.encryption) x.0.key.octets r.p2s r.p2c r.encrypted_key cek is.key).1 is.delivers)
+    rw ((laws.delivers (key_alg x.0.management) (content_alg e.encryption) x.0.key.octets (parameters_by r.management) r.encrypted_key cek is.key).1 is.delivers)
     ((laws.opens (content_alg e.encryption) cek s.iv s.aad s.ciphertext s.tag plaintext is.delivers.octets start).1 opens)
 
 -- so a receiver's key that may decrypt opens the plaintext

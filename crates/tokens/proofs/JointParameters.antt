@@ -1,23 +1,23 @@
 -- The parameters that are written for a receiver, as entries: the joint header with them names the algorithms, and has the salt and
 -- the count of iterations of a password.
-use Rattle.std.proofs.Common.{◌≡◌, ℕ, ◌≤◌, ◌||◌, Bool, true, false, not, nat_le, List, [], ◌∷◌, length, codes, if◌then◌else◌, Option, Some, None, option_and_then, option_map, is_some, Result, Ok, IsUtf8, refl, sym, ◌∙◌, ap, arith}
+use Rattle.std.proofs.Common.{◌≡◌, ℕ, ◌≤◌, ◌||◌, Bool, true, false, not, nat_le, List, [], ◌∷◌, length, codes, if◌then◌else◌, Option, Some, None, option_and_then, option_map, is_some, Ok, IsUtf8, refl, ◌∙◌, ap, arith}
 use Rattle.std.proofs.lemmas.Bool.{or_parts, not-false, le-leb}
-use Rattle.std.proofs.lemmas.List.{nil_from_length}
 use Rattle.std.specs.Option.{option_or}
 use Rattle.serde_json.specs.Data.{Data, unsigned, number, string, Members, put}
 use Rattle.serde_json.specs.Find.{get_member, as_str, as_number, as_u64}
-use Rattle.octets.specs.declared.refusal.Refusal.{Refusal}
 use Rattle.octets.specs.Octets.{IsOctets}
 use Rattle.octets.specs.Base64url.{base64url}
 use Rattle.octets.proofs.Characters.{has_url_characters}
 use Rattle.octets.proofs.Meanings.{decodes_exactly}
 use Rattle.keys.specs.declared.algorithm.EncryptionAlg.{EncryptionAlg}
 use Rattle.keys.specs.declared.algorithm.ManagementAlg.{ManagementAlg}
+use Rattle.keys.specs.declared.algorithm.ManagementAlg.TheVariants.{Dir, A128Kw, A192Kw, A256Kw, Pbes2Hs256A128Kw, Pbes2Hs384A192Kw, Pbes2Hs512A256Kw}
 use Rattle.keys.specs.Algorithms.{management_name, encryption_name, is_password_based}
 use Rattle.keys.specs.Limits.{limits}
 use Rattle.keys.proofs.UrlTexts.{url_texts_are_json}
-use Rattle.objects.specs.Headers.{all_members, joint_header, required, if_there, string_parameter, string_there, number_parameter, salt_parameter, PasswordParameters, password_parameters, parameters_of}
+use Rattle.objects.specs.Headers.{all_members, joint_header, required, if_there, string_parameter, string_there, number_parameter, salt_parameter}
 use Rattle.objects.specs.Jwe.{Recipient, recipient_by, recipient_of}
+use Rattle.objects.specs.KeyManagement.{KeyManagement, Direct, KeyWrap, Password, password_management, management_by, key_management}
 use Rattle.objects.proofs.Members.{Entries, put_if_there, first_there, IsJsonIfThere, AreJsonEntries}
 use Rattle.objects.proofs.Spelling.{name_is_json}
 use Rattle.tokens.specs.Choosing.{with_name, with_p2c, Given}
@@ -188,16 +188,34 @@ record HasPassword (salt : List ℕ) (p2c : ℕ) (header : Members) : Type 0 whe
   count_there : if_there as_count (get_member (codes "p2c") header) ≡ Ok (Some p2c)
   some : 1 ≤ p2c
 
--- so the parameters are read
-read_parameters : (password : Bool) (salt : List ℕ) (p2c : ℕ) (header : Members) → (password ≡ true → HasPassword salt p2c header) → IsOctets salt → length salt ≡ (if password then salt_len else 0)
-    → (if password then password_parameters header else Ok (record { p2s = []; p2c = 0 })) ≡ Ok (record { p2s = salt; p2c = if password then p2c else 0 })
-unfolding password_parameters salt_parameter string_parameter number_parameter
-read_parameters true salt p2c header there octets long =
-    let is = there refl in
+-- so they are read
+read_password : (salt : List ℕ) (p2c : ℕ) (header : Members) → HasPassword salt p2c header → IsOctets salt → length salt ≡ salt_len → password_management header ≡ Ok (Password salt p2c)
+unfolding password_management salt_parameter string_parameter number_parameter
+read_password salt p2c header is octets long =
     let enough : nat_le 8 (length salt) ≡ true = le-leb 8 (length salt) (omega (arith, long)) in
     let some : nat_le 1 p2c ≡ true = le-leb 1 p2c is.some in
     rw (is.salt_there, decodes_exactly.round_trip salt octets, enough, is.count_there, some) refl
-read_parameters false salt p2c header there octets long = ap (λ (s : List ℕ). let r : Result PasswordParameters Refusal = Ok (record { p2s = s; p2c = 0 }) in r) (sym (nil_from_length salt long))
+
+-- how a receiver with this algorithm is delivered the content encryption key
+abbrev pub delivery_by : ManagementAlg → List ℕ → ℕ → KeyManagement
+delivery_by Dir salt p2c = Direct
+delivery_by A128Kw salt p2c = KeyWrap
+delivery_by A192Kw salt p2c = KeyWrap
+delivery_by A256Kw salt p2c = KeyWrap
+delivery_by Pbes2Hs256A128Kw salt p2c = Password salt p2c
+delivery_by Pbes2Hs384A192Kw salt p2c = Password salt p2c
+delivery_by Pbes2Hs512A256Kw salt p2c = Password salt p2c
+
+-- the header says so, where it has the parameters of a password
+read_management : (alg : ManagementAlg) (salt : List ℕ) (p2c : ℕ) (header : Members) → (is_password_based alg ≡ true → HasPassword salt p2c header) → IsOctets salt
+    → length salt ≡ (if is_password_based alg then salt_len else 0) → management_by (Some alg) header ≡ Ok (delivery_by alg salt p2c)
+read_management Dir salt p2c header there octets long = refl
+read_management A128Kw salt p2c header there octets long = refl
+read_management A192Kw salt p2c header there octets long = refl
+read_management A256Kw salt p2c header there octets long = refl
+read_management Pbes2Hs256A128Kw salt p2c header there octets long = read_password salt p2c header (there refl) octets long
+read_management Pbes2Hs384A192Kw salt p2c header there octets long = read_password salt p2c header (there refl) octets long
+read_management Pbes2Hs512A256Kw salt p2c header there octets long = read_password salt p2c header (there refl) octets long
 
 -- the recipient with these headers, of a receiver with this algorithm
 abbrev pub recipient : Members → List ℕ → ManagementAlg → EncryptionAlg → List ℕ → ℕ → Recipient
@@ -206,8 +224,7 @@ recipient own key alg enc salt p2c = record {
   encrypted_key = key;
   alg = management_name alg;
   enc = encryption_name enc;
-  p2s = salt;
-  p2c = if is_password_based alg then p2c else 0;
+  management = delivery_by alg salt p2c;
 }
 
 -- a joint header with the parameters of a password has them, beside what awaited them
@@ -236,7 +253,7 @@ recipient_is_read given p2c alg enc salt p u own before key joint awaits enc_the
     ap (if_there as_str) (joint.members (codes "alg"))
     ∙ there_with as_str given.alg (string (management_name alg)) (management_name alg) (get_member (codes "alg") before) refl awaits.alg_there in
     let enc_read : if_there as_str (get_member (codes "enc") header) ≡ Ok (Some (encryption_name enc)) = ap (if_there as_str) (joint.members (codes "enc")) ∙ enc_there in
-    let read : parameters_of limits.management (management_name alg) header ≡ Ok (record { p2s = salt; p2c = if password then p2c else 0 }) =
-    rw management_named (read_parameters password salt p2c header
+    let read : key_management limits.management (management_name alg) header ≡ Ok (delivery_by alg salt p2c) =
+    rw management_named (read_management alg salt p2c header
     (password_there given.alg given.p2c password (management_name alg) p2c salt header before joint.members awaits) octets long) in
     rw (joint.disjoint, alg_read, enc_read, read) refl

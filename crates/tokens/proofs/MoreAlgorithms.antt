@@ -12,10 +12,11 @@ use Rattle.keys.specs.declared.algorithm.ManagementAlg.{ManagementAlg}
 use Rattle.keys.specs.Algorithms.{management_name, management_alg_among}
 use Rattle.keys.specs.Keys.{OctetKey}
 use Rattle.keys.specs.Limits.{Limits}
-use Rattle.objects.specs.Headers.{protected_members, joint_header, string_there, reads_password, PasswordParameters, password_parameters, parameters_of}
+use Rattle.objects.specs.Headers.{protected_members, joint_header, string_there}
 use Rattle.objects.specs.Jwe.{JweTexts, RecipientParts, Recipient, JweParts, EncryptedObject, recipient_by, recipient_of, recipients_of, have_one_enc, recipients_of_one_enc, are_plain, encrypted_object, parts_of_texts, object_of_texts, jwe_texts, jwe_of}
 use Rattle.objects.specs.Jws as jws
 use Rattle.objects.specs.Jws.{JwsTexts, DecodedSignature, HeadedSignature, Signature, SignedObject, decoded_texts, headed_signature, signature_by, signatures_of, signed_object, jws_texts, jws_of}
+use Rattle.objects.specs.KeyManagement.{KeyManagement, management_by, key_management}
 use Rattle.objects.specs.Texts.{each}
 use Rattle.objects.proofs.EachRead.{all_passed}
 use Rattle.objects.proofs.Steps.{steps, passed, same_answer}
@@ -62,11 +63,11 @@ each_alike P read other alike (x ∷ xs) ys all h =
 -- ---- the steps of reading
 
 -- of a recipient
-abbrev recipient_with : RecipientParts → List ℕ → List ℕ → PasswordParameters → Recipient
-recipient_with parts alg enc q = record { header = parts.header; encrypted_key = parts.encrypted_key; alg = alg; enc = enc; p2s = q.p2s; p2c = q.p2c }
+abbrev recipient_with : RecipientParts → List ℕ → List ℕ → KeyManagement → Recipient
+recipient_with parts alg enc q = record { header = parts.header; encrypted_key = parts.encrypted_key; alg = alg; enc = enc; management = q }
 
-recipient_made : (algs : List ManagementAlg) (p u header : Members) (parts : RecipientParts) (alg enc : List ℕ) (q : PasswordParameters) → joint_header p u parts.header ≡ Ok header
-    → string_there (codes "alg") header ≡ Ok alg → string_there (codes "enc") header ≡ Ok enc → parameters_of algs alg header ≡ Ok q
+recipient_made : (algs : List ManagementAlg) (p u header : Members) (parts : RecipientParts) (alg enc : List ℕ) (q : KeyManagement) → joint_header p u parts.header ≡ Ok header
+    → string_there (codes "alg") header ≡ Ok alg → string_there (codes "enc") header ≡ Ok enc → key_management algs alg header ≡ Ok q
     → recipient_of algs p u parts ≡ Ok (recipient_with parts alg enc q)
 unfolding recipient_of recipient_by
 recipient_made algs p u header parts alg enc q a b c d = rw (a, b, c, d) refl
@@ -101,8 +102,8 @@ text_read limits algs detached text octets texts parts a b c d = rw (a, b, c, d)
 abbrev signature_with : HeadedSignature → List ℕ → Signature
 signature_with s alg = record { protected = s.parts.protected; protected_members = s.members; header = s.parts.header; signature = s.parts.signature; alg = alg }
 
-signature_made : (algs : List ManagementAlg) (s : HeadedSignature) (header : Members) (alg : List ℕ) (q : PasswordParameters) → joint_header s.members no_members s.parts.header ≡ Ok header
-    → string_there (codes "alg") header ≡ Ok alg → parameters_of algs alg header ≡ Ok q → signature_by algs s ≡ Ok (signature_with s alg)
+signature_made : (algs : List ManagementAlg) (s : HeadedSignature) (header : Members) (alg : List ℕ) (q : KeyManagement) → joint_header s.members no_members s.parts.header ≡ Ok header
+    → string_there (codes "alg") header ≡ Ok alg → key_management algs alg header ≡ Ok q → signature_by algs s ≡ Ok (signature_with s alg)
 unfolding signature_by
 signature_made algs s header alg q a b c = rw (a, b, c) refl
 
@@ -123,11 +124,10 @@ signed_text_read limits algs detached text payload texts signatures a b c d = rw
 -- ---- where enough names name the same among two lists of algorithms
 module _ (limits : Limits) (algs others : List ManagementAlg) (enough : List ℕ → Bool)
     (alike : (name : List ℕ) → enough name ≡ true → management_alg_among algs name ≡ management_alg_among others name) where
-  -- the parameters that are read are the same
-  parameters_alike : (header : Members) (alg : List ℕ) (q : PasswordParameters) → enough alg ≡ true → parameters_of algs alg header ≡ Ok q → parameters_of others alg header ≡ Ok q
-  parameters_alike header alg q is h =
-      let none : Result PasswordParameters Refusal = Ok (record { p2s = []; p2c = 0 }) in
-      ap (λ found. if reads_password found then password_parameters header else none) (sym (alike alg is)) ∙ h
+  -- the management of a key is read alike
+  management_alike : (header : Members) (alg : List ℕ) (q : KeyManagement) → enough alg ≡ true → key_management algs alg header ≡ Ok q → key_management others alg header ≡ Ok q
+  management_alike header alg q is h =
+      ap (λ found. management_by found header) (sym (alike alg is)) ∙ h
 
   -- a recipient that is read is read alike
   recipient_alike : (p u : Members) (parts : RecipientParts) (r : Recipient) → enough r.alg ≡ true → recipient_of algs p u parts ≡ Ok r → recipient_of others p u parts ≡ Ok r
@@ -136,10 +136,10 @@ module _ (limits : Limits) (algs others : List ManagementAlg) (enough : List ℕ
       let header = steps (joint_header p u parts.header) _ r h in
       let alg = steps (string_there (codes "alg") header.0) _ r header.2 in
       let enc = steps (string_there (codes "enc") header.0) _ r alg.2 in
-      let parameters = steps (parameters_of algs alg.0 header.0) _ r enc.2 in
-      let named : alg.0 ≡ r.alg = ap (λ (r : Recipient). r.alg) (same_answer _ r parameters.2) in
-      let read = parameters_alike header.0 alg.0 parameters.0 (ap enough named ∙ is) parameters.1 in
-      recipient_made others p u header.0 parts alg.0 enc.0 parameters.0 header.1 alg.1 enc.1 read ∙ parameters.2
+      let management = steps (key_management algs alg.0 header.0) _ r enc.2 in
+      let named : alg.0 ≡ r.alg = ap (λ (r : Recipient). r.alg) (same_answer _ r management.2) in
+      let read = management_alike header.0 alg.0 management.0 (ap enough named ∙ is) management.1 in
+      recipient_made others p u header.0 parts alg.0 enc.0 management.0 header.1 alg.1 enc.1 read ∙ management.2
 
   -- so is an encrypted object
   object_alike : (octets : List ℕ) (parts : JweParts) (o : EncryptedObject) → list_all (λ r. enough r.alg) o.recipients ≡ true → encrypted_object algs octets parts ≡ Ok o
@@ -178,10 +178,10 @@ module _ (limits : Limits) (algs others : List ManagementAlg) (enough : List ℕ
   signature_alike d s is h =
       let header = steps (joint_header d.members no_members d.parts.header) _ s h in
       let alg = steps (string_there (codes "alg") header.0) _ s header.2 in
-      let parameters = steps (parameters_of algs alg.0 header.0) _ s alg.2 in
-      let named : alg.0 ≡ s.alg = ap (λ (s : Signature). s.alg) (same_answer _ s parameters.2) in
-      let read = parameters_alike header.0 alg.0 parameters.0 (ap enough named ∙ is) parameters.1 in
-      signature_made others d header.0 alg.0 parameters.0 header.1 alg.1 read ∙ parameters.2
+      let management = steps (key_management algs alg.0 header.0) _ s alg.2 in
+      let named : alg.0 ≡ s.alg = ap (λ (s : Signature). s.alg) (same_answer _ s management.2) in
+      let read = management_alike header.0 alg.0 management.0 (ap enough named ∙ is) management.1 in
+      signature_made others d header.0 alg.0 management.0 header.1 alg.1 read ∙ management.2
 
   -- and a signed object
   signed_object_alike : (payload : List ℕ) (decoded : List DecodedSignature) (o : SignedObject) → list_all (λ s. enough s.alg) o.signatures ≡ true → signed_object algs payload decoded ≡ Ok o

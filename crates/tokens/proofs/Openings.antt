@@ -3,7 +3,7 @@ use Rattle.std.proofs.Common.{◌≡◌, ◌↔◌, ℕ, ◌≤◌, List, length
 use Rattle.octets.specs.Octets.{IsOctets}
 use Rattle.ciphers.specs.declared.content_alg.ContentAlg.{ContentAlg}
 use Rattle.ciphers.specs.declared.key_alg.KeyAlg.{KeyAlg}
-use Rattle.ciphers.specs.Delivery.{IsDelivered}
+use Rattle.ciphers.specs.Delivery.{Parameters, IsDelivered}
 use Rattle.ciphers.specs.Openings.{delivered, opening, DeliversExactly, OpensExactly}
 use Rattle.ciphers.specs.Sealing.{IsOpening}
 use Rattle.tokens.specs.Algorithms.{content_alg}
@@ -16,13 +16,13 @@ found P None None to back some none = refl
 found P (Some x) None to back some none = absurd (none x (back x refl))
 
 -- a call that unwraps gives the key that is delivered
-pub delivers : DeliversExactly → (alg : KeyAlg) (enc : ContentAlg) (key p2s : List ℕ) (p2c : ℕ) (encrypted : List ℕ) (result : Option (List ℕ)) → IsOctets key
-    → IfSome result (IsDelivered alg enc key p2s p2c encrypted) → IfNone result ((cek : List ℕ) → IsDelivered alg enc key p2s p2c encrypted cek → ⊥)
-    → result ≡ delivered alg enc key p2s p2c encrypted
-delivers exactly alg enc key p2s p2c encrypted result octets some none =
-    let law : (cek : List ℕ) → (delivered alg enc key p2s p2c encrypted ≡ Some cek) ↔ IsDelivered alg enc key p2s p2c encrypted cek =
-    λ cek. exactly alg enc key p2s p2c encrypted cek octets in
-    found (IsDelivered alg enc key p2s p2c encrypted) (delivered alg enc key p2s p2c encrypted) result (λ cek. (law cek).1) (λ cek. (law cek).0) some none
+pub delivers : DeliversExactly → (alg : KeyAlg) (enc : ContentAlg) (key : List ℕ) (p : Parameters) (encrypted : List ℕ) (result : Option (List ℕ)) → IsOctets key
+    → IfSome result (IsDelivered alg enc key p encrypted) → IfNone result ((cek : List ℕ) → IsDelivered alg enc key p encrypted cek → ⊥)
+    → result ≡ delivered alg enc key p encrypted
+delivers exactly alg enc key p encrypted result octets some none =
+    let law : (cek : List ℕ) → (delivered alg enc key p encrypted ≡ Some cek) ↔ IsDelivered alg enc key p encrypted cek =
+    λ cek. exactly alg enc key p encrypted cek octets in
+    found (IsDelivered alg enc key p encrypted) (delivered alg enc key p encrypted) result (λ cek. (law cek).1) (λ cek. (law cek).0) some none
 
 -- what holds of the octets of a length that is there holds of those octets
 some_of : (P : List ℕ → Type 0) (most : ℕ) (r : Option ℕ) (now : List ℕ) → IfSome r (λ n. (n ≤ most) × P (take n now)) → IfSome (option_map (λ n. take n now) r) P

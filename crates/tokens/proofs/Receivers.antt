@@ -8,7 +8,7 @@ use Rattle.std.specs.Option.{unwrap_or}
 use Rattle.std.specs.Prelude.{◌&&◌, ◌||◌, ◌*◌, if◌then◌else◌}
 use Rattle.octets.specs.declared.refusal.Refusal.{Refusal}
 use Rattle.octets.specs.Outcomes.{needs}
-use Rattle.ciphers.specs.Delivery.{IsCountOf}
+use Rattle.ciphers.specs.Delivery.{IsCountOf, IsIvOf}
 use Rattle.ciphers.specs.Sealing as ciphers
 use Rattle.keys.specs.declared.algorithm.Algorithm.TheVariants.{Encryption as EncryptionWith}
 use Rattle.keys.specs.declared.algorithm.EncryptionAlg.{EncryptionAlg}
@@ -109,6 +109,16 @@ counts_where_password A256Kw p2c h = tt
 counts_where_password Pbes2Hs256A128Kw p2c h = leb-true 1 p2c h
 counts_where_password Pbes2Hs384A192Kw p2c h = leb-true 1 p2c h
 counts_where_password Pbes2Hs512A256Kw p2c h = leb-true 1 p2c h
+
+-- no algorithm reads an initialization vector
+pub no_iv : (alg : ManagementAlg) (iv : List ℕ) → IsIvOf (key_alg alg) iv
+no_iv Dir iv = tt
+no_iv A128Kw iv = tt
+no_iv A192Kw iv = tt
+no_iv A256Kw iv = tt
+no_iv Pbes2Hs256A128Kw iv = tt
+no_iv Pbes2Hs384A192Kw iv = tt
+no_iv Pbes2Hs512A256Kw iv = tt
 
 -- a content encryption key has 64 octets at most
 pub cek_size : (enc : EncryptionAlg) → ciphers.cek_len (content_alg enc) ≤ 64

@@ -10,8 +10,9 @@ use Rattle.keys.specs.declared.algorithm.ManagementAlg.{ManagementAlg}
 use Rattle.keys.specs.Json.{member_numbers_are_whole}
 use Rattle.keys.specs.Limits.{Limits}
 use Rattle.objects.specs.Frames.{with_octets, signed_with}
-use Rattle.objects.specs.Headers.{PasswordParameters, protected_members, joint_header, string_there, parameters_of}
+use Rattle.objects.specs.Headers.{protected_members, joint_header, string_there}
 use Rattle.objects.specs.Jws.{SignatureParts, DecodedSignature, HeadedSignature, Signature, SignedObject, decoded_signature, headed_signature, signature_by, is_plain, signatures_of, signed_object, built, is_compact, jws_text, jws_compact_text}
+use Rattle.objects.specs.KeyManagement.{KeyManagement, key_management}
 use Rattle.objects.specs.Texts.{each, depth_of_each}
 
 -- ---- each of a list with a value put into it
@@ -95,20 +96,20 @@ signature_alike : (algs : List ManagementAlg) (h : HeadedSignature) (v : List �
 unfolding signature_by
 signature_alike algs h v = by_header (joint_header h.members no_members h.parts.header)
   where
-    by_parameters : (alg : List ℕ) (r : Result PasswordParameters Refusal)
-        → (r >>= λ parameters. Ok (made_with h v alg)) ≡ ((r >>= λ parameters. Ok (made_with h h.parts.signature alg)) >>= λ s. Ok (put_octets s v))
-    by_parameters alg (Ok parameters) = refl
-    by_parameters alg (Err e) = refl
+    by_management : (alg : List ℕ) (r : Result KeyManagement Refusal)
+        → (r >>= λ management. Ok (made_with h v alg)) ≡ ((r >>= λ management. Ok (made_with h h.parts.signature alg)) >>= λ s. Ok (put_octets s v))
+    by_management alg (Ok management) = refl
+    by_management alg (Err e) = refl
 
     by_alg : (header : Members) (r : Result (List ℕ) Refusal)
-        → (r >>= λ alg. parameters_of algs alg header >>= λ parameters. Ok (made_with h v alg))
-        ≡ ((r >>= λ alg. parameters_of algs alg header >>= λ parameters. Ok (made_with h h.parts.signature alg)) >>= λ s. Ok (put_octets s v))
-    by_alg header (Ok alg) = by_parameters alg (parameters_of algs alg header)
+        → (r >>= λ alg. key_management algs alg header >>= λ management. Ok (made_with h v alg))
+        ≡ ((r >>= λ alg. key_management algs alg header >>= λ management. Ok (made_with h h.parts.signature alg)) >>= λ s. Ok (put_octets s v))
+    by_alg header (Ok alg) = by_management alg (key_management algs alg header)
     by_alg header (Err e) = refl
 
     by_header : (r : Result Members Refusal)
-        → (r >>= λ header. string_there (codes "alg") header >>= λ alg. parameters_of algs alg header >>= λ parameters. Ok (made_with h v alg))
-        ≡ ((r >>= λ header. string_there (codes "alg") header >>= λ alg. parameters_of algs alg header >>= λ parameters. Ok (made_with h h.parts.signature alg)) >>= λ s. Ok (put_octets s v))
+        → (r >>= λ header. string_there (codes "alg") header >>= λ alg. key_management algs alg header >>= λ management. Ok (made_with h v alg))
+        ≡ ((r >>= λ header. string_there (codes "alg") header >>= λ alg. key_management algs alg header >>= λ management. Ok (made_with h h.parts.signature alg)) >>= λ s. Ok (put_octets s v))
     by_header (Ok header) = by_alg header (string_there (codes "alg") header)
     by_header (Err e) = refl
 

@@ -1,5 +1,5 @@
 -- The signing that keys and a template settle, and the object that it makes of every payload.
-use Rattle.std.proofs.Common.{◌≡◌, ℕ, ◌&&◌, nat_le, Bool, true, false, List, length, map, Ok, refl, sym, ap, ◌∙◌, subst}
+use Rattle.std.proofs.Common.{◌≡◌, ℕ, ◌&&◌, nat_le, Bool, true, List, length, map, None, Ok, refl, sym, ap, ◌∙◌, subst}
 use Rattle.std.proofs.lemmas.Bool.{and_parts, and_from}
 use Rattle.std.proofs.lemmas.List.{length-map}
 use Rattle.std.specs.List.{AllByRecursion, list_all}
@@ -17,7 +17,7 @@ use Rattle.keys.specs.Keys.{OctetKey}
 use Rattle.keys.specs.Limits.{limits}
 use Rattle.keys.proofs.ReadingBack.{numbers_whole}
 use Rattle.keys.proofs.ValuesRead.{reads_json}
-use Rattle.objects.specs.Headers.{joint_header, string_there, reads_password, has_no_crit}
+use Rattle.objects.specs.Headers.{joint_header, string_there, has_no_crit}
 use Rattle.objects.specs.Jws as jws
 use Rattle.objects.specs.Jws.{SignatureParts, Signature, SignedObject, DecodedSignature, HeadedSignature, decoded_signature, headed_signature, is_plain, signatures_of, signed_object, built}
 use Rattle.objects.specs.Texts.{each, handed_out, depth_of_each}
@@ -109,16 +109,16 @@ reads : (header : Members) (payload : List ℕ) (s : Signer) → Signs header s 
 unfolding headed_signature
 reads header payload s is = rw is.back.members refl
 
--- no algorithm of signatures reads a password
-no_password : (alg : SignatureAlg) → reads_password (management_alg_of (signature_name alg)) ≡ false
+-- no algorithm of signatures is one of key management
+no_management : (alg : SignatureAlg) → management_alg_of (signature_name alg) ≡ None
 unfolding management_alg_among
-no_password Hs256 = refl
-no_password Hs384 = refl
-no_password Hs512 = refl
+no_management Hs256 = refl
+no_management Hs384 = refl
+no_management Hs512 = refl
 
 makes : (header : Members) (payload : List ℕ) (s : Signer) → Signs header s → jws.signature_by limits.management (headed_by header payload s) ≡ Ok (made_by header payload s)
 unfolding jws.signature_by joint_header string_there
-makes header payload s is = rw (is.settled.disjoint, is.settled.alg, no_password s.alg) refl
+makes header payload s is = rw (is.settled.disjoint, is.settled.alg, no_management s.alg) refl
 
 -- so signing makes the object of its signers' signatures
 pub signed_is : (compact : Bool) (keys : List OctetKey) (s : Signing) (payload : List ℕ) → IsSigning compact keys s → nat_le 1 (length s.signers) ≡ true → nat_le (length s.signers) limits.recipients ≡ true

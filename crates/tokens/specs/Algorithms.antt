@@ -1,4 +1,6 @@
--- The algorithms of encrypted objects, as the ciphers have them.
+-- The algorithms of encrypted objects, and the parameters of key management, as the ciphers have them.
+use Rattle.std.specs.Prelude.{[]}
+use Rattle.ciphers.specs.Delivery.{Parameters}
 use Rattle.ciphers.specs.declared.content_alg.ContentAlg.{ContentAlg}
 use Rattle.ciphers.specs.declared.content_alg.ContentAlg.TheVariants as content
 use Rattle.ciphers.specs.declared.key_alg.KeyAlg.{KeyAlg}
@@ -7,6 +9,7 @@ use Rattle.keys.specs.declared.algorithm.EncryptionAlg.{EncryptionAlg}
 use Rattle.keys.specs.declared.algorithm.EncryptionAlg.TheVariants.{A128CbcHs256, A192CbcHs384, A256CbcHs512, A128Gcm, A192Gcm, A256Gcm}
 use Rattle.keys.specs.declared.algorithm.ManagementAlg.{ManagementAlg}
 use Rattle.keys.specs.declared.algorithm.ManagementAlg.TheVariants.{Dir, A128Kw, A192Kw, A256Kw, Pbes2Hs256A128Kw, Pbes2Hs384A192Kw, Pbes2Hs512A256Kw}
+use Rattle.objects.specs.KeyManagement.{KeyManagement, Unknown, Direct, KeyWrap, Password}
 
 -- of content encryption (RFC 7518 section 5.1)
 abbrev pub content_alg : EncryptionAlg → ContentAlg
@@ -26,6 +29,17 @@ key_alg A256Kw = delivery.A256Kw
 key_alg Pbes2Hs256A128Kw = delivery.Pbes2Hs256A128Kw
 key_alg Pbes2Hs384A192Kw = delivery.Pbes2Hs384A192Kw
 key_alg Pbes2Hs512A256Kw = delivery.Pbes2Hs512A256Kw
+
+-- where an algorithm reads no parameters
+abbrev pub no_parameters : Parameters
+no_parameters = record { iv = []; tag = []; p2s = []; p2c = 0 }
+
+-- what a recipient's header gives of key management (RFC 7518 section 4)
+abbrev pub parameters_by : KeyManagement → Parameters
+parameters_by Unknown = no_parameters
+parameters_by Direct = no_parameters
+parameters_by KeyWrap = no_parameters
+parameters_by (Password p2s p2c) = record { iv = []; tag = []; p2s = p2s; p2c = p2c }
 
 -- both algorithms of an encrypted object
 pub record Algorithms : Type 0 where

@@ -12,11 +12,12 @@ use Rattle.keys.specs.declared.algorithm.Algorithm.TheVariants.{Encryption}
 use Rattle.keys.specs.declared.algorithm.EncryptionAlg.{EncryptionAlg}
 use Rattle.keys.specs.declared.algorithm.ManagementAlg.{ManagementAlg}
 use Rattle.keys.specs.declared.algorithm.ManagementAlg.TheVariants.{Dir, A128Kw, A192Kw, A256Kw, Pbes2Hs256A128Kw, Pbes2Hs384A192Kw, Pbes2Hs512A256Kw}
-use Rattle.keys.specs.Algorithms.{management_alg_among, encryption_alg_of, is_password_based, management_operations}
+use Rattle.keys.specs.Algorithms.{management_alg_among, encryption_alg_of, management_operations}
 use Rattle.keys.specs.Keys.{OctetKey, allows, fits}
 use Rattle.keys.specs.Limits.{Limits, limits}
 use Rattle.objects.specs.Jwe.{Recipient, EncryptedObject}
-use Rattle.tokens.specs.Algorithms.{Algorithms, content_alg, key_alg}
+use Rattle.objects.specs.KeyManagement.{KeyManagement, Unknown, Direct, KeyWrap, Password}
+use Rattle.tokens.specs.Algorithms.{Algorithms, content_alg, key_alg, parameters_by}
 
 -- ---- the pairs that are tried
 
@@ -58,9 +59,16 @@ abbrev pub has_pairs : List Pair → Bool
 has_pairs [] = false
 has_pairs (pair ∷ pairs) = true
 
--- how many iterations of PBKDF2 a pair takes (RFC 7518 section 4.8.1.2)
+-- how many iterations of PBKDF2 a recipient's key takes (RFC 7518 section 4.8.1.2): none, but where it is a password
+abbrev pub iterations_by : KeyManagement → ℕ
+iterations_by Unknown = 0
+iterations_by Direct = 0
+iterations_by KeyWrap = 0
+iterations_by (Password p2s p2c) = p2c
+
+-- and a pair
 abbrev pub iterations_of : Pair → ℕ
-iterations_of pair = if is_password_based pair.algorithms.management then pair.recipient.p2c else 0
+iterations_of pair = iterations_by pair.recipient.management
 
 abbrev pub all_iterations : List Pair → ℕ
 all_iterations [] = 0
@@ -99,7 +107,7 @@ sealed_content o = record { iv = o.iv; aad = authenticated o.protected o.aad; ci
 -- the content encryption key that the recipient's encrypted key delivers
 unfoldable pub cek_of : Pair → Option (List ℕ)
 cek_of pair =
-    delivered (key_alg pair.algorithms.management) (content_alg pair.algorithms.encryption) pair.key.octets pair.recipient.p2s pair.recipient.p2c pair.recipient.encrypted_key
+    delivered (key_alg pair.algorithms.management) (content_alg pair.algorithms.encryption) pair.key.octets (parameters_by pair.recipient.management) pair.recipient.encrypted_key
 
 -- the plaintext under it
 unfoldable pub opened_by : SealedContent → Pair → Option (List ℕ)

@@ -9,7 +9,7 @@ use Rattle.octets.specs.Outcomes.{◌>>=◌, needs}
 use Rattle.octets.specs.Base64url.{base64url, whole_groups}
 use Rattle.octets.specs.Octets.{IsOctets}
 use Rattle.octets.specs.Plan.{OutputTexts, Plan, BothGrow, Draft, planned, plan_from}
-use Rattle.ciphers.specs.Delivery.{encrypted_key_of}
+use Rattle.ciphers.specs.Delivery.{Parameters, encrypted_key_of}
 use Rattle.ciphers.specs.Openings.{is_longer}
 use Rattle.ciphers.specs.Sealing.{Sealed, Sealing, sealing, cek_len, iv_len}
 use Rattle.keys.specs.declared.algorithm.ManagementAlg.{ManagementAlg}
@@ -102,10 +102,14 @@ header_by e random = header_text (header_of e random)
 
 -- ---- the recipients (section 5.1, steps 4 to 6)
 
+-- by which a receiver's key encrypts the content encryption key
+abbrev pub parameters_with : List ℕ → ℕ → Parameters
+parameters_with salt p2c = record { iv = []; tag = []; p2s = salt; p2c = p2c }
+
 abbrev pub recipient_by : Encryption → List ℕ → Receiver → List ℕ → RecipientParts
 recipient_by e cek r salt = record {
   header = own_header e r.management salt;
-  encrypted_key = encrypted_key_of (key_alg r.management) r.key.octets salt e.p2c cek;
+  encrypted_key = encrypted_key_of (key_alg r.management) r.key.octets (parameters_with salt e.p2c) cek;
 }
 
 -- those of receivers in order, whose salts follow one another

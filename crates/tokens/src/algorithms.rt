@@ -1,11 +1,16 @@
-//! The algorithms of encrypted objects, by the ciphers that have them. It sees names and no key.
+//! The algorithms of encrypted objects, and the parameters of key management, for the ciphers that have them. It sees names and
+//! no key.
 ghost use Rattle.std.specs.Prelude.{◌≡◌, ◌≤◌, option_map};
-ghost use Rattle.tokens.specs.Algorithms.{content_alg, key_alg};
-ghost use Rattle.tokens.specs.Decrypting.{algorithms_by, unwraps_of};
+ghost use Rattle.ciphers.specs.Views.{parameters_view};
+ghost use Rattle.keys.specs.Limits.{limits};
+ghost use Rattle.objects.specs.KeyManagementView.{management_view};
+ghost use Rattle.tokens.specs.Algorithms.{content_alg, key_alg, parameters_by};
+ghost use Rattle.tokens.specs.Decrypting.{algorithms_by, unwraps_of, iterations_by};
 ghost use Rattle.tokens.specs.Views.{algorithms_view};
 
-use ciphers::{ContentAlg, KeyAlg};
+use ciphers::{ContentAlg, KeyAlg, KeyParameters};
 use keys::{EncryptionAlg, ManagementAlg};
+use objects::KeyManagement;
 
 /// Both algorithms of an encrypted object.
 #[derive(Clone, Copy)]
@@ -55,6 +60,29 @@ pub(crate) fn key_alg(alg: ManagementAlg) -> KeyAlg
         ManagementAlg::Pbes2Hs256A128Kw => KeyAlg::Pbes2Hs256A128Kw,
         ManagementAlg::Pbes2Hs384A192Kw => KeyAlg::Pbes2Hs384A192Kw,
         ManagementAlg::Pbes2Hs512A256Kw => KeyAlg::Pbes2Hs512A256Kw,
+    }
+}
+
+/// Where an algorithm reads no parameters.
+pub(crate) const NO_PARAMETERS: KeyParameters<'static> = KeyParameters {
+    iv: &[],
+    tag: &[],
+    p2s: &[],
+    p2c: 0,
+};
+
+/// What a recipient's header gives of key management (RFC 7518 section 4).
+pub(crate) fn parameters(management: &KeyManagement) -> KeyParameters<'_>
+    requires { iterations_by (management_view management.now) ≤ limits.greatest_p2c_read }
+    ensures { parameters_view result ≡ parameters_by (management_view management.now) }
+{
+    match management {
+        KeyManagement::Unknown | KeyManagement::Direct | KeyManagement::KeyWrap => NO_PARAMETERS,
+        KeyManagement::Password { p2s, p2c } => KeyParameters {
+            p2s,
+            p2c: *p2c as u32,
+            ..NO_PARAMETERS
+        },
     }
 }
 

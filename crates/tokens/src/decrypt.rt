@@ -10,11 +10,11 @@ ghost use Rattle.objects.specs.Views.{jwe_view};
 ghost use Rattle.tokens.specs.Decrypting.{decrypted, pairs_to_try, are_within, iterations_of, authenticated, first_opened, opened_by, cek_of, no_work, with_pair, with_pairs, work_told, IsBounded};
 ghost use Rattle.tokens.specs.Views.{pair_view, sealed_view, work_view};
 
-use crate::algorithms::{Algorithms, content_alg, key_alg, unwraps};
+use crate::algorithms::{Algorithms, content_alg, key_alg, parameters, unwraps};
 use crate::pair::Pair;
 use crate::pairs::{iterations, pairs_to_try};
+use ciphers::Cek;
 use ciphers::laws::{delivers_exactly, opens_exactly};
-use ciphers::{Cek, KeyParameters};
 use keys::KeySet;
 use objects::Jwe;
 use octets::laws::are_octets;
@@ -200,10 +200,7 @@ fn deliver(pair: &Pair<'_>) -> Option<Cek>
         management,
         encryption,
     } = pair.algorithms;
-    let parameters = KeyParameters {
-        p2s: pair.recipient.p2s(),
-        p2c: pair.recipient.p2c() as u32,
-    };
+    let parameters = parameters(pair.recipient.management());
     let key = pair.key.octets();
     delivers_exactly();
     are_octets(key);

@@ -28,7 +28,7 @@ ghost use Rattle.tokens.specs.Encrypting.{encrypting_by, frame_by, sealing_by, o
 ghost use Rattle.tokens.specs.SealedTexts.{IsUnsealed};
 ghost use Rattle.tokens.specs.Views.{receiver_view, given_view, encryption_view};
 
-use crate::algorithms::{content_alg, key_alg};
+use crate::algorithms::{NO_PARAMETERS, content_alg, key_alg};
 use crate::choosing::{is_direct, read_encryption, with_name};
 use crate::copies::copied;
 use crate::decrypt::authenticated;
@@ -443,7 +443,7 @@ fn recipients(
 }
 
 /// The recipient that a receiver is, with its encrypted key.
-#[tactic(auto, using(crate::proofs::Candidates::is_key_of, crate::proofs::Receivers::counts_where_password))]
+#[tactic(auto, using(crate::proofs::Candidates::is_key_of, crate::proofs::Receivers::counts_where_password, crate::proofs::Receivers::no_iv))]
 fn recipient(
     alloc: Global,
     encryption: &Encryption<'_>,
@@ -463,9 +463,11 @@ fn recipient(
     let parameters = KeyParameters {
         p2s: salt,
         p2c: encryption.p2c,
+        ..NO_PARAMETERS
     };
     let mut buf = [0; 72];
-    let len = key_alg(management).wrap_cek(key.octets(), parameters, cek, &mut buf);
+    let mut tag = [0; 16];
+    let (len, _) = key_alg(management).wrap_cek(key.octets(), parameters, cek, &mut buf, &mut tag);
     let encrypted_key = copied(alloc, &buf[..len])?;
     let header = own_header(alloc, encryption, management, salt)?;
     Ok(RecipientParts {

@@ -3,7 +3,7 @@ ghost use Rattle.std.specs.Prelude.{◌≡◌, Some, true};
 ghost use Rattle.keys.specs.declared.algorithm.Algorithm.TheVariants.{Encryption};
 ghost use Rattle.keys.specs.Keys.{fits};
 ghost use Rattle.keys.specs.Views.{key_view};
-ghost use Rattle.objects.specs.Headers.{is_count_of};
+ghost use Rattle.objects.specs.KeyManagement.{is_management_of};
 ghost use Rattle.objects.specs.Views.{recipient_view};
 
 use crate::algorithms::Algorithms;
@@ -16,6 +16,6 @@ pub(crate) struct Pair<'a> {
     pub(crate) recipient: &'a Recipient,
     pub(crate) algorithms: Algorithms,
     pub(crate) key: &'a Key,
-    ghost counted: { is_count_of (Some algorithms.management) (recipient_view recipient.now).p2c ≡ true },
+    ghost of_alg: { is_management_of (Some algorithms.management) (recipient_view recipient.now).management ≡ true },
     ghost fits: { fits (key_view key.now) (Encryption algorithms.management algorithms.encryption) ≡ true },
 }

@@ -7,14 +7,15 @@ ghost use Rattle.objects.specs.Views.{recipient_view};
 ghost use Rattle.keys.specs.declared.algorithm.Algorithm.TheVariants.{Encryption};
 ghost use Rattle.keys.specs.Keys.{fits};
 ghost use Rattle.keys.specs.Limits.{limits};
-ghost use Rattle.objects.specs.Headers.{is_count_of};
-ghost use Rattle.tokens.specs.Decrypting.{pairs_to_try, all_pairs, pairs_of, pairs_with, algorithms_of, is_candidate, are_within, iterations_of};
+ghost use Rattle.objects.specs.KeyManagement.{is_management_of};
+ghost use Rattle.objects.specs.KeyManagementView.{management_view};
+ghost use Rattle.tokens.specs.Decrypting.{pairs_to_try, all_pairs, pairs_of, pairs_with, algorithms_of, is_candidate, are_within, iterations_by, iterations_of};
 ghost use Rattle.tokens.specs.Views.{algorithms_view, pair_view};
 
 use crate::algorithms::Algorithms;
 use crate::pair::Pair;
 use keys::{Algorithm, EncryptionAlg, GREATEST_P2C_READ, Key, MOST_ITERATIONS, ManagementAlg};
-use objects::Recipient;
+use objects::{KeyManagement, Recipient};
 use octets::{Refusal, needs};
 use std::alloc::Global;
 
@@ -57,12 +58,21 @@ fn are_within(pairs: &[Pair<'_>]) -> bool
     true
 }
 
-/// How many iterations of PBKDF2 a pair takes (RFC 7518 section 4.8.1.2). A recipient whose algorithm takes none has a count
-/// of 0.
+/// How many iterations of PBKDF2 a pair takes.
 pub(crate) fn iterations(pair: &Pair<'_>) -> u64
     ensures { result ≡ iterations_of (pair_view pair.now) }
 {
-    pair.recipient.p2c()
+    iterations_by(pair.recipient.management())
+}
+
+/// How many iterations of PBKDF2 a recipient's key takes (RFC 7518 section 4.8.1.2): none, but where it is a password.
+fn iterations_by(management: &KeyManagement) -> u64
+    ensures { result ≡ iterations_by (management_view management.now) }
+{
+    match management {
+        KeyManagement::Unknown | KeyManagement::Direct | KeyManagement::KeyWrap => 0,
+        KeyManagement::Password { p2c, .. } => *p2c,
+    }
 }
 
 /// The algorithms of some recipient are supported.
@@ -115,7 +125,7 @@ fn push_candidates<'a>(
     recipient: &'a Recipient,
     algorithms: Algorithms,
 ) -> Result<(), Refusal>
-    requires counted { is_count_of (Some algorithms.management) (recipient_view recipient.now).p2c ≡ true }
+    requires of_alg { is_management_of (Some algorithms.management) (recipient_view recipient.now).management ≡ true }
     ensures pushed { OnOk result (map pair_view pairs.new.items
         ≡ map pair_view pairs.old.items ++ pairs_with (recipient_view recipient.now) (algorithms_view algorithms) (map key_view keys.now)) }
     ensures memory { OnErr result (result ≡ Err Refusal.Memory) }
@@ -133,7 +143,7 @@ fn push_candidate<'a>(
     recipient: &'a Recipient,
     algorithms: Algorithms,
 ) -> Result<(), Refusal>
-    requires counted { is_count_of (Some algorithms.management) (recipient_view recipient.now).p2c ≡ true }
+    requires of_alg { is_management_of (Some algorithms.management) (recipient_view recipient.now).management ≡ true }
     ensures pushed { OnOk result (map pair_view pairs.new.items
         ≡ map pair_view pairs.old.items ++ pairs_with (recipient_view recipient.now) (algorithms_view algorithms) (key_view key.now ∷ [])) }
     ensures memory { OnErr result (result ≡ Err Refusal.Memory) }
@@ -152,7 +162,7 @@ fn push_candidate<'a>(
 #[tactic(auto, unfolding(crate::specs::Decrypting::algorithms_of))]
 fn algorithms_of(recipient: &Recipient) -> Option<Algorithms>
     ensures named { option_map algorithms_view result ≡ algorithms_of limits.management (recipient_view recipient.now) }
-    ensures counted { IfSome result (λ a. is_count_of (Some a.management) (recipient_view recipient.now).p2c ≡ true) }
+    ensures of_alg { IfSome result (λ a. is_management_of (Some a.management) (recipient_view recipient.now).management ≡ true) }
 {
     Algorithms::named(
         ManagementAlg::named(recipient.alg()),

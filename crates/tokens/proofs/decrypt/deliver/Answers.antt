@@ -1,3 +1,4 @@
+use Rattle.ciphers.specs.Views.{parameters_view}
 use Rattle.tokens.specs.Decrypting.{cek_of}
 use Rattle.tokens.proofs.Openings.{delivers}
 use Rattle.tokens.proofs.decrypt.deliver.Goals as goal
@@ -5,6 +6,6 @@ use Rattle.tokens.proofs.decrypt.deliver.Goals as goal
 pub returns : goal.returns
 unfolding cek_of
 returns c =
-    rw (← c.key_alg.ensures, ← c.content_alg.ensures, ← c.octets-key.ensures, ← c.p2s.ensures, ← c.p2c.ensures.p2c, ← c.encrypted_key.ensures)
-    (delivers c.delivers_exactly.ensures c.key_alg.result c.content_alg.result c.octets-key.result.now c.p2s.result.now c.p2c.result c.encrypted_key.result.now
+    rw (← c.key_alg.ensures, ← c.content_alg.ensures, ← c.octets-key.ensures, ← c.management.ensures.management, ← c.parameters-parameters.ensures, ← c.encrypted_key.ensures)
+    (delivers c.delivers_exactly.ensures c.key_alg.result c.content_alg.result c.octets-key.result.now (parameters_view c.parameters-parameters.result) c.encrypted_key.result.now
     c.unwrap_cek.result c.are_octets.ensures c.unwrap_cek.ensures.delivers c.unwrap_cek.ensures.nothing)

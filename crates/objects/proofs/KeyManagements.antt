@@ -1,0 +1,57 @@
+-- What a header says of the management of a key is that of its algorithm.
+use Rattle.std.proofs.Common.{◌≡◌, ℕ, Bool, true, false, nat_le, List, length, codes, if◌then◌else◌, Option, Some, None, Result, Ok, Err, refl, sym, ap, ◌∙◌}
+use Rattle.std.proofs.lemmas.Bool.{and_from}
+use Rattle.std.specs.Option.{ok_or}
+use Rattle.serde_json.specs.Data.{Members}
+use Rattle.octets.specs.declared.refusal.Refusal.{Refusal}
+use Rattle.octets.specs.declared.refusal.Refusal.TheVariants.{Header}
+use Rattle.octets.specs.Base64url.{decoded}
+use Rattle.octets.specs.Outcomes.{needs}
+use Rattle.keys.specs.declared.algorithm.ManagementAlg.{ManagementAlg}
+use Rattle.keys.specs.declared.algorithm.ManagementAlg.TheVariants.{Dir, A128Kw, A192Kw, A256Kw, Pbes2Hs256A128Kw, Pbes2Hs384A192Kw, Pbes2Hs512A256Kw}
+use Rattle.objects.specs.Headers.{string_parameter, number_parameter, salt, salt_if_there, salt_parameter}
+use Rattle.objects.specs.KeyManagement.{KeyManagement, Unknown, Direct, KeyWrap, Password, password_management, management_by, is_password, is_management_of}
+use Rattle.objects.proofs.Steps.{steps, passed, same_answer, is_there}
+
+-- a salt that is read has at least 8 octets
+salt_is_long : (header : Members) (p2s : List ℕ) → salt_parameter (codes "p2s") header ≡ Ok (Some p2s) → nat_le 8 (length p2s) ≡ true
+unfolding salt_parameter
+salt_is_long header p2s h =
+    let text = steps (string_parameter (codes "p2s") header) salt_if_there (Some p2s) h in
+    by_text text.0 text.2
+  where
+    by_length : (octets : List ℕ) (long : Bool) → nat_le 8 (length octets) ≡ long → (if long then Ok (Some octets) else Err Header) ≡ Ok (Some p2s) → nat_le 8 (length p2s) ≡ true
+    by_length octets true is h =
+        let same : octets ≡ p2s = cc h in
+        ap (λ (s : List ℕ). nat_le 8 (length s)) (sym same) ∙ is
+    by_length octets false is h = cc h
+
+    by_octets : (r : Result (List ℕ) Refusal) → salt r ≡ Ok (Some p2s) → nat_le 8 (length p2s) ≡ true
+    by_octets (Ok octets) h = by_length octets (nat_le 8 (length octets)) refl h
+    by_octets (Err e) h = cc h
+
+    by_text : (found : Option (List ℕ)) → salt_if_there found ≡ Ok (Some p2s) → nat_le 8 (length p2s) ≡ true
+    by_text None h = cc h
+    by_text (Some text) h = by_octets (decoded text) h
+
+-- so what is read of a password is as it has to be
+password_is : (header : Members) (m : KeyManagement) → password_management header ≡ Ok m → (p2s : List ℕ) × (p2c : ℕ) × (is_password p2s p2c ≡ true) × (Password p2s p2c ≡ m)
+unfolding password_management
+password_is header m h =
+    let salt = steps (salt_parameter (codes "p2s") header) _ m h in
+    let p2s = steps (ok_or salt.0 Header) _ m salt.2 in
+    let count = steps (number_parameter (codes "p2c") header) _ m p2s.2 in
+    let p2c = steps (ok_or count.0 Header) _ m count.2 in
+    let some = steps (needs (nat_le 1 p2c.0) Header) _ m p2c.2 in
+    let there : salt_parameter (codes "p2s") header ≡ Ok (Some p2s.0) = salt.1 ∙ ap Ok (is_there salt.0 Header p2s.0 p2s.1) in
+    (p2s.0, p2c.0, and_from (nat_le 8 (length p2s.0)) (nat_le 1 p2c.0) (salt_is_long header p2s.0 there) (passed _ Header some.0 some.1), same_answer _ m some.2)
+
+pub management_is : (alg : Option ManagementAlg) (header : Members) (m : KeyManagement) → management_by alg header ≡ Ok m → is_management_of alg m ≡ true
+management_is None header m h = let same : Unknown ≡ m = cc h in rw (sym same) refl
+management_is (Some Dir) header m h = let same : Direct ≡ m = cc h in rw (sym same) refl
+management_is (Some A128Kw) header m h = let same : KeyWrap ≡ m = cc h in rw (sym same) refl
+management_is (Some A192Kw) header m h = let same : KeyWrap ≡ m = cc h in rw (sym same) refl
+management_is (Some A256Kw) header m h = let same : KeyWrap ≡ m = cc h in rw (sym same) refl
+management_is (Some Pbes2Hs256A128Kw) header m h = let is = password_is header m h in rw (sym is.3) is.2
+management_is (Some Pbes2Hs384A192Kw) header m h = let is = password_is header m h in rw (sym is.3) is.2
+management_is (Some Pbes2Hs512A256Kw) header m h = let is = password_is header m h in rw (sym is.3) is.2

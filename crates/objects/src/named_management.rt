@@ -1,0 +1,15 @@
+//! The management of a recipient's key, with the name of its algorithm.
+ghost use Rattle.std.specs.Prelude.{◌≡◌, true, string_bytes};
+ghost use Rattle.keys.specs.Algorithms.{management_alg_of};
+ghost use Rattle.objects.specs.KeyManagement.{is_management_of};
+ghost use Rattle.objects.specs.KeyManagementView.{management_view};
+
+use crate::KeyManagement;
+
+/// The name of an algorithm, and what a joint header says by it.
+#[derive(Drop)]
+pub(crate) struct NamedManagement {
+    pub(crate) alg: String,
+    pub(crate) management: KeyManagement,
+    ghost of_alg: { is_management_of (management_alg_of (string_bytes alg)) (management_view management) ≡ true },
+}
