@@ -14,11 +14,13 @@ NAMES = {
 
 # Signature algorithms: the hash, and the least length of a key.
 SIGNATURES = {"HS256": ("sha256", 32), "HS384": ("sha384", 48), "HS512": ("sha512", 64)}
-# Key wraps: the length of the key.
+# Key wraps: the length of the key. Where nothing names the algorithm, one of the first three follows from the length.
 WRAPS = {"A128KW": 16, "A192KW": 24, "A256KW": 32}
+GCM_WRAPS = {"A128GCMKW": 16, "A192GCMKW": 24, "A256GCMKW": 32}
+KEY_LENGTHS = WRAPS | GCM_WRAPS
 # Algorithms by a password: the length of the key that wraps, and the block of the hash, to which HMAC fills a key with zeros.
 PASSWORDS = {"PBES2-HS256+A128KW": (16, 64), "PBES2-HS384+A192KW": (24, 128), "PBES2-HS512+A256KW": (32, 128)}
-MANAGEMENT = ["dir", *WRAPS, *PASSWORDS]
+MANAGEMENT = ["dir", *KEY_LENGTHS, *PASSWORDS]
 # Content encryptions: the lengths of the key and of the initialization vector.
 CONTENTS = {
     "A128CBC-HS256": (32, 16), "A192CBC-HS384": (48, 16), "A256CBC-HS512": (64, 16), "A128GCM": (16, 12), "A192GCM": (24, 12), "A256GCM": (32, 12),
@@ -28,15 +30,17 @@ USUAL_BY_WRAP = {16: "A128CBC-HS256", 24: "A192CBC-HS384", 32: "A256CBC-HS512"}
 USUAL_BY_KEY = {32: "A128CBC-HS256", 48: "A192CBC-HS384", 64: "A256CBC-HS512"}
 HASHES = {"S224": "sha224", "S256": "sha256", "S384": "sha384", "S512": "sha512"}
 MOST_ITEMS, MOST_OCTETS, MOST_LEVELS, MOST_LEVELS_READ = 64, 4096, 64, 127
-LEAST_P2C, GREATEST_P2C, MOST_ITERATIONS, USUAL_P2C, SALT = 1000, 1_000_000, 4_000_000, 10_000, 16
+LEAST_P2C, GREATEST_P2C, MOST_ITERATIONS, USUAL_P2C = 1000, 1_000_000, 4_000_000, 10_000
+# What a key takes of the random octets: a salt by a password, an initialization vector by AES-GCM key wrap, whose tag is as long as TAG.
+SALT, KEY_IV, TAG = 16, 12, 16
 
 Key = collections.namedtuple("Key", "octets alg use ops")
 Signature = collections.namedtuple("Signature", "text header joint octets")
 Signed = collections.namedtuple("Signed", "payload signatures")
 Recipient = collections.namedtuple("Recipient", "header joint encrypted_key")
 Encrypted = collections.namedtuple("Encrypted", "text unprotected aad iv ciphertext tag recipients")
-# What `jwe enc` settles before the plaintext is read.
-Draft = collections.namedtuple("Draft", "text unprotected aad iv headers")
+# What `jwe enc` settles before the plaintext is read: the protected header, and what each recipient adds, to that header where it is the only one.
+Draft = collections.namedtuple("Draft", "protected unprotected aad iv headers")
 
 
 class Refused(Exception):
@@ -198,7 +202,7 @@ def operations(alg, way):
 def fits_management(key, alg, enc):
     if alg == "dir":
         return key.alg in (None, alg, enc) and len(key.octets) == CONTENTS[enc][0]
-    return key.alg in (None, alg) and len(key.octets) == WRAPS.get(alg, len(key.octets))
+    return key.alg in (None, alg) and len(key.octets) == KEY_LENGTHS.get(alg, len(key.octets))
 
 
 def jwk_thp(keys, hash_name="S256"):
@@ -208,7 +212,7 @@ def jwk_thp(keys, hash_name="S256"):
 
 def key_size(alg, asked):
     """The size of a made key. `asked` is the template's, or None."""
-    exact = WRAPS.get(alg) or CONTENTS.get(alg, [None])[0]
+    exact = KEY_LENGTHS.get(alg) or CONTENTS.get(alg, [None])[0]
     least = SIGNATURES[alg][1] if alg in SIGNATURES else exact
     needs(alg is None or alg in SIGNATURES or alg in MANAGEMENT or alg in CONTENTS, UNSUPPORTED)
     needs(asked or least, NO_ALGORITHM)
@@ -264,11 +268,18 @@ def check_parameters(joint, names):
     for name in names:
         member(joint, name, str, HEADER, True)
     if joint["alg"] in PASSWORDS:
-        try:
-            salt = octets_of(member(joint, "p2s", str, HEADER, True).encode())
-        except Refused:
-            raise Refused(HEADER) from None
-        needs(len(salt) >= 8 and member(joint, "p2c", int, HEADER, True) >= 1, HEADER)
+        needs(len(octets_parameter(joint, "p2s")) >= 8 and member(joint, "p2c", int, HEADER, True) >= 1, HEADER)
+    if joint["alg"] in GCM_WRAPS:
+        octets_parameter(joint, "iv")
+        octets_parameter(joint, "tag")
+
+
+def octets_parameter(joint, name):
+    """The octets of a member of a header that has to be a base64url text."""
+    try:
+        return octets_of(member(joint, name, str, HEADER, True).encode())
+    except Refused:
+        raise Refused(HEADER) from None
 
 
 def compact_parts(text, count, content, detached):
@@ -461,7 +472,7 @@ def content_alg(key, alg):
         found = key.alg if key.alg in CONTENTS else USUAL_BY_KEY.get(len(key.octets))
         needs(found, NO_ALGORITHM)
         return found
-    return USUAL_BY_WRAP[WRAPS[alg] if alg in WRAPS else PASSWORDS[alg][0]]
+    return USUAL_BY_WRAP[KEY_LENGTHS[alg] if alg in KEY_LENGTHS else PASSWORDS[alg][0]]
 
 
 def jwe_enc(keys, template, random, compact):
@@ -469,7 +480,7 @@ def jwe_enc(keys, template, random, compact):
     keys = keys_of(keys, False)
     (protected, unprotected), (aad,), joint = template_of(template, ["protected", "unprotected"], ["aad"])
     alg, enc = named(joint, "alg"), named(joint, "enc")
-    needs("p2s" not in joint, HEADER)
+    needs(not any(name in joint for name in ("p2s", "iv", "tag")), HEADER)
     needs("crit" not in joint and "zip" not in joint, UNSUPPORTED)
     needs((alg is None or alg in MANAGEMENT) and (enc is None or enc in CONTENTS), UNSUPPORTED)
     algs = [alg or management_alg(key) for key in keys]
@@ -490,14 +501,24 @@ def jwe_enc(keys, template, random, compact):
         if one in PASSWORDS:
             header |= {"p2s": b64(random[drawn:drawn + SALT]).decode()} | ({} if "p2c" in joint else {"p2c": p2c})
             drawn += SALT
+        if one in GCM_WRAPS:
+            header |= {"iv": b64(random[drawn:drawn + KEY_IV]).decode()}
+            drawn += KEY_IV
         headers.append(header)
     key_length, iv_length = CONTENTS[chosen]
     drawn += 0 if algs == ["dir"] else key_length
     needs(len(random) >= drawn + iv_length, RANDOM)
-    written = protected | ({} if enc else {"enc": chosen})
-    if len(keys) == 1:
-        written, headers = written | headers[0], [{}]
-    return Draft(b64(json_text(written)) if written else b"", unprotected, octets_of(aad.encode()), random[drawn:drawn + iv_length], headers)
+    return Draft(protected | ({} if enc else {"enc": chosen}), unprotected, octets_of(aad.encode()), random[drawn:drawn + iv_length], headers)
+
+
+def drafted(draft, tags):
+    """A draft as the text of its protected header and its recipients' headers, with the tag of each recipient, or None: those of AES-GCM key wrap
+    come from the cipher."""
+    headers = [header if tag is None else header | {"tag": tag} for header, tag in zip(draft.headers, tags, strict=True)]
+    protected = draft.protected
+    if len(headers) == 1:
+        protected, headers = protected | headers[0], [{}]
+    return b64(json_text(protected)) if protected else b"", draft.unprotected, draft.aad, draft.iv, headers
 
 
 def identity(encrypted, recipient, key):
@@ -507,6 +528,8 @@ def identity(encrypted, recipient, key):
     if alg in PASSWORDS:
         octets = octets if len(octets) > PASSWORDS[alg][1] else octets.rstrip(b"\0")
         more = recipient.joint["p2s"], recipient.joint["p2c"]
+    if alg in GCM_WRAPS:
+        more = recipient.joint["iv"], recipient.joint["tag"]
     return encrypted.text, encrypted.aad, encrypted.iv, encrypted.ciphertext, encrypted.tag, recipient.encrypted_key, alg, enc, octets, more
 
 

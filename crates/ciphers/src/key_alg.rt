@@ -41,8 +41,8 @@ pub enum KeyAlg {
 }
 
 /// The header parameters of a recipient that its algorithm reads: the initialization vector and the tag of an encryption in
-/// GCM (section 4.7.1), or the salt input p2s and the count p2c of a password (section 4.8.1). They are empty and 0 where it
-/// reads none. The tag is read where a key is unwrapped.
+/// GCM (section 4.7.1), or the salt input p2s and the count p2c of a password (section 4.8.1). Those that it does not read may be
+/// anything, as the tag may be where a key is wrapped.
 #[derive(Clone, Copy)]
 pub struct KeyParameters<'p> {
     pub iv: &'p [u8],

@@ -20,6 +20,9 @@ const MANAGEMENT_ALGS: &[(&str, ManagementAlg)] = &[
     ("PBES2-HS256+A128KW", ManagementAlg::Pbes2Hs256A128Kw),
     ("PBES2-HS384+A192KW", ManagementAlg::Pbes2Hs384A192Kw),
     ("PBES2-HS512+A256KW", ManagementAlg::Pbes2Hs512A256Kw),
+    ("A128GCMKW", ManagementAlg::A128GcmKw),
+    ("A192GCMKW", ManagementAlg::A192GcmKw),
+    ("A256GCMKW", ManagementAlg::A256GcmKw),
 ];
 
 const ENCRYPTION_ALGS: &[(&str, EncryptionAlg)] = &[
@@ -40,7 +43,8 @@ const OTHER_NAMES: &[&str] = &[
     "RS256",
     "Dir",
     "A128kw",
-    "A128GCMKW",
+    "A128GCMkw",
+    "A128KWGCM",
     "PBES2-HS384+A256KW",
     "PBES2-HS256",
     "A128CBC-HS512",
@@ -156,6 +160,21 @@ const ENCRYPTION_LENGTHS: &[(ManagementAlg, EncryptionAlg, usize, usize, usize)]
         25,
     ),
     (ManagementAlg::A256Kw, EncryptionAlg::A128Gcm, 31, 32, 33),
+    (
+        ManagementAlg::A128GcmKw,
+        EncryptionAlg::A256CbcHs512,
+        15,
+        16,
+        17,
+    ),
+    (
+        ManagementAlg::A192GcmKw,
+        EncryptionAlg::A128CbcHs256,
+        23,
+        24,
+        25,
+    ),
+    (ManagementAlg::A256GcmKw, EncryptionAlg::A128Gcm, 31, 32, 33),
     (ManagementAlg::Dir, EncryptionAlg::A128CbcHs256, 31, 32, 33),
     (ManagementAlg::Dir, EncryptionAlg::A192CbcHs384, 47, 48, 49),
     (ManagementAlg::Dir, EncryptionAlg::A256CbcHs512, 63, 64, 65),
@@ -214,6 +233,9 @@ const NAMES: &[&str] = &[
     "PBES2-HS256+A128KW",
     "PBES2-HS384+A192KW",
     "PBES2-HS512+A256KW",
+    "A128GCMKW",
+    "A192GCMKW",
+    "A256GCMKW",
     "A128CBC-HS256",
     "A192CBC-HS384",
     "A256CBC-HS512",
@@ -274,6 +296,9 @@ const WRAPPING: &[(ManagementAlg, usize, &str)] = &[
     (ManagementAlg::Pbes2Hs256A128Kw, 9, "PBES2-HS256+A128KW"),
     (ManagementAlg::Pbes2Hs384A192Kw, 9, "PBES2-HS384+A192KW"),
     (ManagementAlg::Pbes2Hs512A256Kw, 9, "PBES2-HS512+A256KW"),
+    (ManagementAlg::A128GcmKw, 16, "A128GCMKW"),
+    (ManagementAlg::A192GcmKw, 24, "A192GCMKW"),
+    (ManagementAlg::A256GcmKw, 32, "A256GCMKW"),
 ];
 
 #[test]

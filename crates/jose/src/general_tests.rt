@@ -269,6 +269,43 @@ const VERIFIED: &[(&str, &str, Answer<'_>, Answer<'_>)] = &[
         Answer::Refusal(Refusal::Header),
         Answer::Refusal(Refusal::Header),
     ),
+    // An algorithm that wraps a key in GCM, with no parameters, with one, with both, and with one that is no base64url text.
+    (
+        "{\"payload\":\"YWJj\",\"signature\":\"\",\"header\":{\"alg\":\"A128GCMKW\"}}",
+        KEYS,
+        Answer::Refusal(Refusal::Header),
+        Answer::Refusal(Refusal::Header),
+    ),
+    (
+        "{\"payload\":\"YWJj\",\"signature\":\"\",\"header\":{\"alg\":\"A128GCMKW\",\"iv\":\"AA\"}}",
+        KEYS,
+        Answer::Refusal(Refusal::Header),
+        Answer::Refusal(Refusal::Header),
+    ),
+    (
+        "{\"payload\":\"YWJj\",\"signature\":\"\",\"header\":{\"alg\":\"A128GCMKW\",\"tag\":\"\"}}",
+        KEYS,
+        Answer::Refusal(Refusal::Header),
+        Answer::Refusal(Refusal::Header),
+    ),
+    (
+        "{\"payload\":\"YWJj\",\"signature\":\"\",\"header\":{\"alg\":\"A128GCMKW\",\"iv\":\"AA\",\"tag\":\"\"}}",
+        KEYS,
+        Answer::Refusal(Refusal::Unsupported),
+        Answer::Refusal(Refusal::Unsupported),
+    ),
+    (
+        "{\"payload\":\"YWJj\",\"signature\":\"\",\"header\":{\"alg\":\"A128GCMKW\",\"iv\":5,\"tag\":\"\"}}",
+        KEYS,
+        Answer::Refusal(Refusal::Header),
+        Answer::Refusal(Refusal::Header),
+    ),
+    (
+        "{\"payload\":\"YWJj\",\"signature\":\"\",\"header\":{\"alg\":\"A128GCMKW\",\"iv\":\"AA\",\"tag\":\"AB\"}}",
+        KEYS,
+        Answer::Refusal(Refusal::Header),
+        Answer::Refusal(Refusal::Header),
+    ),
 ];
 
 fn verifies<R: Abort + AllocGlobal>(
@@ -369,6 +406,68 @@ const FORMATTED: &[(&[&str], &str, Answer<'_>)] = &[
         &FORMAT_JWS,
         "{\"payload\":\"YWJj\",\"signature\":\"\",\"header\":{\"alg\":\"PBES2-HS256+A128KW\",\"p2s\":\"AAECAwQFBgc\",\"p2c\":0}}",
         Answer::Refusal(Refusal::Header),
+    ),
+    // An algorithm that wraps a key in GCM, of a signature.
+    (
+        &FORMAT_JWS,
+        "{\"payload\":\"YWJj\",\"signature\":\"\",\"header\":{\"alg\":\"A128GCMKW\"}}",
+        Answer::Refusal(Refusal::Header),
+    ),
+    (
+        &FORMAT_JWS,
+        "{\"payload\":\"YWJj\",\"signature\":\"\",\"header\":{\"alg\":\"A128GCMKW\",\"iv\":\"AA\"}}",
+        Answer::Refusal(Refusal::Header),
+    ),
+    (
+        &FORMAT_JWS,
+        "{\"payload\":\"YWJj\",\"signature\":\"\",\"header\":{\"alg\":\"A128GCMKW\",\"iv\":\"AA\",\"tag\":\"\"}}",
+        Answer::Text(
+            "{\"header\":{\"alg\":\"A128GCMKW\",\"iv\":\"AA\",\"tag\":\"\"},\"payload\":\"YWJj\",\"signature\":\"\"}",
+        ),
+    ),
+    // The same of a recipient; of another algorithm these are unknown members.
+    (
+        &FORMAT_JWE,
+        "{\"ciphertext\":\"\",\"unprotected\":{\"alg\":\"A128GCMKW\",\"enc\":\"A128GCM\",\"iv\":\"AA\",\"tag\":\"\"}}",
+        Answer::Text(
+            "{\"ciphertext\":\"\",\"unprotected\":{\"alg\":\"A128GCMKW\",\"enc\":\"A128GCM\",\"iv\":\"AA\",\"tag\":\"\"}}",
+        ),
+    ),
+    (
+        &FORMAT_JWE,
+        "{\"ciphertext\":\"\",\"unprotected\":{\"alg\":\"A192GCMKW\",\"enc\":\"A128GCM\",\"iv\":\"AA\",\"tag\":\"\"}}",
+        Answer::Text(
+            "{\"ciphertext\":\"\",\"unprotected\":{\"alg\":\"A192GCMKW\",\"enc\":\"A128GCM\",\"iv\":\"AA\",\"tag\":\"\"}}",
+        ),
+    ),
+    (
+        &FORMAT_JWE,
+        "{\"ciphertext\":\"\",\"unprotected\":{\"alg\":\"A256GCMKW\",\"enc\":\"A128GCM\",\"iv\":\"AA\",\"tag\":\"\"}}",
+        Answer::Text(
+            "{\"ciphertext\":\"\",\"unprotected\":{\"alg\":\"A256GCMKW\",\"enc\":\"A128GCM\",\"iv\":\"AA\",\"tag\":\"\"}}",
+        ),
+    ),
+    (
+        &FORMAT_JWE,
+        "{\"ciphertext\":\"\",\"unprotected\":{\"alg\":\"A192GCMKW\",\"enc\":\"A128GCM\",\"iv\":\"AA\"}}",
+        Answer::Refusal(Refusal::Header),
+    ),
+    (
+        &FORMAT_JWE,
+        "{\"ciphertext\":\"\",\"unprotected\":{\"alg\":\"A256GCMKW\",\"enc\":\"A128GCM\",\"tag\":\"\"}}",
+        Answer::Refusal(Refusal::Header),
+    ),
+    (
+        &FORMAT_JWE,
+        "{\"ciphertext\":\"\",\"unprotected\":{\"alg\":\"A128GCMKW\",\"enc\":\"A128GCM\",\"iv\":5,\"tag\":\"\"}}",
+        Answer::Refusal(Refusal::Header),
+    ),
+    (
+        &FORMAT_JWE,
+        "{\"ciphertext\":\"\",\"unprotected\":{\"alg\":\"A128KW\",\"enc\":\"A128GCM\",\"iv\":5,\"tag\":\"AB\"}}",
+        Answer::Text(
+            "{\"ciphertext\":\"\",\"unprotected\":{\"alg\":\"A128KW\",\"enc\":\"A128GCM\",\"iv\":5,\"tag\":\"AB\"}}",
+        ),
     ),
     (&FORMAT_JWE, ENCRYPTED, Answer::Text(ENCRYPTED_JSON)),
     (&COMPACT_JWE, ENCRYPTED_JSON, Answer::Text(ENCRYPTED)),

@@ -182,6 +182,58 @@ fn salts_have_eight_octets(rt: HostRuntime) {
     }
 }
 
+/// What `iv` and `tag` hold, and how many octets that is.
+const OCTETS: &[(&str, Result<Option<u64>, Refusal>)] = &[
+    ("\"\"", Ok(Some(0))),
+    ("\"AA\"", Ok(Some(1))),
+    ("\"KkYT0GX_2jHlfqN_\"", Ok(Some(12))),
+    ("\"kfPduVQ3T3H6vnewt--ksw\"", Ok(Some(16))),
+    ("\"KkYT0GX/2jHlfqN/\"", Err(Refusal::Header)),
+    ("\"AA==\"", Err(Refusal::Header)),
+    ("\"AB\"", Err(Refusal::Header)),
+    ("null", Err(Refusal::Header)),
+    ("12", Err(Refusal::Header)),
+];
+
+fn expect_octets_read(
+    rt: &impl Abort,
+    read: Result<Option<Vec<u8>>, Refusal>,
+    expected: Result<Option<u64>, Refusal>,
+    text: &str,
+) {
+    let len = match read {
+        Ok(Some(octets)) => Ok(Some(octets.len() as u64)),
+        Ok(None) => Ok(None),
+        Err(refusal) => Err(refusal),
+    };
+    expect_same(rt, len, expected, text);
+}
+
+/// One of the two names holds this, and the other is absent.
+fn expect_iv<R: Abort + AllocGlobal>(rt: &R, held: &str, expected: Result<Option<u64>, Refusal>) {
+    let text = format!(in rt.alloc(); "{{\"iv\":{held}}}").expect(rt, "memory");
+    let members = read(rt, text.as_str());
+    let header = Header::joint(Some(&members), None, None).expect(rt, "a joint header");
+    expect_octets_read(rt, header.iv(rt.alloc()), expected, held);
+    expect_octets_read(rt, header.tag(rt.alloc()), Ok(None), held);
+}
+
+fn expect_tag<R: Abort + AllocGlobal>(rt: &R, held: &str, expected: Result<Option<u64>, Refusal>) {
+    let text = format!(in rt.alloc(); "{{\"tag\":{held}}}").expect(rt, "memory");
+    let members = read(rt, text.as_str());
+    let header = Header::joint(None, None, Some(&members)).expect(rt, "a joint header");
+    expect_octets_read(rt, header.tag(rt.alloc()), expected, held);
+    expect_octets_read(rt, header.iv(rt.alloc()), Ok(None), held);
+}
+
+#[test]
+fn initialization_vectors_and_tags_have_any_octets(rt: HostRuntime) {
+    for (held, expected) in OCTETS {
+        expect_iv(&rt, held, *expected);
+        expect_tag(&rt, held, *expected);
+    }
+}
+
 /// The parameters of RFC 7517 appendix C.2.
 fn expect_parameters(rt: &impl Abort, header: &Header<'_>) {
     expect_same(rt, header.alg(), Ok(Some("PBES2-HS256+A128KW")), "alg");

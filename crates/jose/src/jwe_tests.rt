@@ -507,7 +507,7 @@ const NOT_ENCRYPTED: &[(&str, &str, Refusal)] = &[
         Refusal::Unsupported,
     ),
     (
-        "{\"protected\":{\"alg\":\"A128GCMKW\"}}",
+        "{\"protected\":{\"alg\":\"RSA-OAEP\"}}",
         "{\"kty\":\"oct\",\"k\":\"GawgguFyGrWKav7AX4VKUg\"}",
         Refusal::Unsupported,
     ),
@@ -534,7 +534,7 @@ const NOT_ENCRYPTED: &[(&str, &str, Refusal)] = &[
     ),
     (
         "{}",
-        "{\"kty\":\"oct\",\"k\":\"GawgguFyGrWKav7AX4VKUg\",\"alg\":\"A128GCMKW\"}",
+        "{\"kty\":\"oct\",\"k\":\"GawgguFyGrWKav7AX4VKUg\",\"alg\":\"RSA-OAEP\"}",
         Refusal::KeyDoesNotFit,
     ),
     (

@@ -14,13 +14,15 @@ const COMPACT: &str =
 const FLATTENED: &str =
     "{\"protected\":\"eyJlbmMiOiJBMTI4Q0JDLUhTMjU2In0\",\"unprotected\":{\"jku\":\"https://server.example.com/keys.jwks\"},\"header\":{\"alg\":\"A128KW\",\"kid\":\"7\"},\"x\":1,\"encrypted_key\":\"6KB707dM9YTIgHtLvtgWQ8mKwboJW3of9locizkDTHzBC2IlrT1oOQ\",\"iv\":\"AxY8DCtDaGlsbGljb3RoZQ\",\"ciphertext\":\"KDlTtXchhZTGufMYmOYGS4HffxPSUrfmqCHXaI9wOGY\",\"tag\":\"Mz-VPPyU4RlcuYv1IwIvzw\"}";
 
-/// Which way the key of a recipient is managed, with the salt input and the count of a password.
+/// Which way the key of a recipient is managed, with the salt input and the count of a password, or the initialization vector of a
+/// key wrap in GCM.
 fn expect_management(rt: &impl Abort, recipient: &Recipient, way: &str, salt: &[u8], count: u64) {
     let (found, p2s, p2c): (&str, &[u8], u64) = match recipient.management() {
         KeyManagement::Unknown => ("unknown", b"", 0),
         KeyManagement::Direct => ("direct", b"", 0),
         KeyManagement::KeyWrap => ("key wrap", b"", 0),
         KeyManagement::Password { p2s, p2c } => ("password", p2s, *p2c),
+        KeyManagement::GcmKeyWrap { iv, .. } => ("key wrap in GCM", iv, 0),
     };
     expect_octets(rt, found.as_bytes(), way.as_bytes(), recipient.alg());
     expect_octets(rt, p2s, salt, recipient.alg());

@@ -60,6 +60,8 @@ mod fault_tests;
 #[cfg(test)]
 mod form_tests;
 #[cfg(test)]
+mod gcm_key_wrap_tests;
+#[cfg(test)]
 mod general_peer_tests;
 #[cfg(test)]
 mod general_tests;

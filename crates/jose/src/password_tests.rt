@@ -449,10 +449,23 @@ fn work_is_told_exactly(rt: HostRuntime) -> Result<(), Fail> {
     Ok(())
 }
 
+/// `LINE`, or a refusal, and this work.
 pub(crate) fn expect_work<R: Abort + AllocGlobal>(
     rt: &R,
     text: &str,
     keys: &str,
+    work: Work,
+    answer: Result<(), Refusal>,
+) -> Result<(), Fail> {
+    expect_opening(rt, text, keys, LINE, work, answer)
+}
+
+/// The plaintext, or a refusal, and this work.
+pub(crate) fn expect_opening<R: Abort + AllocGlobal>(
+    rt: &R,
+    text: &str,
+    keys: &str,
+    plaintext: &[u8],
     work: Work,
     answer: Result<(), Refusal>,
 ) -> Result<(), Fail> {
@@ -465,7 +478,7 @@ pub(crate) fn expect_work<R: Abort + AllocGlobal>(
     expect_octets(
         rt,
         out.octets(),
-        if answer.is_ok() { LINE } else { b"" },
+        if answer.is_ok() { plaintext } else { b"" },
         text,
     );
     Ok(())

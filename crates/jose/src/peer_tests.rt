@@ -160,6 +160,50 @@ const LATCHSET_BY_PASSWORD: &[(&str, &str)] = &[
     ),
 ];
 
+/// By latchset's `jose`, with AES-GCM key wrap.
+const LATCHSET_BY_GCM_KEY_WRAP: &[(&str, &str)] = &[
+    // jose jwe enc -c -i '{"protected":{"alg":"A128GCMKW","enc":"A128CBC-HS256"}}'
+    (
+        "eyJhbGciOiJBMTI4R0NNS1ciLCJlbmMiOiJBMTI4Q0JDLUhTMjU2IiwiaXYiOiJaYlVTX0xvX29JMHF5U0t3IiwidGFnIjoiVVJlaHNOR2M2bHhmWmZKamgxNGx1ZyJ9.swnpIVHUWMqqv-W7C2mWR0kLtc7-WgZjXVdR8ySU5FQ.AE332JBMOcxpesSPMTFEFw.hXh7D-zEiiP23MtVb89T0zrSeKiUA5VrdhLPUVI9QV4.l0GE-w1-iAFrnIXTDkI-xQ",
+        KEY_16,
+    ),
+    // jose jwe enc -i '{"protected":{"alg":"A128GCMKW","enc":"A128CBC-HS256"}}'
+    (
+        "{\"ciphertext\":\"eBuIpPa7HcnZLVriyPcW5jAXzo2sTV8S2JFOsAq2Rqg\",\"encrypted_key\":\"s14UOKpHHU9qt-pOMmWVrGPDNT0AautDZFI5Aid_LBo\",\"header\":{\"iv\":\"s0MHTgelQAiDYVP3\",\"tag\":\"dR5aMkiopqUgIbHWUuP5CQ\"},\"iv\":\"3yWVA0j2-OEykpyaP8ug5A\",\"protected\":\"eyJhbGciOiJBMTI4R0NNS1ciLCJlbmMiOiJBMTI4Q0JDLUhTMjU2In0\",\"tag\":\"gQGuZ2M99img-lm5rVlwbQ\"}",
+        KEY_16,
+    ),
+    // jose jwe enc -i '{"protected":{"alg":"A128GCMKW","enc":"A128CBC-HS256"},"aad":"YQ"}'
+    (
+        "{\"ciphertext\":\"beEW5ZQNrkh7BykEAsS2K9KmLhMWww_GqZNTgBnYUOY\",\"aad\":\"YQ\",\"encrypted_key\":\"GfVd41EUapLjYHr8xsS4riBXAjsedSPmFNQdv3EWG-k\",\"header\":{\"iv\":\"MVucfC187Qp4Jr1B\",\"tag\":\"rP-tx3aqjveolz5k5_OFBA\"},\"iv\":\"UYwuB749KCbsQxkgl5_Fxg\",\"protected\":\"eyJhbGciOiJBMTI4R0NNS1ciLCJlbmMiOiJBMTI4Q0JDLUhTMjU2In0\",\"tag\":\"NjYxtD6CNMZ8xO3bUJBjPA\"}",
+        KEY_16,
+    ),
+    // jose jwe enc -c -i '{"protected":{"alg":"A192GCMKW","enc":"A256GCM"}}'
+    (
+        "eyJhbGciOiJBMTkyR0NNS1ciLCJlbmMiOiJBMjU2R0NNIiwiaXYiOiJLVjZxRmJ0MEZNQmkySmMwIiwidGFnIjoidWs5dS1RN0lLREpkak5XNFhnRzl6USJ9.6ZVbslpP8IMpTPwRu8cEf54fs9GMbqKxhrksIYiNpGs.mheVEO_wVwF1R18w.XCEWmBLTM8WbldBaar06pW-pAimlgQ.6qAAX-_NxS7QyY0CF7YvrA",
+        KEY_24,
+    ),
+    // jose jwe enc -i '{"protected":{"alg":"A192GCMKW","enc":"A256GCM"}}'
+    (
+        "{\"ciphertext\":\"XzsS8IApFVBlhH58eWW1tU2i_0w1aQ\",\"encrypted_key\":\"2IKXG3ndYSIDlJCG1xrugf9zXimRBa6gGLicZnLUubQ\",\"header\":{\"iv\":\"IxAXqXJ2UlmnvBOx\",\"tag\":\"QOFYxwOxjjO2iplyMDdH6g\"},\"iv\":\"9aFO36aBqSp_GG1t\",\"protected\":\"eyJhbGciOiJBMTkyR0NNS1ciLCJlbmMiOiJBMjU2R0NNIn0\",\"tag\":\"tzNLjiS9iwOzKVbHoe1wsQ\"}",
+        KEY_24,
+    ),
+    // jose jwe enc -c -i '{"protected":{"alg":"A256GCMKW","enc":"A192CBC-HS384"}}'
+    (
+        "eyJhbGciOiJBMjU2R0NNS1ciLCJlbmMiOiJBMTkyQ0JDLUhTMzg0IiwiaXYiOiJoaVhTRGctRTNBVUxETnNSIiwidGFnIjoiV0pRMFI4bllsOE5tSnJ3Vi1GZGVHQSJ9.U1kU5SaRxCx9JKn0OZbc7A16Or5xtx0rImDVX3KjW1-UKsRrkn7MgTw6Pg18iFga.nlzQ_Qpkv0vR_tXFP71uVQ.6pQa2G2rOC6LH-iZBwTyNNOq6Cl1d-N9D3IAY0ma8NM.oecEdSl7TdvPDHwalItBCQA-ONKiGAgs",
+        KEY_32,
+    ),
+    // jose jwe enc -i '{"protected":{"alg":"A256GCMKW","enc":"A192CBC-HS384"}}'
+    (
+        "{\"ciphertext\":\"aEWGNfcyUmKYNA64ppwWCvWT43taAH4tonyKeGQFTO4\",\"encrypted_key\":\"Cr79PsKWWy5qD1zWWPXEJ0-emOWamNFKUJetR7__5W3ZQOplWbNlGogTJEsqlgse\",\"header\":{\"iv\":\"uumRmPa4CUrmOAXy\",\"tag\":\"AJ4iBtY1AZZq8leAgSR4oQ\"},\"iv\":\"7jYZPtuvbWEhwtvjDAiDBA\",\"protected\":\"eyJhbGciOiJBMjU2R0NNS1ciLCJlbmMiOiJBMTkyQ0JDLUhTMzg0In0\",\"tag\":\"xS-Bt-2abVbMbHocDfhanVnKvPX6z8z4\"}",
+        KEY_32,
+    ),
+    // jose jwe enc -i '{"protected":{"alg":"A256GCMKW","enc":"A192CBC-HS384"},"aad":"YQ"}'
+    (
+        "{\"ciphertext\":\"54F2nHGQa6qmKdVQl_I5-RRK-IKnd30ojhhm0qjRv9k\",\"aad\":\"YQ\",\"encrypted_key\":\"yHo6A6W_MydBCpjUTRUnXFGDmBOhZNurM0rvHC0Pr2wrFVfbfmetdbgMqqO9yZIO\",\"header\":{\"iv\":\"5df0A1XzaTsBVdUj\",\"tag\":\"CWJyB2--wv09d_YAZ7kLaA\"},\"iv\":\"VWeVt8_d5eHxOjxB2vq5hg\",\"protected\":\"eyJhbGciOiJBMjU2R0NNS1ciLCJlbmMiOiJBMTkyQ0JDLUhTMzg0In0\",\"tag\":\"-PskrRepeFeq54A7mq7RqwUOKOZVlaDP\"}",
+        KEY_32,
+    ),
+];
+
 /// By latchset's `jose`, whose GCM does not authenticate the additional data `aad`.
 const LATCHSET_WRONG: &[(&str, &str)] = &[
     // jose jwe enc -i '{"protected":{"alg":"dir","enc":"A128GCM"},"aad":"YQ"}'
@@ -181,6 +225,11 @@ const LATCHSET_WRONG: &[(&str, &str)] = &[
     (
         "{\"ciphertext\":\"O9qrftyNc65-vdL3n5JsLFdYOksSmw\",\"aad\":\"YQ\",\"encrypted_key\":\"U17DLHb2ennVfEYfhzo3f_e3vGEo90BXxZc4e5Fz_s8AuxpLNxnezw\",\"header\":{\"p2s\":\"WPD3Bx4oGpN5BqtMz0jCCmmlYTEq70DY\"},\"iv\":\"-P-v01kVIIJbjqJf\",\"protected\":\"eyJhbGciOiJQQkVTMi1IUzM4NCtBMTkyS1ciLCJlbmMiOiJBMjU2R0NNIiwicDJjIjoxMDAwfQ\",\"tag\":\"ZuMTEo8BAnmtzh_DQis1zg\"}",
         KEY_8,
+    ),
+    // jose jwe enc -i '{"protected":{"alg":"A192GCMKW","enc":"A256GCM"},"aad":"YQ"}'
+    (
+        "{\"ciphertext\":\"slTyTlvyaUhDs2g9JKCgRfeqPv_Hig\",\"aad\":\"YQ\",\"encrypted_key\":\"p7aQn2jAbAkZxVjLzvDiHVZNddh0sijCCGEwW8v9Mi4\",\"header\":{\"iv\":\"fWxurAfE0Z5s_kyO\",\"tag\":\"AYNqva-Z2RIPtRALLa9MhQ\"},\"iv\":\"o0nGFrw3HOk-JqKo\",\"protected\":\"eyJhbGciOiJBMTkyR0NNS1ciLCJlbmMiOiJBMjU2R0NNIn0\",\"tag\":\"ydN0Y5mmK27BKKSrG5kcfw\"}",
+        KEY_24,
     ),
 ];
 
@@ -342,6 +391,55 @@ const JWCRYPTO_BY_PASSWORD: &[(&str, &str)] = &[
     ),
 ];
 
+/// By jwcrypto, with AES-GCM key wrap.
+const JWCRYPTO_BY_GCM_KEY_WRAP: &[(&str, &str)] = &[
+    // JWE(plaintext, '{"alg":"A128GCMKW","enc":"A128CBC-HS256"}').serialize(True)
+    (
+        "eyJhbGciOiJBMTI4R0NNS1ciLCJlbmMiOiJBMTI4Q0JDLUhTMjU2IiwiaXYiOiJqang4VDFfS3FPYjBVMHBxIiwidGFnIjoiNjJ1a0FXaUh6bVhCVEN1U3J4S2hXUSJ9.jmNu6KTiZM3KtVmbWvPYONPcfR00pNr0nLwPCo_Xqx4.G9he2R-G0Ia0zu15ESsmCw.P9-r90ghuiq2Rj4BfXTLGkF0Svx5mvtMIStVFku_ekI.LZSObq2L6c_m2XkKm6Udpw",
+        KEY_16,
+    ),
+    // JWE(plaintext, '{"alg":"A128GCMKW","enc":"A128CBC-HS256"}').serialize(False)
+    (
+        "{\"ciphertext\":\"49K430no6Kl1QDN4qeUEvO6ldgjQMq7zFAqQkcMBXJ4\",\"encrypted_key\":\"AdQxoEv0J3sUpalKA2_L4ySmrKyqpkbE6qMI9itm98o\",\"header\":{\"iv\":\"uYz46DsGGCDQ9lQ-\",\"tag\":\"AiwpNO925rdmDlqkoGUJ6g\"},\"iv\":\"ak1p8R-arIq27aAU53FBgg\",\"protected\":\"eyJhbGciOiJBMTI4R0NNS1ciLCJlbmMiOiJBMTI4Q0JDLUhTMjU2In0\",\"tag\":\"dYrxxRNOAibz5yGEexYppg\"}",
+        KEY_16,
+    ),
+    // JWE(plaintext, '{"alg":"A128GCMKW","enc":"A128CBC-HS256"}', aad=b'a').serialize(False)
+    (
+        "{\"aad\":\"YQ\",\"ciphertext\":\"jvK34qL3zKTLfH8ycU5r432zC43URlEnnBE4p3kwYG0\",\"encrypted_key\":\"vy38SaaLgEWvCttzgniRbvVcGcLMqrzFXYifc3d5ciY\",\"header\":{\"iv\":\"z87zaAqj75o6Fltl\",\"tag\":\"0xNR8avVXdHqGVnDzqp1YA\"},\"iv\":\"D-leRyexBIArkiy6X1LP7g\",\"protected\":\"eyJhbGciOiJBMTI4R0NNS1ciLCJlbmMiOiJBMTI4Q0JDLUhTMjU2In0\",\"tag\":\"d5CVat2yEMYBQJptTOri1Q\"}",
+        KEY_16,
+    ),
+    // JWE(plaintext, '{"alg":"A192GCMKW","enc":"A256GCM"}').serialize(True)
+    (
+        "eyJhbGciOiJBMTkyR0NNS1ciLCJlbmMiOiJBMjU2R0NNIiwiaXYiOiIxWW9ueEdnM3lKXy1jRmdUIiwidGFnIjoiSjhVX0o4SkJjX1NRTmsxUkNSOUV5USJ9.UEOGC3eov5pnp6Mn2x8iyGdBpFBE1-RuyT86tfnwEMs.4qMZ7gWTT5iGvhV0.2GJPpTcx8vIKOiFruldS143gMyh7UA.BOtlrC16TYiRnDizlnuQmQ",
+        KEY_24,
+    ),
+    // JWE(plaintext, '{"alg":"A192GCMKW","enc":"A256GCM"}').serialize(False)
+    (
+        "{\"ciphertext\":\"YX6G2AOZQO6HqvbddWbSb_N_ykX0TA\",\"encrypted_key\":\"_U-MFYDYT7l8LY3-3OWz8MZ_SbWm9L9qhntx3uI_aWA\",\"header\":{\"iv\":\"kuWi3G238JUxmyWt\",\"tag\":\"tAchpZYDPL3OLrIsO4NKwA\"},\"iv\":\"fMxgGBbNchBTXreQ\",\"protected\":\"eyJhbGciOiJBMTkyR0NNS1ciLCJlbmMiOiJBMjU2R0NNIn0\",\"tag\":\"Ad9-O9ljXfsW_pkVTJg3DA\"}",
+        KEY_24,
+    ),
+    // JWE(plaintext, '{"alg":"A192GCMKW","enc":"A256GCM"}', aad=b'a').serialize(False)
+    (
+        "{\"aad\":\"YQ\",\"ciphertext\":\"c0BkuPNyPawnoTsGmZPI2ZRtUSWl8g\",\"encrypted_key\":\"EGj8zEybXtKISdaYZb3AyJg-TTeA2_yecT-GM0OX5zs\",\"header\":{\"iv\":\"rWH9FWu3qP_oxn2Q\",\"tag\":\"WHNTVydI-glRT0EM6eUH0w\"},\"iv\":\"CZ2fg55ONmhvJGse\",\"protected\":\"eyJhbGciOiJBMTkyR0NNS1ciLCJlbmMiOiJBMjU2R0NNIn0\",\"tag\":\"lxL1bPpb076JCwzZlRfApg\"}",
+        KEY_24,
+    ),
+    // JWE(plaintext, '{"alg":"A256GCMKW","enc":"A192CBC-HS384"}').serialize(True)
+    (
+        "eyJhbGciOiJBMjU2R0NNS1ciLCJlbmMiOiJBMTkyQ0JDLUhTMzg0IiwiaXYiOiJWQWFpbXh2NzBhVU1uV2E3IiwidGFnIjoiUVlzQ25kRUpHVGZmTmo0RmpucWF1USJ9.9WixGVmprpjrOM2KdLXo23-G_31f_1uFW8tnQ-HeTDlb-GIm4GdqQqV99b1pdCzn.2vUeCCjlv4WeHFHq6xxzjw.2eIbVd7MZs1cWWnbGLdJQcrH2yHr7ljgl8Li4aDktsg.v14g7UUUVvZj_t4kqBdiv0XuXlBriFrm",
+        KEY_32,
+    ),
+    // JWE(plaintext, '{"alg":"A256GCMKW","enc":"A192CBC-HS384"}').serialize(False)
+    (
+        "{\"ciphertext\":\"WvPSsXDPRqZkGpu3wV4YHMy14YifuO4faflVMB5aZCs\",\"encrypted_key\":\"OZNpGWnykJneXmT4LAUJRgx4PQNTSm8GrVtmvVyg3lw08ekRqkar8sxch4ZIGe0E\",\"header\":{\"iv\":\"nre6gY5n7UCGAF1Q\",\"tag\":\"XAcwIKqA6lV9MhwqDaXEyw\"},\"iv\":\"BgqFJHpYVLWDJ5GVn9-Wkw\",\"protected\":\"eyJhbGciOiJBMjU2R0NNS1ciLCJlbmMiOiJBMTkyQ0JDLUhTMzg0In0\",\"tag\":\"XxS5pPud5HwxUx3gwkvQvRfd67gCy7ix\"}",
+        KEY_32,
+    ),
+    // JWE(plaintext, '{"alg":"A256GCMKW","enc":"A192CBC-HS384"}', aad=b'a').serialize(False)
+    (
+        "{\"aad\":\"YQ\",\"ciphertext\":\"HsqfcSZIvwlYBWZ2CRRxFeTjiNZ1HES57NNhqi1ovIs\",\"encrypted_key\":\"SFC-qAP0nLWFnapZhI00SPkZog32oMGNYFL88X1GNu4jvGuXCWYGdcEpaMdqh8fW\",\"header\":{\"iv\":\"ZmQqidmcWtZC8ciG\",\"tag\":\"kak2RAFkuuW74oTy4xHRsw\"},\"iv\":\"ehwcESWgLUzuAs8NRudvcg\",\"protected\":\"eyJhbGciOiJBMjU2R0NNS1ciLCJlbmMiOiJBMTkyQ0JDLUhTMzg0In0\",\"tag\":\"gewW-05aPys9sYK8FPSeA9e44MVwG81x\"}",
+        KEY_32,
+    ),
+];
+
 /// The objects are decrypted so.
 fn expect_all<R: Abort + AllocGlobal>(
     rt: &R,
@@ -372,6 +470,11 @@ fn objects_of_latchset_open_by_a_password(rt: HostRuntime) -> Result<(), Fail> {
 }
 
 #[test]
+fn objects_of_latchset_open_by_gcm_key_wrap(rt: HostRuntime) -> Result<(), Fail> {
+    expect_all(&rt, LATCHSET_BY_GCM_KEY_WRAP, Answer::Content(LINE))
+}
+
+#[test]
 fn objects_of_latchset_with_aad_under_gcm_do_not_open(rt: HostRuntime) -> Result<(), Fail> {
     expect_all(&rt, LATCHSET_WRONG, Answer::Refusal(Refusal::NotOpened))
 }
@@ -384,4 +487,9 @@ fn objects_of_jwcrypto_open(rt: HostRuntime) -> Result<(), Fail> {
 #[test]
 fn objects_of_jwcrypto_open_by_a_password(rt: HostRuntime) -> Result<(), Fail> {
     expect_all(&rt, JWCRYPTO_BY_PASSWORD, Answer::Content(LINE))
+}
+
+#[test]
+fn objects_of_jwcrypto_open_by_gcm_key_wrap(rt: HostRuntime) -> Result<(), Fail> {
+    expect_all(&rt, JWCRYPTO_BY_GCM_KEY_WRAP, Answer::Content(LINE))
 }

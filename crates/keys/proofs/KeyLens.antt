@@ -3,7 +3,7 @@ use Rattle.std.proofs.Common.{◌≡◌, ◌≤◌, ℕ, true, false, Bool, if�
 use Rattle.std.proofs.lemmas.Bool.{leb-true}
 use Rattle.octets.specs.declared.refusal.Refusal.TheVariants.{KeyDoesNotFit}
 use Rattle.keys.specs.declared.algorithm.SignatureAlg.TheVariants.{Hs256, Hs384, Hs512}
-use Rattle.keys.specs.declared.algorithm.ManagementAlg.TheVariants.{Dir, A128Kw, A192Kw, A256Kw, Pbes2Hs256A128Kw, Pbes2Hs384A192Kw, Pbes2Hs512A256Kw}
+use Rattle.keys.specs.declared.algorithm.ManagementAlg.TheVariants.{Dir, A128Kw, A192Kw, A256Kw, Pbes2Hs256A128Kw, Pbes2Hs384A192Kw, Pbes2Hs512A256Kw, A128GcmKw, A192GcmKw, A256GcmKw}
 use Rattle.keys.specs.declared.algorithm.EncryptionAlg.TheVariants.{A128CbcHs256, A192CbcHs384, A256CbcHs512, A128Gcm, A192Gcm, A256Gcm}
 use Rattle.keys.specs.declared.algorithm.NamedAlg.{NamedAlg}
 use Rattle.keys.specs.declared.algorithm.NamedAlg.TheVariants.{Signature, Management, Encryption}
@@ -22,6 +22,9 @@ usual_within_limit (Management A256Kw) = refl
 usual_within_limit (Management Pbes2Hs256A128Kw) = refl
 usual_within_limit (Management Pbes2Hs384A192Kw) = refl
 usual_within_limit (Management Pbes2Hs512A256Kw) = refl
+usual_within_limit (Management A128GcmKw) = refl
+usual_within_limit (Management A192GcmKw) = refl
+usual_within_limit (Management A256GcmKw) = refl
 usual_within_limit (Encryption A128CbcHs256) = refl
 usual_within_limit (Encryption A192CbcHs384) = refl
 usual_within_limit (Encryption A256CbcHs512) = refl

@@ -5,7 +5,7 @@ use Rattle.serde_json.specs.View.{view, items_view}
 use Rattle.serde_json.specs.declared.value.Value.{Value}
 use Rattle.octets.specs.declared.refusal.Refusal.{Refusal}
 use Rattle.keys.specs.declared.key.Key.{Key}
-use Rattle.keys.specs.Keys.{OctetKey, octet_key}
+use Rattle.keys.specs.Keys.{OctetKey, AreOctetKeys, octet_key}
 use Rattle.keys.specs.Views.{key_view}
 use Rattle.keys.specs.Limits.{limits}
 use Rattle.keys.specs.KeySets.{before, unless_bad, octet_keys, items_count}
@@ -50,3 +50,8 @@ items_counted (value ∷ values) = ap suc (items_counted values)
 pub keys_counted : (keys : List Key) → length (map key_view keys) ≡ length keys
 keys_counted [] = refl
 keys_counted (key ∷ keys) = ap suc (keys_counted keys)
+
+-- what keys hold is octets
+pub have_octets : (keys : List Key) → AreOctetKeys (map key_view keys)
+have_octets [] = tt
+have_octets (key ∷ keys) = (key.known, have_octets keys)

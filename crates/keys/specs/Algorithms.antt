@@ -1,12 +1,12 @@
 -- The algorithms (RFC 7518 sections 3.1, 4.1 and 5.1): their names, the lengths of their keys, and the operations that they serve.
-use Rattle.std.specs.Prelude.{ℕ, ◌==◌, Bool, true, false, List, [], ◌∷◌, codes, nat_le, Option, Some, None, option_map}
+use Rattle.std.specs.Prelude.{ℕ, ◌==◌, Bool, true, false, List, [], ◌∷◌, ◌++◌, codes, nat_le, Option, Some, None, option_map}
 use Rattle.std.specs.List.{find}
 use Rattle.std.specs.Option.{option_or}
 use Rattle.std.specs.Str.{bytes_eq}
 use Rattle.keys.specs.declared.algorithm.SignatureAlg.{SignatureAlg}
 use Rattle.keys.specs.declared.algorithm.SignatureAlg.TheVariants.{Hs256, Hs384, Hs512}
 use Rattle.keys.specs.declared.algorithm.ManagementAlg.{ManagementAlg}
-use Rattle.keys.specs.declared.algorithm.ManagementAlg.TheVariants.{Dir, A128Kw, A192Kw, A256Kw, Pbes2Hs256A128Kw, Pbes2Hs384A192Kw, Pbes2Hs512A256Kw}
+use Rattle.keys.specs.declared.algorithm.ManagementAlg.TheVariants.{Dir, A128Kw, A192Kw, A256Kw, Pbes2Hs256A128Kw, Pbes2Hs384A192Kw, Pbes2Hs512A256Kw, A128GcmKw, A192GcmKw, A256GcmKw}
 use Rattle.keys.specs.declared.algorithm.EncryptionAlg.{EncryptionAlg}
 use Rattle.keys.specs.declared.algorithm.EncryptionAlg.TheVariants.{A128CbcHs256, A192CbcHs384, A256CbcHs512, A128Gcm, A192Gcm, A256Gcm}
 use Rattle.keys.specs.declared.algorithm.Algorithm.{Algorithm}
@@ -38,9 +38,20 @@ management_name A256Kw = codes "A256KW"
 management_name Pbes2Hs256A128Kw = codes "PBES2-HS256+A128KW"
 management_name Pbes2Hs384A192Kw = codes "PBES2-HS384+A192KW"
 management_name Pbes2Hs512A256Kw = codes "PBES2-HS512+A256KW"
+management_name A128GcmKw = codes "A128GCMKW"
+management_name A192GcmKw = codes "A192GCMKW"
+management_name A256GcmKw = codes "A256GCMKW"
+
+-- those but the key wrap by AES in GCM
+abbrev pub earlier_management_algs : List ManagementAlg
+earlier_management_algs = Dir ∷ A128Kw ∷ A192Kw ∷ A256Kw ∷ Pbes2Hs256A128Kw ∷ Pbes2Hs384A192Kw ∷ Pbes2Hs512A256Kw ∷ []
+
+-- key wrap by AES in GCM (section 4.7)
+abbrev pub gcm_management_algs : List ManagementAlg
+gcm_management_algs = A128GcmKw ∷ A192GcmKw ∷ A256GcmKw ∷ []
 
 abbrev pub management_algs : List ManagementAlg
-management_algs = Dir ∷ A128Kw ∷ A192Kw ∷ A256Kw ∷ Pbes2Hs256A128Kw ∷ Pbes2Hs384A192Kw ∷ Pbes2Hs512A256Kw ∷ []
+management_algs = earlier_management_algs ++ gcm_management_algs
 
 -- content encryption: the values of `enc`
 abbrev pub encryption_name : EncryptionAlg → List ℕ
@@ -102,7 +113,7 @@ cek_len A128Gcm = 16
 cek_len A192Gcm = 24
 cek_len A256Gcm = 32
 
--- the key of the wrap (section 4.4), or a password (section 4.8); that of direct encryption is as long as `enc` says
+-- the key of the wrap (sections 4.4 and 4.7), or a password (section 4.8); that of direct encryption is as long as `enc` says
 abbrev pub management_key_len : ManagementAlg → KeyLen
 management_key_len Dir = Any
 management_key_len A128Kw = Exactly 16
@@ -111,6 +122,9 @@ management_key_len A256Kw = Exactly 32
 management_key_len Pbes2Hs256A128Kw = Any
 management_key_len Pbes2Hs384A192Kw = Any
 management_key_len Pbes2Hs512A256Kw = Any
+management_key_len A128GcmKw = Exactly 16
+management_key_len A192GcmKw = Exactly 24
+management_key_len A256GcmKw = Exactly 32
 
 -- a key of any octets, from which a key of the wrap is derived (section 4.8)
 abbrev pub is_password_based : ManagementAlg → Bool
@@ -121,6 +135,9 @@ is_password_based A256Kw = false
 is_password_based Pbes2Hs256A128Kw = true
 is_password_based Pbes2Hs384A192Kw = true
 is_password_based Pbes2Hs512A256Kw = true
+is_password_based A128GcmKw = false
+is_password_based A192GcmKw = false
+is_password_based A256GcmKw = false
 
 -- with `enc`, the key of direct encryption is the content encryption key (section 4.5)
 abbrev pub key_len : Algorithm → KeyLen
@@ -151,6 +168,9 @@ management_operations A256Kw = (WrapKey, UnwrapKey)
 management_operations Pbes2Hs256A128Kw = (WrapByPassword, UnwrapByPassword)
 management_operations Pbes2Hs384A192Kw = (WrapByPassword, UnwrapByPassword)
 management_operations Pbes2Hs512A256Kw = (WrapByPassword, UnwrapByPassword)
+management_operations A128GcmKw = (WrapKey, UnwrapKey)
+management_operations A192GcmKw = (WrapKey, UnwrapKey)
+management_operations A256GcmKw = (WrapKey, UnwrapKey)
 
 abbrev pub operations : NamedAlg → Operation × Operation
 operations (named.Signature alg) = (Sign, Verify)

@@ -32,6 +32,12 @@ pub enum ManagementAlg {
     Pbes2Hs384A192Kw,
     /// AES key wrap with a key of 256 bits that is derived from a password.
     Pbes2Hs512A256Kw,
+    /// Key wrap by AES in GCM with a key of 128 bits (RFC 7518 section 4.7).
+    A128GcmKw,
+    /// Key wrap by AES in GCM with a key of 192 bits.
+    A192GcmKw,
+    /// Key wrap by AES in GCM with a key of 256 bits.
+    A256GcmKw,
 }
 
 /// An algorithm of content encryption (RFC 7518 section 5.1): a value of `enc`.
@@ -127,6 +133,9 @@ impl ManagementAlg {
             "PBES2-HS256+A128KW" => Some(ManagementAlg::Pbes2Hs256A128Kw),
             "PBES2-HS384+A192KW" => Some(ManagementAlg::Pbes2Hs384A192Kw),
             "PBES2-HS512+A256KW" => Some(ManagementAlg::Pbes2Hs512A256Kw),
+            "A128GCMKW" => Some(ManagementAlg::A128GcmKw),
+            "A192GCMKW" => Some(ManagementAlg::A192GcmKw),
+            "A256GCMKW" => Some(ManagementAlg::A256GcmKw),
             _ => None,
         }
     }
@@ -145,6 +154,9 @@ impl ManagementAlg {
             ManagementAlg::Pbes2Hs256A128Kw => "PBES2-HS256+A128KW",
             ManagementAlg::Pbes2Hs384A192Kw => "PBES2-HS384+A192KW",
             ManagementAlg::Pbes2Hs512A256Kw => "PBES2-HS512+A256KW",
+            ManagementAlg::A128GcmKw => "A128GCMKW",
+            ManagementAlg::A192GcmKw => "A192GCMKW",
+            ManagementAlg::A256GcmKw => "A256GCMKW",
         }
     }
 
@@ -153,9 +165,9 @@ impl ManagementAlg {
         ensures { result ≡ management_key_len self }
     {
         match self {
-            ManagementAlg::A128Kw => KeyLen::Exactly(16),
-            ManagementAlg::A192Kw => KeyLen::Exactly(24),
-            ManagementAlg::A256Kw => KeyLen::Exactly(32),
+            ManagementAlg::A128Kw | ManagementAlg::A128GcmKw => KeyLen::Exactly(16),
+            ManagementAlg::A192Kw | ManagementAlg::A192GcmKw => KeyLen::Exactly(24),
+            ManagementAlg::A256Kw | ManagementAlg::A256GcmKw => KeyLen::Exactly(32),
             ManagementAlg::Dir
             | ManagementAlg::Pbes2Hs256A128Kw
             | ManagementAlg::Pbes2Hs384A192Kw
@@ -171,7 +183,10 @@ impl ManagementAlg {
             ManagementAlg::Dir
             | ManagementAlg::A128Kw
             | ManagementAlg::A192Kw
-            | ManagementAlg::A256Kw => false,
+            | ManagementAlg::A256Kw
+            | ManagementAlg::A128GcmKw
+            | ManagementAlg::A192GcmKw
+            | ManagementAlg::A256GcmKw => false,
             ManagementAlg::Pbes2Hs256A128Kw
             | ManagementAlg::Pbes2Hs384A192Kw
             | ManagementAlg::Pbes2Hs512A256Kw => true,
@@ -184,9 +199,12 @@ impl ManagementAlg {
     {
         match self {
             ManagementAlg::Dir => (Operation::Encrypt, Operation::Decrypt),
-            ManagementAlg::A128Kw | ManagementAlg::A192Kw | ManagementAlg::A256Kw => {
-                (Operation::WrapKey, Operation::UnwrapKey)
-            }
+            ManagementAlg::A128Kw
+            | ManagementAlg::A192Kw
+            | ManagementAlg::A256Kw
+            | ManagementAlg::A128GcmKw
+            | ManagementAlg::A192GcmKw
+            | ManagementAlg::A256GcmKw => (Operation::WrapKey, Operation::UnwrapKey),
             ManagementAlg::Pbes2Hs256A128Kw
             | ManagementAlg::Pbes2Hs384A192Kw
             | ManagementAlg::Pbes2Hs512A256Kw => {

@@ -1,9 +1,18 @@
 //! Facts of the definitions alone.
 ghost use Rattle.keys.specs.Json.{KeepFloatsOut};
 ghost use Rattle.keys.specs.JsonTexts.{CompactTextReadsBack, DeepTextsAreRefused, KeepJson, ReadsJson, UrlTextsAreJson};
+ghost use Rattle.keys.specs.Keys.{AreOctetKeys};
 ghost use Rattle.keys.specs.KeySets.{KeysHaveOctets};
 
+use crate::set::KeySet;
 use octets::laws::base64url_decodes_to_octets;
+
+/// The keys of a set have octets. A caller says so of a set that it is given.
+pub fn are_octet_keys(keys: &KeySet)
+    ensures { AreOctetKeys keys.now }
+{
+    keys.keys();
+}
 
 /// Members whose numbers are whole have no float, nor have those of a value without floats, and one may be put in. So what
 /// `read_json` gives, and what is made of it, has a compact text.

@@ -18,6 +18,7 @@ mod key_template;
 pub mod laws;
 mod limits;
 mod members;
+mod octet_key;
 mod operation;
 mod set;
 mod texts;

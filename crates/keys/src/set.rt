@@ -4,12 +4,14 @@ ghost use Rattle.serde_json.specs.Find.{as_array};
 ghost use Rattle.serde_json.specs.View.{view, items_view};
 ghost use Rattle.octets.specs.Outcomes.{AgreesUnlessMemory};
 ghost use Rattle.keys.specs.KeySets.{key_set, value_keys, key_objects, object_list, octet_keys, are_objects};
+ghost use Rattle.keys.specs.Keys.{AreOctetKeys};
 ghost use Rattle.keys.specs.Limits.{limits};
 ghost use Rattle.keys.specs.Views.{key_view};
 
 use crate::json_values::{is_object, read_json};
-use crate::key::{Key, read_key};
+use crate::key::Key;
 use crate::limits::MOST_KEYS;
+use crate::octet_key::read_key;
 use octets::{Refusal, needs};
 use serde_json::Value;
 use std::alloc::Global;
@@ -50,9 +52,11 @@ impl KeySet {
     }
 
     /// The keys, in the order of the text.
+    #[tactic(auto, using(crate::proofs::KeyLists::have_octets))]
     pub fn keys(&self) -> &[Key]
         ensures list { map key_view result.now ≡ self.now }
         ensures few { length result.now ≤ limits.keys }
+        ensures octets { AreOctetKeys self.now }
     {
         &self.keys
     }

@@ -8,9 +8,9 @@ use Rattle.octets.specs.declared.refusal.Refusal.TheVariants.{Header}
 use Rattle.octets.specs.Base64url.{decoded}
 use Rattle.octets.specs.Outcomes.{needs}
 use Rattle.keys.specs.declared.algorithm.ManagementAlg.{ManagementAlg}
-use Rattle.keys.specs.declared.algorithm.ManagementAlg.TheVariants.{Dir, A128Kw, A192Kw, A256Kw, Pbes2Hs256A128Kw, Pbes2Hs384A192Kw, Pbes2Hs512A256Kw}
-use Rattle.objects.specs.Headers.{string_parameter, number_parameter, salt, salt_if_there, salt_parameter}
-use Rattle.objects.specs.KeyManagement.{KeyManagement, Unknown, Direct, KeyWrap, Password, password_management, management_by, is_password, is_management_of}
+use Rattle.keys.specs.declared.algorithm.ManagementAlg.TheVariants.{Dir, A128Kw, A192Kw, A256Kw, Pbes2Hs256A128Kw, Pbes2Hs384A192Kw, Pbes2Hs512A256Kw, A128GcmKw, A192GcmKw, A256GcmKw}
+use Rattle.objects.specs.Headers.{string_parameter, number_parameter, salt, salt_if_there, salt_parameter, octets_parameter}
+use Rattle.objects.specs.KeyManagement.{KeyManagement, Unknown, Direct, KeyWrap, Password, GcmKeyWrap, password_management, gcm_management, management_by, is_password, is_management_of}
 use Rattle.objects.proofs.Steps.{steps, passed, same_answer, is_there}
 
 -- a salt that is read has at least 8 octets
@@ -46,6 +46,15 @@ password_is header m h =
     let there : salt_parameter (codes "p2s") header ≡ Ok (Some p2s.0) = salt.1 ∙ ap Ok (is_there salt.0 Header p2s.0 p2s.1) in
     (p2s.0, p2c.0, and_from (nat_le 8 (length p2s.0)) (nat_le 1 p2c.0) (salt_is_long header p2s.0 there) (passed _ Header some.0 some.1), same_answer _ m some.2)
 
+gcm_is : (header : Members) (m : KeyManagement) → gcm_management header ≡ Ok m → (iv : List ℕ) × (tag : List ℕ) × (GcmKeyWrap iv tag ≡ m)
+unfolding gcm_management
+gcm_is header m h =
+    let iv_there = steps (octets_parameter (codes "iv") header) _ m h in
+    let iv = steps (ok_or iv_there.0 Header) _ m iv_there.2 in
+    let tag_there = steps (octets_parameter (codes "tag") header) _ m iv.2 in
+    let tag = steps (ok_or tag_there.0 Header) _ m tag_there.2 in
+    (iv.0, tag.0, same_answer _ m tag.2)
+
 pub management_is : (alg : Option ManagementAlg) (header : Members) (m : KeyManagement) → management_by alg header ≡ Ok m → is_management_of alg m ≡ true
 management_is None header m h = let same : Unknown ≡ m = cc h in rw (sym same) refl
 management_is (Some Dir) header m h = let same : Direct ≡ m = cc h in rw (sym same) refl
@@ -55,3 +64,6 @@ management_is (Some A256Kw) header m h = let same : KeyWrap ≡ m = cc h in rw (
 management_is (Some Pbes2Hs256A128Kw) header m h = let is = password_is header m h in rw (sym is.3) is.2
 management_is (Some Pbes2Hs384A192Kw) header m h = let is = password_is header m h in rw (sym is.3) is.2
 management_is (Some Pbes2Hs512A256Kw) header m h = let is = password_is header m h in rw (sym is.3) is.2
+management_is (Some A128GcmKw) header m h = let is = gcm_is header m h in rw (sym is.2) refl
+management_is (Some A192GcmKw) header m h = let is = gcm_is header m h in rw (sym is.2) refl
+management_is (Some A256GcmKw) header m h = let is = gcm_is header m h in rw (sym is.2) refl

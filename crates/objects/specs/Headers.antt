@@ -114,6 +114,20 @@ salt_parameter name header = do
   text ← string_parameter name header
   salt_if_there text
 
+-- `iv` and `tag` (RFC 7518 sections 4.7.1.1 and 4.7.1.2): base64url texts
+abbrev pub parameter_octets : Result (List ℕ) Refusal → Result (Option (List ℕ)) Refusal
+parameter_octets (Ok octets) = Ok (Some octets)
+parameter_octets (Err refusal) = Err Header
+
+abbrev pub octets_if_there : Option (List ℕ) → Result (Option (List ℕ)) Refusal
+octets_if_there None = Ok None
+octets_if_there (Some text) = parameter_octets (decoded text)
+
+unfoldable pub octets_parameter : List ℕ → Members → Result (Option (List ℕ)) Refusal
+octets_parameter name header = do
+  text ← string_parameter name header
+  octets_if_there text
+
 -- ---- members that are refused
 
 -- no `crit` (RFC 7515 section 4.1.11): no extension is known

@@ -8,7 +8,7 @@ ghost use Rattle.serde_json.specs.Find.{get_member};
 ghost use Rattle.serde_json.specs.View.{view, members_view};
 ghost use Rattle.serde_json.specs.Written.{has_float, members_have_float};
 ghost use Rattle.keys.specs.Json.{member_numbers_are_whole};
-ghost use Rattle.objects.specs.Headers.{header_at, members_of_json, protected_members, overlap as overlap_of, joint_header, string_parameter, number_parameter, salt, salt_parameter, has_no_crit};
+ghost use Rattle.objects.specs.Headers.{header_at, members_of_json, protected_members, overlap as overlap_of, joint_header, string_parameter, number_parameter, salt, salt_parameter, parameter_octets, octets_parameter, has_no_crit};
 ghost use Rattle.objects.specs.Texts.{has_members};
 ghost use Rattle.objects.specs.Views.{header_view, part_view};
 
@@ -229,6 +229,37 @@ impl<'m> Header<'m> {
         }
     }
 
+    /// `iv`, the initialization vector of a key wrap by AES in GCM, where it is there (RFC 7518 section
+    /// 4.7.1.1). Refused with `Header` where it is no base64url text.
+    pub fn iv(&self, alloc: Global) -> Result<Option<Vec<u8>>, Refusal>
+        ensures { AgreesUnlessMemory (option_map (λ octets. octets.items)) result
+            (octets_parameter (codes "iv") (header_view self.now)) }
+    {
+        self.octets(alloc, "iv")
+    }
+
+    /// `tag`, the tag of a key wrap by AES in GCM, where it is there (RFC 7518 section 4.7.1.2). Refused
+    /// with `Header` where it is no base64url text.
+    pub fn tag(&self, alloc: Global) -> Result<Option<Vec<u8>>, Refusal>
+        ensures { AgreesUnlessMemory (option_map (λ octets. octets.items)) result
+            (octets_parameter (codes "tag") (header_view self.now)) }
+    {
+        self.octets(alloc, "tag")
+    }
+
+    /// The octets whose text is this member, where it is there. Refused with `Header` where it is no
+    /// base64url text.
+    #[tactic(auto, unfolding(crate::specs::Headers::octets_parameter))]
+    fn octets(&self, alloc: Global, name: &str) -> Result<Option<Vec<u8>>, Refusal>
+        ensures { AgreesUnlessMemory (option_map (λ octets. octets.items)) result
+            (octets_parameter name.now (header_view self.now)) }
+    {
+        match self.string(name)? {
+            None => Ok(None),
+            Some(text) => Ok(Some(read_octets(alloc, text.as_bytes())?)),
+        }
+    }
+
     /// The text of this member, where it is there. Refused with `Header` where it is no string.
     #[tactic(auto, unfolding(crate::specs::Headers::string_parameter))]
     fn string(&self, name: &str) -> Result<Option<&'m str>, Refusal>
@@ -269,12 +300,19 @@ fn parts_overlap(part: Option<&Map<String, Value>>, other: Option<&Map<String, V
 fn read_salt(alloc: Global, text: &[u8]) -> Result<Vec<u8>, Refusal>
     ensures { AgreesUnlessMemory (λ octets. Some octets.items) result (salt (decoded text.now)) }
 {
-    let octets = match b64_decode(alloc, text) {
-        Err(Refusal::Base64) => return Err(Refusal::Header),
-        result => result?,
-    };
+    let octets = read_octets(alloc, text)?;
     needs(octets.len() >= 8, Refusal::Header)?;
     Ok(octets)
+}
+
+/// The octets of a parameter's text.
+fn read_octets(alloc: Global, text: &[u8]) -> Result<Vec<u8>, Refusal>
+    ensures { AgreesUnlessMemory (λ octets. Some octets.items) result (parameter_octets (decoded text.now)) }
+{
+    match b64_decode(alloc, text) {
+        Err(Refusal::Base64) => Err(Refusal::Header),
+        result => result,
+    }
 }
 
 /// The text of a parameter that must be there.

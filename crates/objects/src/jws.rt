@@ -131,8 +131,9 @@ impl Jws {
     /// where there are more than 64 signatures; `Base64`; then, of each protected header in order, `Json`, `Number`, and
     /// `Header` where it is no object; `Header` where a joint header is none, has no `alg` or one that is no string, or, where
     /// that derives a key from a password (RFC 7518 section 4.8), has no `p2s` that is the base64url text of at least 8 octets
-    /// or no `p2c` that is a whole number from 1; and `Unsupported` where a header has a `crit`, whatever that holds (RFC 7515
-    /// section 4.1.11).
+    /// or no `p2c` that is a whole number from 1, or, where it wraps a key by AES in GCM (RFC 7518 section 4.7), has no `iv` or
+    /// no `tag` that is a base64url text; and `Unsupported` where a header has a `crit`, whatever that holds (RFC 7515 section
+    /// 4.1.11).
     pub fn read(alloc: Global, text: &[u8], detached: Option<Vec<u8>>) -> Result<Jws, Refusal>
         ensures exact { AgreesUnlessMemory jws_view result (jws_of limits (option_map (λ c. c.items) detached) text.now) }
         ensures made { IfOk result (λ jws. IsMade limits (jws_view jws)) }

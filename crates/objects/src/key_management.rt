@@ -3,7 +3,7 @@ ghost use Rattle.std.specs.Prelude.{◌≡◌, true, IfOk};
 ghost use Rattle.octets.specs.Outcomes.{AgreesUnlessMemory};
 ghost use Rattle.keys.specs.Algorithms.{management_alg_of};
 ghost use Rattle.keys.specs.Limits.{limits};
-ghost use Rattle.objects.specs.KeyManagement.{key_management, management_by, password_management, is_management_of};
+ghost use Rattle.objects.specs.KeyManagement.{key_management, management_by, password_management, gcm_management, is_management_of};
 ghost use Rattle.objects.specs.KeyManagementView.{management_view};
 ghost use Rattle.objects.specs.Views.{header_view};
 
@@ -28,6 +28,13 @@ pub enum KeyManagement {
         p2s: Vec<u8>,
         /// The count of iterations of PBKDF2, which is 1 or more (section 4.8.1.2).
         p2c: u64,
+    },
+    /// Key wrap by AES in GCM (section 4.7).
+    GcmKeyWrap {
+        /// The initialization vector, of any length (section 4.7.1.1). One that is not of 12 octets delivers nothing.
+        iv: Vec<u8>,
+        /// The tag, of any length (section 4.7.1.2). One that is not of 16 octets delivers nothing.
+        tag: Vec<u8>,
     },
 }
 
@@ -62,6 +69,9 @@ fn read_management(
             | ManagementAlg::Pbes2Hs384A192Kw
             | ManagementAlg::Pbes2Hs512A256Kw,
         ) => read_password(alloc, header),
+        Some(ManagementAlg::A128GcmKw | ManagementAlg::A192GcmKw | ManagementAlg::A256GcmKw) => {
+            read_gcm_key_wrap(alloc, header)
+        }
     }
 }
 
@@ -74,4 +84,14 @@ fn read_password(alloc: Global, header: Header<'_>) -> Result<KeyManagement, Ref
     let p2c = header.p2c()?.ok_or(Refusal::Header)?;
     needs(p2c >= 1, Refusal::Header)?;
     Ok(KeyManagement::Password { p2s, p2c })
+}
+
+/// The parameters of a key wrap by AES in GCM (section 4.7.1).
+#[tactic(auto, unfolding(crate::specs::KeyManagement::gcm_management))]
+fn read_gcm_key_wrap(alloc: Global, header: Header<'_>) -> Result<KeyManagement, Refusal>
+    ensures { AgreesUnlessMemory management_view result (gcm_management (header_view header.entry)) }
+{
+    let iv = header.iv(alloc)?.ok_or(Refusal::Header)?;
+    let tag = header.tag(alloc)?.ok_or(Refusal::Header)?;
+    Ok(KeyManagement::GcmKeyWrap { iv, tag })
 }

@@ -44,8 +44,9 @@ pub struct Recipient {
 }
 
 /// The recipient, by the other parts of its joint header. Refused with `Header` where a name stands in two parts;
-/// where `alg` or `enc` is absent or no string; and, where the algorithm derives a key from a password, where `p2s`
-/// is not the base64url text of at least 8 octets, or `p2c` no whole number from 1.
+/// where `alg` or `enc` is absent or no string; where the algorithm derives a key from a password, where `p2s` is not the
+/// base64url text of at least 8 octets, or `p2c` no whole number from 1; and, where it wraps a key by AES in GCM, where
+/// `iv` or `tag` is no base64url text.
 #[tactic(auto, unfolding(crate::specs::Jwe::recipient_of, crate::specs::Jwe::recipient_by, crate::specs::Headers::string_there))]
 pub(crate) fn read_recipient(
     alloc: Global,

@@ -8,7 +8,7 @@ use Rattle.std.specs.Str.{bytes_eq}
 use Rattle.keys.specs.declared.algorithm.EncryptionAlg.{EncryptionAlg}
 use Rattle.keys.specs.declared.algorithm.EncryptionAlg.TheVariants.{A128CbcHs256, A192CbcHs384, A256CbcHs512, A128Gcm, A192Gcm, A256Gcm}
 use Rattle.keys.specs.declared.algorithm.ManagementAlg.{ManagementAlg}
-use Rattle.keys.specs.declared.algorithm.ManagementAlg.TheVariants.{Dir, A128Kw, A192Kw, A256Kw, Pbes2Hs256A128Kw, Pbes2Hs384A192Kw, Pbes2Hs512A256Kw}
+use Rattle.keys.specs.declared.algorithm.ManagementAlg.TheVariants.{Dir, A128Kw, A192Kw, A256Kw, Pbes2Hs256A128Kw, Pbes2Hs384A192Kw, Pbes2Hs512A256Kw, A128GcmKw, A192GcmKw, A256GcmKw}
 use Rattle.keys.specs.Algorithms.{management_name, encryption_name, management_algs, encryption_algs, management_alg_among, management_alg_of, encryption_alg_of}
 
 -- the name of a key management names it
@@ -21,6 +21,9 @@ management_named A256Kw = refl
 management_named Pbes2Hs256A128Kw = refl
 management_named Pbes2Hs384A192Kw = refl
 management_named Pbes2Hs512A256Kw = refl
+management_named A128GcmKw = refl
+management_named A192GcmKw = refl
+management_named A256GcmKw = refl
 
 -- so does that of a content encryption
 pub encryption_named : (enc : EncryptionAlg) → encryption_alg_of (encryption_name enc) ≡ Some enc
@@ -70,6 +73,9 @@ management_is_text A256Kw = ascii_is_text (codes "A256KW") refl
 management_is_text Pbes2Hs256A128Kw = ascii_is_text (codes "PBES2-HS256+A128KW") refl
 management_is_text Pbes2Hs384A192Kw = ascii_is_text (codes "PBES2-HS384+A192KW") refl
 management_is_text Pbes2Hs512A256Kw = ascii_is_text (codes "PBES2-HS512+A256KW") refl
+management_is_text A128GcmKw = ascii_is_text (codes "A128GCMKW") refl
+management_is_text A192GcmKw = ascii_is_text (codes "A192GCMKW") refl
+management_is_text A256GcmKw = ascii_is_text (codes "A256GCMKW") refl
 
 -- so is that of a content encryption
 pub encryption_is_text : (enc : EncryptionAlg) → IsUtf8 (encryption_name enc)

@@ -8,7 +8,7 @@ use Rattle.keys.specs.declared.algorithm.Algorithm.TheVariants.{Encryption}
 use Rattle.keys.specs.declared.algorithm.EncryptionAlg.{EncryptionAlg}
 use Rattle.keys.specs.declared.algorithm.EncryptionAlg.TheVariants.{A128CbcHs256, A192CbcHs384, A256CbcHs512, A128Gcm, A192Gcm, A256Gcm}
 use Rattle.keys.specs.declared.algorithm.ManagementAlg.{ManagementAlg}
-use Rattle.keys.specs.declared.algorithm.ManagementAlg.TheVariants.{Dir, A128Kw, A192Kw, A256Kw, Pbes2Hs256A128Kw, Pbes2Hs384A192Kw, Pbes2Hs512A256Kw}
+use Rattle.keys.specs.declared.algorithm.ManagementAlg.TheVariants.{Dir, A128Kw, A192Kw, A256Kw, Pbes2Hs256A128Kw, Pbes2Hs384A192Kw, Pbes2Hs512A256Kw, A128GcmKw, A192GcmKw, A256GcmKw}
 use Rattle.keys.specs.Algorithms.{key_len, has_len, cek_len}
 use Rattle.keys.specs.Keys.{OctetKey, fits}
 use Rattle.objects.specs.KeyManagement.{KeyManagement, Password, is_management_of}
@@ -27,6 +27,9 @@ by_length A256Kw enc key h = eqb-true (length key.octets) 32 h
 by_length Pbes2Hs256A128Kw enc key h = tt
 by_length Pbes2Hs384A192Kw enc key h = tt
 by_length Pbes2Hs512A256Kw enc key h = tt
+by_length A128GcmKw enc key h = eqb-true (length key.octets) 16 h
+by_length A192GcmKw enc key h = eqb-true (length key.octets) 24 h
+by_length A256GcmKw enc key h = eqb-true (length key.octets) 32 h
 
 pub is_key_of : (alg : ManagementAlg) (enc : EncryptionAlg) (key : OctetKey) → fits key (Encryption alg enc) ≡ true → IsKeyOf (key_alg alg) key.octets
 unfolding fits
@@ -44,6 +47,9 @@ counts Pbes2Hs384A192Kw (Password p2s p2c) h = leb-true 1 p2c (last (nat_le 8 (l
 counts Pbes2Hs384A192Kw m h = cc h
 counts Pbes2Hs512A256Kw (Password p2s p2c) h = leb-true 1 p2c (last (nat_le 8 (length p2s)) (nat_le 1 p2c) h)
 counts Pbes2Hs512A256Kw m h = cc h
+counts A128GcmKw m h = tt
+counts A192GcmKw m h = tt
+counts A256GcmKw m h = tt
 
 -- both crates give a content encryption key the same length
 pub same_cek_len : (enc : EncryptionAlg) → cek_len enc ≡ ciphers.cek_len (content_alg enc)

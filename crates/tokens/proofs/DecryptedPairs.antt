@@ -4,19 +4,20 @@ use Rattle.std.proofs.Common.{◌≡◌, ℕ, suc, ◌+◌, ◌*◌, ◌≤◌, 
 use Rattle.std.proofs.lemmas.Bool.{and_from, or_left, le-leb}
 use Rattle.std.specs.List.{AllByRecursion, list_all, list_any}
 use Rattle.std.specs.Option.{option_or}
+use Rattle.ciphers.specs.Delivery.{key_tag_of}
 use Rattle.keys.specs.declared.algorithm.ManagementAlg.{ManagementAlg}
-use Rattle.keys.specs.declared.algorithm.ManagementAlg.TheVariants.{Dir, A128Kw, A192Kw, A256Kw, Pbes2Hs256A128Kw, Pbes2Hs384A192Kw, Pbes2Hs512A256Kw}
+use Rattle.keys.specs.declared.algorithm.ManagementAlg.TheVariants.{Dir, A128Kw, A192Kw, A256Kw, Pbes2Hs256A128Kw, Pbes2Hs384A192Kw, Pbes2Hs512A256Kw, A128GcmKw, A192GcmKw, A256GcmKw}
 use Rattle.keys.specs.Algorithms.{is_password_based}
 use Rattle.keys.specs.Keys.{OctetKey}
 use Rattle.keys.specs.Limits.{limits}
 use Rattle.objects.specs.Jwe.{EncryptedObject}
-use Rattle.tokens.specs.Algorithms.{Algorithms}
+use Rattle.tokens.specs.Algorithms.{Algorithms, key_alg}
 use Rattle.tokens.specs.Choosing.{Receiver, passwords, Encryption}
 use Rattle.tokens.specs.Decrypting.{algorithms_of, is_candidate, Pair, pairs_of, all_pairs, has_pairs, iterations_by, iterations_of, all_iterations, pairs_to_try, SealedContent, sealed_content, opened_by, first_opened, decrypted}
-use Rattle.tokens.specs.Encrypting.{salt_drawn}
+use Rattle.tokens.specs.Delivering.{drawn_for, parameters_with, management_with}
 use Rattle.tokens.proofs.AlgorithmNames.{management_named, encryption_named}
-use Rattle.tokens.proofs.EncryptedHeaders.{salted, made_by}
-use Rattle.tokens.proofs.JointParameters.{delivery_by}
+use Rattle.tokens.proofs.DeliveredKeys.{with_drawn}
+use Rattle.tokens.proofs.EncryptedHeaders.{made_by}
 
 -- ---- the pairs
 
@@ -51,14 +52,17 @@ pub record TakeAtMost (n : ℕ) (pairs : List Pair) : Type 0 where
   pub all_few : all_iterations pairs ≤ n
 
 -- a password alone takes iterations
-iterations_are : (alg : ManagementAlg) (salt : List ℕ) (p2c : ℕ) → iterations_by (delivery_by alg salt p2c) ≡ (if is_password_based alg then p2c else 0)
-iterations_are Dir salt p2c = refl
-iterations_are A128Kw salt p2c = refl
-iterations_are A192Kw salt p2c = refl
-iterations_are A256Kw salt p2c = refl
-iterations_are Pbes2Hs256A128Kw salt p2c = refl
-iterations_are Pbes2Hs384A192Kw salt p2c = refl
-iterations_are Pbes2Hs512A256Kw salt p2c = refl
+iterations_are : (alg : ManagementAlg) (drawn : List ℕ) (p2c : ℕ) (tag : List ℕ) → iterations_by (management_with alg drawn p2c tag) ≡ (if is_password_based alg then p2c else 0)
+iterations_are Dir drawn p2c tag = refl
+iterations_are A128Kw drawn p2c tag = refl
+iterations_are A192Kw drawn p2c tag = refl
+iterations_are A256Kw drawn p2c tag = refl
+iterations_are Pbes2Hs256A128Kw drawn p2c tag = refl
+iterations_are Pbes2Hs384A192Kw drawn p2c tag = refl
+iterations_are Pbes2Hs512A256Kw drawn p2c tag = refl
+iterations_are A128GcmKw drawn p2c tag = refl
+iterations_are A192GcmKw drawn p2c tag = refl
+iterations_are A256GcmKw drawn p2c tag = refl
 
 -- one more receiver counts for the iterations of its pair
 one_more : (password : Bool) (n p2c : ℕ) → (password ≡ true → p2c ≤ 1000000)
@@ -67,20 +71,21 @@ one_more true n p2c few = (few refl, omega arith)
 one_more false n p2c few = (omega arith, omega arith)
 
 -- so the pairs of all recipients take as many for each password
-pub take_at_most : (e : Encryption) (cek : List ℕ) (key : OctetKey) (receivers : List Receiver) (salts : List ℕ)
+pub take_at_most : (e : Encryption) (cek : List ℕ) (key : OctetKey) (receivers : List Receiver) (drawn : List ℕ)
     → AllByRecursion (λ r. is_password_based r.management ≡ true → e.p2c ≤ 1000000) receivers
-    → TakeAtMost (passwords receivers * e.p2c) (all_pairs limits.management (key ∷ []) (map (made_by e cek) (salted receivers salts)))
-take_at_most e cek key [] salts few = record { each_few = refl; all_few = omega arith }
-take_at_most e cek key (r ∷ rest) salts few =
-    rw (pairs_are e cek key (r, take (salt_drawn r) salts))
-    (by_test (is_candidate (algorithms_by e r) key) (take_at_most e cek key rest (drop (salt_drawn r) salts) few.1))
+    → TakeAtMost (passwords receivers * e.p2c) (all_pairs limits.management (key ∷ []) (map (made_by e cek) (with_drawn receivers drawn)))
+take_at_most e cek key [] drawn few = record { each_few = refl; all_few = omega arith }
+take_at_most e cek key (r ∷ rest) drawn few =
+    rw (pairs_are e cek key (r, take (drawn_for r) drawn))
+    (by_test (is_candidate (algorithms_by e r) key) (take_at_most e cek key rest (drop (drawn_for r) drawn) few.1))
   where
-    by_test : (candidate : Bool) → TakeAtMost (passwords rest * e.p2c) (all_pairs limits.management (key ∷ []) (map (made_by e cek) (salted rest (drop (salt_drawn r) salts))))
+    by_test : (candidate : Bool) → TakeAtMost (passwords rest * e.p2c) (all_pairs limits.management (key ∷ []) (map (made_by e cek) (with_drawn rest (drop (drawn_for r) drawn))))
         → TakeAtMost (passwords (r ∷ rest) * e.p2c)
-        ((if candidate then pair_by e cek key (r, take (salt_drawn r) salts) ∷ [] else []) ++ all_pairs limits.management (key ∷ []) (map (made_by e cek) (salted rest (drop (salt_drawn r) salts))))
+        ((if candidate then pair_by e cek key (r, take (drawn_for r) drawn) ∷ [] else []) ++ all_pairs limits.management (key ∷ []) (map (made_by e cek) (with_drawn rest (drop (drawn_for r) drawn))))
     by_test true all =
         let here = one_more (is_password_based r.management) (passwords rest) e.p2c few.0 in
-        let takes = iterations_are r.management (take (salt_drawn r) salts) e.p2c in
+        let octets : List ℕ = take (drawn_for r) drawn in
+        let takes = iterations_are r.management octets e.p2c (key_tag_of (key_alg r.management) r.key.octets (parameters_with octets e.p2c) cek) in
         record { each_few = and_from _ _ (le-leb _ 1000000 (rw takes here.0)) all.each_few; all_few = omega (arith, takes, here.1, all.all_few) }
     by_test false all =
         let here = one_more (is_password_based r.management) (passwords rest) e.p2c few.0 in

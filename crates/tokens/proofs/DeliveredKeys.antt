@@ -1,28 +1,65 @@
--- The content encryption key, which is delivered to each receiver.
-use Rattle.std.proofs.Common.{◌≡◌, ℕ, suc, ◌+◌, ◌≤◌, ◌||◌, Bool, true, false, not, List, [], ◌∷◌, length, take, map, if◌then◌else◌, Some, None, refl, sym, ap, ◌∙◌, subst, arith, length-drop}
+-- The content encryption key, which is delivered to each receiver with the octets that are drawn for it.
+use Rattle.std.proofs.Common.{◌≡◌, ℕ, suc, ◌+◌, ◌≤◌, ◌||◌, Bool, true, false, not, List, [], ◌∷◌, length, take, drop, map, if◌then◌else◌, Some, None, refl, sym, ap, ◌∙◌, subst, arith, length-drop}
 use Rattle.std.proofs.lemmas.List.{length-take-le}
 use Rattle.std.proofs.lemmas.Bool.{lt-leb, not-true, or_parts}
 use Rattle.std.specs.List.{AllByRecursion, list_any}
 use Rattle.std.specs.Option.{unwrap_or}
 use Rattle.octets.specs.Octets.{IsOctets}
-use Rattle.ciphers.specs.Delivery.{IsTagOf, encrypted_key_of, IsDelivered}
+use Rattle.ciphers.specs.Delivery.{IsIvOf, IsTagOf, encrypted_key_of, key_tag_of, IsDelivered}
 use Rattle.octets.proofs.Decoded.{IsOctets-nil, IsOctets-take, IsOctets-drop}
 use Rattle.ciphers.specs.Sealing.{cek_len, iv_len}
-use Rattle.ciphers.specs.declared.key_alg.KeyAlg.TheVariants as delivery
+use Rattle.ciphers.specs.declared.key_alg.KeyAlg.TheVariants as variants
 use Rattle.keys.specs.declared.algorithm.Algorithm.TheVariants.{Encryption as EncryptionWith}
 use Rattle.keys.specs.declared.algorithm.EncryptionAlg.{EncryptionAlg}
 use Rattle.keys.specs.declared.algorithm.ManagementAlg.{ManagementAlg}
-use Rattle.keys.specs.declared.algorithm.ManagementAlg.TheVariants.{Dir, A128Kw, A192Kw, A256Kw, Pbes2Hs256A128Kw, Pbes2Hs384A192Kw, Pbes2Hs512A256Kw}
+use Rattle.keys.specs.declared.algorithm.ManagementAlg.TheVariants.{Dir, A128Kw, A192Kw, A256Kw, Pbes2Hs256A128Kw, Pbes2Hs384A192Kw, Pbes2Hs512A256Kw, A128GcmKw, A192GcmKw, A256GcmKw}
 use Rattle.keys.specs.Keys.{OctetKey, AreOctetKeys, fits}
 use Rattle.objects.proofs.EachRead.{all_then, all_both}
 use Rattle.tokens.specs.Algorithms.{content_alg, key_alg, parameters_by}
 use Rattle.tokens.specs.Choosing.{Receiver, is_direct, is_alone, stand_together, Encryption}
-use Rattle.tokens.specs.Encrypting.{salts_drawn, direct_key, drawn_cek, cek_drawn, octets_drawn, salts_by, after_salts, cek_by, parameters_with}
+use Rattle.tokens.specs.Delivering.{drawn_by, drawn_for, drawn_for_all, parameters_with, management_with, Delivery, delivery_to, deliveries_to}
+use Rattle.tokens.specs.Encrypting.{direct_key, drawn_cek, cek_drawn, octets_drawn, for_receivers, after_receivers, cek_by}
 use Rattle.tokens.proofs.Candidates.{direct_key_fits}
-use Rattle.tokens.proofs.EncryptedHeaders.{IsSalted, all_salted, salted_by, made_by}
-use Rattle.tokens.proofs.JointParameters.{delivery_by}
-use Rattle.tokens.proofs.Receivers.{no_iv}
 use Rattle.tokens.proofs.SettledEncryptions.{Receives, Settles}
+
+-- ---- the receivers with the octets that are drawn for them
+
+-- these follow one another
+abbrev pub with_drawn : List Receiver → List ℕ → List (Receiver × List ℕ)
+with_drawn [] drawn = []
+with_drawn (r ∷ rest) drawn = (r, take (drawn_for r) drawn) ∷ with_drawn rest (drop (drawn_for r) drawn)
+
+-- a receiver that is so, with just as many octets as are drawn for it
+pub record IsDrawn (P : Receiver → Type 0) (x : Receiver × List ℕ) : Type 0 where
+  pub holds : P x.0
+  pub octets : IsOctets x.1
+  pub long : length x.1 ≡ drawn_for x.0
+
+-- where each receiver is so, each has its octets
+pub all_drawn : (P : Receiver → Type 0) (receivers : List Receiver) (drawn : List ℕ) → AllByRecursion P receivers → IsOctets drawn → length drawn ≡ drawn_for_all receivers
+    → AllByRecursion (IsDrawn P) (with_drawn receivers drawn)
+all_drawn P [] drawn all octets long = tt
+all_drawn P (r ∷ rest) drawn all octets long =
+    let n : ℕ = drawn_for r in
+    let here : length (take n drawn) ≡ n = length-take-le n drawn (omega (arith, long)) in
+    let later : length (drop n drawn) ≡ drawn_for_all rest = length-drop n drawn ∙ omega (arith, long) in (
+      record { holds = all.0; octets = IsOctets-take n drawn octets; long = here },
+      all_drawn P rest (drop n drawn) all.1 (IsOctets-drop n drawn octets) later,
+    )
+
+-- and there are as many
+pub as_many_drawn : (receivers : List Receiver) (drawn : List ℕ) → length (with_drawn receivers drawn) ≡ length receivers
+as_many_drawn [] drawn = refl
+as_many_drawn (r ∷ rest) drawn = ap suc (as_many_drawn rest (drop (drawn_for r) drawn))
+
+-- the delivery to a receiver
+abbrev pub delivery : Encryption → List ℕ → Receiver × List ℕ → Delivery
+delivery e cek x = delivery_to e cek x.0 x.1
+
+-- the deliveries are those to the receivers with their octets
+pub deliveries_are : (e : Encryption) (cek : List ℕ) (receivers : List Receiver) (drawn : List ℕ) → deliveries_to e cek receivers drawn ≡ map (delivery e cek) (with_drawn receivers drawn)
+deliveries_are e cek [] drawn = refl
+deliveries_are e cek (r ∷ rest) drawn = ap (λ others. delivery_to e cek r (take (drawn_for r) drawn) ∷ others) (deliveries_are e cek rest (drop (drawn_for r) drawn))
 
 -- ---- what is chosen or drawn
 
@@ -41,6 +78,9 @@ direct_is A256Kw h = cc h
 direct_is Pbes2Hs256A128Kw h = cc h
 direct_is Pbes2Hs384A192Kw h = cc h
 direct_is Pbes2Hs512A256Kw h = cc h
+direct_is A128GcmKw h = cc h
+direct_is A192GcmKw h = cc h
+direct_is A256GcmKw h = cc h
 
 -- so it is for one receiver
 cek_of_one : (enc : EncryptionAlg) (r : Receiver) (drawn : List ℕ) (direct : Bool) → is_direct r.management ≡ direct → fits r.key (EncryptionWith r.management enc) ≡ true
@@ -79,7 +119,7 @@ cek_is enc (r ∷ (other ∷ rest)) drawn together some fit octets random long =
 -- ---- how it is delivered
 
 -- a cipher that uses the key directly is that of such an algorithm
-direct_alg : (alg : ManagementAlg) → key_alg alg ≡ delivery.Dir → is_direct alg ≡ true
+direct_alg : (alg : ManagementAlg) → key_alg alg ≡ variants.Dir → is_direct alg ≡ true
 direct_alg Dir h = refl
 direct_alg A128Kw h = cc h
 direct_alg A192Kw h = cc h
@@ -87,60 +127,92 @@ direct_alg A256Kw h = cc h
 direct_alg Pbes2Hs256A128Kw h = cc h
 direct_alg Pbes2Hs384A192Kw h = cc h
 direct_alg Pbes2Hs512A256Kw h = cc h
+direct_alg A128GcmKw h = cc h
+direct_alg A192GcmKw h = cc h
+direct_alg A256GcmKw h = cc h
 
--- the salt and the count of iterations matter to a password alone
-encrypted_alike : (alg : ManagementAlg) (key salt : List ℕ) (p2c : ℕ) (cek : List ℕ)
-    → encrypted_key_of (key_alg alg) key (parameters_by (delivery_by alg salt p2c)) cek ≡ encrypted_key_of (key_alg alg) key (parameters_with salt p2c) cek
+-- the parameters that an algorithm does not read do not matter to the encrypted key, ..
+encrypted_alike : (alg : ManagementAlg) (key drawn : List ℕ) (p2c : ℕ) (tag cek : List ℕ)
+    → encrypted_key_of (key_alg alg) key (parameters_by (management_with alg drawn p2c tag)) cek ≡ encrypted_key_of (key_alg alg) key (parameters_with drawn p2c) cek
 unfolding encrypted_key_of
-encrypted_alike Dir key salt p2c cek = refl
-encrypted_alike A128Kw key salt p2c cek = refl
-encrypted_alike A192Kw key salt p2c cek = refl
-encrypted_alike A256Kw key salt p2c cek = refl
-encrypted_alike Pbes2Hs256A128Kw key salt p2c cek = refl
-encrypted_alike Pbes2Hs384A192Kw key salt p2c cek = refl
-encrypted_alike Pbes2Hs512A256Kw key salt p2c cek = refl
+encrypted_alike Dir key drawn p2c tag cek = refl
+encrypted_alike A128Kw key drawn p2c tag cek = refl
+encrypted_alike A192Kw key drawn p2c tag cek = refl
+encrypted_alike A256Kw key drawn p2c tag cek = refl
+encrypted_alike Pbes2Hs256A128Kw key drawn p2c tag cek = refl
+encrypted_alike Pbes2Hs384A192Kw key drawn p2c tag cek = refl
+encrypted_alike Pbes2Hs512A256Kw key drawn p2c tag cek = refl
+encrypted_alike A128GcmKw key drawn p2c tag cek = refl
+encrypted_alike A192GcmKw key drawn p2c tag cek = refl
+encrypted_alike A256GcmKw key drawn p2c tag cek = refl
 
--- an initialization vector that is read is octets
-iv_octets : (alg : ManagementAlg) (salt : List ℕ) (p2c : ℕ) → IsOctets (parameters_by (delivery_by alg salt p2c)).iv
-iv_octets Dir salt p2c = IsOctets-nil
-iv_octets A128Kw salt p2c = IsOctets-nil
-iv_octets A192Kw salt p2c = IsOctets-nil
-iv_octets A256Kw salt p2c = IsOctets-nil
-iv_octets Pbes2Hs256A128Kw salt p2c = IsOctets-nil
-iv_octets Pbes2Hs384A192Kw salt p2c = IsOctets-nil
-iv_octets Pbes2Hs512A256Kw salt p2c = IsOctets-nil
+-- .. nor to the tag
+pub tag_alike : (alg : ManagementAlg) (key drawn : List ℕ) (p2c : ℕ) (tag cek : List ℕ)
+    → key_tag_of (key_alg alg) key (parameters_by (management_with alg drawn p2c tag)) cek ≡ key_tag_of (key_alg alg) key (parameters_with drawn p2c) cek
+unfolding key_tag_of
+tag_alike Dir key drawn p2c tag cek = refl
+tag_alike A128Kw key drawn p2c tag cek = refl
+tag_alike A192Kw key drawn p2c tag cek = refl
+tag_alike A256Kw key drawn p2c tag cek = refl
+tag_alike Pbes2Hs256A128Kw key drawn p2c tag cek = refl
+tag_alike Pbes2Hs384A192Kw key drawn p2c tag cek = refl
+tag_alike Pbes2Hs512A256Kw key drawn p2c tag cek = refl
+tag_alike A128GcmKw key drawn p2c tag cek = refl
+tag_alike A192GcmKw key drawn p2c tag cek = refl
+tag_alike A256GcmKw key drawn p2c tag cek = refl
 
--- no algorithm reads a tag
-any_tag : (alg : ManagementAlg) (made given : List ℕ) → IsTagOf (key_alg alg) made given
-any_tag Dir made given = tt
-any_tag A128Kw made given = tt
-any_tag A192Kw made given = tt
-any_tag A256Kw made given = tt
-any_tag Pbes2Hs256A128Kw made given = tt
-any_tag Pbes2Hs384A192Kw made given = tt
-any_tag Pbes2Hs512A256Kw made given = tt
+-- an initialization vector that is read is the one that was drawn
+iv_is_drawn : (alg : ManagementAlg) (drawn : List ℕ) (p2c : ℕ) (tag : List ℕ) → IsOctets drawn → length drawn ≡ drawn_by alg
+    → (let iv : List ℕ = (parameters_by (management_with alg drawn p2c tag)).iv in IsOctets iv × IsIvOf (key_alg alg) iv)
+iv_is_drawn Dir drawn p2c tag octets long = (IsOctets-nil, tt)
+iv_is_drawn A128Kw drawn p2c tag octets long = (IsOctets-nil, tt)
+iv_is_drawn A192Kw drawn p2c tag octets long = (IsOctets-nil, tt)
+iv_is_drawn A256Kw drawn p2c tag octets long = (IsOctets-nil, tt)
+iv_is_drawn Pbes2Hs256A128Kw drawn p2c tag octets long = (IsOctets-nil, tt)
+iv_is_drawn Pbes2Hs384A192Kw drawn p2c tag octets long = (IsOctets-nil, tt)
+iv_is_drawn Pbes2Hs512A256Kw drawn p2c tag octets long = (IsOctets-nil, tt)
+iv_is_drawn A128GcmKw drawn p2c tag octets long = (octets, long)
+iv_is_drawn A192GcmKw drawn p2c tag octets long = (octets, long)
+iv_is_drawn A256GcmKw drawn p2c tag octets long = (octets, long)
 
--- The recipient that is made is delivered the content encryption key, by a key of octets and an initialization vector of octets.
+-- a tag that is read is the one that was made
+tag_is_made : (alg : ManagementAlg) (made tag drawn : List ℕ) (p2c : ℕ) → made ≡ tag → IsTagOf (key_alg alg) made (parameters_by (management_with alg drawn p2c tag)).tag
+tag_is_made Dir made tag drawn p2c same = tt
+tag_is_made A128Kw made tag drawn p2c same = tt
+tag_is_made A192Kw made tag drawn p2c same = tt
+tag_is_made A256Kw made tag drawn p2c same = tt
+tag_is_made Pbes2Hs256A128Kw made tag drawn p2c same = tt
+tag_is_made Pbes2Hs384A192Kw made tag drawn p2c same = tt
+tag_is_made Pbes2Hs512A256Kw made tag drawn p2c same = tt
+tag_is_made A128GcmKw made tag drawn p2c same = same
+tag_is_made A192GcmKw made tag drawn p2c same = same
+tag_is_made A256GcmKw made tag drawn p2c same = same
+
+-- The receiver is delivered the content encryption key, by a key of octets and an initialization vector of octets.
 pub record Delivers (e : Encryption) (cek : List ℕ) (x : Receiver × List ℕ) : Type 0 where
   pub key : IsOctets x.0.key.octets
-  pub iv : IsOctets (parameters_by (made_by e cek x).management).iv
-  pub delivers : IsDelivered (key_alg x.0.management) (content_alg e.encryption) x.0.key.octets (parameters_by (made_by e cek x).management) (made_by e cek x).encrypted_key cek
+  pub iv : IsOctets (parameters_by (delivery e cek x).management).iv
+  pub delivers : IsDelivered (key_alg x.0.management) (content_alg e.encryption) x.0.key.octets (parameters_by (delivery e cek x).management) (delivery e cek x).encrypted_key cek
 
 -- so it is where it is the content encryption key of the receivers
-pub delivered_to : (e : Encryption) (cek : List ℕ) (x : Receiver × List ℕ) → IsOctets cek → length cek ≡ cek_len (content_alg e.encryption) → IsOctets x.0.key.octets
-    → (is_direct x.0.management ≡ true → cek ≡ x.0.key.octets) → Delivers e cek x
-delivered_to e cek x octets long key direct = record {
-  key = key;
-  iv = iv_octets x.0.management x.1 e.p2c;
-  delivers = record {
-    octets = octets;
-    fits = long;
-    direct = λ is. direct (direct_alg x.0.management is);
-    iv_fits = no_iv x.0.management _;
-    is_encrypted = encrypted_alike x.0.management x.0.key.octets x.1 e.p2c cek;
-    is_tag = any_tag x.0.management _ _;
-  };
-}
+delivered_to : (e : Encryption) (cek : List ℕ) (x : Receiver × List ℕ) → IsOctets cek → length cek ≡ cek_len (content_alg e.encryption) → IsOctets x.0.key.octets
+    → (is_direct x.0.management ≡ true → cek ≡ x.0.key.octets) → IsOctets x.1 → length x.1 ≡ drawn_for x.0 → Delivers e cek x
+delivered_to e cek x octets fits key direct drawn long =
+    let alg = x.0.management in
+    let tag : List ℕ = key_tag_of (key_alg alg) x.0.key.octets (parameters_with x.1 e.p2c) cek in
+    let iv = iv_is_drawn alg x.1 e.p2c tag drawn long in
+    record {
+      key = key;
+      iv = iv.0;
+      delivers = record {
+        octets = octets;
+        fits = fits;
+        direct = λ is. direct (direct_alg alg is);
+        iv_fits = iv.1;
+        is_encrypted = encrypted_alike alg x.0.key.octets x.1 e.p2c tag cek;
+        is_tag = tag_is_made alg _ tag x.1 e.p2c (tag_alike alg x.0.key.octets x.1 e.p2c tag cek);
+      };
+    }
 
 -- ---- by the octets that are drawn
 
@@ -152,27 +224,37 @@ octet_keys receivers keys same octets = of_images receivers (subst AreOctetKeys 
     of_images [] all = tt
     of_images (r ∷ rest) all = (all.0, of_images rest all.1)
 
--- the octets after the salts
-pub after_long : (e : Encryption) (random : List ℕ) → length random ≡ octets_drawn e → length (after_salts e random) ≡ cek_drawn e + iv_len (content_alg e.encryption)
-after_long e random long = length-drop (salts_drawn e.receivers) random ∙ omega (arith, long)
+-- the octets after those of the receivers
+pub after_long : (e : Encryption) (random : List ℕ) → length random ≡ octets_drawn e → length (after_receivers e random) ≡ cek_drawn e + iv_len (content_alg e.encryption)
+after_long e random long = length-drop (drawn_for_all e.receivers) random ∙ omega (arith, long)
 
 -- the content encryption key of the receivers
 pub cek_by_is : (keys : List OctetKey) (e : Encryption) (random : List ℕ) → Settles keys e → AreOctetKeys keys → IsOctets random → length random ≡ octets_drawn e
     → IsCek e.encryption e.receivers (cek_by e random)
 cek_by_is keys e random by key_octets octets long =
-    let later : List ℕ = after_salts e random in
+    let later : List ℕ = after_receivers e random in
     cek_is e.encryption e.receivers (take (cek_drawn e) later) by.together by.some (all_then (Receives e) _ (λ r is. is.fit) e.receivers by.receive)
-    (octet_keys e.receivers keys by.keys_are key_octets) (IsOctets-take (cek_drawn e) later (IsOctets-drop (salts_drawn e.receivers) random octets))
+    (octet_keys e.receivers keys by.keys_are key_octets) (IsOctets-take (cek_drawn e) later (IsOctets-drop (drawn_for_all e.receivers) random octets))
     (length-take-le (cek_drawn e) later (omega (arith, after_long e random long)))
 
--- it is delivered to each
+-- the receivers with the octets that are drawn
+abbrev pub drawn_by_each : Encryption → List ℕ → List (Receiver × List ℕ)
+drawn_by_each e random = with_drawn e.receivers (for_receivers e random)
+
+-- each has its octets, ..
+pub each_drawn : (P : Receiver → Type 0) (e : Encryption) (random : List ℕ) → AllByRecursion P e.receivers → IsOctets random → length random ≡ octets_drawn e
+    → AllByRecursion (IsDrawn P) (drawn_by_each e random)
+each_drawn P e random all octets long =
+    let n : ℕ = drawn_for_all e.receivers in
+    all_drawn P e.receivers (for_receivers e random) all (IsOctets-take n random octets) (length-take-le n random (omega (arith, long)))
+
+-- .. and is delivered the content encryption key
 pub each_delivered : (keys : List OctetKey) (e : Encryption) (random : List ℕ) → Settles keys e → AreOctetKeys keys → IsOctets random → length random ≡ octets_drawn e
-    → AllByRecursion (Delivers e (cek_by e random)) (salted_by e random)
+    → AllByRecursion (Delivers e (cek_by e random)) (drawn_by_each e random)
 each_delivered keys e random by key_octets octets long =
     let cek : List ℕ = cek_by e random in
     let is : IsCek e.encryption e.receivers cek = cek_by_is keys e random by key_octets octets long in
-    let n : ℕ = salts_drawn e.receivers in
     let P : Receiver → Type 0 = λ r. IsOctets r.key.octets × (is_direct r.management ≡ true → cek ≡ r.key.octets) in
     let each_key : AllByRecursion P e.receivers = all_both (λ r key direct. (key, direct)) e.receivers (octet_keys e.receivers keys by.keys_are key_octets) is.direct in
-    all_then (IsSalted P) (Delivers e cek) (λ x salted. delivered_to e cek x is.octets is.fits salted.holds.0 salted.holds.1) (salted_by e random)
-    (all_salted P e.receivers (salts_by e random) each_key (IsOctets-take n random octets) (length-take-le n random (omega (arith, long))))
+    all_then (IsDrawn P) (Delivers e cek) (λ x d. delivered_to e cek x is.octets is.fits d.holds.0 d.holds.1 d.octets d.long) (drawn_by_each e random)
+    (each_drawn P e random each_key octets long)

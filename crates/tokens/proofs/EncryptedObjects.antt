@@ -16,11 +16,8 @@ use Rattle.octets.specs.Plan.{OutputTexts, Plan, Draft, plan_from}
 use Rattle.octets.proofs.Characters.{has_url_characters}
 use Rattle.octets.proofs.Decoded.{IsOctets-drop}
 use Rattle.octets.proofs.Meanings.{meaning_of_text}
-use Rattle.ciphers.specs.Delivery.{Parameters, key_tag_of, IsDelivered}
 use Rattle.ciphers.specs.Openings.{is_longer}
 use Rattle.ciphers.specs.Sealing.{Sealed, Sealing, IsTooLong, IsOpening}
-use Rattle.ciphers.specs.declared.content_alg.ContentAlg.{ContentAlg}
-use Rattle.ciphers.specs.declared.key_alg.KeyAlg.{KeyAlg}
 use Rattle.keys.specs.Algorithms.{encryption_name}
 use Rattle.keys.specs.Json.{member_numbers_are_whole}
 use Rattle.keys.specs.JsonTexts.{AreJsonMembers}
@@ -30,24 +27,20 @@ use Rattle.keys.proofs.ReadingBack.{numbers_whole}
 use Rattle.keys.proofs.UrlTexts.{url_texts_are_json}
 use Rattle.objects.specs.Jwe.{RecipientParts, EncryptedObject, have_one_enc, is_plain, encrypted_object, built, AreMembers, recipients_of_one_enc}
 use Rattle.objects.specs.Texts.{header_depth, depth_of_each, handed_out}
-use Rattle.objects.proofs.EachRead.{all_both, all_images}
+use Rattle.objects.proofs.EachRead.{all_images}
 use Rattle.objects.proofs.SpellingJwe.{is_built}
 use Rattle.objects.proofs.Steps.{steps, passed, same_answer}
-use Rattle.tokens.specs.Algorithms.{content_alg, key_alg}
+use Rattle.tokens.specs.Algorithms.{content_alg}
 use Rattle.tokens.specs.Choosing.{Receiver, Encryption, encryption_of}
 use Rattle.tokens.specs.Decrypting.{authenticated}
-use Rattle.tokens.specs.Encrypting.{salts_drawn, cek_drawn, octets_drawn, salts_by, after_salts, cek_by, iv_by, header_of, header_by, recipients_by, sealing_by, sealed_by, parts_by, encrypted, text_of, written_of, plan_by, encrypting_by}
-use Rattle.tokens.proofs.DeliveredKeys.{IsCek, Delivers, after_long, cek_by_is, each_delivered}
+use Rattle.tokens.specs.Delivering.{drawn_for_all}
+use Rattle.tokens.specs.Encrypting.{cek_drawn, octets_drawn, for_receivers, after_receivers, cek_by, iv_by, header_of, header_by, recipients_by, sealing_by, sealed_by, parts_by, encrypted, text_of, written_of, plan_by, encrypting_by}
+use Rattle.tokens.proofs.DeliveredKeys.{as_many_drawn, IsCek, Delivers, after_long, cek_by_is, drawn_by_each, each_delivered}
 use Rattle.tokens.proofs.HeaderTexts.{shallow_enough}
-use Rattle.tokens.proofs.EncryptedHeaders.{salted_by, IsWritten, Writes, writes, given_by, made_by, recipients_are, as_many_salted, recipients_are_read}
+use Rattle.tokens.proofs.EncryptedHeaders.{IsWritten, Writes, writes, given_by, made_by, recipients_are, recipients_are_read}
 use Rattle.tokens.proofs.ReadLists.{all_pass}
+pub use Rattle.tokens.proofs.EncryptedHeaders.{OctetLaws}
 pub use Rattle.tokens.proofs.SettledEncryptions.{Settles, settles}
-
--- the laws of ciphers that say what is octets
-pub record OctetLaws : Type 0 where
-  pub opened : (alg : ContentAlg) (cek iv aad c tag p : List ℕ) → IsOctets cek → IsOctets iv → IsOpening alg cek iv aad c tag p → IsOctets c × IsOctets tag
-  pub delivering : (alg : KeyAlg) (enc : ContentAlg) (key : List ℕ) (p : Parameters) (encrypted cek : List ℕ) → IsOctets key → IsOctets p.iv
-      → IsDelivered alg enc key p encrypted cek → IsOctets encrypted × IsOctets (key_tag_of alg key p cek)
 
 -- ---- the object
 
@@ -61,7 +54,7 @@ object_by e random s = record {
   aad = e.aad;
   ciphertext = s.ciphertext;
   tag = s.tag;
-  recipients = map (made_by e (cek_by e random)) (salted_by e random);
+  recipients = map (made_by e (cek_by e random)) (drawn_by_each e random);
 }
 
 -- all recipients that are made have the content encryption that was chosen
@@ -75,8 +68,8 @@ one_enc e cek [] = refl
 one_enc e cek (x ∷ rest) = all_have_enc e cek (x ∷ rest)
 
 -- as many recipients are given as there are receivers
-as_many : (e : Encryption) (random : List ℕ) → length (map (given_by e (cek_by e random)) (salted_by e random)) ≡ length e.receivers
-as_many e random = length-map (salted_by e random) (given_by e (cek_by e random)) ∙ as_many_salted e.receivers (salts_by e random)
+as_many : (e : Encryption) (random : List ℕ) → length (map (given_by e (cek_by e random)) (drawn_by_each e random)) ≡ length e.receivers
+as_many e random = length-map (drawn_by_each e random) (given_by e (cek_by e random)) ∙ as_many_drawn e.receivers (for_receivers e random)
 
 -- so the object is built of its members
 pub built_is : (keys : List OctetKey) (e : Encryption) (random : List ℕ) (s : Sealed) → Settles keys e → Writes e random → nat_le (length e.receivers) limits.recipients ≡ true
@@ -84,7 +77,7 @@ pub built_is : (keys : List OctetKey) (e : Encryption) (random : List ℕ) (s : 
 unfolding built encrypted_object recipients_of_one_enc
 built_is keys e random s by is few =
     let cek : List ℕ = cek_by e random in
-    let xs : List (Receiver × List ℕ) = salted_by e random in
+    let xs : List (Receiver × List ℕ) = drawn_by_each e random in
     let header : Members = header_of e random in
     let given : Receiver × List ℕ → RecipientParts = given_by e cek in
     let n : ℕ = depth_of_each (length (map given xs)) in
@@ -100,7 +93,7 @@ built_is keys e random s by is few =
     let some : nat_le 1 (length (map given xs)) ≡ true = ap (nat_le 1) (as_many e random) ∙ le-leb 1 (length e.receivers) by.some in
     let few_given : nat_le (length (map given xs)) 64 ≡ true = ap (λ k. nat_le k 64) (as_many e random) ∙ few in
     rw (
-      recipients_are e cek e.receivers (salts_by e random),
+      recipients_are e random,
       unprotected_shallow,
       shallow,
       unprotected_whole,
@@ -109,7 +102,7 @@ built_is keys e random s by is few =
       few_given,
       meaning_of_text (header_by e random) is.back.octets,
       is.back.members,
-      recipients_are_read keys e random cek by is,
+      recipients_are_read keys e random by is,
       one_enc e cek xs,
       is.header.plain,
       by.unprotected.plain,
@@ -119,7 +112,7 @@ built_is keys e random s by is few =
 -- what is built has no more receivers than an object may have
 pub few_receivers : (e : Encryption) (random : List ℕ) (s : Sealed) (o : EncryptedObject) → built limits (parts_by e random s) ≡ Ok o → nat_le (length e.receivers) limits.recipients ≡ true
 few_receivers e random s o made =
-    let given : length (recipients_by e (cek_by e random) e.receivers (salts_by e random)) ≡ length e.receivers = rw recipients_are (as_many e random) in
+    let given : length (recipients_by e random) ≡ length e.receivers = rw recipients_are (as_many e random) in
     ap (λ k. nat_le k 64) (sym given) ∙ (is_built limits (parts_by e random s) o made).few
 
 -- ---- what is sealed
@@ -143,29 +136,26 @@ sealed_is s p made h =
 -- octets.
 pub record IsEncrypted (e : Encryption) (random plaintext : List ℕ) (o : EncryptedObject) : Type 0 where
   pub sealed : Sealed
-  pub delivers : AllByRecursion (Delivers e (cek_by e random)) (salted_by e random)
+  pub delivers : AllByRecursion (Delivers e (cek_by e random)) (drawn_by_each e random)
   pub opens : IsOpening (content_alg e.encryption) (cek_by e random) (iv_by e random) (authenticated (base64url (header_by e random)) e.aad) sealed.ciphertext sealed.tag plaintext
   pub members : AreMembers (parts_by e random sealed)
   pub made : built limits (parts_by e random sealed) ≡ Ok o
   pub is : object_by e random sealed ≡ o
 
 -- the members are as JSON has them, or octets
-are_members : OctetLaws → (keys : List OctetKey) (e : Encryption) (random : List ℕ) (s : Sealed) → Settles keys e → Writes e random → IsOctets random
-    → AllByRecursion (Delivers e (cek_by e random)) (salted_by e random) → IsOctets s.ciphertext → IsOctets s.tag → AreMembers (parts_by e random s)
-are_members laws keys e random s by w random_octets delivers ciphertext tag =
-    let cek : List ℕ = cek_by e random in
-    let later : List ℕ = after_salts e random in
+are_members : (keys : List OctetKey) (e : Encryption) (random : List ℕ) (s : Sealed) → Settles keys e → Writes e random → IsOctets random
+    → IsOctets s.ciphertext → IsOctets s.tag → AreMembers (parts_by e random s)
+are_members keys e random s by w random_octets ciphertext tag =
+    let later : List ℕ = after_receivers e random in
     let P : RecipientParts → Type 0 = λ r. AreJsonMembers r.header × IsOctets r.encrypted_key in
     record {
       protected = (url_texts_are_json (base64url (header_by e random)) (has_url_characters (header_by e random) w.back.octets)).0;
       unprotected = by.unprotected.json;
-      iv = IsOctets-drop (cek_drawn e) later (IsOctets-drop (salts_drawn e.receivers) random random_octets);
+      iv = IsOctets-drop (cek_drawn e) later (IsOctets-drop (drawn_for_all e.receivers) random random_octets);
       aad = by.aad;
       ciphertext = ciphertext;
       tag = tag;
-      recipients = rw recipients_are (all_images {P = λ x. IsWritten e random x × Delivers e cek x} P (given_by e cek)
-          (λ x is. (is.0.headed.written.json, (laws.delivering (key_alg x.0.management) (content_alg e.encryption) x.0.key.octets _ _ cek is.1.key is.1.iv is.1.delivers).0))
-          (salted_by e random) (all_both (λ x written delivers. (written, delivers)) (salted_by e random) w.each_written delivers));
+      recipients = rw recipients_are (all_images {P = IsWritten e random} P (given_by e (cek_by e random)) (λ x is. (is.headed.written.json, is.ready.encrypted)) (drawn_by_each e random) w.each_written);
     }
 
 -- the steps of encrypting
@@ -185,11 +175,11 @@ is_encrypted laws keys e random plaintext o key_octets random_octets octets long
     let made = encrypting_steps e random plaintext o h in
     let s : Sealed = made.0 in
     let sealed = sealed_is (sealing_by e random) plaintext s made.1 in
-    let w : Writes e random = writes keys e random by random_octets long in
+    let w : Writes e random = writes laws keys e random by key_octets random_octets long in
     let is_cek : IsCek e.encryption e.receivers cek = cek_by_is keys e random by key_octets random_octets long in
     let delivers = each_delivered keys e random by key_octets random_octets long in
-    let later : List ℕ = after_salts e random in
-    let start : IsOctets iv = IsOctets-drop (cek_drawn e) later (IsOctets-drop (salts_drawn e.receivers) random random_octets) in
+    let later : List ℕ = after_receivers e random in
+    let start : IsOctets iv = IsOctets-drop (cek_drawn e) later (IsOctets-drop (drawn_for_all e.receivers) random random_octets) in
     let opens : IsOpening enc cek iv authentic s.ciphertext s.tag plaintext = record {
       cek_fits = is_cek.fits;
       iv_fits = length-drop (cek_drawn e) later ∙ omega (arith, after_long e random long);
@@ -203,7 +193,7 @@ is_encrypted laws keys e random plaintext o key_octets random_octets octets long
       sealed = s;
       delivers = delivers;
       opens = opens;
-      members = are_members laws keys e random s by w random_octets delivers both.0 both.1;
+      members = are_members keys e random s by w random_octets both.0 both.1;
       made = made.2;
       is = same_answer (object_by e random s) o (sym (built_is keys e random s by w (few_receivers e random s o made.2)) ∙ made.2);
     }

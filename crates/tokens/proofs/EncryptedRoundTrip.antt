@@ -1,6 +1,5 @@
 -- What is encrypted decrypts with each key alone that may decrypt.
 use Rattle.std.proofs.Common.{◌≡◌, ℕ, ◌*◌, ◌≤◌, Bool, true, false, List, [], ◌∷◌, ◌++◌, length, map, take, drop, Some, Ok, refl, sym, ◌∙◌, ap, subst, arith}
-use Rattle.std.proofs.lemmas.List.{length-take-le}
 use Rattle.std.specs.List.{AllByRecursion}
 use Rattle.octets.specs.Octets.{IsOctets}
 use Rattle.octets.specs.Outcomes.{◌>>=◌}
@@ -19,11 +18,12 @@ use Rattle.objects.proofs.Steps.{steps, same_answer}
 use Rattle.tokens.specs.Algorithms.{content_alg, key_alg, parameters_by}
 use Rattle.tokens.specs.Choosing.{Receiver, passwords, Encryption}
 use Rattle.tokens.specs.Decrypting.{all_pairs, is_candidate, SealedContent, sealed_content, cek_of, opened_by, decrypted}
-use Rattle.tokens.specs.Encrypting.{salt_drawn, salts_drawn, octets_drawn, salts_by, cek_by, encrypted, text_of, written_of, parts_by, encrypting_by, OpensNoOther, EncryptedDecrypts}
+use Rattle.tokens.specs.Delivering.{drawn_for}
+use Rattle.tokens.specs.Encrypting.{octets_drawn, for_receivers, cek_by, encrypted, text_of, written_of, parts_by, encrypting_by, OpensNoOther, EncryptedDecrypts}
 use Rattle.tokens.proofs.Beginnings.{handed_back}
 use Rattle.tokens.proofs.DecryptedPairs.{algorithms_by, pair_by, TakeAtMost, take_at_most, Opens, first_opens, supported, opened_is_decrypted}
-use Rattle.tokens.proofs.DeliveredKeys.{Delivers}
-use Rattle.tokens.proofs.EncryptedHeaders.{salted, IsSalted, all_salted, salted_by, made_by, as_many_salted}
+use Rattle.tokens.proofs.DeliveredKeys.{with_drawn, IsDrawn, as_many_drawn, Delivers, drawn_by_each, each_drawn}
+use Rattle.tokens.proofs.EncryptedHeaders.{made_by}
 use Rattle.tokens.proofs.EncryptedObjects.{OctetLaws, object_by, IsEncrypted, is_encrypted, written_is, plan_is}
 use Rattle.tokens.proofs.SettledEncryptions.{Receives, Settles, settles}
 
@@ -73,10 +73,10 @@ key_opens laws e cek key x s plaintext start receives may delivers opens same =
     subst (λ k. (is_candidate (algorithms_by e x.0) k ≡ true) × (opened_by s (pair_by e cek k x) ≡ Some plaintext)) same
     (candidate_is e x.0 may_own receives.fit, opened_is laws e cek x s plaintext start delivers opens)
 
--- the keys of receivers with their salts
-keys_of_salted : (receivers : List Receiver) (salts : List ℕ) → map (λ x. x.0.key) (salted receivers salts) ≡ map (λ r. r.key) receivers
-keys_of_salted [] salts = refl
-keys_of_salted (r ∷ rest) salts = ap (λ keys. r.key ∷ keys) (keys_of_salted rest (drop (salt_drawn r) salts))
+-- the keys of receivers with their octets
+keys_of_drawn : (receivers : List Receiver) (drawn : List ℕ) → map (λ x. x.0.key) (with_drawn receivers drawn) ≡ map (λ r. r.key) receivers
+keys_of_drawn [] drawn = refl
+keys_of_drawn (r ∷ rest) drawn = ap (λ keys. r.key ∷ keys) (keys_of_drawn rest (drop (drawn_for r) drawn))
 
 -- the object is decrypted with each key alone that may decrypt
 decrypts : Laws → (before after : List OctetKey) (key : OctetKey) (e : Encryption) (random plaintext : List ℕ) (o : EncryptedObject) → Settles (before ++ key ∷ after) e → IsOctets random
@@ -87,20 +87,18 @@ decrypts laws before after key e random plaintext o by random_octets long may is
     let all : EncryptedObject = object_by e random is.sealed in
     let s : SealedContent = sealed_content all in
     let cek : List ℕ = cek_by e random in
-    let xs : List (Receiver × List ℕ) = salted_by e random in
-    let n : ℕ = salts_drawn e.receivers in
+    let xs : List (Receiver × List ℕ) = drawn_by_each e random in
     let P : Receiver → Type 0 = λ r. Receives e r × (r.key ≡ key → allows key (management_operations r.management).1 ≡ true) in
-    let each_may : AllByRecursion (IsSalted P) xs =
-    all_salted P e.receivers (salts_by e random) (all_both (λ r receives may. (receives, may)) e.receivers by.receive may) (IsOctets-take n random random_octets)
-    (length-take-le n random (omega (arith, long))) in
+    let each_may : AllByRecursion (IsDrawn P) xs =
+    each_drawn P e random (all_both (λ r receives may. (receives, may)) e.receivers by.receive may) random_octets long in
     let each_opens : AllByRecursion (Opens e cek key s plaintext) xs =
     all_both (λ x may delivers. key_opens laws e cek key x s plaintext is.members.iv may.holds.0 may.holds.1 delivers is.opens) xs each_may is.delivers in
     let few : AllByRecursion (λ r. is_password_based r.management ≡ true → e.p2c ≤ 1000000) e.receivers =
     all_then (Receives e) _ (λ r receives password. (receives.awaits.count password).few) e.receivers by.receive in
-    let most : TakeAtMost (passwords e.receivers * e.p2c) (all_pairs limits.management (key ∷ []) all.recipients) = take_at_most e cek key e.receivers (salts_by e random) few in
-    opened_is_decrypted key all plaintext (supported e cek xs (omega (arith, as_many_salted e.receivers (salts_by e random), by.some)))
+    let most : TakeAtMost (passwords e.receivers * e.p2c) (all_pairs limits.management (key ∷ []) all.recipients) = take_at_most e cek key e.receivers (for_receivers e random) few in
+    opened_is_decrypted key all plaintext (supported e cek xs (omega (arith, as_many_drawn e.receivers (for_receivers e random), by.some)))
     (record { each_few = most.each_few; all_few = omega (arith, most.all_few, by.few) })
-    (first_opens e cek key s plaintext before after xs (keys_of_salted e.receivers (salts_by e random) ∙ by.keys_are) each_opens only)
+    (first_opens e cek key s plaintext before after xs (keys_of_drawn e.receivers (for_receivers e random) ∙ by.keys_are) each_opens only)
 
 -- so what is written of it is that of an object which is decrypted
 read_and_decrypted : Laws → (compact detach : Bool) (keys : List OctetKey) (e : Encryption) (random plaintext : List ℕ) (texts : OutputTexts)

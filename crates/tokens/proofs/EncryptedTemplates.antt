@@ -1,6 +1,6 @@
 -- What the text of a template says: headers that may be written, and the algorithms, and the count of iterations, that it asks for.
-use Rattle.std.proofs.Common.{◌≡◌, ℕ, Bool, true, false, List, [], ◌∷◌, codes, Option, Some, None, is_none, option_map, Result, Ok, Err, refl, sym, ◌∙◌, ap, subst}
-use Rattle.std.proofs.lemmas.Bool.{not-true}
+use Rattle.std.proofs.Common.{◌≡◌, ℕ, ◌&&◌, Bool, true, false, List, [], ◌∷◌, codes, Option, Some, None, is_none, option_map, Result, Ok, Err, refl, sym, ◌∙◌, ap, subst}
+use Rattle.std.proofs.lemmas.Bool.{not-true, and_parts}
 use Rattle.std.specs.Option.{ok_or}
 use Rattle.serde_json.specs.Data.{Data, null, boolean, number, string, array, object, Members, no_members}
 use Rattle.serde_json.specs.Find.{get, get_member, as_str}
@@ -21,7 +21,7 @@ use Rattle.objects.specs.Jwe.{is_plain}
 use Rattle.objects.specs.Texts.{text_if_there, text_at}
 use Rattle.objects.proofs.Steps.{steps, passed, same_answer}
 use Rattle.objects.proofs.TextOctets.{octets_of_utf8}
-use Rattle.tokens.specs.EncryptionTemplate.{TemplateTexts, template_texts, AlgorithmsAsked, supported_management, management_asked, supported_encryption, encryption_asked, algorithms_asked, EncryptionTemplate, encryption_template}
+use Rattle.tokens.specs.EncryptionTemplate.{TemplateTexts, template_texts, AlgorithmsAsked, supported_management, management_asked, supported_encryption, encryption_asked, leaves_parameters, algorithms_asked, EncryptionTemplate, encryption_template}
 use Rattle.tokens.proofs.AlgorithmNames.{management_name_is, encryption_name_is}
 use Rattle.tokens.proofs.HeaderTexts.{members_json}
 use Rattle.tokens.proofs.JointHeaders.{not_there, plain_parts}
@@ -30,7 +30,7 @@ use Rattle.tokens.proofs.JointParameters.{as_count}
 -- ---- what the headers ask for
 
 -- They have no name in common, and no member that is refused. The joint header names the algorithms, and has the count, that are
--- asked for, and it lacks the salt.
+-- asked for, and it lacks what encryption writes.
 pub record Asks (p u : Members) (asked : AlgorithmsAsked) : Type 0 where
   pub disjoint : are_disjoint p u no_members ≡ true
   pub plain : is_plain p ≡ true
@@ -38,7 +38,9 @@ pub record Asks (p u : Members) (asked : AlgorithmsAsked) : Type 0 where
   pub management : if_there as_str (get_member (codes "alg") (all_members p u no_members)) ≡ Ok (option_map management_name asked.management)
   pub encryption : if_there as_str (get_member (codes "enc") (all_members p u no_members)) ≡ Ok (option_map encryption_name asked.encryption)
   pub count : if_there as_count (get_member (codes "p2c") (all_members p u no_members)) ≡ asked.p2c
-  pub unsalted : get_member (codes "p2s") (all_members p u no_members) ≡ None
+  pub no_salt : get_member (codes "p2s") (all_members p u no_members) ≡ None
+  pub no_iv : get_member (codes "iv") (all_members p u no_members) ≡ None
+  pub no_tag : get_member (codes "tag") (all_members p u no_members) ≡ None
 
 -- a name that is supported is that of the algorithm
 asked_by : {A : Type 0} (of : List ℕ → Option A) (name_of : A → List ℕ) (supported : Option A → Result (Option A) Refusal) (name : List ℕ) (asked : Option A)
@@ -69,6 +71,17 @@ joined p u own f y h = by_test (are_disjoint p u own) h
     by_test true h = (refl, h)
     by_test false h = cc h
 
+-- a header that leaves the parameters to encryption has none of them
+none_there : (header : Members) → leaves_parameters header ≡ true
+    → (get_member (codes "p2s") header ≡ None) × (get_member (codes "iv") header ≡ None) × (get_member (codes "tag") header ≡ None)
+none_there header left =
+    let first = and_parts (is_none (get_member (codes "p2s") header)) (is_none (get_member (codes "iv") header) && is_none (get_member (codes "tag") header)) left in
+    let second = and_parts (is_none (get_member (codes "iv") header)) (is_none (get_member (codes "tag") header)) first.1 in
+    (gone (get_member (codes "p2s") header) first.0, gone (get_member (codes "iv") header) second.0, gone (get_member (codes "tag") header) second.1)
+  where
+    gone : (o : Option Data) → is_none o ≡ true → o ≡ None
+    gone o none = not_there o (not-true _ none)
+
 -- so the headers ask for the algorithms
 asks : (p u : Members) (asked : AlgorithmsAsked) → algorithms_asked p u ≡ Ok asked → Asks p u asked
 unfolding algorithms_asked string_parameter number_parameter
@@ -77,11 +90,12 @@ asks p u asked h =
     let joint = joined p u no_members _ asked h in
     let alg = steps (string_parameter (codes "alg") header) _ asked joint.1 in
     let enc = steps (string_parameter (codes "enc") header) _ asked alg.2 in
-    let unsalted = steps (needs (is_none (get_member (codes "p2s") header)) Header) _ asked enc.2 in
-    let plain = steps (needs (is_plain header) Unsupported) _ asked unsalted.2 in
+    let left = steps (needs (leaves_parameters header) Header) _ asked enc.2 in
+    let plain = steps (needs (is_plain header) Unsupported) _ asked left.2 in
     let management = steps (management_asked alg.0) _ asked plain.2 in
     let encryption = steps (encryption_asked enc.0) _ asked management.2 in
     let parts = plain_parts p u (passed _ Unsupported plain.0 plain.1) in
+    let none = none_there header (passed _ Header left.0 left.1) in
     subst (Asks p u) (same_answer _ asked encryption.2)
     (record {
       disjoint = joint.0;
@@ -90,7 +104,9 @@ asks p u asked h =
       management = alg.1 ∙ ap Ok (management_is alg.0 management.0 management.1);
       encryption = enc.1 ∙ ap Ok (encryption_is enc.0 encryption.0 encryption.1);
       count = refl;
-      unsalted = not_there (get_member (codes "p2s") header) (not-true _ (passed _ Header unsalted.0 unsalted.1));
+      no_salt = none.0;
+      no_iv = none.1;
+      no_tag = none.2;
     })
 
 -- ---- the template

@@ -14,9 +14,10 @@ use Rattle.keys.specs.Limits.{limits}
 use Rattle.objects.specs.Jwe.{EncryptedObject, built, joined, key_of_first, is_compact, json_text, jwe_compact_text}
 use Rattle.objects.specs.Texts.{has_members, kept}
 use Rattle.tokens.specs.Choosing.{Receiver, is_alone, Encryption}
-use Rattle.tokens.specs.Encrypting.{octets_drawn, salts_by, cek_by, sealing_by, sealed_by, parts_by, encrypted, text_of, written_of, plan_by, EncryptingMakesTexts}
+use Rattle.tokens.specs.Encrypting.{octets_drawn, for_receivers, cek_by, sealing_by, sealed_by, parts_by, encrypted, text_of, written_of, plan_by, EncryptingMakesTexts}
 use Rattle.tokens.specs.Template.{is_empty}
-use Rattle.tokens.proofs.EncryptedHeaders.{salted_by, Writes, writes, made_by, as_many_salted}
+use Rattle.tokens.proofs.DeliveredKeys.{drawn_by_each, as_many_drawn}
+use Rattle.tokens.proofs.EncryptedHeaders.{OctetLaws, Writes, writes, made_by}
 use Rattle.tokens.proofs.EncryptedObjects.{object_by, built_is, plan_is}
 use Rattle.tokens.proofs.SettledEncryptions.{Settles, holds_no_more, settles, stands_alone}
 
@@ -41,7 +42,7 @@ has_text true detach e random s alone some =
     let first = and_parts (is_alone e.receivers) (is_empty e.unprotected && (length e.aad == 0)) alone in
     let second = and_parts (is_empty e.unprotected) (length e.aad == 0) first.1 in
     let held : is_compact o o.recipients ≡ true =
-    fits e (cek_by e random) o (salted_by e random) first.0 (as_many_salted e.receivers (salts_by e random)) some (no_members_there e.unprotected second.0) second.1 in
+    fits e (cek_by e random) o (drawn_by_each e random) first.0 (as_many_drawn e.receivers (for_receivers e random)) some (no_members_there e.unprotected second.0) second.1 in
     (joined o.protected (key_of_first o.recipients) o.iv (kept detach o.ciphertext) o.tag, rw held refl)
 has_text false detach e random s alone some = (json_text detach (object_by e random s), refl)
 
@@ -59,12 +60,12 @@ whole_text compact detach keys e random plaintext by w few alone = by_test (not 
         rw (built_is keys e random s by w few, (has_text compact detach e random s alone by.some).1) tt
 
 -- so it is by every plan that keys and a template settle
-pub encrypting_makes_texts : EncryptingMakesTexts
-encrypting_makes_texts compact detach keys template random plaintext plan few octets h =
+pub encrypting_makes_texts : OctetLaws → EncryptingMakesTexts
+encrypting_makes_texts laws compact detach keys template random plaintext plan few key_octets octets h =
     let is = plan_is compact detach keys template random plan h in
     let e : Encryption = is.0 in
     let by = settles compact keys template e is.1 in
     let long : length e.receivers ≡ length keys = sym (length-map e.receivers (λ r. r.key)) ∙ ap length by.keys_are in
-    let w = writes keys e (take (octets_drawn e) random) by (IsOctets-take (octets_drawn e) random octets) is.2 in
+    let w = writes laws keys e (take (octets_drawn e) random) by key_octets (IsOctets-take (octets_drawn e) random octets) is.2 in
     subst (λ (p : Plan OutputTexts). IfErr (p.whole plaintext) (λ refusal. refusal ≡ Limit)) is.3
     (whole_text compact detach keys e (take (octets_drawn e) random) plaintext by w (ap (λ n. nat_le n limits.recipients) long ∙ few) (stands_alone compact keys template e is.1))

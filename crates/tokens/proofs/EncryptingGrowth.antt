@@ -78,12 +78,12 @@ written_begins laws compact detach keys template e random p q texts key_octets r
     let sealed = sealed_is (sealing_by e random) (p ++ q) s made.1 in
     let few : nat_le (length e.receivers) limits.recipients ≡ true = few_receivers e random s o.0 made.2 in
     let cek = cek_by_is keys e random (settles compact keys template e is) key_octets random_octets long in
-    let framed = has_frame compact keys template e random is few random_octets long detach in
+    let framed = has_frame compact keys template e random is few laws key_octets random_octets long detach in
     let begins : Begins front s.ciphertext = subst (λ (x : Sealed). Begins front x.ciphertext) sealed.1 (fixed_begins e random p q sealed.0) in
-    let whole = whole_is compact keys template e random is few random_octets long laws.opened cek.octets cek.fits detach framed.0 framed.1 (p ++ q) s octets made.1 in
+    let whole = whole_is compact keys template e random is few laws key_octets random_octets long cek.octets cek.fits detach framed.0 framed.1 (p ++ q) s octets made.1 in
     subst (BothBegin ((plan_by limits compact detach e random).fixed p)) (same_answer _ texts (sym whole ∙ h))
     (record {
-      text = text_begins compact detach e random framed.0 front s framed.1 (frame compact keys template e random is few random_octets long detach framed.0 framed.1).places begins;
+      text = text_begins compact detach e random framed.0 front s framed.1 (frame compact keys template e random is few laws key_octets random_octets long detach framed.0 framed.1).places begins;
       content = handed_out_begins detach front s.ciphertext begins;
     })
 

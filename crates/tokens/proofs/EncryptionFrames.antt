@@ -10,10 +10,9 @@ use Rattle.octets.specs.Plan.{plan_from}
 use Rattle.octets.proofs.Characters.{has_url_characters}
 use Rattle.octets.proofs.Decoded.{IsOctets-drop}
 use Rattle.octets.proofs.Meanings.{decodes_exactly}
-use Rattle.ciphers.specs.Sealing.{Sealed, Sealing, IsTooLong, IsOpening, cek_len}
-use Rattle.ciphers.specs.declared.content_alg.ContentAlg.{ContentAlg}
+use Rattle.ciphers.specs.Sealing.{Sealed, Sealing, IsTooLong, cek_len}
 use Rattle.ciphers.proofs.Tags.{some_tag}
-use Rattle.keys.specs.Keys.{OctetKey}
+use Rattle.keys.specs.Keys.{OctetKey, AreOctetKeys}
 use Rattle.keys.specs.Limits.{limits}
 use Rattle.keys.proofs.UrlTexts.{url_texts_are_json}
 use Rattle.objects.specs.Frames.{filled, in_places, jwe_frame, IsJweFrame}
@@ -25,10 +24,11 @@ use Rattle.objects.proofs.JweWritten.{jwe_refused}
 use Rattle.tokens.specs.Algorithms.{content_alg}
 use Rattle.tokens.specs.Choosing.{Encryption, encryption_of}
 use Rattle.tokens.specs.Decrypting.{authenticated}
-use Rattle.tokens.specs.Encrypting.{salts_drawn, cek_drawn, octets_drawn, after_salts, cek_by, iv_by, header_by, sealing_by, sealed_by, parts_by, encrypted, unsealed, frame_by, text_of, written_of, plan_by, encrypting_by}
+use Rattle.tokens.specs.Delivering.{drawn_for_all}
+use Rattle.tokens.specs.Encrypting.{cek_drawn, octets_drawn, after_receivers, cek_by, iv_by, header_by, sealing_by, sealed_by, parts_by, encrypted, unsealed, frame_by, text_of, written_of, plan_by, encrypting_by}
 use Rattle.tokens.specs.SealedTexts.{IsUnsealed}
 use Rattle.tokens.proofs.DeliveredKeys.{after_long}
-use Rattle.tokens.proofs.EncryptedHeaders.{Writes, writes}
+use Rattle.tokens.proofs.EncryptedHeaders.{OctetLaws, Writes, writes}
 use Rattle.tokens.proofs.EncryptedObjects.{object_by, built_is, sealed_is}
 use Rattle.tokens.proofs.EncryptedTexts.{has_text}
 use Rattle.tokens.proofs.EncryptingPlans.{plan_of_drawn}
@@ -40,12 +40,13 @@ same_text false detach o = refl
 
 -- keys and a template settle an encryption, and so many octets are drawn as it takes
 module _ (compact : Bool) (keys : List OctetKey) (template : List ℕ) (e : Encryption) (random : List ℕ)
-    (is : encryption_of limits compact keys template ≡ Ok e) (few : nat_le (length e.receivers) limits.recipients ≡ true) (random_octets : IsOctets random) (long : length random ≡ octets_drawn e) where
+    (is : encryption_of limits compact keys template ≡ Ok e) (few : nat_le (length e.receivers) limits.recipients ≡ true) (laws : OctetLaws) (key_octets : AreOctetKeys keys)
+    (random_octets : IsOctets random) (long : length random ≡ octets_drawn e) where
   by : Settles keys e
   by = settles compact keys template e is
 
   w : Writes e random
-  w = writes keys e random by random_octets long
+  w = writes laws keys e random by key_octets random_octets long
 
   -- the object without a ciphertext has a frame
   pub has_frame : (detach : Bool) → (texts : List (List ℕ)) × (frame_by limits compact detach e random ≡ Ok texts)
@@ -78,13 +79,12 @@ module _ (compact : Bool) (keys : List OctetKey) (template : List ℕ) (e : Encr
 
   -- ---- every plaintext
 
-  module _ (opened : (alg : ContentAlg) (cek iv aad c tag p : List ℕ) → IsOctets cek → IsOctets iv → IsOpening alg cek iv aad c tag p → IsOctets c × IsOctets tag)
-      (cek : IsOctets (cek_by e random)) (cek_fits : length (cek_by e random) ≡ cek_len (content_alg e.encryption)) where
+  module _ (cek : IsOctets (cek_by e random)) (cek_fits : length (cek_by e random) ≡ cek_len (content_alg e.encryption)) where
     sealed_octets : (p : List ℕ) → IsOctets p → (IsTooLong (sealing_by e random) p → ⊥) → IsOctets ((sealing_by e random).sealed p).ciphertext × IsOctets ((sealing_by e random).sealed p).tag
     sealed_octets p octets short =
-        let later : List ℕ = after_salts e random in
-        let iv : IsOctets (iv_by e random) = IsOctets-drop (cek_drawn e) later (IsOctets-drop (salts_drawn e.receivers) random random_octets) in
-        opened (content_alg e.encryption) (cek_by e random) (iv_by e random) (authenticated (base64url (header_by e random)) e.aad) _ _ p cek iv (record {
+        let later : List ℕ = after_receivers e random in
+        let iv : IsOctets (iv_by e random) = IsOctets-drop (cek_drawn e) later (IsOctets-drop (drawn_for_all e.receivers) random random_octets) in
+        laws.opened (content_alg e.encryption) (cek_by e random) (iv_by e random) (authenticated (base64url (header_by e random)) e.aad) _ _ p cek iv (record {
           cek_fits = cek_fits;
           iv_fits = length-drop (cek_drawn e) later ∙ omega (arith, after_long e random long);
           octets = octets;
@@ -108,16 +108,16 @@ module _ (compact : Bool) (keys : List OctetKey) (template : List ℕ) (e : Encr
 -- ---- what is settled before there is a plaintext
 
 pub is_unsealed : {S : Type 0} (is_sealing : S → Sealing → List ℕ → Type 0) (compact detach : Bool) (keys : List OctetKey) (template : List ℕ) (e : Encryption) (random octets rest : List ℕ) (sealer : S) (texts : List (List ℕ))
-    → encryption_of limits compact keys template ≡ Ok e → nat_le (length e.receivers) limits.recipients ≡ true → IsOctets random → length random ≡ octets_drawn e → octets ≡ random ++ rest
-    → ((alg : ContentAlg) (cek iv aad c tag p : List ℕ) → IsOctets cek → IsOctets iv → IsOpening alg cek iv aad c tag p → IsOctets c × IsOctets tag)
+    → encryption_of limits compact keys template ≡ Ok e → nat_le (length e.receivers) limits.recipients ≡ true → OctetLaws → AreOctetKeys keys → IsOctets random
+    → length random ≡ octets_drawn e → octets ≡ random ++ rest
     → is_sealing sealer (sealing_by e random) [] → frame_by limits compact detach e random ≡ Ok texts → IsOctets (cek_by e random) × (length (cek_by e random) ≡ cek_len (content_alg e.encryption))
     → IsUnsealed is_sealing compact detach (plan_from (encrypting_by limits compact detach keys template) octets) sealer texts
-is_unsealed is_sealing compact detach keys template e random octets rest sealer texts is few random_octets long continues opened begun framed cek = record {
+is_unsealed is_sealing compact detach keys template e random octets rest sealer texts is few laws key_octets random_octets long continues begun framed cek = record {
   encryption = e;
   random = random;
   is = plan_of_drawn limits compact detach keys template e random octets rest is long continues;
   begun = begun;
   framed = framed;
-  places = (frame compact keys template e random is few random_octets long detach texts framed).places;
-  whole = whole_is compact keys template e random is few random_octets long opened cek.0 cek.1 detach texts framed;
+  places = (frame compact keys template e random is few laws key_octets random_octets long detach texts framed).places;
+  whole = whole_is compact keys template e random is few laws key_octets random_octets long cek.0 cek.1 detach texts framed;
 }

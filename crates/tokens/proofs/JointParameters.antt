@@ -1,27 +1,29 @@
--- The parameters that are written for a receiver, as entries: the joint header with them names the algorithms, and has the salt and
--- the count of iterations of a password.
-use Rattle.std.proofs.Common.{◌≡◌, ℕ, ◌≤◌, ◌||◌, Bool, true, false, not, nat_le, List, [], ◌∷◌, length, codes, if◌then◌else◌, Option, Some, None, option_and_then, option_map, is_some, Ok, IsUtf8, refl, ◌∙◌, ap, arith}
-use Rattle.std.proofs.lemmas.Bool.{or_parts, not-false, le-leb}
+-- The parameters that are written of a delivery, as entries: the joint header with them names the algorithms, and has the parameters of
+-- key management.
+use Rattle.std.proofs.Common.{◌≡◌, ℕ, ◌≤◌, Bool, true, false, nat_le, List, [], ◌∷◌, length, codes, Option, Some, None, option_and_then, option_map, is_some, Ok, IsUtf8, refl, ◌∙◌, ap, arith}
+use Rattle.std.proofs.lemmas.Bool.{le-leb}
+use Rattle.std.specs.List.{list_all}
 use Rattle.std.specs.Option.{option_or}
 use Rattle.serde_json.specs.Data.{Data, unsigned, number, string, Members, put}
 use Rattle.serde_json.specs.Find.{get_member, as_str, as_number, as_u64}
 use Rattle.octets.specs.Octets.{IsOctets}
-use Rattle.octets.specs.Base64url.{base64url}
+use Rattle.octets.specs.Base64url.{base64url, is_url_character}
 use Rattle.octets.proofs.Characters.{has_url_characters}
 use Rattle.octets.proofs.Meanings.{decodes_exactly}
 use Rattle.keys.specs.declared.algorithm.EncryptionAlg.{EncryptionAlg}
 use Rattle.keys.specs.declared.algorithm.ManagementAlg.{ManagementAlg}
-use Rattle.keys.specs.declared.algorithm.ManagementAlg.TheVariants.{Dir, A128Kw, A192Kw, A256Kw, Pbes2Hs256A128Kw, Pbes2Hs384A192Kw, Pbes2Hs512A256Kw}
+use Rattle.keys.specs.declared.algorithm.ManagementAlg.TheVariants.{Dir, A128Kw, A192Kw, A256Kw, Pbes2Hs256A128Kw, Pbes2Hs384A192Kw, Pbes2Hs512A256Kw, A128GcmKw, A192GcmKw, A256GcmKw}
 use Rattle.keys.specs.Algorithms.{management_name, encryption_name, is_password_based}
 use Rattle.keys.specs.Limits.{limits}
 use Rattle.keys.proofs.UrlTexts.{url_texts_are_json}
-use Rattle.objects.specs.Headers.{all_members, joint_header, required, if_there, string_parameter, string_there, number_parameter, salt_parameter}
+use Rattle.objects.specs.Headers.{all_members, joint_header, required, if_there, string_parameter, string_there, number_parameter, salt_parameter, octets_parameter}
 use Rattle.objects.specs.Jwe.{Recipient, recipient_by, recipient_of}
-use Rattle.objects.specs.KeyManagement.{KeyManagement, Direct, KeyWrap, Password, password_management, management_by, key_management}
+use Rattle.objects.specs.KeyManagement.{KeyManagement, Unknown, Direct, KeyWrap, Password, GcmKeyWrap, password_management, gcm_management, management_by, key_management}
 use Rattle.objects.proofs.Members.{Entries, put_if_there, first_there, IsJsonIfThere, AreJsonEntries}
 use Rattle.objects.proofs.Spelling.{name_is_json}
 use Rattle.tokens.specs.Choosing.{with_name, with_p2c, Given}
-use Rattle.tokens.specs.Encrypting.{salt_len, with_parameters}
+use Rattle.tokens.specs.Delivering.{salt_len, drawn_by, management_with, Delivery}
+use Rattle.tokens.specs.Encrypting.{with_management, with_parameters}
 use Rattle.tokens.proofs.AlgorithmNames.{management_named, management_is_text, encryption_is_text}
 use Rattle.tokens.proofs.JointHeaders.{put_onto, IsFree, AreFree, IsJoint, IsHeader, header_onto}
 
@@ -73,23 +75,25 @@ pub there_with : {X : Type 0} (read : Data → Option X) (given : Bool) (value :
 there_with read true value x found reads is = is
 there_with read false value x found reads is = rw reads refl
 
--- ---- the parameters of a receiver
+-- ---- the parameters of a delivery
 
 -- a value as a count of iterations
 abbrev pub as_count : Data → Option ℕ
 as_count value = option_and_then as_u64 (as_number value)
 
--- the name of the algorithm and the count of iterations, unless they are given, and for a password the salt
-abbrev pub parameters : Bool → Bool → Bool → List ℕ → ℕ → List ℕ → Entries
-parameters named counted password alg p2c salt =
-    (codes "p2s", unless (not password) (string (base64url salt)))
-    ∷ (codes "p2c", unless (not password || counted) (number (unsigned p2c)))
-    ∷ (codes "alg", unless named (string alg))
-    ∷ []
+-- those of key management, with the name of the algorithm: the count of iterations and the name, unless they are given
+abbrev pub parameters : Bool → Bool → List ℕ → KeyManagement → Entries
+parameters named counted alg Unknown = (codes "alg", unless named (string alg)) ∷ []
+parameters named counted alg Direct = (codes "alg", unless named (string alg)) ∷ []
+parameters named counted alg KeyWrap = (codes "alg", unless named (string alg)) ∷ []
+parameters named counted alg (Password p2s p2c) =
+    (codes "p2s", Some (string (base64url p2s))) ∷ (codes "p2c", unless counted (number (unsigned p2c))) ∷ (codes "alg", unless named (string alg)) ∷ []
+parameters named counted alg (GcmKeyWrap iv tag) =
+    (codes "tag", Some (string (base64url tag))) ∷ (codes "iv", Some (string (base64url iv))) ∷ (codes "alg", unless named (string alg)) ∷ []
 
--- those of a receiver's algorithm
-abbrev pub parameters_by : Given → ℕ → ManagementAlg → List ℕ → Entries
-parameters_by given p2c alg salt = parameters given.alg given.p2c (is_password_based alg) (management_name alg) p2c salt
+-- those of a delivery
+abbrev pub parameters_of : Given → Delivery → Entries
+parameters_of given d = parameters given.alg given.p2c (management_name d.alg) d.management
 
 -- a name is put in unless it is given
 pub with_name_is : (given : Bool) (parameter name : List ℕ) (header : Members) → with_name given parameter name header ≡ put_if_there parameter (unless given (string name)) header
@@ -101,23 +105,22 @@ with_p2c_is : (given : Bool) (p2c : ℕ) (header : Members) → with_p2c given p
 with_p2c_is true p2c header = refl
 with_p2c_is false p2c header = refl
 
--- and for a password the salt
-with_salt_is : (password : Bool) (salt : List ℕ) (header : Members)
-    → (if password then put (codes "p2s") (string (base64url salt)) header else header) ≡ put_if_there (codes "p2s") (unless (not password) (string (base64url salt))) header
-with_salt_is true salt header = refl
-with_salt_is false salt header = refl
+-- so the parameters of key management are put in after the name of the algorithm
+with_management_is : (named counted : Bool) (alg : List ℕ) (m : KeyManagement) (header : Members)
+    → with_management counted m (with_name named (codes "alg") alg header) ≡ put_onto header (parameters named counted alg m)
+with_management_is named counted alg Unknown header = with_name_is named (codes "alg") alg header
+with_management_is named counted alg Direct header = with_name_is named (codes "alg") alg header
+with_management_is named counted alg KeyWrap header = with_name_is named (codes "alg") alg header
+with_management_is named counted alg (Password p2s p2c) header =
+    ap (put (codes "p2s") (string (base64url p2s)))
+    (with_p2c_is counted p2c (with_name named (codes "alg") alg header)
+    ∙ ap (put_if_there (codes "p2c") (unless counted (number (unsigned p2c)))) (with_name_is named (codes "alg") alg header))
+with_management_is named counted alg (GcmKeyWrap iv tag) header =
+    ap (λ ms. put (codes "tag") (string (base64url tag)) (put (codes "iv") (string (base64url iv)) ms)) (with_name_is named (codes "alg") alg header)
 
--- so the parameters are put in
-pub with_parameters_is : (given : Given) (p2c : ℕ) (alg : ManagementAlg) (salt : List ℕ) (header : Members) → with_parameters given p2c alg salt header ≡ put_onto header (parameters_by given p2c alg salt)
-with_parameters_is given p2c alg salt header =
-    let password : Bool = is_password_based alg in
-    let named : Members = with_name given.alg (codes "alg") (management_name alg) header in
-    let put_name : Members = put_onto header ((codes "alg", unless given.alg (string (management_name alg))) ∷ []) in
-    let put_p2c : Members → Members = put_if_there (codes "p2c") (unless (not password || given.p2c) (number (unsigned p2c))) in
-    let put_salt : Members → Members = put_if_there (codes "p2s") (unless (not password) (string (base64url salt))) in
-    let same : named ≡ put_name = with_name_is given.alg (codes "alg") (management_name alg) header in
-    with_salt_is password salt (with_p2c (not password || given.p2c) p2c named)
-    ∙ ap put_salt (with_p2c_is (not password || given.p2c) p2c named ∙ ap put_p2c same)
+-- and those of a delivery
+pub with_parameters_is : (given : Given) (d : Delivery) (header : Members) → with_parameters given d header ≡ put_onto header (parameters_of given d)
+with_parameters_is given d header = with_management_is given.alg given.p2c (management_name d.alg) d.management header
 
 -- the count of iterations that a header gives or lacks; it is neither 0 nor more than are read
 pub record Counted (counted : Bool) (p2c : ℕ) (header : Members) : Type 0 where
@@ -125,53 +128,139 @@ pub record Counted (counted : Bool) (p2c : ℕ) (header : Members) : Type 0 wher
   pub some : 1 ≤ p2c
   pub few : p2c ≤ 1000000
 
--- A joint header gives, or lacks, the name of the algorithm and, for a password, the count of iterations; and it lacks the salt.
+-- A joint header gives, or lacks, the name of the algorithm and, for a password, the count of iterations; and it lacks what encryption
+-- writes.
 pub record Awaits (named counted password : Bool) (alg : List ℕ) (p2c : ℕ) (header : Members) : Type 0 where
   pub alg_there : IsGiven as_str named (get_member (codes "alg") header) alg
   pub count : password ≡ true → Counted counted p2c header
-  pub unsalted : get_member (codes "p2s") header ≡ None
+  pub no_salt : get_member (codes "p2s") header ≡ None
+  pub no_iv : get_member (codes "iv") header ≡ None
+  pub no_tag : get_member (codes "tag") header ≡ None
 
 -- so does another that has the same under their names
 pub still_awaits : (named counted password : Bool) (alg : List ℕ) (p2c : ℕ) (before after : Members) → get_member (codes "alg") after ≡ get_member (codes "alg") before
     → get_member (codes "p2c") after ≡ get_member (codes "p2c") before → get_member (codes "p2s") after ≡ get_member (codes "p2s") before
+    → get_member (codes "iv") after ≡ get_member (codes "iv") before → get_member (codes "tag") after ≡ get_member (codes "tag") before
     → Awaits named counted password alg p2c before → Awaits named counted password alg p2c after
-still_awaits named counted password alg p2c before after same_alg same_p2c same_p2s is = record {
+still_awaits named counted password alg p2c before after same_alg same_p2c same_p2s same_iv same_tag is = record {
   alg_there = rw same_alg is.alg_there;
   count = λ e. let c = is.count e in record { there = rw same_p2c c.there; some = c.some; few = c.few };
-  unsalted = same_p2s ∙ is.unsalted;
+  no_salt = same_p2s ∙ is.no_salt;
+  no_iv = same_iv ∙ is.no_iv;
+  no_tag = same_tag ∙ is.no_tag;
 }
 
--- the names of the parameters are free
-pub free_names : (named counted password : Bool) (alg : List ℕ) (p2c : ℕ) (salt : List ℕ) (header : Members) → Awaits named counted password alg p2c header
-    → AreFree header (parameters named counted password alg p2c salt)
-free_names named counted password alg p2c salt header is =
-    let lacks_count : (not password || counted) ≡ false → get_member (codes "p2c") header ≡ None =
-    λ e.
-    let both = or_parts (not password) counted e in
-    not_given as_count counted (get_member (codes "p2c") header) p2c (is.count (not-false password both.0)).there both.1 in
-    let count = free_unless (not password || counted) header (codes "p2c") (number (unsigned p2c)) lacks_count in
-    let name = free_unless named header (codes "alg") (string alg) (not_given as_str named (get_member (codes "alg") header) alg is.alg_there) in
-    (free_unless (not password) header (codes "p2s") (string (base64url salt)) (λ e. is.unsalted), (count, (name, tt)))
+-- a joint header lacks the parameters of key management, but that it may give the count of iterations
+abbrev pub AwaitsManagement : Bool → KeyManagement → Members → Type 0
+AwaitsManagement counted Unknown header = Unit {0}
+AwaitsManagement counted Direct header = Unit {0}
+AwaitsManagement counted KeyWrap header = Unit {0}
+AwaitsManagement counted (Password p2s p2c) header = (get_member (codes "p2s") header ≡ None) × IsGiven as_count counted (get_member (codes "p2c") header) p2c
+AwaitsManagement counted (GcmKeyWrap iv tag) header = (get_member (codes "tag") header ≡ None) × (get_member (codes "iv") header ≡ None)
 
--- and they are JSON
-json_parameters : (named counted password : Bool) (alg : List ℕ) (p2c : ℕ) (salt : List ℕ) → IsUtf8 alg → IsOctets salt → (password ≡ true → p2c ≤ 1000000)
-    → AreJsonEntries 0 (parameters named counted password alg p2c salt)
-json_parameters named counted password alg p2c salt text octets few =
-    let salt_text : IsUtf8 (base64url salt) = (url_texts_are_json (base64url salt) (has_url_characters salt octets)).0 in
-    let whole : (not password || counted) ≡ false → IsJsonIfThere 0 (Some (number (unsigned p2c))) =
-    λ e. let most : p2c ≤ 1000000 = few (not-false password (or_parts (not password) counted e).0) in (omega arith, omega arith) in
-    let salt_json = json_unless (not password) (string (base64url salt)) (λ e. (salt_text, omega arith)) in
-    let count_json = json_unless (not password || counted) (number (unsigned p2c)) whole in
-    let name_json = json_unless named (string alg) (λ e. (text, omega arith)) in
-    let is_name = name_is_json url_texts_are_json in
-    ((is_name (codes "p2s") refl, salt_json), ((is_name (codes "p2c") refl, count_json), ((is_name (codes "alg") refl, name_json), tt)))
+-- so it does by what was drawn for an algorithm
+pub awaits_management : (named counted : Bool) (alg : ManagementAlg) (drawn : List ℕ) (p2c : ℕ) (tag : List ℕ) (header : Members)
+    → Awaits named counted (is_password_based alg) (management_name alg) p2c header → AwaitsManagement counted (management_with alg drawn p2c tag) header
+awaits_management named counted Dir drawn p2c tag header is = tt
+awaits_management named counted A128Kw drawn p2c tag header is = tt
+awaits_management named counted A192Kw drawn p2c tag header is = tt
+awaits_management named counted A256Kw drawn p2c tag header is = tt
+awaits_management named counted Pbes2Hs256A128Kw drawn p2c tag header is = (is.no_salt, (is.count refl).there)
+awaits_management named counted Pbes2Hs384A192Kw drawn p2c tag header is = (is.no_salt, (is.count refl).there)
+awaits_management named counted Pbes2Hs512A256Kw drawn p2c tag header is = (is.no_salt, (is.count refl).there)
+awaits_management named counted A128GcmKw drawn p2c tag header is = (is.no_tag, is.no_iv)
+awaits_management named counted A192GcmKw drawn p2c tag header is = (is.no_tag, is.no_iv)
+awaits_management named counted A256GcmKw drawn p2c tag header is = (is.no_tag, is.no_iv)
+
+-- then the names of the parameters are free
+pub free_names : (named counted : Bool) (alg : List ℕ) (m : KeyManagement) (header : Members) → IsGiven as_str named (get_member (codes "alg") header) alg → AwaitsManagement counted m header
+    → AreFree header (parameters named counted alg m)
+free_names named counted alg m header alg_there is = by_management m is
+  where
+    name : IsFree header (codes "alg") (unless named (string alg))
+    name = free_unless named header (codes "alg") (string alg) (not_given as_str named (get_member (codes "alg") header) alg alg_there)
+
+    by_management : (m : KeyManagement) → AwaitsManagement counted m header → AreFree header (parameters named counted alg m)
+    by_management Unknown is = (name, tt)
+    by_management Direct is = (name, tt)
+    by_management KeyWrap is = (name, tt)
+    by_management (Password p2s p2c) is =
+        (is.0, (free_unless counted header (codes "p2c") (number (unsigned p2c)) (not_given as_count counted (get_member (codes "p2c") header) p2c is.1), (name, tt)))
+    by_management (GcmKeyWrap iv tag) is = (is.0, (is.1, (name, tt)))
+
+-- The parameters of key management are octets, and those of a password as they are drawn and read.
+abbrev pub AreParameters : KeyManagement → Type 0
+AreParameters Unknown = Unit {0}
+AreParameters Direct = Unit {0}
+AreParameters KeyWrap = Unit {0}
+AreParameters (Password p2s p2c) = IsOctets p2s × (length p2s ≡ salt_len) × (1 ≤ p2c) × (p2c ≤ 1000000)
+AreParameters (GcmKeyWrap iv tag) = IsOctets iv × IsOctets tag
+
+-- so they are by what was drawn for an algorithm, where the tag that was made is octets
+pub are_parameters : (alg : ManagementAlg) (drawn : List ℕ) (p2c : ℕ) (tag : List ℕ) → IsOctets drawn → length drawn ≡ drawn_by alg
+    → (is_password_based alg ≡ true → (1 ≤ p2c) × (p2c ≤ 1000000)) → IsOctets tag → AreParameters (management_with alg drawn p2c tag)
+are_parameters Dir drawn p2c tag octets long count tag_octets = tt
+are_parameters A128Kw drawn p2c tag octets long count tag_octets = tt
+are_parameters A192Kw drawn p2c tag octets long count tag_octets = tt
+are_parameters A256Kw drawn p2c tag octets long count tag_octets = tt
+are_parameters Pbes2Hs256A128Kw drawn p2c tag octets long count tag_octets = let c = count refl in (octets, long, c.0, c.1)
+are_parameters Pbes2Hs384A192Kw drawn p2c tag octets long count tag_octets = let c = count refl in (octets, long, c.0, c.1)
+are_parameters Pbes2Hs512A256Kw drawn p2c tag octets long count tag_octets = let c = count refl in (octets, long, c.0, c.1)
+are_parameters A128GcmKw drawn p2c tag octets long count tag_octets = (octets, tag_octets)
+are_parameters A192GcmKw drawn p2c tag octets long count tag_octets = (octets, tag_octets)
+are_parameters A256GcmKw drawn p2c tag octets long count tag_octets = (octets, tag_octets)
+
+-- and then they are JSON
+json_parameters : (named counted : Bool) (alg : List ℕ) (m : KeyManagement) → IsUtf8 alg → AreParameters m → AreJsonEntries 0 (parameters named counted alg m)
+json_parameters named counted alg m text is = by_management m is
+  where
+    is_name : (name : List ℕ) → list_all is_url_character name ≡ true → IsUtf8 name
+    is_name = name_is_json url_texts_are_json
+
+    url_json : (octets : List ℕ) → IsOctets octets → IsJsonIfThere 0 (Some (string (base64url octets)))
+    url_json octets is = ((url_texts_are_json (base64url octets) (has_url_characters octets is)).0, omega arith)
+
+    name : IsUtf8 (codes "alg") × IsJsonIfThere 0 (unless named (string alg))
+    name = (is_name (codes "alg") refl, json_unless named (string alg) (λ e. (text, omega arith)))
+
+    by_management : (m : KeyManagement) → AreParameters m → AreJsonEntries 0 (parameters named counted alg m)
+    by_management Unknown is = (name, tt)
+    by_management Direct is = (name, tt)
+    by_management KeyWrap is = (name, tt)
+    by_management (Password p2s p2c) is =
+        let few : p2c ≤ 1000000 = is.3 in
+        let count_json = json_unless counted (number (unsigned p2c)) (λ e. (omega (arith, few), omega arith)) in
+        ((is_name (codes "p2s") refl, url_json p2s is.0), ((is_name (codes "p2c") refl, count_json), (name, tt)))
+    by_management (GcmKeyWrap iv tag) is = ((is_name (codes "tag") refl, url_json tag is.1), ((is_name (codes "iv") refl, url_json iv is.0), (name, tt)))
+
+-- they are not the members that are refused, nor the name of the content encryption
+no_crit : (named counted : Bool) (alg : List ℕ) (m : KeyManagement) → first_there (codes "crit") (parameters named counted alg m) ≡ None
+no_crit named counted alg Unknown = refl
+no_crit named counted alg Direct = refl
+no_crit named counted alg KeyWrap = refl
+no_crit named counted alg (Password p2s p2c) = refl
+no_crit named counted alg (GcmKeyWrap iv tag) = refl
+
+no_zip : (named counted : Bool) (alg : List ℕ) (m : KeyManagement) → first_there (codes "zip") (parameters named counted alg m) ≡ None
+no_zip named counted alg Unknown = refl
+no_zip named counted alg Direct = refl
+no_zip named counted alg KeyWrap = refl
+no_zip named counted alg (Password p2s p2c) = refl
+no_zip named counted alg (GcmKeyWrap iv tag) = refl
+
+no_enc : (named counted : Bool) (alg : List ℕ) (m : KeyManagement) → first_there (codes "enc") (parameters named counted alg m) ≡ None
+no_enc named counted alg Unknown = refl
+no_enc named counted alg Direct = refl
+no_enc named counted alg KeyWrap = refl
+no_enc named counted alg (Password p2s p2c) = refl
+no_enc named counted alg (GcmKeyWrap iv tag) = refl
 
 -- so a header stays one that may be written
-pub header_with : (given : Given) (p2c : ℕ) (alg : ManagementAlg) (salt : List ℕ) (header : Members) → IsHeader header → IsOctets salt → (is_password_based alg ≡ true → p2c ≤ 1000000)
-    → IsHeader (with_parameters given p2c alg salt header)
-header_with given p2c alg salt header is octets few =
-    rw with_parameters_is (header_onto header (parameters_by given p2c alg salt) is
-    (json_parameters given.alg given.p2c (is_password_based alg) (management_name alg) p2c salt (management_is_text alg) octets few) refl refl)
+pub header_with : (given : Given) (d : Delivery) (header : Members) → IsHeader header → AreParameters d.management → IsHeader (with_parameters given d header)
+header_with given d header is parameters =
+    let name : List ℕ = management_name d.alg in
+    rw with_parameters_is (header_onto header (parameters_of given d) is (json_parameters given.alg given.p2c name d.management (management_is_text d.alg) parameters)
+    (no_crit given.alg given.p2c name d.management) (no_zip given.alg given.p2c name d.management))
 
 -- as with the name of a content encryption
 pub header_with_enc : (given : Bool) (enc : EncryptionAlg) (header : Members) → IsHeader header → IsHeader (put_onto header ((codes "enc", unless given (string (encryption_name enc))) ∷ []))
@@ -182,78 +271,98 @@ header_with_enc given enc header is =
 
 -- ---- the recipient that is read
 
--- a header has the salt of a password, and the count of iterations, which is not 0
-record HasPassword (salt : List ℕ) (p2c : ℕ) (header : Members) : Type 0 where
-  salt_there : if_there as_str (get_member (codes "p2s") header) ≡ Ok (Some (base64url salt))
-  count_there : if_there as_count (get_member (codes "p2c") header) ≡ Ok (Some p2c)
-  some : 1 ≤ p2c
+-- a header has the parameters of key management
+abbrev HasManagement : KeyManagement → Members → Type 0
+HasManagement Unknown header = Unit {0}
+HasManagement Direct header = Unit {0}
+HasManagement KeyWrap header = Unit {0}
+HasManagement (Password p2s p2c) header =
+    (if_there as_str (get_member (codes "p2s") header) ≡ Ok (Some (base64url p2s))) × (if_there as_count (get_member (codes "p2c") header) ≡ Ok (Some p2c))
+HasManagement (GcmKeyWrap iv tag) header =
+    (if_there as_str (get_member (codes "iv") header) ≡ Ok (Some (base64url iv))) × (if_there as_str (get_member (codes "tag") header) ≡ Ok (Some (base64url tag)))
 
--- so they are read
-read_password : (salt : List ℕ) (p2c : ℕ) (header : Members) → HasPassword salt p2c header → IsOctets salt → length salt ≡ salt_len → password_management header ≡ Ok (Password salt p2c)
+-- so those of a password are read
+read_password : (salt : List ℕ) (p2c : ℕ) (header : Members) → HasManagement (Password salt p2c) header → AreParameters (Password salt p2c) → password_management header ≡ Ok (Password salt p2c)
 unfolding password_management salt_parameter string_parameter number_parameter
-read_password salt p2c header is octets long =
-    let enough : nat_le 8 (length salt) ≡ true = le-leb 8 (length salt) (omega (arith, long)) in
-    let some : nat_le 1 p2c ≡ true = le-leb 1 p2c is.some in
-    rw (is.salt_there, decodes_exactly.round_trip salt octets, enough, is.count_there, some) refl
+read_password salt p2c header there is =
+    let enough : nat_le 8 (length salt) ≡ true = le-leb 8 (length salt) (omega (arith, is.1)) in
+    let some : nat_le 1 p2c ≡ true = le-leb 1 p2c is.2 in
+    rw (there.0, decodes_exactly.round_trip salt is.0, enough, there.1, some) refl
 
--- how a receiver with this algorithm is delivered the content encryption key
-abbrev pub delivery_by : ManagementAlg → List ℕ → ℕ → KeyManagement
-delivery_by Dir salt p2c = Direct
-delivery_by A128Kw salt p2c = KeyWrap
-delivery_by A192Kw salt p2c = KeyWrap
-delivery_by A256Kw salt p2c = KeyWrap
-delivery_by Pbes2Hs256A128Kw salt p2c = Password salt p2c
-delivery_by Pbes2Hs384A192Kw salt p2c = Password salt p2c
-delivery_by Pbes2Hs512A256Kw salt p2c = Password salt p2c
+-- and those of a key wrap by AES in GCM
+read_gcm_key_wrap : (iv tag : List ℕ) (header : Members) → HasManagement (GcmKeyWrap iv tag) header → AreParameters (GcmKeyWrap iv tag) → gcm_management header ≡ Ok (GcmKeyWrap iv tag)
+unfolding gcm_management octets_parameter string_parameter
+read_gcm_key_wrap iv tag header there is = rw (there.0, decodes_exactly.round_trip iv is.0, there.1, decodes_exactly.round_trip tag is.1) refl
 
--- the header says so, where it has the parameters of a password
-read_management : (alg : ManagementAlg) (salt : List ℕ) (p2c : ℕ) (header : Members) → (is_password_based alg ≡ true → HasPassword salt p2c header) → IsOctets salt
-    → length salt ≡ (if is_password_based alg then salt_len else 0) → management_by (Some alg) header ≡ Ok (delivery_by alg salt p2c)
-read_management Dir salt p2c header there octets long = refl
-read_management A128Kw salt p2c header there octets long = refl
-read_management A192Kw salt p2c header there octets long = refl
-read_management A256Kw salt p2c header there octets long = refl
-read_management Pbes2Hs256A128Kw salt p2c header there octets long = read_password salt p2c header (there refl) octets long
-read_management Pbes2Hs384A192Kw salt p2c header there octets long = read_password salt p2c header (there refl) octets long
-read_management Pbes2Hs512A256Kw salt p2c header there octets long = read_password salt p2c header (there refl) octets long
+-- by an algorithm and what was drawn for it
+read_management : (alg : ManagementAlg) (drawn : List ℕ) (p2c : ℕ) (tag : List ℕ) (header : Members) → HasManagement (management_with alg drawn p2c tag) header
+    → AreParameters (management_with alg drawn p2c tag) → management_by (Some alg) header ≡ Ok (management_with alg drawn p2c tag)
+read_management Dir drawn p2c tag header there is = refl
+read_management A128Kw drawn p2c tag header there is = refl
+read_management A192Kw drawn p2c tag header there is = refl
+read_management A256Kw drawn p2c tag header there is = refl
+read_management Pbes2Hs256A128Kw drawn p2c tag header there is = read_password drawn p2c header there is
+read_management Pbes2Hs384A192Kw drawn p2c tag header there is = read_password drawn p2c header there is
+read_management Pbes2Hs512A256Kw drawn p2c tag header there is = read_password drawn p2c header there is
+read_management A128GcmKw drawn p2c tag header there is = read_gcm_key_wrap drawn tag header there is
+read_management A192GcmKw drawn p2c tag header there is = read_gcm_key_wrap drawn tag header there is
+read_management A256GcmKw drawn p2c tag header there is = read_gcm_key_wrap drawn tag header there is
 
--- the recipient with these headers, of a receiver with this algorithm
-abbrev pub recipient : Members → List ℕ → ManagementAlg → EncryptionAlg → List ℕ → ℕ → Recipient
-recipient own key alg enc salt p2c = record {
+-- the recipient of a delivery, with this header
+abbrev pub recipient : Members → Delivery → EncryptionAlg → Recipient
+recipient own d enc = record {
   header = own;
-  encrypted_key = key;
-  alg = management_name alg;
+  encrypted_key = d.encrypted_key;
+  alg = management_name d.alg;
   enc = encryption_name enc;
-  management = delivery_by alg salt p2c;
+  management = d.management;
 }
 
--- a joint header with the parameters of a password has them, beside what awaited them
-password_there : (named counted password : Bool) (alg : List ℕ) (p2c : ℕ) (salt : List ℕ) (header before : Members)
-    → ((name : List ℕ) → get_member name header ≡ option_or (first_there name (parameters named counted password alg p2c salt)) (get_member name before))
-    → Awaits named counted password alg p2c before → password ≡ true → HasPassword salt p2c header
-password_there named counted true alg p2c salt header before members is e =
-    let count = is.count refl in
-    record {
-      salt_there = ap (if_there as_str) (members (codes "p2s"));
-      count_there = ap (if_there as_count) (members (codes "p2c")) ∙ there_with as_count counted (number (unsigned p2c)) p2c (get_member (codes "p2c") before) refl count.there;
-      some = count.some;
-    }
-password_there named counted false alg p2c salt header before members is e = cc e
+-- where a header has entries beside the members of another
+abbrev HasEntries : Members → Entries → Members → Type 0
+HasEntries header es before = (name : List ℕ) → get_member name header ≡ option_or (first_there name es) (get_member name before)
+
+-- a joint header with the parameters of key management has them, beside what awaited them
+management_there : (named counted : Bool) (alg : List ℕ) (m : KeyManagement) (header before : Members) → HasEntries header (parameters named counted alg m) before
+    → AwaitsManagement counted m before → HasManagement m header
+management_there named counted alg Unknown header before members is = tt
+management_there named counted alg Direct header before members is = tt
+management_there named counted alg KeyWrap header before members is = tt
+management_there named counted alg (Password p2s p2c) header before members is = (
+  ap (if_there as_str) (members (codes "p2s")),
+  ap (if_there as_count) (members (codes "p2c")) ∙ there_with as_count counted (number (unsigned p2c)) p2c (get_member (codes "p2c") before) refl is.1,
+)
+management_there named counted alg (GcmKeyWrap iv tag) header before members is = (ap (if_there as_str) (members (codes "iv")), ap (if_there as_str) (members (codes "tag")))
+
+-- and the name of the algorithm
+name_found : (named counted : Bool) (alg : List ℕ) (m : KeyManagement) → first_there (codes "alg") (parameters named counted alg m) ≡ option_or (unless named (string alg)) None
+name_found named counted alg Unknown = refl
+name_found named counted alg Direct = refl
+name_found named counted alg KeyWrap = refl
+name_found named counted alg (Password p2s p2c) = refl
+name_found named counted alg (GcmKeyWrap iv tag) = refl
+
+name_there : (named counted : Bool) (alg : List ℕ) (m : KeyManagement) (header before : Members) → HasEntries header (parameters named counted alg m) before
+    → IsGiven as_str named (get_member (codes "alg") before) alg → if_there as_str (get_member (codes "alg") header) ≡ Ok (Some alg)
+name_there named counted alg m header before members is =
+    ap (if_there as_str) (members (codes "alg") ∙ ap (λ found. option_or found (get_member (codes "alg") before)) (name_found named counted alg m))
+    ∙ there_with as_str named (string alg) alg (get_member (codes "alg") before) refl is
 
 -- it is read where the joint header has the parameters beside what awaits them
-pub recipient_is_read : (given : Given) (p2c : ℕ) (alg : ManagementAlg) (enc : EncryptionAlg) (salt : List ℕ) (p u own before : Members) (key : List ℕ)
-    → IsJoint p u own (parameters_by given p2c alg salt) before → Awaits given.alg given.p2c (is_password_based alg) (management_name alg) p2c before
-    → if_there as_str (get_member (codes "enc") before) ≡ Ok (Some (encryption_name enc)) → IsOctets salt → length salt ≡ (if is_password_based alg then salt_len else 0)
-    → recipient_of limits.management p u (record { header = own; encrypted_key = key }) ≡ Ok (recipient own key alg enc salt p2c)
+pub recipient_is_read : (given : Given) (alg : ManagementAlg) (drawn : List ℕ) (p2c : ℕ) (tag key : List ℕ) (enc : EncryptionAlg) (p u own before : Members)
+    → (let d : Delivery = record { alg = alg; management = management_with alg drawn p2c tag; encrypted_key = key } in
+    IsJoint p u own (parameters_of given d) before → Awaits given.alg given.p2c (is_password_based alg) (management_name alg) p2c before
+    → if_there as_str (get_member (codes "enc") before) ≡ Ok (Some (encryption_name enc)) → AreParameters d.management
+    → recipient_of limits.management p u (record { header = own; encrypted_key = key }) ≡ Ok (recipient own d enc))
 unfolding recipient_of joint_header recipient_by string_there string_parameter
-recipient_is_read given p2c alg enc salt p u own before key joint awaits enc_there octets long =
+recipient_is_read given alg drawn p2c tag key enc p u own before joint awaits enc_there is =
+    let m : KeyManagement = management_with alg drawn p2c tag in
     let header : Members = all_members p u own in
-    let password : Bool = is_password_based alg in
     let alg_read : if_there as_str (get_member (codes "alg") header) ≡ Ok (Some (management_name alg)) =
-    ap (if_there as_str) (joint.members (codes "alg"))
-    ∙ there_with as_str given.alg (string (management_name alg)) (management_name alg) (get_member (codes "alg") before) refl awaits.alg_there in
-    let enc_read : if_there as_str (get_member (codes "enc") header) ≡ Ok (Some (encryption_name enc)) = ap (if_there as_str) (joint.members (codes "enc")) ∙ enc_there in
-    let read : key_management limits.management (management_name alg) header ≡ Ok (delivery_by alg salt p2c) =
-    rw management_named (read_management alg salt p2c header
-    (password_there given.alg given.p2c password (management_name alg) p2c salt header before joint.members awaits) octets long) in
+    name_there given.alg given.p2c (management_name alg) m header before joint.members awaits.alg_there in
+    let enc_read : if_there as_str (get_member (codes "enc") header) ≡ Ok (Some (encryption_name enc)) =
+    ap (if_there as_str) (joint.members (codes "enc") ∙ ap (λ found. option_or found (get_member (codes "enc") before)) (no_enc given.alg given.p2c (management_name alg) m)) ∙ enc_there in
+    let read : key_management limits.management (management_name alg) header ≡ Ok m =
+    rw management_named (read_management alg drawn p2c tag header
+    (management_there given.alg given.p2c (management_name alg) m header before joint.members (awaits_management given.alg given.p2c alg drawn p2c tag before awaits)) is) in
     rw (joint.disjoint, alg_read, enc_read, read) refl

@@ -27,8 +27,8 @@ pub mod JointHeaders
 pub mod JointParameters
 pub mod EncryptedTemplates
 pub mod SettledEncryptions
-pub mod EncryptedHeaders
 pub mod DeliveredKeys
+pub mod EncryptedHeaders
 pub mod EncryptedObjects
 pub mod EncryptedTexts
 pub mod DecryptedPairs

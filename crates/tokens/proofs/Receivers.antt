@@ -14,7 +14,7 @@ use Rattle.keys.specs.declared.algorithm.Algorithm.TheVariants.{Encryption as En
 use Rattle.keys.specs.declared.algorithm.EncryptionAlg.{EncryptionAlg}
 use Rattle.keys.specs.declared.algorithm.EncryptionAlg.TheVariants.{A128CbcHs256, A192CbcHs384, A256CbcHs512, A128Gcm, A192Gcm, A256Gcm}
 use Rattle.keys.specs.declared.algorithm.ManagementAlg.{ManagementAlg}
-use Rattle.keys.specs.declared.algorithm.ManagementAlg.TheVariants.{Dir, A128Kw, A192Kw, A256Kw, Pbes2Hs256A128Kw, Pbes2Hs384A192Kw, Pbes2Hs512A256Kw}
+use Rattle.keys.specs.declared.algorithm.ManagementAlg.TheVariants.{Dir, A128Kw, A192Kw, A256Kw, Pbes2Hs256A128Kw, Pbes2Hs384A192Kw, Pbes2Hs512A256Kw, A128GcmKw, A192GcmKw, A256GcmKw}
 use Rattle.keys.specs.Algorithms.{is_password_based, management_operations}
 use Rattle.keys.specs.Keys.{allows, fits}
 use Rattle.keys.specs.Limits.{limits}
@@ -22,6 +22,7 @@ use Rattle.keys.specs.Views.{key_view}
 use Rattle.tokens.specs.declared.receiver.Receiver.{Receiver as Code}
 use Rattle.tokens.specs.Algorithms.{key_alg, content_alg}
 use Rattle.tokens.specs.Choosing.{is_direct, stand_together, may_encrypt, passwords, is_written}
+use Rattle.tokens.specs.Delivering.{drawn_by}
 use Rattle.tokens.specs.Encrypting.{direct_key}
 use Rattle.tokens.specs.Views.{receiver_view}
 use Rattle.tokens.proofs.Candidates.{direct_key_fits}
@@ -109,16 +110,22 @@ counts_where_password A256Kw p2c h = tt
 counts_where_password Pbes2Hs256A128Kw p2c h = leb-true 1 p2c h
 counts_where_password Pbes2Hs384A192Kw p2c h = leb-true 1 p2c h
 counts_where_password Pbes2Hs512A256Kw p2c h = leb-true 1 p2c h
+counts_where_password A128GcmKw p2c h = tt
+counts_where_password A192GcmKw p2c h = tt
+counts_where_password A256GcmKw p2c h = tt
 
--- no algorithm reads an initialization vector
-pub no_iv : (alg : ManagementAlg) (iv : List ℕ) → IsIvOf (key_alg alg) iv
-no_iv Dir iv = tt
-no_iv A128Kw iv = tt
-no_iv A192Kw iv = tt
-no_iv A256Kw iv = tt
-no_iv Pbes2Hs256A128Kw iv = tt
-no_iv Pbes2Hs384A192Kw iv = tt
-no_iv Pbes2Hs512A256Kw iv = tt
+-- what is drawn for an algorithm is an initialization vector of its length, where it reads one
+pub iv_of_drawn : (alg : ManagementAlg) (drawn : List ℕ) → length drawn ≡ drawn_by alg → IsIvOf (key_alg alg) drawn
+iv_of_drawn Dir drawn long = tt
+iv_of_drawn A128Kw drawn long = tt
+iv_of_drawn A192Kw drawn long = tt
+iv_of_drawn A256Kw drawn long = tt
+iv_of_drawn Pbes2Hs256A128Kw drawn long = tt
+iv_of_drawn Pbes2Hs384A192Kw drawn long = tt
+iv_of_drawn Pbes2Hs512A256Kw drawn long = tt
+iv_of_drawn A128GcmKw drawn long = long
+iv_of_drawn A192GcmKw drawn long = long
+iv_of_drawn A256GcmKw drawn long = long
 
 -- a content encryption key has 64 octets at most
 pub cek_size : (enc : EncryptionAlg) → ciphers.cek_len (content_alg enc) ≤ 64
@@ -148,6 +155,9 @@ direct_fits enc (r ∷ rest) key fit is =
     by_management Pbes2Hs256A128Kw fit is = cc is
     by_management Pbes2Hs384A192Kw fit is = cc is
     by_management Pbes2Hs512A256Kw fit is = cc is
+    by_management A128GcmKw fit is = cc is
+    by_management A192GcmKw fit is = cc is
+    by_management A256GcmKw fit is = cc is
 
 -- a key that is used directly is the content encryption key, since it is alone
 pub direct_is_cek : (receivers : List Code) (drawn cek : List ℕ) → list_all (λ r. not (is_direct r.management) || nat_le (length receivers) 1) receivers ≡ true

@@ -149,7 +149,9 @@ awaits p u asked receivers p2c is chosen written r named some =
     record {
       alg_there = given_if_asked as_str management_name (get_member (codes "alg") header) asked.management r.management is.management named;
       count = λ password. counted (passwords receivers) asked.p2c p2c header is.count chosen written (some password);
-      unsalted = is.unsalted;
+      no_salt = is.no_salt;
+      no_iv = is.no_iv;
+      no_tag = is.no_tag;
     }
 
 -- a receiver that may encrypt, and whose parameters are awaited, receives
@@ -220,7 +222,7 @@ settled_by compact keys t rs enc p2c is by =
     let awaits_each : AllByRecursion (AwaitsReceiver e) rs =
     all_both (λ r named some.
     still_awaits e.given.alg e.given.p2c (is_password_based r.management) (management_name r.management) p2c header (joint_of e)
-    (joint.members (codes "alg")) (joint.members (codes "p2c")) (joint.members (codes "p2s"))
+    (joint.members (codes "alg")) (joint.members (codes "p2c")) (joint.members (codes "p2s")) (joint.members (codes "iv")) (joint.members (codes "tag"))
     (awaits t.protected t.unprotected t.asked rs p2c is.asks by.count by.written r named some)) rs named_each (password_counts rs (passwords rs) (omega arith)) in
     subst (λ p. Settles keys (encryption_by t rs enc p2c p)) (sym (with_name_is given (codes "enc") (encryption_name enc) t.protected))
     (record {

@@ -8,8 +8,8 @@ use Rattle.ciphers.specs.declared.key_alg.KeyAlg.TheVariants as delivery
 use Rattle.keys.specs.declared.algorithm.EncryptionAlg.{EncryptionAlg}
 use Rattle.keys.specs.declared.algorithm.EncryptionAlg.TheVariants.{A128CbcHs256, A192CbcHs384, A256CbcHs512, A128Gcm, A192Gcm, A256Gcm}
 use Rattle.keys.specs.declared.algorithm.ManagementAlg.{ManagementAlg}
-use Rattle.keys.specs.declared.algorithm.ManagementAlg.TheVariants.{Dir, A128Kw, A192Kw, A256Kw, Pbes2Hs256A128Kw, Pbes2Hs384A192Kw, Pbes2Hs512A256Kw}
-use Rattle.objects.specs.KeyManagement.{KeyManagement, Unknown, Direct, KeyWrap, Password}
+use Rattle.keys.specs.declared.algorithm.ManagementAlg.TheVariants.{Dir, A128Kw, A192Kw, A256Kw, Pbes2Hs256A128Kw, Pbes2Hs384A192Kw, Pbes2Hs512A256Kw, A128GcmKw, A192GcmKw, A256GcmKw}
+use Rattle.objects.specs.KeyManagement.{KeyManagement, Unknown, Direct, KeyWrap, Password, GcmKeyWrap}
 
 -- of content encryption (RFC 7518 section 5.1)
 abbrev pub content_alg : EncryptionAlg → ContentAlg
@@ -29,6 +29,9 @@ key_alg A256Kw = delivery.A256Kw
 key_alg Pbes2Hs256A128Kw = delivery.Pbes2Hs256A128Kw
 key_alg Pbes2Hs384A192Kw = delivery.Pbes2Hs384A192Kw
 key_alg Pbes2Hs512A256Kw = delivery.Pbes2Hs512A256Kw
+key_alg A128GcmKw = delivery.A128GcmKw
+key_alg A192GcmKw = delivery.A192GcmKw
+key_alg A256GcmKw = delivery.A256GcmKw
 
 -- where an algorithm reads no parameters
 abbrev pub no_parameters : Parameters
@@ -40,6 +43,7 @@ parameters_by Unknown = no_parameters
 parameters_by Direct = no_parameters
 parameters_by KeyWrap = no_parameters
 parameters_by (Password p2s p2c) = record { iv = []; tag = []; p2s = p2s; p2c = p2c }
+parameters_by (GcmKeyWrap iv tag) = record { iv = iv; tag = tag; p2s = []; p2c = 0 }
 
 -- both algorithms of an encrypted object
 pub record Algorithms : Type 0 where

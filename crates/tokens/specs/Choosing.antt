@@ -11,7 +11,7 @@ use Rattle.keys.specs.declared.algorithm.Algorithm.TheVariants.{Encryption as En
 use Rattle.keys.specs.declared.algorithm.EncryptionAlg.{EncryptionAlg}
 use Rattle.keys.specs.declared.algorithm.EncryptionAlg.TheVariants.{A128CbcHs256, A192CbcHs384, A256CbcHs512}
 use Rattle.keys.specs.declared.algorithm.ManagementAlg.{ManagementAlg}
-use Rattle.keys.specs.declared.algorithm.ManagementAlg.TheVariants.{Dir, A128Kw, A192Kw, A256Kw, Pbes2Hs256A128Kw, Pbes2Hs384A192Kw, Pbes2Hs512A256Kw}
+use Rattle.keys.specs.declared.algorithm.ManagementAlg.TheVariants.{Dir, A128Kw, A192Kw, A256Kw, Pbes2Hs256A128Kw, Pbes2Hs384A192Kw, Pbes2Hs512A256Kw, A128GcmKw, A192GcmKw, A256GcmKw}
 use Rattle.keys.specs.Algorithms.{encryption_name, management_alg_of, encryption_alg_of, is_password_based, management_operations}
 use Rattle.keys.specs.Json.{json_value}
 use Rattle.keys.specs.Keys.{OctetKey, allows, fits}
@@ -67,6 +67,9 @@ encryption_by_management A256Kw key = Some A256CbcHs512
 encryption_by_management Pbes2Hs256A128Kw key = Some A128CbcHs256
 encryption_by_management Pbes2Hs384A192Kw key = Some A192CbcHs384
 encryption_by_management Pbes2Hs512A256Kw key = Some A256CbcHs512
+encryption_by_management A128GcmKw key = Some A128CbcHs256
+encryption_by_management A192GcmKw key = Some A192CbcHs384
+encryption_by_management A256GcmKw key = Some A256CbcHs512
 
 -- that of the template, or that one
 abbrev pub chosen_encryption : Option EncryptionAlg → ManagementAlg → OctetKey → Result EncryptionAlg Refusal
@@ -93,6 +96,9 @@ is_direct A256Kw = false
 is_direct Pbes2Hs256A128Kw = false
 is_direct Pbes2Hs384A192Kw = false
 is_direct Pbes2Hs512A256Kw = false
+is_direct A128GcmKw = false
+is_direct A192GcmKw = false
+is_direct A256GcmKw = false
 
 abbrev pub is_alone : List Receiver → Bool
 is_alone receivers = nat_le (length receivers) 1

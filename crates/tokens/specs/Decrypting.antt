@@ -11,12 +11,12 @@ use Rattle.ciphers.specs.Openings.{opening, delivered}
 use Rattle.keys.specs.declared.algorithm.Algorithm.TheVariants.{Encryption}
 use Rattle.keys.specs.declared.algorithm.EncryptionAlg.{EncryptionAlg}
 use Rattle.keys.specs.declared.algorithm.ManagementAlg.{ManagementAlg}
-use Rattle.keys.specs.declared.algorithm.ManagementAlg.TheVariants.{Dir, A128Kw, A192Kw, A256Kw, Pbes2Hs256A128Kw, Pbes2Hs384A192Kw, Pbes2Hs512A256Kw}
+use Rattle.keys.specs.declared.algorithm.ManagementAlg.TheVariants.{Dir, A128Kw, A192Kw, A256Kw, Pbes2Hs256A128Kw, Pbes2Hs384A192Kw, Pbes2Hs512A256Kw, A128GcmKw, A192GcmKw, A256GcmKw}
 use Rattle.keys.specs.Algorithms.{management_alg_among, encryption_alg_of, management_operations}
 use Rattle.keys.specs.Keys.{OctetKey, allows, fits}
 use Rattle.keys.specs.Limits.{Limits, limits}
 use Rattle.objects.specs.Jwe.{Recipient, EncryptedObject}
-use Rattle.objects.specs.KeyManagement.{KeyManagement, Unknown, Direct, KeyWrap, Password}
+use Rattle.objects.specs.KeyManagement.{KeyManagement, Unknown, Direct, KeyWrap, Password, GcmKeyWrap}
 use Rattle.tokens.specs.Algorithms.{Algorithms, content_alg, key_alg, parameters_by}
 
 -- ---- the pairs that are tried
@@ -65,6 +65,7 @@ iterations_by Unknown = 0
 iterations_by Direct = 0
 iterations_by KeyWrap = 0
 iterations_by (Password p2s p2c) = p2c
+iterations_by (GcmKeyWrap iv tag) = 0
 
 -- and a pair
 abbrev pub iterations_of : Pair → ℕ
@@ -143,6 +144,9 @@ unwraps_of A256Kw = 1
 unwraps_of Pbes2Hs256A128Kw = 1
 unwraps_of Pbes2Hs384A192Kw = 1
 unwraps_of Pbes2Hs512A256Kw = 1
+unwraps_of A128GcmKw = 1
+unwraps_of A192GcmKw = 1
+unwraps_of A256GcmKw = 1
 
 -- with one pair more, which opens or tries the content where a content encryption key is delivered
 abbrev pub with_pair : Counts → Pair → Counts

@@ -1,5 +1,5 @@
 -- Encrypting to each key of a set (RFC 7516 section 5.1), in compact form (section 7.1) or in JSON form (section 7.2).
-use Rattle.std.specs.Prelude.{◌≡◌, ℕ, ◌+◌, ◌||◌, Bool, true, false, not, nat_le, List, [], ◌∷◌, ◌++◌, length, take, drop, codes, if◌then◌else◌, Option, Some, None, Result, Ok, IfErr}
+use Rattle.std.specs.Prelude.{◌≡◌, ℕ, ◌+◌, Bool, true, false, not, nat_le, List, [], ◌∷◌, ◌++◌, length, map, take, drop, codes, if◌then◌else◌, Option, Some, None, Result, Ok, IfErr}
 use Rattle.std.specs.List.{AllByRecursion}
 use Rattle.std.specs.Option.{unwrap_or}
 use Rattle.serde_json.specs.Data.{Members, no_members, string, put}
@@ -9,36 +9,23 @@ use Rattle.octets.specs.Outcomes.{◌>>=◌, needs}
 use Rattle.octets.specs.Base64url.{base64url, whole_groups}
 use Rattle.octets.specs.Octets.{IsOctets}
 use Rattle.octets.specs.Plan.{OutputTexts, Plan, BothGrow, Draft, planned, plan_from}
-use Rattle.ciphers.specs.Delivery.{Parameters, encrypted_key_of}
 use Rattle.ciphers.specs.Openings.{is_longer}
 use Rattle.ciphers.specs.Sealing.{Sealed, Sealing, sealing, cek_len, iv_len}
-use Rattle.keys.specs.declared.algorithm.ManagementAlg.{ManagementAlg}
-use Rattle.keys.specs.Algorithms.{management_name, is_password_based, management_operations}
+use Rattle.keys.specs.Algorithms.{management_name, management_operations}
 use Rattle.keys.specs.Keys.{OctetKey, AreOctetKeys, allows}
 use Rattle.keys.specs.Limits.{Limits, limits}
 use Rattle.objects.specs.Frames.{first_text, jwe_frame}
+use Rattle.objects.specs.KeyManagement.{KeyManagement, Unknown, Direct, KeyWrap, Password, GcmKeyWrap}
 use Rattle.objects.specs.Jwe.{RecipientParts, JweParts, EncryptedObject, built, json_text, jwe_compact_text, jwe_of}
 use Rattle.objects.specs.Texts.{handed_in, handed_out}
-use Rattle.tokens.specs.Algorithms.{content_alg, key_alg}
+use Rattle.tokens.specs.Algorithms.{content_alg}
 use Rattle.tokens.specs.Choosing.{Receiver, is_direct, is_alone, with_name, with_p2c, Given, Encryption, encryption_of}
 use Rattle.tokens.specs.Decrypting.{authenticated, all_pairs, sealed_content, opened_by, decrypted}
+use Rattle.tokens.specs.Delivering.{drawn_for_all, Delivery, deliveries_to}
 use Rattle.tokens.specs.Template.{header_text}
 
--- ---- what is drawn: the salt of each password in order, the content encryption key, unless a key is it, and the initialization
--- vector
-
--- the octets of a salt
-abbrev pub salt_len : ℕ
-salt_len = 16
-
--- how many octets are drawn for a receiver
-abbrev pub salt_drawn : Receiver → ℕ
-salt_drawn r = if is_password_based r.management then salt_len else 0
-
--- and for all of them
-abbrev pub salts_drawn : List Receiver → ℕ
-salts_drawn [] = 0
-salts_drawn (r ∷ rest) = salt_drawn r + salts_drawn rest
+-- ---- what is drawn: what the receivers take in order, the content encryption key, unless a key is it, and the initialization vector
+-- of the content
 
 -- the key that is used directly, if one is: it is the only one
 abbrev pub direct_key : List Receiver → Option (List ℕ)
@@ -54,68 +41,61 @@ abbrev pub cek_drawn : Encryption → ℕ
 cek_drawn e = drawn_cek (direct_key e.receivers) (cek_len (content_alg e.encryption))
 
 abbrev pub octets_drawn : Encryption → ℕ
-octets_drawn e = salts_drawn e.receivers + cek_drawn e + iv_len (content_alg e.encryption)
+octets_drawn e = drawn_for_all e.receivers + cek_drawn e + iv_len (content_alg e.encryption)
 
-abbrev pub salts_by : Encryption → List ℕ → List ℕ
-salts_by e random = take (salts_drawn e.receivers) random
+abbrev pub for_receivers : Encryption → List ℕ → List ℕ
+for_receivers e random = take (drawn_for_all e.receivers) random
 
-abbrev pub after_salts : Encryption → List ℕ → List ℕ
-after_salts e random = drop (salts_drawn e.receivers) random
+abbrev pub after_receivers : Encryption → List ℕ → List ℕ
+after_receivers e random = drop (drawn_for_all e.receivers) random
 
 abbrev pub cek_by : Encryption → List ℕ → List ℕ
-cek_by e random = unwrap_or (direct_key e.receivers) (take (cek_drawn e) (after_salts e random))
+cek_by e random = unwrap_or (direct_key e.receivers) (take (cek_drawn e) (after_receivers e random))
 
 abbrev pub iv_by : Encryption → List ℕ → List ℕ
-iv_by e random = drop (cek_drawn e) (after_salts e random)
+iv_by e random = drop (cek_drawn e) (after_receivers e random)
+
+abbrev pub deliveries_by : Encryption → List ℕ → List Delivery
+deliveries_by e random = deliveries_to e (cek_by e random) e.receivers (for_receivers e random)
 
 -- ---- the headers
 
--- with the salt of a password (RFC 7518 section 4.8.1.1)
-abbrev pub with_salt : ManagementAlg → List ℕ → Members → Members
-with_salt alg salt header = if is_password_based alg then put (codes "p2s") (string (base64url salt)) header else header
+-- with the parameters of key management, but for the iterations where the template gives them (RFC 7518 sections 4.7.1 and 4.8.1)
+abbrev pub with_management : Bool → KeyManagement → Members → Members
+with_management given Unknown header = header
+with_management given Direct header = header
+with_management given KeyWrap header = header
+with_management given (Password p2s p2c) header = put (codes "p2s") (string (base64url p2s)) (with_p2c given p2c header)
+with_management given (GcmKeyWrap iv tag) header = put (codes "tag") (string (base64url tag)) (put (codes "iv") (string (base64url iv)) header)
 
--- With what is written for a receiver, unless the template gives it: the name of the algorithm, and for a password the iterations
--- and the salt.
-abbrev pub with_parameters : Given → ℕ → ManagementAlg → List ℕ → Members → Members
-with_parameters given p2c alg salt header =
-    with_salt alg salt
-    (with_p2c (not (is_password_based alg) || given.p2c) p2c
-    (with_name given.alg (codes "alg") (management_name alg) header))
+-- with what is written of a delivery, unless the template gives it: the name of the algorithm, and the parameters
+abbrev pub with_parameters : Given → Delivery → Members → Members
+with_parameters given d header = with_management given.p2c d.management (with_name given.alg (codes "alg") (management_name d.alg) header)
 
 -- It is written into the protected header where there is one receiver, ..
-abbrev pub protected_header : Given → ℕ → List Receiver → List ℕ → Members → Members
-protected_header given p2c [] salts header = header
-protected_header given p2c (r ∷ []) salts header = with_parameters given p2c r.management salts header
-protected_header given p2c (r ∷ (other ∷ rest)) salts header = header
+abbrev pub protected_header : Given → List Delivery → Members → Members
+protected_header given [] header = header
+protected_header given (d ∷ []) header = with_parameters given d header
+protected_header given (d ∷ (other ∷ rest)) header = header
 
 -- .. and else into the header of each recipient.
-abbrev pub own_header : Encryption → ManagementAlg → List ℕ → Members
-own_header e alg salt = if is_alone e.receivers then no_members else with_parameters e.given e.p2c alg salt no_members
+abbrev pub own_header : Given → Bool → Delivery → Members
+own_header given alone d = if alone then no_members else with_parameters given d no_members
 
 -- the protected header with what is drawn
 abbrev pub header_of : Encryption → List ℕ → Members
-header_of e random = protected_header e.given e.p2c e.receivers (salts_by e random) e.protected
+header_of e random = protected_header e.given (deliveries_by e random) e.protected
 
 -- its text
 abbrev pub header_by : Encryption → List ℕ → List ℕ
 header_by e random = header_text (header_of e random)
 
--- ---- the recipients (section 5.1, steps 4 to 6)
+-- a recipient, by whether it is the only one
+abbrev pub recipient_by : Given → Bool → Delivery → RecipientParts
+recipient_by given alone d = record { header = own_header given alone d; encrypted_key = d.encrypted_key }
 
--- by which a receiver's key encrypts the content encryption key
-abbrev pub parameters_with : List ℕ → ℕ → Parameters
-parameters_with salt p2c = record { iv = []; tag = []; p2s = salt; p2c = p2c }
-
-abbrev pub recipient_by : Encryption → List ℕ → Receiver → List ℕ → RecipientParts
-recipient_by e cek r salt = record {
-  header = own_header e r.management salt;
-  encrypted_key = encrypted_key_of (key_alg r.management) r.key.octets (parameters_with salt e.p2c) cek;
-}
-
--- those of receivers in order, whose salts follow one another
-abbrev pub recipients_by : Encryption → List ℕ → List Receiver → List ℕ → List RecipientParts
-recipients_by e cek [] salts = []
-recipients_by e cek (r ∷ rest) salts = recipient_by e cek r (take (salt_drawn r) salts) ∷ recipients_by e cek rest (drop (salt_drawn r) salts)
+abbrev pub recipients_by : Encryption → List ℕ → List RecipientParts
+recipients_by e random = map (recipient_by e.given (is_alone e.receivers)) (deliveries_by e random)
 
 -- ---- the object of a plaintext
 
@@ -137,7 +117,7 @@ parts_by e random s = record {
   aad = e.aad;
   ciphertext = s.ciphertext;
   tag = s.tag;
-  recipients = recipients_by e (cek_by e random) e.receivers (salts_by e random);
+  recipients = recipients_by e random;
 }
 
 unfoldable pub encrypted : Limits → Encryption → List ℕ → List ℕ → Result EncryptedObject Refusal
@@ -209,7 +189,7 @@ EncryptingGrows = (compact detach : Bool) (keys : List OctetKey) (template rando
 -- random octets but Limit.
 abbrev pub EncryptingMakesTexts : Type 0
 EncryptingMakesTexts = (compact detach : Bool) (keys : List OctetKey) (template random plaintext : List ℕ) (plan : Plan OutputTexts) → nat_le (length keys) limits.recipients ≡ true
-    → IsOctets random → plan_from (encrypting_by limits compact detach keys template) random ≡ Ok plan → IfErr (plan.whole plaintext) (λ refusal. refusal ≡ Limit)
+    → AreOctetKeys keys → IsOctets random → plan_from (encrypting_by limits compact detach keys template) random ≡ Ok plan → IfErr (plan.whole plaintext) (λ refusal. refusal ≡ Limit)
 
 -- ---- what is encrypted is decrypted
 

@@ -1,6 +1,6 @@
 -- Templates of encrypted objects: the members `protected`, `unprotected` and `aad` of one in JSON form (RFC 7516 section 7.2.1), as
 -- objects and a string.
-use Rattle.std.specs.Prelude.{ℕ, List, [], ◌∷◌, codes, is_none, Option, Some, None, Result, Ok, Err}
+use Rattle.std.specs.Prelude.{ℕ, ◌&&◌, Bool, List, [], ◌∷◌, codes, is_none, Option, Some, None, Result, Ok, Err}
 use Rattle.serde_json.specs.Data.{Data, Members, no_members}
 use Rattle.serde_json.specs.Find.{get_member}
 use Rattle.octets.specs.declared.refusal.Refusal.{Refusal}
@@ -54,13 +54,19 @@ abbrev pub encryption_asked : Option (List ℕ) → Result (Option EncryptionAlg
 encryption_asked None = Ok None
 encryption_asked (Some name) = supported_encryption (encryption_alg_of name)
 
--- of headers without `p2s`, which is drawn, and with neither `crit` nor `zip`
+-- The parameters that are drawn or made for a recipient are left to encryption, whatever the algorithm: the salt input of a password, and
+-- the initialization vector and the tag of a key wrap by AES in GCM (RFC 7518 sections 4.8.1.1, 4.7.1.1 and 4.7.1.2).
+abbrev pub leaves_parameters : Members → Bool
+leaves_parameters header =
+    is_none (get_member (codes "p2s") header) && (is_none (get_member (codes "iv") header) && is_none (get_member (codes "tag") header))
+
+-- of headers that leave them, and with neither `crit` nor `zip`
 unfoldable pub algorithms_asked : Members → Members → Result AlgorithmsAsked Refusal
 algorithms_asked protected unprotected = do
   header ← joint_header protected unprotected no_members
   alg ← string_parameter (codes "alg") header
   enc ← string_parameter (codes "enc") header
-  unsalted ← needs (is_none (get_member (codes "p2s") header)) Header
+  left ← needs (leaves_parameters header) Header
   plain ← needs (is_plain header) Unsupported
   management ← management_asked alg
   encryption ← encryption_asked enc

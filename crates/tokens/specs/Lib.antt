@@ -7,6 +7,7 @@ pub mod Algorithms
 pub mod Decrypting
 pub mod EncryptionTemplate
 pub mod Choosing
+pub mod Delivering
 pub mod Encrypting
 pub mod SealedTexts
 pub mod Views

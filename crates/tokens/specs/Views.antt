@@ -2,6 +2,7 @@
 use Rattle.std.specs.Prelude.{ℕ, List, map}
 use Rattle.serde_json.specs.View.{members_view}
 use Rattle.keys.specs.Views.{key_view}
+use Rattle.objects.specs.KeyManagementView.{management_view}
 use Rattle.objects.specs.Views.{part_view, recipient_view}
 use Rattle.tokens.specs.declared.template.Template.{Template}
 use Rattle.tokens.specs.declared.signer.Signer.{Signer as CodeSigner}
@@ -13,6 +14,7 @@ use Rattle.tokens.specs.declared.decrypt.Work.{Work}
 use Rattle.tokens.specs.declared.receiver.Receiver.{Receiver as CodeReceiver}
 use Rattle.tokens.specs.declared.encryption.Given.{Given as CodeGiven}
 use Rattle.tokens.specs.declared.encryption.Encryption.{Encryption as CodeEncryption}
+use Rattle.tokens.specs.declared.delivering.Delivery.{Delivery as CodeDelivery}
 use Rattle.tokens.specs.declared.encryption_template.AlgorithmsAsked.{AlgorithmsAsked as CodeAsked}
 use Rattle.tokens.specs.declared.encryption_template.EncryptionTemplate.{EncryptionTemplate as CodeTemplate}
 use Rattle.tokens.specs.declared.encryption_template.TemplateTexts.{TemplateTexts as CodeTexts}
@@ -20,6 +22,7 @@ use Rattle.tokens.specs.Algorithms.{Algorithms}
 use Rattle.tokens.specs.EncryptionTemplate.{TemplateTexts, AlgorithmsAsked, EncryptionTemplate}
 use Rattle.tokens.specs.Choosing.{Receiver, Given, Encryption}
 use Rattle.tokens.specs.Decrypting.{Pair, SealedContent, Counts}
+use Rattle.tokens.specs.Delivering.{Delivery}
 use Rattle.tokens.specs.Template.{SignatureTemplate}
 use Rattle.tokens.specs.Signing.{Signer, Signing}
 
@@ -70,3 +73,6 @@ encryption_view e = record {
   unprotected = members_view e.unprotected.entries;
   aad = e.aad.items;
 }
+
+abbrev pub delivery_view : CodeDelivery → Delivery
+delivery_view d = record { alg = d.alg; management = management_view d.management; encrypted_key = d.encrypted_key.items }

@@ -60,6 +60,9 @@ pub(crate) fn key_alg(alg: ManagementAlg) -> KeyAlg
         ManagementAlg::Pbes2Hs256A128Kw => KeyAlg::Pbes2Hs256A128Kw,
         ManagementAlg::Pbes2Hs384A192Kw => KeyAlg::Pbes2Hs384A192Kw,
         ManagementAlg::Pbes2Hs512A256Kw => KeyAlg::Pbes2Hs512A256Kw,
+        ManagementAlg::A128GcmKw => KeyAlg::A128GcmKw,
+        ManagementAlg::A192GcmKw => KeyAlg::A192GcmKw,
+        ManagementAlg::A256GcmKw => KeyAlg::A256GcmKw,
     }
 }
 
@@ -83,6 +86,11 @@ pub(crate) fn parameters(management: &KeyManagement) -> KeyParameters<'_>
             p2c: *p2c as u32,
             ..NO_PARAMETERS
         },
+        KeyManagement::GcmKeyWrap { iv, tag } => KeyParameters {
+            iv,
+            tag,
+            ..NO_PARAMETERS
+        },
     }
 }
 
@@ -98,6 +106,9 @@ pub(crate) fn unwraps(alg: ManagementAlg) -> u64
         | ManagementAlg::A256Kw
         | ManagementAlg::Pbes2Hs256A128Kw
         | ManagementAlg::Pbes2Hs384A192Kw
-        | ManagementAlg::Pbes2Hs512A256Kw => 1,
+        | ManagementAlg::Pbes2Hs512A256Kw
+        | ManagementAlg::A128GcmKw
+        | ManagementAlg::A192GcmKw
+        | ManagementAlg::A256GcmKw => 1,
     }
 }

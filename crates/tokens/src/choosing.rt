@@ -1,6 +1,6 @@
 //! The choice of algorithms by a template and keys, and all else that they settle before anything is drawn. It sees no
 //! content.
-ghost use Rattle.std.specs.Prelude.{◌≡◌, ◌≤◌, ◌==◌, ◌*◌, Some, true, false, is_some, length, map, option_map, IfOk, IfErr, string_bytes};
+ghost use Rattle.std.specs.Prelude.{◌≡◌, ◌≤◌, ◌==◌, ◌*◌, Some, true, false, is_some, length, map, option_map, IfOk, IfErr};
 ghost use Rattle.std.specs.List.{list_all, list_any};
 ghost use Rattle.serde_json.specs.View.{members_view};
 ghost use Rattle.serde_json.specs.Written.{members_have_float};
@@ -238,13 +238,13 @@ fn encryption_by_management(management: ManagementAlg, key: &Key) -> Option<Encr
             Some(alg) => Some(alg),
             None => encryption_by_length(key.octets().len()),
         },
-        ManagementAlg::A128Kw | ManagementAlg::Pbes2Hs256A128Kw => {
+        ManagementAlg::A128Kw | ManagementAlg::Pbes2Hs256A128Kw | ManagementAlg::A128GcmKw => {
             Some(EncryptionAlg::A128CbcHs256)
         }
-        ManagementAlg::A192Kw | ManagementAlg::Pbes2Hs384A192Kw => {
+        ManagementAlg::A192Kw | ManagementAlg::Pbes2Hs384A192Kw | ManagementAlg::A192GcmKw => {
             Some(EncryptionAlg::A192CbcHs384)
         }
-        ManagementAlg::A256Kw | ManagementAlg::Pbes2Hs512A256Kw => {
+        ManagementAlg::A256Kw | ManagementAlg::Pbes2Hs512A256Kw | ManagementAlg::A256GcmKw => {
             Some(EncryptionAlg::A256CbcHs512)
         }
     }

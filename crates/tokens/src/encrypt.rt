@@ -1,7 +1,6 @@
 //! Encrypting to each key of a set (RFC 7516 section 5.1), in compact or in JSON form.
-ghost use Rattle.std.specs.Prelude.{◌≡◌, ◌≢◌, ◌⊎◌, ◌≤◌, ◌<◌, ◌*◌, ◌||◌, ◌++◌, ℕ, if◌then◌else◌, IsOk, IsErr, true, false, not, nat_le, List, [], ◌∷◌, length, map, is_some, Ok, Err, option_map, IfOk, IfErr, OnOk, OnErr, IsTrue, string_bytes};
+ghost use Rattle.std.specs.Prelude.{◌≡◌, ◌≢◌, ◌⊎◌, ◌≤◌, ◌<◌, ◌*◌, ◌++◌, ℕ, if◌then◌else◌, IsOk, IsErr, true, false, not, List, [], ◌∷◌, length, map, is_some, Ok, Err, option_map, IfOk, IfErr, OnOk, OnErr, IsTrue, string_bytes};
 ghost use Rattle.std.specs.Iterator.{IsFinite};
-ghost use Rattle.std.specs.List.{AllByRecursion};
 ghost use Rattle.std.specs.Option.{unwrap_or};
 ghost use Rattle.octets.specs.Base64url.{base64url};
 ghost use Rattle.octets.specs.Devices.{appended, observed, IsPossibleInput, AppendsPrefixOf};
@@ -12,43 +11,35 @@ ghost use Rattle.octets.specs.Outcomes.{AgreesUnlessExternal, is_external};
 ghost use Rattle.octets.specs.Plan.{begun, fixed_by, planned, plan_from, drawn_of};
 ghost use Rattle.octets.specs.Pumps.{KeepsUp};
 ghost use Rattle.octets.specs.declared.refusal.Refusal.{Refusal};
-ghost use Rattle.serde_json.specs.View.{members_view};
-ghost use Rattle.serde_json.specs.Written.{members_have_float};
 ghost use Rattle.ciphers.specs.Sealing.{cek_len};
-ghost use Rattle.keys.specs.declared.algorithm.Algorithm.TheVariants.{Encryption as EncryptionWith};
-ghost use Rattle.keys.specs.Algorithms.{is_password_based};
 ghost use Rattle.keys.specs.Keys.{fits};
 ghost use Rattle.keys.specs.Limits.{limits};
-ghost use Rattle.keys.specs.Views.{key_view};
 ghost use Rattle.objects.specs.Frames.{filled};
-ghost use Rattle.objects.specs.Views.{recipient_parts_view};
 ghost use Rattle.tokens.specs.Algorithms.{content_alg as content_alg_of};
-ghost use Rattle.tokens.specs.Choosing.{with_p2c};
-ghost use Rattle.tokens.specs.Encrypting.{encrypting_by, frame_by, sealing_by, octets_drawn, salt_drawn, salts_drawn, direct_key, cek_drawn, cek_by, with_salt, with_parameters, protected_header, own_header, recipient_by, recipients_by};
+ghost use Rattle.tokens.specs.Encrypting.{encrypting_by, frame_by, sealing_by, octets_drawn, direct_key, cek_drawn, cek_by};
 ghost use Rattle.tokens.specs.SealedTexts.{IsUnsealed};
-ghost use Rattle.tokens.specs.Views.{receiver_view, given_view, encryption_view};
+ghost use Rattle.tokens.specs.Views.{receiver_view, encryption_view};
 
-use crate::algorithms::{NO_PARAMETERS, content_alg, key_alg};
-use crate::choosing::{is_direct, read_encryption, with_name};
+use crate::algorithms::content_alg;
+use crate::choosing::{is_direct, read_encryption};
 use crate::copies::copied;
 use crate::decrypt::authenticated;
-use crate::encryption::{Encryption, Given};
+use crate::delivering::{SALT_LEN, deliver_to_all, drawn_for_all};
+use crate::encryption::Encryption;
 use crate::receiver::Receiver;
+use crate::recipients::{protected_header, recipients};
 use crate::sealing::{Ciphertext, EncodedCiphertext, Tag};
 use crate::template::header_text;
-use ciphers::laws::what_is_opened_is_octets;
-use ciphers::{Cek, ContentSealer, KeyParameters, Sealer};
-use keys::{KeySet, MOST_KEYS, ManagementAlg, laws};
-use objects::{Jwe, JweParts, RecipientParts};
+use ciphers::laws::{what_delivers_is_octets, what_is_opened_is_octets};
+use ciphers::{Cek, ContentSealer, Sealer};
+use keys::laws::are_octet_keys;
+use keys::{KeySet, MOST_KEYS};
+use objects::{Jwe, JweParts};
 use octets::laws::are_octets;
 use octets::{Input, Output, Refusal, b64_encode, draw, emit, encode_onto, pump, write_whole};
-use serde_json::{Map, Value};
-use std::alloc::{AllocError, Global};
+use std::alloc::Global;
 
-/// The octets of a salt.
-const SALT_LEN: usize = 16;
-
-/// The most octets that are drawn: a salt for each key, a content encryption key of 64, and an initialization vector of 16.
+/// The most octets that are drawn: for each key a salt input, a content encryption key of 64, and an initialization vector of 16.
 const MOST_DRAWN: usize = MOST_KEYS * SALT_LEN + 80;
 
 /// Encrypts all that the content gives to each key in order (RFC 7516 section 5.1), as the template asks, and writes the
@@ -61,25 +52,27 @@ const MOST_DRAWN: usize = MOST_KEYS * SALT_LEN + 80;
 /// content encryption means direct use; or else A128KW, A192KW or A256KW by the key's length. That of content encryption is
 /// the one of the headers' `enc`; or else, of a key that is used directly, the one of its `alg` or the CBC one of its length;
 /// or else the CBC one that goes with the key management of the first key. For a password `p2c` is that of the headers, or else
-/// 10,000, and `p2s`, of 16 octets, is drawn.
+/// 10,000, and `p2s`, of 16 octets, is drawn; for A128GCMKW, A192GCMKW and A256GCMKW `iv`, of 12 octets, is drawn, and `tag` is
+/// made with the encrypted key.
 ///
-/// What the headers do not give is written: `enc` into the protected header; `alg`, `p2c` and `p2s` into the protected header
-/// where there is one key, and else into the header of each recipient.
+/// What the headers do not give is written: `enc` into the protected header; `alg`, `p2c`, `p2s`, `iv` and `tag` into the
+/// protected header where there is one key, and else into the header of each recipient.
 ///
-/// The random input gives the salts of the passwords in order, the content encryption key, unless a key is it, and then the
-/// initialization vector, and exactly these octets are read, after every refusal that the template and the keys give.
+/// The random input gives the `p2s` or the `iv` of each key that takes one, in order, the content encryption key, unless a key
+/// is it, and then the initialization vector, and exactly these octets are read, after every refusal that the template and the
+/// keys give.
 ///
 /// Refused, in this order, each step for every key before the next, with `Json`; `Number`; `Form` where the template has
 /// another form; `Base64` where `aad` is no base64url text; `Header` where a name stands in both headers, `alg` or `enc` is no
-/// string, or there is a `p2s`; `Unsupported` where there is a `crit` or a `zip`, or an algorithm that is not supported;
-/// `NoAlgorithm` where nothing says the algorithm of key management, and `KeyDoesNotFit` where a key's `alg` is none of
-/// encryption; `Header` where a key of several is used directly; `NoAlgorithm` where nothing says the algorithm of content
-/// encryption; `KeyDoesNotFit` where a key may not encrypt, or does not fit; where one is a password, `Header` where `p2c` is
-/// no whole number; `Limit` where a header nests more than 64 deep, the `p2c` of a password is not from 1,000 to 1,000,000, or
-/// those of all passwords are more than 4,000,000; `NotCompact` where a compact text is asked for, and there are several keys
-/// or the template gives more than a protected header; then with `Read` where the random input fails, and `Random` where it
-/// ends too early; then with `Read` where the content fails, and `Limit` where it is too long; and with `Write` where an
-/// output fails.
+/// string, or there is a `p2s`, an `iv` or a `tag`; `Unsupported` where there is a `crit` or a `zip`, or an algorithm that is
+/// not supported; `NoAlgorithm` where nothing says the algorithm of key management, and `KeyDoesNotFit` where a key's `alg` is
+/// none of encryption; `Header` where a key of several is used directly; `NoAlgorithm` where nothing says the algorithm of
+/// content encryption; `KeyDoesNotFit` where a key may not encrypt, or does not fit; where one is a password, `Header` where
+/// `p2c` is no whole number; `Limit` where a header nests more than 64 deep, the `p2c` of a password is not from 1,000 to
+/// 1,000,000, or those of all passwords are more than 4,000,000; `NotCompact` where a compact text is asked for, and there are
+/// several keys or the template gives more than a protected header; then with `Read` where the random input fails, and `Random`
+/// where it ends too early; then with `Read` where the content fails, and `Limit` where it is too long; and with `Write` where
+/// an output fails.
 #[tactic(auto, unfolding(crate::specs::Encrypting::encrypting_by))]
 pub fn jwe_encrypt<I: Input, O: Output>(
     alloc: Global,
@@ -98,7 +91,7 @@ pub fn jwe_encrypt<I: Input, O: Output>(
         → AgreesUnlessExternal (planned (plan_from (encrypting_by limits compact (is_some detached.entry) keys.now template.now) octets) plaintext)
         (record { text = appended (O.written out.old) (O.written out.new); content = wrote_on O.written (lent detached.entry detached.exit) }) result }
 
-    // Exactly the octets of the salts, the key and the vector are read of the random input, and no more before a refusal.
+    // Exactly the octets of the receivers, the key and the vector are read of the random input, and no more before a refusal.
     ensures drawn { OnOk result (length (appended (I.consumed random.old) (I.consumed random.new))
         ≡ drawn_of (encrypting_by limits compact (is_some detached.entry) keys.now template.now)) }
     ensures at_most { length (appended (I.consumed random.old) (I.consumed random.new))
@@ -194,7 +187,9 @@ fn prepare<I: Input>(
     let drawn = &mut buf[..octets_drawn(&encryption)];
     draw(random, drawn)?;
     are_octets(drawn);
+    are_octet_keys(keys);
     what_is_opened_is_octets();
+    what_delivers_is_octets();
     begin_sealing(alloc, encryption, drawn, compact, detach)
 }
 
@@ -214,28 +209,28 @@ fn begin_sealing(
         × (length (cek_by (encryption_view encryption.entry) random.now) ≡ cek_len (content_alg_of (encryption_view encryption.entry).encryption))) }
     ensures memory { IfErr result (λ e. e ≡ Refusal.Memory) }
 {
-    let (salts, random) = random.split_at(salts_drawn(&encryption.receivers));
-    let (drawn, iv) = random.split_at(cek_drawn(&encryption));
-    let cek = content_key(&encryption, drawn);
+    let (for_receivers, random) = random.split_at(drawn_for_all(&encryption.receivers));
+    let (for_cek, iv) = random.split_at(cek_drawn(&encryption));
+    let cek = content_key(&encryption, for_cek);
     are_octets(cek.octets());
-    let recipients = recipients(alloc, &encryption, salts, &cek)?;
+    let deliveries = deliver_to_all(alloc, &encryption, for_receivers, &cek)?;
     let alg = content_alg(encryption.encryption);
     let Encryption {
         receivers,
         given,
-        p2c,
         protected,
         unprotected,
         aad,
         ..
     } = encryption;
-    let header = protected_header(alloc, given, p2c, &receivers, salts, protected)?;
+    let header = protected_header(alloc, given, &deliveries, protected)?;
     let header = header_text(alloc, header)?;
     let protected = b64_encode(alloc, header.as_bytes())?;
     let sealer = {
         let data = authenticated(alloc, &protected, &aad)?;
         alg.seal(cek.octets(), iv, data.as_bytes())
     };
+    let recipients = recipients(alloc, given, receivers.len() <= 1, deliveries)?;
     let jwe = Jwe::build(
         alloc,
         JweParts {
@@ -273,33 +268,8 @@ fn octets_drawn(encryption: &Encryption<'_>) -> usize
     ensures count { result ≡ octets_drawn (encryption_view encryption.now) }
     ensures bound { result ≤ 1104 }
 {
-    let salts = salts_drawn(&encryption.receivers);
-    salts + cek_drawn(encryption) + content_alg(encryption.encryption).iv_len()
-}
-
-/// How many of them the salts take.
-fn salts_drawn(receivers: &[Receiver<'_>]) -> usize
-    requires { length receivers.now ≤ limits.keys }
-    ensures count { result ≡ salts_drawn (map receiver_view receivers.now) }
-    ensures bound { result ≤ 16 * length receivers.now }
-{
-    let mut count = 0;
-    for receiver in receivers {
-        count += salt_drawn(receiver);
-    }
-    count
-}
-
-/// How many of them the salt of a receiver takes: none where the key is no password.
-fn salt_drawn(receiver: &Receiver<'_>) -> usize
-    ensures count { result ≡ salt_drawn (receiver_view receiver.now) }
-    ensures bound { result ≤ 16 }
-{
-    if receiver.management.is_password_based() {
-        SALT_LEN
-    } else {
-        0
-    }
+    let for_receivers = drawn_for_all(&encryption.receivers);
+    for_receivers + cek_drawn(encryption) + content_alg(encryption.encryption).iv_len()
 }
 
 /// How many of them the content encryption key takes.
@@ -335,162 +305,4 @@ fn content_key(encryption: &Encryption<'_>, drawn: &[u8]) -> Cek
         Some(key) => Cek::new(key),
         None => Cek::new(drawn),
     }
-}
-
-/// The protected header, with what is written for a receiver that is the only one.
-fn protected_header(
-    alloc: Global,
-    given: Given,
-    p2c: u32,
-    receivers: &[Receiver<'_>],
-    salts: &[u8],
-    header: Map<String, Value>,
-) -> Result<Map<String, Value>, Refusal>
-    ensures members { IfOk result (λ made. members_view made.entries
-        ≡ protected_header (given_view given) p2c (map receiver_view receivers.now) salts.now (members_view header.entries)) }
-    ensures no_float { IfOk result (λ made. members_have_float (members_view header.entries) ≡ false
-        → members_have_float (members_view made.entries) ≡ false) }
-    ensures memory { IfErr result (λ e. e ≡ Refusal.Memory) }
-{
-    match receivers {
-        [receiver] => with_parameters(alloc, given, p2c, receiver.management, salts, header),
-        _ => Ok(header),
-    }
-}
-
-/// The header with what is written for a receiver, unless the template gives it: the name of the algorithm, and for a password
-/// the iterations and the salt (RFC 7518 sections 4.8.1.1 and 4.8.1.2).
-fn with_parameters(
-    alloc: Global,
-    given: Given,
-    p2c: u32,
-    alg: ManagementAlg,
-    salt: &[u8],
-    header: Map<String, Value>,
-) -> Result<Map<String, Value>, Refusal>
-    ensures members { IfOk result (λ made. members_view made.entries
-        ≡ with_parameters (given_view given) p2c alg salt.now (members_view header.entries)) }
-    ensures no_float { IfOk result (λ made. members_have_float (members_view header.entries) ≡ false
-        → members_have_float (members_view made.entries) ≡ false) }
-    ensures memory { IfErr result (λ e. e ≡ Refusal.Memory) }
-{
-    let header = with_name(alloc, given.alg, "alg", alg.name(), header)?;
-    let counted = !alg.is_password_based() || given.p2c;
-    let header = with_p2c(alloc, counted, p2c, header)?;
-    with_salt(alloc, alg, salt, header)
-}
-
-/// The header with the iterations, where they are needed and the template does not give them.
-fn with_p2c(
-    alloc: Global,
-    given: bool,
-    p2c: u32,
-    mut header: Map<String, Value>,
-) -> Result<Map<String, Value>, AllocError>
-    ensures members { IfOk result (λ made. members_view made.entries ≡ with_p2c given p2c (members_view header.entries)) }
-    ensures no_float { IfOk result (λ made. members_have_float (members_view header.entries) ≡ false
-        → members_have_float (members_view made.entries) ≡ false) }
-{
-    laws::members_keep_floats_out();
-    if !given {
-        serde_json::put(&mut header, alloc, "p2c", Value::from(p2c as u64))?;
-    }
-    Ok(header)
-}
-
-/// The header with the salt of a password (RFC 7518 section 4.8.1.1).
-fn with_salt(
-    alloc: Global,
-    alg: ManagementAlg,
-    salt: &[u8],
-    mut header: Map<String, Value>,
-) -> Result<Map<String, Value>, Refusal>
-    ensures members { IfOk result (λ made. members_view made.entries ≡ with_salt alg salt.now (members_view header.entries)) }
-    ensures no_float { IfOk result (λ made. members_have_float (members_view header.entries) ≡ false
-        → members_have_float (members_view made.entries) ≡ false) }
-    ensures memory { IfErr result (λ e. e ≡ Refusal.Memory) }
-{
-    laws::members_keep_floats_out();
-    if alg.is_password_based() {
-        let text = b64_encode(alloc, salt)?;
-        serde_json::put(&mut header, alloc, "p2s", Value::from(text))?;
-    }
-    Ok(header)
-}
-
-/// The recipients that the receivers are, with their encrypted keys.
-fn recipients(
-    alloc: Global,
-    encryption: &Encryption<'_>,
-    salts: &[u8],
-    cek: &Cek,
-) -> Result<Vec<RecipientParts>, Refusal>
-    requires salts { length salts.now ≡ salts_drawn (encryption_view encryption.now).receivers }
-    requires fits { length cek.now ≡ cek_len (content_alg_of encryption.now.encryption) }
-    requires direct { AllByRecursion (λ r. r.management ≡ ManagementAlg.Dir → cek.now ≡ (key_view r.key.now).octets) encryption.now.receivers.items }
-    ensures recipients { IfOk result (λ list. map recipient_parts_view list.items
-        ≡ recipients_by (encryption_view encryption.now) cek.now (encryption_view encryption.now).receivers salts.now) }
-    ensures memory { IfErr result (λ e. e ≡ Refusal.Memory) }
-{
-    let mut list = Vec::new(alloc);
-    let mut left = salts;
-    for receiver in &encryption.receivers {
-        let (salt, rest) = left.split_at(salt_drawn(receiver));
-        list.push(recipient(alloc, encryption, receiver, salt, cek)?)?;
-        left = rest;
-    }
-    Ok(list)
-}
-
-/// The recipient that a receiver is, with its encrypted key.
-#[tactic(auto, using(crate::proofs::Candidates::is_key_of, crate::proofs::Receivers::counts_where_password, crate::proofs::Receivers::no_iv))]
-fn recipient(
-    alloc: Global,
-    encryption: &Encryption<'_>,
-    receiver: &Receiver<'_>,
-    salt: &[u8],
-    cek: &Cek,
-) -> Result<RecipientParts, Refusal>
-    requires fits { length cek.now ≡ cek_len (content_alg_of encryption.now.encryption) }
-    requires key_fits { fits (key_view receiver.now.key.now) (EncryptionWith receiver.now.management encryption.now.encryption) ≡ true }
-    requires counted { (not (is_password_based receiver.now.management) || nat_le 1 encryption.now.p2c) ≡ true }
-    requires direct { receiver.now.management ≡ ManagementAlg.Dir → cek.now ≡ (key_view receiver.now.key.now).octets }
-    ensures recipient { IfOk result (λ made. recipient_parts_view made
-        ≡ recipient_by (encryption_view encryption.now) cek.now (receiver_view receiver.now) salt.now) }
-    ensures memory { IfErr result (λ e. e ≡ Refusal.Memory) }
-{
-    let Receiver { key, management } = *receiver;
-    let parameters = KeyParameters {
-        p2s: salt,
-        p2c: encryption.p2c,
-        ..NO_PARAMETERS
-    };
-    let mut buf = [0; 72];
-    let mut tag = [0; 16];
-    let (len, _) = key_alg(management).wrap_cek(key.octets(), parameters, cek, &mut buf, &mut tag);
-    let encrypted_key = copied(alloc, &buf[..len])?;
-    let header = own_header(alloc, encryption, management, salt)?;
-    Ok(RecipientParts {
-        header,
-        encrypted_key,
-    })
-}
-
-/// The header of a recipient: what is written for the receiver, where it is not the only one.
-fn own_header(
-    alloc: Global,
-    encryption: &Encryption<'_>,
-    alg: ManagementAlg,
-    salt: &[u8],
-) -> Result<Map<String, Value>, Refusal>
-    ensures members { IfOk result (λ made. members_view made.entries
-        ≡ own_header (encryption_view encryption.now) alg salt.now) }
-    ensures no_float { IfOk result (λ made. members_have_float (members_view made.entries) ≡ false) }
-    ensures memory { IfErr result (λ e. e ≡ Refusal.Memory) }
-{
-    let header = Map::new(alloc);
-    if encryption.receivers.len() <= 1 {
-        return Ok(header);
-    }
-    with_parameters(alloc, encryption.given, encryption.p2c, alg, salt, header)
 }

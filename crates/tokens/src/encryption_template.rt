@@ -3,8 +3,8 @@ ghost use Rattle.std.specs.Prelude.{◌≡◌, false, option_map, IfOk, IfErr};
 ghost use Rattle.serde_json.specs.View.{view};
 ghost use Rattle.serde_json.specs.Written.{has_float, members_have_float};
 ghost use Rattle.octets.specs.Outcomes.{AgreesUnlessMemory};
-ghost use Rattle.objects.specs.Views.{part_view};
-ghost use Rattle.tokens.specs.EncryptionTemplate.{template_texts, management_asked, encryption_asked, supported_management, algorithms_asked, encryption_template};
+ghost use Rattle.objects.specs.Views.{header_view, part_view};
+ghost use Rattle.tokens.specs.EncryptionTemplate.{template_texts, management_asked, encryption_asked, supported_management, leaves_parameters, algorithms_asked, encryption_template};
 ghost use Rattle.tokens.specs.Views.{template_texts_view, asked_view, encryption_template_view};
 
 use keys::{EncryptionAlg, ManagementAlg, has_only, is_object};
@@ -41,8 +41,8 @@ struct TemplateTexts<'v> {
 
 /// The template that a JSON value is. Refused over the whole template with `Form` where it is no object, has a member but
 /// `protected`, `unprotected` and `aad`, or one of these has a wrong type; `Base64` where `aad` is no base64url text;
-/// `Header` where a name stands in both headers, `alg` or `enc` is no string, or there is a `p2s`; and `Unsupported` where
-/// there is a `crit` or a `zip`, or an algorithm that is not supported.
+/// `Header` where a name stands in both headers, `alg` or `enc` is no string, or there is a `p2s`, an `iv` or a `tag`; and
+/// `Unsupported` where there is a `crit` or a `zip`, or an algorithm that is not supported.
 #[tactic(auto, unfolding(crate::specs::EncryptionTemplate::encryption_template))]
 pub(crate) fn read_encryption_template(
     alloc: Global,
@@ -101,7 +101,7 @@ fn algorithms_asked<'v>(
     let header = Header::joint(protected, unprotected, None)?;
     let alg = header.alg()?;
     let enc = header.enc()?;
-    needs(!header.has("p2s"), Refusal::Header)?;
+    needs(leaves_parameters(header), Refusal::Header)?;
     needs(
         !header.has("crit") && !header.has("zip"),
         Refusal::Unsupported,
@@ -113,6 +113,14 @@ fn algorithms_asked<'v>(
         encryption,
         p2c: header.p2c(),
     })
+}
+
+/// The parameters that are drawn or made for a recipient are left to encryption, whatever the algorithm (RFC 7518 sections 4.7.1
+/// and 4.8.1.1).
+fn leaves_parameters(header: Header<'_>) -> bool
+    ensures { result ≡ leaves_parameters (header_view header.entry) }
+{
+    !header.has("p2s") && !header.has("iv") && !header.has("tag")
 }
 
 /// The algorithm of key management of the name, where one is given: it must be supported.

@@ -1,9 +1,10 @@
 //! Laws of the definitions, each the contract of a function that does nothing.
-ghost use Rattle.std.specs.Prelude.{List};
+ghost use Rattle.std.specs.Prelude.{◌≡◌, ◌++◌, List};
 ghost use Rattle.keys.specs.declared.algorithm.ManagementAlg.{ManagementAlg};
-ghost use Rattle.keys.specs.Limits.{Limits};
+ghost use Rattle.keys.specs.Algorithms.{earlier_management_algs, gcm_management_algs};
+ghost use Rattle.keys.specs.Limits.{Limits, limits};
 ghost use Rattle.tokens.specs.Encrypting.{EncryptedDecrypts, EncryptingGrows, EncryptingMakesTexts};
-ghost use Rattle.tokens.specs.MoreAlgorithms.{OpensAlike};
+ghost use Rattle.tokens.specs.MoreAlgorithms.{knowing, OpensAlike};
 ghost use Rattle.tokens.specs.Signing.{SigningGrows, SigningMakesTexts};
 ghost use Rattle.tokens.specs.Verifying.{SignedVerifies};
 
@@ -41,7 +42,10 @@ pub fn encrypting_grows()
 /// What keys and a template settle makes an object of every plaintext that is not too long, and its text.
 pub fn encrypting_makes_texts()
     ensures { EncryptingMakesTexts }
-{}
+{
+    what_is_opened_is_octets();
+    what_delivers_is_octets();
+}
 
 /// What is encrypted to keys as a template asks is decrypted with each key alone, where it may decrypt, to the plaintext, unless
 /// the key opens something else at the recipient of a key before it.
@@ -56,7 +60,10 @@ pub fn what_is_encrypted_decrypts()
 }
 
 /// Where further algorithms of key management are known, the objects whose names are those of algorithms that were known before, or
-/// of none of the further ones, are read as before, and the encrypted ones are decrypted as before.
+/// of none of the further ones, are read as before, and the encrypted ones are decrypted as before. So it is of all others with
+/// the three of key wrap by AES in GCM, which with them are the algorithms of the limits.
 pub fn more_algorithms_open_alike()
-    ensures { (limits : Limits) (known further : List ManagementAlg) → OpensAlike limits known further }
+    ensures all { (limits : Limits) (known further : List ManagementAlg) → OpensAlike limits known further }
+    ensures gcm { OpensAlike limits earlier_management_algs gcm_management_algs
+        × (knowing limits (earlier_management_algs ++ gcm_management_algs) ≡ limits) }
 {}

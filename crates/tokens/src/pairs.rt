@@ -70,7 +70,10 @@ fn iterations_by(management: &KeyManagement) -> u64
     ensures { result ≡ iterations_by (management_view management.now) }
 {
     match management {
-        KeyManagement::Unknown | KeyManagement::Direct | KeyManagement::KeyWrap => 0,
+        KeyManagement::Unknown
+        | KeyManagement::Direct
+        | KeyManagement::KeyWrap
+        | KeyManagement::GcmKeyWrap { .. } => 0,
         KeyManagement::Password { p2c, .. } => *p2c,
     }
 }

@@ -7,6 +7,7 @@ use Rattle.octets.specs.Devices.{appended}
 use Rattle.octets.proofs.Agreement.{appended-append}
 use Rattle.tokens.specs.Encrypting.{octets_drawn}
 use Rattle.tokens.specs.Views.{encryption_view, receiver_view}
+use Rattle.tokens.proofs.EncryptedHeaders.{OctetLaws}
 use Rattle.tokens.proofs.EncryptionFrames.{has_frame, frame, is_unsealed}
 use Rattle.tokens.proofs.Sealed.{if_ok_all, map_ok}
 use Rattle.tokens.proofs.encrypt.prepare.Goals as goal
@@ -17,7 +18,8 @@ begin_sealing-requires-clause-made g c =
     let items = c.in_ok-encryption.encryption.receivers.items in
     let few : nat_le (length e.receivers) limits.recipients ≡ true = le-leb (length e.receivers) 64 (omega (arith, length-map items receiver_view, c.in_ok-encryption.encryption.few)) in
     let long : length c.draw.new.out ≡ octets_drawn e = search rules in
-    let framed = has_frame c.args.compact c.args.keys.now c.args.template.now e c.draw.new.out c.in_ok-encryption.ensures few c.are_octets.ensures long c.args.detach in
+    let laws : OctetLaws = record { opened = c.what_is_opened_is_octets.ensures; delivering = c.what_delivers_is_octets.ensures } in
+    let framed = has_frame c.args.compact c.args.keys.now c.args.template.now e c.draw.new.out c.in_ok-encryption.ensures few laws c.are_octet_keys.ensures c.are_octets.ensures long c.args.detach in
     rw framed.1 refl
 
 pub returns-clause-unsealed : goal.returns-clause-unsealed
@@ -29,9 +31,10 @@ returns-clause-unsealed g c octets may =
     let long : length c.draw.new.out ≡ octets_drawn e = search rules in
     let drawn : appended (consumed c.args.random.now) (consumed c.draw.new.random) ≡ c.draw.new.out =
     ap (appended (consumed c.args.random.now)) c.in_ok-draw.ensures.octets ∙ appended-append (consumed c.args.random.now) c.draw.new.out in
+    let laws : OctetLaws = record { opened = c.what_is_opened_is_octets.ensures; delivering = c.what_delivers_is_octets.ensures } in
     if_ok_all c.begin_sealing.result c.begin_sealing.ensures.sealing c.begin_sealing.ensures.framed c.begin_sealing.ensures.cek
     (λ made begun framed cek. is_unsealed is_sealing-value.it c.args.compact c.args.detach c.args.keys.now c.args.template.now e c.draw.new.out octets may.rest made.sealer (map string_bytes made.texts.items)
-    c.in_ok-encryption.ensures few c.are_octets.ensures long (may.continues ∙ ap (λ l. l ++ may.rest) drawn) c.what_is_opened_is_octets.ensures begun framed cek)
+    c.in_ok-encryption.ensures few laws c.are_octet_keys.ensures c.are_octets.ensures long (may.continues ∙ ap (λ l. l ++ may.rest) drawn) begun framed cek)
 
 pub returns-clause-places : goal.returns-clause-places
 returns-clause-places g c =
@@ -39,6 +42,7 @@ returns-clause-places g c =
     let items = c.in_ok-encryption.encryption.receivers.items in
     let few : nat_le (length e.receivers) limits.recipients ≡ true = le-leb (length e.receivers) 64 (omega (arith, length-map items receiver_view, c.in_ok-encryption.encryption.few)) in
     let long : length c.draw.new.out ≡ octets_drawn e = search rules in
+    let laws : OctetLaws = record { opened = c.what_is_opened_is_octets.ensures; delivering = c.what_delivers_is_octets.ensures } in
     map_ok c.begin_sealing.result c.begin_sealing.ensures.framed
     (λ made framed. sym (length-map made.texts.items string_bytes)
-    ∙ (frame c.args.compact c.args.keys.now c.args.template.now e c.draw.new.out c.in_ok-encryption.ensures few c.are_octets.ensures long c.args.detach (map string_bytes made.texts.items) framed).places)
+    ∙ (frame c.args.compact c.args.keys.now c.args.template.now e c.draw.new.out c.in_ok-encryption.ensures few laws c.are_octet_keys.ensures c.are_octets.ensures long c.args.detach (map string_bytes made.texts.items) framed).places)

@@ -1,5 +1,11 @@
+use Rattle.std.proofs.Common.{refl}
+use Rattle.keys.specs.Algorithms.{earlier_management_algs, gcm_management_algs}
+use Rattle.keys.specs.Limits.{limits}
 use Rattle.tokens.proofs.MoreAlgorithms.{opens_alike}
 use Rattle.tokens.proofs.laws.more_algorithms_open_alike.Goals as goal
 
-pub returns : goal.returns
-returns c = opens_alike
+pub returns-clause-all : goal.returns-clause-all
+returns-clause-all c = opens_alike
+
+pub returns-clause-gcm : goal.returns-clause-gcm
+returns-clause-gcm c = (opens_alike limits earlier_management_algs gcm_management_algs, refl)

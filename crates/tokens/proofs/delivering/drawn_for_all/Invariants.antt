@@ -1,11 +1,11 @@
 use Rattle.std.proofs.Common.{◌≡◌, ◌+◌, ◌*◌, ◌≤◌, drop, map}
-use Rattle.tokens.specs.Encrypting.{salts_drawn}
+use Rattle.tokens.specs.Delivering.{drawn_for_all}
 use Rattle.tokens.specs.Views.{receiver_view}
-use Rattle.tokens.proofs.encrypt.salts_drawn.Given as goal
+use Rattle.tokens.proofs.delivering.drawn_for_all.Given as goal
 
 -- the octets so far and those of the receivers that are left are all of them
 abbrev pub invariant-loop-receiver : goal.invariant-loop-receiver
 invariant-loop-receiver l = record {
-  count : l.count + salts_drawn (map receiver_view (drop l.receiver-index l.receivers)) ≡ salts_drawn (map receiver_view l.receivers);
+  count : l.count + drawn_for_all (map receiver_view (drop l.receiver-index l.receivers)) ≡ drawn_for_all (map receiver_view l.receivers);
   bound : l.count ≤ 16 * l.receiver-index;
 }
