@@ -65,14 +65,14 @@ iterations_are A192GcmKw drawn p2c tag = refl
 iterations_are A256GcmKw drawn p2c tag = refl
 
 -- one more receiver counts for the iterations of its pair
-one_more : (password : Bool) (n p2c : ℕ) → (password ≡ true → p2c ≤ 1000000)
-    → (let i : ℕ = if password then p2c else 0 in (i ≤ 1000000) × (i + n * p2c ≤ (if password then suc n else n) * p2c))
+one_more : (password : Bool) (n p2c : ℕ) → (password ≡ true → p2c ≤ limits.greatest_p2c_read)
+    → (let i : ℕ = if password then p2c else 0 in (i ≤ limits.greatest_p2c_read) × (i + n * p2c ≤ (if password then suc n else n) * p2c))
 one_more true n p2c few = (few refl, omega arith)
 one_more false n p2c few = (omega arith, omega arith)
 
 -- so the pairs of all recipients take as many for each password
 pub take_at_most : (e : Encryption) (cek : List ℕ) (key : OctetKey) (receivers : List Receiver) (drawn : List ℕ)
-    → AllByRecursion (λ r. is_password_based r.management ≡ true → e.p2c ≤ 1000000) receivers
+    → AllByRecursion (λ r. is_password_based r.management ≡ true → e.p2c ≤ limits.greatest_p2c_read) receivers
     → TakeAtMost (passwords receivers * e.p2c) (all_pairs limits.management (key ∷ []) (map (made_by e cek) (with_drawn receivers drawn)))
 take_at_most e cek key [] drawn few = record { each_few = refl; all_few = omega arith }
 take_at_most e cek key (r ∷ rest) drawn few =
@@ -86,7 +86,7 @@ take_at_most e cek key (r ∷ rest) drawn few =
         let here = one_more (is_password_based r.management) (passwords rest) e.p2c few.0 in
         let octets : List ℕ = take (drawn_for r) drawn in
         let takes = iterations_are r.management octets e.p2c (key_tag_of (key_alg r.management) r.key.octets (parameters_with octets e.p2c) cek) in
-        record { each_few = and_from _ _ (le-leb _ 1000000 (rw takes here.0)) all.each_few; all_few = omega (arith, takes, here.1, all.all_few) }
+        record { each_few = and_from _ _ (le-leb _ limits.greatest_p2c_read (rw takes here.0)) all.each_few; all_few = omega (arith, takes, here.1, all.all_few) }
     by_test false all =
         let here = one_more (is_password_based r.management) (passwords rest) e.p2c few.0 in
         record { each_few = all.each_few; all_few = omega (arith, here.1, all.all_few) }
@@ -148,10 +148,10 @@ some_pairs s plaintext (pair ∷ pairs) h = refl
 
 -- so the object is decrypted to the plaintext
 pub opened_is_decrypted : (key : OctetKey) (o : EncryptedObject) (plaintext : List ℕ) → list_any (λ r. is_some (algorithms_of limits.management r)) o.recipients ≡ true
-    → TakeAtMost 4000000 (all_pairs limits.management (key ∷ []) o.recipients) → first_opened (sealed_content o) (all_pairs limits.management (key ∷ []) o.recipients) ≡ Some plaintext
+    → TakeAtMost limits.p2c_sum (all_pairs limits.management (key ∷ []) o.recipients) → first_opened (sealed_content o) (all_pairs limits.management (key ∷ []) o.recipients) ≡ Some plaintext
     → decrypted limits (key ∷ []) o ≡ Ok plaintext
 unfolding decrypted pairs_to_try
 opened_is_decrypted key o plaintext supported few opens =
     let pairs : List Pair = all_pairs limits.management (key ∷ []) o.recipients in
-    let sum : nat_le (all_iterations pairs) 4000000 ≡ true = le-leb (all_iterations pairs) 4000000 few.all_few in
+    let sum : nat_le (all_iterations pairs) limits.p2c_sum ≡ true = le-leb (all_iterations pairs) limits.p2c_sum few.all_few in
     rw (supported, some_pairs (sealed_content o) plaintext pairs opens, few.each_few, sum, opens) refl

@@ -91,7 +91,7 @@ built_is keys e random s by is few =
     let plain : list_all (λ r. is_plain r.header) (map given xs) ≡ true =
     all_pass {P = IsWritten e random} (λ r. is_plain r.header) given (λ x w. w.headed.written.plain) xs is.each_written in
     let some : nat_le 1 (length (map given xs)) ≡ true = ap (nat_le 1) (as_many e random) ∙ le-leb 1 (length e.receivers) by.some in
-    let few_given : nat_le (length (map given xs)) 64 ≡ true = ap (λ k. nat_le k 64) (as_many e random) ∙ few in
+    let few_given : nat_le (length (map given xs)) limits.recipients ≡ true = ap (λ k. nat_le k limits.recipients) (as_many e random) ∙ few in
     rw (
       recipients_are e random,
       unprotected_shallow,
@@ -113,7 +113,7 @@ built_is keys e random s by is few =
 pub few_receivers : (e : Encryption) (random : List ℕ) (s : Sealed) (o : EncryptedObject) → built limits (parts_by e random s) ≡ Ok o → nat_le (length e.receivers) limits.recipients ≡ true
 few_receivers e random s o made =
     let given : length (recipients_by e random) ≡ length e.receivers = rw recipients_are (as_many e random) in
-    ap (λ k. nat_le k 64) (sym given) ∙ (is_built limits (parts_by e random s) o made).few
+    ap (λ k. nat_le k limits.recipients) (sym given) ∙ (is_built limits (parts_by e random s) o made).few
 
 -- ---- what is sealed
 

@@ -93,7 +93,7 @@ decrypts laws before after key e random plaintext o by random_octets long may is
     each_drawn P e random (all_both (λ r receives may. (receives, may)) e.receivers by.receive may) random_octets long in
     let each_opens : AllByRecursion (Opens e cek key s plaintext) xs =
     all_both (λ x may delivers. key_opens laws e cek key x s plaintext is.members.iv may.holds.0 may.holds.1 delivers is.opens) xs each_may is.delivers in
-    let few : AllByRecursion (λ r. is_password_based r.management ≡ true → e.p2c ≤ 1000000) e.receivers =
+    let few : AllByRecursion (λ r. is_password_based r.management ≡ true → e.p2c ≤ limits.greatest_p2c_read) e.receivers =
     all_then (Receives e) _ (λ r receives password. (receives.awaits.count password).few) e.receivers by.receive in
     let most : TakeAtMost (passwords e.receivers * e.p2c) (all_pairs limits.management (key ∷ []) all.recipients) = take_at_most e cek key e.receivers (for_receivers e random) few in
     opened_is_decrypted key all plaintext (supported e cek xs (omega (arith, as_many_drawn e.receivers (for_receivers e random), by.some)))

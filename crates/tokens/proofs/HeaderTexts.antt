@@ -46,7 +46,7 @@ unfolding protected_members members_of_json
 read_back no_members json shallow = record { members = refl; octets = IsOctets-nil }
 read_back (member k value rest) json shallow =
     let d = object (member k value rest) in
-    let few : depth d ≤ 64 = leb-true (depth d) 64 shallow in
+    let few : depth d ≤ limits.depth = leb-true (depth d) limits.depth shallow in
     let back : json_value (compact_text d) ≡ Ok d = reads_back d json (omega arith) in
     record {
       members = by_length (nat_le (length (compact_text d)) 0) refl back;
@@ -59,9 +59,9 @@ read_back (member k value rest) json shallow =
     by_length true e back = absurd (omega (arith, leb-true _ 0 e))
 
 -- a header that may be written may stand in a text, among those of so many recipients or signatures
-pub shallow_enough : (d n : ℕ) → nat_le d 64 ≡ true → nat_le d (depth_of_each n) ≡ true
+pub shallow_enough : (d n : ℕ) → nat_le d limits.depth ≡ true → nat_le d (depth_of_each n) ≡ true
 shallow_enough d n h = by_few (nat_le n 1)
   where
     by_few : (few : Bool) → nat_le d (if few then header_depth else listed_header_depth) ≡ true
-    by_few true = let deep : d ≤ 64 = leb-true d 64 h in le-leb d 126 (omega arith)
-    by_few false = let deep : d ≤ 64 = leb-true d 64 h in le-leb d 124 (omega arith)
+    by_few true = let deep : d ≤ limits.depth = leb-true d limits.depth h in le-leb d 126 (omega arith)
+    by_few false = let deep : d ≤ limits.depth = leb-true d limits.depth h in le-leb d 124 (omega arith)

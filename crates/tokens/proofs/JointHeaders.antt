@@ -210,10 +210,10 @@ json_onto header (e ∷ rest) all json = one_more e.0 e.1 (put_onto header rest)
 pub header_onto : (header : Members) (es : Entries) → IsHeader header → AreJsonEntries 0 es → first_there (codes "crit") es ≡ None → first_there (codes "zip") es ≡ None → IsHeader (put_onto header es)
 header_onto header es is all crit zip =
     let json = json_onto header es all is.json in
-    let few : depth (object header) ≤ 64 = leb-true (depth (object header)) 64 is.shallow in
+    let few : depth (object header) ≤ limits.depth = leb-true (depth (object header)) limits.depth is.shallow in
     record {
       json = json.0;
-      shallow = le-leb (depth (object (put_onto header es))) 64 (omega (arith, json.1, few));
+      shallow = le-leb (depth (object (put_onto header es))) limits.depth (omega (arith, json.1, few));
       plain = rw (get_member-put_onto (codes "crit") header es, get_member-put_onto (codes "zip") header es, crit, zip) is.plain;
     }
 

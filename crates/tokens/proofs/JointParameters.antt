@@ -126,7 +126,7 @@ with_parameters_is given d header = with_management_is given.alg given.p2c (mana
 pub record Counted (counted : Bool) (p2c : ℕ) (header : Members) : Type 0 where
   pub there : IsGiven as_count counted (get_member (codes "p2c") header) p2c
   pub some : 1 ≤ p2c
-  pub few : p2c ≤ 1000000
+  pub few : p2c ≤ limits.greatest_p2c_read
 
 -- A joint header gives, or lacks, the name of the algorithm and, for a password, the count of iterations; and it lacks what encryption
 -- writes.
@@ -193,12 +193,12 @@ abbrev pub AreParameters : KeyManagement → Type 0
 AreParameters Unknown = Unit {0}
 AreParameters Direct = Unit {0}
 AreParameters KeyWrap = Unit {0}
-AreParameters (Password p2s p2c) = IsOctets p2s × (length p2s ≡ salt_len) × (1 ≤ p2c) × (p2c ≤ 1000000)
+AreParameters (Password p2s p2c) = IsOctets p2s × (length p2s ≡ salt_len) × (1 ≤ p2c) × (p2c ≤ limits.greatest_p2c_read)
 AreParameters (GcmKeyWrap iv tag) = IsOctets iv × IsOctets tag
 
 -- so they are by what was drawn for an algorithm, where the tag that was made is octets
 pub are_parameters : (alg : ManagementAlg) (drawn : List ℕ) (p2c : ℕ) (tag : List ℕ) → IsOctets drawn → length drawn ≡ drawn_by alg
-    → (is_password_based alg ≡ true → (1 ≤ p2c) × (p2c ≤ 1000000)) → IsOctets tag → AreParameters (management_with alg drawn p2c tag)
+    → (is_password_based alg ≡ true → (1 ≤ p2c) × (p2c ≤ limits.greatest_p2c_read)) → IsOctets tag → AreParameters (management_with alg drawn p2c tag)
 are_parameters Dir drawn p2c tag octets long count tag_octets = tt
 are_parameters A128Kw drawn p2c tag octets long count tag_octets = tt
 are_parameters A192Kw drawn p2c tag octets long count tag_octets = tt
@@ -228,7 +228,7 @@ json_parameters named counted alg m text is = by_management m is
     by_management Direct is = (name, tt)
     by_management KeyWrap is = (name, tt)
     by_management (Password p2s p2c) is =
-        let few : p2c ≤ 1000000 = is.3 in
+        let few : p2c ≤ limits.greatest_p2c_read = is.3 in
         let count_json = json_unless counted (number (unsigned p2c)) (λ e. (omega (arith, few), omega arith)) in
         ((is_name (codes "p2s") refl, url_json p2s is.0), ((is_name (codes "p2c") refl, count_json), (name, tt)))
     by_management (GcmKeyWrap iv tag) is = ((is_name (codes "tag") refl, url_json tag is.1), ((is_name (codes "iv") refl, url_json iv is.0), (name, tt)))

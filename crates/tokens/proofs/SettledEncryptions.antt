@@ -52,7 +52,7 @@ pub record Settles (keys : List OctetKey) (e : Encryption) : Type 0 where
   pub some : 1 ≤ length e.receivers
   pub together : stand_together e.receivers ≡ true
   pub receive : AllByRecursion (Receives e) e.receivers
-  pub few : passwords e.receivers * e.p2c ≤ 4000000
+  pub few : passwords e.receivers * e.p2c ≤ limits.p2c_sum
   pub enc : if_there as_str (get_member (codes "enc") (joint_of e)) ≡ Ok (Some (encryption_name e.encryption))
   pub disjoint : are_disjoint e.protected e.unprotected no_members ≡ true
   pub protected : IsHeader e.protected
@@ -97,15 +97,15 @@ password_counts (r ∷ rest) n few = by_test (is_password_based r.management) re
     by_test false is later few = (λ e. cc (is, e), later few)
 
 -- how many iterations are written
-within : (n p2c : ℕ) → is_written limits (suc n) p2c ≡ true → (1 ≤ p2c) × (p2c ≤ 1000000) × (suc n * p2c ≤ 4000000)
+within : (n p2c : ℕ) → is_written limits (suc n) p2c ≡ true → (1 ≤ p2c) × (p2c ≤ limits.greatest_p2c) × (suc n * p2c ≤ limits.p2c_sum)
 within n p2c h =
-    let first = and_parts (nat_le 1000 p2c) (nat_le p2c 1000000 && nat_le (suc n * p2c) 4000000) h in
-    let second = and_parts (nat_le p2c 1000000) (nat_le (suc n * p2c) 4000000) first.1 in
-    let least : 1000 ≤ p2c = leb-true 1000 p2c first.0 in
-    (omega (arith, least), leb-true p2c 1000000 second.0, leb-true (suc n * p2c) 4000000 second.1)
+    let first = and_parts (nat_le limits.least_p2c p2c) (nat_le p2c limits.greatest_p2c && nat_le (suc n * p2c) limits.p2c_sum) h in
+    let second = and_parts (nat_le p2c limits.greatest_p2c) (nat_le (suc n * p2c) limits.p2c_sum) first.1 in
+    let least : limits.least_p2c ≤ p2c = leb-true limits.least_p2c p2c first.0 in
+    (omega (arith, least), leb-true p2c limits.greatest_p2c second.0, leb-true (suc n * p2c) limits.p2c_sum second.1)
 
 -- so all passwords together take few enough
-few_iterations : (n p2c : ℕ) → is_written limits n p2c ≡ true → n * p2c ≤ 4000000
+few_iterations : (n p2c : ℕ) → is_written limits n p2c ≡ true → n * p2c ≤ limits.p2c_sum
 few_iterations zero p2c h = omega arith
 few_iterations (suc n) p2c h = (within n p2c h).2
 

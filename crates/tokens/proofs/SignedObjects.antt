@@ -133,7 +133,7 @@ signed_is compact keys s payload is some few =
     let whole : list_all (λ p. member_numbers_are_whole p.header) (map given s.signers) ≡ true =
     all_pass (λ p. member_numbers_are_whole p.header) given (λ x h. numbers_whole (object s.header) is.json) s.signers is.signs in
     let some_parts : nat_le 1 (length (map given s.signers)) ≡ true = ap (nat_le 1) long ∙ some in
-    let few_parts : nat_le (length (map given s.signers)) 64 ≡ true = ap (λ k. nat_le k 64) long ∙ few in
+    let few_parts : nat_le (length (map given s.signers)) limits.recipients ≡ true = ap (λ k. nat_le k limits.recipients) long ∙ few in
     let decoded = each_made decoded_signature given (decoded_by s.header payload) (decodes s.header payload) s.signers is.signs in
     let headed = each_made headed_signature (decoded_by s.header payload) (headed_by s.header payload) (reads s.header payload) s.signers is.signs in
     let made = each_made (jws.signature_by limits.management) (headed_by s.header payload) (made_by s.header payload) (makes s.header payload) s.signers is.signs in

@@ -16,7 +16,7 @@ pub begin_sealing-requires-clause-made : goal.begin_sealing-requires-clause-made
 begin_sealing-requires-clause-made g c =
     let e = encryption_view c.in_ok-encryption.encryption in
     let items = c.in_ok-encryption.encryption.receivers.items in
-    let few : nat_le (length e.receivers) limits.recipients ≡ true = le-leb (length e.receivers) 64 (omega (arith, length-map items receiver_view, c.in_ok-encryption.encryption.few)) in
+    let few : nat_le (length e.receivers) limits.recipients ≡ true = le-leb (length e.receivers) limits.recipients (omega (arith, length-map items receiver_view, c.in_ok-encryption.encryption.few)) in
     let long : length c.draw.new.out ≡ octets_drawn e = search rules in
     let laws : OctetLaws = record { opened = c.what_is_opened_is_octets.ensures; delivering = c.what_delivers_is_octets.ensures } in
     let framed = has_frame c.args.compact c.args.keys.now c.args.template.now e c.draw.new.out c.in_ok-encryption.ensures few laws c.are_octet_keys.ensures c.are_octets.ensures long c.args.detach in
@@ -27,7 +27,7 @@ returns-clause-unsealed g c octets may =
     let consumed = g.I.Input.consumed in
     let e = encryption_view c.in_ok-encryption.encryption in
     let items = c.in_ok-encryption.encryption.receivers.items in
-    let few : nat_le (length e.receivers) limits.recipients ≡ true = le-leb (length e.receivers) 64 (omega (arith, length-map items receiver_view, c.in_ok-encryption.encryption.few)) in
+    let few : nat_le (length e.receivers) limits.recipients ≡ true = le-leb (length e.receivers) limits.recipients (omega (arith, length-map items receiver_view, c.in_ok-encryption.encryption.few)) in
     let long : length c.draw.new.out ≡ octets_drawn e = search rules in
     let drawn : appended (consumed c.args.random.now) (consumed c.draw.new.random) ≡ c.draw.new.out =
     ap (appended (consumed c.args.random.now)) c.in_ok-draw.ensures.octets ∙ appended-append (consumed c.args.random.now) c.draw.new.out in
@@ -40,7 +40,7 @@ pub returns-clause-places : goal.returns-clause-places
 returns-clause-places g c =
     let e = encryption_view c.in_ok-encryption.encryption in
     let items = c.in_ok-encryption.encryption.receivers.items in
-    let few : nat_le (length e.receivers) limits.recipients ≡ true = le-leb (length e.receivers) 64 (omega (arith, length-map items receiver_view, c.in_ok-encryption.encryption.few)) in
+    let few : nat_le (length e.receivers) limits.recipients ≡ true = le-leb (length e.receivers) limits.recipients (omega (arith, length-map items receiver_view, c.in_ok-encryption.encryption.few)) in
     let long : length c.draw.new.out ≡ octets_drawn e = search rules in
     let laws : OctetLaws = record { opened = c.what_is_opened_is_octets.ensures; delivering = c.what_delivers_is_octets.ensures } in
     map_ok c.begin_sealing.result c.begin_sealing.ensures.framed
