@@ -13,7 +13,7 @@ use Rattle.keys.specs.Algorithms.{signature_alg_of}
 use Rattle.keys.specs.Json.{json_value}
 use Rattle.keys.specs.Keys.{OctetKey, allows}
 use Rattle.keys.specs.KeySets.{items_count, key_objects, octet_keys, value_keys, key_set, KeysHaveOctets}
-use Rattle.keys.specs.Limits.{limits}
+use Rattle.keys.specs.Limits.{Limits, limits}
 use Rattle.keys.proofs.Steps.{steps, passed, same_answer}
 use Rattle.objects.specs.Jwe as jwe
 use Rattle.objects.specs.Jws as jws
@@ -31,26 +31,35 @@ use Rattle.jose.specs.Jws.{jws_fmt_answer}
 -- ---- what is encrypted is decrypted
 
 -- what is encrypted is encrypted to the keys of a set
-encrypted_to : (compact detach : Bool) (template random plaintext : List ℕ) (texts : OutputTexts) (keys : Result (List OctetKey) Refusal)
+encrypted_to : (limits : Limits) (compact detach : Bool) (template random plaintext : List ℕ) (texts : OutputTexts) (keys : Result (List OctetKey) Refusal)
     → planned (plan_from (keys >>= λ set. encrypting.encrypting_by limits compact detach set template) random) plaintext ≡ Ok texts
     → (set : List OctetKey) × ((keys ≡ Ok set) × (planned (plan_from (encrypting.encrypting_by limits compact detach set template) random) plaintext ≡ Ok texts))
-encrypted_to compact detach template random plaintext texts (Ok set) h = (set, (refl, h))
-encrypted_to compact detach template random plaintext texts (Err e) h = cc h
+encrypted_to limits compact detach template random plaintext texts (Ok set) h = (set, (refl, h))
+encrypted_to limits compact detach template random plaintext texts (Err e) h = cc h
 
-pub encrypted_is_decrypted : KeysHaveOctets → encrypting.EncryptedDecrypts → EncryptedIsDecrypted
-encrypted_is_decrypted octets decrypts compact detach keys template random plaintext texts random_octets plaintext_octets h =
-    let to = encrypted_to compact detach template random plaintext texts (key_set limits keys true) h in
+-- What other limits read and decrypt as those do under which it is written.
+pub record ReadsAlike (writing reading : Limits) : Type 0 where
+  pub read : (detached : Option (List ℕ)) (text : List ℕ) (o : jwe.EncryptedObject) → jwe.jwe_of writing detached text ≡ Ok o → jwe.jwe_of reading detached text ≡ Ok o
+  pub decrypts : (keys : List OctetKey) (o : jwe.EncryptedObject) (plaintext : List ℕ) → decrypted writing keys o ≡ Ok plaintext → decrypted reading keys o ≡ Ok plaintext
+
+-- as these do themselves
+pub alike : (limits : Limits) → ReadsAlike limits limits
+alike limits = record { read = λ detached text o h. h; decrypts = λ keys o plaintext h. h }
+
+pub encrypted_is_decrypted : KeysHaveOctets → (writing reading : Limits) → encrypting.EncryptedDecrypts writing → ReadsAlike writing reading → EncryptedIsDecrypted writing reading
+encrypted_is_decrypted octets writing reading decrypts stays compact detach keys template random plaintext texts random_octets plaintext_octets h =
+    let to = encrypted_to writing compact detach template random plaintext texts (key_set writing keys true) h in
     let set : List OctetKey = to.0 in
-    let o = decrypts compact detach set template random plaintext texts (octets limits keys true set to.1.0) random_octets plaintext_octets to.1.1 in (
+    let o = decrypts compact detach set template random plaintext texts (octets writing keys true set to.1.0) random_octets plaintext_octets to.1.1 in (
       o.0,
       (
-        o.1.0,
+        stays.read (handed_in detach texts.content) texts.text o.0 o.1.0,
         λ before after key key_text detached text among alone may only read.
             let same : set ≡ before ++ key ∷ after = same_answer set (before ++ key ∷ after) (sym to.1.0 ∙ among) in
-            let may_decrypt : encrypting.MayDecrypt compact set key template = subst (λ set. encrypting.MayDecrypt compact set key template) (sym same) may in
-            ap (λ keys. keys >>= λ set. jwe.jwe_of limits detached text >>= decrypted limits set) alone
-            ∙ ap (λ o. o >>= decrypted limits (key ∷ [])) read
-            ∙ o.1.1 before after key same may_decrypt only,
+            let may_decrypt : encrypting.MayDecrypt writing compact set key template = subst (λ set. encrypting.MayDecrypt writing compact set key template) (sym same) may in
+            ap (λ keys. keys >>= λ set. jwe.jwe_of reading detached text >>= decrypted reading set) alone
+            ∙ ap (λ o. o >>= decrypted reading (key ∷ [])) read
+            ∙ stays.decrypts (key ∷ []) o.0 plaintext (o.1.1 before after key same may_decrypt only),
       ),
     )
 

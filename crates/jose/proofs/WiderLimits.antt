@@ -23,6 +23,7 @@ use Rattle.tokens.specs.Template.{is_shallow}
 use Rattle.tokens.proofs.Receivers.{all_pass_other}
 use Rattle.jose.specs.Jwe.{enc_answer, jwe_fmt_answer}
 use Rattle.jose.specs.Jws.{jws_fmt_answer}
+use Rattle.jose.proofs.Headline.{ReadsAlike}
 use Rattle.jose.specs.WiderLimits.{AreWider, StaysUnlessLimit, ReadsAsBefore, IsCounted, EncryptsAsBefore}
 
 -- ---- the steps of an answer
@@ -269,3 +270,12 @@ module _ (narrower wider : Limits) (wide : AreWider narrower wider) where
       subst (λ a. DraftsAsBefore a (enc_answer wider compact detach keys template) random plaintext) (sym (draft_is narrower compact detach keys template))
       (subst (λ b. DraftsAsBefore (drafted narrower compact detach (settled_by narrower compact keys template)) b random plaintext) (sym (draft_is wider compact detach keys template))
       (planned_stays compact detach (settled_by narrower compact keys template) (settled_by wider compact keys template) random plaintext settled))
+
+  -- ---- what was encrypted
+
+  -- an object that is read, and decrypted, is so under wider limits
+  pub reads_alike : ReadsAlike narrower wider
+  reads_alike = record {
+    read = λ detached text o h. jwe_stays detached text (λ e. cc (h, e)) ∙ h;
+    decrypts = λ keys o plaintext h. decrypted_stays keys o (λ e. cc (h, e)) ∙ h;
+  }

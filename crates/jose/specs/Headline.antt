@@ -7,7 +7,7 @@ use Rattle.octets.specs.Plan.{OutputTexts, plan_from, planned}
 use Rattle.keys.specs.declared.operation.Operation.TheVariants.{Verify}
 use Rattle.keys.specs.Keys.{OctetKey, allows}
 use Rattle.keys.specs.KeySets.{key_set}
-use Rattle.keys.specs.Limits.{limits}
+use Rattle.keys.specs.Limits.{Limits, limits}
 use Rattle.objects.specs.Jwe.{EncryptedObject, jwe_of}
 use Rattle.objects.specs.Jws.{SignedObject, jws_of}
 use Rattle.objects.specs.Texts.{handed_in, AreOctetsHandedIn}
@@ -18,21 +18,22 @@ use Rattle.jose.specs.Jws.{sig_answer, ver_answer}
 -- ---- `jwe enc` and `jwe dec`
 
 -- the key text holds this key alone, as a key or as a set
-abbrev pub HoldsAlone : OctetKey → List ℕ → Type 0
-HoldsAlone key text = key_set limits text false ≡ Ok (key ∷ [])
+abbrev pub HoldsAlone : Limits → OctetKey → List ℕ → Type 0
+HoldsAlone limits key text = key_set limits text false ≡ Ok (key ∷ [])
 
--- Where a plaintext is encrypted, what is written is the text of an object. Every text that spells this object, with the ciphertext in it
--- or beside it, is decrypted to the plaintext with a text of one of the keys, which may decrypt and opens nothing else at the recipient
--- of a key before it.
-abbrev pub EncryptedIsDecrypted : Type 0
-EncryptedIsDecrypted = (compact detach : Bool) (keys template random plaintext : List ℕ) (texts : OutputTexts) → IsOctets random → IsOctets plaintext
-    → planned (plan_from (enc_answer limits compact detach keys template) random) plaintext ≡ Ok texts
-    → (o : EncryptedObject) × ((jwe_of limits (handed_in detach texts.content) texts.text ≡ Ok o)
+-- Where a plaintext is encrypted under the limits of one profile, what is written is the text of an object under those of another. Every
+-- text that spells this object, with the ciphertext in it or beside it, is decrypted to the plaintext under these with a text of one of
+-- the keys, which may decrypt and opens nothing else at the recipient of a key before it.
+abbrev pub EncryptedIsDecrypted : Limits → Limits → Type 0
+EncryptedIsDecrypted writing reading =
+    (compact detach : Bool) (keys template random plaintext : List ℕ) (texts : OutputTexts) → IsOctets random → IsOctets plaintext
+    → planned (plan_from (enc_answer writing compact detach keys template) random) plaintext ≡ Ok texts
+    → (o : EncryptedObject) × ((jwe_of reading (handed_in detach texts.content) texts.text ≡ Ok o)
     × ((before after : List OctetKey) (key : OctetKey) (key_text : List ℕ) (detached : Option (List ℕ)) (text : List ℕ)
-    → key_set limits keys true ≡ Ok (before ++ key ∷ after) → HoldsAlone key key_text
-    → MayDecrypt compact (before ++ key ∷ after) key template → OpensNoOther (length before) key o plaintext
-    → jwe_of limits detached text ≡ Ok o
-    → dec_answer limits key_text detached text ≡ Ok plaintext))
+    → key_set writing keys true ≡ Ok (before ++ key ∷ after) → HoldsAlone reading key key_text
+    → MayDecrypt writing compact (before ++ key ∷ after) key template → OpensNoOther (length before) key o plaintext
+    → jwe_of reading detached text ≡ Ok o
+    → dec_answer reading key_text detached text ≡ Ok plaintext))
 
 -- ---- `jws sig` and `jws ver`
 

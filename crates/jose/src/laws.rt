@@ -1,6 +1,7 @@
 //! What the commands promise together, and what wider limits keep, as laws of their answers, each the contract of a function that
 //! does nothing.
 ghost use Rattle.keys.specs.Limits.{Limits, limits};
+ghost use Rattle.tokens.specs.Encrypting.{AreSound};
 ghost use Rattle.jose.specs.Headline.{EncryptedIsDecrypted, FormatsGoBack, SignedIsVerified};
 ghost use Rattle.jose.specs.Jwe.{jwe_fmt_answer};
 ghost use Rattle.jose.specs.Jws.{jws_fmt_answer};
@@ -15,7 +16,7 @@ use tokens::laws::{what_is_encrypted_decrypts, what_is_signed_verifies};
 /// What `jwe enc` writes is an object, of which `jwe dec` gives the plaintext back with each of the keys, alone, that may decrypt,
 /// unless the key opens something else at the recipient of a key before it.
 pub fn what_is_encrypted_is_decrypted()
-    ensures { EncryptedIsDecrypted }
+    ensures { EncryptedIsDecrypted limits limits }
 {
     keys_have_octets();
     what_is_encrypted_decrypts();
@@ -54,3 +55,12 @@ pub fn wider_limits_keep_what_is_read()
 pub fn wider_limits_keep_what_is_encrypted()
     ensures { (narrower wider : Limits) → AreWider narrower wider → EncryptsAsBefore narrower wider }
 {}
+
+/// What `jwe enc` wrote under narrower limits, under which what is written may be read, is an object under wider ones, of which
+/// `jwe dec` gives the plaintext back with each of the keys, as it does under the narrower ones.
+pub fn what_was_encrypted_is_decrypted()
+    ensures { (narrower wider : Limits) → AreSound narrower → AreWider narrower wider → EncryptedIsDecrypted narrower wider }
+{
+    keys_have_octets();
+    what_is_encrypted_decrypts();
+}

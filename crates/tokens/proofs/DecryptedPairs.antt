@@ -7,9 +7,9 @@ use Rattle.std.specs.Option.{option_or}
 use Rattle.ciphers.specs.Delivery.{key_tag_of}
 use Rattle.keys.specs.declared.algorithm.ManagementAlg.{ManagementAlg}
 use Rattle.keys.specs.declared.algorithm.ManagementAlg.TheVariants.{Dir, A128Kw, A192Kw, A256Kw, Pbes2Hs256A128Kw, Pbes2Hs384A192Kw, Pbes2Hs512A256Kw, A128GcmKw, A192GcmKw, A256GcmKw}
-use Rattle.keys.specs.Algorithms.{is_password_based}
+use Rattle.keys.specs.Algorithms.{is_password_based, management_algs}
 use Rattle.keys.specs.Keys.{OctetKey}
-use Rattle.keys.specs.Limits.{limits}
+use Rattle.keys.specs.Limits.{Limits}
 use Rattle.objects.specs.Jwe.{EncryptedObject}
 use Rattle.tokens.specs.Algorithms.{Algorithms, key_alg}
 use Rattle.tokens.specs.Choosing.{Receiver, passwords, Encryption}
@@ -30,13 +30,13 @@ abbrev pub pair_by : Encryption → List ℕ → OctetKey → Receiver × List �
 pair_by e cek key x = record { recipient = made_by e cek x; algorithms = algorithms_by e x.0; key = key }
 
 -- the recipient names them
-algorithms_are : (e : Encryption) (cek : List ℕ) (x : Receiver × List ℕ) → algorithms_of limits.management (made_by e cek x) ≡ Some (algorithms_by e x.0)
+algorithms_are : (e : Encryption) (cek : List ℕ) (x : Receiver × List ℕ) → algorithms_of management_algs (made_by e cek x) ≡ Some (algorithms_by e x.0)
 unfolding algorithms_of
 algorithms_are e cek x = rw (management_named, encryption_named) refl
 
 -- so the key and the recipient are a pair where the key is a candidate
 pairs_are : (e : Encryption) (cek : List ℕ) (key : OctetKey) (x : Receiver × List ℕ)
-    → pairs_of limits.management (key ∷ []) (made_by e cek x) ≡ (if is_candidate (algorithms_by e x.0) key then pair_by e cek key x ∷ [] else [])
+    → pairs_of management_algs (key ∷ []) (made_by e cek x) ≡ (if is_candidate (algorithms_by e x.0) key then pair_by e cek key x ∷ [] else [])
 pairs_are e cek key x = rw algorithms_are (by_test (is_candidate (algorithms_by e x.0) key))
   where
     by_test : (candidate : Bool) → map (λ k. record { recipient = made_by e cek x; algorithms = algorithms_by e x.0; key = k }) (if candidate then key ∷ [] else [])
@@ -46,9 +46,9 @@ pairs_are e cek key x = rw algorithms_are (by_test (is_candidate (algorithms_by 
 
 -- ---- their iterations
 
--- each pair takes no more than are read, and all together take at most n
-pub record TakeAtMost (n : ℕ) (pairs : List Pair) : Type 0 where
-  pub each_few : list_all (λ pair. nat_le (iterations_of pair) limits.greatest_p2c_read) pairs ≡ true
+-- each pair takes no more than the most that are read, and all together take at most n
+pub record TakeAtMost (most n : ℕ) (pairs : List Pair) : Type 0 where
+  pub each_few : list_all (λ pair. nat_le (iterations_of pair) most) pairs ≡ true
   pub all_few : all_iterations pairs ≤ n
 
 -- a password alone takes iterations
@@ -65,30 +65,30 @@ iterations_are A192GcmKw drawn p2c tag = refl
 iterations_are A256GcmKw drawn p2c tag = refl
 
 -- one more receiver counts for the iterations of its pair
-one_more : (password : Bool) (n p2c : ℕ) → (password ≡ true → p2c ≤ limits.greatest_p2c_read)
-    → (let i : ℕ = if password then p2c else 0 in (i ≤ limits.greatest_p2c_read) × (i + n * p2c ≤ (if password then suc n else n) * p2c))
-one_more true n p2c few = (few refl, omega arith)
-one_more false n p2c few = (omega arith, omega arith)
+one_more : (most : ℕ) (password : Bool) (n p2c : ℕ) → (password ≡ true → p2c ≤ most)
+    → (let i : ℕ = if password then p2c else 0 in (i ≤ most) × (i + n * p2c ≤ (if password then suc n else n) * p2c))
+one_more most true n p2c few = (few refl, omega arith)
+one_more most false n p2c few = (omega arith, omega arith)
 
 -- so the pairs of all recipients take as many for each password
-pub take_at_most : (e : Encryption) (cek : List ℕ) (key : OctetKey) (receivers : List Receiver) (drawn : List ℕ)
-    → AllByRecursion (λ r. is_password_based r.management ≡ true → e.p2c ≤ limits.greatest_p2c_read) receivers
-    → TakeAtMost (passwords receivers * e.p2c) (all_pairs limits.management (key ∷ []) (map (made_by e cek) (with_drawn receivers drawn)))
-take_at_most e cek key [] drawn few = record { each_few = refl; all_few = omega arith }
-take_at_most e cek key (r ∷ rest) drawn few =
+pub take_at_most : (most : ℕ) (e : Encryption) (cek : List ℕ) (key : OctetKey) (receivers : List Receiver) (drawn : List ℕ)
+    → AllByRecursion (λ r. is_password_based r.management ≡ true → e.p2c ≤ most) receivers
+    → TakeAtMost most (passwords receivers * e.p2c) (all_pairs management_algs (key ∷ []) (map (made_by e cek) (with_drawn receivers drawn)))
+take_at_most most e cek key [] drawn few = record { each_few = refl; all_few = omega arith }
+take_at_most most e cek key (r ∷ rest) drawn few =
     rw (pairs_are e cek key (r, take (drawn_for r) drawn))
-    (by_test (is_candidate (algorithms_by e r) key) (take_at_most e cek key rest (drop (drawn_for r) drawn) few.1))
+    (by_test (is_candidate (algorithms_by e r) key) (take_at_most most e cek key rest (drop (drawn_for r) drawn) few.1))
   where
-    by_test : (candidate : Bool) → TakeAtMost (passwords rest * e.p2c) (all_pairs limits.management (key ∷ []) (map (made_by e cek) (with_drawn rest (drop (drawn_for r) drawn))))
-        → TakeAtMost (passwords (r ∷ rest) * e.p2c)
-        ((if candidate then pair_by e cek key (r, take (drawn_for r) drawn) ∷ [] else []) ++ all_pairs limits.management (key ∷ []) (map (made_by e cek) (with_drawn rest (drop (drawn_for r) drawn))))
+    by_test : (candidate : Bool) → TakeAtMost most (passwords rest * e.p2c) (all_pairs management_algs (key ∷ []) (map (made_by e cek) (with_drawn rest (drop (drawn_for r) drawn))))
+        → TakeAtMost most (passwords (r ∷ rest) * e.p2c)
+        ((if candidate then pair_by e cek key (r, take (drawn_for r) drawn) ∷ [] else []) ++ all_pairs management_algs (key ∷ []) (map (made_by e cek) (with_drawn rest (drop (drawn_for r) drawn))))
     by_test true all =
-        let here = one_more (is_password_based r.management) (passwords rest) e.p2c few.0 in
+        let here = one_more most (is_password_based r.management) (passwords rest) e.p2c few.0 in
         let octets : List ℕ = take (drawn_for r) drawn in
         let takes = iterations_are r.management octets e.p2c (key_tag_of (key_alg r.management) r.key.octets (parameters_with octets e.p2c) cek) in
-        record { each_few = and_from _ _ (le-leb _ limits.greatest_p2c_read (rw takes here.0)) all.each_few; all_few = omega (arith, takes, here.1, all.all_few) }
+        record { each_few = and_from _ _ (le-leb _ most (rw takes here.0)) all.each_few; all_few = omega (arith, takes, here.1, all.all_few) }
     by_test false all =
-        let here = one_more (is_password_based r.management) (passwords rest) e.p2c few.0 in
+        let here = one_more most (is_password_based r.management) (passwords rest) e.p2c few.0 in
         record { each_few = all.each_few; all_few = omega (arith, here.1, all.all_few) }
 
 -- ---- what they open
@@ -119,8 +119,8 @@ Opens e cek key s plaintext x = x.0.key ≡ key → (is_candidate (algorithms_by
 -- so the first pair that opens gives the plaintext, where the key opens nothing else at the recipient of a key before it
 pub first_opens : (e : Encryption) (cek : List ℕ) (key : OctetKey) (s : SealedContent) (plaintext : List ℕ) (before after : List OctetKey) (xs : List (Receiver × List ℕ))
     → map (λ x. x.0.key) xs ≡ before ++ key ∷ after → AllByRecursion (Opens e cek key s plaintext) xs
-    → AllByRecursion (OpensOnly s plaintext) (all_pairs limits.management (key ∷ []) (take (length before) (map (made_by e cek) xs)))
-    → first_opened s (all_pairs limits.management (key ∷ []) (map (made_by e cek) xs)) ≡ Some plaintext
+    → AllByRecursion (OpensOnly s plaintext) (all_pairs management_algs (key ∷ []) (take (length before) (map (made_by e cek) xs)))
+    → first_opened s (all_pairs management_algs (key ∷ []) (map (made_by e cek) xs)) ≡ Some plaintext
 first_opens e cek key s plaintext [] after [] keys all only = cc keys
 first_opens e cek key s plaintext [] after (x ∷ rest) keys all only =
     let same : x.0.key ≡ key = cc keys in
@@ -129,17 +129,17 @@ first_opens e cek key s plaintext [] after (x ∷ rest) keys all only =
 first_opens e cek key s plaintext (k ∷ before) after [] keys all only = cc keys
 first_opens e cek key s plaintext (k ∷ before) after (x ∷ rest) keys all only =
     let later : map (λ x. x.0.key) rest ≡ before ++ key ∷ after = cc keys in
-    let both = all_of_both (OpensOnly s plaintext) (pairs_of limits.management (key ∷ []) (made_by e cek x)) (all_pairs limits.management (key ∷ []) (take (length before) (map (made_by e cek) rest))) only in
-    opened_later s plaintext (pairs_of limits.management (key ∷ []) (made_by e cek x)) (all_pairs limits.management (key ∷ []) (map (made_by e cek) rest)) both.0
+    let both = all_of_both (OpensOnly s plaintext) (pairs_of management_algs (key ∷ []) (made_by e cek x)) (all_pairs management_algs (key ∷ []) (take (length before) (map (made_by e cek) rest))) only in
+    opened_later s plaintext (pairs_of management_algs (key ∷ []) (made_by e cek x)) (all_pairs management_algs (key ∷ []) (map (made_by e cek) rest)) both.0
     (first_opens e cek key s plaintext before after rest later all.1 both.1)
 
 -- ---- what is decrypted
 
 -- a recipient that is made is supported
-pub supported : (e : Encryption) (cek : List ℕ) (xs : List (Receiver × List ℕ)) → 1 ≤ length xs → list_any (λ r. is_some (algorithms_of limits.management r)) (map (made_by e cek) xs) ≡ true
+pub supported : (e : Encryption) (cek : List ℕ) (xs : List (Receiver × List ℕ)) → 1 ≤ length xs → list_any (λ r. is_some (algorithms_of management_algs r)) (map (made_by e cek) xs) ≡ true
 supported e cek [] some = absurd (omega arith)
 supported e cek (x ∷ rest) some =
-    or_left (is_some (algorithms_of limits.management (made_by e cek x))) (list_any (λ r. is_some (algorithms_of limits.management r)) (map (made_by e cek) rest)) (ap is_some (algorithms_are e cek x))
+    or_left (is_some (algorithms_of management_algs (made_by e cek x))) (list_any (λ r. is_some (algorithms_of management_algs r)) (map (made_by e cek) rest)) (ap is_some (algorithms_are e cek x))
 
 -- pairs of which one opens are some
 some_pairs : (s : SealedContent) (plaintext : List ℕ) (pairs : List Pair) → first_opened s pairs ≡ Some plaintext → has_pairs pairs ≡ true
@@ -147,11 +147,11 @@ some_pairs s plaintext [] h = cc h
 some_pairs s plaintext (pair ∷ pairs) h = refl
 
 -- so the object is decrypted to the plaintext
-pub opened_is_decrypted : (key : OctetKey) (o : EncryptedObject) (plaintext : List ℕ) → list_any (λ r. is_some (algorithms_of limits.management r)) o.recipients ≡ true
-    → TakeAtMost limits.p2c_sum (all_pairs limits.management (key ∷ []) o.recipients) → first_opened (sealed_content o) (all_pairs limits.management (key ∷ []) o.recipients) ≡ Some plaintext
+pub opened_is_decrypted : (limits : Limits) → limits.management ≡ management_algs → (key : OctetKey) (o : EncryptedObject) (plaintext : List ℕ) → list_any (λ r. is_some (algorithms_of management_algs r)) o.recipients ≡ true
+    → TakeAtMost limits.greatest_p2c_read limits.p2c_sum (all_pairs management_algs (key ∷ []) o.recipients) → first_opened (sealed_content o) (all_pairs management_algs (key ∷ []) o.recipients) ≡ Some plaintext
     → decrypted limits (key ∷ []) o ≡ Ok plaintext
 unfolding decrypted pairs_to_try
-opened_is_decrypted key o plaintext supported few opens =
-    let pairs : List Pair = all_pairs limits.management (key ∷ []) o.recipients in
+opened_is_decrypted limits known key o plaintext supported few opens =
+    let pairs : List Pair = all_pairs management_algs (key ∷ []) o.recipients in
     let sum : nat_le (all_iterations pairs) limits.p2c_sum ≡ true = le-leb (all_iterations pairs) limits.p2c_sum few.all_few in
-    rw (supported, some_pairs (sealed_content o) plaintext pairs opens, few.each_few, sum, opens) refl
+    rw (known, supported, some_pairs (sealed_content o) plaintext pairs opens, few.each_few, sum, opens) refl

@@ -9,8 +9,8 @@ use Rattle.ciphers.specs.Delivery.{Parameters, key_tag_of, IsDelivered}
 use Rattle.ciphers.specs.Sealing.{IsOpening}
 use Rattle.ciphers.specs.declared.content_alg.ContentAlg.{ContentAlg}
 use Rattle.ciphers.specs.declared.key_alg.KeyAlg.{KeyAlg}
+use Rattle.keys.specs.Algorithms.{management_algs}
 use Rattle.keys.specs.Keys.{OctetKey, AreOctetKeys}
-use Rattle.keys.specs.Limits.{limits}
 use Rattle.objects.specs.Headers.{are_disjoint}
 use Rattle.objects.specs.Jwe.{RecipientParts, Recipient, recipient_of}
 use Rattle.objects.specs.Texts.{each}
@@ -58,7 +58,7 @@ ready laws e cek x drawn delivers =
     record {
       receives = drawn.holds;
       delivers = delivers;
-      parameters = are_parameters alg x.1 e.p2c tag drawn.octets drawn.long (λ password. let count = drawn.holds.awaits.count password in (count.some, count.few)) tag_octets;
+      parameters = are_parameters alg x.1 e.p2c tag drawn.octets drawn.long (λ password. let count = drawn.holds.awaits.count password in (count.some, count.whole)) tag_octets;
       encrypted = both.0;
     }
 
@@ -153,11 +153,11 @@ recipients_are e random =
 
 -- so they are read
 pub recipients_are_read : (keys : List OctetKey) (e : Encryption) (random : List ℕ) → Settles keys e → Writes e random
-    → each (recipient_of limits.management (header_of e random) e.unprotected) (map (given_by e (cek_by e random)) (drawn_by_each e random))
+    → each (recipient_of management_algs (header_of e random) e.unprotected) (map (given_by e (cek_by e random)) (drawn_by_each e random))
     ≡ Ok (map (made_by e (cek_by e random)) (drawn_by_each e random))
 recipients_are_read keys e random by is =
     let cek : List ℕ = cek_by e random in
-    each_made {P = IsWritten e random} (recipient_of limits.management (header_of e random) e.unprotected) (given_by e cek) (made_by e cek)
+    each_made {P = IsWritten e random} (recipient_of management_algs (header_of e random) e.unprotected) (given_by e cek) (made_by e cek)
     (λ x written.
     recipient_is_read e.given x.0.management x.1 e.p2c _ _ e.encryption (header_of e random) e.unprotected (own_header e.given (is_alone e.receivers) (delivery e cek x)) (joint_of e)
     written.headed.joint written.ready.receives.awaits by.enc written.ready.parameters)

@@ -18,11 +18,11 @@ use Rattle.octets.proofs.Decoded.{IsOctets-drop}
 use Rattle.octets.proofs.Meanings.{meaning_of_text}
 use Rattle.ciphers.specs.Openings.{is_longer}
 use Rattle.ciphers.specs.Sealing.{Sealed, Sealing, IsTooLong, IsOpening}
-use Rattle.keys.specs.Algorithms.{encryption_name}
+use Rattle.keys.specs.Algorithms.{encryption_name, management_algs}
 use Rattle.keys.specs.Json.{member_numbers_are_whole}
 use Rattle.keys.specs.JsonTexts.{AreJsonMembers}
 use Rattle.keys.specs.Keys.{OctetKey, AreOctetKeys}
-use Rattle.keys.specs.Limits.{limits}
+use Rattle.keys.specs.Limits.{Limits}
 use Rattle.keys.proofs.ReadingBack.{numbers_whole}
 use Rattle.keys.proofs.UrlTexts.{url_texts_are_json}
 use Rattle.objects.specs.Jwe.{RecipientParts, EncryptedObject, have_one_enc, is_plain, encrypted_object, built, AreMembers, recipients_of_one_enc}
@@ -72,10 +72,10 @@ as_many : (e : Encryption) (random : List ℕ) → length (map (given_by e (cek_
 as_many e random = length-map (drawn_by_each e random) (given_by e (cek_by e random)) ∙ as_many_drawn e.receivers (for_receivers e random)
 
 -- so the object is built of its members
-pub built_is : (keys : List OctetKey) (e : Encryption) (random : List ℕ) (s : Sealed) → Settles keys e → Writes e random → nat_le (length e.receivers) limits.recipients ≡ true
+pub built_is : (limits : Limits) → limits.management ≡ management_algs → (keys : List OctetKey) (e : Encryption) (random : List ℕ) (s : Sealed) → Settles keys e → Writes e random → nat_le (length e.receivers) limits.recipients ≡ true
     → built limits (parts_by e random s) ≡ Ok (object_by e random s)
 unfolding built encrypted_object recipients_of_one_enc
-built_is keys e random s by is few =
+built_is limits known keys e random s by is few =
     let cek : List ℕ = cek_by e random in
     let xs : List (Receiver × List ℕ) = drawn_by_each e random in
     let header : Members = header_of e random in
@@ -93,6 +93,7 @@ built_is keys e random s by is few =
     let some : nat_le 1 (length (map given xs)) ≡ true = ap (nat_le 1) (as_many e random) ∙ le-leb 1 (length e.receivers) by.some in
     let few_given : nat_le (length (map given xs)) limits.recipients ≡ true = ap (λ k. nat_le k limits.recipients) (as_many e random) ∙ few in
     rw (
+      known,
       recipients_are e random,
       unprotected_shallow,
       shallow,
@@ -110,8 +111,8 @@ built_is keys e random s by is few =
     ) refl
 
 -- what is built has no more receivers than an object may have
-pub few_receivers : (e : Encryption) (random : List ℕ) (s : Sealed) (o : EncryptedObject) → built limits (parts_by e random s) ≡ Ok o → nat_le (length e.receivers) limits.recipients ≡ true
-few_receivers e random s o made =
+pub few_receivers : (limits : Limits) (e : Encryption) (random : List ℕ) (s : Sealed) (o : EncryptedObject) → built limits (parts_by e random s) ≡ Ok o → nat_le (length e.receivers) limits.recipients ≡ true
+few_receivers limits e random s o made =
     let given : length (recipients_by e random) ≡ length e.receivers = rw recipients_are (as_many e random) in
     ap (λ k. nat_le k limits.recipients) (sym given) ∙ (is_built limits (parts_by e random s) o made).few
 
@@ -134,7 +135,7 @@ sealed_is s p made h =
 -- What is encrypted by just as many random octets as are drawn: what the plaintext is sealed to, and the object that is made of it. The
 -- content encryption key is delivered to each receiver, the plaintext opens what is sealed, and the members are as JSON has them, or
 -- octets.
-pub record IsEncrypted (e : Encryption) (random plaintext : List ℕ) (o : EncryptedObject) : Type 0 where
+pub record IsEncrypted (limits : Limits) (e : Encryption) (random plaintext : List ℕ) (o : EncryptedObject) : Type 0 where
   pub sealed : Sealed
   pub delivers : AllByRecursion (Delivers e (cek_by e random)) (drawn_by_each e random)
   pub opens : IsOpening (content_alg e.encryption) (cek_by e random) (iv_by e random) (authenticated (base64url (header_by e random)) e.aad) sealed.ciphertext sealed.tag plaintext
@@ -159,20 +160,20 @@ are_members keys e random s by w random_octets ciphertext tag =
     }
 
 -- the steps of encrypting
-pub encrypting_steps : (e : Encryption) (random plaintext : List ℕ) (o : EncryptedObject) → encrypted limits e random plaintext ≡ Ok o
+pub encrypting_steps : (limits : Limits) (e : Encryption) (random plaintext : List ℕ) (o : EncryptedObject) → encrypted limits e random plaintext ≡ Ok o
     → (s : Sealed) × (sealed_by (sealing_by e random) plaintext ≡ Ok s) × (built limits (parts_by e random s) ≡ Ok o)
 unfolding encrypted
-encrypting_steps e random plaintext o h = steps (sealed_by (sealing_by e random) plaintext) (λ s. built limits (parts_by e random s)) o h
+encrypting_steps limits e random plaintext o h = steps (sealed_by (sealing_by e random) plaintext) (λ s. built limits (parts_by e random s)) o h
 
 -- all this holds of it
-pub is_encrypted : OctetLaws → (keys : List OctetKey) (e : Encryption) (random plaintext : List ℕ) (o : EncryptedObject) → AreOctetKeys keys → IsOctets random → IsOctets plaintext
-    → length random ≡ octets_drawn e → Settles keys e → encrypted limits e random plaintext ≡ Ok o → IsEncrypted e random plaintext o
-is_encrypted laws keys e random plaintext o key_octets random_octets octets long by h =
+pub is_encrypted : OctetLaws → (limits : Limits) → limits.management ≡ management_algs → (keys : List OctetKey) (e : Encryption) (random plaintext : List ℕ) (o : EncryptedObject) → AreOctetKeys keys → IsOctets random → IsOctets plaintext
+    → length random ≡ octets_drawn e → Settles keys e → encrypted limits e random plaintext ≡ Ok o → IsEncrypted limits e random plaintext o
+is_encrypted laws limits known keys e random plaintext o key_octets random_octets octets long by h =
     let enc = content_alg e.encryption in
     let cek : List ℕ = cek_by e random in
     let iv : List ℕ = iv_by e random in
     let authentic : List ℕ = authenticated (base64url (header_by e random)) e.aad in
-    let made = encrypting_steps e random plaintext o h in
+    let made = encrypting_steps limits e random plaintext o h in
     let s : Sealed = made.0 in
     let sealed = sealed_is (sealing_by e random) plaintext s made.1 in
     let w : Writes e random = writes laws keys e random by key_octets random_octets long in
@@ -195,7 +196,7 @@ is_encrypted laws keys e random plaintext o key_octets random_octets octets long
       opens = opens;
       members = are_members keys e random s by w random_octets both.0 both.1;
       made = made.2;
-      is = same_answer (object_by e random s) o (sym (built_is keys e random s by w (few_receivers e random s o made.2)) ∙ made.2);
+      is = same_answer (object_by e random s) o (sym (built_is limits known keys e random s by w (few_receivers limits e random s o made.2)) ∙ made.2);
     }
 
 -- what is written of an object is its text, and its ciphertext beside it where this is detached
@@ -208,11 +209,11 @@ written_is compact detach o texts h =
     (text.1 ∙ ap (λ (t : OutputTexts). Ok t.text) same, ap (λ (t : OutputTexts). t.content) same)
 
 -- what a template and keys settle, and the plan by the random octets that are drawn
-pub plan_is : (compact detach : Bool) (keys : List OctetKey) (template random : List ℕ) (plan : Plan OutputTexts) → plan_from (encrypting_by limits compact detach keys template) random ≡ Ok plan
+pub plan_is : (limits : Limits) (compact detach : Bool) (keys : List OctetKey) (template random : List ℕ) (plan : Plan OutputTexts) → plan_from (encrypting_by limits compact detach keys template) random ≡ Ok plan
     → (e : Encryption) × (encryption_of limits compact keys template ≡ Ok e) × (length (take (octets_drawn e) random) ≡ octets_drawn e)
     × (plan_by limits compact detach e (take (octets_drawn e) random) ≡ plan)
 unfolding encrypting_by
-plan_is compact detach keys template random plan h =
+plan_is limits compact detach keys template random plan h =
     let draft = steps (encrypting_by limits compact detach keys template) _ plan h in
     let enough = steps (needs (nat_le draft.0.drawn (length random)) Random) _ plan draft.2 in
     let settled = steps (encryption_of limits compact keys template) _ draft.0 draft.1 in

@@ -1,5 +1,5 @@
 -- What is encrypted decrypts with each key alone that may decrypt.
-use Rattle.std.proofs.Common.{◌≡◌, ℕ, ◌*◌, ◌≤◌, Bool, true, false, List, [], ◌∷◌, ◌++◌, length, map, take, drop, Some, Ok, refl, sym, ◌∙◌, ap, subst, arith}
+use Rattle.std.proofs.Common.{◌≡◌, ℕ, ◌*◌, Bool, true, false, List, [], ◌∷◌, ◌++◌, length, map, take, drop, Some, Ok, refl, sym, ◌∙◌, ap, subst, arith}
 use Rattle.std.specs.List.{AllByRecursion}
 use Rattle.octets.specs.Octets.{IsOctets}
 use Rattle.octets.specs.Outcomes.{◌>>=◌}
@@ -8,24 +8,24 @@ use Rattle.octets.proofs.Decoded.{IsOctets-take}
 use Rattle.ciphers.specs.Openings.{OpensExactly, DeliversExactly}
 use Rattle.ciphers.specs.Sealing.{IsOpening}
 use Rattle.keys.specs.declared.algorithm.Algorithm.TheVariants.{Encryption as EncryptionWith}
-use Rattle.keys.specs.Algorithms.{is_password_based, management_operations}
+use Rattle.keys.specs.Algorithms.{management_operations, management_algs}
 use Rattle.keys.specs.Keys.{OctetKey, AreOctetKeys, allows, fits}
-use Rattle.keys.specs.Limits.{limits}
+use Rattle.keys.specs.Limits.{Limits}
 use Rattle.objects.specs.Jwe.{JweParts, EncryptedObject, built, json_text, jwe_of, AreMembers, TextsSpellObjects}
 use Rattle.objects.specs.Texts.{handed_in}
-use Rattle.objects.proofs.EachRead.{all_then, all_both}
+use Rattle.objects.proofs.EachRead.{all_both}
 use Rattle.objects.proofs.Steps.{steps, same_answer}
 use Rattle.tokens.specs.Algorithms.{content_alg, key_alg, parameters_by}
 use Rattle.tokens.specs.Choosing.{Receiver, passwords, Encryption}
 use Rattle.tokens.specs.Decrypting.{all_pairs, is_candidate, SealedContent, sealed_content, cek_of, opened_by, decrypted}
 use Rattle.tokens.specs.Delivering.{drawn_for}
-use Rattle.tokens.specs.Encrypting.{octets_drawn, for_receivers, cek_by, encrypted, text_of, written_of, parts_by, encrypting_by, OpensNoOther, EncryptedDecrypts}
+use Rattle.tokens.specs.Encrypting.{octets_drawn, for_receivers, cek_by, encrypted, text_of, written_of, parts_by, encrypting_by, AreSound, OpensNoOther, EncryptedDecrypts}
 use Rattle.tokens.proofs.Beginnings.{handed_back}
 use Rattle.tokens.proofs.DecryptedPairs.{algorithms_by, pair_by, TakeAtMost, take_at_most, Opens, first_opens, supported, opened_is_decrypted}
 use Rattle.tokens.proofs.DeliveredKeys.{with_drawn, IsDrawn, as_many_drawn, Delivers, drawn_by_each, each_drawn}
 use Rattle.tokens.proofs.EncryptedHeaders.{made_by}
 use Rattle.tokens.proofs.EncryptedObjects.{OctetLaws, object_by, IsEncrypted, is_encrypted, written_is, plan_is}
-use Rattle.tokens.proofs.SettledEncryptions.{Receives, Settles, settles}
+use Rattle.tokens.proofs.SettledEncryptions.{Receives, Settles, TakesFew, settles, takes_few}
 
 -- the laws of ciphers and of objects
 pub record Laws : Type 0 where
@@ -35,19 +35,19 @@ pub record Laws : Type 0 where
   pub spells : TextsSpellObjects
 
 -- the object is read from its text in either form, and from its ciphertext where this is detached
-text_is_read : Laws → (compact detach : Bool) (parts : JweParts) (o : EncryptedObject) (text : List ℕ) → AreMembers parts → built limits parts ≡ Ok o → text_of compact detach o ≡ Ok text
+text_is_read : Laws → (limits : Limits) (compact detach : Bool) (parts : JweParts) (o : EncryptedObject) (text : List ℕ) → AreMembers parts → built limits parts ≡ Ok o → text_of compact detach o ≡ Ok text
     → jwe_of limits (handed_in detach o.ciphertext) text ≡ Ok o
-text_is_read laws true detach parts o text members is h = (laws.spells limits parts o members is detach).1 text h
-text_is_read laws false detach parts o text members is h =
+text_is_read laws limits true detach parts o text members is h = (laws.spells limits parts o members is detach).1 text h
+text_is_read laws limits false detach parts o text members is h =
     ap (jwe_of limits (handed_in detach o.ciphertext)) (sym (same_answer (json_text detach o) text h)) ∙ (laws.spells limits parts o members is detach).0
 
 -- so the object is read from what is written of it
-written_is_read : Laws → (compact detach : Bool) (parts : JweParts) (o : EncryptedObject) (texts : OutputTexts) → AreMembers parts → built limits parts ≡ Ok o → written_of compact detach o ≡ Ok texts
+written_is_read : Laws → (limits : Limits) (compact detach : Bool) (parts : JweParts) (o : EncryptedObject) (texts : OutputTexts) → AreMembers parts → built limits parts ≡ Ok o → written_of compact detach o ≡ Ok texts
     → jwe_of limits (handed_in detach texts.content) texts.text ≡ Ok o
-written_is_read laws compact detach parts o texts members is h =
+written_is_read laws limits compact detach parts o texts members is h =
     let written = written_is compact detach o texts h in
     let beside : handed_in detach texts.content ≡ handed_in detach o.ciphertext = ap (handed_in detach) (sym written.1) ∙ handed_back detach o.ciphertext in
-    ap (λ content. jwe_of limits content texts.text) beside ∙ text_is_read laws compact detach parts o texts.text members is written.0
+    ap (λ content. jwe_of limits content texts.text) beside ∙ text_is_read laws limits compact detach parts o texts.text members is written.0
 
 -- a key that may decrypt and fits is a candidate
 candidate_is : (e : Encryption) (r : Receiver) → allows r.key (management_operations r.management).1 ≡ true → fits r.key (EncryptionWith r.management e.encryption) ≡ true
@@ -79,11 +79,11 @@ keys_of_drawn [] drawn = refl
 keys_of_drawn (r ∷ rest) drawn = ap (λ keys. r.key ∷ keys) (keys_of_drawn rest (drop (drawn_for r) drawn))
 
 -- the object is decrypted with each key alone that may decrypt
-decrypts : Laws → (before after : List OctetKey) (key : OctetKey) (e : Encryption) (random plaintext : List ℕ) (o : EncryptedObject) → Settles (before ++ key ∷ after) e → IsOctets random
+decrypts : Laws → (limits : Limits) → limits.management ≡ management_algs → (before after : List OctetKey) (key : OctetKey) (e : Encryption) (random plaintext : List ℕ) (o : EncryptedObject) → Settles (before ++ key ∷ after) e → TakesFew limits e → IsOctets random
     → length random ≡ octets_drawn e → AllByRecursion (λ r. r.key ≡ key → allows key (management_operations r.management).1 ≡ true) e.receivers
-    → (is : IsEncrypted e random plaintext o) → OpensNoOther (length before) key (object_by e random is.sealed) plaintext
+    → (is : IsEncrypted limits e random plaintext o) → OpensNoOther (length before) key (object_by e random is.sealed) plaintext
     → decrypted limits (key ∷ []) (object_by e random is.sealed) ≡ Ok plaintext
-decrypts laws before after key e random plaintext o by random_octets long may is only =
+decrypts laws limits known before after key e random plaintext o by few random_octets long may is only =
     let all : EncryptedObject = object_by e random is.sealed in
     let s : SealedContent = sealed_content all in
     let cek : List ℕ = cek_by e random in
@@ -93,38 +93,38 @@ decrypts laws before after key e random plaintext o by random_octets long may is
     each_drawn P e random (all_both (λ r receives may. (receives, may)) e.receivers by.receive may) random_octets long in
     let each_opens : AllByRecursion (Opens e cek key s plaintext) xs =
     all_both (λ x may delivers. key_opens laws e cek key x s plaintext is.members.iv may.holds.0 may.holds.1 delivers is.opens) xs each_may is.delivers in
-    let few : AllByRecursion (λ r. is_password_based r.management ≡ true → e.p2c ≤ limits.greatest_p2c_read) e.receivers =
-    all_then (Receives e) _ (λ r receives password. (receives.awaits.count password).few) e.receivers by.receive in
-    let most : TakeAtMost (passwords e.receivers * e.p2c) (all_pairs limits.management (key ∷ []) all.recipients) = take_at_most e cek key e.receivers (for_receivers e random) few in
-    opened_is_decrypted key all plaintext (supported e cek xs (omega (arith, as_many_drawn e.receivers (for_receivers e random), by.some)))
-    (record { each_few = most.each_few; all_few = omega (arith, most.all_few, by.few) })
+    let most : TakeAtMost limits.greatest_p2c_read (passwords e.receivers * e.p2c) (all_pairs management_algs (key ∷ []) all.recipients) =
+    take_at_most limits.greatest_p2c_read e cek key e.receivers (for_receivers e random) few.each_few in
+    opened_is_decrypted limits known key all plaintext (supported e cek xs (omega (arith, as_many_drawn e.receivers (for_receivers e random), by.some)))
+    (record { each_few = most.each_few; all_few = omega (arith, most.all_few, few.all_few) })
     (first_opens e cek key s plaintext before after xs (keys_of_drawn e.receivers (for_receivers e random) ∙ by.keys_are) each_opens only)
 
 -- so what is written of it is that of an object which is decrypted
-read_and_decrypted : Laws → (compact detach : Bool) (keys : List OctetKey) (e : Encryption) (random plaintext : List ℕ) (texts : OutputTexts)
-    → AreOctetKeys keys → IsOctets random → IsOctets plaintext → length random ≡ octets_drawn e → Settles keys e → (encrypted limits e random plaintext >>= written_of compact detach) ≡ Ok texts
+read_and_decrypted : Laws → (limits : Limits) → limits.management ≡ management_algs → (compact detach : Bool) (keys : List OctetKey) (e : Encryption) (random plaintext : List ℕ) (texts : OutputTexts)
+    → AreOctetKeys keys → IsOctets random → IsOctets plaintext → length random ≡ octets_drawn e → Settles keys e → TakesFew limits e
+    → (encrypted limits e random plaintext >>= written_of compact detach) ≡ Ok texts
     → (o : EncryptedObject) × ((jwe_of limits (handed_in detach texts.content) texts.text ≡ Ok o)
     × ((before after : List OctetKey) (key : OctetKey) → keys ≡ before ++ key ∷ after → AllByRecursion (λ r. r.key ≡ key → allows key (management_operations r.management).1 ≡ true) e.receivers
     → OpensNoOther (length before) key o plaintext → decrypted limits (key ∷ []) o ≡ Ok plaintext))
-read_and_decrypted laws compact detach keys e random plaintext texts key_octets random_octets octets long by h =
+read_and_decrypted laws limits known compact detach keys e random plaintext texts key_octets random_octets octets long by few h =
     let o = steps (encrypted limits e random plaintext) (written_of compact detach) texts h in
-    let is : IsEncrypted e random plaintext o.0 = is_encrypted laws.octets keys e random plaintext o.0 key_octets random_octets octets long by o.1 in (
+    let is : IsEncrypted limits e random plaintext o.0 = is_encrypted laws.octets limits known keys e random plaintext o.0 key_octets random_octets octets long by o.1 in (
       o.0,
       (
-        written_is_read laws compact detach (parts_by e random is.sealed) o.0 texts is.members is.made o.2,
+        written_is_read laws limits compact detach (parts_by e random is.sealed) o.0 texts is.members is.made o.2,
         λ before after key among may.
             let by_key : Settles (before ++ key ∷ after) e = subst (λ keys. Settles keys e) among by in
             subst (λ o. OpensNoOther (length before) key o plaintext → decrypted limits (key ∷ []) o ≡ Ok plaintext) is.is
-            (decrypts laws before after key e random plaintext o.0 by_key random_octets long may is),
+            (decrypts laws limits known before after key e random plaintext o.0 by_key few random_octets long may is),
       ),
     )
 
 -- and so it is where keys and a template settle what is encrypted
-pub encrypted_decrypts : Laws → EncryptedDecrypts
-encrypted_decrypts laws compact detach keys template random plaintext texts key_octets random_octets octets h =
+pub encrypted_decrypts : Laws → (limits : Limits) → AreSound limits → EncryptedDecrypts limits
+encrypted_decrypts laws limits sound compact detach keys template random plaintext texts key_octets random_octets octets h =
     let plan = steps (plan_from (encrypting_by limits compact detach keys template) random) (λ p. p.whole plaintext) texts h in
-    let settled = plan_is compact detach keys template random plan.0 plan.1 in
+    let settled = plan_is limits compact detach keys template random plan.0 plan.1 in
     let e : Encryption = settled.0 in
-    let o = read_and_decrypted laws compact detach keys e (take (octets_drawn e) random) plaintext texts key_octets (IsOctets-take (octets_drawn e) random random_octets) octets settled.2
-    (settles compact keys template e settled.1) (ap (λ (p : Plan OutputTexts). p.whole plaintext) settled.3 ∙ plan.2) in
+    let o = read_and_decrypted laws limits sound.algorithms compact detach keys e (take (octets_drawn e) random) plaintext texts key_octets (IsOctets-take (octets_drawn e) random random_octets) octets settled.2
+    (settles limits sound compact keys template e settled.1) (takes_few limits sound compact keys template e settled.1) (ap (λ (p : Plan OutputTexts). p.whole plaintext) settled.3 ∙ plan.2) in
     (o.0, (o.1.0, λ before after key among may. o.1.1 before after key among (may e settled.1)))

@@ -19,6 +19,7 @@ use Rattle.tokens.specs.Template.{is_empty}
 use Rattle.tokens.proofs.DeliveredKeys.{drawn_by_each, as_many_drawn}
 use Rattle.tokens.proofs.EncryptedHeaders.{OctetLaws, Writes, writes, made_by}
 use Rattle.tokens.proofs.EncryptedObjects.{object_by, built_is, plan_is}
+use Rattle.tokens.proofs.SoundLimits.{these_are_sound}
 use Rattle.tokens.proofs.SettledEncryptions.{Settles, holds_no_more, settles, stands_alone}
 
 -- a header without members
@@ -57,15 +58,15 @@ whole_text compact detach keys e random plaintext by w few alone = by_test (not 
     by_test false = refl
     by_test true =
         let s : Sealed = (sealing_by e random).sealed plaintext in
-        rw (built_is keys e random s by w few, (has_text compact detach e random s alone by.some).1) tt
+        rw (built_is limits refl keys e random s by w few, (has_text compact detach e random s alone by.some).1) tt
 
 -- so it is by every plan that keys and a template settle
 pub encrypting_makes_texts : OctetLaws → EncryptingMakesTexts
 encrypting_makes_texts laws compact detach keys template random plaintext plan few key_octets octets h =
-    let is = plan_is compact detach keys template random plan h in
+    let is = plan_is limits compact detach keys template random plan h in
     let e : Encryption = is.0 in
-    let by = settles compact keys template e is.1 in
+    let by = settles limits these_are_sound compact keys template e is.1 in
     let long : length e.receivers ≡ length keys = sym (length-map e.receivers (λ r. r.key)) ∙ ap length by.keys_are in
     let w = writes laws keys e (take (octets_drawn e) random) by key_octets (IsOctets-take (octets_drawn e) random octets) is.2 in
     subst (λ (p : Plan OutputTexts). IfErr (p.whole plaintext) (λ refusal. refusal ≡ Limit)) is.3
-    (whole_text compact detach keys e (take (octets_drawn e) random) plaintext by w (ap (λ n. nat_le n limits.recipients) long ∙ few) (stands_alone compact keys template e is.1))
+    (whole_text compact detach keys e (take (octets_drawn e) random) plaintext by w (ap (λ n. nat_le n limits.recipients) long ∙ few) (stands_alone limits these_are_sound compact keys template e is.1))

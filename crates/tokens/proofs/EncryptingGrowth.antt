@@ -18,6 +18,7 @@ use Rattle.tokens.proofs.Beginnings.{begins_behind, empty_begins, groups_grow, f
 use Rattle.tokens.proofs.DeliveredKeys.{cek_by_is}
 use Rattle.tokens.proofs.Sealed.{all_within}
 use Rattle.tokens.proofs.EncryptedObjects.{OctetLaws, few_receivers, encrypting_steps, sealed_is, plan_is, settles}
+use Rattle.tokens.proofs.SoundLimits.{these_are_sound}
 use Rattle.tokens.proofs.EncryptionFrames.{has_frame, frame, whole_is}
 
 -- ---- what is fixed of the ciphertext
@@ -73,11 +74,11 @@ written_begins : OctetLaws → (compact detach : Bool) (keys : List OctetKey) (t
 written_begins laws compact detach keys template e random p q texts key_octets random_octets octets long is h =
     let front : List ℕ = ciphertext_fixed e random p in
     let o = steps (encrypted limits e random (p ++ q)) (written_of compact detach) texts h in
-    let made = encrypting_steps e random (p ++ q) o.0 o.1 in
+    let made = encrypting_steps limits e random (p ++ q) o.0 o.1 in
     let s : Sealed = made.0 in
     let sealed = sealed_is (sealing_by e random) (p ++ q) s made.1 in
-    let few : nat_le (length e.receivers) limits.recipients ≡ true = few_receivers e random s o.0 made.2 in
-    let cek = cek_by_is keys e random (settles compact keys template e is) key_octets random_octets long in
+    let few : nat_le (length e.receivers) limits.recipients ≡ true = few_receivers limits e random s o.0 made.2 in
+    let cek = cek_by_is keys e random (settles limits these_are_sound compact keys template e is) key_octets random_octets long in
     let framed = has_frame compact keys template e random is few laws key_octets random_octets long detach in
     let begins : Begins front s.ciphertext = subst (λ (x : Sealed). Begins front x.ciphertext) sealed.1 (fixed_begins e random p q sealed.0) in
     let whole = whole_is compact keys template e random is few laws key_octets random_octets long cek.octets cek.fits detach framed.0 framed.1 (p ++ q) s octets made.1 in
@@ -90,7 +91,7 @@ written_begins laws compact detach keys template e random p q texts key_octets r
 -- so the plan grows, as each that a template and keys settle does
 pub encrypting_grows : OctetLaws → EncryptingGrows
 encrypting_grows laws compact detach keys template random plan key_octets random_octets h =
-    let is = plan_is compact detach keys template random plan h in
+    let is = plan_is limits compact detach keys template random plan h in
     let e : Encryption = is.0 in
     let drawn : List ℕ = take (octets_drawn e) random in
     let drawn_octets : IsOctets drawn = IsOctets-take (octets_drawn e) random random_octets in

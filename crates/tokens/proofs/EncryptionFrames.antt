@@ -32,6 +32,7 @@ use Rattle.tokens.proofs.EncryptedHeaders.{OctetLaws, Writes, writes}
 use Rattle.tokens.proofs.EncryptedObjects.{object_by, built_is, sealed_is}
 use Rattle.tokens.proofs.EncryptedTexts.{has_text}
 use Rattle.tokens.proofs.EncryptingPlans.{plan_of_drawn}
+use Rattle.tokens.proofs.SoundLimits.{these_are_sound}
 use Rattle.tokens.proofs.SettledEncryptions.{Settles, settles, stands_alone}
 
 same_text : (compact detach : Bool) (o : EncryptedObject) → text_of compact detach o ≡ jwe_text compact detach o
@@ -43,7 +44,7 @@ module _ (compact : Bool) (keys : List OctetKey) (template : List ℕ) (e : Encr
     (is : encryption_of limits compact keys template ≡ Ok e) (few : nat_le (length e.receivers) limits.recipients ≡ true) (laws : OctetLaws) (key_octets : AreOctetKeys keys)
     (random_octets : IsOctets random) (long : length random ≡ octets_drawn e) where
   by : Settles keys e
-  by = settles compact keys template e is
+  by = settles limits these_are_sound compact keys template e is
 
   w : Writes e random
   w = writes laws keys e random by key_octets random_octets long
@@ -55,10 +56,10 @@ module _ (compact : Bool) (keys : List OctetKey) (template : List ℕ) (e : Encr
       by_written : (r : Result Written Refusal) → jwe_written true compact detach (object_by e random unsealed) ≡ r → (texts : List (List ℕ)) × (frame_by limits compact detach e random ≡ Ok texts)
       by_written (Ok written) h = (
         all_texts written,
-        ap (λ r. r >>= jwe_frame compact detach) (built_is keys e random unsealed by w few) ∙ ap (λ r. r >>= λ w. Ok (all_texts w)) h,
+        ap (λ r. r >>= jwe_frame compact detach) (built_is limits refl keys e random unsealed by w few) ∙ ap (λ r. r >>= λ w. Ok (all_texts w)) h,
       )
       by_written (Err r) h =
-          let text = has_text compact detach e random unsealed (stands_alone compact keys template e is) by.some in
+          let text = has_text compact detach e random unsealed (stands_alone limits these_are_sound compact keys template e is) by.some in
           let both : Ok text.0 ≡ Err NotCompact = sym text.1 ∙ same_text compact detach (object_by e random unsealed) ∙ (jwe_refused true compact detach (object_by e random unsealed) r h).1 in
           cc both
 
@@ -67,13 +68,13 @@ module _ (compact : Bool) (keys : List OctetKey) (template : List ℕ) (e : Encr
     pub frame : IsJweFrame compact detach (object_by e random unsealed) texts
     frame =
         is_jwe_frame url_texts_are_json has_url_characters decodes_exactly compact detach (object_by e random unsealed) texts
-        (sym (ap (λ r. r >>= jwe_frame compact detach) (built_is keys e random unsealed by w few)) ∙ framed)
+        (sym (ap (λ r. r >>= jwe_frame compact detach) (built_is limits refl keys e random unsealed by w few)) ∙ framed)
 
     -- round every ciphertext and tag they are what is written of the object of these
     texts_are : (s : Sealed) → IsOctets s.ciphertext → IsOctets s.tag → 1 ≤ length s.tag
         → (built limits (parts_by e random s) >>= written_of compact detach) ≡ Ok (record { text = filled texts (in_places detach s.ciphertext (s.tag ∷ [])); content = handed_out detach s.ciphertext })
     texts_are s ciphertext tag some =
-        ap (λ r. r >>= written_of compact detach) (built_is keys e random s by w few)
+        ap (λ r. r >>= written_of compact detach) (built_is limits refl keys e random s by w few)
         ∙ ap (λ r. r >>= λ text. Ok (record { text = text; content = handed_out detach s.ciphertext }))
         (same_text compact detach (object_by e random s) ∙ frame.filled s.ciphertext s.tag ciphertext tag (le-leb 1 (length s.tag) some))
 

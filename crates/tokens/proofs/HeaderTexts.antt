@@ -8,7 +8,7 @@ use Rattle.octets.specs.Octets.{IsOctets}
 use Rattle.octets.proofs.Decoded.{IsOctets-nil}
 use Rattle.keys.specs.Json.{json_value}
 use Rattle.keys.specs.JsonTexts.{IsJson, AreJsonMembers}
-use Rattle.keys.specs.Limits.{limits}
+use Rattle.keys.specs.Limits.{Limits}
 use Rattle.keys.proofs.CompactTexts.{text_is_utf8}
 use Rattle.keys.proofs.JsonParts.{keep_json}
 use Rattle.keys.proofs.ReadingBack.{reads_back}
@@ -40,14 +40,17 @@ pub record ReadsBack (m : Members) : Type 0 where
   pub members : protected_members (header_text m) ≡ Ok m
   pub octets : IsOctets (header_text m)
 
--- so it is where the header is JSON, and no deeper than a header may nest
-pub read_back : (m : Members) → AreJsonMembers m → is_shallow limits m ≡ true → ReadsBack m
+-- a header that nests no deeper than limits allow may stand in a text, where they allow no more than that
+pub stands : (limits : Limits) (m : Members) → limits.depth ≤ listed_header_depth → is_shallow limits m ≡ true → depth (object m) ≤ listed_header_depth
+stands limits m most h = let few : depth (object m) ≤ limits.depth = leb-true (depth (object m)) limits.depth h in omega (arith, most, few)
+
+-- so it is where the header is JSON, and may stand in a text
+pub read_back : (m : Members) → AreJsonMembers m → depth (object m) ≤ listed_header_depth → ReadsBack m
 unfolding protected_members members_of_json
 read_back no_members json shallow = record { members = refl; octets = IsOctets-nil }
 read_back (member k value rest) json shallow =
     let d = object (member k value rest) in
-    let few : depth d ≤ limits.depth = leb-true (depth d) limits.depth shallow in
-    let back : json_value (compact_text d) ≡ Ok d = reads_back d json (omega arith) in
+    let back : json_value (compact_text d) ≡ Ok d = reads_back d json (omega (arith, shallow)) in
     record {
       members = by_length (nat_le (length (compact_text d)) 0) refl back;
       octets = octets_of_utf8 (compact_text d) (text_is_utf8 d json);
@@ -58,10 +61,10 @@ read_back (member k value rest) json shallow =
     by_length false e back = rw back refl
     by_length true e back = absurd (omega (arith, leb-true _ 0 e))
 
--- a header that may be written may stand in a text, among those of so many recipients or signatures
-pub shallow_enough : (d n : ℕ) → nat_le d limits.depth ≡ true → nat_le d (depth_of_each n) ≡ true
+-- it may stand there among those of so many recipients or signatures
+pub shallow_enough : (d n : ℕ) → d ≤ listed_header_depth → nat_le d (depth_of_each n) ≡ true
 shallow_enough d n h = by_few (nat_le n 1)
   where
     by_few : (few : Bool) → nat_le d (if few then header_depth else listed_header_depth) ≡ true
-    by_few true = let deep : d ≤ limits.depth = leb-true d limits.depth h in le-leb d 126 (omega arith)
-    by_few false = let deep : d ≤ limits.depth = leb-true d limits.depth h in le-leb d 124 (omega arith)
+    by_few true = le-leb d header_depth (omega (arith, h))
+    by_few false = le-leb d listed_header_depth h

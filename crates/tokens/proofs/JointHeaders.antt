@@ -1,6 +1,6 @@
 -- Headers into which entries are put: what the joint header then has, and that no name stands in two of its parts.
-use Rattle.std.proofs.Common.{◌≡◌, ℕ, ◌≤◌, ◌||◌, Bool, true, false, cond, List, [], ◌∷◌, codes, Option, Some, None, is_some, is_none, IsUtf8, Ordering, Less, Equal, Greater, nat_cmp, is_eq, true≢false, refl, sym, ap, ◌∙◌, arith}
-use Rattle.std.proofs.lemmas.Bool.{and_parts, or_from, or_parts, not-true, leb-true, le-leb}
+use Rattle.std.proofs.Common.{◌≡◌, ℕ, ◌≤◌, lit≤, ◌||◌, Bool, true, false, cond, List, [], ◌∷◌, codes, Option, Some, None, is_some, is_none, IsUtf8, Ordering, Less, Equal, Greater, nat_cmp, is_eq, true≢false, refl, sym, ap, ◌∙◌, arith}
+use Rattle.std.proofs.lemmas.Bool.{and_parts, or_from, or_parts, not-true}
 use Rattle.std.proofs.lemmas.Cmp.{nat_list_cmp_total, tied_itself}
 use Rattle.std.proofs.lemmas.Map.Text.{is_eq-slice_cmp}
 use Rattle.std.proofs.lemmas.Slice.Eq.{bytes_eq-Decides}
@@ -13,13 +13,12 @@ use Rattle.serde_json.specs.Data.{Data, Members, no_members, member, object, dep
 use Rattle.serde_json.specs.Find.{get_member}
 use Rattle.serde_json.proofs.Views.{get_member-put, get_member-put_other}
 use Rattle.keys.specs.JsonTexts.{AreJsonMembers}
-use Rattle.keys.specs.Limits.{limits}
 use Rattle.keys.proofs.JsonParts.{keep_json}
 use Rattle.objects.specs.Headers.{overlap, are_disjoint, all_members, has_no_crit}
 use Rattle.objects.specs.Jwe.{is_plain}
+use Rattle.objects.specs.Texts.{listed_header_depth}
 use Rattle.objects.proofs.Members.{Entries, put_if_there, first_there, IsJsonIfThere, AreJsonEntries}
 use Rattle.objects.proofs.Names.{get_member-all_members}
-use Rattle.tokens.specs.Template.{is_shallow}
 
 -- ---- entries that are put into a header
 
@@ -189,10 +188,10 @@ into_own p u es h free = record {
 
 -- ---- headers that may be written
 
--- a header as JSON has it, no deeper than a header may nest, with no member that is refused
+-- a header as JSON has it, which may stand in a text, with no member that is refused
 pub record IsHeader (header : Members) : Type 0 where
   pub json : AreJsonMembers header
-  pub shallow : is_shallow limits header ≡ true
+  pub shallow : depth (object header) ≤ listed_header_depth
   pub plain : is_plain header ≡ true
 
 -- members stay JSON, and nest no deeper, with one more entry
@@ -210,13 +209,12 @@ json_onto header (e ∷ rest) all json = one_more e.0 e.1 (put_onto header rest)
 pub header_onto : (header : Members) (es : Entries) → IsHeader header → AreJsonEntries 0 es → first_there (codes "crit") es ≡ None → first_there (codes "zip") es ≡ None → IsHeader (put_onto header es)
 header_onto header es is all crit zip =
     let json = json_onto header es all is.json in
-    let few : depth (object header) ≤ limits.depth = leb-true (depth (object header)) limits.depth is.shallow in
     record {
       json = json.0;
-      shallow = le-leb (depth (object (put_onto header es))) limits.depth (omega (arith, json.1, few));
+      shallow = omega (arith, json.1, is.shallow);
       plain = rw (get_member-put_onto (codes "crit") header es, get_member-put_onto (codes "zip") header es, crit, zip) is.plain;
     }
 
 -- a header without members is one
 pub empty_header : IsHeader no_members
-empty_header = record { json = tt; shallow = refl; plain = refl }
+empty_header = record { json = tt; shallow = lit≤ tt; plain = refl }

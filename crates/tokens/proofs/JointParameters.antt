@@ -1,6 +1,6 @@
 -- The parameters that are written of a delivery, as entries: the joint header with them names the algorithms, and has the parameters of
 -- key management.
-use Rattle.std.proofs.Common.{◌≡◌, ℕ, ◌≤◌, Bool, true, false, nat_le, List, [], ◌∷◌, length, codes, Option, Some, None, option_and_then, option_map, is_some, Ok, IsUtf8, refl, ◌∙◌, ap, arith}
+use Rattle.std.proofs.Common.{◌≡◌, ℕ, ◌≤◌, ◌<◌, ◌^◌, Bool, true, false, nat_le, List, [], ◌∷◌, length, codes, Option, Some, None, option_and_then, option_map, is_some, Ok, IsUtf8, refl, ◌∙◌, ap, arith}
 use Rattle.std.proofs.lemmas.Bool.{le-leb}
 use Rattle.std.specs.List.{list_all}
 use Rattle.std.specs.Option.{option_or}
@@ -13,8 +13,7 @@ use Rattle.octets.proofs.Meanings.{decodes_exactly}
 use Rattle.keys.specs.declared.algorithm.EncryptionAlg.{EncryptionAlg}
 use Rattle.keys.specs.declared.algorithm.ManagementAlg.{ManagementAlg}
 use Rattle.keys.specs.declared.algorithm.ManagementAlg.TheVariants.{Dir, A128Kw, A192Kw, A256Kw, Pbes2Hs256A128Kw, Pbes2Hs384A192Kw, Pbes2Hs512A256Kw, A128GcmKw, A192GcmKw, A256GcmKw}
-use Rattle.keys.specs.Algorithms.{management_name, encryption_name, is_password_based}
-use Rattle.keys.specs.Limits.{limits}
+use Rattle.keys.specs.Algorithms.{management_name, encryption_name, is_password_based, management_algs}
 use Rattle.keys.proofs.UrlTexts.{url_texts_are_json}
 use Rattle.objects.specs.Headers.{all_members, joint_header, required, if_there, string_parameter, string_there, number_parameter, salt_parameter, octets_parameter}
 use Rattle.objects.specs.Jwe.{Recipient, recipient_by, recipient_of}
@@ -122,11 +121,11 @@ with_management_is named counted alg (GcmKeyWrap iv tag) header =
 pub with_parameters_is : (given : Given) (d : Delivery) (header : Members) → with_parameters given d header ≡ put_onto header (parameters_of given d)
 with_parameters_is given d header = with_management_is given.alg given.p2c (management_name d.alg) d.management header
 
--- the count of iterations that a header gives or lacks; it is neither 0 nor more than are read
+-- the count of iterations that a header gives or lacks; it is not 0, and a number of JSON
 pub record Counted (counted : Bool) (p2c : ℕ) (header : Members) : Type 0 where
   pub there : IsGiven as_count counted (get_member (codes "p2c") header) p2c
   pub some : 1 ≤ p2c
-  pub few : p2c ≤ limits.greatest_p2c_read
+  pub whole : p2c < 2 ^ 64
 
 -- A joint header gives, or lacks, the name of the algorithm and, for a password, the count of iterations; and it lacks what encryption
 -- writes.
@@ -144,7 +143,7 @@ pub still_awaits : (named counted password : Bool) (alg : List ℕ) (p2c : ℕ) 
     → Awaits named counted password alg p2c before → Awaits named counted password alg p2c after
 still_awaits named counted password alg p2c before after same_alg same_p2c same_p2s same_iv same_tag is = record {
   alg_there = rw same_alg is.alg_there;
-  count = λ e. let c = is.count e in record { there = rw same_p2c c.there; some = c.some; few = c.few };
+  count = λ e. let c = is.count e in record { there = rw same_p2c c.there; some = c.some; whole = c.whole };
   no_salt = same_p2s ∙ is.no_salt;
   no_iv = same_iv ∙ is.no_iv;
   no_tag = same_tag ∙ is.no_tag;
@@ -193,12 +192,12 @@ abbrev pub AreParameters : KeyManagement → Type 0
 AreParameters Unknown = Unit {0}
 AreParameters Direct = Unit {0}
 AreParameters KeyWrap = Unit {0}
-AreParameters (Password p2s p2c) = IsOctets p2s × (length p2s ≡ salt_len) × (1 ≤ p2c) × (p2c ≤ limits.greatest_p2c_read)
+AreParameters (Password p2s p2c) = IsOctets p2s × (length p2s ≡ salt_len) × (1 ≤ p2c) × (p2c < 2 ^ 64)
 AreParameters (GcmKeyWrap iv tag) = IsOctets iv × IsOctets tag
 
 -- so they are by what was drawn for an algorithm, where the tag that was made is octets
 pub are_parameters : (alg : ManagementAlg) (drawn : List ℕ) (p2c : ℕ) (tag : List ℕ) → IsOctets drawn → length drawn ≡ drawn_by alg
-    → (is_password_based alg ≡ true → (1 ≤ p2c) × (p2c ≤ limits.greatest_p2c_read)) → IsOctets tag → AreParameters (management_with alg drawn p2c tag)
+    → (is_password_based alg ≡ true → (1 ≤ p2c) × (p2c < 2 ^ 64)) → IsOctets tag → AreParameters (management_with alg drawn p2c tag)
 are_parameters Dir drawn p2c tag octets long count tag_octets = tt
 are_parameters A128Kw drawn p2c tag octets long count tag_octets = tt
 are_parameters A192Kw drawn p2c tag octets long count tag_octets = tt
@@ -228,8 +227,7 @@ json_parameters named counted alg m text is = by_management m is
     by_management Direct is = (name, tt)
     by_management KeyWrap is = (name, tt)
     by_management (Password p2s p2c) is =
-        let few : p2c ≤ limits.greatest_p2c_read = is.3 in
-        let count_json = json_unless counted (number (unsigned p2c)) (λ e. (omega (arith, few), omega arith)) in
+        let count_json = json_unless counted (number (unsigned p2c)) (λ e. (is.3, omega arith)) in
         ((is_name (codes "p2s") refl, url_json p2s is.0), ((is_name (codes "p2c") refl, count_json), (name, tt)))
     by_management (GcmKeyWrap iv tag) is = ((is_name (codes "tag") refl, url_json tag is.1), ((is_name (codes "iv") refl, url_json iv is.0), (name, tt)))
 
@@ -353,7 +351,7 @@ pub recipient_is_read : (given : Given) (alg : ManagementAlg) (drawn : List ℕ)
     → (let d : Delivery = record { alg = alg; management = management_with alg drawn p2c tag; encrypted_key = key } in
     IsJoint p u own (parameters_of given d) before → Awaits given.alg given.p2c (is_password_based alg) (management_name alg) p2c before
     → if_there as_str (get_member (codes "enc") before) ≡ Ok (Some (encryption_name enc)) → AreParameters d.management
-    → recipient_of limits.management p u (record { header = own; encrypted_key = key }) ≡ Ok (recipient own d enc))
+    → recipient_of management_algs p u (record { header = own; encrypted_key = key }) ≡ Ok (recipient own d enc))
 unfolding recipient_of joint_header recipient_by string_there string_parameter
 recipient_is_read given alg drawn p2c tag key enc p u own before joint awaits enc_there is =
     let m : KeyManagement = management_with alg drawn p2c tag in
@@ -362,7 +360,7 @@ recipient_is_read given alg drawn p2c tag key enc p u own before joint awaits en
     name_there given.alg given.p2c (management_name alg) m header before joint.members awaits.alg_there in
     let enc_read : if_there as_str (get_member (codes "enc") header) ≡ Ok (Some (encryption_name enc)) =
     ap (if_there as_str) (joint.members (codes "enc") ∙ ap (λ found. option_or found (get_member (codes "enc") before)) (no_enc given.alg given.p2c (management_name alg) m)) ∙ enc_there in
-    let read : key_management limits.management (management_name alg) header ≡ Ok m =
+    let read : key_management management_algs (management_name alg) header ≡ Ok m =
     rw management_named (read_management alg drawn p2c tag header
     (management_there given.alg given.p2c (management_name alg) m header before joint.members (awaits_management given.alg given.p2c alg drawn p2c tag before awaits)) is) in
     rw (joint.disjoint, alg_read, enc_read, read) refl

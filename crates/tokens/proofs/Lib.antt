@@ -26,6 +26,7 @@ pub mod AlgorithmNames
 pub mod JointHeaders
 pub mod JointParameters
 pub mod EncryptedTemplates
+pub mod SoundLimits
 pub mod SettledEncryptions
 pub mod DeliveredKeys
 pub mod EncryptedHeaders

@@ -1,5 +1,5 @@
 -- The signing that keys and a template settle, and the object that it makes of every payload.
-use Rattle.std.proofs.Common.{◌≡◌, ℕ, ◌&&◌, nat_le, Bool, true, List, length, map, None, Ok, refl, sym, ap, ◌∙◌, subst}
+use Rattle.std.proofs.Common.{◌≡◌, lit≤, ℕ, ◌&&◌, nat_le, Bool, true, List, length, map, None, Ok, refl, sym, ap, ◌∙◌, subst}
 use Rattle.std.proofs.lemmas.Bool.{and_parts, and_from}
 use Rattle.std.proofs.lemmas.List.{length-map}
 use Rattle.std.specs.List.{AllByRecursion, list_all}
@@ -26,7 +26,7 @@ use Rattle.objects.proofs.Steps.{steps, same_answer, passed}
 use Rattle.tokens.specs.Signatures.{signature_of}
 use Rattle.tokens.specs.Signing.{Signer, Signing, signer_by, may_sign, has_no_more, signing_with, signing_of, protected_by, signature_by, signed, text_of, written_of}
 use Rattle.tokens.specs.Template.{SignatureTemplate, template_of, header_text, is_shallow}
-use Rattle.tokens.proofs.HeaderTexts.{ReadsBack, read_back, shallow_enough}
+use Rattle.tokens.proofs.HeaderTexts.{ReadsBack, read_back, stands, shallow_enough}
 use Rattle.tokens.proofs.ReadLists.{each_gives, each_made, all_pass}
 use Rattle.tokens.proofs.SigningTemplates.{IsTemplate, is_template, IsSettled, settled_signer}
 
@@ -50,7 +50,7 @@ pub record IsSigning (compact : Bool) (keys : List OctetKey) (s : Signing) : Typ
 
 -- where the protected header is shallow enough and the key may sign, a signer that is settled signs
 may_and_shallow : (header : Members) (s : Signer) → IsSettled header s → (may_sign s ≡ true) × (is_shallow limits s.protected ≡ true) → Signs header s
-may_and_shallow header s is tests = record { settled = is; back = read_back s.protected is.json tests.1; may = tests.0 }
+may_and_shallow header s is tests = record { settled = is; back = read_back s.protected is.json (stands limits s.protected (lit≤ tt) tests.1); may = tests.0 }
 
 pub is_signing : (compact : Bool) (keys : List OctetKey) (text : List ℕ) (s : Signing) → signing_of limits compact keys text ≡ Ok s → IsSigning compact keys s
 unfolding signing_of signing_with
@@ -129,7 +129,7 @@ signed_is compact keys s payload is some few =
     let long : length (map given s.signers) ≡ length s.signers = length-map s.signers given in
     let n : ℕ = depth_of_each (length (map given s.signers)) in
     let shallow : list_all (λ p. nat_le (depth (object p.header)) n) (map given s.signers) ≡ true =
-    all_pass (λ p. nat_le (depth (object p.header)) n) given (λ x h. shallow_enough (depth (object s.header)) (length (map given s.signers)) is.shallow) s.signers is.signs in
+    all_pass (λ p. nat_le (depth (object p.header)) n) given (λ x h. shallow_enough (depth (object s.header)) (length (map given s.signers)) (stands limits s.header (lit≤ tt) is.shallow)) s.signers is.signs in
     let whole : list_all (λ p. member_numbers_are_whole p.header) (map given s.signers) ≡ true =
     all_pass (λ p. member_numbers_are_whole p.header) given (λ x h. numbers_whole (object s.header) is.json) s.signers is.signs in
     let some_parts : nat_le 1 (length (map given s.signers)) ≡ true = ap (nat_le 1) long ∙ some in

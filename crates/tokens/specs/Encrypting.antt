@@ -1,5 +1,5 @@
 -- Encrypting to each key of a set (RFC 7516 section 5.1), in compact form (section 7.1) or in JSON form (section 7.2).
-use Rattle.std.specs.Prelude.{◌≡◌, ℕ, ◌+◌, Bool, true, false, not, nat_le, List, [], ◌∷◌, ◌++◌, length, map, take, drop, codes, if◌then◌else◌, Option, Some, None, Result, Ok, IfErr}
+use Rattle.std.specs.Prelude.{◌≡◌, ◌≤◌, ◌<◌, ℕ, ◌+◌, ◌^◌, Bool, true, false, not, nat_le, List, [], ◌∷◌, ◌++◌, length, map, take, drop, codes, if◌then◌else◌, Option, Some, None, Result, Ok, IfErr}
 use Rattle.std.specs.List.{AllByRecursion}
 use Rattle.std.specs.Option.{unwrap_or}
 use Rattle.serde_json.specs.Data.{Members, no_members, string, put}
@@ -11,13 +11,13 @@ use Rattle.octets.specs.Octets.{IsOctets}
 use Rattle.octets.specs.Plan.{OutputTexts, Plan, BothGrow, Draft, planned, plan_from}
 use Rattle.ciphers.specs.Openings.{is_longer}
 use Rattle.ciphers.specs.Sealing.{Sealed, Sealing, sealing, cek_len, iv_len}
-use Rattle.keys.specs.Algorithms.{management_name, management_operations}
+use Rattle.keys.specs.Algorithms.{management_name, management_operations, management_algs}
 use Rattle.keys.specs.Keys.{OctetKey, AreOctetKeys, allows}
 use Rattle.keys.specs.Limits.{Limits, limits}
 use Rattle.objects.specs.Frames.{first_text, jwe_frame}
 use Rattle.objects.specs.KeyManagement.{KeyManagement, Unknown, Direct, KeyWrap, Password, GcmKeyWrap}
 use Rattle.objects.specs.Jwe.{RecipientParts, JweParts, EncryptedObject, built, json_text, jwe_compact_text, jwe_of}
-use Rattle.objects.specs.Texts.{handed_in, handed_out}
+use Rattle.objects.specs.Texts.{handed_in, handed_out, listed_header_depth}
 use Rattle.tokens.specs.Algorithms.{content_alg}
 use Rattle.tokens.specs.Choosing.{Receiver, is_direct, is_alone, with_name, with_p2c, Given, Encryption, encryption_of}
 use Rattle.tokens.specs.Decrypting.{authenticated, all_pairs, sealed_content, opened_by, decrypted}
@@ -193,22 +193,31 @@ EncryptingMakesTexts = (compact detach : Bool) (keys : List OctetKey) (template 
 
 -- ---- what is encrypted is decrypted
 
+-- Limits under which what is written may be read: a header may stand in a text among those of several recipients, a count of iterations is
+-- not 0, a number of JSON and no more than may be read, and the algorithms are those that may be chosen.
+pub record AreSound (limits : Limits) : Type 0 where
+  pub depth : limits.depth ≤ listed_header_depth
+  pub some : 1 ≤ limits.least_p2c
+  pub whole : limits.greatest_p2c < 2 ^ 64
+  pub read : limits.greatest_p2c ≤ limits.greatest_p2c_read
+  pub algorithms : limits.management ≡ management_algs
+
 -- the key may decrypt by the algorithm that it encrypts with
-abbrev pub MayDecrypt : Bool → List OctetKey → OctetKey → List ℕ → Type 0
-MayDecrypt compact keys key template =
+abbrev pub MayDecrypt : Limits → Bool → List OctetKey → OctetKey → List ℕ → Type 0
+MayDecrypt limits compact keys key template =
     (e : Encryption) → encryption_of limits compact keys template ≡ Ok e
     → AllByRecursion (λ r. r.key ≡ key → allows key (management_operations r.management).1 ≡ true) e.receivers
 
 -- at each of the first n recipients the key opens nothing, or this plaintext
 abbrev pub OpensNoOther : ℕ → OctetKey → EncryptedObject → List ℕ → Type 0
 OpensNoOther n key o plaintext =
-    AllByRecursion (λ pair. (other : List ℕ) → opened_by (sealed_content o) pair ≡ Some other → other ≡ plaintext) (all_pairs limits.management (key ∷ []) (take n o.recipients))
+    AllByRecursion (λ pair. (other : List ℕ) → opened_by (sealed_content o) pair ≡ Some other → other ≡ plaintext) (all_pairs management_algs (key ∷ []) (take n o.recipients))
 
 -- Where a plaintext is encrypted to keys, what is written is an object, which each of the keys, alone, decrypts to the plaintext,
 -- where it may decrypt and opens nothing else at the recipient of a key before it.
-abbrev pub EncryptedDecrypts : Type 0
-EncryptedDecrypts = (compact detach : Bool) (keys : List OctetKey) (template random plaintext : List ℕ) (texts : OutputTexts) → AreOctetKeys keys → IsOctets random → IsOctets plaintext
+abbrev pub EncryptedDecrypts : Limits → Type 0
+EncryptedDecrypts limits = (compact detach : Bool) (keys : List OctetKey) (template random plaintext : List ℕ) (texts : OutputTexts) → AreOctetKeys keys → IsOctets random → IsOctets plaintext
     → planned (plan_from (encrypting_by limits compact detach keys template) random) plaintext ≡ Ok texts
     → (o : EncryptedObject) × ((jwe_of limits (handed_in detach texts.content) texts.text ≡ Ok o)
-    × ((before after : List OctetKey) (key : OctetKey) → keys ≡ before ++ key ∷ after → MayDecrypt compact keys key template → OpensNoOther (length before) key o plaintext
+    × ((before after : List OctetKey) (key : OctetKey) → keys ≡ before ++ key ∷ after → MayDecrypt limits compact keys key template → OpensNoOther (length before) key o plaintext
     → decrypted limits (key ∷ []) o ≡ Ok plaintext))

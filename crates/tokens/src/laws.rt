@@ -3,7 +3,7 @@ ghost use Rattle.std.specs.Prelude.{◌≡◌, ◌++◌, List};
 ghost use Rattle.keys.specs.declared.algorithm.ManagementAlg.{ManagementAlg};
 ghost use Rattle.keys.specs.Algorithms.{earlier_management_algs, gcm_management_algs};
 ghost use Rattle.keys.specs.Limits.{Limits, limits};
-ghost use Rattle.tokens.specs.Encrypting.{EncryptedDecrypts, EncryptingGrows, EncryptingMakesTexts};
+ghost use Rattle.tokens.specs.Encrypting.{AreSound, EncryptedDecrypts, EncryptingGrows, EncryptingMakesTexts};
 ghost use Rattle.tokens.specs.MoreAlgorithms.{knowing, OpensAlike};
 ghost use Rattle.tokens.specs.Signing.{SigningGrows, SigningMakesTexts};
 ghost use Rattle.tokens.specs.Verifying.{SignedVerifies};
@@ -48,9 +48,11 @@ pub fn encrypting_makes_texts()
 }
 
 /// What is encrypted to keys as a template asks is decrypted with each key alone, where it may decrypt, to the plaintext, unless
-/// the key opens something else at the recipient of a key before it.
+/// the key opens something else at the recipient of a key before it: under all limits under which what is written may be read, and
+/// so under those of this profile.
 pub fn what_is_encrypted_decrypts()
-    ensures { EncryptedDecrypts }
+    ensures all { (limits : Limits) → AreSound limits → EncryptedDecrypts limits }
+    ensures here { EncryptedDecrypts limits }
 {
     opens_exactly();
     delivers_exactly();
