@@ -29,8 +29,10 @@ CONTENTS = {
 USUAL_BY_WRAP = {16: "A128CBC-HS256", 24: "A192CBC-HS384", 32: "A256CBC-HS512"}
 USUAL_BY_KEY = {32: "A128CBC-HS256", 48: "A192CBC-HS384", 64: "A256CBC-HS512"}
 HASHES = {"S224": "sha224", "S256": "sha256", "S384": "sha384", "S512": "sha512"}
-MOST_ITEMS, MOST_OCTETS, MOST_LEVELS, MOST_LEVELS_READ = 64, 4096, 64, 127
-LEAST_P2C, GREATEST_P2C, MOST_ITERATIONS, USUAL_P2C = 1000, 1_000_000, 4_000_000, 10_000
+# The most keys of a set, and signatures or recipients of an object.
+MOST_KEYS, MOST_ITEMS = 64, 256
+MOST_OCTETS, MOST_LEVELS, MOST_LEVELS_READ = 4096, 64, 127
+LEAST_P2C, GREATEST_P2C, MOST_ITERATIONS, USUAL_P2C = 1000, 2_000_000, 16_000_000, 100_000
 # What a key takes of the random octets: a salt by a password, an initialization vector by AES-GCM key wrap, whose tag is as long as TAG.
 SALT, KEY_IV, TAG = 16, 12, 16
 
@@ -178,7 +180,7 @@ def keys_of(text, passes_over):
     needs(isinstance(value, dict), KEY)
     listed = value.get("keys") if "keys" in value else [value]
     needs(isinstance(listed, list) and all(isinstance(one, dict) for one in listed), KEY)
-    needs(len(listed) <= MOST_ITEMS, LIMIT)
+    needs(len(listed) <= MOST_KEYS, LIMIT)
     keys = [key_of(one) for one in listed]
     needs(any(keys) and (passes_over or all(keys)), KEY)
     return [key for key in keys if key]

@@ -223,13 +223,13 @@ NUMBERS = [Raw(one) for one in (
     "1" + "0" * 299, "1" + "0" * 400, "9" * 5000,
 )]
 COUNTS_OF_ITERATIONS = [Raw(one) for one in (
-    "0", "1", "10", "999", "1000", "1001", "4000", "62500", "62501", "1000001", "4000001", "4294967296", "4294968296", "18446744073709551615",
+    "0", "1", "10", "999", "1000", "1001", "4000", "62500", "62501", "250000", "250001", "2000001", "16000001", "4294967296", "4294968296", "18446744073709551615",
     "18446744073709551616", "-1", "1000.0", '"1000"',
 )]
-MOST_COUNT = Raw("1000000")
+MOST_COUNT = Raw("2000000")
 LEVELS = [10, 63, 64, 65, 126, 127, 128, 129, 10_000]
 LENGTHS = [1024, 5462, 5463, 5464, 65_536, 1_000_000]
-ITEMS = [2, 2, 2, 63, 64, 64, 65, 65, 1000]
+ITEMS = [2, 2, 2, 63, 64, 64, 65, 65, 255, 256, 257, 1000]
 HEADERS = "protected", "unprotected", "header"
 
 
@@ -394,7 +394,7 @@ def number_put(rng, tree):
 def iterations_put(rng, tree):
     found = [pair for pair in pairs(tree) if pair[0] == "p2c"]
     holders = [one for name, one in pairs(tree) if name in HEADERS and isinstance(one, Members)]
-    value = MOST_COUNT if rng.random() < 0.1 else rng.choice(COUNTS_OF_ITERATIONS)
+    value = MOST_COUNT if rng.random() < 0.05 else rng.choice(COUNTS_OF_ITERATIONS)
     if found:
         rng.choice(found)[1] = value
     elif holders:

@@ -1,5 +1,5 @@
 -- Every answer that is not Limit stays where limits become wider.
-use Rattle.std.proofs.Common.{◌≡◌, ◌≢◌, ◌≤◌, ◌&&◌, ◌*◌, ◌||◌, ◌==◌, ℕ, zero, suc, nat_le, not, is_some, Bool, true, false, List, length, take, Option, None, Some, Result, Ok, Err, refl, sym, ap, subst, ◌∙◌, arith}
+use Rattle.std.proofs.Common.{◌≡◌, ◌≢◌, ◌≤◌, lit≤, ◌&&◌, ◌*◌, ◌||◌, ◌==◌, ℕ, zero, suc, nat_le, not, is_some, Bool, true, false, List, length, take, Option, None, Some, Result, Ok, Err, refl, sym, ap, subst, ◌∙◌, arith}
 use Rattle.std.proofs.lemmas.Bool.{and_parts, and_from, eqb-true, leb-true, le-leb}
 use Rattle.std.specs.List.{list_all, list_any}
 use Rattle.serde_json.specs.Data.{Data, Items, no_items, item}
@@ -11,7 +11,7 @@ use Rattle.octets.specs.Plan.{OutputTexts, Draft, drawn_of, plan_from, planned}
 use Rattle.keys.specs.Json.{json_value}
 use Rattle.keys.specs.Keys.{OctetKey, octet_key, key_octets}
 use Rattle.keys.specs.KeySets.{items_count, key_objects, octet_keys, value_keys, key_set}
-use Rattle.keys.specs.Limits.{Limits}
+use Rattle.keys.specs.Limits.{Limits, limits, earlier_limits}
 use Rattle.objects.specs.Jwe as jwe
 use Rattle.objects.specs.Jws as jws
 use Rattle.objects.specs.Texts.{each}
@@ -25,6 +25,20 @@ use Rattle.jose.specs.Jwe.{enc_answer, jwe_fmt_answer}
 use Rattle.jose.specs.Jws.{jws_fmt_answer}
 use Rattle.jose.proofs.Headline.{ReadsAlike}
 use Rattle.jose.specs.WiderLimits.{AreWider, StaysUnlessLimit, ReadsAsBefore, IsCounted, EncryptsAsBefore}
+
+-- those of this profile are wider than those before
+pub these_are_wider : AreWider earlier_limits limits
+these_are_wider = record {
+  keys = refl;
+  key_octets = refl;
+  depth = refl;
+  recipients = lit≤ tt;
+  greatest_p2c_read = lit≤ tt;
+  least_p2c = lit≤ tt;
+  greatest_p2c = lit≤ tt;
+  p2c_sum = lit≤ tt;
+  management = refl;
+}
 
 -- ---- the steps of an answer
 

@@ -53,9 +53,9 @@ fn signed<R: Abort + AllocGlobal>(
 
 /// A protected header, an unprotected one, of how many signatures they are, and what refuses the object.
 const SIGNED: &[(&str, &str, usize, Option<Refusal>)] = &[
-    // Whole records, of one signature and of 64.
+    // Whole records, of one signature and of 256.
     ("eyJhbGciOiJIUzI1NiJ9", "{}", 1, None),
-    ("eyJhbGciOiJIUzI1NiJ9", "{\"kid\":\"1\"}", 64, None),
+    ("eyJhbGciOiJIUzI1NiJ9", "{\"kid\":\"1\"}", 256, None),
     ("", "{\"alg\":\"HS256\"}", 1, None),
     // The text nests 127 deep at most: one signature has a header of 126.
     (
@@ -78,7 +78,7 @@ const SIGNED: &[(&str, &str, usize, Option<Refusal>)] = &[
         Some(Refusal::Number),
     ),
     ("eyJhbGciOiJIUzI1NiJ9", "{}", 0, Some(Refusal::Form)),
-    ("eyJhbGciOiJIUzI1NiJ9", "{}", 65, Some(Refusal::Limit)),
+    ("eyJhbGciOiJIUzI1NiJ9", "{}", 257, Some(Refusal::Limit)),
     ("AB", "{}", 1, Some(Refusal::Base64)),
     ("e30=", "{}", 1, Some(Refusal::Base64)),
     ("ew", "{}", 1, Some(Refusal::Json)),
@@ -144,7 +144,7 @@ fn encrypted<R: Abort + AllocGlobal>(
 
 /// A protected header, a shared one, that of each recipient, how many these are, and what refuses the object.
 const ENCRYPTED: &[(&str, &str, &str, usize, Option<Refusal>)] = &[
-    // Whole records, of one recipient and of 64.
+    // Whole records, of one recipient and of 256.
     (
         "eyJlbmMiOiJBMTI4R0NNIn0",
         "{}",
@@ -156,7 +156,7 @@ const ENCRYPTED: &[(&str, &str, &str, usize, Option<Refusal>)] = &[
         "eyJlbmMiOiJBMTI4R0NNIn0",
         "{\"alg\":\"dir\"}",
         "{\"kid\":\"1\"}",
-        64,
+        256,
         None,
     ),
     ("", "{\"alg\":\"dir\",\"enc\":\"A128GCM\"}", "{}", 1, None),
@@ -215,7 +215,7 @@ const ENCRYPTED: &[(&str, &str, &str, usize, Option<Refusal>)] = &[
         "eyJlbmMiOiJBMTI4R0NNIn0",
         "{}",
         "{\"alg\":\"dir\"}",
-        65,
+        257,
         Some(Refusal::Limit),
     ),
     ("AB", "{}", "{}", 1, Some(Refusal::Base64)),

@@ -565,9 +565,9 @@ fn verifies_last_of<R: Abort + AllocGlobal>(
 }
 
 #[test]
-fn an_object_has_64_signatures_at_most(rt: HostRuntime) -> Result<(), Fail> {
-    verifies_last_of(&rt, 63, Answer::Content(b"abc"))?;
-    verifies_last_of(&rt, 64, Answer::Refusal(Refusal::Limit))
+fn an_object_has_256_signatures_at_most(rt: HostRuntime) -> Result<(), Fail> {
+    verifies_last_of(&rt, 255, Answer::Content(b"abc"))?;
+    verifies_last_of(&rt, 256, Answer::Refusal(Refusal::Limit))
 }
 
 /// What is read of an object with so many recipients before the last, which is that of RFC 7516 appendix A.4.
@@ -588,7 +588,7 @@ fn decrypts_for_last_of<R: Abort + AllocGlobal>(
 }
 
 #[test]
-fn an_object_has_64_recipients_at_most(rt: HostRuntime) -> Result<(), Fail> {
-    decrypts_for_last_of(&rt, 63, Answer::Content(b"Live long and prosper."))?;
-    decrypts_for_last_of(&rt, 64, Answer::Refusal(Refusal::Limit))
+fn an_object_has_256_recipients_at_most(rt: HostRuntime) -> Result<(), Fail> {
+    decrypts_for_last_of(&rt, 255, Answer::Content(b"Live long and prosper."))?;
+    decrypts_for_last_of(&rt, 256, Answer::Refusal(Refusal::Limit))
 }

@@ -652,14 +652,14 @@ fn of_a_parameter_that_comes_twice_the_last_counts(rt: HostRuntime) -> Result<()
     Ok(())
 }
 
-/// A recipient by a password, without an encrypted key, with a thousand iterations, and with ten.
-const BY_A_THOUSAND: &str =
-    "{\"header\":{\"alg\":\"PBES2-HS256+A128KW\",\"p2c\":1000,\"p2s\":\"AAECAwQFBgc\"}}";
+/// A recipient by a password, without an encrypted key, with 977 iterations, and with ten.
+const BY_977: &str =
+    "{\"header\":{\"alg\":\"PBES2-HS256+A128KW\",\"p2c\":977,\"p2s\":\"AAECAwQFBgc\"}}";
 
 const BY_TEN: &str =
     "{\"header\":{\"alg\":\"PBES2-HS256+A128KW\",\"p2c\":10,\"p2s\":\"AAECAwQFBgc\"}}";
 
-/// 64 such recipients are refused for 64 passwords, after this work.
+/// 256 such recipients are refused for 64 passwords, after this work.
 fn refuses_many_pairs<R: Abort + AllocGlobal>(
     rt: &R,
     recipient: &str,
@@ -667,7 +667,7 @@ fn refuses_many_pairs<R: Abort + AllocGlobal>(
     refusal: Refusal,
 ) -> Result<(), Fail> {
     let front = "{\"ciphertext\":\"\",\"unprotected\":{\"enc\":\"A128GCM\"},\"recipients\":[";
-    let text = with_many(rt, front, recipient, 63, recipient, "]}")?;
+    let text = with_many(rt, front, recipient, 255, recipient, "]}")?;
     let keys = with_many(rt, "{\"keys\":[", PASSWORD, 63, PASSWORD, "]}")?;
     expect_work(rt, &text, &keys, work, Err(refusal))?;
     let given = GivenOctets {
@@ -685,7 +685,7 @@ fn refuses_many_pairs<R: Abort + AllocGlobal>(
     )
 }
 
-/// 4,096 pairs have 4,096,000 iterations together, which is more than 4,000,000, or 40,960.
+/// 16,384 pairs have 16,007,168 iterations together, which is more than 16,000,000, or 163,840.
 #[test]
 fn the_work_of_many_pairs_has_one_limit(rt: HostRuntime) -> Result<(), Fail> {
     let none = Work {
@@ -693,10 +693,10 @@ fn the_work_of_many_pairs_has_one_limit(rt: HostRuntime) -> Result<(), Fail> {
         unwraps: 0,
         openings: 0,
     };
-    refuses_many_pairs(&rt, BY_A_THOUSAND, none, Refusal::Limit)?;
+    refuses_many_pairs(&rt, BY_977, none, Refusal::Limit)?;
     let of_each = Work {
-        iterations: 40960,
-        unwraps: 4096,
+        iterations: 163840,
+        unwraps: 16384,
         openings: 0,
     };
     refuses_many_pairs(&rt, BY_TEN, of_each, Refusal::NotOpened)

@@ -1,6 +1,6 @@
 //! What the commands promise together, and what wider limits keep, as laws of their answers, each the contract of a function that
 //! does nothing.
-ghost use Rattle.keys.specs.Limits.{Limits, limits};
+ghost use Rattle.keys.specs.Limits.{Limits, limits, earlier_limits};
 ghost use Rattle.tokens.specs.Encrypting.{AreSound};
 ghost use Rattle.jose.specs.Headline.{EncryptedIsDecrypted, FormatsGoBack, SignedIsVerified};
 ghost use Rattle.jose.specs.Jwe.{jwe_fmt_answer};
@@ -48,18 +48,21 @@ pub fn encrypted_objects_go_to_compact_form_and_back()
 /// Under wider limits `jwe dec`, `jws ver`, `jws fmt` and `jwe fmt` answer as under the narrower ones, for all keys and objects,
 /// unless they answer `Limit` under these.
 pub fn wider_limits_keep_what_is_read()
-    ensures { (narrower wider : Limits) → AreWider narrower wider → ReadsAsBefore narrower wider }
+    ensures all { (narrower wider : Limits) → AreWider narrower wider → ReadsAsBefore narrower wider }
+    ensures here { ReadsAsBefore earlier_limits limits }
 {}
 
 /// So does `jwe enc`, where no recipient is a password, or the template gives the count of iterations.
 pub fn wider_limits_keep_what_is_encrypted()
-    ensures { (narrower wider : Limits) → AreWider narrower wider → EncryptsAsBefore narrower wider }
+    ensures all { (narrower wider : Limits) → AreWider narrower wider → EncryptsAsBefore narrower wider }
+    ensures here { EncryptsAsBefore earlier_limits limits }
 {}
 
 /// What `jwe enc` wrote under narrower limits, under which what is written may be read, is an object under wider ones, of which
 /// `jwe dec` gives the plaintext back with each of the keys, as it does under the narrower ones.
 pub fn what_was_encrypted_is_decrypted()
-    ensures { (narrower wider : Limits) → AreSound narrower → AreWider narrower wider → EncryptedIsDecrypted narrower wider }
+    ensures all { (narrower wider : Limits) → AreSound narrower → AreWider narrower wider → EncryptedIsDecrypted narrower wider }
+    ensures here { EncryptedIsDecrypted earlier_limits limits }
 {
     keys_have_octets();
     what_is_encrypted_decrypts();

@@ -329,12 +329,12 @@ const DECRYPTING: &[(&str, &str, Refusal)] = &[
         Refusal::Unsupported,
     ),
     (
-        "eyJhbGciOiJQQkVTMi1IUzI1NitBMTI4S1ciLCJlbmMiOiJBMTI4R0NNIiwicDJjIjoxMDAwMDAxLCJwMnMiOiJBQUVDQXdRRkJnYyJ9....",
+        "eyJhbGciOiJQQkVTMi1IUzI1NitBMTI4S1ciLCJlbmMiOiJBMTI4R0NNIiwicDJjIjoyMDAwMDAxLCJwMnMiOiJBQUVDQXdRRkJnYyJ9....",
         "{\"kty\":\"oct\",\"k\":\"a2tra2tra2tra2tra2tra2tra2s\",\"use\":\"sig\"}",
         Refusal::KeyDoesNotFit,
     ),
     (
-        "eyJhbGciOiJQQkVTMi1IUzI1NitBMTI4S1ciLCJlbmMiOiJBMTI4R0NNIiwicDJjIjoxMDAwMDAxLCJwMnMiOiJBQUVDQXdRRkJnYyJ9....",
+        "eyJhbGciOiJQQkVTMi1IUzI1NitBMTI4S1ciLCJlbmMiOiJBMTI4R0NNIiwicDJjIjoyMDAwMDAxLCJwMnMiOiJBQUVDQXdRRkJnYyJ9....",
         "{\"kty\":\"oct\",\"k\":\"a2tra2tra2tra2tra2tra2tra2s\"}",
         Refusal::Limit,
     ),
@@ -352,7 +352,7 @@ fn decrypting_tells_the_first_cause(rt: HostRuntime) -> Result<(), Fail> {
     refuses_each(&rt, &DECRYPT, DECRYPTING)
 }
 
-/// A text with 65 times the element in a list is refused.
+/// A text with 257 times the element in a list is refused.
 fn refuses_many<R: Abort + AllocGlobal>(
     rt: &R,
     words: &[&str],
@@ -360,11 +360,11 @@ fn refuses_many<R: Abort + AllocGlobal>(
     element: &str,
     refusal: Refusal,
 ) -> Result<(), Fail> {
-    let text = with_many(rt, before, element, 64, element, "]}")?;
+    let text = with_many(rt, before, element, 256, element, "]}")?;
     refuses(rt, words, &text, "{\"kty\":\"oct\",\"k\":\"AA\"}", refusal)
 }
 
-/// The form comes before the limit of 64, and this before base64url and the protected headers.
+/// The form comes before the limit of 256, and this before base64url and the protected headers.
 #[test]
 fn a_list_that_is_too_long_is_refused_after_its_form(rt: HostRuntime) -> Result<(), Fail> {
     let signed = "{\"payload\":\"!\",\"signatures\":[";

@@ -1,5 +1,6 @@
 //! `jwe enc` and `jwe dec` by a password (RFC 7518 section 4.8): the same octets give the texts that another program made of
 //! them (Python's `hashlib` and its package `cryptography` 48), the counts that are refused, and the work that is told.
+use crate::general_tests::with_many;
 use crate::jwe_tests::{COMPACT, DECRYPT, ENCRYPT, LINE};
 use crate::tests::{Answer, Given, expect, expect_octets, expect_same};
 use keys::KeySet;
@@ -30,7 +31,7 @@ const TEXTS: &[(&str, &str, usize, &str)] = &[
         "{}",
         PASSWORD_128,
         64,
-        "eyJhbGciOiJQQkVTMi1IUzI1NitBMTI4S1ciLCJlbmMiOiJBMTI4Q0JDLUhTMjU2IiwicDJjIjoxMDAwMCwicDJzIjoiQUFFQ0F3UUZCZ2NJQ1FvTERBME9EdyJ9.Hnj8J_nfBwdsepQfET6gkioVMXd-xDI69fNEzGznPNB3yAJUrwknPA.MDEyMzQ1Njc4OTo7PD0-Pw.ASuZZUaC35WumFsAhx41GJK62k7adf-OknNJYFNZBR8.zB0Gcf1jwwF3n1V7SnlONw",
+        "eyJhbGciOiJQQkVTMi1IUzI1NitBMTI4S1ciLCJlbmMiOiJBMTI4Q0JDLUhTMjU2IiwicDJjIjoxMDAwMDAsInAycyI6IkFBRUNBd1FGQmdjSUNRb0xEQTBPRHcifQ.zJDJGkwk3zT10H3PtwZx5g5Ub6TkxrHbio7xL5XP0oAoOt5C9J_Kjg.MDEyMzQ1Njc4OTo7PD0-Pw.ASuZZUaC35WumFsAhx41GJK62k7adf-OknNJYFNZBR8.TDTE1UraqVwRPB5CkTr59Q",
     ),
     (
         "{\"protected\":{\"enc\":\"A128GCM\",\"p2c\":1000,\"alg\":\"PBES2-HS256+A128KW\"}}",
@@ -139,6 +140,16 @@ fn a_password_gives_the_texts_of_another_program(rt: HostRuntime) -> Result<(), 
     Ok(())
 }
 
+/// What `jwe enc` wrote of the first of these octets before 2.0.0, and what another program made of them: 10,000 iterations stood
+/// where the template gives none.
+const OF_TEN_THOUSAND: &str =
+    "eyJhbGciOiJQQkVTMi1IUzI1NitBMTI4S1ciLCJlbmMiOiJBMTI4Q0JDLUhTMjU2IiwicDJjIjoxMDAwMCwicDJzIjoiQUFFQ0F3UUZCZ2NJQ1FvTERBME9EdyJ9.Hnj8J_nfBwdsepQfET6gkioVMXd-xDI69fNEzGznPNB3yAJUrwknPA.MDEyMzQ1Njc4OTo7PD0-Pw.ASuZZUaC35WumFsAhx41GJK62k7adf-OknNJYFNZBR8.zB0Gcf1jwwF3n1V7SnlONw";
+
+#[test]
+fn what_the_earlier_count_encrypted_is_decrypted(rt: HostRuntime) -> Result<(), Fail> {
+    decrypts(&rt, OF_TEN_THOUSAND, PASSWORD_128, Answer::Content(LINE))
+}
+
 /// The keys decrypt the text so.
 fn decrypts<R: Abort + AllocGlobal>(
     rt: &R,
@@ -206,7 +217,7 @@ const NOT_ENCRYPTED: &[(&str, &str, Refusal)] = &[
         Refusal::Limit,
     ),
     (
-        "{\"protected\":{\"p2c\":1000001}}",
+        "{\"protected\":{\"p2c\":2000001}}",
         PASSWORD_128,
         Refusal::Limit,
     ),
@@ -276,6 +287,28 @@ fn counts_that_are_not_written_are_told(rt: HostRuntime) -> Result<(), Fail> {
     Ok(())
 }
 
+/// Templates whose count is one that is written: the least, one above the greatest before 2.0.0, and the greatest.
+const ENCRYPTED: &[&str] = &[
+    "{\"protected\":{\"p2c\":1000}}",
+    "{\"protected\":{\"p2c\":1000001}}",
+    "{\"protected\":{\"p2c\":2000000}}",
+];
+
+/// They are accepted, and so the random octets are read, which are one too few.
+#[test]
+fn counts_that_are_written_are_accepted(rt: HostRuntime) -> Result<(), Fail> {
+    for template in ENCRYPTED {
+        let given = Given {
+            text: template,
+            content: LINE,
+            keys: PASSWORD_128,
+            random: &RANDOM[..63],
+        };
+        expect(&rt, &COMPACT, &given, Answer::Refusal(Refusal::Random))?;
+    }
+    Ok(())
+}
+
 /// A count matters to a password alone.
 #[test]
 fn a_count_of_another_algorithm_is_a_parameter_like_others(rt: HostRuntime) -> Result<(), Fail> {
@@ -300,7 +333,7 @@ const WITH_A_COUNT_THAT_IS_TEXT: &str =
 /// An object, keys, the work that is told, and the result.
 const WORKS: &[(&str, &str, Work, Result<(), Refusal>)] = &[
     (
-        "{\"ciphertext\":\"\",\"unprotected\":{\"alg\":\"PBES2-HS256+A128KW\",\"enc\":\"A128GCM\",\"p2c\":1000001,\"p2s\":\"AAECAwQFBgc\"}}",
+        "{\"ciphertext\":\"\",\"unprotected\":{\"alg\":\"PBES2-HS256+A128KW\",\"enc\":\"A128GCM\",\"p2c\":2000001,\"p2s\":\"AAECAwQFBgc\"}}",
         "{\"kty\":\"oct\",\"k\":\"AyM1SysPpbyDfgZld3umj1qzKObwVMkoqQ-EstJQLr_T-1qS0gZH75aKtMN3Yj0iPS4hcgUuTwjAzZr1Z9CAow\"}",
         Work {
             iterations: 0,
@@ -330,7 +363,7 @@ const WORKS: &[(&str, &str, Work, Result<(), Refusal>)] = &[
         Err(Refusal::NotOpened),
     ),
     (
-        "{\"ciphertext\":\"\",\"unprotected\":{\"alg\":\"PBES2-HS256+A128KW\",\"enc\":\"A128GCM\",\"p2c\":1000001,\"p2s\":\"AAECAwQFBgc\"}}",
+        "{\"ciphertext\":\"\",\"unprotected\":{\"alg\":\"PBES2-HS256+A128KW\",\"enc\":\"A128GCM\",\"p2c\":2000001,\"p2s\":\"AAECAwQFBgc\"}}",
         "{\"kty\":\"oct\",\"k\":\"cGFzc3dvcmQ\",\"alg\":\"dir\"}",
         Work {
             iterations: 0,
@@ -380,8 +413,8 @@ const WORKS: &[(&str, &str, Work, Result<(), Refusal>)] = &[
         Err(Refusal::NotOpened),
     ),
     (
-        "{\"ciphertext\":\"\",\"unprotected\":{\"alg\":\"PBES2-HS256+A128KW\",\"enc\":\"A128GCM\",\"p2c\":1000000,\"p2s\":\"AAECAwQFBgc\"}}",
-        "{\"keys\":[{\"kty\":\"oct\",\"k\":\"AAECAwQFBgcICQoLDA0ODw\"},{\"kty\":\"oct\",\"k\":\"AAECAwQFBgcICQoLDA0ODw\"},{\"kty\":\"oct\",\"k\":\"AAECAwQFBgcICQoLDA0ODw\"},{\"kty\":\"oct\",\"k\":\"AAECAwQFBgcICQoLDA0ODw\"},{\"kty\":\"oct\",\"k\":\"AAECAwQFBgcICQoLDA0ODw\"}]}",
+        "{\"ciphertext\":\"\",\"unprotected\":{\"alg\":\"PBES2-HS256+A128KW\",\"enc\":\"A128GCM\",\"p2c\":2000000,\"p2s\":\"AAECAwQFBgc\"}}",
+        "{\"keys\":[{\"kty\":\"oct\",\"k\":\"AAECAwQFBgcICQoLDA0ODw\"},{\"kty\":\"oct\",\"k\":\"AAECAwQFBgcICQoLDA0ODw\"},{\"kty\":\"oct\",\"k\":\"AAECAwQFBgcICQoLDA0ODw\"},{\"kty\":\"oct\",\"k\":\"AAECAwQFBgcICQoLDA0ODw\"},{\"kty\":\"oct\",\"k\":\"AAECAwQFBgcICQoLDA0ODw\"},{\"kty\":\"oct\",\"k\":\"AAECAwQFBgcICQoLDA0ODw\"},{\"kty\":\"oct\",\"k\":\"AAECAwQFBgcICQoLDA0ODw\"},{\"kty\":\"oct\",\"k\":\"AAECAwQFBgcICQoLDA0ODw\"},{\"kty\":\"oct\",\"k\":\"AAECAwQFBgcICQoLDA0ODw\"}]}",
         Work {
             iterations: 0,
             unwraps: 0,
@@ -390,8 +423,8 @@ const WORKS: &[(&str, &str, Work, Result<(), Refusal>)] = &[
         Err(Refusal::Limit),
     ),
     (
-        "{\"ciphertext\":\"\",\"unprotected\":{\"alg\":\"PBES2-HS256+A128KW\",\"enc\":\"A128GCM\",\"p2c\":800001,\"p2s\":\"AAECAwQFBgc\"}}",
-        "{\"keys\":[{\"kty\":\"oct\",\"k\":\"AAECAwQFBgcICQoLDA0ODw\"},{\"kty\":\"oct\",\"k\":\"AAECAwQFBgcICQoLDA0ODw\"},{\"kty\":\"oct\",\"k\":\"AAECAwQFBgcICQoLDA0ODw\"},{\"kty\":\"oct\",\"k\":\"AAECAwQFBgcICQoLDA0ODw\"},{\"kty\":\"oct\",\"k\":\"AAECAwQFBgcICQoLDA0ODw\"}]}",
+        "{\"ciphertext\":\"\",\"unprotected\":{\"alg\":\"PBES2-HS256+A128KW\",\"enc\":\"A128GCM\",\"p2c\":1777778,\"p2s\":\"AAECAwQFBgc\"}}",
+        "{\"keys\":[{\"kty\":\"oct\",\"k\":\"AAECAwQFBgcICQoLDA0ODw\"},{\"kty\":\"oct\",\"k\":\"AAECAwQFBgcICQoLDA0ODw\"},{\"kty\":\"oct\",\"k\":\"AAECAwQFBgcICQoLDA0ODw\"},{\"kty\":\"oct\",\"k\":\"AAECAwQFBgcICQoLDA0ODw\"},{\"kty\":\"oct\",\"k\":\"AAECAwQFBgcICQoLDA0ODw\"},{\"kty\":\"oct\",\"k\":\"AAECAwQFBgcICQoLDA0ODw\"},{\"kty\":\"oct\",\"k\":\"AAECAwQFBgcICQoLDA0ODw\"},{\"kty\":\"oct\",\"k\":\"AAECAwQFBgcICQoLDA0ODw\"},{\"kty\":\"oct\",\"k\":\"AAECAwQFBgcICQoLDA0ODw\"}]}",
         Work {
             iterations: 0,
             unwraps: 0,
@@ -410,7 +443,7 @@ const WORKS: &[(&str, &str, Work, Result<(), Refusal>)] = &[
         Err(Refusal::NotOpened),
     ),
     (
-        "{\"ciphertext\":\"\",\"unprotected\":{\"alg\":\"PBES2-HS256+A128KW\",\"enc\":\"A128GCM\",\"p2c\":62501,\"p2s\":\"AAECAwQFBgc\"}}",
+        "{\"ciphertext\":\"\",\"unprotected\":{\"alg\":\"PBES2-HS256+A128KW\",\"enc\":\"A128GCM\",\"p2c\":250001,\"p2s\":\"AAECAwQFBgc\"}}",
         "{\"keys\":[{\"kty\":\"oct\",\"k\":\"AAECAwQFBgcICQoLDA0ODw\"},{\"kty\":\"oct\",\"k\":\"AAECAwQFBgcICQoLDA0ODw\"},{\"kty\":\"oct\",\"k\":\"AAECAwQFBgcICQoLDA0ODw\"},{\"kty\":\"oct\",\"k\":\"AAECAwQFBgcICQoLDA0ODw\"},{\"kty\":\"oct\",\"k\":\"AAECAwQFBgcICQoLDA0ODw\"},{\"kty\":\"oct\",\"k\":\"AAECAwQFBgcICQoLDA0ODw\"},{\"kty\":\"oct\",\"k\":\"AAECAwQFBgcICQoLDA0ODw\"},{\"kty\":\"oct\",\"k\":\"AAECAwQFBgcICQoLDA0ODw\"},{\"kty\":\"oct\",\"k\":\"AAECAwQFBgcICQoLDA0ODw\"},{\"kty\":\"oct\",\"k\":\"AAECAwQFBgcICQoLDA0ODw\"},{\"kty\":\"oct\",\"k\":\"AAECAwQFBgcICQoLDA0ODw\"},{\"kty\":\"oct\",\"k\":\"AAECAwQFBgcICQoLDA0ODw\"},{\"kty\":\"oct\",\"k\":\"AAECAwQFBgcICQoLDA0ODw\"},{\"kty\":\"oct\",\"k\":\"AAECAwQFBgcICQoLDA0ODw\"},{\"kty\":\"oct\",\"k\":\"AAECAwQFBgcICQoLDA0ODw\"},{\"kty\":\"oct\",\"k\":\"AAECAwQFBgcICQoLDA0ODw\"},{\"kty\":\"oct\",\"k\":\"AAECAwQFBgcICQoLDA0ODw\"},{\"kty\":\"oct\",\"k\":\"AAECAwQFBgcICQoLDA0ODw\"},{\"kty\":\"oct\",\"k\":\"AAECAwQFBgcICQoLDA0ODw\"},{\"kty\":\"oct\",\"k\":\"AAECAwQFBgcICQoLDA0ODw\"},{\"kty\":\"oct\",\"k\":\"AAECAwQFBgcICQoLDA0ODw\"},{\"kty\":\"oct\",\"k\":\"AAECAwQFBgcICQoLDA0ODw\"},{\"kty\":\"oct\",\"k\":\"AAECAwQFBgcICQoLDA0ODw\"},{\"kty\":\"oct\",\"k\":\"AAECAwQFBgcICQoLDA0ODw\"},{\"kty\":\"oct\",\"k\":\"AAECAwQFBgcICQoLDA0ODw\"},{\"kty\":\"oct\",\"k\":\"AAECAwQFBgcICQoLDA0ODw\"},{\"kty\":\"oct\",\"k\":\"AAECAwQFBgcICQoLDA0ODw\"},{\"kty\":\"oct\",\"k\":\"AAECAwQFBgcICQoLDA0ODw\"},{\"kty\":\"oct\",\"k\":\"AAECAwQFBgcICQoLDA0ODw\"},{\"kty\":\"oct\",\"k\":\"AAECAwQFBgcICQoLDA0ODw\"},{\"kty\":\"oct\",\"k\":\"AAECAwQFBgcICQoLDA0ODw\"},{\"kty\":\"oct\",\"k\":\"AAECAwQFBgcICQoLDA0ODw\"},{\"kty\":\"oct\",\"k\":\"AAECAwQFBgcICQoLDA0ODw\"},{\"kty\":\"oct\",\"k\":\"AAECAwQFBgcICQoLDA0ODw\"},{\"kty\":\"oct\",\"k\":\"AAECAwQFBgcICQoLDA0ODw\"},{\"kty\":\"oct\",\"k\":\"AAECAwQFBgcICQoLDA0ODw\"},{\"kty\":\"oct\",\"k\":\"AAECAwQFBgcICQoLDA0ODw\"},{\"kty\":\"oct\",\"k\":\"AAECAwQFBgcICQoLDA0ODw\"},{\"kty\":\"oct\",\"k\":\"AAECAwQFBgcICQoLDA0ODw\"},{\"kty\":\"oct\",\"k\":\"AAECAwQFBgcICQoLDA0ODw\"},{\"kty\":\"oct\",\"k\":\"AAECAwQFBgcICQoLDA0ODw\"},{\"kty\":\"oct\",\"k\":\"AAECAwQFBgcICQoLDA0ODw\"},{\"kty\":\"oct\",\"k\":\"AAECAwQFBgcICQoLDA0ODw\"},{\"kty\":\"oct\",\"k\":\"AAECAwQFBgcICQoLDA0ODw\"},{\"kty\":\"oct\",\"k\":\"AAECAwQFBgcICQoLDA0ODw\"},{\"kty\":\"oct\",\"k\":\"AAECAwQFBgcICQoLDA0ODw\"},{\"kty\":\"oct\",\"k\":\"AAECAwQFBgcICQoLDA0ODw\"},{\"kty\":\"oct\",\"k\":\"AAECAwQFBgcICQoLDA0ODw\"},{\"kty\":\"oct\",\"k\":\"AAECAwQFBgcICQoLDA0ODw\"},{\"kty\":\"oct\",\"k\":\"AAECAwQFBgcICQoLDA0ODw\"},{\"kty\":\"oct\",\"k\":\"AAECAwQFBgcICQoLDA0ODw\"},{\"kty\":\"oct\",\"k\":\"AAECAwQFBgcICQoLDA0ODw\"},{\"kty\":\"oct\",\"k\":\"AAECAwQFBgcICQoLDA0ODw\"},{\"kty\":\"oct\",\"k\":\"AAECAwQFBgcICQoLDA0ODw\"},{\"kty\":\"oct\",\"k\":\"AAECAwQFBgcICQoLDA0ODw\"},{\"kty\":\"oct\",\"k\":\"AAECAwQFBgcICQoLDA0ODw\"},{\"kty\":\"oct\",\"k\":\"AAECAwQFBgcICQoLDA0ODw\"},{\"kty\":\"oct\",\"k\":\"AAECAwQFBgcICQoLDA0ODw\"},{\"kty\":\"oct\",\"k\":\"AAECAwQFBgcICQoLDA0ODw\"},{\"kty\":\"oct\",\"k\":\"AAECAwQFBgcICQoLDA0ODw\"},{\"kty\":\"oct\",\"k\":\"AAECAwQFBgcICQoLDA0ODw\"},{\"kty\":\"oct\",\"k\":\"AAECAwQFBgcICQoLDA0ODw\"},{\"kty\":\"oct\",\"k\":\"AAECAwQFBgcICQoLDA0ODw\"},{\"kty\":\"oct\",\"k\":\"AAECAwQFBgcICQoLDA0ODw\"}]}",
         Work {
             iterations: 0,
@@ -430,8 +463,8 @@ const WORKS: &[(&str, &str, Work, Result<(), Refusal>)] = &[
         Ok(()),
     ),
     (
-        "{\"ciphertext\":\"\",\"unprotected\":{\"alg\":\"PBES2-HS512+A256KW\",\"enc\":\"A128GCM\",\"p2c\":1000000,\"p2s\":\"AAECAwQFBgc\"}}",
-        "{\"keys\":[{\"kty\":\"oct\",\"k\":\"cGFzc3dvcmQ\",\"alg\":\"PBES2-HS256+A128KW\"},{\"kty\":\"oct\",\"k\":\"cGFzc3dvcmQ\",\"alg\":\"A128KW\"},{\"kty\":\"oct\",\"k\":\"cGFzc3dvcmQ\",\"alg\":\"PBES2-HS512+A256KW\"},{\"kty\":\"oct\",\"k\":\"cGFzc3dvcmQ\",\"alg\":\"PBES2-HS512+A256KW\"},{\"kty\":\"oct\",\"k\":\"cGFzc3dvcmQ\",\"alg\":\"PBES2-HS512+A256KW\"},{\"kty\":\"oct\",\"k\":\"cGFzc3dvcmQ\",\"alg\":\"PBES2-HS512+A256KW\"},{\"kty\":\"oct\",\"k\":\"cGFzc3dvcmQ\",\"alg\":\"PBES2-HS512+A256KW\"}]}",
+        "{\"ciphertext\":\"\",\"unprotected\":{\"alg\":\"PBES2-HS512+A256KW\",\"enc\":\"A128GCM\",\"p2c\":2000000,\"p2s\":\"AAECAwQFBgc\"}}",
+        "{\"keys\":[{\"kty\":\"oct\",\"k\":\"cGFzc3dvcmQ\",\"alg\":\"PBES2-HS256+A128KW\"},{\"kty\":\"oct\",\"k\":\"cGFzc3dvcmQ\",\"alg\":\"A128KW\"},{\"kty\":\"oct\",\"k\":\"cGFzc3dvcmQ\",\"alg\":\"PBES2-HS512+A256KW\"},{\"kty\":\"oct\",\"k\":\"cGFzc3dvcmQ\",\"alg\":\"PBES2-HS512+A256KW\"},{\"kty\":\"oct\",\"k\":\"cGFzc3dvcmQ\",\"alg\":\"PBES2-HS512+A256KW\"},{\"kty\":\"oct\",\"k\":\"cGFzc3dvcmQ\",\"alg\":\"PBES2-HS512+A256KW\"},{\"kty\":\"oct\",\"k\":\"cGFzc3dvcmQ\",\"alg\":\"PBES2-HS512+A256KW\"},{\"kty\":\"oct\",\"k\":\"cGFzc3dvcmQ\",\"alg\":\"PBES2-HS512+A256KW\"},{\"kty\":\"oct\",\"k\":\"cGFzc3dvcmQ\",\"alg\":\"PBES2-HS512+A256KW\"},{\"kty\":\"oct\",\"k\":\"cGFzc3dvcmQ\",\"alg\":\"PBES2-HS512+A256KW\"},{\"kty\":\"oct\",\"k\":\"cGFzc3dvcmQ\",\"alg\":\"PBES2-HS512+A256KW\"}]}",
         Work {
             iterations: 0,
             unwraps: 0,
@@ -447,6 +480,54 @@ fn work_is_told_exactly(rt: HostRuntime) -> Result<(), Fail> {
         expect_work(&rt, text, keys, *work, *answer)?;
     }
     Ok(())
+}
+
+/// One pair may take more than 1,000,000 iterations.
+#[test]
+fn a_count_above_a_million_is_tried(rt: HostRuntime) -> Result<(), Fail> {
+    let work = Work {
+        iterations: 1000001,
+        unwraps: 1,
+        openings: 0,
+    };
+    let text =
+        "{\"ciphertext\":\"\",\"unprotected\":{\"alg\":\"PBES2-HS256+A128KW\",\"enc\":\"A128GCM\",\"p2c\":1000001,\"p2s\":\"AAECAwQFBgc\"}}";
+    expect_work(&rt, text, PASSWORD, work, Err(Refusal::NotOpened))
+}
+
+/// `LINE` by `PASSWORD` with 1,000,000 iterations, and with 2,000,000, of the same octets by the same program.
+const OF_A_MILLION: &str =
+    "eyJhbGciOiJQQkVTMi1IUzI1NitBMTI4S1ciLCJlbmMiOiJBMTI4Q0JDLUhTMjU2IiwicDJjIjoxMDAwMDAwLCJwMnMiOiJBQUVDQXdRRkJnY0lDUW9MREEwT0R3In0.NZCOsQGKQ8_ZnLwlW4BNH_bRaR2bPN5rhTeJDzUihvOcvX-Vy9M4EA.MDEyMzQ1Njc4OTo7PD0-Pw.ASuZZUaC35WumFsAhx41GJK62k7adf-OknNJYFNZBR8.YBLDPq27HUeFJWcVntGVkQ";
+
+const OF_TWO_MILLION: &str =
+    "eyJhbGciOiJQQkVTMi1IUzI1NitBMTI4S1ciLCJlbmMiOiJBMTI4Q0JDLUhTMjU2IiwicDJjIjoyMDAwMDAwLCJwMnMiOiJBQUVDQXdRRkJnY0lDUW9MREEwT0R3In0.aCP4KtSaOyU2fH-CwQCTox5jMXfpi2LwUANY8RgjE2ngBqB-5_9V9g.MDEyMzQ1Njc4OTo7PD0-Pw.ASuZZUaC35WumFsAhx41GJK62k7adf-OknNJYFNZBR8.B6AVcKw_xjKCZieHPBoIig";
+
+/// The key opens, and so many times the same behind it are tried no more.
+fn opens_by_the_first<R: Abort + AllocGlobal>(
+    rt: &R,
+    text: &str,
+    behind: usize,
+    iterations: u64,
+) -> Result<(), Fail> {
+    let keys = with_many(rt, "{\"keys\":[", PASSWORD, behind, PASSWORD, "]}")?;
+    let work = Work {
+        iterations,
+        unwraps: 1,
+        openings: 1,
+    };
+    expect_work(rt, text, &keys, work, Ok(()))
+}
+
+/// Five pairs have 5,000,000 iterations together.
+#[test]
+fn five_pairs_of_a_million_are_tried(rt: HostRuntime) -> Result<(), Fail> {
+    opens_by_the_first(&rt, OF_A_MILLION, 4, 1000000)
+}
+
+/// Eight pairs with the greatest count have 16,000,000 together, which is as many as may be.
+#[test]
+fn eight_pairs_with_the_greatest_count_are_tried(rt: HostRuntime) -> Result<(), Fail> {
+    opens_by_the_first(&rt, OF_TWO_MILLION, 7, 2000000)
 }
 
 /// `LINE`, or a refusal, and this work.

@@ -23,6 +23,10 @@ const LAST_KEY: &str = "{\"kty\":\"oct\",\"k\":\"AAECAwQFBgcICQoLDA0ODxAREhMUFRY
 
 /// A line for each of them.
 const FOR_THREE: &str =
+    "{\"ciphertext\":\"ASuZZUaC35WumFsAhx41GJK62k7adf-OknNJYFNZBR8\",\"iv\":\"MDEyMzQ1Njc4OTo7PD0-Pw\",\"protected\":\"eyJlbmMiOiJBMTI4Q0JDLUhTMjU2In0\",\"recipients\":[{\"encrypted_key\":\"aEgNHFbuRK0tcXcoAQK5Z7WVbD4nRkM86V7vh_zoi168XQwE9S0qig\",\"header\":{\"alg\":\"A128KW\"}},{\"encrypted_key\":\"FpBVIMdaN2O0ntLrr0iYlsAOaKQmQ6W2uiT8UZHIiLXexlNNKk32-A\",\"header\":{\"alg\":\"PBES2-HS256+A128KW\",\"p2c\":100000,\"p2s\":\"AAECAwQFBgcICQoLDA0ODw\"}},{\"encrypted_key\":\"DKN-ucNqqMzCPcKdIux5xpJP57cbjnOlqkgOpMltCseK6PpYFXsvhw\",\"header\":{\"alg\":\"A256KW\"}}],\"tag\":\"Jl6R1j-32XpWNmAwDMON-Q\"}";
+
+/// What `jwe enc` wrote of the same before 2.0.0, and what the other program made of it then: with 10,000 iterations.
+const FOR_THREE_OF_TEN_THOUSAND: &str =
     "{\"ciphertext\":\"ASuZZUaC35WumFsAhx41GJK62k7adf-OknNJYFNZBR8\",\"iv\":\"MDEyMzQ1Njc4OTo7PD0-Pw\",\"protected\":\"eyJlbmMiOiJBMTI4Q0JDLUhTMjU2In0\",\"recipients\":[{\"encrypted_key\":\"aEgNHFbuRK0tcXcoAQK5Z7WVbD4nRkM86V7vh_zoi168XQwE9S0qig\",\"header\":{\"alg\":\"A128KW\"}},{\"encrypted_key\":\"ieTCJR-F1_xvUQ4xrC5A0lLIK5qnJRYR6jbUvhqEgXGgWUgv-4Q_JQ\",\"header\":{\"alg\":\"PBES2-HS256+A128KW\",\"p2c\":10000,\"p2s\":\"AAECAwQFBgcICQoLDA0ODw\"}},{\"encrypted_key\":\"DKN-ucNqqMzCPcKdIux5xpJP57cbjnOlqkgOpMltCseK6PpYFXsvhw\",\"header\":{\"alg\":\"A256KW\"}}],\"tag\":\"Jl6R1j-32XpWNmAwDMON-Q\"}";
 
 /// A template, keys, how many octets are drawn, and the text.
@@ -135,11 +139,22 @@ fn each_key_alone_decrypts(rt: HostRuntime) -> Result<(), Fail> {
 #[test]
 fn the_last_key_alone_is_tried_where_it_fits(rt: HostRuntime) -> Result<(), Fail> {
     let work = Work {
-        iterations: 10000,
+        iterations: 100000,
         unwraps: 2,
         openings: 1,
     };
     expect_work(&rt, FOR_THREE, LAST_KEY, work, Ok(()))
+}
+
+#[test]
+fn what_the_earlier_count_encrypted_is_decrypted(rt: HostRuntime) -> Result<(), Fail> {
+    let work = Work {
+        iterations: 10000,
+        unwraps: 2,
+        openings: 1,
+    };
+    expect_work(&rt, FOR_THREE_OF_TEN_THOUSAND, LAST_KEY, work, Ok(()))?;
+    decrypts(&rt, FOR_THREE_OF_TEN_THOUSAND, KEYS, Answer::Content(LINE))
 }
 
 #[test]
@@ -223,18 +238,18 @@ const NOT_ENCRYPTED: &[(&str, &str, Refusal)] = &[
         Refusal::Limit,
     ),
     (
-        "{\"unprotected\":{\"p2c\":1000001}}",
+        "{\"unprotected\":{\"p2c\":2000001}}",
         "{\"keys\":[{\"kty\":\"oct\",\"k\":\"AAECAwQFBgcICQoLDA0ODw\"},{\"kty\":\"oct\",\"k\":\"cGFzc3dvcmQ\",\"alg\":\"PBES2-HS256+A128KW\"}]}",
         Refusal::Limit,
     ),
     (
-        "{\"protected\":{\"p2c\":1000000}}",
-        "{\"keys\":[{\"kty\":\"oct\",\"k\":\"cGFzc3dvcmQ\",\"alg\":\"PBES2-HS256+A128KW\"},{\"kty\":\"oct\",\"k\":\"cGFzc3dvcmQ\",\"alg\":\"PBES2-HS256+A128KW\"},{\"kty\":\"oct\",\"k\":\"cGFzc3dvcmQ\",\"alg\":\"PBES2-HS256+A128KW\"},{\"kty\":\"oct\",\"k\":\"cGFzc3dvcmQ\",\"alg\":\"PBES2-HS256+A128KW\"},{\"kty\":\"oct\",\"k\":\"cGFzc3dvcmQ\",\"alg\":\"PBES2-HS256+A128KW\"}]}",
+        "{\"protected\":{\"p2c\":2000000}}",
+        "{\"keys\":[{\"kty\":\"oct\",\"k\":\"cGFzc3dvcmQ\",\"alg\":\"PBES2-HS256+A128KW\"},{\"kty\":\"oct\",\"k\":\"cGFzc3dvcmQ\",\"alg\":\"PBES2-HS256+A128KW\"},{\"kty\":\"oct\",\"k\":\"cGFzc3dvcmQ\",\"alg\":\"PBES2-HS256+A128KW\"},{\"kty\":\"oct\",\"k\":\"cGFzc3dvcmQ\",\"alg\":\"PBES2-HS256+A128KW\"},{\"kty\":\"oct\",\"k\":\"cGFzc3dvcmQ\",\"alg\":\"PBES2-HS256+A128KW\"},{\"kty\":\"oct\",\"k\":\"cGFzc3dvcmQ\",\"alg\":\"PBES2-HS256+A128KW\"},{\"kty\":\"oct\",\"k\":\"cGFzc3dvcmQ\",\"alg\":\"PBES2-HS256+A128KW\"},{\"kty\":\"oct\",\"k\":\"cGFzc3dvcmQ\",\"alg\":\"PBES2-HS256+A128KW\"},{\"kty\":\"oct\",\"k\":\"cGFzc3dvcmQ\",\"alg\":\"PBES2-HS256+A128KW\"}]}",
         Refusal::Limit,
     ),
     (
-        "{\"protected\":{\"p2c\":800001}}",
-        "{\"keys\":[{\"kty\":\"oct\",\"k\":\"cGFzc3dvcmQ\",\"alg\":\"PBES2-HS256+A128KW\"},{\"kty\":\"oct\",\"k\":\"cGFzc3dvcmQ\",\"alg\":\"PBES2-HS256+A128KW\"},{\"kty\":\"oct\",\"k\":\"AAECAwQFBgcICQoLDA0ODw\"},{\"kty\":\"oct\",\"k\":\"cGFzc3dvcmQ\",\"alg\":\"PBES2-HS256+A128KW\"},{\"kty\":\"oct\",\"k\":\"cGFzc3dvcmQ\",\"alg\":\"PBES2-HS256+A128KW\"},{\"kty\":\"oct\",\"k\":\"cGFzc3dvcmQ\",\"alg\":\"PBES2-HS256+A128KW\"}]}",
+        "{\"protected\":{\"p2c\":1777778}}",
+        "{\"keys\":[{\"kty\":\"oct\",\"k\":\"cGFzc3dvcmQ\",\"alg\":\"PBES2-HS256+A128KW\"},{\"kty\":\"oct\",\"k\":\"cGFzc3dvcmQ\",\"alg\":\"PBES2-HS256+A128KW\"},{\"kty\":\"oct\",\"k\":\"AAECAwQFBgcICQoLDA0ODw\"},{\"kty\":\"oct\",\"k\":\"cGFzc3dvcmQ\",\"alg\":\"PBES2-HS256+A128KW\"},{\"kty\":\"oct\",\"k\":\"cGFzc3dvcmQ\",\"alg\":\"PBES2-HS256+A128KW\"},{\"kty\":\"oct\",\"k\":\"cGFzc3dvcmQ\",\"alg\":\"PBES2-HS256+A128KW\"},{\"kty\":\"oct\",\"k\":\"cGFzc3dvcmQ\",\"alg\":\"PBES2-HS256+A128KW\"},{\"kty\":\"oct\",\"k\":\"cGFzc3dvcmQ\",\"alg\":\"PBES2-HS256+A128KW\"},{\"kty\":\"oct\",\"k\":\"cGFzc3dvcmQ\",\"alg\":\"PBES2-HS256+A128KW\"},{\"kty\":\"oct\",\"k\":\"cGFzc3dvcmQ\",\"alg\":\"PBES2-HS256+A128KW\"}]}",
         Refusal::Limit,
     ),
     (
@@ -258,16 +273,36 @@ fn what_is_not_encrypted_to_several_is_told(rt: HostRuntime) -> Result<(), Fail>
     Ok(())
 }
 
-/// Four passwords have the greatest count: together they are as many as may be, and so the random octets are read.
+/// A template and keys, among them passwords, by which something is encrypted, and how many random octets there are.
+const ENCRYPTED: &[(&str, &str, usize)] = &[
+    // Five passwords have 5,000,000 iterations together.
+    (
+        "{\"protected\":{\"p2c\":1000000}}",
+        "{\"keys\":[{\"kty\":\"oct\",\"k\":\"cGFzc3dvcmQ\",\"alg\":\"PBES2-HS256+A128KW\"},{\"kty\":\"oct\",\"k\":\"cGFzc3dvcmQ\",\"alg\":\"PBES2-HS256+A128KW\"},{\"kty\":\"oct\",\"k\":\"cGFzc3dvcmQ\",\"alg\":\"PBES2-HS256+A128KW\"},{\"kty\":\"oct\",\"k\":\"cGFzc3dvcmQ\",\"alg\":\"PBES2-HS256+A128KW\"},{\"kty\":\"oct\",\"k\":\"cGFzc3dvcmQ\",\"alg\":\"PBES2-HS256+A128KW\"}]}",
+        127,
+    ),
+    // Eight with the greatest count have 16,000,000 together, which is as many as may be; a key that is none has none.
+    (
+        "{\"protected\":{\"p2c\":2000000}}",
+        "{\"keys\":[{\"kty\":\"oct\",\"k\":\"cGFzc3dvcmQ\",\"alg\":\"PBES2-HS256+A128KW\"},{\"kty\":\"oct\",\"k\":\"AAECAwQFBgcICQoLDA0ODw\"},{\"kty\":\"oct\",\"k\":\"cGFzc3dvcmQ\",\"alg\":\"PBES2-HS384+A192KW\"},{\"kty\":\"oct\",\"k\":\"cGFzc3dvcmQ\",\"alg\":\"PBES2-HS512+A256KW\"},{\"kty\":\"oct\",\"k\":\"cGFzc3dvcmQ\",\"alg\":\"PBES2-HS256+A128KW\"},{\"kty\":\"oct\",\"k\":\"cGFzc3dvcmQ\",\"alg\":\"PBES2-HS256+A128KW\"},{\"kty\":\"oct\",\"k\":\"cGFzc3dvcmQ\",\"alg\":\"PBES2-HS256+A128KW\"},{\"kty\":\"oct\",\"k\":\"cGFzc3dvcmQ\",\"alg\":\"PBES2-HS256+A128KW\"},{\"kty\":\"oct\",\"k\":\"cGFzc3dvcmQ\",\"alg\":\"PBES2-HS256+A128KW\"}]}",
+        175,
+    ),
+];
+
+/// They are accepted, and so the random octets are read, which are one too few.
 #[test]
-fn four_passwords_have_the_greatest_count(rt: HostRuntime) -> Result<(), Fail> {
-    let given = Given {
-        text: "{\"protected\":{\"p2c\":1000000}}",
-        content: LINE,
-        keys: "{\"keys\":[{\"kty\":\"oct\",\"k\":\"cGFzc3dvcmQ\",\"alg\":\"PBES2-HS256+A128KW\"},{\"kty\":\"oct\",\"k\":\"AAECAwQFBgcICQoLDA0ODw\"},{\"kty\":\"oct\",\"k\":\"cGFzc3dvcmQ\",\"alg\":\"PBES2-HS384+A192KW\"},{\"kty\":\"oct\",\"k\":\"cGFzc3dvcmQ\",\"alg\":\"PBES2-HS512+A256KW\"},{\"kty\":\"oct\",\"k\":\"cGFzc3dvcmQ\",\"alg\":\"PBES2-HS256+A128KW\"}]}",
-        random: &RANDOM[..111],
-    };
-    expect(&rt, &ENCRYPT, &given, Answer::Refusal(Refusal::Random))
+fn passwords_that_have_many_iterations_together(rt: HostRuntime) -> Result<(), Fail> {
+    let zeros = [0; 200];
+    for (template, keys, count) in ENCRYPTED {
+        let given = Given {
+            text: template,
+            content: LINE,
+            keys,
+            random: &zeros[..(*count).min(200)],
+        };
+        expect(&rt, &ENCRYPT, &given, Answer::Refusal(Refusal::Random))?;
+    }
+    Ok(())
 }
 
 /// As many keys as a set may have: 63 of 16 zero octets and one more, which alone decrypts.

@@ -28,6 +28,21 @@ limits = record {
   keys = 64;
   key_octets = 4096;
   depth = 64;
+  recipients = 256;
+  greatest_p2c_read = 2000000;
+  least_p2c = 1000;
+  greatest_p2c = 2000000;
+  usual_p2c = 100000;
+  p2c_sum = 16000000;
+  management = management_algs;
+}
+
+-- those before 2.0.0
+abbrev pub earlier_limits : Limits
+earlier_limits = record {
+  keys = 64;
+  key_octets = 4096;
+  depth = 64;
   recipients = 64;
   greatest_p2c_read = 1000000;
   least_p2c = 1000;

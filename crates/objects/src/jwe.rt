@@ -53,7 +53,7 @@ pub(crate) struct JweMembers {
     pub(crate) recipients: Vec<RecipientMembers>,
 }
 
-/// An encrypted object. It has 64 recipients at most.
+/// An encrypted object. It has 256 recipients at most.
 #[derive(Drop)]
 pub struct Jwe {
     protected: String,
@@ -68,11 +68,12 @@ pub struct Jwe {
 
 impl Jwe {
     /// The object of a text in compact form, with an LF or a CR LF at its end or without, or in JSON form, general or
-    /// flattened (RFC 7516 section 7). A detached ciphertext is handed in; then the text's own has to be absent or empty. Its causes of refusal, each over the whole text before the next: `Json` and `Number`
-    /// of a JSON text; `Form`; `Limit` where there are more than 64 recipients; `Base64`; then, of the protected header,
-    /// `Json`, `Number`, and `Header` where it is no object; `Header` where a joint header is none, or what it says of the
-    /// algorithms is wrong, or their `enc` is not the same; and `Unsupported` where a header has a `crit` or a `zip`. Whether
-    /// the algorithms are supported is not asked.
+    /// flattened (RFC 7516 section 7). A detached ciphertext is handed in; then the text's own has to be absent or empty.
+    /// Its causes of refusal, each over the whole text before the next: `Json` and `Number` of a JSON text; `Form`; `Limit`
+    /// where there are more than 256 recipients; `Base64`; then, of the protected header, `Json`, `Number`, and `Header`
+    /// where it is no object; `Header` where a joint header is none, or what it says of the algorithms is wrong, or their
+    /// `enc` is not the same; and `Unsupported` where a header has a `crit` or a `zip`. Whether the algorithms are supported
+    /// is not asked.
     pub fn read(alloc: Global, text: &[u8], detached: Option<Vec<u8>>) -> Result<Jwe, Refusal>
         ensures exact { AgreesUnlessMemory jwe_view result (jwe_of limits (option_map (λ c. c.items) detached) text.now) }
         ensures made { IfOk result (λ jwe. IsMade limits (jwe_view jwe)) }

@@ -19,7 +19,7 @@ use std::alloc::Global;
 impl Jwe {
     /// The object with these members. Its causes of refusal are those of its JSON text, each over the whole object before
     /// the next: `Json` where that nests more than 127 deep; `Number` where a header holds a number that is no whole number
-    /// of 64 bits; `Form` where there is no recipient; `Limit` where there are more than 64; `Base64` where the text of the
+    /// of 64 bits; `Form` where there is no recipient; `Limit` where there are more than 256; `Base64` where the text of the
     /// protected header is no base64url text; and then those of `Jwe::read`, from those of the protected header on.
     pub fn build(alloc: Global, parts: JweParts) -> Result<Jwe, Refusal>
         ensures exact { AgreesUnlessMemory jwe_view result (built limits (parts_view parts)) }

@@ -74,7 +74,7 @@ pub struct Signature {
     alg: String,
 }
 
-/// A signed object. It has 64 signatures at most.
+/// A signed object. It has 256 signatures at most.
 #[derive(Drop)]
 pub struct Jws {
     payload: Vec<u8>,
@@ -128,7 +128,7 @@ impl Jws {
     /// absent or empty. Nothing is verified, and whether the algorithms are supported is not asked.
     ///
     /// Its causes of refusal, each over the whole text before the next: `Json` and `Number` of a JSON text; `Form`; `Limit`
-    /// where there are more than 64 signatures; `Base64`; then, of each protected header in order, `Json`, `Number`, and
+    /// where there are more than 256 signatures; `Base64`; then, of each protected header in order, `Json`, `Number`, and
     /// `Header` where it is no object; `Header` where a joint header is none, has no `alg` or one that is no string, or, where
     /// that derives a key from a password (RFC 7518 section 4.8), has no `p2s` that is the base64url text of at least 8 octets
     /// or no `p2c` that is a whole number from 1, or, where it wraps a key by AES in GCM (RFC 7518 section 4.7), has no `iv` or

@@ -21,7 +21,7 @@ use std::alloc::Global;
 impl Jws {
     /// The object with these members. Its causes of refusal are those of its JSON text, each over the whole object before
     /// the next: `Json` where that nests more than 127 deep; `Number` where a header holds a number that is no whole number
-    /// of 64 bits; `Form` where there is no signature; `Limit` where there are more than 64; `Base64` where the text of a
+    /// of 64 bits; `Form` where there is no signature; `Limit` where there are more than 256; `Base64` where the text of a
     /// protected header is no base64url text; and then those of `Jws::read`, from those of the protected headers on.
     pub fn build(alloc: Global, parts: JwsParts) -> Result<Jws, Refusal>
         ensures exact { AgreesUnlessMemory jws_view result (built limits (jws_parts_view parts)) }

@@ -43,8 +43,8 @@ pub(crate) fn read_encryption<'k>(
 /// What keys and a template settle. Refused, each step for every key before the next, with the causes of `receiver_by`;
 /// `Header` where a key of several is used directly; `NoAlgorithm` where nothing says the algorithm of content encryption;
 /// `KeyDoesNotFit` where a key may not encrypt, or does not fit; where one is a password, `Header` where `p2c` is no whole
-/// number; `Limit` where a header nests more than 64 deep, the `p2c` of a password is not from 1,000 to 1,000,000, or those of
-/// all passwords are more than 4,000,000; and `NotCompact` where a compact text has no room for what the keys and the template
+/// number; `Limit` where a header nests more than 64 deep, the `p2c` of a password is not from 1,000 to 2,000,000, or those of
+/// all passwords are more than 16,000,000; and `NotCompact` where a compact text has no room for what the keys and the template
 /// give.
 #[tactic(auto, unfolding(crate::specs::Choosing::encryption_with))]
 fn encryption_with<'k>(

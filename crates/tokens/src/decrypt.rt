@@ -46,8 +46,8 @@ struct Sealed<'j> {
 /// unwraps, and under whose content encryption key the tag is right.
 ///
 /// Refused, in this order, with `Unsupported` where no recipient's algorithms are supported; `KeyDoesNotFit` where no key
-/// may decrypt and fits; `Limit` where a pair takes more than 1,000,000 iterations of PBKDF2 or all of them more than
-/// 4,000,000; `NotOpened` where no pair opens; and then with `Write` where the output fails. `Work` is what was done: nothing
+/// may decrypt and fits; `Limit` where a pair takes more than 2,000,000 iterations of PBKDF2 or all of them more than
+/// 16,000,000; `NotOpened` where no pair opens; and then with `Write` where the output fails. `Work` is what was done: nothing
 /// where the refusal is another one than the last two.
 pub fn jwe_decrypt<O: Output>(
     alloc: Global,

@@ -47,13 +47,13 @@ const MOST_DRAWN: usize = MOST_KEYS * SALT_LEN + 80;
 /// is one key (RFC 7516 section 7.2). Where there is an output for it the ciphertext is detached: the text is without it, and
 /// it is written there as it is, before the text.
 ///
-/// The template is a JSON object with no member but `protected` and `unprotected`, each an object, and `aad`, a base64url
-/// text. The algorithm of key management is the one of the headers' `alg`; or else the one of the key's `alg`, where a
-/// content encryption means direct use; or else A128KW, A192KW or A256KW by the key's length. That of content encryption is
-/// the one of the headers' `enc`; or else, of a key that is used directly, the one of its `alg` or the CBC one of its length;
-/// or else the CBC one that goes with the key management of the first key. For a password `p2c` is that of the headers, or else
-/// 10,000, and `p2s`, of 16 octets, is drawn; for A128GCMKW, A192GCMKW and A256GCMKW `iv`, of 12 octets, is drawn, and `tag` is
-/// made with the encrypted key.
+/// The template is a JSON object with no member but `protected` and `unprotected`, each an object, and `aad`, a base64url text.
+/// The algorithm of key management is the one of the headers' `alg`; or else the one of the key's `alg`, where a content
+/// encryption means direct use; or else A128KW, A192KW or A256KW by the key's length. That of content encryption is the one of
+/// the headers' `enc`; or else, of a key that is used directly, the one of its `alg` or the CBC one of its length; or else the
+/// CBC one that goes with the key management of the first key. For a password `p2c` is that of the headers, or else 100,000,
+/// and `p2s`, of 16 octets, is drawn; for A128GCMKW, A192GCMKW and A256GCMKW `iv`, of 12 octets, is drawn, and `tag` is made
+/// with the encrypted key.
 ///
 /// What the headers do not give is written: `enc` into the protected header; `alg`, `p2c`, `p2s`, `iv` and `tag` into the
 /// protected header where there is one key, and else into the header of each recipient.
@@ -69,7 +69,7 @@ const MOST_DRAWN: usize = MOST_KEYS * SALT_LEN + 80;
 /// none of encryption; `Header` where a key of several is used directly; `NoAlgorithm` where nothing says the algorithm of
 /// content encryption; `KeyDoesNotFit` where a key may not encrypt, or does not fit; where one is a password, `Header` where
 /// `p2c` is no whole number; `Limit` where a header nests more than 64 deep, the `p2c` of a password is not from 1,000 to
-/// 1,000,000, or those of all passwords are more than 4,000,000; `NotCompact` where a compact text is asked for, and there are
+/// 2,000,000, or those of all passwords are more than 16,000,000; `NotCompact` where a compact text is asked for, and there are
 /// several keys or the template gives more than a protected header; then with `Read` where the random input fails, and `Random`
 /// where it ends too early; then with `Read` where the content fails, and `Limit` where it is too long; and with `Write` where
 /// an output fails.

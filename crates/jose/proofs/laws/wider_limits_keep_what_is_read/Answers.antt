@@ -1,5 +1,9 @@
-use Rattle.jose.proofs.WiderLimits.{reads_as_before}
+use Rattle.keys.specs.Limits.{limits, earlier_limits}
+use Rattle.jose.proofs.WiderLimits.{these_are_wider, reads_as_before}
 use Rattle.jose.proofs.laws.wider_limits_keep_what_is_read.Goals as goal
 
-pub returns : goal.returns
-returns c narrower wider are = reads_as_before narrower wider are
+pub returns-clause-all : goal.returns-clause-all
+returns-clause-all c narrower wider are = reads_as_before narrower wider are
+
+pub returns-clause-here : goal.returns-clause-here
+returns-clause-here c = reads_as_before earlier_limits limits these_are_wider
