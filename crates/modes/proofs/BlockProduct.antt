@@ -36,7 +36,7 @@ shift_high v e =
     sym (ap (λ b. bit_xor (v / 2) (b * (0xe1 * 2 ^ 120))) o ∙ ap (bit_xor (v / 2)) (one-mul (0xe1 * 2 ^ 120)))
 
 -- the middle two change places
-xor_swap : (a b c d : ℕ) → bit_xor (bit_xor a b) (bit_xor c d) ≡ bit_xor (bit_xor a c) (bit_xor b d)
+pub xor_swap : (a b c d : ℕ) → bit_xor (bit_xor a b) (bit_xor c d) ≡ bit_xor (bit_xor a c) (bit_xor b d)
 xor_swap a b c d =
     xor_assoc a b (bit_xor c d)
     ∙ ap (bit_xor a) (sym (xor_assoc b c d) ∙ ap (λ x. bit_xor x d) (xor_comm b c) ∙ xor_assoc c b d)

@@ -9,6 +9,9 @@ pub mod Opening
 pub mod Counting
 pub mod Fronts
 pub mod BlockProduct
+pub mod Shifts
+pub mod Reduction
+pub mod Chains
 pub mod Multiples
 pub mod Numbers
 pub mod Protecting

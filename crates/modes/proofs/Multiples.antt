@@ -1,65 +1,26 @@
--- The product of a block and H, four bits a step: the multiples of H, the step by x ^ 4, and Horner's rule.
-use Rattle.std.proofs.Common.{◌≡◌, ◌≢◌, ℕ, zero, suc, ◌+◌, ◌-◌, ◌*◌, ◌/◌, ◌%◌, ◌^◌, ◌<◌, List, [], ◌∷◌, map, get_or, slice_index, bit_xor, refl, sym, ap, ap₂, subst, ⊎_elim, ◌∙◌, arith, zero-mul, one-mul}
+-- The product of a block and H, four bits a look-up: the multiples of H, and Horner's rule.
+use Rattle.std.proofs.Common.{◌≡◌, ◌≢◌, ℕ, zero, suc, ◌+◌, ◌-◌, ◌*◌, ◌/◌, ◌%◌, ◌^◌, ◌<◌, List, [], ◌∷◌, map, get_or, slice_index, bit_xor, refl, sym, ap, ap₂, subst, ⊎_elim, ◌∙◌, arith, zero-mul, one-mul, mul-one}
 use Rattle.std.specs.Int.{bit_at}
 use Rattle.std.specs.Int.Bits.{xor_comm, xor_zero_r, xor_shifted}
 use Rattle.std.specs.List.{range_with_len}
-use Rattle.std.proofs.Math.Nat.{mul_assoc, add-mul, mul-mod_left}
+use Rattle.std.proofs.Math.Nat.{mul_assoc, add-mul, le-mul_of_pos_right}
 use Rattle.std.proofs.lemmas.Bool.{cases_eq}
 use Rattle.std.proofs.lemmas.List.FromFn.{get_or-map-range_with_len}
-use Rattle.std.proofs.lemmas.Nat.{pow_pos, pow-add, shl-shr, shr-shr, shr_split, mod-pow-add, mod_below, shl_below, xor_lt}
+use Rattle.std.proofs.lemmas.Nat.{pow_pos, pow-add, shr-shr, shr_split, mod-pow-add, mod_below, shl_below, xor_lt}
 use Rattle.std.proofs.lemmas.Nat.Bits.{bit_at-zero, bit_at-pow_same, bit_at-pow_other}
 use Rattle.aes.specs.Polynomial.{polynomial_sum}
-use Rattle.aes.specs.PolynomialLaws.{IsLinear, PolynomialLaws}
-use Rattle.modes.specs.Ghash.{reflect, shifted, block_product}
+use Rattle.aes.specs.PolynomialLaws.{PolynomialLaws}
+use Rattle.modes.specs.Ghash.{reflect, shifted, shifts, block_product}
 use Rattle.modes.proofs.BlockProduct.{power_of, product_of, reflect_zero, reflect_bit, reflect_twice, shifted_linear, power_first, power_next, product_is, product_linear}
+use Rattle.modes.proofs.Shifts.{power_more, shifts_whole}
+use Rattle.modes.proofs.Chains.{added, one_step, two_nibbles}
 
 abbrev before : ℕ → List ℕ → List ℕ
 before x xs = x ∷ xs
 
--- ---- a block times x ^ n
-
-abbrev pub shifts : ℕ → ℕ → ℕ
-shifts v zero = v
-shifts v (suc n) = shifted (shifts v n)
-
 shifted_lt : (v : ℕ) → v < 2 ^ 128 → shifted v < 2 ^ 128
 unfolding shifted
 shifted_lt v h = xor_lt 128 (v / 2) (v % 2 * (0xe1 * 2 ^ 120)) (omega arith) (omega (arith, mod_below v 2 (omega arith)))
-
-shifted_double : (v : ℕ) → shifted (v * 2) ≡ v
-unfolding shifted
-shifted_double v =
-    ap₂ (λ a b. bit_xor a (b * (0xe1 * 2 ^ 120))) (let e : v * 2 / 2 ≡ v = omega arith in e) (let e : v * 2 % 2 ≡ 0 = omega arith in e)
-    ∙ ap (bit_xor v) (zero-mul (0xe1 * 2 ^ 120))
-    ∙ xor_zero_r v
-
-shifts_sixteenfold : (q : ℕ) → shifts (q * 16) 4 ≡ q
-shifts_sixteenfold q =
-    ap (λ v. shifts v 4) (let e : q * 16 ≡ q * 2 * 2 * 2 * 2 = omega arith in e)
-    ∙ ap (λ v. shifts v 3) (shifted_double (q * 2 * 2 * 2))
-    ∙ ap (λ v. shifts v 2) (shifted_double (q * 2 * 2))
-    ∙ ap shifted (shifted_double (q * 2))
-    ∙ shifted_double q
-
--- what four bits that are shifted out come back as
-abbrev pub folded : ℕ → ℕ
-folded o = bit_xor (bit_xor (bit_xor o (o / 2 ^ 1)) (o / 2 ^ 2)) (o / 2 ^ 7)
-
-low_shifts : map (λ n. shifts n 4) (range_with_len 0 16) ≡ map (λ n. folded (n * 2 ^ 124)) (range_with_len 0 16)
-unfolding shifted
-low_shifts = refl
-
-low_shift : (n : ℕ) → n < 16 → shifts n 4 ≡ folded (n * 2 ^ 124)
-low_shift n l =
-    sym (get_or-map-range_with_len (λ n. shifts n 4) 0 16 n n 0 l (omega arith))
-    ∙ ap (λ xs. get_or xs n 0) low_shifts
-    ∙ get_or-map-range_with_len (λ n. folded (n * 2 ^ 124)) 0 16 n n 0 l (omega arith)
-
-shifted_out : (v : ℕ) → v * 2 ^ 124 % 2 ^ 128 ≡ v % 16 * 2 ^ 124
-shifted_out v =
-    mod-pow-add (v * 2 ^ 124) 4 124
-    ∙ ap₂ (λ a b. a % 16 * 2 ^ 124 + b) (shl-shr v 124) (mul-mod_left v (2 ^ 124))
-    ∙ (let e : v % 16 * 2 ^ 124 + 0 ≡ v % 16 * 2 ^ 124 = omega arith in e)
 
 -- ---- the table of the sums of h, a, b and c
 
@@ -90,24 +51,10 @@ sum_alone f (suc n) k l h = ⊎_elim
     (cases_eq n k)
 
 module _ (laws : PolynomialLaws) where
-  shifts_linear : IsLinear (λ v. shifts v 4)
-  shifts_linear a b =
-      let s = shifted_linear laws in
-      ap (λ v. shifts v 3) (s a b)
-      ∙ ap (λ v. shifts v 2) (s (shifts a 1) (shifts b 1))
-      ∙ ap shifted (s (shifts a 2) (shifts b 2))
-      ∙ s (shifts a 3) (shifts b 3)
-
-  -- the code's step by x ^ 4
-  pub shifts_four : (v : ℕ) → bit_xor (v / 2 ^ 4) (folded (v * 2 ^ 124 % 2 ^ 128)) ≡ shifts v 4
-  shifts_four v = sym (
-      ap (λ v. shifts v 4) (sym (xor_shifted (v / 16) 4 (v % 16) (mod_below v 16 (omega arith)) ∙ shr_split v 4))
-      ∙ shifts_linear (v / 16 * 16) (v % 16)
-      ∙ ap₂ bit_xor (shifts_sixteenfold (v / 16)) (low_shift (v % 16) (mod_below v 16 (omega arith)) ∙ ap folded (sym (shifted_out v))))
-
   -- ---- the product of x ^ (127 - i) and h
 
   shifts_are : (h : ℕ) → h < 2 ^ 128 → (i : ℕ) → i < 128 → (shifts h i < 2 ^ 128) × (reflect (shifts h i) ≡ power_of h i)
+  unfolding shifts
   shifts_are h s zero l = (s, power_first laws h)
   shifts_are h s (suc i) l =
       let before = shifts_are h s i (omega (arith, l)) in (
@@ -145,6 +92,7 @@ module _ (laws : PolynomialLaws) where
       ∙ reflect_zero
 
   multiples_are : (h : ℕ) → h < 2 ^ 128 → table h (shifts h 1) (shifts h 2) (shifts h 3) ≡ map (λ n. block_product (n * 2 ^ 124) h) (range_with_len 0 16)
+  unfolding shifts
   multiples_are h s =
       let m8 = sym (at_power h 127 s (omega arith)) in
       let m4 = sym (at_power h 126 s (omega arith)) in
@@ -177,6 +125,7 @@ module _ (laws : PolynomialLaws) where
   -- entry n of the table that three steps by x make
   pub multiple_is : (h a b c n : ℕ) → h < 2 ^ 128 → a ≡ shifted h → b ≡ shifted a → c ≡ shifted b → n < 16
       → slice_index (table h a b c) n ≡ block_product (n * 2 ^ 124) h
+  unfolding shifts
   multiple_is h a b c n s is_a is_b is_c l =
       let two = is_b ∙ ap shifted is_a in
       let three = is_c ∙ ap shifted two in
@@ -186,6 +135,7 @@ module _ (laws : PolynomialLaws) where
   -- ---- Horner's rule
 
   halved : (h v : ℕ) → h < 2 ^ 128 → v < 2 ^ 127 → block_product v h ≡ shifted (block_product (v * 2) h)
+  unfolding shifts
   halved h v s l = laws.linear_agree (λ v. block_product v h) (λ v. shifted (block_product (v * 2) h)) 127 v
       (product_linear laws h)
       (λ a b.
@@ -197,13 +147,14 @@ module _ (laws : PolynomialLaws) where
       ∙ ap shifted (sym (ap (λ p. block_product p h) (sym (pow-add 2 i 1)) ∙ at_power h (i + 1) s (omega (arith, m)))))
       l
 
-  sixteenth : (h v : ℕ) → h < 2 ^ 128 → v < 2 ^ 124 → block_product v h ≡ shifts (block_product (v * 16) h) 4
-  sixteenth h v s l =
-      halved h v s (omega (arith, l))
-      ∙ ap shifted (halved h (v * 2) s (omega (arith, l)))
-      ∙ ap (λ p. shifts p 2) (halved h (v * 2 * 2) s (omega (arith, l)))
-      ∙ ap (λ p. shifts p 3) (halved h (v * 2 * 2 * 2) s (omega (arith, l)))
-      ∙ ap (λ p. shifts (block_product p h) 4) (let e : v * 2 * 2 * 2 * 2 ≡ v * 16 = omega arith in e)
+  -- where no bit is shifted out, a factor x ^ k may stand before the product
+  pub raised : (h v k : ℕ) → h < 2 ^ 128 → v * 2 ^ k < 2 ^ 128 → block_product v h ≡ shifts (block_product (v * 2 ^ k) h) k
+  unfolding shifts
+  raised h v zero s l = ap (λ v. block_product v h) (sym (mul-one v))
+  raised h v (suc k) s l =
+      let more = power_more v k in
+      halved h v s (omega (arith, more, l, le-mul_of_pos_right (v * 2) (pow_pos k)))
+      ∙ ap shifted (raised h (v * 2) k s (omega (arith, more, l)) ∙ ap (λ p. shifts (block_product p h) k) (sym more))
 
 -- the last i nibbles of x, at the lowest powers
 abbrev pub taken : ℕ → ℕ → ℕ
@@ -236,20 +187,68 @@ module _ (x i : ℕ) (l : i < 32) where
       ∙ sym (xor_shifted n 124 passed passed_lt)
       ∙ xor_comm (n * 2 ^ 124) passed
 
-  -- the code's step
-  pub one_nibble : (laws : PolynomialLaws) (h : ℕ) → h < 2 ^ 128
+  -- one nibble more
+  one_nibble : (laws : PolynomialLaws) (h : ℕ) → h < 2 ^ 128
       → bit_xor (shifts (block_product (taken x i) h) 4) (block_product (x / 2 ^ (4 * i) % 16 * 2 ^ 124) h) ≡ block_product (taken x (i + 1)) h
   one_nibble laws h s = sym (
       ap (λ v. block_product v h) taken_more
       ∙ product_linear laws h passed (x / 2 ^ (4 * i) % 16 * 2 ^ 124)
       ∙ ap (λ v. bit_xor v (block_product (x / 2 ^ (4 * i) % 16 * 2 ^ 124) h))
-      (sixteenth laws h passed s passed_lt ∙ ap (λ v. shifts (block_product v h) 4) passed_is))
+      (raised laws h passed 4 s (omega (arith, passed_lt)) ∙ ap (λ v. shifts (block_product v h) 4) passed_is))
 
-pub none_taken : (laws : PolynomialLaws) (x h : ℕ) → 0 ≡ block_product (taken x 0) h
-none_taken laws x h = sym (ap (λ v. block_product v h) (let e : taken x 0 ≡ 0 = omega arith in e) ∙ product_zero laws h)
+-- an octet more of one of the halves, by the multiples of its two nibbles
+one_octet : (laws : PolynomialLaws) (x i h : ℕ) → i < 8 → h < 2 ^ 128
+    → bit_xor (shifts (block_product (taken x (2 * i)) h) 8)
+    (bit_xor (block_product (x / 2 ^ (8 * i) / 2 ^ 4 % 16 * 2 ^ 124) h) (shifts (block_product (x / 2 ^ (8 * i) % 16 * 2 ^ 124) h) 4))
+    ≡ block_product (taken x (2 * (i + 1))) h
+one_octet laws x i h l s =
+    let at : ℕ → ℕ = λ v. block_product v h in
+    two_nibbles laws (at (taken x (2 * i))) (at (taken x (2 * i + 1))) (at (taken x (2 * (i + 1))))
+    (at (x / 2 ^ (8 * i) % 16 * 2 ^ 124)) (at (x / 2 ^ (8 * i) / 2 ^ 4 % 16 * 2 ^ 124))
+    (ap (λ k. bit_xor (shifts (at (taken x (2 * i))) 4) (at (x / 2 ^ k % 16 * 2 ^ 124))) (let e : 8 * i ≡ 4 * (2 * i) = omega arith in e)
+    ∙ one_nibble x (2 * i) (omega (arith, l)) laws h s)
+    (ap (λ n. bit_xor (shifts (at (taken x (2 * i + 1))) 4) (at (n % 16 * 2 ^ 124)))
+    (shr-shr x (8 * i) 4 ∙ ap (λ k. x / 2 ^ k) (let e : 8 * i + 4 ≡ 4 * (2 * i + 1) = omega arith in e))
+    ∙ one_nibble x (2 * i + 1) (omega (arith, l)) laws h s
+    ∙ ap (λ j. at (taken x j)) (let e : 2 * i + 1 + 1 ≡ 2 * (i + 1) = omega arith in e))
 
-pub all_taken : (x : ℕ) → x < 2 ^ 128 → taken x 32 ≡ x
-all_taken x h = omega arith
+-- the product of what was taken of both halves of x, i octets of each
+abbrev pub halves_taken : ℕ → ℕ → ℕ → ℕ
+halves_taken x i h = bit_xor (block_product (taken (x / 2 ^ 64) (2 * i)) h) (shifts (block_product (taken (x % 2 ^ 64) (2 * i)) h) 64)
 
-pub rest_more : (x i : ℕ) → x / 2 ^ (4 * i) / 2 ^ 4 ≡ x / 2 ^ (4 * (i + 1))
-rest_more x i = shr-shr x (4 * i) 4 ∙ ap (λ k. x / 2 ^ k) (let e : 4 * i + 4 ≡ 4 * (i + 1) = omega arith in e)
+nothing_taken : (laws : PolynomialLaws) (x h : ℕ) → block_product (taken x 0) h ≡ 0
+nothing_taken laws x h = ap (λ v. block_product v h) (let e : taken x 0 ≡ 0 = omega arith in e) ∙ product_zero laws h
+
+pub none_taken : (laws : PolynomialLaws) (x h : ℕ) → shifts 0 128 ≡ halves_taken x 0 h
+none_taken laws x h =
+    shifts_whole 0 128
+    ∙ sym (ap₂ (λ a b. bit_xor a (shifts b 64)) (nothing_taken laws (x / 2 ^ 64) h) (nothing_taken laws (x % 2 ^ 64) h) ∙ ap (bit_xor 0) (shifts_whole 0 64))
+
+-- the code's step over both, whose four multiples these are
+pub one_taken : (laws : PolynomialLaws) (x i h sum even odd even_back odd_back : ℕ) → i < 8 → h < 2 ^ 128
+    → sum % 2 ^ 8 ≡ 0 → shifts sum 128 ≡ halves_taken x i h
+    → even ≡ block_product (x / 2 ^ 64 / 2 ^ (8 * i) / 2 ^ 4 % 16 * 2 ^ 124) h
+    → odd ≡ block_product (x / 2 ^ 64 / 2 ^ (8 * i) % 16 * 2 ^ 124) h
+    → even_back ≡ block_product (x % 2 ^ 64 / 2 ^ (8 * i) / 2 ^ 4 % 16 * 2 ^ 124) h
+    → odd_back ≡ block_product (x % 2 ^ 64 / 2 ^ (8 * i) % 16 * 2 ^ 124) h
+    → shifts (bit_xor (sum / 2 ^ 8) (added even odd even_back odd_back)) 128 ≡ halves_taken x (i + 1) h
+one_taken laws x i h sum even odd even_back odd_back l s z is is_even is_odd is_even_back is_odd_back =
+    let front = block_product (taken (x / 2 ^ 64) (2 * i)) h in
+    let back = block_product (taken (x % 2 ^ 64) (2 * i)) h in
+    one_step laws sum front back even odd even_back odd_back z is
+    ∙ ap₂ (λ f b. bit_xor f (shifts b 64))
+    (ap₂ (λ e o. bit_xor (shifts front 8) (bit_xor e (shifts o 4))) is_even is_odd ∙ one_octet laws (x / 2 ^ 64) i h l s)
+    (ap₂ (λ e o. bit_xor (shifts back 8) (bit_xor e (shifts o 4))) is_even_back is_odd_back ∙ one_octet laws (x % 2 ^ 64) i h l s)
+
+pub all_taken : (laws : PolynomialLaws) (x h : ℕ) → x < 2 ^ 128 → h < 2 ^ 128 → halves_taken x 8 h ≡ block_product x h
+all_taken laws x h small s =
+    let front : taken (x / 2 ^ 64) 16 ≡ x / 2 ^ 64 * 2 ^ 64 = omega (arith, small) in
+    let back : taken (x % 2 ^ 64) 16 ≡ x % 2 ^ 64 * 2 ^ 64 = omega arith in
+    ap₂ bit_xor
+    (ap (λ v. block_product v h) front)
+    (ap (λ v. shifts (block_product v h) 64) back ∙ sym (raised laws h (x % 2 ^ 64) 64 s (omega arith)))
+    ∙ sym (product_linear laws h (x / 2 ^ 64 * 2 ^ 64) (x % 2 ^ 64))
+    ∙ ap (λ v. block_product v h) (xor_shifted (x / 2 ^ 64) 64 (x % 2 ^ 64) (mod_below x (2 ^ 64) (omega arith)) ∙ shr_split x 64)
+
+pub rest_more : (x i : ℕ) → x / 2 ^ (8 * i) / 2 ^ 8 ≡ x / 2 ^ (8 * (i + 1))
+rest_more x i = shr-shr x (8 * i) 8 ∙ ap (λ k. x / 2 ^ k) (let e : 8 * i + 8 ≡ 8 * (i + 1) = omega arith in e)

@@ -21,6 +21,11 @@ block_product x y = reflect (polynomial_remainder 128 modulus 127 (polynomial_pr
 unfoldable pub shifted : ℕ → ℕ
 shifted v = bit_xor (v / 2) (v % 2 * (0xe1 * 2 ^ 120))
 
+-- a block times x ^ n
+unfoldable pub shifts : ℕ → ℕ → ℕ
+shifts v zero = v
+shifts v (suc n) = shifted (shifts v n)
+
 -- x multiplied n times by h
 unfoldable pub times_h : ℕ → ℕ → ℕ → ℕ
 times_h h zero x = x

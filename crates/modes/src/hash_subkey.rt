@@ -1,7 +1,8 @@
-//! The product of a block and the hash subkey, four bits a step (SP 800-38D, section 6.3).
-ghost use Rattle.std.specs.Prelude.{◌≡◌, ℕ, ◌*◌, ◌^◌, ◌<◌, slice_index};
+//! The product of a block and the hash subkey, four bits a look-up (SP 800-38D, section 6.3).
+ghost use Rattle.std.specs.Prelude.{◌≡◌, ℕ, ◌*◌, ◌%◌, ◌^◌, ◌<◌, slice_index};
 ghost use Rattle.modes.specs.Ghash.{block_product, shifted};
 
+use crate::unreduced::Unreduced;
 use aes::laws::polynomial_laws;
 
 /// The hash subkey H, with its products by the sixteen polynomials of degree below 4: multiple n is that by the block
@@ -44,18 +45,30 @@ impl HashSubkey {
         HashSubkey { h, multiples }
     }
 
-    /// The product of the block and H by Horner's rule, from the four bits of the highest powers of x on.
+    /// The product of the block and H by Horner's rule, over both halves of the block at once: its groups of four bits with
+    /// an even number are one chain, and those with an odd number, which is four bits on, another. Both are reduced once.
     pub(crate) fn times(&self, block: u128) -> u128
         ensures { result ≡ block_product block self.now.h }
     {
         polynomial_laws();
-        let mut product = 0;
-        let mut rest = block;
-        for _ in 0..32_u32 {
-            product = times_x4(product) ^ self.multiples[(rest & 15) as usize];
-            rest >>= 4;
+        let mut even = Unreduced::zero();
+        let mut odd = Unreduced::zero();
+        let mut front = (block >> 64) as u64;
+        let mut back = (block & 0xffff_ffff_ffff_ffff) as u64;
+        for _ in 0..8_u32 {
+            even = even.next(self.multiple(front >> 4), self.multiple(back >> 4));
+            odd = odd.next(self.multiple(front), self.multiple(back));
+            front >>= 8;
+            back >>= 8;
         }
-        product
+        even.plus(odd.shifted_right(4)).reduced()
+    }
+
+    /// The product of H and the block whose first four bits are the last of these, and whose others are 0.
+    fn multiple(&self, bits: u64) -> u128
+        ensures { result ≡ block_product (bits % 16 * 2 ^ 124) self.now.h }
+    {
+        self.multiples[(bits & 15) as usize]
     }
 }
 
@@ -68,13 +81,4 @@ fn times_x(v: u128) -> u128
     } else {
         (v >> 1) ^ (0xe1 << 120)
     }
-}
-
-/// The block times x ^ 4: the four bits that are shifted out, at x ^ 128, come back times 1 + x + x ^ 2 + x ^ 7.
-fn times_x4(v: u128) -> u128
-    ensures { result ≡ shifted (shifted (shifted (shifted v))) }
-{
-    polynomial_laws();
-    let out = v << 124;
-    (v >> 4) ^ (out ^ (out >> 1) ^ (out >> 2) ^ (out >> 7))
 }

@@ -19,6 +19,7 @@ mod ghash;
 mod hash_subkey;
 pub mod laws;
 mod partial_block;
+mod unreduced;
 
 pub use cbc::Cbc;
 pub use cbc_opening::cbc_open;

@@ -1,33 +1,60 @@
-use Rattle.std.proofs.Common.{◌≡◌, ◌*◌, ◌/◌, ◌%◌, ◌<◌, ◌^◌, bit_and, bit_xor, slice_index, ap, ap₂, ◌∙◌, arith}
-use Rattle.std.proofs.lemmas.Nat.{and_mask, mod_below}
-use Rattle.modes.specs.Ghash.{block_product}
-use Rattle.modes.proofs.Multiples.{shifts, taken, none_taken, all_taken, one_nibble, rest_more}
+use Rattle.std.proofs.Common.{◌≡◌, ◌+◌, ◌-◌, ◌*◌, ◌/◌, ◌%◌, ◌<◌, ◌^◌, bit_xor, ap, ap₂, ◌∙◌, arith}
+use Rattle.std.proofs.lemmas.Nat.{and_mask, mod-pow-add}
+use Rattle.modes.specs.Ghash.{shifts, block_product}
+use Rattle.modes.proofs.Chains.{chains, chains_next, zeros_next}
+use Rattle.modes.proofs.Multiples.{halves_taken, none_taken, one_taken, all_taken, rest_more}
 use Rattle.modes.proofs.hash_subkey.HashSubkey.times.Goals as goal
 
 pub loop-init : goal.loop-init
-loop-init c = record { product = none_taken c.polynomial_laws.ensures c.args.block c.args.self.now.h; rest = omega arith }
+loop-init c =
+    let none = ap₂ chains c.zero-even.ensures c.zero-odd.ensures in
+    record {
+      product = ap (λ v. shifts v 128) none ∙ none_taken c.polynomial_laws.ensures c.args.block c.args.self.now.h;
+      zeros = ap (λ v. v % 2 ^ 68) none;
+      front = omega arith;
+      back = and_mask c.args.block 64 ∙ (let e : c.args.block % 2 ^ 64 ≡ c.args.block % 2 ^ 64 / 2 ^ (8 * 0) = omega arith in e);
+    }
 
 pub loop-preserved : goal.loop-preserved
 loop-preserved c =
-    let laws = c.polynomial_laws.ensures in
-    let h = c.args.self.now.h in
     let x = c.args.block in
+    let h = c.args.self.now.h in
     let i = c.loop.counter in
-    let nibble = x / 2 ^ (4 * i) % 16 in
+    let sum = chains c.loop.even c.loop.odd in
+    let even = c.multiple.result in
+    let even_back = c.multiple-in-loop.result in
+    let odd = c.multiple-in-loop-2.result in
+    let odd_back = c.multiple-in-loop-3.result in
     let small : h < 2 ^ 128 = omega arith in
-    let is : bit_and c.loop.rest 15 ≡ nibble = and_mask c.loop.rest 4 ∙ ap (λ r. r % 16) c.loop.invariant.rest in
+    let zeros : sum % 2 ^ (60 - 8 * i + 8) ≡ 0 =
+    ap (λ k. sum % 2 ^ k) (let e : 60 - 8 * i + 8 ≡ 68 - 8 * i = omega (arith, c.loop-test.true) in e) ∙ c.loop.invariant.zeros in
+    let next = ap₂ chains c.next-even.ensures c.next-odd.ensures ∙ chains_next c.loop.even c.loop.odd even odd even_back odd_back in
     record {
       product =
-          ap₂ bit_xor
-          (c.times_x4.ensures ∙ ap (λ p. shifts p 4) c.loop.invariant.product)
-          (ap (slice_index c.args.self.now.multiples) is ∙ c.args.self.now.multiples_of_h nibble (mod_below (x / 2 ^ (4 * i)) 16 (omega arith)))
-          ∙ one_nibble x i c.loop-test.true laws h small;
-      rest = ap (λ r. r / 16) c.loop.invariant.rest ∙ rest_more x i;
+          ap (λ v. shifts v 128) next
+          ∙ one_taken c.polynomial_laws.ensures x i h sum even odd even_back odd_back c.loop-test.true small
+          (omega (arith, mod-pow-add sum (60 - 8 * i) 8, zeros))
+          c.loop.invariant.product
+          (c.multiple.ensures ∙ ap (λ r. block_product (r / 2 ^ 4 % 16 * 2 ^ 124) h) c.loop.invariant.front)
+          (c.multiple-in-loop-2.ensures ∙ ap (λ r. block_product (r % 16 * 2 ^ 124) h) c.loop.invariant.front)
+          (c.multiple-in-loop.ensures ∙ ap (λ r. block_product (r / 2 ^ 4 % 16 * 2 ^ 124) h) c.loop.invariant.back)
+          (c.multiple-in-loop-3.ensures ∙ ap (λ r. block_product (r % 16 * 2 ^ 124) h) c.loop.invariant.back);
+      zeros =
+          ap₂ (λ v k. v % 2 ^ k) next (let e : 68 - 8 * (i + 1) ≡ 60 - 8 * i = omega arith in e)
+          ∙ zeros_next sum (60 - 8 * i) even odd even_back odd_back (omega arith) zeros;
+      front = ap (λ r. r / 2 ^ 8) c.loop.invariant.front ∙ rest_more (x / 2 ^ 64) i;
+      back = ap (λ r. r / 2 ^ 8) c.loop.invariant.back ∙ rest_more (x % 2 ^ 64) i;
     }
 
 pub returns : goal.returns
 returns c =
-    let last : c.loop.counter ≡ 32 = omega arith in
-    let small : c.args.block < 2 ^ 128 = omega arith in
-    c.loop.invariant.product
-    ∙ ap (λ x. block_product x c.args.self.now.h) (ap (taken c.args.block) last ∙ all_taken c.args.block small)
+    let x = c.args.block in
+    let h = c.args.self.now.h in
+    let last : c.loop.counter ≡ 8 = omega arith in
+    let small : x < 2 ^ 128 = omega arith in
+    let small_h : h < 2 ^ 128 = omega arith in
+    c.reduced.ensures
+    ∙ ap (λ v. shifts v 128) (c.plus.ensures ∙ ap (bit_xor c.loop.even) c.shifted_right.ensures)
+    ∙ c.loop.invariant.product
+    ∙ ap (λ i. halves_taken x i h) last
+    ∙ all_taken c.polynomial_laws.ensures x h small small_h
