@@ -144,10 +144,17 @@ back_around s c = by_row (λ k. slice_index (back_from_column c s) k ≡ slice_i
     (ap (slice_index s) (let e : (c + 2) % 4 ≡ (c + 4 - 2) % 4 = omega arith in e))
     (ap (slice_index s) (let e : (c + 1) % 4 ≡ (c + 4 - 3) % 4 = omega arith in e))
 
--- each column multiplied by the inverse matrix
-pub inverse_mixed : (s : List ℕ) (c r : ℕ) → c < 4 → r < 4
-    → polynomial_sum (λ k. octet_product (slice_index (14 ∷ 9 ∷ 13 ∷ 11 ∷ []) ((r + 4 - k) % 4)) (octet (slice_index s c) k)) 4 ≡ at (inverse_mix_columns (block_of s)) r c
-inverse_mixed s c r hc h = mix_column (14 ∷ 9 ∷ 13 ∷ 11 ∷ []) inverse_mix inverse_mix_turned (block_of s) (octet (slice_index s c)) c hc (λ k l. sym (at-block s k c l hc)) r h
+-- turned rows and the inverse of the S-box, the sum with the round key and the inverse matrix
+pub inverse_round_mixed : (ks s : List ℕ) (m i c r : ℕ) → c < 4 → i ≡ 4 * m + c → r < 4
+    → polynomial_sum
+    (λ k. octet_product (slice_index (14 ∷ 9 ∷ 13 ∷ 11 ∷ []) ((r + 4 - k) % 4)) (bit_xor (inverse_s_box (octet (slice_index (back_from_column c s) k) k)) (word ks i k))) 4
+    ≡ at (inverse_mix_columns (add_round_key ks m (inverse_sub_bytes (inverse_shift_rows (block_of s))))) r c
+inverse_round_mixed ks s m i c r hc e h =
+    let b = inverse_sub_bytes (inverse_shift_rows (block_of s)) in
+    mix_column (14 ∷ 9 ∷ 13 ∷ 11 ∷ []) inverse_mix inverse_mix_turned (add_round_key ks m b) (λ k. bit_xor (inverse_s_box (octet (slice_index (back_from_column c s) k) k)) (word ks i k)) c hc
+    (λ k l.
+    ap₂ bit_xor (inverse_shift_sub_column s (back_from_column c s) c hc (back_around s c) k l) (ap (λ j. word ks j k) e)
+    ∙ sym (at-square (λ r c. bit_xor (at b r c) (word ks (4 * m + c) r)) k c l hc)) r h
 
 -- the S-box, turned rows and the matrix
 pub sub_shift_mixed : (s : List ℕ) (c r : ℕ) → c < 4 → r < 4

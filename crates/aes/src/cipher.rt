@@ -5,7 +5,7 @@ ghost use Rattle.aes.specs.InverseCipher.{inverse_cipher};
 ghost use Rattle.aes.specs.State.{sub_bytes, shift_rows, add_round_key};
 ghost use Rattle.aes.specs.Words.{block_of};
 
-use crate::inverse_state::{inverse_mix_columns, inverse_shift_sub};
+use crate::inverse_state::{inverse_round, inverse_shift_sub};
 use crate::state::{add_round_key, block_of, columns_of, sub_shift, sub_shift_mix};
 
 /// The last round, which mixes no columns.
@@ -35,10 +35,10 @@ pub(crate) fn inverse_cipher(round_keys: &[u8], nr: usize, b: &[u8; 16]) -> [u8;
     requires keys { 16 * nr + 16 ≤ length round_keys.now }
     ensures { result ≡ inverse_cipher nr round_keys.now b.now }
 {
-    let mut state = inverse_shift_sub(add_round_key(round_keys, nr, columns_of(b)));
+    let mut state = add_round_key(round_keys, nr, columns_of(b));
     for round in (1..nr).rev() {
-        let sum = add_round_key(round_keys, round, state);
-        state = inverse_shift_sub(inverse_mix_columns(sum));
+        let before = inverse_round(round_keys, round, state);
+        state = before;
     }
-    block_of(add_round_key(round_keys, 0, state))
+    block_of(add_round_key(round_keys, 0, inverse_shift_sub(state)))
 }

@@ -1,8 +1,9 @@
 //! The inverse steps of a round (FIPS 197, section 5.3). The sum with a round's key is its own inverse.
-ghost use Rattle.std.specs.Prelude.{◌≡◌, ℕ, ◌+◌, ◌-◌, ◌%◌, ◌<◌, [], ◌∷◌, slice_index};
+ghost use Rattle.std.specs.Prelude.{◌≡◌, ℕ, ◌+◌, ◌-◌, ◌*◌, ◌%◌, ◌≤◌, ◌<◌, bit_xor, [], ◌∷◌, length, slice_index};
 ghost use Rattle.aes.specs.InverseCipher.{inverse_s_box, inverse_sub_bytes, inverse_shift_rows, inverse_mix_columns};
 ghost use Rattle.aes.specs.Octet.{octet_product};
 ghost use Rattle.aes.specs.Polynomial.{polynomial_sum};
+ghost use Rattle.aes.specs.State.{word, add_round_key};
 ghost use Rattle.aes.specs.Words.{octet, block_of};
 
 use crate::state::turned_sum;
@@ -37,30 +38,43 @@ pub(crate) fn inverse_shift_sub(state: [u32; 4]) -> [u32; 4]
     ]
 }
 
-/// A column multiplied by the inverse matrix.
-fn inverse_mix_column(a: u32) -> u32
+/// A column whose octets stand in these four words: the inverse of the S-box on each octet, the sum with word i of the
+/// round keys, and the inverse matrix.
+fn inverse_round_column(round_keys: &[u8], i: usize, a: u32, b: u32, c: u32, d: u32) -> u32
+    requires { 4 * i + 4 ≤ length round_keys.now }
     ensures { (r : ℕ) → r < 4
         → octet result r
-        ≡ polynomial_sum (λ k. octet_product (slice_index (14 ∷ 9 ∷ 13 ∷ 11 ∷ []) ((r + 4 - k) % 4)) (octet a k)) 4 }
+        ≡ polynomial_sum
+        (λ k. octet_product
+        (slice_index (14 ∷ 9 ∷ 13 ∷ 11 ∷ []) ((r + 4 - k) % 4))
+        (bit_xor (inverse_s_box (octet (slice_index (a ∷ b ∷ c ∷ d ∷ []) k) k)) (word round_keys.now i k))) 4 }
 {
-    let [a0, a1, a2, a3] = a.to_le_bytes();
+    let [a0, _, _, _] = a.to_le_bytes();
+    let [_, b1, _, _] = b.to_le_bytes();
+    let [_, _, c2, _] = c.to_le_bytes();
+    let [_, _, _, d3] = d.to_le_bytes();
+    let n = 4 * i;
     turned_sum(
-        inverse_mix(a0),
-        inverse_mix(a1),
-        inverse_mix(a2),
-        inverse_mix(a3),
+        inverse_mix(unsubstitute(a0) ^ round_keys[n]),
+        inverse_mix(unsubstitute(b1) ^ round_keys[n + 1]),
+        inverse_mix(unsubstitute(c2) ^ round_keys[n + 2]),
+        inverse_mix(unsubstitute(d3) ^ round_keys[n + 3]),
     )
 }
 
-/// Each column multiplied by the inverse matrix (section 5.3.3).
-pub(crate) fn inverse_mix_columns(state: [u32; 4]) -> [u32; 4]
-    ensures { block_of result ≡ inverse_mix_columns (block_of state) }
+/// Each row turned to the right by its number and the inverse of the S-box on each octet, the sum with the key words of a
+/// round (section 5.1.4), and each column multiplied by the inverse matrix (section 5.3.3).
+pub(crate) fn inverse_round(round_keys: &[u8], round: usize, state: [u32; 4]) -> [u32; 4]
+    requires { 16 * round + 16 ≤ length round_keys.now }
+    ensures { block_of result
+        ≡ inverse_mix_columns (add_round_key round_keys.now round (inverse_sub_bytes (inverse_shift_rows (block_of state)))) }
 {
     let [a, b, c, d] = state;
+    let first = 4 * round;
     [
-        inverse_mix_column(a),
-        inverse_mix_column(b),
-        inverse_mix_column(c),
-        inverse_mix_column(d),
+        inverse_round_column(round_keys, first, a, d, c, b),
+        inverse_round_column(round_keys, first + 1, b, a, d, c),
+        inverse_round_column(round_keys, first + 2, c, b, a, d),
+        inverse_round_column(round_keys, first + 3, d, c, b, a),
     ]
 }
