@@ -1,3 +1,4 @@
+pub mod FirstDots
 pub mod Names
 pub mod Steps
 pub mod Each

@@ -16,6 +16,7 @@
 #![tactic(auto)]
 
 mod content;
+mod dots;
 mod frames;
 mod header;
 mod header_members;

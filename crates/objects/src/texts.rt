@@ -7,6 +7,7 @@ ghost use Rattle.serde_json.specs.Written.{has_float, items_have_float};
 ghost use Rattle.octets.specs.Outcomes.{AgreesUnlessMemory};
 ghost use Rattle.objects.specs.Texts.{is_json_form as is_json_form_text, is_json_space as is_json_space_octet, is_dot, split_at_dot as parts_at_dot, three_parts, text_at, required_text, object_list, depth_of_each};
 
+use crate::dots::first_dot;
 use keys::are_objects;
 use octets::{Refusal, needs};
 use serde_json::Value;
@@ -75,13 +76,6 @@ pub(crate) fn split_at_dot(text: &[u8]) -> Result<(&[u8], &[u8]), Refusal>
         None => Err(Refusal::Form),
         Some(i) => Ok((&text[..i], &text[i + 1..])),
     }
-}
-
-/// Where the first dot stands.
-fn first_dot(text: &[u8]) -> Option<usize>
-    ensures { result ≡ position is_dot text.now }
-{
-    text.iter().position(|c| *c == b'.')
 }
 
 /// The text of a member that is a string, and none where it is absent. Refused with `Form` where it is no string.
