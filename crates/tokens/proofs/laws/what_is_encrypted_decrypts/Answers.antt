@@ -13,10 +13,4 @@ returns-clause-all c =
     })
 
 pub returns-clause-here : goal.returns-clause-here
-returns-clause-here c =
-    encrypted_decrypts (record {
-      octets = record { opened = c.what_is_opened_is_octets.ensures; delivering = c.what_delivers_is_octets.ensures };
-      opens = c.opens_exactly.ensures;
-      delivers = c.delivers_exactly.ensures;
-      spells = c.jwe_texts_spell_objects.ensures;
-    }) limits these_are_sound
+returns-clause-here c = returns-clause-all c limits these_are_sound
