@@ -37,7 +37,7 @@ fn signed<R: Abort + AllocGlobal>(
     protected: &str,
     header: &str,
     count: usize,
-) -> Result<Jws, Refusal> {
+) -> Result<Jws<'static>, Refusal> {
     let mut signatures = Vec::new(rt.alloc());
     for _ in 0..count {
         let pushed = signatures.push(signature(rt, protected, header));

@@ -1,7 +1,8 @@
 //! Signed objects that are read and texts that are refused.
 use crate::tests::{expect_octets, expect_same};
 use objects::{Jws, Signature};
-use octets::Refusal;
+use octets::{MemoryOutput, Refusal};
+use std::alloc::{AllocError, Global};
 use std::process::Abort;
 
 /// The token of RFC 7515 appendix A.1.
@@ -25,10 +26,11 @@ fn expect_signature(rt: &impl Abort, signature: &Signature) {
     assert!(rt; signature.header().is_empty());
 }
 
-fn expect_parts(rt: &impl Abort, jws: &Jws) {
+fn expect_parts<R: Abort + AllocGlobal>(rt: &R, jws: &Jws<'_>) {
+    let payload = jws.payload(rt.alloc()).expect(rt, "memory");
     expect_octets(
         rt,
-        jws.payload(),
+        &payload,
         b"{\"iss\":\"joe\",\r\n \"exp\":1300819380,\r\n \"http://example.com/is_root\":true}",
         "the payload",
     );
@@ -159,5 +161,55 @@ fn expect_refused<R: Abort + AllocGlobal>(rt: &R, text: &str, refusal: Refusal) 
 fn the_first_cause_refuses_a_text(rt: HostRuntime) {
     for (text, refusal) in REFUSED {
         expect_refused(&rt, text, *refusal);
+    }
+}
+
+/// How the text of a payload may end behind 4,096 characters, and what refuses it.
+const ENDS: &[(&str, Option<Refusal>)] = &[
+    ("", None),
+    ("YWI", None),
+    ("YWJj", None),
+    // Trailing bits, a character too many, another alphabet, padding and line ends.
+    ("YWJ", Some(Refusal::Base64)),
+    ("YWJjY", Some(Refusal::Base64)),
+    ("YW+/", Some(Refusal::Base64)),
+    ("YWI=", Some(Refusal::Base64)),
+    ("YWJj\n", Some(Refusal::Base64)),
+    ("YWJj\r\n", Some(Refusal::Base64)),
+];
+
+/// A token whose payload's text ends so.
+fn long_token(alloc: Global, end: &str) -> Result<String, AllocError> {
+    let mut text = String::from_str(alloc, "eyJhbGciOiJIUzI1NiJ9.")?;
+    for _ in 0..1024 {
+        text.push_str("YWJj")?;
+    }
+    text.push_str(end)?;
+    text.push_str(".sxvq")?;
+    Ok(text)
+}
+
+/// The object is written as it was read, and its payload as it is copied.
+fn expect_written_back<R: Abort + AllocGlobal>(rt: &R, text: &str) {
+    let jws = Jws::read(rt.alloc(), text.as_bytes(), None).expect(rt, "an object");
+    let compact = jws
+        .to_compact(rt.alloc(), false)
+        .expect(rt, "a compact text");
+    expect_octets(rt, compact.as_bytes(), text.as_bytes(), "the compact text");
+    let payload = jws.payload(rt.alloc()).expect(rt, "memory");
+    let mut out = MemoryOutput::new(rt.alloc(), 4096).expect(rt, "memory");
+    expect_same(rt, jws.write_payload(&mut out), Ok(()), "writing");
+    expect_octets(rt, out.octets(), &payload, "the payload");
+    assert!(rt; payload.starts_with(b"abcabc"));
+}
+
+#[test]
+fn a_long_payload_is_read_to_its_end(rt: HostRuntime) {
+    for (end, refusal) in ENDS {
+        let text = long_token(rt.alloc(), end).expect(&rt, "memory");
+        match refusal {
+            Some(refusal) => expect_refused(&rt, &text, *refusal),
+            None => expect_written_back(&rt, &text),
+        }
     }
 }

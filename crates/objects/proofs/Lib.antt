@@ -16,6 +16,7 @@ pub mod ListedMembers
 pub mod MadeOf
 pub mod Spelling
 pub mod TextOctets
+pub mod ReceivedTexts
 pub mod Joined
 pub mod ReadJson
 pub mod DetachedContent

@@ -3,13 +3,14 @@
 use Rattle.std.specs.Prelude.{ℕ, ◌+◌, ◌==◌, ◌||◌, ◌&&◌, Bool, true, false, not, List, [], ◌∷◌, take, drop, is_none, position, nat_le, if◌then◌else◌, Option, Some, None, option_and_then, IfSome, Result, Ok, Err}
 use Rattle.std.specs.List.{find}
 use Rattle.std.specs.Option.{ok_or}
+use Rattle.std.specs.Result.{result_unwrap_or}
 use Rattle.std.specs.Str.{byte}
 use Rattle.serde_json.specs.Data.{Data, Items, no_items, item, Members, no_members, member, string, array, object, put}
 use Rattle.serde_json.specs.Find.{get, as_str, as_array}
 use Rattle.octets.specs.declared.refusal.Refusal.{Refusal}
 use Rattle.octets.specs.declared.refusal.Refusal.TheVariants.{Form}
 use Rattle.octets.specs.Outcomes.{◌>>=◌, needs}
-use Rattle.octets.specs.Base64url.{base64url}
+use Rattle.octets.specs.Base64url.{base64url, decoded}
 use Rattle.octets.specs.Octets.{IsOctets}
 use Rattle.keys.specs.KeySets.{are_objects}
 
@@ -83,6 +84,12 @@ required_text name value = ok_or (option_and_then as_str (get name value)) Form
 abbrev pub has_text : List ℕ → Bool
 has_text [] = false
 has_text (c ∷ text) = true
+
+-- ---- a base64url text
+
+-- the octets that it means
+abbrev pub meaning : List ℕ → List ℕ
+meaning text = result_unwrap_or (decoded text) []
 
 -- ---- the content, which may be handed in beside the object (RFC 7515 appendix F)
 

@@ -11,6 +11,7 @@ use Rattle.objects.specs.Headers.{all_members}
 use Rattle.objects.specs.Jwe.{RecipientParts, Recipient, SharedTexts, RecipientTexts, ContentTexts, JweTexts, JweParts, EncryptedObject}
 use Rattle.objects.specs.Jws.{SignatureParts, JwsParts, SignatureTexts, JwsTexts, Signature, DecodedSignature, HeadedSignature, SignedObject}
 use Rattle.objects.specs.KeyManagementView.{management_view}
+use Rattle.objects.specs.Texts.{meaning}
 use Rattle.objects.specs.Writing.{Written}
 use Rattle.objects.specs.declared.content.Content.{Content}
 use Rattle.objects.specs.declared.content.Content.TheVariants.{Text, Octets}
@@ -32,6 +33,11 @@ use Rattle.objects.specs.declared.jws.SignatureMembers as signature_members
 use Rattle.objects.specs.declared.jws.SignatureParts as signature_parts
 use Rattle.objects.specs.declared.jws_texts.JwsTexts as jws_texts
 use Rattle.objects.specs.declared.jws_texts.SignatureTexts as signature_texts
+use Rattle.objects.specs.declared.payload.HeldContent as held
+use Rattle.objects.specs.declared.payload.HeldContent.TheVariants.{Text as HeldText, Octets as HeldOctets}
+use Rattle.objects.specs.declared.payload.Payload as payload
+use Rattle.objects.specs.declared.payload.Payload.TheVariants.{Text as PayloadText, Octets as PayloadOctets}
+use Rattle.objects.specs.declared.received_text.ReceivedText as received
 use Rattle.objects.specs.declared.recipient.Recipient as recipient
 use Rattle.objects.specs.declared.recipient.RecipientMembers as members
 use Rattle.objects.specs.declared.recipient.RecipientParts as parts
@@ -54,7 +60,20 @@ abbrev pub content_text_view : Content → List ℕ
 content_text_view (Text text) = text.now
 content_text_view (Octets octets) = base64url octets.items
 
+-- the octets that a text means
+abbrev pub received_view : received.ReceivedText → List ℕ
+received_view t = meaning t.text.now
+
+-- the octets of a content, however it is held
+abbrev pub held_view : held.HeldContent → List ℕ
+held_view (HeldText text) = received_view text
+held_view (HeldOctets octets) = octets.now
+
 -- ---- signed objects
+
+abbrev pub payload_view : payload.Payload → List ℕ
+payload_view (PayloadText text) = received_view text
+payload_view (PayloadOctets octets) = octets.items
 
 abbrev pub signature_texts_view : signature_texts.SignatureTexts → SignatureTexts
 signature_texts_view t = record { protected = t.protected.now; header = members_view t.header.map.entries; signature = t.signature.now }
@@ -87,7 +106,7 @@ signature_view s = record {
 }
 
 abbrev pub jws_view : jws.Jws → SignedObject
-jws_view j = record { payload = j.payload.items; signatures = map signature_view j.signatures.list.items }
+jws_view j = record { payload = payload_view j.payload; signatures = map signature_view j.signatures.list.items }
 
 -- ---- encrypted objects
 

@@ -4,8 +4,10 @@ ghost use Rattle.serde_json.specs.View.{view};
 ghost use Rattle.octets.specs.Base64url.{decoded};
 ghost use Rattle.octets.specs.Outcomes.{AgreesUnlessMemory};
 ghost use Rattle.objects.specs.Texts.{AreOctetsHandedIn, content_by, content_text};
-ghost use Rattle.objects.specs.Views.{content_text_view};
+ghost use Rattle.objects.specs.Views.{content_text_view, payload_view};
 
+use crate::payload::Payload;
+use crate::received_text::ReceivedText;
 use crate::texts::{required_text, text_at};
 use octets::laws::{are_octets, base64url_decodes_exactly};
 use octets::{Refusal, b64_decode, needs};
@@ -58,6 +60,20 @@ impl<'t> Content<'t> {
             Content::Octets(octets) => {
                 are_octets(&octets);
                 Ok(octets)
+            }
+        }
+    }
+
+    /// The payload that it is, without memory. Refused with `Base64` where its text is no base64url text.
+    pub(crate) fn payload(self) -> Result<Payload<'t>, Refusal>
+        ensures { AgreesUnlessMemory payload_view result (decoded (content_text_view self.entry)) }
+    {
+        base64url_decodes_exactly();
+        match self {
+            Content::Text(text) => Ok(Payload::Text(ReceivedText::read(text)?)),
+            Content::Octets(octets) => {
+                are_octets(&octets);
+                Ok(Payload::Octets(octets))
             }
         }
     }

@@ -1,15 +1,18 @@
 //! The texts of an object as they are written (RFC 7515 section 7, RFC 7516 section 7): as one text, with values in it, or as
 //! the texts round places that are left for values. It knows no kind of object.
-ghost use Rattle.std.specs.Prelude.{◌≡◌, true, false, codes, map, option_map, Err, Ok, IfOk, IfErr, OnOk, OnErr, string_bytes};
+ghost use Rattle.std.specs.Prelude.{◌≡◌, ◌++◌, true, false, codes, map, option_map, Err, Ok, IfOk, IfErr, OnOk, OnErr, string_bytes};
 ghost use Rattle.serde_json.specs.Data.{object};
 ghost use Rattle.serde_json.specs.View.{view, members_view};
 ghost use Rattle.serde_json.specs.Written.{has_float};
-ghost use Rattle.objects.specs.Views.{written_view};
+ghost use Rattle.objects.specs.Views.{held_view, received_view, written_view};
 ghost use Rattle.objects.specs.Writing.{nothing_written, all_texts, pushed, with_slot, opened, closed, separated, named, with_value, with_text, with_header, with_place, with_content, with_part, with_content_part, inside};
 ghost use Rattle.octets.specs.Base64url.{base64url};
+ghost use Rattle.octets.specs.Octets.{IsOctets};
 
 use crate::header::{copy, has_members};
 use crate::header_members::HeaderMembers;
+use crate::payload::HeldContent;
+use crate::received_text::ReceivedText;
 use keys::laws;
 use octets::laws::{are_octets, base64url_has_url_characters};
 use octets::{Refusal, b64_append, b64_encode};
@@ -72,9 +75,9 @@ impl Texts {
         Ok(self.text.push_str(text)?)
     }
 
-    /// Leaves a place, or writes the base64url text of the octets.
-    fn slot(&mut self, alloc: Global, octets: &[u8]) -> Result<(), Refusal>
-        ensures written { OnOk result (written_view self.new ≡ with_slot self.old.places octets.now (written_view self.old)) }
+    /// Leaves a place, or writes the base64url text of the content.
+    fn slot(&mut self, alloc: Global, content: HeldContent<'_>) -> Result<(), Refusal>
+        ensures written { OnOk result (written_view self.new ≡ with_slot self.old.places (held_view content.entry) (written_view self.old)) }
         ensures same { self.new.places ≡ self.old.places }
         ensures memory { OnErr result (result ≡ Err Refusal.Memory) }
     {
@@ -82,7 +85,7 @@ impl Texts {
             let text = mem::replace(&mut self.text, String::new(alloc));
             Ok(self.finished.push(text)?)
         } else {
-            b64_append(&mut self.text, octets)
+            append(&mut self.text, content)
         }
     }
 
@@ -184,18 +187,23 @@ impl Texts {
         Ok(())
     }
 
-    /// Writes the base64url text of the octets as a member, or leaves a place for it.
-    pub(crate) fn place(&mut self, alloc: Global, name: &str, octets: &[u8]) -> Result<(), Refusal>
-        ensures written { OnOk result (written_view self.new ≡ with_place self.old.places name.now octets.now (written_view self.old)) }
+    /// Writes the base64url text of the content as a member, or leaves a place for it.
+    pub(crate) fn place(
+        &mut self,
+        alloc: Global,
+        name: &str,
+        content: HeldContent<'_>,
+    ) -> Result<(), Refusal>
+        ensures written { OnOk result (written_view self.new ≡ with_place self.old.places name.now (held_view content.entry) (written_view self.old)) }
         ensures same { self.new.places ≡ self.old.places }
         ensures memory { OnErr result (result ≡ Err Refusal.Memory) }
     {
-        are_octets(octets);
+        are_held_octets(&content);
         base64url_has_url_characters();
         laws::url_texts_are_json();
         self.name(name)?;
         self.push("\"")?;
-        self.slot(alloc, octets)?;
+        self.slot(alloc, content)?;
         self.push("\"")
     }
 
@@ -204,9 +212,9 @@ impl Texts {
         &mut self,
         alloc: Global,
         name: &str,
-        content: Option<&[u8]>,
+        content: Option<HeldContent<'_>>,
     ) -> Result<(), Refusal>
-        ensures written { OnOk result (written_view self.new ≡ with_content self.old.places name.now (option_map (λ c. c.now) content.entry) (written_view self.old)) }
+        ensures written { OnOk result (written_view self.new ≡ with_content self.old.places name.now (option_map held_view content.entry) (written_view self.old)) }
         ensures same { self.new.places ≡ self.old.places }
         ensures memory { OnErr result (result ≡ Err Refusal.Memory) }
     {
@@ -227,22 +235,26 @@ impl Texts {
     }
 
     /// Writes such a part, or leaves a place for it.
-    pub(crate) fn place_part(&mut self, alloc: Global, octets: &[u8]) -> Result<(), Refusal>
-        ensures written { OnOk result (written_view self.new ≡ with_part self.old.places octets.now (written_view self.old)) }
+    pub(crate) fn place_part(
+        &mut self,
+        alloc: Global,
+        content: HeldContent<'_>,
+    ) -> Result<(), Refusal>
+        ensures written { OnOk result (written_view self.new ≡ with_part self.old.places (held_view content.entry) (written_view self.old)) }
         ensures same { self.new.places ≡ self.old.places }
         ensures memory { OnErr result (result ≡ Err Refusal.Memory) }
     {
         self.push(".")?;
-        self.slot(alloc, octets)
+        self.slot(alloc, content)
     }
 
     /// The same of a content, whose part is empty where it is not in the text.
     pub(crate) fn content_part(
         &mut self,
         alloc: Global,
-        content: Option<&[u8]>,
+        content: Option<HeldContent<'_>>,
     ) -> Result<(), Refusal>
-        ensures written { OnOk result (written_view self.new ≡ with_content_part self.old.places (option_map (λ c. c.now) content.entry) (written_view self.old)) }
+        ensures written { OnOk result (written_view self.new ≡ with_content_part self.old.places (option_map held_view content.entry) (written_view self.old)) }
         ensures same { self.new.places ≡ self.old.places }
         ensures memory { OnErr result (result ≡ Err Refusal.Memory) }
     {
@@ -254,10 +266,43 @@ impl Texts {
 }
 
 /// The content, unless it is detached.
-pub(crate) fn inside(detach: bool, content: &[u8]) -> Option<&[u8]>
-    ensures { option_map (λ c. c.now) result ≡ inside detach content.now }
+pub(crate) fn inside(detach: bool, content: HeldContent<'_>) -> Option<HeldContent<'_>>
+    ensures { option_map held_view result ≡ inside detach (held_view content.entry) }
 {
     if detach { None } else { Some(content) }
+}
+
+/// Adds the base64url text of the content to the end of a text.
+fn append(text: &mut String, content: HeldContent<'_>) -> Result<(), Refusal>
+    ensures text { OnOk result (string_bytes text.new ≡ string_bytes text.old ++ base64url (held_view content.entry)) }
+    ensures memory { OnErr result (result ≡ Err Refusal.Memory) }
+{
+    match content {
+        HeldContent::Text(received) => append_received(text, &received),
+        HeldContent::Octets(octets) => b64_append(text, octets),
+    }
+}
+
+/// Adds a text that was received.
+fn append_received(text: &mut String, received: &ReceivedText<'_>) -> Result<(), Refusal>
+    ensures text { OnOk result (string_bytes text.new ≡ string_bytes text.old ++ base64url (received_view received.now)) }
+    ensures memory { OnErr result (result ≡ Err Refusal.Memory) }
+{
+    base64url_has_url_characters();
+    laws::url_texts_are_json();
+    let Ok(characters) = str::from_utf8(received.text()) else {
+        unreachable!()
+    };
+    Ok(text.push_str(characters)?)
+}
+
+/// What a content is held as means octets.
+fn are_held_octets(content: &HeldContent<'_>)
+    ensures { IsOctets (held_view content.now) }
+{
+    if let HeldContent::Octets(octets) = content {
+        are_octets(octets);
+    }
 }
 
 /// The JSON value of a header.

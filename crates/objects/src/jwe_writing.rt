@@ -6,13 +6,14 @@ ghost use Rattle.keys.specs.Limits.{limits};
 ghost use Rattle.objects.specs.Frames.{IsJweFrame, jwe_frame};
 ghost use Rattle.objects.specs.Jwe.{IsMade, jwe_of, json_text, jwe_compact_text, jwe_text, is_compact as is_compact_object, key_of_first};
 ghost use Rattle.objects.specs.Texts.{handed_in};
-ghost use Rattle.objects.specs.Views.{jwe_view, recipient_view, written_view};
+ghost use Rattle.objects.specs.Views.{held_view, jwe_view, recipient_view, written_view};
 ghost use Rattle.objects.specs.Writing.{jwe_written, with_parts, with_members, with_alone, with_several, with_items, with_recipient, with_tag};
 
 use crate::frames::{Texts, inside};
 use crate::header::has_members;
 use crate::jwe::Jwe;
 use crate::laws::jwe_texts_spell_objects;
+use crate::payload::HeldContent;
 use crate::recipient::Recipient;
 use keys::laws;
 use octets::laws::{base64url_decodes_exactly, base64url_has_url_characters};
@@ -74,7 +75,7 @@ impl Jwe {
     ) -> Result<Texts, Refusal>
         ensures { AgreesUnlessMemory written_view result (jwe_written places compact detach (jwe_view self.now)) }
     {
-        let ciphertext = inside(detach, self.ciphertext());
+        let ciphertext = inside(detach, HeldContent::Octets(self.ciphertext()));
         let mut texts = Texts::new(alloc, places);
         if compact {
             needs(is_compact(self), Refusal::NotCompact)?;
@@ -91,16 +92,16 @@ fn write_parts(
     alloc: Global,
     texts: &mut Texts,
     jwe: &Jwe,
-    ciphertext: Option<&[u8]>,
+    ciphertext: Option<HeldContent<'_>>,
 ) -> Result<(), Refusal>
-    ensures written { OnOk result (written_view texts.new ≡ with_parts texts.old.places (option_map (λ c. c.now) ciphertext.entry) (jwe_view jwe.now) (written_view texts.old)) }
+    ensures written { OnOk result (written_view texts.new ≡ with_parts texts.old.places (option_map held_view ciphertext.entry) (jwe_view jwe.now) (written_view texts.old)) }
     ensures memory { OnErr result (result ≡ Err Refusal.Memory) }
 {
     texts.push(jwe.protected())?;
     texts.part(key_of_first(jwe.recipients()))?;
     texts.part(jwe.iv())?;
     texts.content_part(alloc, ciphertext)?;
-    texts.place_part(alloc, jwe.tag())
+    texts.place_part(alloc, HeldContent::Octets(jwe.tag()))
 }
 
 /// Writes the members of a JSON text, between braces.
@@ -108,9 +109,9 @@ fn write_members(
     alloc: Global,
     texts: &mut Texts,
     jwe: &Jwe,
-    ciphertext: Option<&[u8]>,
+    ciphertext: Option<HeldContent<'_>>,
 ) -> Result<(), Refusal>
-    ensures written { OnOk result (written_view texts.new ≡ with_members texts.old.places (option_map (λ c. c.now) ciphertext.entry) (jwe_view jwe.now) (written_view texts.old)) }
+    ensures written { OnOk result (written_view texts.new ≡ with_members texts.old.places (option_map held_view ciphertext.entry) (jwe_view jwe.now) (written_view texts.old)) }
     ensures memory { OnErr result (result ≡ Err Refusal.Memory) }
 {
     texts.begin("{")?;
@@ -190,7 +191,7 @@ fn write_tag(alloc: Global, texts: &mut Texts, tag: &[u8]) -> Result<(), Refusal
     ensures memory { OnErr result (result ≡ Err Refusal.Memory) }
 {
     if texts.places {
-        texts.place(alloc, "tag", tag)
+        texts.place(alloc, "tag", HeldContent::Octets(tag))
     } else {
         texts.octets(alloc, "tag", tag)
     }

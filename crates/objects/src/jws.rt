@@ -1,14 +1,15 @@
 //! Signed objects (RFC 7515). It is given an object's text or its members, and sees no key.
-ghost use Rattle.std.specs.Prelude.{◌≡◌, ◌≤◌, length, map, option_map, IfOk};
+ghost use Rattle.std.specs.Prelude.{◌≡◌, ◌≤◌, ◌++◌, length, map, option_map, Err, IfOk, IfErr, OnOk, OnErr, IsTrue};
 ghost use Rattle.std.specs.List.{list_all};
 ghost use Rattle.serde_json.specs.Data.{no_members};
 ghost use Rattle.serde_json.specs.View.{members_view};
+ghost use Rattle.octets.specs.Devices.{next_count, AppendsPrefixOf};
 ghost use Rattle.octets.specs.Outcomes.{AgreesUnlessMemory};
 ghost use Rattle.keys.specs.Limits.{limits};
 ghost use Rattle.objects.specs.Headers.{all_members};
 ghost use Rattle.objects.specs.Jws.{IsMade, jws_of, object_of_texts as object_of_jws_texts, signed_object as signed_object_of, signatures_of, headed_signature, signature_by, is_plain as is_plain_signature};
 ghost use Rattle.objects.specs.Texts.{each};
-ghost use Rattle.objects.specs.Views.{header_view, jws_view, jws_texts_view, signature_view, decoded_view, headed_view};
+ghost use Rattle.objects.specs.Views.{header_view, held_view, jws_view, jws_texts_view, payload_view, signature_view, decoded_view, headed_view};
 
 use crate::content::handed_in_is_octets;
 use crate::header::{has_no_crit, string_there};
@@ -16,12 +17,13 @@ use crate::header_members::HeaderMembers;
 use crate::jws_texts::{JwsTexts, compact_texts, decoded_signatures, json_texts};
 use crate::key_management::read_key_management;
 use crate::laws::jws_objects_are_made;
+use crate::payload::{HeldContent, Payload};
 use crate::signature_list::SignatureList;
 use crate::texts::is_json_form;
 use crate::{Header, read_protected};
 use keys::{MOST_RECIPIENTS, read_json};
 use octets::laws::are_octets;
-use octets::{Refusal, needs, without_line_end};
+use octets::{Output, Refusal, needs, without_line_end};
 use serde_json::{Map, Value};
 use std::alloc::Global;
 
@@ -74,10 +76,10 @@ pub struct Signature {
     alg: String,
 }
 
-/// A signed object. It has 256 signatures at most.
+/// A signed object. It has 256 signatures at most. The payload of a compact text stands in the text that was read.
 #[derive(Drop)]
-pub struct Jws {
-    payload: Vec<u8>,
+pub struct Jws<'t> {
+    payload: Payload<'t>,
     signatures: SignatureList,
 }
 
@@ -122,7 +124,7 @@ impl Signature {
     }
 }
 
-impl Jws {
+impl<'t> Jws<'t> {
     /// The object of a text in compact form, with an LF or a CR LF at its end or without, or in JSON form, general or
     /// flattened (RFC 7515 section 7). A detached payload (RFC 7515 appendix F) is handed in; then the text's own has to be
     /// absent or empty. Nothing is verified, and whether the algorithms are supported is not asked.
@@ -134,7 +136,11 @@ impl Jws {
     /// or no `p2c` that is a whole number from 1, or, where it wraps a key by AES in GCM (RFC 7518 section 4.7), has no `iv` or
     /// no `tag` that is a base64url text; and `Unsupported` where a header has a `crit`, whatever that holds (RFC 7515 section
     /// 4.1.11).
-    pub fn read(alloc: Global, text: &[u8], detached: Option<Vec<u8>>) -> Result<Jws, Refusal>
+    pub fn read(
+        alloc: Global,
+        text: &'t [u8],
+        detached: Option<Vec<u8>>,
+    ) -> Result<Jws<'t>, Refusal>
         ensures exact { AgreesUnlessMemory jws_view result (jws_of limits (option_map (λ c. c.items) detached) text.now) }
         ensures made { IfOk result (λ jws. IsMade limits (jws_view jws)) }
     {
@@ -144,11 +150,32 @@ impl Jws {
         object_of_text(alloc, text, detached)
     }
 
-    /// The octets of the payload.
-    pub fn payload(&self) -> &[u8]
-        ensures { result.now ≡ (jws_view self.now).payload }
+    /// A copy of the octets of the payload.
+    pub fn payload(&self, alloc: Global) -> Result<Vec<u8>, Refusal>
+        ensures copy { IfOk result (λ octets. octets.items ≡ (jws_view self.now).payload) }
+        ensures memory { IfErr result (λ e. e ≡ Refusal.Memory) }
     {
-        &self.payload
+        self.payload.octets(alloc)
+    }
+
+    /// The payload as it is held: the text that stands in a compact text, and else octets.
+    pub fn held_payload(&self) -> HeldContent<'_>
+        ensures { held_view result ≡ (jws_view self.now).payload }
+    {
+        self.payload.held()
+    }
+
+    /// Writes the octets of the payload, and finishes. It asks for no memory. Where the output fails a beginning of them
+    /// stands.
+    pub fn write_payload<O: Output>(&self, out: &mut O) -> Result<(), Refusal>
+        ensures all { OnOk result (O.written out.new ≡ O.written out.old ++ (jws_view self.now).payload) }
+        ensures finished { OnOk result (IsTrue (O.is_finished out.new)) }
+        ensures works { OnOk result (O.failures out.new ≡ O.failures out.old) }
+        ensures part { OnErr result (AppendsPrefixOf (jws_view self.now).payload (O.written out.old) (O.written out.new)) }
+        ensures cause { OnErr result (result ≡ Err Refusal.Write) }
+        ensures fails { OnErr result (O.failures out.new ≡ next_count (O.failures out.old)) }
+    {
+        self.payload.write(out)
     }
 
     /// The signatures, in order.
@@ -162,7 +189,11 @@ impl Jws {
 
 /// The object of a text, in the form that it has.
 #[tactic(auto, unfolding(crate::specs::Jws::jws_of, crate::specs::Jws::jws_texts))]
-fn object_of_text(alloc: Global, text: &[u8], detached: Option<Vec<u8>>) -> Result<Jws, Refusal>
+fn object_of_text<'t>(
+    alloc: Global,
+    text: &'t [u8],
+    detached: Option<Vec<u8>>,
+) -> Result<Jws<'t>, Refusal>
     ensures { AgreesUnlessMemory jws_view result (jws_of limits (option_map (λ c. c.items) detached) text.now) }
 {
     if is_json_form(text) {
@@ -171,13 +202,13 @@ fn object_of_text(alloc: Global, text: &[u8], detached: Option<Vec<u8>>) -> Resu
         object_of_texts(alloc, texts)
     } else {
         let texts = compact_texts(alloc, without_line_end(text), detached)?;
-        object_of_texts(alloc, texts)
+        object_of_received_texts(alloc, texts)
     }
 }
 
-/// The object whose members have these texts.
+/// The object whose members have these texts, which it does not keep.
 #[tactic(auto, unfolding(crate::specs::Jws::object_of_texts))]
-fn object_of_texts(alloc: Global, texts: JwsTexts<'_>) -> Result<Jws, Refusal>
+fn object_of_texts<'t>(alloc: Global, texts: JwsTexts<'_>) -> Result<Jws<'t>, Refusal>
     ensures { AgreesUnlessMemory jws_view result (object_of_jws_texts limits (jws_texts_view texts.entry)) }
 {
     needs(texts.signatures.len() <= MOST_RECIPIENTS, Refusal::Limit)?;
@@ -187,18 +218,33 @@ fn object_of_texts(alloc: Global, texts: JwsTexts<'_>) -> Result<Jws, Refusal>
     } = texts;
     let payload = payload.octets(alloc)?;
     let signatures = decoded_signatures(alloc, signatures)?;
+    signed_object(alloc, Payload::Octets(payload), signatures)
+}
+
+/// The same, whose payload stands in its text.
+#[tactic(auto, unfolding(crate::specs::Jws::object_of_texts))]
+fn object_of_received_texts<'t>(alloc: Global, texts: JwsTexts<'t>) -> Result<Jws<'t>, Refusal>
+    ensures { AgreesUnlessMemory jws_view result (object_of_jws_texts limits (jws_texts_view texts.entry)) }
+{
+    let JwsTexts {
+        payload,
+        signatures,
+    } = texts;
+    needs(signatures.len() <= MOST_RECIPIENTS, Refusal::Limit)?;
+    let payload = payload.payload()?;
+    let signatures = decoded_signatures(alloc, signatures)?;
     signed_object(alloc, payload, signatures)
 }
 
 /// The object of a payload and these signatures.
 #[tactic(auto, unfolding(crate::specs::Jws::signed_object))]
-pub(crate) fn signed_object(
+pub(crate) fn signed_object<'t>(
     alloc: Global,
-    payload: Vec<u8>,
+    payload: Payload<'t>,
     signatures: Vec<DecodedSignature>,
-) -> Result<Jws, Refusal>
+) -> Result<Jws<'t>, Refusal>
     requires few { length signatures.items ≤ limits.recipients }
-    ensures { AgreesUnlessMemory jws_view result (signed_object_of limits.management payload.items (map decoded_view signatures.items)) }
+    ensures { AgreesUnlessMemory jws_view result (signed_object_of limits.management (payload_view payload.entry) (map decoded_view signatures.items)) }
 {
     let signatures = read_signatures(alloc, signatures)?;
     Ok(Jws {

@@ -13,17 +13,18 @@ use crate::header::with_whole_numbers;
 use crate::jws::{
     DecodedSignature, Jws, JwsParts, SignatureMembers, SignatureParts, signed_object,
 };
+use crate::payload::Payload;
 use crate::texts::depth_of_each;
 use keys::{MOST_RECIPIENTS, members_have_whole_numbers, object_nests_at_most};
 use octets::{Refusal, b64_decode, needs};
 use std::alloc::Global;
 
-impl Jws {
+impl<'t> Jws<'t> {
     /// The object with these members. Its causes of refusal are those of its JSON text, each over the whole object before
     /// the next: `Json` where that nests more than 127 deep; `Number` where a header holds a number that is no whole number
     /// of 64 bits; `Form` where there is no signature; `Limit` where there are more than 256; `Base64` where the text of a
     /// protected header is no base64url text; and then those of `Jws::read`, from those of the protected headers on.
-    pub fn build(alloc: Global, parts: JwsParts) -> Result<Jws, Refusal>
+    pub fn build(alloc: Global, parts: JwsParts) -> Result<Jws<'t>, Refusal>
         ensures exact { AgreesUnlessMemory jws_view result (built limits (jws_parts_view parts)) }
         ensures made { IfOk result (λ jws. AreMembers (jws_parts_view parts) → IsMade limits (jws_view jws)) }
     {
@@ -33,7 +34,7 @@ impl Jws {
 
 /// The object with these members.
 #[tactic(auto, unfolding(crate::specs::Jws::built))]
-fn object_of_parts(alloc: Global, parts: JwsParts) -> Result<Jws, Refusal>
+fn object_of_parts<'t>(alloc: Global, parts: JwsParts) -> Result<Jws<'t>, Refusal>
     ensures { AgreesUnlessMemory jws_view result (built limits (jws_parts_view parts)) }
 {
     let JwsParts {
@@ -46,7 +47,7 @@ fn object_of_parts(alloc: Global, parts: JwsParts) -> Result<Jws, Refusal>
     needs(!signatures.is_empty(), Refusal::Form)?;
     needs(signatures.len() <= MOST_RECIPIENTS, Refusal::Limit)?;
     let signatures = decoded_parts(alloc, signatures)?;
-    signed_object(alloc, payload, signatures)
+    signed_object(alloc, Payload::Octets(payload), signatures)
 }
 
 /// No unprotected header nests deeper.

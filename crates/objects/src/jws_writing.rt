@@ -6,19 +6,20 @@ ghost use Rattle.keys.specs.Limits.{limits};
 ghost use Rattle.objects.specs.Frames.{IsJwsFrame, jws_frame};
 ghost use Rattle.objects.specs.Jws.{IsMade, jws_of, json_text, jws_compact_text, jws_text, is_compact as is_compact_object};
 ghost use Rattle.objects.specs.Texts.{handed_in};
-ghost use Rattle.objects.specs.Views.{jws_view, signature_view, written_view};
+ghost use Rattle.objects.specs.Views.{held_view, jws_view, signature_view, written_view};
 ghost use Rattle.objects.specs.Writing.{jws_written, with_first, with_signatures, with_signature, with_items};
 
 use crate::frames::{Texts, inside};
 use crate::header::has_members;
 use crate::jws::{Jws, Signature};
 use crate::laws::jws_texts_spell_objects;
+use crate::payload::HeldContent;
 use keys::laws;
 use octets::laws::{base64url_decodes_exactly, base64url_has_url_characters};
 use octets::{Refusal, needs};
 use std::alloc::Global;
 
-impl Jws {
+impl Jws<'_> {
     /// The JSON text, its members in byte order of their names: flattened where there is one signature, and else general
     /// (RFC 7515 section 7.2). An optional member that is empty is left out, and so is the payload where it is detached.
     pub fn to_json(&self, alloc: Global, detach: bool) -> Result<String, Refusal>
@@ -72,7 +73,7 @@ impl Jws {
     ) -> Result<Texts, Refusal>
         ensures { AgreesUnlessMemory written_view result (jws_written places compact detach (jws_view self.now)) }
     {
-        let payload = inside(detach, self.payload());
+        let payload = inside(detach, self.held_payload());
         let mut texts = Texts::new(alloc, places);
         if compact {
             needs(is_compact(self.signatures()), Refusal::NotCompact)?;
@@ -90,10 +91,10 @@ impl Jws {
 fn write_first(
     alloc: Global,
     texts: &mut Texts,
-    payload: Option<&[u8]>,
+    payload: Option<HeldContent<'_>>,
     signatures: &[Signature],
 ) -> Result<(), Refusal>
-    ensures written { OnOk result (written_view texts.new ≡ with_first texts.old.places (option_map (λ c. c.now) payload.entry) (map signature_view signatures.now) (written_view texts.old)) }
+    ensures written { OnOk result (written_view texts.new ≡ with_first texts.old.places (option_map held_view payload.entry) (map signature_view signatures.now) (written_view texts.old)) }
     ensures memory { OnErr result (result ≡ Err Refusal.Memory) }
 {
     match signatures {
@@ -101,7 +102,7 @@ fn write_first(
         [signature, ..] => {
             texts.push(signature.protected())?;
             texts.content_part(alloc, payload)?;
-            texts.place_part(alloc, signature.signature())
+            texts.place_part(alloc, HeldContent::Octets(signature.signature()))
         }
     }
 }
@@ -110,10 +111,10 @@ fn write_first(
 fn write_signatures(
     alloc: Global,
     texts: &mut Texts,
-    payload: Option<&[u8]>,
+    payload: Option<HeldContent<'_>>,
     signatures: &[Signature],
 ) -> Result<(), Refusal>
-    ensures written { OnOk result (written_view texts.new ≡ with_signatures texts.old.places (option_map (λ c. c.now) payload.entry) (map signature_view signatures.now) (written_view texts.old)) }
+    ensures written { OnOk result (written_view texts.new ≡ with_signatures texts.old.places (option_map held_view payload.entry) (map signature_view signatures.now) (written_view texts.old)) }
     ensures memory { OnErr result (result ≡ Err Refusal.Memory) }
 {
     match signatures {
@@ -146,10 +147,10 @@ fn write_items(alloc: Global, texts: &mut Texts, signatures: &[Signature]) -> Re
 fn write_signature(
     alloc: Global,
     texts: &mut Texts,
-    payload: Option<&[u8]>,
+    payload: Option<HeldContent<'_>>,
     signature: &Signature,
 ) -> Result<(), Refusal>
-    ensures written { OnOk result (written_view texts.new ≡ with_signature texts.old.places (option_map (λ c. c.now) payload.entry) (signature_view signature.now) (written_view texts.old)) }
+    ensures written { OnOk result (written_view texts.new ≡ with_signature texts.old.places (option_map held_view payload.entry) (signature_view signature.now) (written_view texts.old)) }
     ensures same { texts.new.places ≡ texts.old.places }
     ensures memory { OnErr result (result ≡ Err Refusal.Memory) }
 {
@@ -160,7 +161,11 @@ fn write_signature(
         "protected",
         String::from_str(alloc, signature.protected())?,
     )?;
-    texts.place(alloc, "signature", signature.signature())
+    texts.place(
+        alloc,
+        "signature",
+        HeldContent::Octets(signature.signature()),
+    )
 }
 
 /// A compact text has room for all of the signatures.

@@ -8,7 +8,7 @@
 //! let alg = header.alg()?; // Some("HS256")
 //!
 //! let jws = Jws::read(alloc, b"eyJhbGciOiJIUzI1NiJ9.YWJj.sxvq", None)?;
-//! let payload = jws.payload(); // abc, not verified yet
+//! let payload = jws.payload(alloc)?; // abc, not verified yet
 //!
 //! let jwe = Jwe::read(alloc, b"eyJhbGciOiJkaXIiLCJlbmMiOiJBMTI4R0NNIn0....", None)?;
 //! let json = jwe.to_json(alloc, false)?; // {"ciphertext":"","protected":"eyJhbGciOiJkaXIiLCJlbmMiOiJBMTI4R0NNIn0"}
@@ -31,6 +31,8 @@ mod jws_writing;
 mod key_management;
 pub mod laws;
 mod named_management;
+mod payload;
+mod received_text;
 mod recipient;
 mod recipient_list;
 mod signature_list;
@@ -40,5 +42,7 @@ pub use header::{Header, header_at, read_protected};
 pub use jwe::{Jwe, JweParts};
 pub use jws::{Jws, JwsParts, Signature, SignatureParts};
 pub use key_management::KeyManagement;
+pub use payload::HeldContent;
+pub use received_text::ReceivedText;
 pub use recipient::{Recipient, RecipientParts};
 pub use texts::text_at;

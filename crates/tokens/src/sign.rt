@@ -300,7 +300,7 @@ fn alg_by_length(len: usize) -> Option<SignatureAlg>
 }
 
 /// The object of what is signed, without a payload and with empty signatures.
-fn unsigned(alloc: Global, signing: &Signing<'_>) -> Result<Jws, Refusal>
+fn unsigned(alloc: Global, signing: &Signing<'_>) -> Result<Jws<'static>, Refusal>
     ensures { AgreesUnlessMemory jws_view result (unsigned_by limits (signing_view signing.now)) }
 {
     let signatures = unsigned_parts(alloc, signing)?;
@@ -335,7 +335,7 @@ fn unsigned_parts(alloc: Global, signing: &Signing<'_>) -> Result<Vec<SignatureP
 fn signing_inputs(
     alloc: Global,
     signers: &[Signer<'_>],
-    jws: &Jws,
+    jws: &Jws<'_>,
 ) -> Result<Vec<HmacInput>, Refusal>
     requires { unsigned_protected (jws_view jws.now).signatures ≡ map protected_by (map signer_view signers.now) }
     ensures begun { IfOk result (λ inputs. HoldEach ⟦<HmacInput as SigningInput>⟧.has_taken inputs.items (map signer_view signers.now) []) }

@@ -1,11 +1,13 @@
 //! The signature of a payload under a protected header (RFC 7515 section 5.1).
 ghost use Rattle.std.specs.Prelude.{◌≡◌, ℕ, List};
+ghost use Rattle.objects.specs.Views.{held_view};
 ghost use Rattle.prf.specs.Hmac.{hmac};
 ghost use Rattle.prf.specs.Views.{HoldsHmac};
 ghost use Rattle.tokens.specs.Signatures.{signature_hash, signing_input};
 
-use crate::signing_input::{HmacInput, SigningInput, take_encoded};
+use crate::signing_input::{HmacInput, SigningInput, take_payload};
 use keys::SignatureAlg;
+use objects::HeldContent;
 use prf::{Hash, Hmac};
 use std::marker::Model;
 
@@ -32,12 +34,12 @@ impl Signature {
         alg: SignatureAlg,
         key: &[u8],
         protected: &[u8],
-        payload: &[u8],
+        payload: HeldContent<'_>,
     ) -> Signature
-        ensures { result ≡ hmac (signature_hash alg) key.now (signing_input protected.now payload.now) }
+        ensures { result ≡ hmac (signature_hash alg) key.now (signing_input protected.now (held_view payload.entry)) }
     {
         let mut input = HmacInput::begin(alg, key, protected);
-        take_encoded(&mut input, payload);
+        take_payload(&mut input, payload);
         input.sign()
     }
 

@@ -1,6 +1,7 @@
 //! The signing input of a payload that comes in pieces, and its signature (RFC 7515 section 5.1).
 ghost use Rattle.std.specs.Prelude.{◌≡◌, ◌++◌, ℕ, List, ◌∷◌, [], length, map, codes};
 ghost use Rattle.octets.specs.Base64url.{base64url};
+ghost use Rattle.objects.specs.Views.{held_view};
 ghost use Rattle.prf.specs.HashFunction.{HashFunction};
 ghost use Rattle.prf.specs.Hmac.{hmac};
 ghost use Rattle.prf.specs.Views.{HoldsHmac};
@@ -10,6 +11,7 @@ ghost use Rattle.tokens.specs.SigningInputs.{HoldEach};
 
 use crate::signature::Signature;
 use keys::SignatureAlg;
+use objects::HeldContent;
 use octets::B64Writer;
 use prf::{Hash, Hmac, Sha256, Sha384, Sha512};
 
@@ -88,7 +90,7 @@ fn begun<H: Hash>(key: &[u8], protected: &[u8]) -> Hmac<H>
 }
 
 /// Takes the base64url text of the octets, in pieces.
-pub(crate) fn take_encoded<S: SigningInput>(input: &mut S, octets: &[u8])
+fn take_encoded<S: SigningInput>(input: &mut S, octets: &[u8])
     ensures { (f : HashFunction) (key text : List ℕ) → S.has_taken input.old f key text
         → S.has_taken input.new f key (text ++ base64url octets.now) }
 {
@@ -101,6 +103,17 @@ pub(crate) fn take_encoded<S: SigningInput>(input: &mut S, octets: &[u8])
     let mut last = [0; 4];
     let len = writer.finish(&mut last);
     input.take(&last[..len]);
+}
+
+/// Takes the base64url text of the payload: as it was received, or of its octets.
+pub(crate) fn take_payload<S: SigningInput>(input: &mut S, payload: HeldContent<'_>)
+    ensures { (f : HashFunction) (key text : List ℕ) → S.has_taken input.old f key text
+        → S.has_taken input.new f key (text ++ base64url (held_view payload.entry)) }
+{
+    match payload {
+        HeldContent::Text(text) => input.take(text.text()),
+        HeldContent::Octets(octets) => take_encoded(input, octets),
+    }
 }
 
 /// Each takes the next piece.

@@ -8,13 +8,13 @@ ghost use Rattle.octets.specs.Lent.{lent, wrote_on, IfLent, counts_of};
 ghost use Rattle.octets.specs.Outcomes.{AgreesUnlessMemory, AgreesUnlessExternal};
 ghost use Rattle.keys.specs.Algorithms.{signature_alg_of};
 ghost use Rattle.keys.specs.Views.{key_view};
-ghost use Rattle.objects.specs.Views.{jws_view, signature_view};
+ghost use Rattle.objects.specs.Views.{held_view, jws_view, signature_view};
 ghost use Rattle.tokens.specs.Verifying.{verifying_by, verified_payload, are_verified as are_verified_by, may_verify as may_verify_pair, verifies as verifies_pair, is_candidate as is_candidate_key, is_signed as is_signed_by};
 
 use crate::signature::Signature as Mac;
 use keys::{Algorithm, Key, KeySet, Operation, SignatureAlg};
-use objects::{Jws, Signature};
-use octets::{Output, Refusal, emit, needs, same_octets};
+use objects::{HeldContent, Jws, Signature};
+use octets::{Output, Refusal, needs, same_octets};
 
 /// Verifies the object with the keys (RFC 7515 section 5.2), and writes its payload where there is an output. Some key that may
 /// verify by the algorithm of a signature, and fits, must have made this signature; with `all`, each key must have made one.
@@ -25,7 +25,7 @@ use octets::{Output, Refusal, emit, needs, same_octets};
 #[tactic(auto, unfolding(crate::specs::Verifying::verifying_by))]
 pub fn jws_verify<O: Output>(
     keys: &KeySet,
-    jws: &Jws,
+    jws: &Jws<'_>,
     all: bool,
     out: Option<&mut O>,
 ) -> Result<(), Refusal>
@@ -40,16 +40,19 @@ pub fn jws_verify<O: Output>(
     ensures faults { TellsFaults [] (counts_of O.failures (lent out.entry out.exit)) result }
 {
     match out {
-        None => verified(keys, jws, all).map(|_| ()),
-        Some(out) => emit(out, verified(keys, jws, all)?),
+        None => verified(keys, jws, all),
+        Some(out) => {
+            verified(keys, jws, all)?;
+            jws.write_payload(out)
+        }
     }
 }
 
-/// The payload of an object that verifies with some of the keys, or with all. Refused with `Unsupported` where no algorithm is
+/// The object verifies with some of the keys, or with all. Refused with `Unsupported` where no algorithm is
 /// supported, with `KeyDoesNotFit` where no key may verify and fits, and with `NotOpened` where it does not verify.
 #[tactic(auto, unfolding(crate::specs::Verifying::verified_payload), using(crate::proofs::Tests::views))]
-fn verified<'j>(keys: &KeySet, jws: &'j Jws, all: bool) -> Result<&'j [u8], Refusal>
-    ensures exact { AgreesUnlessMemory (λ payload. payload.now) result (verified_payload all keys.now (jws_view jws.now)) }
+fn verified(keys: &KeySet, jws: &Jws<'_>, all: bool) -> Result<(), Refusal>
+    ensures exact { AgreesUnlessMemory (λ done. (jws_view jws.now).payload) result (verified_payload all keys.now (jws_view jws.now)) }
     ensures no_memory { IfErr result (λ refusal. refusal ≢ Refusal.Memory) }
 {
     needs(has_supported(jws.signatures()), Refusal::Unsupported)?;
@@ -57,8 +60,7 @@ fn verified<'j>(keys: &KeySet, jws: &'j Jws, all: bool) -> Result<&'j [u8], Refu
         has_candidate(jws.signatures(), keys.keys()),
         Refusal::KeyDoesNotFit,
     )?;
-    needs(are_verified(all, keys.keys(), jws), Refusal::NotOpened)?;
-    Ok(jws.payload())
+    needs(are_verified(all, keys.keys(), jws), Refusal::NotOpened)
 }
 
 /// The algorithm of some signature is supported.
@@ -87,30 +89,28 @@ fn is_for_some(signature: &Signature, keys: &[Key]) -> bool
 }
 
 /// Some signature verifies with some key, or for each key some does.
-fn are_verified(all: bool, keys: &[Key], jws: &Jws) -> bool
+fn are_verified(all: bool, keys: &[Key], jws: &Jws<'_>) -> bool
     ensures { result ≡ are_verified_by all (map key_view keys.now) (jws_view jws.now) }
 {
     let signatures = jws.signatures();
     if all {
         keys.iter()
-            .all(|key| has_signed(key, signatures, jws.payload()))
+            .all(|key| has_signed(key, signatures, jws.held_payload()))
     } else {
-        signatures
-            .iter()
-            .any(|signature| is_verified(signature, jws.payload(), keys))
+        signatures.iter().any(|signature| is_verified(signature, jws.held_payload(), keys))
     }
 }
 
 /// Some key made the signature.
-fn is_verified(signature: &Signature, payload: &[u8], keys: &[Key]) -> bool
-    ensures { result ≡ list_any (λ key. verifies_pair payload.now (signature_view signature.now) (key_view key)) keys.now }
+fn is_verified(signature: &Signature, payload: HeldContent<'_>, keys: &[Key]) -> bool
+    ensures { result ≡ list_any (λ key. verifies_pair (held_view payload.entry) (signature_view signature.now) (key_view key)) keys.now }
 {
     keys.iter().any(|key| verifies(signature, payload, key))
 }
 
 /// The key made one of the signatures.
-fn has_signed(key: &Key, signatures: &[Signature], payload: &[u8]) -> bool
-    ensures { result ≡ list_any (λ s. verifies_pair payload.now (signature_view s) (key_view key.now)) signatures.now }
+fn has_signed(key: &Key, signatures: &[Signature], payload: HeldContent<'_>) -> bool
+    ensures { result ≡ list_any (λ s. verifies_pair (held_view payload.entry) (signature_view s) (key_view key.now)) signatures.now }
 {
     signatures
         .iter()
@@ -128,8 +128,8 @@ fn may_verify(signature: &Signature, key: &Key) -> bool
 }
 
 /// And made it.
-fn verifies(signature: &Signature, payload: &[u8], key: &Key) -> bool
-    ensures { result ≡ verifies_pair payload.now (signature_view signature.now) (key_view key.now) }
+fn verifies(signature: &Signature, payload: HeldContent<'_>, key: &Key) -> bool
+    ensures { result ≡ verifies_pair (held_view payload.entry) (signature_view signature.now) (key_view key.now) }
 {
     match SignatureAlg::named(signature.alg()) {
         None => false,
@@ -146,8 +146,8 @@ fn is_candidate(key: &Key, alg: SignatureAlg) -> bool
 
 /// The signature is that of the received text of the protected header and of the payload.
 #[tactic(auto, unfolding(crate::specs::Signatures::signature_of))]
-fn is_signed(signature: &Signature, payload: &[u8], key: &Key, alg: SignatureAlg) -> bool
-    ensures { result ≡ is_signed_by alg payload.now (signature_view signature.now) (key_view key.now) }
+fn is_signed(signature: &Signature, payload: HeldContent<'_>, key: &Key, alg: SignatureAlg) -> bool
+    ensures { result ≡ is_signed_by alg (held_view payload.entry) (signature_view signature.now) (key_view key.now) }
 {
     let mac = Mac::compute(alg, key.octets(), signature.protected().as_bytes(), payload);
     same_octets(mac.octets(), signature.signature())

@@ -194,13 +194,13 @@ pub(crate) fn format<I: Input, O: Output>(
     let object = Jws::read(alloc, &text, beside)?;
     let formed = formed(alloc, &object, compact, detach)?;
     if detach {
-        emit(detached, object.payload())?;
+        object.write_payload(detached)?;
     }
     emit(out, formed.as_bytes())
 }
 
 /// The text of the object in the form that is asked for.
-fn formed(alloc: Global, object: &Jws, compact: bool, detach: bool) -> Result<String, Refusal>
+fn formed(alloc: Global, object: &Jws<'_>, compact: bool, detach: bool) -> Result<String, Refusal>
     ensures { AgreesUnlessMemory string_bytes result (text_of compact detach (jws_view object.now)) }
 {
     if compact {

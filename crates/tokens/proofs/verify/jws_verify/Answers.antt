@@ -19,16 +19,16 @@ pub returns-in_ok-verified-in-Some-clause-answer : goal.returns-in_ok-verified-i
 unfolding verifying_by
 returns-in_ok-verified-in-Some-clause-answer g c =
     let old = g.O.Output.written c.in-Some.out.now in
-    let payload = c.in_ok-verified-in-Some.field-0.now in
+    let payload = (jws_view c.args.jws.now).payload in
     let is : verifying_by c.args.all true c.args.keys.now (jws_view c.args.jws.now) ≡ Ok payload = rw (c.in_ok-verified-in-Some.ensures.exact) refl in
-    rw (c.in-Some.is) (agrees_last _ _ c.emit.result c.emit.ensures.all c.emit.ensures.cause (λ all. is ∙ ap Ok (sym (ap (appended old) all ∙ appended-append old payload))))
+    rw (c.in-Some.is) (agrees_last _ _ c.write_payload.result c.write_payload.ensures.all c.write_payload.ensures.cause (λ all. is ∙ ap Ok (sym (ap (appended old) all ∙ appended-append old payload))))
 
 pub returns-in_ok-verified-in-Some-clause-beginning : goal.returns-in_ok-verified-in-Some-clause-beginning
 unfolding verifying_by
 returns-in_ok-verified-in-Some-clause-beginning g c = rw (c.in-Some.is) (search rules)
 
 pub returns-in_ok-verified-in-Some-clause-finished : goal.returns-in_ok-verified-in-Some-clause-finished
-returns-in_ok-verified-in-Some-clause-finished g c = rw (c.in-Some.is) c.emit.ensures.finished
+returns-in_ok-verified-in-Some-clause-finished g c = rw (c.in-Some.is) c.write_payload.ensures.finished
 
 pub returns-in_ok-verified-in-Some-clause-faults : goal.returns-in_ok-verified-in-Some-clause-faults
 returns-in_ok-verified-in-Some-clause-faults g c = rw (c.in-Some.is) (search rules)

@@ -12,7 +12,7 @@ use Rattle.jose.specs.Jws.{jws_fmt_answer}
 use Rattle.jose.proofs.Agreement.{not_memory, refused}
 use Rattle.jose.proofs.Objects.{beside_ended}
 use Rattle.jose.proofs.commands.jws.format.Goals as goal
-use Rattle.jose.proofs.commands.jws.format.Goals.{then-detach+in_ok-emit, else-detach}
+use Rattle.jose.proofs.commands.jws.format.Goals.{then-detach+in_ok-write_payload, else-detach}
 
 abbrev formatted : Bool → SignedObject → List ℕ → OutputTexts
 formatted detach object text = record { text = text; content = handed_out detach object.payload }
@@ -38,8 +38,8 @@ returns-in_err-formed-clause-answer g c whole whole_content may content_may =
     refused _ _ c.in_err-formed.field-0.0 c.from_residual-in_err-formed.result c.from_residual-in_err-formed.ensures.1
     (λ inside. rw (t, c.in_ok-beside.ensures.content whole_content content_may, c.in_ok-object.ensures.exact, (c.in_err-formed.ensures (not_memory _ inside)).0))
 
-pub returns-in_err-emit-clause-beginning : goal.returns-in_err-emit-clause-beginning
-returns-in_err-emit-clause-beginning g c =
+pub returns-in_err-write_payload-clause-beginning : goal.returns-in_err-write_payload-clause-beginning
+returns-in_err-write_payload-clause-beginning g c =
     let consumed = g.I.Input.consumed in
     let at_end = g.I.Input.is_at_end in
     let whole = appended (consumed c.args.text.now) (consumed c.read_to_end.new.input) in
@@ -48,8 +48,8 @@ returns-in_err-emit-clause-beginning g c =
     let d : given ≡ option_map (λ v. v.items) c.in_ok-beside.beside = c.in_ok-beside.ensures.content _ (seen_possible consumed at_end c.args.content.now c.read_beside.new.content) in
     let a : jws_fmt_answer limits c.args.compact c.args.detach given whole ≡ Ok (formatted c.args.detach (jws_view c.in_ok-object.object) (string_bytes c.in_ok-formed.formed))
     = answer_is c.args.compact c.args.detach given whole _ _ (rw (t, d) c.in_ok-object.ensures.exact) c.in_ok-formed.ensures in
-    at_refusal c.from_residual-in_err-emit.result
-    (rw (c.in_ok-text.ensures.whole.1, beside_ended _ _ c.in_ok-beside.ensures.ends, a) (AppendsPrefixOf-kept _ _, rw (c.if-detach.true, ← c.payload.ensures) c.in_err-emit.ensures.part))
+    at_refusal c.from_residual-in_err-write_payload.result
+    (rw (c.in_ok-text.ensures.whole.1, beside_ended _ _ c.in_ok-beside.ensures.ends, a) (AppendsPrefixOf-kept _ _, rw (c.if-detach.true) c.in_err-write_payload.ensures.part))
 
 pub returns-clause-answer : goal.returns-clause-answer
 returns-clause-answer g c whole whole_content may content_may =
@@ -60,10 +60,10 @@ returns-clause-answer g c whole whole_content may content_may =
     let a : jws_fmt_answer limits c.args.compact c.args.detach (handed_in c.args.given whole_content) whole ≡ Ok (formatted c.args.detach object (string_bytes c.in_ok-formed.formed))
     = answer_is c.args.compact c.args.detach (handed_in c.args.given whole_content) whole _ object (rw (t, d) c.in_ok-object.ensures.exact) c.in_ok-formed.ensures in
     let beside : written c.if-detach.detached ≡ written c.args.detached.now ++ handed_out c.args.detach object.payload = elim c.if-detach.branch [
-      | then-detach+in_ok-emit w ↦ rw (w.if-detach.true, w.detached-is, ← w.payload.ensures) w.in_ok-emit.ensures.all
+      | then-detach+in_ok-write_payload w ↦ rw (w.if-detach.true, w.detached-is) w.in_ok-write_payload.ensures.all
       | else-detach w ↦ rw (w.if-detach.false, w.detached-is) (sym (append-nil _))
     ] in
-    agrees_last _ _ c.emit-2.result c.emit-2.ensures.all c.emit-2.ensures.cause
+    agrees_last _ _ c.emit.result c.emit.ensures.all c.emit.ensures.cause
     (λ all. a ∙ ap Ok (both_written (formatted c.args.detach object (string_bytes c.in_ok-formed.formed)) _ _ _ _ (all ∙ ap (λ octets. written c.args.out.now ++ octets) c.as_bytes.ensures.value) beside))
 
 pub returns-clause-beginning : goal.returns-clause-beginning
@@ -79,10 +79,10 @@ returns-clause-beginning g c =
     let a : jws_fmt_answer limits c.args.compact c.args.detach given whole ≡ Ok (formatted c.args.detach object (string_bytes c.in_ok-formed.formed))
     = answer_is c.args.compact c.args.detach given whole _ object (rw (t, d) c.in_ok-object.ensures.exact) c.in_ok-formed.ensures in
     let beside : written c.if-detach.detached ≡ written c.args.detached.now ++ handed_out c.args.detach object.payload = elim c.if-detach.branch [
-      | then-detach+in_ok-emit w ↦ rw (w.if-detach.true, w.detached-is, ← w.payload.ensures) w.in_ok-emit.ensures.all
+      | then-detach+in_ok-write_payload w ↦ rw (w.if-detach.true, w.detached-is) w.in_ok-write_payload.ensures.all
       | else-detach w ↦ rw (w.if-detach.false, w.detached-is) (sym (append-nil _))
     ] in
-    on_refusal c.emit-2.result c.emit-2.ensures.part
+    on_refusal c.emit.result c.emit.ensures.part
     (λ part. rw (c.in_ok-text.ensures.whole.1, beside_ended _ _ c.in_ok-beside.ensures.ends, a) (rw (← c.as_bytes.ensures.value) part, AppendsPrefixOf-all _ _ _ beside))
 
 pub returns-clause-content_first : goal.returns-clause-content_first
@@ -99,12 +99,12 @@ returns-clause-content_first g c =
     let a : jws_fmt_answer limits c.args.compact c.args.detach given whole ≡ Ok (formatted c.args.detach object (string_bytes c.in_ok-formed.formed))
     = answer_is c.args.compact c.args.detach given whole _ object (rw (t, d) c.in_ok-object.ensures.exact) c.in_ok-formed.ensures in
     let beside : written c.if-detach.detached ≡ written c.args.detached.now ++ handed_out c.args.detach object.payload = elim c.if-detach.branch [
-      | then-detach+in_ok-emit w ↦ rw (w.if-detach.true, w.detached-is, ← w.payload.ensures) w.in_ok-emit.ensures.all
+      | then-detach+in_ok-write_payload w ↦ rw (w.if-detach.true, w.detached-is) w.in_ok-write_payload.ensures.all
       | else-detach w ↦ rw (w.if-detach.false, w.detached-is) (sym (append-nil _))
     ] in
     let ended : IsTrue c.args.detach → IsTrue (finished c.if-detach.detached) = elim c.if-detach.branch [
-      | then-detach+in_ok-emit w ↦ λ is. rw w.detached-is w.in_ok-emit.ensures.finished
+      | then-detach+in_ok-write_payload w ↦ λ is. rw w.detached-is w.in_ok-write_payload.ensures.finished
       | else-detach w ↦ λ is. let no = w.if-detach.false in cc
     ] in
-    on_refusal c.emit-2.result c.emit-2.ensures.cause
+    on_refusal c.emit.result c.emit.ensures.cause
     (λ cause. rw (c.in_ok-text.ensures.whole.1, beside_ended _ _ c.in_ok-beside.ensures.ends, a) (inr (λ is. (c.in_ok-beside.ensures.ends, ended is, beside))))
