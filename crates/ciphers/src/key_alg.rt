@@ -13,6 +13,7 @@ use crate::kek::{Kek, Way};
 use crate::key_wrap::{unwrap, wrap};
 use aes::{Aes128, Aes192, Aes256, Block};
 use modes::{Gcm, gcm_open};
+use octets::SEALED_PIECE;
 use prf::{Hash, Sha256, Sha384, Sha512, pbkdf2};
 
 /// An algorithm of key management: how a recipient's key delivers a content encryption key.
@@ -160,7 +161,7 @@ fn encrypt_cek<B: Block>(
     ensures tag { tag.new ≡ gcm_tag (B.encrypted kek) iv.now [] (gcm_ciphertext (B.encrypted kek) iv.now cek.now) }
 {
     let mut gcm = Gcm::start(kek, iv, &[]);
-    let mut text = [0; 4112];
+    let mut text = [0; SEALED_PIECE];
     let len = match gcm.feed(cek, &mut text) {
         Ok(len) => len,
         Err(_) => unreachable!(),

@@ -190,6 +190,25 @@ fn rfc7517_appendix_c_and_passwords(rt: HostRuntime) {
     );
 }
 
+// The same by AES-GCM key wrap with a key of 16 octets.
+fn expect_nothing_in_gcm(
+    rt: &impl Abort,
+    key: &[u8],
+    parameters: KeyParameters<'_>,
+    encrypted_key: &[u8],
+)
+    requires key_fits { IsKeyOf KeyAlg.A128GcmKw key.now }
+{
+    expect_nothing(
+        rt,
+        KeyAlg::A128GcmKw,
+        ContentAlg::A128Gcm,
+        key,
+        parameters,
+        encrypted_key,
+    );
+}
+
 // The GCM specification's test case 2, and its parameters changed or cut.
 #[test]
 fn encryption_in_gcm(rt: HostRuntime) {
@@ -214,36 +233,15 @@ fn encryption_in_gcm(rt: HostRuntime) {
         iv: &parameters.iv[..11],
         ..parameters
     };
-    expect_nothing(
-        &rt,
-        KeyAlg::A128GcmKw,
-        ContentAlg::A128Gcm,
-        &key,
-        cut,
-        encrypted_key,
-    );
+    expect_nothing_in_gcm(&rt, &key, cut, encrypted_key);
     let other = KeyParameters {
         tag: &[0; 16],
         ..parameters
     };
-    expect_nothing(
-        &rt,
-        KeyAlg::A128GcmKw,
-        ContentAlg::A128Gcm,
-        &key,
-        other,
-        encrypted_key,
-    );
+    expect_nothing_in_gcm(&rt, &key, other, encrypted_key);
     let short = KeyParameters {
         tag: &parameters.tag[..12],
         ..parameters
     };
-    expect_nothing(
-        &rt,
-        KeyAlg::A128GcmKw,
-        ContentAlg::A128Gcm,
-        &key,
-        short,
-        encrypted_key,
-    );
+    expect_nothing_in_gcm(&rt, &key, short, encrypted_key);
 }

@@ -6,7 +6,7 @@ ghost use Rattle.ciphers.specs.Sealing.{Sealing, IsTooLong, KeepsPace};
 use crate::cbc_hmac::CbcHmac;
 use aes::{Aes128, Aes192, Aes256, Block};
 use modes::Gcm;
-use octets::Refusal;
+use octets::{Refusal, SEALED_PIECE};
 use prf::{Hash, Sha256, Sha384, Sha512};
 
 /// A sealing whose plaintext comes in pieces.
@@ -16,7 +16,7 @@ pub trait Sealer: Drop {
 
     /// Takes the next piece, of at most 4,096 octets. Writes what of the ciphertext is fixed now to the front of `out`,
     /// and answers its length; `Limit`, and nothing is taken, where the plaintext would be too long.
-    fn feed(&mut self, piece: &[u8], out: &mut [u8; 4112]) -> Result<usize, Refusal>
+    fn feed(&mut self, piece: &[u8], out: &mut [u8; SEALED_PIECE]) -> Result<usize, Refusal>
         requires { length piece.now ≤ 4096 }
         ensures within { IfOk result (λ n. n ≤ 4112) }
         ensures fed { (s : Sealing) (p : List ℕ) → is_sealing self.old s p
@@ -64,7 +64,7 @@ impl Sealer for ContentSealer {
         (λ y. HoldsGcmSealing ⟦<Aes192 as Block>⟧.encrypted y s p)
         (λ y. HoldsGcmSealing ⟦<Aes256 as Block>⟧.encrypted y s p) };
 
-    fn feed(&mut self, piece: &[u8], out: &mut [u8; 4112]) -> Result<usize, Refusal> {
+    fn feed(&mut self, piece: &[u8], out: &mut [u8; SEALED_PIECE]) -> Result<usize, Refusal> {
         match self {
             ContentSealer::A128CbcHs256(sealer) => Ok(sealer.feed(piece, out)),
             ContentSealer::A192CbcHs384(sealer) => Ok(sealer.feed(piece, out)),

@@ -6,29 +6,29 @@ use Rattle.octets.specs.Outcomes.{◌>>=◌, needs}
 use Rattle.octets.specs.Plan.{fixed_by, plan_from}
 use Rattle.keys.specs.Keys.{OctetKey}
 use Rattle.keys.specs.Limits.{limits}
-use Rattle.tokens.specs.Choosing.{Encryption, encryption_of}
-use Rattle.tokens.specs.Encrypting.{octets_drawn, plan_by as encrypting, encrypting_by}
-use Rattle.tokens.specs.Signing.{Signing, plan_by as signing, signing_of, signing_by}
+use Rattle.tokens.specs.Choosing.{EncryptionPlan, read_encryption}
+use Rattle.tokens.specs.Encrypting.{random_len, plan_by as encrypting, enc_plan}
+use Rattle.tokens.specs.Signing.{Signing, plan_by as signing, read_signing, sig_plan}
 
 -- what is signed inside goes nowhere else
-pub signed_inside : (compact : Bool) (keys : List OctetKey) (template q : List ℕ) → (fixed_by (signing_by limits compact false keys template) q).content ≡ []
-unfolding signing_by
-signed_inside compact keys template q = by_answer (signing_of limits compact keys template)
+pub signed_inside : (compact : Bool) (keys : List OctetKey) (template q : List ℕ) → (fixed_by (sig_plan limits compact false keys template) q).content ≡ []
+unfolding sig_plan
+signed_inside compact keys template q = by_answer (read_signing limits compact keys template)
   where
     by_answer : (a : Result Signing Refusal) → (fixed_by (a >>= λ s. Ok (signing limits compact false s)) q).content ≡ []
     by_answer (Ok s) = refl
     by_answer (Err r) = refl
 
 -- nor does what is encrypted inside
-pub encrypted_inside : (compact : Bool) (keys : List OctetKey) (template random q : List ℕ) → (fixed_by (plan_from (encrypting_by limits compact false keys template) random) q).content ≡ []
-unfolding encrypting_by
-encrypted_inside compact keys template random q = by_answer (encryption_of limits compact keys template)
+pub encrypted_inside : (compact : Bool) (keys : List OctetKey) (template random q : List ℕ) → (fixed_by (plan_from (enc_plan limits compact false keys template) random) q).content ≡ []
+unfolding enc_plan
+encrypted_inside compact keys template random q = by_answer (read_encryption limits compact keys template)
   where
-    by_room : (e : Encryption) (enough : Bool) → (fixed_by (needs enough Random >>= λ _. Ok (encrypting limits compact false e (take (octets_drawn e) random))) q).content ≡ []
+    by_room : (e : EncryptionPlan) (enough : Bool) → (fixed_by (needs enough Random >>= λ _. Ok (encrypting limits compact false e (take (random_len e) random))) q).content ≡ []
     by_room e true = refl
     by_room e false = refl
 
-    by_answer : (a : Result Encryption Refusal)
-        → (fixed_by (plan_from (a >>= λ e. Ok (record { drawn = octets_drawn e; plan = encrypting limits compact false e })) random) q).content ≡ []
-    by_answer (Ok e) = by_room e (nat_le (octets_drawn e) (length random))
+    by_answer : (a : Result EncryptionPlan Refusal)
+        → (fixed_by (plan_from (a >>= λ e. Ok (record { drawn = random_len e; plan = encrypting limits compact false e })) random) q).content ≡ []
+    by_answer (Ok e) = by_room e (nat_le (random_len e) (length random))
     by_answer (Err r) = refl

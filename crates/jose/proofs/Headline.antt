@@ -32,8 +32,8 @@ use Rattle.jose.specs.Jws.{jws_fmt_answer}
 
 -- what is encrypted is encrypted to the keys of a set
 encrypted_to : (limits : Limits) (compact detach : Bool) (template random plaintext : List ℕ) (texts : OutputTexts) (keys : Result (List OctetKey) Refusal)
-    → planned (plan_from (keys >>= λ set. encrypting.encrypting_by limits compact detach set template) random) plaintext ≡ Ok texts
-    → (set : List OctetKey) × ((keys ≡ Ok set) × (planned (plan_from (encrypting.encrypting_by limits compact detach set template) random) plaintext ≡ Ok texts))
+    → planned (plan_from (keys >>= λ set. encrypting.enc_plan limits compact detach set template) random) plaintext ≡ Ok texts
+    → (set : List OctetKey) × ((keys ≡ Ok set) × (planned (plan_from (encrypting.enc_plan limits compact detach set template) random) plaintext ≡ Ok texts))
 encrypted_to limits compact detach template random plaintext texts (Ok set) h = (set, (refl, h))
 encrypted_to limits compact detach template random plaintext texts (Err e) h = cc h
 
@@ -147,8 +147,8 @@ verified_with all wanted key rest o payload is =
 
 -- what is signed is signed by the keys of a set
 signed_by : (compact detach : Bool) (template payload : List ℕ) (texts : OutputTexts) (keys : Result (List OctetKey) Refusal)
-    → planned (keys >>= λ set. signing.signing_by limits compact detach set template) payload ≡ Ok texts
-    → (set : List OctetKey) × ((keys ≡ Ok set) × (planned (signing.signing_by limits compact detach set template) payload ≡ Ok texts))
+    → planned (keys >>= λ set. signing.sig_plan limits compact detach set template) payload ≡ Ok texts
+    → (set : List OctetKey) × ((keys ≡ Ok set) × (planned (signing.sig_plan limits compact detach set template) payload ≡ Ok texts))
 signed_by compact detach template payload texts (Ok set) h = (set, (refl, h))
 signed_by compact detach template payload texts (Err e) h = cc h
 

@@ -2,10 +2,10 @@
 use Rattle.std.proofs.Common.{◌≡◌, ℕ, ◌==◌, List, [], ◌++◌, Option, Some, None, option_map, string_bytes, refl, ap, ◌∙◌, sym}
 use Rattle.std.specs.List.{find}
 use Rattle.clap.specs.Words.{Text}
-use Rattle.jose.specs.declared.command.Kind.TheVariants.{Flag}
-use Rattle.jose.specs.declared.command.OptionRow.{OptionRow}
-use Rattle.jose.specs.declared.command.Role.TheVariants.{Input}
-use Rattle.jose.specs.declared.invocation.Setting.{Setting}
+use Rattle.jose.specs.declared.words.table.Kind.TheVariants.{Flag}
+use Rattle.jose.specs.declared.words.table.OptionRow.{OptionRow}
+use Rattle.jose.specs.declared.words.table.Role.TheVariants.{Input}
+use Rattle.jose.specs.declared.words.invocation.Setting.{Setting}
 use Rattle.jose.specs.Invocations.{settings_view, value_at}
 use Rattle.jose.specs.Reading.{setting_before}
 use Rattle.jose.proofs.Finding.{find-map, option_map-option_map}

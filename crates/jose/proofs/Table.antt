@@ -2,7 +2,7 @@
 use Rattle.std.proofs.Common.{◌≡◌, Bool, true, List, map, Option, Some, None, option_map, Bor, refl, ap, ◌∙◌, sym, IfSome}
 use Rattle.std.specs.List.{find, list_all}
 use Rattle.clap.specs.Words.{Text, is_simple_and_free}
-use Rattle.jose.specs.declared.command.CommandRow.{CommandRow}
+use Rattle.jose.specs.declared.words.table.CommandRow.{CommandRow}
 use Rattle.jose.specs.Commands.{CommandEntry, command_named, commands, has_words}
 use Rattle.jose.specs.Rows.{command_entry}
 use Rattle.jose.specs.Reading.{app_for}

@@ -15,9 +15,9 @@ use Rattle.keys.specs.Limits.{Limits, limits, earlier_limits}
 use Rattle.objects.specs.Jwe as jwe
 use Rattle.objects.specs.Jws as jws
 use Rattle.objects.specs.Texts.{each}
-use Rattle.tokens.specs.Choosing.{Receiver, receiver_by, stand_together, encryption_for, may_encrypt, passwords, chosen_p2c, is_written, is_given, Encryption, encryption_with, encryption_of}
+use Rattle.tokens.specs.Choosing.{RecipientKey, recipient_key_by, direct_key_is_alone, encryption_for, may_encrypt, password_count, chosen_p2c, p2c_may_be_written, is_given, EncryptionPlan, settle_encryption, read_encryption}
 use Rattle.tokens.specs.Decrypting.{algorithms_of, Pair, all_pairs, has_pairs, iterations_of, all_iterations, are_within, pairs_to_try, decrypted}
-use Rattle.tokens.specs.Encrypting.{octets_drawn, sealing_by, sealed_by, parts_by, encrypted, plan_by, encrypting_by}
+use Rattle.tokens.specs.Encrypting.{random_len, sealing_by, sealed_by, parts_by, encrypted, plan_by, enc_plan}
 use Rattle.tokens.specs.EncryptionTemplate.{EncryptionTemplate, encryption_template}
 use Rattle.tokens.specs.Template.{is_shallow}
 use Rattle.tokens.proofs.Receivers.{all_pass_other}
@@ -71,18 +71,18 @@ then_same (Ok x) f g same = same x
 then_same (Err e) f g same = refl
 
 -- the draft of what is settled
-abbrev drafted : Limits → Bool → Bool → Result Encryption Refusal → Result (Draft OutputTexts) Refusal
-drafted limits compact detach settled = settled >>= λ e. Ok (record { drawn = octets_drawn e; plan = plan_by limits compact detach e })
+abbrev drafted : Limits → Bool → Bool → Result EncryptionPlan Refusal → Result (Draft OutputTexts) Refusal
+drafted limits compact detach settled = settled >>= λ e. Ok (record { drawn = random_len e; plan = plan_by limits compact detach e })
 
-abbrev settled_by : Limits → Bool → List ℕ → List ℕ → Result Encryption Refusal
-settled_by limits compact keys template = key_set limits keys true >>= λ set. encryption_of limits compact set template
+abbrev settled_by : Limits → Bool → List ℕ → List ℕ → Result EncryptionPlan Refusal
+settled_by limits compact keys template = key_set limits keys true >>= λ set. read_encryption limits compact set template
 
 -- so `jwe enc` drafts
 draft_is : (limits : Limits) (compact detach : Bool) (keys template : List ℕ) → enc_answer limits compact detach keys template ≡ drafted limits compact detach (settled_by limits compact keys template)
-unfolding encrypting_by
+unfolding enc_plan
 draft_is limits compact detach keys template = by_set (key_set limits keys true)
   where
-    by_set : (r : Result (List OctetKey) Refusal) → (r >>= λ set. encrypting_by limits compact detach set template) ≡ drafted limits compact detach (r >>= λ set. encryption_of limits compact set template)
+    by_set : (r : Result (List OctetKey) Refusal) → (r >>= λ set. enc_plan limits compact detach set template) ≡ drafted limits compact detach (r >>= λ set. read_encryption limits compact set template)
     by_set (Ok set) = refl
     by_set (Err e) = refl
 
@@ -120,24 +120,24 @@ module _ (narrower wider : Limits) (wide : AreWider narrower wider) where
   -- ---- objects that are read
 
   jwe_stays : (detached : Option (List ℕ)) (text : List ℕ) → StaysUnlessLimit (jwe.jwe_of narrower detached text) (jwe.jwe_of wider detached text)
-  unfolding jwe.jwe_of jwe.object_of_texts
+  unfolding jwe.jwe_of jwe.decoded_object
   jwe_stays detached text =
-      then_stays (jwe.jwe_texts detached text) (jwe.jwe_texts detached text) _ _ (same_stays _ _ refl)
+      then_stays (jwe.encoded_jwe detached text) (jwe.encoded_jwe detached text) _ _ (same_stays _ _ refl)
       (λ texts read.
       then_stays (needs (nat_le (length texts.recipients) narrower.recipients) Limit) (needs (nat_le (length texts.recipients) wider.recipients) Limit) _ _
       (test_stays _ _ (within_wider (length texts.recipients) narrower.recipients wider.recipients wide.recipients))
       (λ few passed.
-      same_stays _ _ (ap (λ algs. decoded texts.shared.protected >>= λ octets. jwe.parts_of_texts texts >>= λ parts. jwe.encrypted_object algs octets parts) wide.management)))
+      same_stays _ _ (ap (λ algs. decoded texts.shared.protected >>= λ octets. jwe.decoded_members texts >>= λ parts. jwe.encrypted_object algs octets parts) wide.management)))
 
   jws_stays : (detached : Option (List ℕ)) (text : List ℕ) → StaysUnlessLimit (jws.jws_of narrower detached text) (jws.jws_of wider detached text)
-  unfolding jws.jws_of jws.object_of_texts
+  unfolding jws.jws_of jws.decoded_object
   jws_stays detached text =
-      then_stays (jws.jws_texts detached text) (jws.jws_texts detached text) _ _ (same_stays _ _ refl)
+      then_stays (jws.encoded_jws detached text) (jws.encoded_jws detached text) _ _ (same_stays _ _ refl)
       (λ texts read.
       then_stays (needs (nat_le (length texts.signatures) narrower.recipients) Limit) (needs (nat_le (length texts.signatures) wider.recipients) Limit) _ _
       (test_stays _ _ (within_wider (length texts.signatures) narrower.recipients wider.recipients wide.recipients))
       (λ few passed.
-      same_stays _ _ (ap (λ algs. decoded texts.payload >>= λ payload. each jws.decoded_texts texts.signatures >>= λ signatures. jws.signed_object algs payload signatures) wide.management)))
+      same_stays _ _ (ap (λ algs. decoded texts.payload >>= λ payload. each jws.decoded_signature texts.signatures >>= λ signatures. jws.signed_object algs payload signatures) wide.management)))
 
   -- ---- iterations
 
@@ -197,7 +197,7 @@ module _ (narrower wider : Limits) (wide : AreWider narrower wider) where
       by_test false is h = cc h
 
   -- what may be written may be written under wider limits
-  written_both : (n p2c : ℕ) → is_written narrower n p2c ≡ true → is_written wider n p2c ≡ true
+  written_both : (n p2c : ℕ) → p2c_may_be_written narrower n p2c ≡ true → p2c_may_be_written wider n p2c ≡ true
   written_both zero p2c h = refl
   written_both (suc n) p2c h =
       let first = and_parts (nat_le narrower.least_p2c p2c) (nat_le p2c narrower.greatest_p2c && nat_le (suc n * p2c) narrower.p2c_sum) h in
@@ -212,29 +212,29 @@ module _ (narrower wider : Limits) (wide : AreWider narrower wider) where
   same_depth t = rw (wide.depth) refl
 
   with_stays : (compact : Bool) (keys : List OctetKey) (t : EncryptionTemplate)
-      → ((receivers : List Receiver) → each (receiver_by t.asked.management) keys ≡ Ok receivers → (passwords receivers == 0 || is_given t.asked.p2c) ≡ true)
-      → StaysUnlessLimit (encryption_with narrower compact keys t) (encryption_with wider compact keys t)
-  unfolding encryption_with
+      → ((receivers : List RecipientKey) → each (recipient_key_by t.asked.management) keys ≡ Ok receivers → (password_count receivers == 0 || is_given t.asked.p2c) ≡ true)
+      → StaysUnlessLimit (settle_encryption narrower compact keys t) (settle_encryption wider compact keys t)
+  unfolding settle_encryption
   with_stays compact keys t counted =
-      then_stays (each (receiver_by t.asked.management) keys) _ _ _ (same_stays _ _ refl)
+      then_stays (each (recipient_key_by t.asked.management) keys) _ _ _ (same_stays _ _ refl)
       (λ receivers by_keys.
-      then_stays (needs (stand_together receivers) Header) _ _ _ (same_stays _ _ refl)
+      then_stays (needs (direct_key_is_alone receivers) Header) _ _ _ (same_stays _ _ refl)
       (λ together passed.
       then_stays (encryption_for t.asked.encryption receivers) _ _ _ (same_stays _ _ refl)
       (λ encryption chosen.
       then_stays (needs (list_all (may_encrypt encryption) receivers) KeyDoesNotFit) _ _ _ (same_stays _ _ refl)
       (λ fit passed.
-      then_stays (chosen_p2c narrower (passwords receivers) t.asked.p2c) (chosen_p2c wider (passwords receivers) t.asked.p2c) _ _
-      (same_stays _ _ (same_count (passwords receivers) t.asked.p2c (counted receivers by_keys)))
+      then_stays (chosen_p2c narrower (password_count receivers) t.asked.p2c) (chosen_p2c wider (password_count receivers) t.asked.p2c) _ _
+      (same_stays _ _ (same_count (password_count receivers) t.asked.p2c (counted receivers by_keys)))
       (λ p2c chosen.
       then_stays (needs (is_shallow narrower t.protected && is_shallow narrower t.unprotected) Limit) _ _ _ (same_stays _ _ (ap (λ b. needs b Limit) (same_depth t)))
       (λ shallow passed.
-      then_stays (needs (is_written narrower (passwords receivers) p2c) Limit) (needs (is_written wider (passwords receivers) p2c) Limit) _ _
-      (test_stays _ _ (written_both (passwords receivers) p2c)) (λ written passed. same_stays _ _ refl)))))))
+      then_stays (needs (p2c_may_be_written narrower (password_count receivers) p2c) Limit) (needs (p2c_may_be_written wider (password_count receivers) p2c) Limit) _ _
+      (test_stays _ _ (written_both (password_count receivers) p2c)) (λ written passed. same_stays _ _ refl)))))))
 
   encryption_stays : (compact : Bool) (keys : List OctetKey) (text : List ℕ) → IsCounted keys text
-      → StaysUnlessLimit (encryption_of narrower compact keys text) (encryption_of wider compact keys text)
-  unfolding encryption_of
+      → StaysUnlessLimit (read_encryption narrower compact keys text) (read_encryption wider compact keys text)
+  unfolding read_encryption
   encryption_stays compact keys text counted =
       then_stays (json_value text) _ _ _ (same_stays _ _ refl)
       (λ value read.
@@ -242,7 +242,7 @@ module _ (narrower wider : Limits) (wide : AreWider narrower wider) where
       (λ t is. with_stays compact keys t (λ receivers by_keys. counted value t receivers read is by_keys)))
 
   -- what is encrypted by what was settled
-  whole_stays : (compact detach : Bool) (e : Encryption) (random plaintext : List ℕ)
+  whole_stays : (compact detach : Bool) (e : EncryptionPlan) (random plaintext : List ℕ)
       → StaysUnlessLimit ((plan_by narrower compact detach e random).whole plaintext) ((plan_by wider compact detach e random).whole plaintext)
   unfolding encrypted jwe.built
   whole_stays compact detach e random plaintext =
@@ -262,17 +262,17 @@ module _ (narrower wider : Limits) (wide : AreWider narrower wider) where
       (λ o made. same_stays _ _ refl)
 
   -- by what was settled before, and stays
-  planned_stays : (compact detach : Bool) (a b : Result Encryption Refusal) (random plaintext : List ℕ) → StaysUnlessLimit a b
+  planned_stays : (compact detach : Bool) (a b : Result EncryptionPlan Refusal) (random plaintext : List ℕ) → StaysUnlessLimit a b
       → DraftsAsBefore (drafted narrower compact detach a) (drafted wider compact detach b) random plaintext
   planned_stays compact detach (Err e) b random plaintext first =
       (λ not. rw (first (λ is. not (ap Err (is_limit e is)))) refl, λ not. rw (first (λ is. not (ap Err (is_limit e is)))) refl)
   planned_stays compact detach (Ok e) b random plaintext first =
-      rw (first (λ is. cc is)) (by_test (nat_le (octets_drawn e) (length random)), λ not. refl)
+      rw (first (λ is. cc is)) (by_test (nat_le (random_len e) (length random)), λ not. refl)
     where
       by_test : (enough : Bool)
-          → StaysUnlessLimit ((needs enough Random >>= λ u. Ok (plan_by narrower compact detach e (take (octets_drawn e) random))) >>= λ p. p.whole plaintext)
-          ((needs enough Random >>= λ u. Ok (plan_by wider compact detach e (take (octets_drawn e) random))) >>= λ p. p.whole plaintext)
-      by_test true not = whole_stays compact detach e (take (octets_drawn e) random) plaintext not
+          → StaysUnlessLimit ((needs enough Random >>= λ u. Ok (plan_by narrower compact detach e (take (random_len e) random))) >>= λ p. p.whole plaintext)
+          ((needs enough Random >>= λ u. Ok (plan_by wider compact detach e (take (random_len e) random))) >>= λ p. p.whole plaintext)
+      by_test true not = whole_stays compact detach e (take (random_len e) random) plaintext not
       by_test false not = refl
 
   -- ---- what is encrypted

@@ -8,13 +8,13 @@ use Rattle.octets.specs.Outcomes.{AgreesUnlessExternal, is_external}
 use Rattle.octets.specs.Plan.{OutputTexts, Draft, drawn_of, plan_from, fixed_by, planned, planned_beginning}
 use Rattle.octets.specs.Pumps.{KeepsUp}
 use Rattle.clap.specs.Words.{Text}
-use Rattle.jose.specs.declared.command.Command.{Command}
+use Rattle.jose.specs.declared.words.table.Command.{Command}
 use Rattle.jose.specs.declared.ports.Inputs.{Inputs}
 use Rattle.jose.specs.declared.ports.Outputs.{Outputs}
 use Rattle.jose.specs.Invocations.{InvocationView, Settings, value_at}
 use Rattle.jose.specs.Commands.{Takes, flag, required, optional, default, OptionEntry, option_at, has_option}
 use Rattle.jose.specs.Ports.{InputTexts, ObservedInputs, ArePossibleInputs}
-use Rattle.jose.specs.Meanings.{Content, none, the_text, the_content, meaning_of}
+use Rattle.jose.specs.Meanings.{Content, none, the_text, the_content, spec_of}
 
 -- ---- the answer
 
@@ -25,13 +25,13 @@ content_of the_content text content nil = content
 
 -- what the settings, the text and the keys settle, or the first refusal
 abbrev pub draft_of : InvocationView → List ℕ → List ℕ → Result (Draft OutputTexts) Refusal
-draft_of invocation text keys = (meaning_of invocation.command).draft invocation.options text keys
+draft_of invocation text keys = (spec_of invocation.command).draft invocation.options text keys
 
 -- The octets of each output, or the first refusal: the draft's, then that of too few random octets, then the content's.
 abbrev pub answer : InvocationView → InputTexts → Result OutputTexts Refusal
 answer invocation inputs =
     planned (plan_from (draft_of invocation inputs.text inputs.keys) inputs.random)
-    (content_of ((meaning_of invocation.command).content invocation.options) inputs.text inputs.content [])
+    (content_of ((spec_of invocation.command).content invocation.options) inputs.text inputs.content [])
 
 -- Whatever the inputs go on to give, the run did as the answer says.
 abbrev pub Answers : InvocationView → ObservedInputs → OutputTexts → Result (Unit {0}) Refusal → Type 0
@@ -97,11 +97,11 @@ has_template the_content has = has
 abbrev pub others_read : InvocationView → ObservedInputs → Bool
 others_read invocation seen =
     was_read (has_keys_input invocation.command) seen.keys
-    && was_read (has_template ((meaning_of invocation.command).content invocation.options) (has_text_input invocation.command)) seen.text
+    && was_read (has_template ((spec_of invocation.command).content invocation.options) (has_text_input invocation.command)) seen.text
 
 -- what was seen of the content; a command without one has read all of it
 abbrev pub content_seen : InvocationView → ObservedInputs → Observed
-content_seen invocation seen = content_of ((meaning_of invocation.command).content invocation.options) seen.text seen.content (record { octets = []; ended = true })
+content_seen invocation seen = content_of ((spec_of invocation.command).content invocation.options) seen.text seen.content (record { octets = []; ended = true })
 
 -- the outputs hold a beginning of these texts: of none before the other inputs are read and accepted
 abbrev pub beginning : InvocationView → ObservedInputs → OutputTexts
@@ -118,7 +118,7 @@ pub record AreSpared {D : Type 0} (failures : D → ℕ) (old new : Outputs D) (
 -- A command that holds back has touched an output only where it failed.
 abbrev pub HoldsBack : {D : Type 0} → (D → ℕ) → InvocationView → Outputs D → Outputs D → Refusal → Type 0
 HoldsBack failures invocation old new refusal =
-    IsTrue (meaning_of invocation.command).holds_back → AreSpared failures old new refusal (new.text ≡ old.text) (new.content ≡ old.content)
+    IsTrue (spec_of invocation.command).holds_back → AreSpared failures old new refusal (new.text ≡ old.text) (new.content ≡ old.content)
 
 -- An output on which nothing was written is as it was, unless it failed.
 abbrev pub AreUncut : {D : Type 0} → (D → ℕ) → (D → List ℕ) → Outputs D → Outputs D → Refusal → Type 0
@@ -128,7 +128,7 @@ AreUncut failures written old new refusal =
 -- Where nothing could be read of the content of a command that writes as it reads, an output is as it was, unless it failed.
 abbrev pub AreUnread : {D : Type 0} → (D → ℕ) → InvocationView → ObservedInputs → Outputs D → Outputs D → Refusal → Type 0
 AreUnread failures invocation seen old new refusal =
-    (meaning_of invocation.command).holds_back ≡ false → (content_seen invocation seen).octets ≡ []
+    (spec_of invocation.command).holds_back ≡ false → (content_seen invocation seen).octets ≡ []
     → AreSpared failures old new refusal (new.text ≡ old.text) (new.content ≡ old.content)
 
 -- what so much of the content fixes, where the other inputs are as they were seen
@@ -139,7 +139,7 @@ fixed_of invocation seen front = fixed_by (plan_from (draft_of invocation seen.t
 -- behind what was read.
 abbrev pub AreKeptUp : {D : Type 0} → (D → List ℕ) → InvocationView → ObservedInputs → Outputs D → Outputs D → Type 0
 AreKeptUp written invocation seen old new =
-    (meaning_of invocation.command).holds_back ≡ false → (content_seen invocation seen).octets ≢ []
+    (spec_of invocation.command).holds_back ≡ false → (content_seen invocation seen).octets ≢ []
     → KeepsUp (λ front. (fixed_of invocation seen front).text) (content_seen invocation seen).octets (written old.text) (written new.text)
     × KeepsUp (λ front. (fixed_of invocation seen front).content) (content_seen invocation seen).octets (written old.content) (written new.content)
 
@@ -162,7 +162,7 @@ pub record AreInOrder {D : Type 0} (invocation : InvocationView) (seen : Observe
 -- read while its text is written.
 abbrev pub ReadsFirst : InvocationView → ObservedInputs → Refusal → Type 0
 ReadsFirst invocation seen refusal = is_external refusal ≡ false → refusal ≢ Usage
-    → IsTrue (others_read invocation seen && (not (meaning_of invocation.command).holds_back || (content_seen invocation seen).ended))
+    → IsTrue (others_read invocation seen && (not (spec_of invocation.command).holds_back || (content_seen invocation seen).ended))
 
 -- The content is untouched before all octets of the random input are drawn.
 abbrev pub DrawsFirst : {D : Type 0} → InvocationView → ObservedInputs → Inputs D → Inputs D → Type 0
@@ -172,7 +172,7 @@ DrawsFirst invocation seen old new =
 -- Want of memory is answered only by a command that takes memory, and, where it writes as it reads, before the content is touched.
 abbrev pub TakesMemoryFirst : {D : Type 0} → InvocationView → Inputs D → Inputs D → Refusal → Type 0
 TakesMemoryFirst invocation old new refusal = refusal ≡ Memory
-    → IsTrue (meaning_of invocation.command).takes_memory × ((meaning_of invocation.command).holds_back ≡ false → new.content ≡ old.content)
+    → IsTrue (spec_of invocation.command).takes_memory × ((spec_of invocation.command).holds_back ≡ false → new.content ≡ old.content)
 
 -- What the text and the keys refuse is refused before the random input and the content are touched.
 abbrev pub RefusesFirst : {D : Type 0} → InvocationView → ObservedInputs → Inputs D → Inputs D → Type 0

@@ -3,10 +3,10 @@ use Prim.Native.String.{String}
 use Rattle.std.specs.Prelude.{ℕ, ◌==◌, ◌&&◌, Bool, List, [], ◌∷◌, Option, is_some, find, codes}
 use Rattle.std.specs.Str.{byte, bytes_eq}
 use Rattle.clap.specs.Words.{Text}
-use Rattle.jose.specs.declared.command.Command.{Command}
-use Rattle.jose.specs.declared.command.Command.TheVariants.{JwkGen, JwkThp, B64Enc, B64Dec, JwsSig, JwsVer, JwsFmt, JweEnc, JweDec, JweFmt}
-use Rattle.jose.specs.declared.command.Role.{Role}
-use Rattle.jose.specs.declared.command.Role.TheVariants.{Input, Output, Neither}
+use Rattle.jose.specs.declared.words.table.Command.{Command}
+use Rattle.jose.specs.declared.words.table.Command.TheVariants.{JwkGen, JwkThp, B64Enc, B64Dec, JwsSig, JwsVer, JwsFmt, JweEnc, JweDec, JweFmt}
+use Rattle.jose.specs.declared.words.table.Role.{Role}
+use Rattle.jose.specs.declared.words.table.Role.TheVariants.{Input, Output, Neither}
 
 -- what an option takes: nothing, a value that has to be given, a value, or a value with a default
 pub data Takes : Type 0 where

@@ -8,8 +8,8 @@ use Rattle.octets.specs.declared.streams.ReaderInput.{ReaderInput}
 use Rattle.octets.specs.declared.streams.WriterOutput.{WriterOutput}
 use Rattle.octets.specs.Devices.{most_octets}
 use Rattle.octets.specs.Views.{reader_of, consumed_of, is_at_end_of, remaining_of, read_failures_of, writer_of, written_of, is_finished_of, write_failures_of}
-use Rattle.jose.specs.declared.command.Command.{Command}
-use Rattle.jose.specs.declared.command.Command.TheVariants.{JwkGen, B64Enc, B64Dec, JwsSig, JweEnc, JweDec}
+use Rattle.jose.specs.declared.words.table.Command.{Command}
+use Rattle.jose.specs.declared.words.table.Command.TheVariants.{JwkGen, B64Enc, B64Dec, JwsSig, JweEnc, JweDec}
 use Rattle.jose.specs.declared.files.Apart.{Apart as CodeApart}
 use Rattle.jose.specs.declared.files.Source.{Source}
 use Rattle.jose.specs.declared.files.Source.TheVariants as source

@@ -5,9 +5,9 @@ use Rattle.std.specs.Str.{byte, bytes_eq}
 use Rattle.clap.specs.Words.{Text}
 use Rattle.prf.specs.declared.digests.HashAlg.{HashAlg}
 use Rattle.prf.specs.declared.digests.HashAlg.TheVariants.{S224, S256, S384, S512}
-use Rattle.jose.specs.declared.command.Command.{Command}
-use Rattle.jose.specs.declared.invocation.Setting.{Setting}
-use Rattle.jose.specs.declared.invocation.Invocation.{Invocation}
+use Rattle.jose.specs.declared.words.table.Command.{Command}
+use Rattle.jose.specs.declared.words.invocation.Setting.{Setting}
+use Rattle.jose.specs.declared.words.invocation.Invocation.{Invocation}
 
 -- the letter and the value of each option that was given or has a default
 abbrev pub Settings : Type 0

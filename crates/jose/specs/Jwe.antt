@@ -6,7 +6,7 @@ use Rattle.octets.specs.Plan.{OutputTexts, Draft}
 use Rattle.keys.specs.KeySets.{key_set}
 use Rattle.keys.specs.Limits.{Limits}
 use Rattle.objects.specs.Jwe.{jwe_of}
-use Rattle.tokens.specs.Encrypting.{encrypting_by, written_of}
+use Rattle.tokens.specs.Encrypting.{enc_plan, written_of}
 use Rattle.tokens.specs.Decrypting.{decrypted}
 
 -- the text of a plaintext that is encrypted to the keys, as the template asks, by octets of the random input, with the ciphertext
@@ -14,7 +14,7 @@ use Rattle.tokens.specs.Decrypting.{decrypted}
 abbrev pub enc_answer : Limits → Bool → Bool → List ℕ → List ℕ → Result (Draft OutputTexts) Refusal
 enc_answer limits compact detach keys template = do
   set ← key_set limits keys true
-  encrypting_by limits compact detach set template
+  enc_plan limits compact detach set template
 
 -- the plaintext of the object, whose ciphertext may have been handed in
 abbrev pub dec_answer : Limits → List ℕ → Option (List ℕ) → List ℕ → Result (List ℕ) Refusal

@@ -6,14 +6,14 @@ use Rattle.octets.specs.Plan.{OutputTexts, Plan}
 use Rattle.keys.specs.KeySets.{key_set}
 use Rattle.keys.specs.Limits.{Limits}
 use Rattle.objects.specs.Jws.{jws_of}
-use Rattle.tokens.specs.Signing.{signing_by, written_of}
+use Rattle.tokens.specs.Signing.{sig_plan, written_of}
 use Rattle.tokens.specs.Verifying.{verifying_by}
 
 -- the text of a payload that the keys sign, as the template asks, with the payload or beside it
 abbrev pub sig_answer : Limits → Bool → Bool → List ℕ → List ℕ → Result (Plan OutputTexts) Refusal
 sig_answer limits compact detach keys template = do
   set ← key_set limits keys true
-  signing_by limits compact detach set template
+  sig_plan limits compact detach set template
 
 -- what is written of the object, whose payload may have been handed in: the payload, where it is asked for
 abbrev pub ver_answer : Limits → Bool → Bool → List ℕ → Option (List ℕ) → List ℕ → Result (List ℕ) Refusal

@@ -8,8 +8,8 @@ use Rattle.octets.specs.Outcomes.{◌>>=◌}
 use Rattle.octets.specs.Plan.{OutputTexts, nothing, Draft, without_random, placed, by_plan, by_text}
 use Rattle.octets.specs.Encoding.{encoding, decoding}
 use Rattle.keys.specs.Limits.{limits}
-use Rattle.jose.specs.declared.command.Command.{Command}
-use Rattle.jose.specs.declared.command.Command.TheVariants.{JwkGen, JwkThp, B64Enc, B64Dec, JwsSig, JwsVer, JwsFmt, JweEnc, JweDec, JweFmt}
+use Rattle.jose.specs.declared.words.table.Command.{Command}
+use Rattle.jose.specs.declared.words.table.Command.TheVariants.{JwkGen, JwkThp, B64Enc, B64Dec, JwsSig, JwsVer, JwsFmt, JweEnc, JweDec, JweFmt}
 use Rattle.jose.specs.Invocations.{Settings, value_at, hash_asked}
 use Rattle.jose.specs.Ports.{as_text, as_content}
 use Rattle.jose.specs.Jwk.{making, thp_answer}
@@ -22,7 +22,7 @@ pub data Content : Type 0 where
   the_text : Content
   the_content : Content
 
-pub record Meaning : Type 0 where
+pub record CommandSpec : Type 0 where
   pub content : Settings → Content
   -- no output is touched before all is accepted
   pub holds_back : Bool
@@ -56,7 +56,7 @@ is_compact_asked settings = is_some (value_at (byte "c") settings)
 abbrev pub is_all_asked : Settings → Bool
 is_all_asked settings = is_some (value_at (byte "a") settings)
 
-abbrev pub jwk_gen : Meaning
+abbrev pub jwk_gen : CommandSpec
 jwk_gen = record {
   content = λ settings. none;
   holds_back = true;
@@ -64,7 +64,7 @@ jwk_gen = record {
   draft = λ settings text keys. placed as_text (making text);
 }
 
-abbrev pub jwk_thp : Meaning
+abbrev pub jwk_thp : CommandSpec
 jwk_thp = record {
   content = λ settings. none;
   holds_back = true;
@@ -72,7 +72,7 @@ jwk_thp = record {
   draft = λ settings text keys. placed as_text (by_text (ok_or (hash_asked settings) Usage >>= λ hash. thp_answer hash text));
 }
 
-abbrev pub b64_enc : Meaning
+abbrev pub b64_enc : CommandSpec
 b64_enc = record {
   content = λ settings. the_content;
   holds_back = false;
@@ -80,7 +80,7 @@ b64_enc = record {
   draft = λ settings text keys. placed as_text (by_plan (Ok encoding));
 }
 
-abbrev pub b64_dec : Meaning
+abbrev pub b64_dec : CommandSpec
 b64_dec = record {
   content = λ settings. the_text;
   holds_back = false;
@@ -88,7 +88,7 @@ b64_dec = record {
   draft = λ settings text keys. placed as_content (by_plan (Ok decoding));
 }
 
-abbrev pub jws_sig : Meaning
+abbrev pub jws_sig : CommandSpec
 jws_sig = record {
   content = λ settings. the_content;
   holds_back = false;
@@ -96,7 +96,7 @@ jws_sig = record {
   draft = λ settings text keys. by_plan (sig_answer limits (is_compact_asked settings) (is_content_wanted settings) keys text);
 }
 
-abbrev pub jws_ver : Meaning
+abbrev pub jws_ver : CommandSpec
 jws_ver = record {
   content = content_beside;
   holds_back = true;
@@ -105,7 +105,7 @@ jws_ver = record {
       placed as_content (of_object (is_content_given settings) [] (λ detached. ver_answer limits (is_all_asked settings) (is_content_wanted settings) keys detached text));
 }
 
-abbrev pub jws_fmt : Meaning
+abbrev pub jws_fmt : CommandSpec
 jws_fmt = record {
   content = content_beside;
   holds_back = true;
@@ -113,7 +113,7 @@ jws_fmt = record {
   draft = λ settings text keys. of_object (is_content_given settings) nothing (λ detached. jws_fmt_answer limits (is_compact_asked settings) (is_content_wanted settings) detached text);
 }
 
-abbrev pub jwe_enc : Meaning
+abbrev pub jwe_enc : CommandSpec
 jwe_enc = record {
   content = λ settings. the_content;
   holds_back = false;
@@ -121,7 +121,7 @@ jwe_enc = record {
   draft = λ settings text keys. enc_answer limits (is_compact_asked settings) (is_content_wanted settings) keys text;
 }
 
-abbrev pub jwe_dec : Meaning
+abbrev pub jwe_dec : CommandSpec
 jwe_dec = record {
   content = content_beside;
   holds_back = true;
@@ -129,7 +129,7 @@ jwe_dec = record {
   draft = λ settings text keys. placed as_content (of_object (is_content_given settings) [] (λ detached. dec_answer limits keys detached text));
 }
 
-abbrev pub jwe_fmt : Meaning
+abbrev pub jwe_fmt : CommandSpec
 jwe_fmt = record {
   content = content_beside;
   holds_back = true;
@@ -137,14 +137,14 @@ jwe_fmt = record {
   draft = λ settings text keys. of_object (is_content_given settings) nothing (λ detached. jwe_fmt_answer limits (is_compact_asked settings) (is_content_wanted settings) detached text);
 }
 
-abbrev pub meaning_of : Command → Meaning
-meaning_of JwkGen = jwk_gen
-meaning_of JwkThp = jwk_thp
-meaning_of B64Enc = b64_enc
-meaning_of B64Dec = b64_dec
-meaning_of JwsSig = jws_sig
-meaning_of JwsVer = jws_ver
-meaning_of JwsFmt = jws_fmt
-meaning_of JweEnc = jwe_enc
-meaning_of JweDec = jwe_dec
-meaning_of JweFmt = jwe_fmt
+abbrev pub spec_of : Command → CommandSpec
+spec_of JwkGen = jwk_gen
+spec_of JwkThp = jwk_thp
+spec_of B64Enc = b64_enc
+spec_of B64Dec = b64_dec
+spec_of JwsSig = jws_sig
+spec_of JwsVer = jws_ver
+spec_of JwsFmt = jws_fmt
+spec_of JweEnc = jwe_enc
+spec_of JweDec = jwe_dec
+spec_of JweFmt = jwe_fmt

@@ -5,6 +5,7 @@ use Rattle.octets.specs.declared.refusal.Refusal.{Refusal}
 use Rattle.octets.specs.Devices.{Observed, observed, appended, AppendsPrefixOf, IsPossibleInput}
 use Rattle.octets.specs.Faults.{Counts, counts}
 use Rattle.octets.specs.Plan.{OutputTexts, nothing}
+use Rattle.objects.specs.Texts.{handed_out}
 use Rattle.jose.specs.declared.ports.Inputs.{Inputs}
 use Rattle.jose.specs.declared.ports.Outputs.{Outputs}
 
@@ -29,6 +30,10 @@ as_text octets = record { text = octets; content = [] }
 -- the octets of `-O`
 abbrev pub as_content : List ℕ → OutputTexts
 as_content octets = record { text = []; content = octets }
+
+-- the text of an object, and its content beside it where that is detached
+abbrev pub object_texts : Bool → List ℕ → List ℕ → OutputTexts
+object_texts detach content text = record { text = text; content = handed_out detach content }
 
 -- ---- what a run read
 

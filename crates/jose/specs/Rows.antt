@@ -1,10 +1,10 @@
 -- The rows of the table in the code, as contracts see them.
 use Rattle.std.specs.Prelude.{map}
 use Rattle.jose.specs.Commands.{CommandEntry, OptionEntry, Takes, flag, required, optional, default}
-use Rattle.jose.specs.declared.command.Kind.{Kind}
-use Rattle.jose.specs.declared.command.Kind.TheVariants.{Flag, Required, Optional, Default}
-use Rattle.jose.specs.declared.command.OptionRow.{OptionRow}
-use Rattle.jose.specs.declared.command.CommandRow.{CommandRow}
+use Rattle.jose.specs.declared.words.table.Kind.{Kind}
+use Rattle.jose.specs.declared.words.table.Kind.TheVariants.{Flag, Required, Optional, Default}
+use Rattle.jose.specs.declared.words.table.OptionRow.{OptionRow}
+use Rattle.jose.specs.declared.words.table.CommandRow.{CommandRow}
 
 abbrev pub takes_of : Kind → Takes
 takes_of Flag = flag

@@ -9,7 +9,7 @@ use Rattle.keys.specs.Keys.{OctetKey}
 use Rattle.keys.specs.KeySets.{key_set}
 use Rattle.keys.specs.Limits.{Limits}
 use Rattle.objects.specs.Texts.{each}
-use Rattle.tokens.specs.Choosing.{Receiver, receiver_by, passwords, is_given}
+use Rattle.tokens.specs.Choosing.{RecipientKey, recipient_key_by, password_count, is_given}
 use Rattle.tokens.specs.EncryptionTemplate.{EncryptionTemplate, encryption_template}
 use Rattle.jose.specs.Jwe.{enc_answer, dec_answer, jwe_fmt_answer}
 use Rattle.jose.specs.Jws.{ver_answer, jws_fmt_answer}
@@ -43,8 +43,8 @@ pub record ReadsAsBefore (narrower wider : Limits) : Type 0 where
 -- no receiver is a password, or the template gives the iterations
 abbrev pub IsCounted : List OctetKey → List ℕ → Type 0
 IsCounted keys text =
-    (value : Data) (template : EncryptionTemplate) (receivers : List Receiver) → json_value text ≡ Ok value → encryption_template value ≡ Ok template
-    → each (receiver_by template.asked.management) keys ≡ Ok receivers → (passwords receivers == 0 || is_given template.asked.p2c) ≡ true
+    (value : Data) (template : EncryptionTemplate) (receivers : List RecipientKey) → json_value text ≡ Ok value → encryption_template value ≡ Ok template
+    → each (recipient_key_by template.asked.management) keys ≡ Ok receivers → (password_count receivers == 0 || is_given template.asked.p2c) ≡ true
 
 -- what `jwe enc` writes, and how many random octets it takes
 abbrev pub EncryptsAsBefore : Limits → Limits → Type 0

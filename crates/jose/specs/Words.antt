@@ -6,10 +6,10 @@ use Rattle.clap.specs.Words.{Text}
 use Rattle.octets.specs.declared.refusal.Refusal.{Refusal}
 use Rattle.octets.specs.declared.refusal.Refusal.TheVariants.{Usage}
 use Rattle.octets.specs.Outcomes.{◌>>=◌, needs}
-use Rattle.jose.specs.declared.command.Command.{Command}
-use Rattle.jose.specs.declared.command.Command.TheVariants.{JwkThp}
-use Rattle.jose.specs.declared.command.Role.{Role}
-use Rattle.jose.specs.declared.command.Role.TheVariants.{Input, Output, Neither}
+use Rattle.jose.specs.declared.words.table.Command.{Command}
+use Rattle.jose.specs.declared.words.table.Command.TheVariants.{JwkThp}
+use Rattle.jose.specs.declared.words.table.Role.{Role}
+use Rattle.jose.specs.declared.words.table.Role.TheVariants.{Input, Output, Neither}
 use Rattle.jose.specs.Commands.{OptionEntry, command_named}
 use Rattle.jose.specs.Invocations.{InvocationView, Settings, value_at, hash_asked}
 use Rattle.jose.specs.Reading.{settings_read}

@@ -1,12 +1,14 @@
 //! What each command does, from devices to devices. They are given an option's value where a device does not say it all.
-ghost use Rattle.std.specs.Prelude.{◌≡◌, ◌&&◌, false, ℕ, List, [], ◌∷◌, option_map, None, OnOk, IfOk, IfErr, IsTrue};
+ghost use Rattle.std.specs.Prelude.{◌≡◌, ◌≢◌, ◌⊎◌, ◌&&◌, ◌++◌, false, ℕ, List, [], ◌∷◌, option_map, None, OnOk, OnErr, IfOk, IfErr, IsTrue};
 ghost use Rattle.std.specs.Iterator.{IsFinite};
-ghost use Rattle.octets.specs.Devices.{observed, IsPossibleInput};
-ghost use Rattle.octets.specs.Faults.{TellsFaults, counts};
-ghost use Rattle.octets.specs.Outcomes.{IsReadingFailure, GivesUnlessExternal, is_external};
+ghost use Rattle.octets.specs.Devices.{appended, observed, IsPossibleInput, AppendsPrefixOf};
+ghost use Rattle.octets.specs.Faults.{TellsFaults, DidNotFail, counts};
+ghost use Rattle.octets.specs.Outcomes.{AgreesUnlessExternal, IsReadingFailure, GivesUnlessExternal, is_external};
 ghost use Rattle.keys.specs.KeySets.{key_set};
 ghost use Rattle.keys.specs.Limits.{limits};
-ghost use Rattle.objects.specs.Texts.{handed_in};
+ghost use Rattle.objects.specs.Texts.{handed_in, handed_out};
+ghost use Rattle.objects.specs.Views.{held_view};
+ghost use Rattle.jose.specs.Ports.{object_texts};
 
 pub(crate) mod b64;
 pub(crate) mod jwe;
@@ -14,7 +16,8 @@ pub(crate) mod jwk;
 pub(crate) mod jws;
 
 use keys::KeySet;
-use octets::{Input, Refusal, read_to_end};
+use objects::HeldContent;
+use octets::{Input, Output, Refusal, emit, read_to_end};
 use std::alloc::Global;
 
 /// Reads the text to its end, and then the keys. `strict` asks for each key to be good.
@@ -46,7 +49,7 @@ fn read_object<I: Input>(
     alloc: Global,
     text: &mut I,
     keys: &mut I,
-    given: bool,
+    detached_given: bool,
     content: &mut I,
 ) -> Result<(Vec<u8>, KeySet, Option<Vec<u8>>), Refusal>
     requires text { IsFinite (I.remaining text.old) }
@@ -59,18 +62,18 @@ fn read_object<I: Input>(
         → GivesUnlessExternal (λ read. read.1) result (key_set limits whole false) }
     ensures content { IfOk result (λ read. (whole : List ℕ)
         → IsPossibleInput (observed I.consumed I.is_at_end content.old content.new) whole
-        → handed_in given whole ≡ option_map (λ c. c.items) read.2) }
-    ensures content_ends { OnOk result (IsTrue given → IsTrue (I.is_at_end content.new)) }
+        → handed_in detached_given whole ≡ option_map (λ c. c.items) read.2) }
+    ensures content_ends { OnOk result (IsTrue detached_given → IsTrue (I.is_at_end content.new)) }
     ensures in_order { (I.is_at_end text.new ≡ false → keys.new ≡ keys.old)
         × (I.is_at_end keys.new && I.is_at_end text.new ≡ false → content.new ≡ content.old) }
     ensures reads_first { IfErr result (λ refusal. is_external refusal ≡ false
-        → IsTrue (I.is_at_end text.new) × IsTrue (I.is_at_end keys.new) × (IsTrue given → IsTrue (I.is_at_end content.new))) }
-    ensures untouched { given ≡ false → content.new ≡ content.old }
+        → IsTrue (I.is_at_end text.new) × IsTrue (I.is_at_end keys.new) × (IsTrue detached_given → IsTrue (I.is_at_end content.new))) }
+    ensures untouched { detached_given ≡ false → content.new ≡ content.old }
     ensures faults { TellsFaults (counts I.failures text.old text.new ∷ counts I.failures keys.old keys.new ∷ counts I.failures content.old content.new ∷ []) [] result }
 {
     let text = read_to_end(alloc, text)?;
     let keys = read_to_end(alloc, keys)?;
-    let detached = read_beside(alloc, given, content)?;
+    let detached = read_beside(alloc, detached_given, content)?;
     let set = KeySet::read(alloc, &keys, false)?;
     Ok((text, set, detached))
 }
@@ -78,23 +81,49 @@ fn read_object<I: Input>(
 /// Reads the content to its end, where it is handed in beside an object.
 fn read_beside<I: Input>(
     alloc: Global,
-    given: bool,
+    detached_given: bool,
     content: &mut I,
 ) -> Result<Option<Vec<u8>>, Refusal>
     requires { IsFinite (I.remaining content.old) }
     ensures content { IfOk result (λ read. (whole : List ℕ)
         → IsPossibleInput (observed I.consumed I.is_at_end content.old content.new) whole
-        → handed_in given whole ≡ option_map (λ c. c.items) read) }
-    ensures ends { OnOk result (IsTrue given → IsTrue (I.is_at_end content.new)) }
-    ensures untouched { given ≡ false → content.new ≡ content.old }
+        → handed_in detached_given whole ≡ option_map (λ c. c.items) read) }
+    ensures ends { OnOk result (IsTrue detached_given → IsTrue (I.is_at_end content.new)) }
+    ensures untouched { detached_given ≡ false → content.new ≡ content.old }
     ensures works { OnOk result (I.failures content.new ≡ I.failures content.old) }
     ensures fails { IfErr result (IsReadingFailure (I.failures content.old) (I.failures content.new)) }
 {
-    if given {
+    if detached_given {
         Ok(Some(read_to_end(alloc, content)?))
     } else {
         Ok(None)
     }
+}
+
+/// Writes the content beside the text, where it is detached, and then the text.
+fn write_object<O: Output>(
+    text: &str,
+    detach: bool,
+    content: HeldContent<'_>,
+    out: &mut O,
+    detached: &mut O,
+) -> Result<(), Refusal>
+    ensures answer { AgreesUnlessExternal (Ok (object_texts detach (held_view content.entry) text.now))
+        (record { text = appended (O.written out.old) (O.written out.new); content = appended (O.written detached.old) (O.written detached.new) }) result }
+    ensures beginning { OnErr result ((AppendsPrefixOf text.now (O.written out.old) (O.written out.new))
+        × (AppendsPrefixOf (handed_out detach (held_view content.entry)) (O.written detached.old) (O.written detached.new))) }
+    ensures content_first { OnErr result ((out.new ≡ out.old) ⊎ (IsTrue detach → IsTrue (O.is_finished detached.new)
+        × (O.written detached.new ≡ O.written detached.old ++ handed_out detach (held_view content.entry)))) }
+    ensures held_back { IfErr result (λ refusal. DidNotFail refusal (counts O.failures out.old out.new) → out.new ≡ out.old) }
+    ensures finished { OnOk result (IsTrue (O.is_finished out.new) × (IsTrue detach → IsTrue (O.is_finished detached.new))) }
+    ensures untouched { detach ≡ false → detached.new ≡ detached.old }
+    ensures cause { OnErr result (result ≡ Err Refusal.Write) }
+    ensures faults { TellsFaults [] (counts O.failures out.old out.new ∷ counts O.failures detached.old detached.new ∷ []) result }
+{
+    if detach {
+        content.write(detached)?;
+    }
+    emit(out, text.as_bytes())
 }
 
 /// No output, where one like this might be.

@@ -10,9 +10,9 @@ ghost use Rattle.jose.specs.Invocations.{invocation_view};
 ghost use Rattle.jose.specs.Files.{words, origin_of, origin_named, after_read, source_remaining, IsOpenSource, IsUnopenedSource, AreNewInputs};
 ghost use Rattle.jose.specs.Files.{nowhere, destination_of, destination_named, sink_contents, IsOpenSink, IsUnopenedSink, apart_view, file_named, streamed_file, AreNewOutputs};
 
-use crate::command::Command;
-use crate::invocation::Invocation;
 use crate::ports::{Inputs, Outputs};
+use crate::words::invocation::Invocation;
+use crate::words::table::Command;
 use octets::{ReaderInput, WriterOutput};
 use std::fs::{File, OpenOptions, metadata};
 use std::io;
@@ -21,7 +21,7 @@ use std::os::unix::fs::{MetadataExt, OpenOptionsExt};
 use std::rt::Files;
 
 /// The file of random octets where `-R` names none.
-const SYSTEM_RANDOM: &str = "/dev/urandom";
+pub(crate) const SYSTEM_RANDOM: &str = "/dev/urandom";
 
 /// The files of the standard streams.
 const STANDARD_INPUT: &str = "/dev/stdin";

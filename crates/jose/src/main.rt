@@ -2,31 +2,28 @@
 //! and verifies small documents (RFC 7515), encrypts and decrypts secrets (RFC 7516), and writes and reads base64url
 //! (RFC 4648 section 5).
 //!
-//! The words become an invocation (`words`, by the table in `command`), the invocation names devices
+//! The words become an invocation (`words`, by the table in `words::table`), the invocation names devices
 //! (`files`), and `run` does what is asked from devices to devices. `report` tells a refusal.
 #![tactic(auto)]
 
-mod command;
 mod commands;
 mod files;
-mod invocation;
 pub mod laws;
 mod ports;
-mod reading;
-mod reports;
-mod runner;
+mod report;
+mod run;
 mod words;
 
-pub use command::Command;
-pub use invocation::{Invocation, Setting};
 use octets::{Refusal, WriterOutput};
 pub use ports::{Inputs, Outputs};
-pub use reports::report;
-pub use runner::run;
+pub use report::report;
+pub use run::run;
 use std::io;
 use std::process::ExitCode;
 use std::rt::{Env, Files};
+pub use words::invocation::{Invocation, Setting};
 pub use words::parse;
+pub use words::table::Command;
 
 /// Reads the words, and does what they ask over files and the standard streams. Words that are not
 /// UTF-8 are no command.
@@ -50,52 +47,4 @@ fn main(rt: HostRuntime) -> ExitCode {
 }
 
 #[cfg(test)]
-mod algorithm_tests;
-#[cfg(test)]
-mod building_tests;
-#[cfg(test)]
-mod detached_tests;
-#[cfg(test)]
-mod fault_tests;
-#[cfg(test)]
-mod form_tests;
-#[cfg(test)]
-mod gcm_key_wrap_tests;
-#[cfg(test)]
-mod general_peer_tests;
-#[cfg(test)]
-mod general_tests;
-#[cfg(test)]
-mod header_tests;
-#[cfg(test)]
-mod hostile_tests;
-#[cfg(test)]
-mod jwe_tests;
-#[cfg(test)]
-mod jwe_text_tests;
-#[cfg(test)]
-mod jwk_tests;
-#[cfg(test)]
-mod jws_text_tests;
-#[cfg(test)]
-mod key_template_tests;
-#[cfg(test)]
-mod key_tests;
-#[cfg(test)]
-mod long_tests;
-#[cfg(test)]
-mod order_tests;
-#[cfg(test)]
-mod password_tests;
-#[cfg(test)]
-mod peer_tests;
-#[cfg(test)]
-mod pieces_tests;
-#[cfg(test)]
-mod sealing_tests;
-#[cfg(test)]
-mod several_keys_tests;
-#[cfg(test)]
 mod tests;
-#[cfg(test)]
-mod tokens_tests;

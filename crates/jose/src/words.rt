@@ -5,9 +5,13 @@ ghost use Rattle.jose.specs.Rows.{option_entry};
 ghost use Rattle.jose.specs.Invocations.{invocation_view};
 ghost use Rattle.jose.specs.Words.{invocation_of, standard_count, names_standard, is_served as served};
 
+pub(crate) mod invocation;
+mod options;
+pub(crate) mod table;
+
 use crate::Invocation;
-use crate::command::{Command, OptionRow, Role, command_row};
-use crate::reading::read_options;
+use crate::words::options::read_options;
+use crate::words::table::{Command, OptionRow, Role, command_row};
 use octets::{Refusal, needs};
 use std::alloc::Global;
 

@@ -5,10 +5,12 @@ use Rattle.std.specs.Option.{option_or}
 use Rattle.std.specs.Str.{bytes_eq}
 use Rattle.keys.specs.declared.algorithm.SignatureAlg.{SignatureAlg}
 use Rattle.keys.specs.declared.algorithm.SignatureAlg.TheVariants.{Hs256, Hs384, Hs512}
-use Rattle.keys.specs.declared.algorithm.ManagementAlg.{ManagementAlg}
-use Rattle.keys.specs.declared.algorithm.ManagementAlg.TheVariants.{Dir, A128Kw, A192Kw, A256Kw, Pbes2Hs256A128Kw, Pbes2Hs384A192Kw, Pbes2Hs512A256Kw, A128GcmKw, A192GcmKw, A256GcmKw}
-use Rattle.keys.specs.declared.algorithm.EncryptionAlg.{EncryptionAlg}
-use Rattle.keys.specs.declared.algorithm.EncryptionAlg.TheVariants.{A128CbcHs256, A192CbcHs384, A256CbcHs512, A128Gcm, A192Gcm, A256Gcm}
+use Rattle.keys.specs.declared.algorithm.KeyManagementAlg.{KeyManagementAlg}
+use Rattle.keys.specs.declared.algorithm.KeyManagementMode.{KeyManagementMode}
+use Rattle.keys.specs.declared.algorithm.KeyManagementMode.TheVariants.{Direct, KeyWrap, Password, GcmKeyWrap}
+use Rattle.keys.specs.declared.algorithm.KeyManagementAlg.TheVariants.{Dir, A128Kw, A192Kw, A256Kw, Pbes2Hs256A128Kw, Pbes2Hs384A192Kw, Pbes2Hs512A256Kw, A128GcmKw, A192GcmKw, A256GcmKw}
+use Rattle.keys.specs.declared.algorithm.ContentEncryptionAlg.{ContentEncryptionAlg}
+use Rattle.keys.specs.declared.algorithm.ContentEncryptionAlg.TheVariants.{A128CbcHs256, A192CbcHs384, A256CbcHs512, A128Gcm, A192Gcm, A256Gcm}
 use Rattle.keys.specs.declared.algorithm.Algorithm.{Algorithm}
 use Rattle.keys.specs.declared.algorithm.Algorithm.TheVariants.{Signature, Encryption}
 use Rattle.keys.specs.declared.algorithm.NamedAlg.{NamedAlg}
@@ -30,7 +32,7 @@ abbrev pub signature_algs : List SignatureAlg
 signature_algs = Hs256 ∷ Hs384 ∷ Hs512 ∷ []
 
 -- key management: the values of `alg` in a JWE
-abbrev pub management_name : ManagementAlg → List ℕ
+abbrev pub management_name : KeyManagementAlg → List ℕ
 management_name Dir = codes "dir"
 management_name A128Kw = codes "A128KW"
 management_name A192Kw = codes "A192KW"
@@ -43,18 +45,18 @@ management_name A192GcmKw = codes "A192GCMKW"
 management_name A256GcmKw = codes "A256GCMKW"
 
 -- those but the key wrap by AES in GCM
-abbrev pub earlier_management_algs : List ManagementAlg
+abbrev pub earlier_management_algs : List KeyManagementAlg
 earlier_management_algs = Dir ∷ A128Kw ∷ A192Kw ∷ A256Kw ∷ Pbes2Hs256A128Kw ∷ Pbes2Hs384A192Kw ∷ Pbes2Hs512A256Kw ∷ []
 
 -- key wrap by AES in GCM (section 4.7)
-abbrev pub gcm_management_algs : List ManagementAlg
+abbrev pub gcm_management_algs : List KeyManagementAlg
 gcm_management_algs = A128GcmKw ∷ A192GcmKw ∷ A256GcmKw ∷ []
 
-abbrev pub management_algs : List ManagementAlg
+abbrev pub management_algs : List KeyManagementAlg
 management_algs = earlier_management_algs ++ gcm_management_algs
 
 -- content encryption: the values of `enc`
-abbrev pub encryption_name : EncryptionAlg → List ℕ
+abbrev pub encryption_name : ContentEncryptionAlg → List ℕ
 encryption_name A128CbcHs256 = codes "A128CBC-HS256"
 encryption_name A192CbcHs384 = codes "A192CBC-HS384"
 encryption_name A256CbcHs512 = codes "A256CBC-HS512"
@@ -62,20 +64,20 @@ encryption_name A128Gcm = codes "A128GCM"
 encryption_name A192Gcm = codes "A192GCM"
 encryption_name A256Gcm = codes "A256GCM"
 
-abbrev pub encryption_algs : List EncryptionAlg
+abbrev pub encryption_algs : List ContentEncryptionAlg
 encryption_algs = A128CbcHs256 ∷ A192CbcHs384 ∷ A256CbcHs512 ∷ A128Gcm ∷ A192Gcm ∷ A256Gcm ∷ []
 
 -- the algorithm of a name
 unfoldable pub signature_alg_of : List ℕ → Option SignatureAlg
 signature_alg_of name = find (λ alg. bytes_eq name (signature_name alg)) signature_algs
 
-unfoldable pub management_alg_among : List ManagementAlg → List ℕ → Option ManagementAlg
+unfoldable pub management_alg_among : List KeyManagementAlg → List ℕ → Option KeyManagementAlg
 management_alg_among algs name = find (λ alg. bytes_eq name (management_name alg)) algs
 
-abbrev pub management_alg_of : List ℕ → Option ManagementAlg
+abbrev pub management_alg_of : List ℕ → Option KeyManagementAlg
 management_alg_of name = management_alg_among management_algs name
 
-unfoldable pub encryption_alg_of : List ℕ → Option EncryptionAlg
+unfoldable pub encryption_alg_of : List ℕ → Option ContentEncryptionAlg
 encryption_alg_of name = find (λ alg. bytes_eq name (encryption_name alg)) encryption_algs
 
 -- what the `alg` of a key names: an algorithm of signatures, of key management, or of content encryption
@@ -84,6 +86,45 @@ named_alg_of name =
     option_or (option_map named.Signature (signature_alg_of name)) (
     option_or (option_map named.Management (management_alg_of name)) (
     option_map named.Encryption (encryption_alg_of name)))
+
+-- ---- the management of keys
+
+-- how a key delivers the content encryption key: it is that key (section 4.5), it wraps it by AES key wrap (section 4.4), it is a
+-- password from which the key of such a wrap is derived (section 4.8), or it wraps it by AES in GCM (section 4.7)
+abbrev pub mode_of : KeyManagementAlg → KeyManagementMode
+mode_of Dir = Direct
+mode_of A128Kw = KeyWrap
+mode_of A192Kw = KeyWrap
+mode_of A256Kw = KeyWrap
+mode_of Pbes2Hs256A128Kw = Password
+mode_of Pbes2Hs384A192Kw = Password
+mode_of Pbes2Hs512A256Kw = Password
+mode_of A128GcmKw = GcmKeyWrap
+mode_of A192GcmKw = GcmKeyWrap
+mode_of A256GcmKw = GcmKeyWrap
+
+-- the octets of the key of the wrap; 0 where there is none
+abbrev pub kek_len : KeyManagementAlg → ℕ
+kek_len Dir = 0
+kek_len A128Kw = 16
+kek_len A192Kw = 24
+kek_len A256Kw = 32
+kek_len Pbes2Hs256A128Kw = 16
+kek_len Pbes2Hs384A192Kw = 24
+kek_len Pbes2Hs512A256Kw = 32
+kek_len A128GcmKw = 16
+kek_len A192GcmKw = 24
+kek_len A256GcmKw = 32
+
+-- a key of any octets, from which a key of the wrap is derived (section 4.8)
+abbrev pub is_password : KeyManagementMode → Bool
+is_password Direct = false
+is_password KeyWrap = false
+is_password Password = true
+is_password GcmKeyWrap = false
+
+abbrev pub is_password_based : KeyManagementAlg → Bool
+is_password_based alg = is_password (mode_of alg)
 
 -- ---- lengths of keys, in octets
 
@@ -105,7 +146,7 @@ signature_key_len Hs384 = 48
 signature_key_len Hs512 = 64
 
 -- the length of the content encryption key (sections 5.2 and 5.3)
-abbrev pub cek_len : EncryptionAlg → ℕ
+abbrev pub cek_len : ContentEncryptionAlg → ℕ
 cek_len A128CbcHs256 = 32
 cek_len A192CbcHs384 = 48
 cek_len A256CbcHs512 = 64
@@ -114,30 +155,14 @@ cek_len A192Gcm = 24
 cek_len A256Gcm = 32
 
 -- the key of the wrap (sections 4.4 and 4.7), or a password (section 4.8); that of direct encryption is as long as `enc` says
-abbrev pub management_key_len : ManagementAlg → KeyLen
-management_key_len Dir = Any
-management_key_len A128Kw = Exactly 16
-management_key_len A192Kw = Exactly 24
-management_key_len A256Kw = Exactly 32
-management_key_len Pbes2Hs256A128Kw = Any
-management_key_len Pbes2Hs384A192Kw = Any
-management_key_len Pbes2Hs512A256Kw = Any
-management_key_len A128GcmKw = Exactly 16
-management_key_len A192GcmKw = Exactly 24
-management_key_len A256GcmKw = Exactly 32
+abbrev pub len_in : KeyManagementMode → ℕ → KeyLen
+len_in Direct n = Any
+len_in KeyWrap n = Exactly n
+len_in Password n = Any
+len_in GcmKeyWrap n = Exactly n
 
--- a key of any octets, from which a key of the wrap is derived (section 4.8)
-abbrev pub is_password_based : ManagementAlg → Bool
-is_password_based Dir = false
-is_password_based A128Kw = false
-is_password_based A192Kw = false
-is_password_based A256Kw = false
-is_password_based Pbes2Hs256A128Kw = true
-is_password_based Pbes2Hs384A192Kw = true
-is_password_based Pbes2Hs512A256Kw = true
-is_password_based A128GcmKw = false
-is_password_based A192GcmKw = false
-is_password_based A256GcmKw = false
+abbrev pub management_key_len : KeyManagementAlg → KeyLen
+management_key_len alg = len_in (mode_of alg) (kek_len alg)
 
 -- with `enc`, the key of direct encryption is the content encryption key (section 4.5)
 abbrev pub key_len : Algorithm → KeyLen
@@ -160,17 +185,14 @@ key_names (Encryption alg enc) = management_name alg ∷ []
 
 -- ---- operations: of a sender, and of a receiver
 
-abbrev pub management_operations : ManagementAlg → Operation × Operation
-management_operations Dir = (Encrypt, Decrypt)
-management_operations A128Kw = (WrapKey, UnwrapKey)
-management_operations A192Kw = (WrapKey, UnwrapKey)
-management_operations A256Kw = (WrapKey, UnwrapKey)
-management_operations Pbes2Hs256A128Kw = (WrapByPassword, UnwrapByPassword)
-management_operations Pbes2Hs384A192Kw = (WrapByPassword, UnwrapByPassword)
-management_operations Pbes2Hs512A256Kw = (WrapByPassword, UnwrapByPassword)
-management_operations A128GcmKw = (WrapKey, UnwrapKey)
-management_operations A192GcmKw = (WrapKey, UnwrapKey)
-management_operations A256GcmKw = (WrapKey, UnwrapKey)
+abbrev pub operations_in : KeyManagementMode → Operation × Operation
+operations_in Direct = (Encrypt, Decrypt)
+operations_in KeyWrap = (WrapKey, UnwrapKey)
+operations_in Password = (WrapByPassword, UnwrapByPassword)
+operations_in GcmKeyWrap = (WrapKey, UnwrapKey)
+
+abbrev pub management_operations : KeyManagementAlg → Operation × Operation
+management_operations alg = operations_in (mode_of alg)
 
 abbrev pub operations : NamedAlg → Operation × Operation
 operations (named.Signature alg) = (Sign, Verify)

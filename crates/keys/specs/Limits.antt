@@ -1,7 +1,7 @@
 -- The limits of this profile, and the algorithms that it has. A definition that tests one takes them, so that a law can speak of two
 -- values.
-use Rattle.std.specs.Prelude.{ℕ, List}
-use Rattle.keys.specs.declared.algorithm.ManagementAlg.{ManagementAlg}
+use Rattle.std.specs.Prelude.{ℕ, Bool, nat_le, List}
+use Rattle.keys.specs.declared.algorithm.KeyManagementAlg.{KeyManagementAlg}
 use Rattle.keys.specs.Algorithms.{management_algs}
 
 pub record Limits : Type 0 where
@@ -20,7 +20,7 @@ pub record Limits : Type 0 where
   -- the greatest sum of p2c over the recipients of an object, and over the pairs that are tried
   pub p2c_sum : ℕ
   -- the algorithms of key management
-  pub management : List ManagementAlg
+  pub management : List KeyManagementAlg
 
 -- those of this profile
 abbrev pub limits : Limits
@@ -51,3 +51,7 @@ earlier_limits = record {
   p2c_sum = 4000000;
   management = management_algs;
 }
+
+-- so many recipients, or signatures, are not too many for an object
+abbrev pub are_few : Limits → ℕ → Bool
+are_few limits n = nat_le n limits.recipients

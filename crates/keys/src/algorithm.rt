@@ -1,6 +1,6 @@
 //! The algorithms: their names, the lengths of their keys, and the operations that they serve. It sees no key and no JSON.
 ghost use Rattle.std.specs.Prelude.{◌≡◌, Some};
-ghost use Rattle.keys.specs.Algorithms.{signature_name, signature_alg_of, management_name, management_alg_of, encryption_name, encryption_alg_of, named_alg_of, cek_len, signature_key_len, management_key_len, key_len, named_key_len, has_len, usual_len, is_password_based, management_operations, operations};
+ghost use Rattle.keys.specs.Algorithms.{signature_name, signature_alg_of, management_name, management_alg_of, encryption_name, encryption_alg_of, named_alg_of, cek_len, signature_key_len, mode_of, kek_len, management_key_len, key_len, named_key_len, has_len, usual_len, is_password_based, management_operations, operations};
 
 use crate::operation::Operation;
 
@@ -17,7 +17,7 @@ pub enum SignatureAlg {
 
 /// An algorithm of key management (RFC 7518 section 4.1): a value of `alg` in a JWE.
 #[derive(Clone, Copy, Debug, PartialEq, Eq)]
-pub enum ManagementAlg {
+pub enum KeyManagementAlg {
     /// The key is the content encryption key.
     Dir,
     /// AES key wrap with a key of 128 bits.
@@ -40,9 +40,22 @@ pub enum ManagementAlg {
     A256GcmKw,
 }
 
+/// How a key delivers the content encryption key (RFC 7518 section 4).
+#[derive(Clone, Copy, Debug, PartialEq, Eq)]
+pub enum KeyManagementMode {
+    /// It is that key (section 4.5).
+    Direct,
+    /// It wraps it by AES key wrap (section 4.4).
+    KeyWrap,
+    /// It is a password, from which the key of an AES key wrap is derived (section 4.8).
+    Password,
+    /// It wraps it by AES in GCM (section 4.7).
+    GcmKeyWrap,
+}
+
 /// An algorithm of content encryption (RFC 7518 section 5.1): a value of `enc`.
 #[derive(Clone, Copy, Debug, PartialEq, Eq)]
-pub enum EncryptionAlg {
+pub enum ContentEncryptionAlg {
     /// AES-128 in CBC mode with HMAC SHA-256.
     A128CbcHs256,
     /// AES-192 in CBC mode with HMAC SHA-384.
@@ -61,15 +74,15 @@ pub enum EncryptionAlg {
 #[derive(Clone, Copy, Debug, PartialEq, Eq)]
 pub enum Algorithm {
     Signature(SignatureAlg),
-    Encryption(ManagementAlg, EncryptionAlg),
+    Encryption(KeyManagementAlg, ContentEncryptionAlg),
 }
 
 /// What the `alg` of a key may name (RFC 7517 section 4.4).
 #[derive(Clone, Copy)]
 pub(crate) enum NamedAlg {
     Signature(SignatureAlg),
-    Management(ManagementAlg),
-    Encryption(EncryptionAlg),
+    Management(KeyManagementAlg),
+    Encryption(ContentEncryptionAlg),
 }
 
 /// How long a key is, in octets.
@@ -119,23 +132,23 @@ impl SignatureAlg {
     }
 }
 
-impl ManagementAlg {
+impl KeyManagementAlg {
     /// The algorithm of this name.
     #[tactic(auto, unfolding(crate::specs::Algorithms::management_alg_among))]
-    pub fn named(name: &str) -> Option<ManagementAlg>
+    pub fn named(name: &str) -> Option<KeyManagementAlg>
         ensures { result ≡ management_alg_of name.now }
     {
         match name {
-            "dir" => Some(ManagementAlg::Dir),
-            "A128KW" => Some(ManagementAlg::A128Kw),
-            "A192KW" => Some(ManagementAlg::A192Kw),
-            "A256KW" => Some(ManagementAlg::A256Kw),
-            "PBES2-HS256+A128KW" => Some(ManagementAlg::Pbes2Hs256A128Kw),
-            "PBES2-HS384+A192KW" => Some(ManagementAlg::Pbes2Hs384A192Kw),
-            "PBES2-HS512+A256KW" => Some(ManagementAlg::Pbes2Hs512A256Kw),
-            "A128GCMKW" => Some(ManagementAlg::A128GcmKw),
-            "A192GCMKW" => Some(ManagementAlg::A192GcmKw),
-            "A256GCMKW" => Some(ManagementAlg::A256GcmKw),
+            "dir" => Some(KeyManagementAlg::Dir),
+            "A128KW" => Some(KeyManagementAlg::A128Kw),
+            "A192KW" => Some(KeyManagementAlg::A192Kw),
+            "A256KW" => Some(KeyManagementAlg::A256Kw),
+            "PBES2-HS256+A128KW" => Some(KeyManagementAlg::Pbes2Hs256A128Kw),
+            "PBES2-HS384+A192KW" => Some(KeyManagementAlg::Pbes2Hs384A192Kw),
+            "PBES2-HS512+A256KW" => Some(KeyManagementAlg::Pbes2Hs512A256Kw),
+            "A128GCMKW" => Some(KeyManagementAlg::A128GcmKw),
+            "A192GCMKW" => Some(KeyManagementAlg::A192GcmKw),
+            "A256GCMKW" => Some(KeyManagementAlg::A256GcmKw),
             _ => None,
         }
     }
@@ -147,16 +160,52 @@ impl ManagementAlg {
         ensures found { management_alg_of result.now ≡ Some self }
     {
         match self {
-            ManagementAlg::Dir => "dir",
-            ManagementAlg::A128Kw => "A128KW",
-            ManagementAlg::A192Kw => "A192KW",
-            ManagementAlg::A256Kw => "A256KW",
-            ManagementAlg::Pbes2Hs256A128Kw => "PBES2-HS256+A128KW",
-            ManagementAlg::Pbes2Hs384A192Kw => "PBES2-HS384+A192KW",
-            ManagementAlg::Pbes2Hs512A256Kw => "PBES2-HS512+A256KW",
-            ManagementAlg::A128GcmKw => "A128GCMKW",
-            ManagementAlg::A192GcmKw => "A192GCMKW",
-            ManagementAlg::A256GcmKw => "A256GCMKW",
+            KeyManagementAlg::Dir => "dir",
+            KeyManagementAlg::A128Kw => "A128KW",
+            KeyManagementAlg::A192Kw => "A192KW",
+            KeyManagementAlg::A256Kw => "A256KW",
+            KeyManagementAlg::Pbes2Hs256A128Kw => "PBES2-HS256+A128KW",
+            KeyManagementAlg::Pbes2Hs384A192Kw => "PBES2-HS384+A192KW",
+            KeyManagementAlg::Pbes2Hs512A256Kw => "PBES2-HS512+A256KW",
+            KeyManagementAlg::A128GcmKw => "A128GCMKW",
+            KeyManagementAlg::A192GcmKw => "A192GCMKW",
+            KeyManagementAlg::A256GcmKw => "A256GCMKW",
+        }
+    }
+
+    /// How its key delivers the content encryption key.
+    pub fn mode(self) -> KeyManagementMode
+        ensures { result ≡ mode_of self }
+    {
+        match self {
+            KeyManagementAlg::Dir => KeyManagementMode::Direct,
+            KeyManagementAlg::A128Kw | KeyManagementAlg::A192Kw | KeyManagementAlg::A256Kw => {
+                KeyManagementMode::KeyWrap
+            }
+            KeyManagementAlg::Pbes2Hs256A128Kw
+            | KeyManagementAlg::Pbes2Hs384A192Kw
+            | KeyManagementAlg::Pbes2Hs512A256Kw => KeyManagementMode::Password,
+            KeyManagementAlg::A128GcmKw
+            | KeyManagementAlg::A192GcmKw
+            | KeyManagementAlg::A256GcmKw => KeyManagementMode::GcmKeyWrap,
+        }
+    }
+
+    /// The octets of the key of the wrap: 16, 24 or 32, and 0 where there is none.
+    pub fn kek_len(self) -> usize
+        ensures { result ≡ kek_len self }
+    {
+        match self {
+            KeyManagementAlg::Dir => 0,
+            KeyManagementAlg::A128Kw
+            | KeyManagementAlg::Pbes2Hs256A128Kw
+            | KeyManagementAlg::A128GcmKw => 16,
+            KeyManagementAlg::A192Kw
+            | KeyManagementAlg::Pbes2Hs384A192Kw
+            | KeyManagementAlg::A192GcmKw => 24,
+            KeyManagementAlg::A256Kw
+            | KeyManagementAlg::Pbes2Hs512A256Kw
+            | KeyManagementAlg::A256GcmKw => 32,
         }
     }
 
@@ -164,14 +213,11 @@ impl ManagementAlg {
     pub(crate) fn key_len(self) -> KeyLen
         ensures { result ≡ management_key_len self }
     {
-        match self {
-            ManagementAlg::A128Kw | ManagementAlg::A128GcmKw => KeyLen::Exactly(16),
-            ManagementAlg::A192Kw | ManagementAlg::A192GcmKw => KeyLen::Exactly(24),
-            ManagementAlg::A256Kw | ManagementAlg::A256GcmKw => KeyLen::Exactly(32),
-            ManagementAlg::Dir
-            | ManagementAlg::Pbes2Hs256A128Kw
-            | ManagementAlg::Pbes2Hs384A192Kw
-            | ManagementAlg::Pbes2Hs512A256Kw => KeyLen::Any,
+        match self.mode() {
+            KeyManagementMode::KeyWrap | KeyManagementMode::GcmKeyWrap => {
+                KeyLen::Exactly(self.kek_len())
+            }
+            KeyManagementMode::Direct | KeyManagementMode::Password => KeyLen::Any,
         }
     }
 
@@ -179,17 +225,11 @@ impl ManagementAlg {
     pub fn is_password_based(self) -> bool
         ensures { result ≡ is_password_based self }
     {
-        match self {
-            ManagementAlg::Dir
-            | ManagementAlg::A128Kw
-            | ManagementAlg::A192Kw
-            | ManagementAlg::A256Kw
-            | ManagementAlg::A128GcmKw
-            | ManagementAlg::A192GcmKw
-            | ManagementAlg::A256GcmKw => false,
-            ManagementAlg::Pbes2Hs256A128Kw
-            | ManagementAlg::Pbes2Hs384A192Kw
-            | ManagementAlg::Pbes2Hs512A256Kw => true,
+        match self.mode() {
+            KeyManagementMode::Password => true,
+            KeyManagementMode::Direct
+            | KeyManagementMode::KeyWrap
+            | KeyManagementMode::GcmKeyWrap => false,
         }
     }
 
@@ -197,36 +237,31 @@ impl ManagementAlg {
     pub fn operations(self) -> (Operation, Operation)
         ensures { result ≡ management_operations self }
     {
-        match self {
-            ManagementAlg::Dir => (Operation::Encrypt, Operation::Decrypt),
-            ManagementAlg::A128Kw
-            | ManagementAlg::A192Kw
-            | ManagementAlg::A256Kw
-            | ManagementAlg::A128GcmKw
-            | ManagementAlg::A192GcmKw
-            | ManagementAlg::A256GcmKw => (Operation::WrapKey, Operation::UnwrapKey),
-            ManagementAlg::Pbes2Hs256A128Kw
-            | ManagementAlg::Pbes2Hs384A192Kw
-            | ManagementAlg::Pbes2Hs512A256Kw => {
+        match self.mode() {
+            KeyManagementMode::Direct => (Operation::Encrypt, Operation::Decrypt),
+            KeyManagementMode::KeyWrap | KeyManagementMode::GcmKeyWrap => {
+                (Operation::WrapKey, Operation::UnwrapKey)
+            }
+            KeyManagementMode::Password => {
                 (Operation::WrapByPassword, Operation::UnwrapByPassword)
             }
         }
     }
 }
 
-impl EncryptionAlg {
+impl ContentEncryptionAlg {
     /// The algorithm of this name.
     #[tactic(auto, unfolding(crate::specs::Algorithms::encryption_alg_of))]
-    pub fn named(name: &str) -> Option<EncryptionAlg>
+    pub fn named(name: &str) -> Option<ContentEncryptionAlg>
         ensures { result ≡ encryption_alg_of name.now }
     {
         match name {
-            "A128CBC-HS256" => Some(EncryptionAlg::A128CbcHs256),
-            "A192CBC-HS384" => Some(EncryptionAlg::A192CbcHs384),
-            "A256CBC-HS512" => Some(EncryptionAlg::A256CbcHs512),
-            "A128GCM" => Some(EncryptionAlg::A128Gcm),
-            "A192GCM" => Some(EncryptionAlg::A192Gcm),
-            "A256GCM" => Some(EncryptionAlg::A256Gcm),
+            "A128CBC-HS256" => Some(ContentEncryptionAlg::A128CbcHs256),
+            "A192CBC-HS384" => Some(ContentEncryptionAlg::A192CbcHs384),
+            "A256CBC-HS512" => Some(ContentEncryptionAlg::A256CbcHs512),
+            "A128GCM" => Some(ContentEncryptionAlg::A128Gcm),
+            "A192GCM" => Some(ContentEncryptionAlg::A192Gcm),
+            "A256GCM" => Some(ContentEncryptionAlg::A256Gcm),
             _ => None,
         }
     }
@@ -238,12 +273,12 @@ impl EncryptionAlg {
         ensures found { encryption_alg_of result.now ≡ Some self }
     {
         match self {
-            EncryptionAlg::A128CbcHs256 => "A128CBC-HS256",
-            EncryptionAlg::A192CbcHs384 => "A192CBC-HS384",
-            EncryptionAlg::A256CbcHs512 => "A256CBC-HS512",
-            EncryptionAlg::A128Gcm => "A128GCM",
-            EncryptionAlg::A192Gcm => "A192GCM",
-            EncryptionAlg::A256Gcm => "A256GCM",
+            ContentEncryptionAlg::A128CbcHs256 => "A128CBC-HS256",
+            ContentEncryptionAlg::A192CbcHs384 => "A192CBC-HS384",
+            ContentEncryptionAlg::A256CbcHs512 => "A256CBC-HS512",
+            ContentEncryptionAlg::A128Gcm => "A128GCM",
+            ContentEncryptionAlg::A192Gcm => "A192GCM",
+            ContentEncryptionAlg::A256Gcm => "A256GCM",
         }
     }
 
@@ -252,11 +287,11 @@ impl EncryptionAlg {
         ensures { result ≡ cek_len self }
     {
         match self {
-            EncryptionAlg::A128CbcHs256 | EncryptionAlg::A256Gcm => 32,
-            EncryptionAlg::A192CbcHs384 => 48,
-            EncryptionAlg::A256CbcHs512 => 64,
-            EncryptionAlg::A128Gcm => 16,
-            EncryptionAlg::A192Gcm => 24,
+            ContentEncryptionAlg::A128CbcHs256 | ContentEncryptionAlg::A256Gcm => 32,
+            ContentEncryptionAlg::A192CbcHs384 => 48,
+            ContentEncryptionAlg::A256CbcHs512 => 64,
+            ContentEncryptionAlg::A128Gcm => 16,
+            ContentEncryptionAlg::A192Gcm => 24,
         }
     }
 }
@@ -268,7 +303,7 @@ impl Algorithm {
     {
         match self {
             Algorithm::Signature(alg) => KeyLen::AtLeast(alg.key_len()),
-            Algorithm::Encryption(ManagementAlg::Dir, enc) => KeyLen::Exactly(enc.cek_len()),
+            Algorithm::Encryption(KeyManagementAlg::Dir, enc) => KeyLen::Exactly(enc.cek_len()),
             Algorithm::Encryption(alg, _) => alg.key_len(),
         }
     }
@@ -283,10 +318,10 @@ impl NamedAlg {
         if let Some(alg) = SignatureAlg::named(name) {
             return Some(NamedAlg::Signature(alg));
         }
-        if let Some(alg) = ManagementAlg::named(name) {
+        if let Some(alg) = KeyManagementAlg::named(name) {
             return Some(NamedAlg::Management(alg));
         }
-        match EncryptionAlg::named(name) {
+        match ContentEncryptionAlg::named(name) {
             None => None,
             Some(alg) => Some(NamedAlg::Encryption(alg)),
         }

@@ -14,9 +14,9 @@ ghost use Rattle.keys.specs.Limits.{limits};
 ghost use Rattle.keys.specs.Views.{plan_view};
 
 use crate::algorithm::NamedAlg;
-use crate::json_values::{object_nests_at_most, read_json};
 use crate::key_template::{alg_if_there, fitting_len, is_within_limit, read_template};
 use crate::limits::{MOST_DEPTH, MOST_KEY_OCTETS};
+use crate::strict_json::{object_nests_at_most, read_json};
 use octets::{Input, Refusal, b64_encode, draw, needs};
 use serde_json::{Map, Value};
 use std::alloc::{AllocError, Global};

@@ -9,9 +9,9 @@ ghost use Rattle.keys.specs.Limits.{limits};
 ghost use Rattle.keys.specs.Views.{asked_view};
 
 use crate::algorithm::NamedAlg;
-use crate::json_values::is_object;
 use crate::limits::MOST_KEY_OCTETS;
 use crate::members::{optional_string_member, optional_strings_member};
+use crate::strict_json::is_object;
 use octets::{Refusal, needs};
 use serde_json::Value;
 use std::alloc::Global;

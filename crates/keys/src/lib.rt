@@ -12,7 +12,6 @@
 
 mod algorithm;
 mod generating;
-mod json_values;
 mod key;
 mod key_template;
 pub mod laws;
@@ -21,14 +20,14 @@ mod members;
 mod octet_key;
 mod operation;
 mod set;
+mod strict_json;
 mod texts;
 mod thumbprints;
 
-pub use algorithm::{Algorithm, EncryptionAlg, ManagementAlg, SignatureAlg};
-pub use generating::generate;
-pub use json_values::{
-    has_only, is_object, members_have_whole_numbers, nests_at_most, object_nests_at_most, read_json,
+pub use algorithm::{
+    Algorithm, ContentEncryptionAlg, KeyManagementAlg, KeyManagementMode, SignatureAlg,
 };
+pub use generating::generate;
 pub use key::Key;
 pub use limits::{
     GREATEST_P2C, GREATEST_P2C_READ, LEAST_P2C, MOST_DEPTH, MOST_ITERATIONS, MOST_KEY_OCTETS,
@@ -36,4 +35,7 @@ pub use limits::{
 };
 pub use operation::Operation;
 pub use set::{KeySet, are_objects};
+pub use strict_json::{
+    has_only, is_object, members_have_whole_numbers, nests_at_most, object_nests_at_most, read_json,
+};
 pub use thumbprints::thumbprint;

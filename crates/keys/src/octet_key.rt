@@ -12,7 +12,7 @@ ghost use Rattle.keys.specs.Operations.{operation_names};
 ghost use Rattle.keys.specs.Texts.{is_among};
 ghost use Rattle.keys.specs.Views.{key_view};
 
-use crate::algorithm::{Algorithm, ManagementAlg};
+use crate::algorithm::{Algorithm, KeyManagementAlg};
 use crate::key::Key;
 use crate::limits::MOST_KEY_OCTETS;
 use crate::members::{optional_string_member, optional_strings_member, string_member};
@@ -132,8 +132,8 @@ fn is_absent_or_names(found: Option<&str>, algorithm: Algorithm) -> bool
         None => true,
         Some(name) => match algorithm {
             Algorithm::Signature(alg) => alg.name() == name,
-            Algorithm::Encryption(ManagementAlg::Dir, enc) => {
-                ManagementAlg::Dir.name() == name || enc.name() == name
+            Algorithm::Encryption(KeyManagementAlg::Dir, enc) => {
+                KeyManagementAlg::Dir.name() == name || enc.name() == name
             }
             Algorithm::Encryption(alg, _) => alg.name() == name,
         },

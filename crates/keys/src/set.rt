@@ -8,10 +8,10 @@ ghost use Rattle.keys.specs.Keys.{AreOctetKeys};
 ghost use Rattle.keys.specs.Limits.{limits};
 ghost use Rattle.keys.specs.Views.{key_view};
 
-use crate::json_values::{is_object, read_json};
 use crate::key::Key;
 use crate::limits::MOST_KEYS;
 use crate::octet_key::read_key;
+use crate::strict_json::{is_object, read_json};
 use octets::{Refusal, needs};
 use serde_json::Value;
 use std::alloc::Global;

@@ -3,7 +3,7 @@ use Rattle.std.proofs.Common.{◌≡◌, ◌≤◌, ℕ, List, [], ◌∷◌, le
 use Rattle.std.proofs.lemmas.Bool.{cases_lt, le-leb, and_from}
 use Rattle.std.proofs.lemmas.List.{length-map}
 use Rattle.std.specs.List.{AllByRecursion}
-use Rattle.serde_json.specs.Data.{Members, object, depth}
+use Rattle.serde_json.specs.Data.{Data, Members, object, depth}
 use Rattle.serde_json.specs.Written.{compact_text}
 use Rattle.octets.specs.declared.refusal.Refusal.{Refusal}
 use Rattle.octets.specs.declared.refusal.Refusal.TheVariants.{Json, Form}
@@ -12,28 +12,29 @@ use Rattle.keys.specs.Json.{json_value}
 use Rattle.keys.specs.JsonTexts.{DeepTextsAreRefused}
 use Rattle.keys.specs.Limits.{Limits}
 use Rattle.keys.proofs.ReadingBack.{numbers_whole}
-use Rattle.objects.specs.Jwe.{JweParts, RecipientParts, JweTexts, json_texts, jwe_texts, object_of_texts, jwe_of, nest_at_most, is_shallow, have_whole_numbers, built, members_text, AreMembers, BuildingIsReading}
+use Rattle.objects.specs.Jwe.{JweParts, RecipientParts, EncodedJwe, encoded_in_json, encoded_jwe, decoded_object, jwe_of, nest_at_most, is_shallow, have_whole_numbers, built, members_text, AreMembers, BuildingIsReading, JsonTextsAreCompact}
 use Rattle.objects.specs.Texts.{handed_in, header_depth, depth_of_each}
 use Rattle.objects.proofs.DetachedContent.{handed_octets}
 use Rattle.objects.proofs.EachRead.{all_pass, images_pass}
+use Rattle.objects.proofs.JweWritten.{members_are_written}
 use Rattle.objects.proofs.MadeJwe.{IsRecipient, json_are}
 use Rattle.objects.proofs.Members.{put_all}
 use Rattle.objects.proofs.ReadJson.{IsShallow, header_shallow}
 use Rattle.objects.proofs.Spelling.{Laws, object_form, object_value}
-use Rattle.objects.proofs.SpellingJwe.{entries, unprotected_found, texts_read, no_texts_read, recipient_spelled, parts_spelled, members_are_put, decoding, decoding_is, members_json, object_json}
+use Rattle.objects.proofs.SpellingJwe.{entries, unprotected_found, texts_read, no_texts_read, recipient_spelled, parts_spelled, decoding, decoding_is, members_json, object_json}
 
 -- the value of the JSON text
 abbrev members_of : Bool → JweParts → Members
 members_of detach parts = put_all (entries detach (parts_spelled parts))
 
 -- a text is read by its value
-read_value : (limits : Limits) (detached : Option (List ℕ)) (ms : Members) (r : Result JweTexts Refusal) → json_value (compact_text (object ms)) ≡ Ok (object ms) → json_texts detached (object ms) ≡ r
-    → jwe_of limits detached (compact_text (object ms)) ≡ (r >>= object_of_texts limits)
-unfolding jwe_of jwe_texts
+read_value : (limits : Limits) (detached : Option (List ℕ)) (ms : Members) (r : Result EncodedJwe Refusal) → json_value (compact_text (object ms)) ≡ Ok (object ms) → encoded_in_json detached (object ms) ≡ r
+    → jwe_of limits detached (compact_text (object ms)) ≡ (r >>= decoded_object limits)
+unfolding jwe_of encoded_jwe
 read_value limits detached ms r value texts = rw (object_form ms, value, texts) refl
 
 refuse_value : (limits : Limits) (detached : Option (List ℕ)) (ms : Members) → json_value (compact_text (object ms)) ≡ Err Json → jwe_of limits detached (compact_text (object ms)) ≡ Err Json
-unfolding jwe_of jwe_texts
+unfolding jwe_of encoded_jwe
 refuse_value limits detached ms value = rw (object_form ms, value) refl
 
 -- there are texts of recipients where there are recipients
@@ -52,7 +53,7 @@ built_shallow limits parts members shallow =
 read_shallow : Laws → (limits : Limits) (parts : JweParts) → AreMembers parts → is_shallow parts ≡ true → (detach b : Bool) → nat_le 1 (length parts.recipients) ≡ b
     → jwe_of limits (handed_in detach parts.ciphertext) (compact_text (object (members_of detach parts))) ≡ (needs b Form >>= λ some. decoding limits parts)
 read_shallow laws limits parts members shallow detach b some =
-    let t : JweTexts = parts_spelled parts in
+    let t : EncodedJwe = parts_spelled parts in
     let value = object_value laws (entries detach t) (members_json laws parts members shallow detach) in
     by_count b parts.recipients refl some value
   where
@@ -73,7 +74,7 @@ recipients_nest : Laws → (parts : JweParts) → AreMembers parts → (detach :
     → nest_at_most (depth_of_each (length parts.recipients)) parts.recipients ≡ true
 recipients_nest laws parts members detach value [] is = ap (λ l. nest_at_most (depth_of_each (length l)) l) is
 recipients_nest laws parts members detach value (r ∷ rs) is =
-    let t : JweTexts = parts_spelled parts in
+    let t : EncodedJwe = parts_spelled parts in
     let some : nat_le 1 (length parts.recipients) ≡ true = ap (λ l. nat_le 1 (length l)) is ∙ le-leb 1 (length (r ∷ rs)) (omega arith) in
     let are = json_are laws.keep (record { exact = laws.exact; octets = laws.octets }) (handed_in detach parts.ciphertext) (handed_octets detach parts.ciphertext members.ciphertext) _ t value
     (texts_read detach parts.ciphertext t refl (some_texts parts some)) in
@@ -109,7 +110,23 @@ by_depth laws refused limits parts members detach true shallow = built_shallow l
 by_depth laws refused limits parts members detach false deep = built_deep limits parts deep ∙ sym (read_deep laws refused limits parts members deep detach)
 
 pub building_is_reading : Laws → DeepTextsAreRefused → BuildingIsReading
-unfolding members_text
 building_is_reading laws refused limits parts members detach =
-    by_depth laws refused limits parts members detach _ refl
-    ∙ ap (λ ms. jwe_of limits (handed_in detach parts.ciphertext) (compact_text (object ms))) (sym (members_are_put detach parts))
+    by_depth laws refused limits parts members detach _ refl ∙ ap (jwe_of limits (handed_in detach parts.ciphertext)) (sym (members_are_written laws detach parts members))
+
+-- ---- the text itself
+
+-- what is read of it is the value of its members, or nothing
+read_as_written : Laws → DeepTextsAreRefused → (detach : Bool) (parts : JweParts) → AreMembers parts → (value : Data) → json_value (compact_text (object (members_of detach parts))) ≡ Ok value
+    → compact_text (object (members_of detach parts)) ≡ compact_text value
+read_as_written laws refused detach parts members value read =
+    let ms = members_of detach parts in
+    let json = object_json laws parts members detach in
+    elim (cases_lt 127 (depth (object ms))) [
+      | inl deeper ↦ let none = refused (object ms) json deeper in cc (read, none)
+      | inr shallow ↦ let again = laws.reads_back (object ms) json shallow in let same : object ms ≡ value = cc (again, read) in ap compact_text same
+    ]
+
+pub json_texts_are_compact : Laws → DeepTextsAreRefused → JsonTextsAreCompact
+json_texts_are_compact laws refused detach parts value members read =
+    let written = members_are_written laws detach parts members in
+    written ∙ read_as_written laws refused detach parts members value (ap json_value (sym written) ∙ read)

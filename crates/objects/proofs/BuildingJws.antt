@@ -3,7 +3,7 @@ use Rattle.std.proofs.Common.{◌≡◌, ◌≤◌, ℕ, List, [], ◌∷◌, le
 use Rattle.std.proofs.lemmas.Bool.{cases_lt, le-leb}
 use Rattle.std.proofs.lemmas.List.{length-map}
 use Rattle.std.specs.List.{AllByRecursion}
-use Rattle.serde_json.specs.Data.{Members, object, depth}
+use Rattle.serde_json.specs.Data.{Data, Members, object, depth}
 use Rattle.serde_json.specs.Written.{compact_text}
 use Rattle.octets.specs.declared.refusal.Refusal.{Refusal}
 use Rattle.octets.specs.declared.refusal.Refusal.TheVariants.{Json, Form}
@@ -12,28 +12,29 @@ use Rattle.keys.specs.Json.{json_value}
 use Rattle.keys.specs.JsonTexts.{DeepTextsAreRefused}
 use Rattle.keys.specs.Limits.{Limits}
 use Rattle.keys.proofs.ReadingBack.{numbers_whole}
-use Rattle.objects.specs.Jws.{JwsParts, SignatureParts, JwsTexts, json_texts, jws_texts, object_of_texts, jws_of, nest_at_most, have_whole_numbers, built, members_text, AreMembers, BuildingIsReading}
+use Rattle.objects.specs.Jws.{JwsParts, SignatureParts, EncodedJws, encoded_in_json, encoded_jws, decoded_object, jws_of, nest_at_most, have_whole_numbers, built, members_text, AreMembers, BuildingIsReading, JsonTextsAreCompact}
 use Rattle.objects.specs.Texts.{handed_in, depth_of_each}
 use Rattle.objects.proofs.DetachedContent.{handed_octets}
 use Rattle.objects.proofs.EachRead.{all_pass, images_pass}
+use Rattle.objects.proofs.JwsWritten.{members_are_written}
 use Rattle.objects.proofs.MadeJws.{IsSignature, json_are}
 use Rattle.objects.proofs.Members.{put_all}
 use Rattle.objects.proofs.ReadJson.{IsShallow}
 use Rattle.objects.proofs.Spelling.{Laws, object_form, object_value}
-use Rattle.objects.proofs.SpellingJws.{entries, texts_read, no_texts_read, signature_spelled, parts_spelled, members_are_put, decoding, decoding_is, members_json, object_json}
+use Rattle.objects.proofs.SpellingJws.{entries, texts_read, no_texts_read, signature_spelled, parts_spelled, decoding, decoding_is, members_json, object_json}
 
 -- the value of the JSON text
 abbrev members_of : Bool → JwsParts → Members
 members_of detach parts = put_all (entries detach (parts_spelled parts))
 
 -- a text is read by its value
-read_value : (limits : Limits) (detached : Option (List ℕ)) (ms : Members) (r : Result JwsTexts Refusal) → json_value (compact_text (object ms)) ≡ Ok (object ms) → json_texts detached (object ms) ≡ r
-    → jws_of limits detached (compact_text (object ms)) ≡ (r >>= object_of_texts limits)
-unfolding jws_of jws_texts
+read_value : (limits : Limits) (detached : Option (List ℕ)) (ms : Members) (r : Result EncodedJws Refusal) → json_value (compact_text (object ms)) ≡ Ok (object ms) → encoded_in_json detached (object ms) ≡ r
+    → jws_of limits detached (compact_text (object ms)) ≡ (r >>= decoded_object limits)
+unfolding jws_of encoded_jws
 read_value limits detached ms r value texts = rw (object_form ms, value, texts) refl
 
 refuse_value : (limits : Limits) (detached : Option (List ℕ)) (ms : Members) → json_value (compact_text (object ms)) ≡ Err Json → jws_of limits detached (compact_text (object ms)) ≡ Err Json
-unfolding jws_of jws_texts
+unfolding jws_of encoded_jws
 refuse_value limits detached ms value = rw (object_form ms, value) refl
 
 -- there are texts of signatures where there are signatures
@@ -52,7 +53,7 @@ built_shallow limits parts members shallow =
 read_shallow : Laws → (limits : Limits) (parts : JwsParts) → AreMembers parts → nest_at_most (depth_of_each (length parts.signatures)) parts.signatures ≡ true → (detach b : Bool) → nat_le 1 (length parts.signatures) ≡ b
     → jws_of limits (handed_in detach parts.payload) (compact_text (object (members_of detach parts))) ≡ (needs b Form >>= λ some. decoding limits parts)
 read_shallow laws limits parts members shallow detach b some =
-    let t : JwsTexts = parts_spelled parts in
+    let t : EncodedJws = parts_spelled parts in
     let value = object_value laws (entries detach t) (members_json laws parts members shallow detach) in
     by_count b parts.signatures refl some value
   where
@@ -73,7 +74,7 @@ shallow_nest : Laws → (parts : JwsParts) → AreMembers parts → (detach : Bo
     → nest_at_most (depth_of_each (length parts.signatures)) parts.signatures ≡ true
 shallow_nest laws parts members detach h [] is = ap (λ l. nest_at_most (depth_of_each (length l)) l) is
 shallow_nest laws parts members detach h (s ∷ ss) is =
-    let t : JwsTexts = parts_spelled parts in
+    let t : EncodedJws = parts_spelled parts in
     let value : IsShallow 127 (object (members_of detach parts)) = record { json = object_json laws parts members detach; shallow = h } in
     let some : nat_le 1 (length parts.signatures) ≡ true = ap (λ l. nat_le 1 (length l)) is ∙ le-leb 1 (length (s ∷ ss)) (omega arith) in
     let are = json_are laws.keep (record { exact = laws.exact; octets = laws.octets }) (handed_in detach parts.payload) (handed_octets detach parts.payload members.payload) _ t value
@@ -104,7 +105,23 @@ by_depth laws refused limits parts members detach true shallow = built_shallow l
 by_depth laws refused limits parts members detach false deep = built_deep limits parts deep ∙ sym (read_deep laws refused limits parts members deep detach)
 
 pub building_is_reading : Laws → DeepTextsAreRefused → BuildingIsReading
-unfolding members_text
 building_is_reading laws refused limits parts members detach =
-    by_depth laws refused limits parts members detach _ refl
-    ∙ ap (λ ms. jws_of limits (handed_in detach parts.payload) (compact_text (object ms))) (sym (members_are_put detach parts))
+    by_depth laws refused limits parts members detach _ refl ∙ ap (jws_of limits (handed_in detach parts.payload)) (sym (members_are_written laws detach parts members))
+
+-- ---- the text itself
+
+-- what is read of it is the value of its members, or nothing
+read_as_written : Laws → DeepTextsAreRefused → (detach : Bool) (parts : JwsParts) → AreMembers parts → (value : Data) → json_value (compact_text (object (members_of detach parts))) ≡ Ok value
+    → compact_text (object (members_of detach parts)) ≡ compact_text value
+read_as_written laws refused detach parts members value read =
+    let ms = members_of detach parts in
+    let json = object_json laws parts members detach in
+    elim (cases_lt 127 (depth (object ms))) [
+      | inl deeper ↦ let none = refused (object ms) json deeper in cc (read, none)
+      | inr shallow ↦ let again = laws.reads_back (object ms) json shallow in let same : object ms ≡ value = cc (again, read) in ap compact_text same
+    ]
+
+pub json_texts_are_compact : Laws → DeepTextsAreRefused → JsonTextsAreCompact
+json_texts_are_compact laws refused detach parts value members read =
+    let written = members_are_written laws detach parts members in
+    written ∙ read_as_written laws refused detach parts members value (ap json_value (sym written) ∙ read)

@@ -1,17 +1,17 @@
--- The content of an object, which may be detached: how it is put into a text and read of one, and that it decodes to octets.
+-- The content of an object, which may be detached: how it stands in a text and is read of one, and that it decodes to octets.
 use Rattle.std.proofs.Common.{◌≡◌, ℕ, List, [], ◌∷◌, Bool, true, false, not, Option, Some, None, Ok, IsUtf8, is_some, refl, sym, ap, ◌∙◌, subst}
 use Rattle.std.specs.List.{list_all}
 use Rattle.std.specs.Option.{option_or}
-use Rattle.serde_json.specs.Data.{Data, Members, string, object}
+use Rattle.serde_json.specs.Data.{Data, string, object}
 use Rattle.octets.specs.declared.refusal.Refusal.TheVariants.{Form}
 use Rattle.octets.specs.Base64url.{base64url, decoded, is_url_character, DecodesExactly}
 use Rattle.octets.specs.Octets.{IsOctets}
 use Rattle.octets.specs.Outcomes.{needs}
 use Rattle.octets.proofs.Decoded.{IsOctets-nil, decoded-nil}
 use Rattle.keys.specs.JsonTexts.{IsJson, KeepJson, UrlTextsAreJson}
-use Rattle.objects.specs.Texts.{text_at, has_text, content_by, content_text, handed_in, AreOctetsHandedIn, kept, put_content}
+use Rattle.objects.specs.Texts.{text_at, has_text, content_by, content_text, handed_in, AreOctetsHandedIn}
 use Rattle.objects.proofs.Characters.{IsUrlText}
-use Rattle.objects.proofs.Members.{Entries, put_if_there, put_all, first_there, IsJsonIfThere}
+use Rattle.objects.proofs.Members.{Entries, put_all, first_there, IsJsonIfThere}
 use Rattle.objects.proofs.ReadJson.{text_octets, required_octets}
 use Rattle.objects.proofs.Spelling.{name_is_json, text_found, required_found, required_entry}
 use Rattle.objects.proofs.Steps.{steps, passed, same_answer}
@@ -23,12 +23,6 @@ use Rattle.objects.proofs.TextOctets.{TextLaws, text_is}
 abbrev pub content_there : Bool → List ℕ → Option Data
 content_there false text = Some (string text)
 content_there true text = None
-
--- a content is put in where it is there
-pub put_content_is : (detach : Bool) (name content : List ℕ) (members : Members)
-    → put_content detach name content members ≡ put_if_there name (content_there detach (base64url content)) members
-put_content_is false name content ms = refl
-put_content_is true name content ms = refl
 
 -- it is as JSON has it
 pub content_entry : UrlTextsAreJson → (detach : Bool) (n : ℕ) (name text : List ℕ) → list_all is_url_character name ≡ true → IsUtf8 text
@@ -49,14 +43,14 @@ handed_octets true content is = is
 
 -- ---- as a part of a compact text
 
+-- what is left of the text of a content in the text of the object
+abbrev pub kept : Bool → List ℕ → List ℕ
+kept false text = text
+kept true text = []
+
 -- no octets have the empty text
 pub no_octets : DecodesExactly → base64url [] ≡ []
 no_octets exact = sym ((exact.meaning [] [] IsOctets-nil IsOctets-nil).0 decoded-nil)
-
--- the text of what is kept of a content is what is kept of its text
-pub kept_text : DecodesExactly → (detach : Bool) (content : List ℕ) → base64url (kept detach content) ≡ kept detach (base64url content)
-kept_text exact false content = refl
-kept_text exact true content = no_octets exact
 
 -- what is kept of letters, digits, `-` and `_` is such characters
 pub kept_characters : (detach : Bool) (text : List ℕ) → IsUrlText text → IsUrlText (kept detach text)
@@ -73,13 +67,13 @@ no_text : (text : List ℕ) → not (has_text text) ≡ true → text ≡ []
 no_text [] h = refl
 no_text (c ∷ text) h = cc h
 
--- a part is the text of what is kept of the content that is read
+-- a part is what is kept of the text of the content that is read
 pub part_is : TextLaws → (detached : Option (List ℕ)) (part text content : List ℕ) → IsOctets part → content_by detached part ≡ Ok text → decoded text ≡ Ok content
-    → part ≡ base64url (kept (is_some detached) content)
+    → part ≡ kept (is_some detached) (base64url content)
 part_is laws None part text content is h decodes = text_is laws part content is (ap decoded (same_answer part text h) ∙ decodes)
 part_is laws (Some handed) part text content is h decodes =
     let a = steps (needs (not (has_text part)) Form) _ text h in
-    no_text part (passed _ Form a.0 a.1) ∙ sym (no_octets laws.exact)
+    no_text part (passed _ Form a.0 a.1)
 
 -- ---- what its text decodes to
 

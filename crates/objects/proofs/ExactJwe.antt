@@ -1,5 +1,5 @@
 -- A compact text of an encrypted object that is read is the compact text of the object, but for a line end.
-use Rattle.std.proofs.Common.{◌≡◌, ℕ, List, [], ◌∷◌, ◌++◌, length, Bool, nat_le, map, Option, Ok, is_some, refl, sym, ap, ◌∙◌, subst, append_assoc}
+use Rattle.std.proofs.Common.{◌≡◌, ℕ, List, [], ◌∷◌, ◌++◌, length, Bool, true, nat_le, map, Option, Ok, is_some, refl, sym, ap, ◌∙◌, subst}
 use Rattle.std.specs.List.{AllByRecursion}
 use Rattle.octets.specs.declared.refusal.Refusal.TheVariants.{Limit}
 use Rattle.octets.specs.Base64url.{base64url, decoded}
@@ -7,23 +7,24 @@ use Rattle.octets.specs.LineEnds.{without_line_end}
 use Rattle.octets.specs.Octets.{IsOctets}
 use Rattle.octets.specs.Outcomes.{◌>>=◌, needs}
 use Rattle.octets.proofs.Decoded.{decoded-nil}
-use Rattle.keys.specs.Limits.{Limits}
+use Rattle.keys.specs.Limits.{Limits, are_few}
 use Rattle.serde_json.specs.Data.{no_members}
-use Rattle.objects.specs.Jwe.{recipient_parts_of, parts_of, RecipientTexts, JweTexts, RecipientParts, EncryptedObject, compact_texts, jwe_texts, recipient_parts, parts_of_texts, object_of_texts, jwe_of, joined, jwe_compact_text, CompactTextsAreExact}
-use Rattle.objects.specs.Texts.{each, split_at_dot, three_parts, content_by, AreOctetsHandedIn, kept, depth_of_each}
-use Rattle.objects.proofs.DetachedContent.{part_is}
+use Rattle.objects.specs.Jwe.{recipient_parts_of, parts_of, EncodedRecipient, EncodedJwe, RecipientParts, EncryptedObject, encoded_in_compact, encoded_jwe, decoded_recipient, decoded_members, decoded_object, jwe_of, key_of_first, is_compact, jwe_compact_text, CompactTextsAreExact}
+use Rattle.objects.specs.Texts.{each, split_at_dot, three_parts, content_by, AreOctetsHandedIn, depth_of_each}
+use Rattle.objects.proofs.DetachedContent.{kept, part_is}
 use Rattle.objects.proofs.EachRead.{one_read, one_kept}
 use Rattle.objects.proofs.Joined.{joined_of_split, joined_of_three, split_octets, three_octets, line_octets}
+use Rattle.objects.proofs.JweWritten.{compact_is}
 use Rattle.objects.proofs.MadeJwe.{IsRecipient, AreSpelled, compact, compact_are, recipient_spelled, parts_spelled}
 use Rattle.objects.proofs.MadeOf.{object_is}
 use Rattle.objects.proofs.Steps.{steps, same_answer}
 use Rattle.objects.proofs.TextOctets.{TextLaws, text_is}
 
 -- the texts of a compact text stand in it between dots: those of one recipient, no header but the protected one, and a part of which the ciphertext is read
-pub record IsCompact (detached : Option (List ℕ)) (text : List ℕ) (t : JweTexts) : Type 0 where
+pub record IsCompact (detached : Option (List ℕ)) (text : List ℕ) (t : EncodedJwe) : Type 0 where
   pub unprotected : t.shared.unprotected ≡ no_members
   pub aad : t.shared.aad ≡ []
-  pub recipient : RecipientTexts
+  pub recipient : EncodedRecipient
   pub alone : t.recipients ≡ recipient ∷ []
   pub header : recipient.header ≡ no_members
   pub part : List ℕ
@@ -53,8 +54,8 @@ joined_of_five text first second others a b c =
     let behind = joined_of_split first.1 second b ∙ ap (λ rest. second.0 ++ 46 ∷ rest) (joined_of_three second.1 others c) in
     joined_of_split text first a ∙ ap (λ rest. first.0 ++ 46 ∷ rest) behind
 
-texts_of_compact : (detached : Option (List ℕ)) (text : List ℕ) (t : JweTexts) → IsOctets text → compact_texts detached text ≡ Ok t → IsCompact detached text t
-unfolding compact_texts
+texts_of_compact : (detached : Option (List ℕ)) (text : List ℕ) (t : EncodedJwe) → IsOctets text → encoded_in_compact detached text ≡ Ok t → IsCompact detached text t
+unfolding encoded_in_compact
 texts_of_compact detached text t octets h =
     let a = steps (split_at_dot text) _ t h in
     let b = steps (split_at_dot a.0.1) _ t a.2 in
@@ -62,40 +63,42 @@ texts_of_compact detached text t octets h =
     let d = steps (content_by detached c.0.1) (λ ciphertext. Ok (compact a.0.0 b.0.0 c.0.0 ciphertext c.0.2)) t c.2 in
     let behind = split_octets a.0.1 b.0 (split_octets text a.0 octets a.1).1 b.1 in
     let others = three_octets b.0.1 c.0 behind.1 c.1 in
-    let texts : JweTexts = compact a.0.0 b.0.0 c.0.0 d.0 c.0.2 in
+    let texts : EncodedJwe = compact a.0.0 b.0.0 c.0.0 d.0 c.0.2 in
     subst (IsCompact detached text) {x = texts} (same_answer texts t d.2)
     (of_parts detached text a.0.0 b.0.0 c.0.0 c.0.1 d.0 c.0.2 others.1 d.1 (joined_of_five text a.0 b.0 c.0 a.1 b.1 c.1))
 
 -- an object that is read has the members that its texts spell
-object_spelled : (limits : Limits) (t : JweTexts) (o : EncryptedObject) → object_of_texts limits t ≡ Ok o → AreSpelled t (parts_of o)
-unfolding object_of_texts
+object_spelled : (limits : Limits) (t : EncodedJwe) (o : EncryptedObject) → decoded_object limits t ≡ Ok o → AreSpelled t (parts_of o)
+unfolding decoded_object
 object_spelled limits t o h =
-    let a = steps (needs (nat_le (length t.recipients) limits.recipients) Limit) _ o h in
+    let a = steps (needs (are_few limits (length t.recipients)) Limit) _ o h in
     let b = steps (decoded t.shared.protected) _ o a.2 in
-    let c = steps (parts_of_texts t) _ o b.2 in
+    let c = steps (decoded_members t) _ o b.2 in
     parts_spelled t (parts_of o) (c.1 ∙ ap Ok (sym (object_is limits.management b.0 c.0 o c.2)))
 
 -- one recipient without a header stands in a compact text, where nothing is shared that is not protected
 compact_text_is : (detach : Bool) (o : EncryptedObject) (r : RecipientParts) → map recipient_parts_of o.recipients ≡ r ∷ [] → o.unprotected ≡ no_members → r.header ≡ no_members → o.aad ≡ []
-    → jwe_compact_text detach o ≡ Ok (joined o.protected r.encrypted_key o.iv (kept detach o.ciphertext) o.tag)
+    → jwe_compact_text detach o ≡ Ok (o.protected ++ 46 ∷ (base64url r.encrypted_key ++ 46 ∷ (base64url o.iv ++ 46 ∷ (kept detach (base64url o.ciphertext) ++ 46 ∷ base64url o.tag))))
 unfolding jwe_compact_text
 compact_text_is detach o r alone unprotected header aad =
     let one = one_kept recipient_parts_of o.recipients r alone in
     let no_header : one.0.header ≡ no_members = ap (λ (r : RecipientParts). r.header) one.2 ∙ header in
-    rw (one.1, unprotected, no_header, aad) (ap (λ (r : RecipientParts). Ok (joined o.protected r.encrypted_key o.iv (kept detach o.ciphertext) o.tag)) one.2)
+    let key : key_of_first (parts_of o).recipients ≡ r.encrypted_key = ap key_of_first alone in
+    let fits : is_compact o o.recipients ≡ true = rw (one.1, unprotected, no_header, aad) refl in
+    rw fits (ap Ok (compact_is detach (parts_of o) ∙ ap (λ key. o.protected ++ 46 ∷ (base64url key ++ 46 ∷ (base64url o.iv ++ 46 ∷ (kept detach (base64url o.ciphertext) ++ 46 ∷ base64url o.tag)))) key))
 
 -- its parts with dots between them are that text
-joined_is : (a b c d e ciphertext : List ℕ) (o : EncryptedObject) (r : RecipientParts) → o.protected ≡ a → b ≡ base64url r.encrypted_key → c ≡ base64url o.iv → d ≡ base64url ciphertext → e ≡ base64url o.tag
-    → joined o.protected r.encrypted_key o.iv ciphertext o.tag ≡ a ++ 46 ∷ (b ++ 46 ∷ (c ++ 46 ∷ (d ++ 46 ∷ e)))
-joined_is a b c d e ciphertext o r protected key iv part tag = rw (protected, key, iv, part, tag) (simp append_assoc)
+joined_is : (a b c d e part : List ℕ) (o : EncryptedObject) (r : RecipientParts) → o.protected ≡ a → b ≡ base64url r.encrypted_key → c ≡ base64url o.iv → d ≡ part → e ≡ base64url o.tag
+    → o.protected ++ 46 ∷ (base64url r.encrypted_key ++ 46 ∷ (base64url o.iv ++ 46 ∷ (part ++ 46 ∷ base64url o.tag))) ≡ a ++ 46 ∷ (b ++ 46 ∷ (c ++ 46 ∷ (d ++ 46 ∷ e)))
+joined_is a b c d e part o r protected key iv same tag = rw (protected, key, iv, same, tag) refl
 
-exact : TextLaws → (limits : Limits) (detached : Option (List ℕ)) (line : List ℕ) (t : JweTexts) (o : EncryptedObject) → AreOctetsHandedIn detached → IsOctets line
-    → compact_texts detached line ≡ Ok t → object_of_texts limits t ≡ Ok o → jwe_compact_text (is_some detached) o ≡ Ok line
+exact : TextLaws → (limits : Limits) (detached : Option (List ℕ)) (line : List ℕ) (t : EncodedJwe) (o : EncryptedObject) → AreOctetsHandedIn detached → IsOctets line
+    → encoded_in_compact detached line ≡ Ok t → decoded_object limits t ≡ Ok o → jwe_compact_text (is_some detached) o ≡ Ok line
 exact laws limits detached line t o handed octets split h =
     let is = texts_of_compact detached line t octets split in
     let are = compact_are laws detached handed line t octets split in
     let spelled = object_spelled limits t o h in
-    let one = one_read recipient_parts is.recipient (map recipient_parts_of o.recipients) (ap (each recipient_parts) (sym is.alone) ∙ spelled.recipients) in
+    let one = one_read decoded_recipient is.recipient (map recipient_parts_of o.recipients) (ap (each decoded_recipient) (sym is.alone) ∙ spelled.recipients) in
     let recipient = recipient_spelled is.recipient one.0 one.1 in
     let texts = subst (AllByRecursion (IsRecipient (depth_of_each (length t.recipients)))) is.alone are.recipients in
     let key = text_is laws is.recipient.encrypted_key one.0.encrypted_key texts.0.encrypted_key recipient.encrypted_key in
@@ -104,12 +107,12 @@ exact laws limits detached line t o handed octets split h =
     let tag = text_is laws t.content.tag o.tag are.content.tag spelled.tag in
     let no_aad : o.aad ≡ [] = same_answer o.aad [] (sym spelled.aad ∙ ap decoded is.aad ∙ decoded-nil) in
     compact_text_is (is_some detached) o one.0 one.2 (spelled.unprotected ∙ is.unprotected) (recipient.header ∙ is.header) no_aad
-    ∙ ap Ok (joined_is t.shared.protected is.recipient.encrypted_key t.content.iv is.part t.content.tag (kept (is_some detached) o.ciphertext) o one.0 spelled.protected key iv part tag ∙ sym is.between_dots)
+    ∙ ap Ok (joined_is t.shared.protected is.recipient.encrypted_key t.content.iv is.part t.content.tag (kept (is_some detached) (base64url o.ciphertext)) o one.0 spelled.protected key iv part tag ∙ sym is.between_dots)
 
 pub compact_texts_are_exact : TextLaws → CompactTextsAreExact
-unfolding jwe_of jwe_texts
+unfolding jwe_of encoded_jwe
 compact_texts_are_exact laws limits detached text o handed octets form h =
     let line : List ℕ = without_line_end text in
-    let read : (compact_texts detached line >>= object_of_texts limits) ≡ Ok o = rw form at h in
-    let a = steps (compact_texts detached line) (object_of_texts limits) o read in
+    let read : (encoded_in_compact detached line >>= decoded_object limits) ≡ Ok o = rw form at h in
+    let a = steps (encoded_in_compact detached line) (decoded_object limits) o read in
     exact laws limits detached line a.0 o handed (line_octets text octets) a.1 a.2

@@ -1,26 +1,28 @@
 -- A compact text of a signed object that is read is the compact text of the object, but for a line end.
-use Rattle.std.proofs.Common.{◌≡◌, ℕ, List, [], ◌∷◌, ◌++◌, length, Bool, nat_le, map, Option, Ok, is_some, refl, sym, ap, ◌∙◌, subst, append_assoc}
+use Rattle.std.proofs.Common.{◌≡◌, ℕ, List, [], ◌∷◌, ◌++◌, length, Bool, false, nat_le, map, Option, Ok, is_some, refl, sym, ap, ◌∙◌, subst}
 use Rattle.std.specs.List.{AllByRecursion}
 use Rattle.octets.specs.declared.refusal.Refusal.TheVariants.{Limit}
 use Rattle.octets.specs.Base64url.{base64url, decoded}
 use Rattle.octets.specs.LineEnds.{without_line_end}
 use Rattle.octets.specs.Octets.{IsOctets}
 use Rattle.octets.specs.Outcomes.{◌>>=◌, needs}
-use Rattle.keys.specs.Limits.{Limits}
+use Rattle.keys.specs.Limits.{Limits, are_few}
 use Rattle.serde_json.specs.Data.{no_members}
-use Rattle.objects.specs.Jws.{signature_parts_of, SignatureTexts, JwsTexts, SignatureParts, DecodedSignature, SignedObject, compact_texts, jws_texts, decoded_texts, object_of_texts, jws_of, joined, jws_compact_text, CompactTextsAreExact}
-use Rattle.objects.specs.Texts.{each, three_parts, content_by, AreOctetsHandedIn, kept, depth_of_each}
-use Rattle.objects.proofs.DetachedContent.{part_is}
+use Rattle.objects.specs.Jws.{signature_parts_of, EncodedSignature, EncodedJws, SignatureParts, DecodedSignature, SignedObject, encoded_in_compact, encoded_jws, decoded_signature, decoded_object, jws_of, with_compact, jws_compact_text, CompactTextsAreExact}
+use Rattle.objects.specs.Texts.{each, three_parts, content_by, AreOctetsHandedIn, depth_of_each}
+use Rattle.objects.specs.Writing.{nothing_written, inside}
+use Rattle.objects.proofs.DetachedContent.{kept, part_is}
 use Rattle.objects.proofs.EachRead.{one_read, one_kept}
 use Rattle.objects.proofs.Joined.{joined_of_three, three_octets, line_octets}
+use Rattle.objects.proofs.JwsWritten.{compact_is}
 use Rattle.objects.proofs.MadeJws.{IsSignature, compact_are, signature_spelled}
 use Rattle.objects.proofs.MadeOf.{signed_is}
 use Rattle.objects.proofs.Steps.{steps, same_answer}
 use Rattle.objects.proofs.TextOctets.{TextLaws, text_is}
 
 -- the texts of a compact text stand in it between dots: those of one signature without an unprotected header, and a part of which the payload is read
-pub record IsCompact (detached : Option (List ℕ)) (text : List ℕ) (t : JwsTexts) : Type 0 where
-  pub signature : SignatureTexts
+pub record IsCompact (detached : Option (List ℕ)) (text : List ℕ) (t : EncodedJws) : Type 0 where
+  pub signature : EncodedSignature
   pub alone : t.signatures ≡ signature ∷ []
   pub header : signature.header ≡ no_members
   pub part : List ℕ
@@ -28,8 +30,8 @@ pub record IsCompact (detached : Option (List ℕ)) (text : List ℕ) (t : JwsTe
   pub payload : content_by detached part ≡ Ok t.payload
   pub between_dots : text ≡ signature.protected ++ 46 ∷ (part ++ 46 ∷ signature.signature)
 
-texts_of_compact : (detached : Option (List ℕ)) (text : List ℕ) (t : JwsTexts) → IsOctets text → compact_texts detached text ≡ Ok t → IsCompact detached text t
-unfolding compact_texts
+texts_of_compact : (detached : Option (List ℕ)) (text : List ℕ) (t : EncodedJws) → IsOctets text → encoded_in_compact detached text ≡ Ok t → IsCompact detached text t
+unfolding encoded_in_compact
 texts_of_compact detached text t octets h =
     let a = steps (three_parts text) _ t h in
     let b = steps (content_by detached a.0.1) _ t a.2 in
@@ -45,52 +47,53 @@ texts_of_compact detached text t octets h =
     })
 
 -- an object that is read has the payload and the signatures that its texts spell
-pub record IsSpelled (t : JwsTexts) (o : SignedObject) : Type 0 where
+pub record IsSpelled (t : EncodedJws) (o : SignedObject) : Type 0 where
   pub payload : decoded t.payload ≡ Ok o.payload
   pub decoded_signatures : List DecodedSignature
-  pub decodes : each decoded_texts t.signatures ≡ Ok decoded_signatures
+  pub decodes : each decoded_signature t.signatures ≡ Ok decoded_signatures
   pub signatures : map signature_parts_of o.signatures ≡ map (λ (s : DecodedSignature). s.parts) decoded_signatures
 
-object_spelled : (limits : Limits) (t : JwsTexts) (o : SignedObject) → object_of_texts limits t ≡ Ok o → IsSpelled t o
-unfolding object_of_texts
+object_spelled : (limits : Limits) (t : EncodedJws) (o : SignedObject) → decoded_object limits t ≡ Ok o → IsSpelled t o
+unfolding decoded_object
 object_spelled limits t o h =
-    let a = steps (needs (nat_le (length t.signatures) limits.recipients) Limit) _ o h in
+    let a = steps (needs (are_few limits (length t.signatures)) Limit) _ o h in
     let b = steps (decoded t.payload) _ o a.2 in
-    let c = steps (each decoded_texts t.signatures) _ o b.2 in
+    let c = steps (each decoded_signature t.signatures) _ o b.2 in
     let is = signed_is limits.management b.0 c.0 o c.2 in
     record { payload = b.1 ∙ ap Ok (sym is.payload); decoded_signatures = c.0; decodes = c.1; signatures = is.signatures }
 
 -- one signature without an unprotected header stands in a compact text
 compact_text_is : (detach : Bool) (o : SignedObject) (s : SignatureParts) → map signature_parts_of o.signatures ≡ s ∷ [] → s.header ≡ no_members
-    → jws_compact_text detach o ≡ Ok (joined s.protected (kept detach o.payload) s.signature)
+    → jws_compact_text detach o ≡ Ok (s.protected ++ 46 ∷ (kept detach (base64url o.payload) ++ 46 ∷ base64url s.signature))
 unfolding jws_compact_text
 compact_text_is detach o s alone header =
     let one = one_kept signature_parts_of o.signatures s alone in
     let no_header : one.0.header ≡ no_members = ap (λ (s : SignatureParts). s.header) one.2 ∙ header in
-    rw (one.1, no_header) (ap (λ (s : SignatureParts). Ok (joined s.protected (kept detach o.payload) s.signature)) one.2)
+    rw (one.1, no_header)
+    (ap Ok (ap (λ s. (with_compact (inside detach o.payload) (s ∷ []) (nothing_written false)).text) one.2 ∙ compact_is detach o.payload s []))
 
 -- its parts with dots between them are that text
-joined_is : (a b c payload : List ℕ) (s : SignatureParts) → s.protected ≡ a → b ≡ base64url payload → c ≡ base64url s.signature → joined s.protected payload s.signature ≡ a ++ 46 ∷ (b ++ 46 ∷ c)
-joined_is a b c payload s protected part signature = rw (protected, part, signature) (simp append_assoc)
+joined_is : (a b c part : List ℕ) (s : SignatureParts) → s.protected ≡ a → b ≡ part → c ≡ base64url s.signature → s.protected ++ 46 ∷ (part ++ 46 ∷ base64url s.signature) ≡ a ++ 46 ∷ (b ++ 46 ∷ c)
+joined_is a b c part s protected same signature = rw (protected, same, signature) refl
 
-exact : TextLaws → (limits : Limits) (detached : Option (List ℕ)) (line : List ℕ) (t : JwsTexts) (o : SignedObject) → AreOctetsHandedIn detached → IsOctets line
-    → compact_texts detached line ≡ Ok t → object_of_texts limits t ≡ Ok o → jws_compact_text (is_some detached) o ≡ Ok line
+exact : TextLaws → (limits : Limits) (detached : Option (List ℕ)) (line : List ℕ) (t : EncodedJws) (o : SignedObject) → AreOctetsHandedIn detached → IsOctets line
+    → encoded_in_compact detached line ≡ Ok t → decoded_object limits t ≡ Ok o → jws_compact_text (is_some detached) o ≡ Ok line
 exact laws limits detached line t o handed octets split h =
     let is = texts_of_compact detached line t octets split in
     let are = compact_are laws detached handed line t octets split in
     let spelled = object_spelled limits t o h in
-    let one = one_read decoded_texts is.signature spelled.decoded_signatures (ap (each decoded_texts) (sym is.alone) ∙ spelled.decodes) in
+    let one = one_read decoded_signature is.signature spelled.decoded_signatures (ap (each decoded_signature) (sym is.alone) ∙ spelled.decodes) in
     let s = signature_spelled is.signature one.0 one.1 in
     let texts = subst (AllByRecursion (IsSignature (depth_of_each (length t.signatures)))) is.alone are.signatures in
     let part = part_is laws detached is.part t.payload o.payload is.octets is.payload spelled.payload in
     let signature = text_is laws is.signature.signature one.0.parts.signature texts.0.signature s.signature in
     compact_text_is (is_some detached) o one.0.parts (spelled.signatures ∙ ap (map (λ (s : DecodedSignature). s.parts)) one.2) (s.header ∙ is.header)
-    ∙ ap Ok (joined_is is.signature.protected is.part is.signature.signature (kept (is_some detached) o.payload) one.0.parts s.protected part signature ∙ sym is.between_dots)
+    ∙ ap Ok (joined_is is.signature.protected is.part is.signature.signature (kept (is_some detached) (base64url o.payload)) one.0.parts s.protected part signature ∙ sym is.between_dots)
 
 pub compact_texts_are_exact : TextLaws → CompactTextsAreExact
-unfolding jws_of jws_texts
+unfolding jws_of encoded_jws
 compact_texts_are_exact laws limits detached text o handed octets form h =
     let line : List ℕ = without_line_end text in
-    let read : (compact_texts detached line >>= object_of_texts limits) ≡ Ok o = rw form at h in
-    let a = steps (compact_texts detached line) (object_of_texts limits) o read in
+    let read : (encoded_in_compact detached line >>= decoded_object limits) ≡ Ok o = rw form at h in
+    let a = steps (encoded_in_compact detached line) (decoded_object limits) o read in
     exact laws limits detached line a.0 o handed (line_octets text octets) a.1 a.2

@@ -1,95 +1,109 @@
 -- The texts that stand round the ciphertext and the tag of an encrypted object.
-use Rattle.std.proofs.Common.{◌≡◌, ℕ, suc, List, [], ◌∷◌, length, Bool, true, false, nat_le, if◌then◌else◌, Ok, arith, refl, sym, ap, ◌∙◌, subst, append_assoc, append-nil}
+use Rattle.std.proofs.Common.{◌≡◌, ◌||◌, ℕ, suc, List, [], ◌∷◌, ◌++◌, length, codes, Bool, true, false, nat_le, if◌then◌else◌, Ok, refl, sym, ap, ◌∙◌, subst}
 use Rattle.octets.specs.declared.refusal.Refusal.TheVariants.{NotCompact}
-use Rattle.octets.specs.Base64url.{base64url, decoded, DecodesExactly, HasUrlCharacters}
-use Rattle.octets.specs.Octets.{IsOctets}
+use Rattle.octets.specs.Base64url.{base64url}
 use Rattle.octets.specs.Outcomes.{needs}
-use Rattle.octets.proofs.Decoded.{IsOctets-nil, first_or, decoded-nil}
-use Rattle.keys.specs.JsonTexts.{UrlTextsAreJson}
-use Rattle.objects.specs.Frames.{filled, in_places, jwe_frame, sealed_with, IsJweFrame}
-use Rattle.objects.specs.Jwe.{Recipient, EncryptedObject, json_text, is_compact, joined, key_of_first, jwe_compact_text}
-use Rattle.objects.specs.Texts.{has_text, kept}
-use Rattle.objects.specs.Writing.{all_texts, nothing_written, inside, with_members, with_parts, jwe_written}
-use Rattle.objects.proofs.DetachedContent.{no_octets}
-use Rattle.objects.proofs.JweWritten.{json_written}
-use Rattle.objects.proofs.Places.{Begins, is_filled, places_count, plain_content, with_value_of, with_value_if_there}
+use Rattle.objects.specs.Frames.{in_places, jwe_frame, sealed_with, IsJweFrame}
+use Rattle.objects.specs.Jwe.{Recipient, RecipientParts, EncryptedObject, parts_of, with_recipient, with_flattened, with_general, with_tag, with_compact, key_of_first, jwe_json, is_compact, jwe_written}
+use Rattle.objects.specs.Writing.{Written, all_texts, nothing_written, inside, with_items, with_place}
+use Rattle.objects.proofs.JweWritten.{jwe_whole}
+use Rattle.objects.proofs.Places.{Fills, is_filled, places_count, fills_nothing, fills_pushed, fills_closed, fills_opened, fills_separated, fills_named, fills_text, fills_header, fills_place, fills_content, fills_part, fills_place_part, fills_content_part, places_are}
 use Rattle.objects.proofs.Steps.{steps, same_answer, passed}
 
--- ---- the JSON texts round any ciphertext and tag
+-- ---- the members
 
--- octets have a text
-octets_text : DecodesExactly → (octets : List ℕ) → IsOctets octets → nat_le 1 (length octets) ≡ true → has_text (base64url octets) ≡ true
-octets_text exact octets is some = by_text (base64url octets) (exact.round_trip octets is)
-  where
-    by_text : (text : List ℕ) → decoded text ≡ Ok octets → has_text text ≡ true
-    by_text [] h = let none : octets ≡ [] = same_answer octets [] (sym h ∙ decoded-nil) in cc
-    by_text (c ∷ text) h = refl
+recipient_fills : (r : RecipientParts) (w : Written) (values : List (List ℕ)) (v : Written) → Fills w values v → Fills (with_recipient r w) values (with_recipient r v)
+recipient_fills r w values v f = fills_header (codes "header") r.header _ values _ (fills_text (codes "encrypted_key") (base64url r.encrypted_key) w values v f)
 
--- where places are left, what is written does not depend on the values
-same_written : (detach : Bool) (o : EncryptedObject) (ciphertext tag : List ℕ)
-    → with_members true (inside detach ciphertext) (sealed_with o ciphertext tag) nothing_written ≡ with_members true (inside detach o.ciphertext) o nothing_written
-same_written true o ciphertext tag = refl
-same_written false o ciphertext tag = refl
+items_fill : (rs : List RecipientParts) (w : Written) (values : List (List ℕ)) (v : Written) → Fills w values v → Fills (with_items with_recipient rs w) values (with_items with_recipient rs v)
+items_fill [] w values v f = f
+items_fill (r ∷ rs) w values v f =
+    let start = fills_opened (codes "{") _ values _ (fills_separated w values v f) in
+    items_fill rs _ values _ (fills_closed (codes "}") _ values _ (recipient_fills r _ values _ start))
 
-in_places_are : (detach : Bool) (ciphertext tag : List ℕ)
-    → with_value_of true (base64url tag) (with_value_if_there true (inside detach ciphertext) []) ≡ in_places detach ciphertext (tag ∷ [])
-in_places_are true ciphertext tag = refl
-in_places_are false ciphertext tag = refl
+flattened_fills : (rs : List RecipientParts) (w : Written) (values : List (List ℕ)) (v : Written) → Fills w values v → Fills (with_flattened rs w) values (with_flattened rs v)
+flattened_fills [] w values v f = f
+flattened_fills (r ∷ []) w values v f = recipient_fills r w values v f
+flattened_fills (r ∷ (other ∷ rest)) w values v f = f
 
-round_values : UrlTextsAreJson → HasUrlCharacters → DecodesExactly → (detach : Bool) (o : EncryptedObject) (ciphertext tag : List ℕ) → IsOctets ciphertext → IsOctets tag
-    → nat_le 1 (length tag) ≡ true → Begins (with_members true (inside detach o.ciphertext) o nothing_written) (in_places detach ciphertext (tag ∷ [])) [] (json_text detach (sealed_with o ciphertext tag))
-round_values url characters exact detach o ciphertext tag is tagged some =
-    let other : EncryptedObject = sealed_with o ciphertext tag in
-    let written = json_written url true detach other (plain_content characters detach ciphertext is) (λ e. (octets_text exact tag tagged some, characters tag tagged)) in
-    let values : List (List ℕ) = with_value_of true (base64url tag) (with_value_if_there true (inside detach ciphertext) []) in
-    subst (λ vs. Begins (with_members true (inside detach o.ciphertext) o nothing_written) vs [] (json_text detach other)) (in_places_are detach ciphertext tag)
-    (subst (λ w. Begins w values [] (json_text detach other)) (same_written detach o ciphertext tag) written)
+general_fills : (rs : List RecipientParts) (w : Written) (values : List (List ℕ)) (v : Written) → Fills w values v → Fills (with_general rs w) values (with_general rs v)
+general_fills [] w values v f = fills_closed (codes "]") _ values _ (fills_opened (codes "[") _ values _ (fills_named (codes "recipients") w values v f))
+general_fills (r ∷ []) w values v f = f
+general_fills (r ∷ (other ∷ rest)) w values v f =
+    fills_closed (codes "]") _ values _ (items_fill (r ∷ (other ∷ rest)) _ values _ (fills_opened (codes "[") _ values _ (fills_named (codes "recipients") w values v f)))
 
-places_are : (detach : Bool) (ciphertext tag : List ℕ) → suc (length (in_places detach ciphertext (tag ∷ []))) ≡ (if detach then 2 else 3)
-places_are true ciphertext tag = refl
-places_are false ciphertext tag = refl
+-- a tag that is not empty has a place
+tag_fills : (own tag : List ℕ) (w : Written) (values : List (List ℕ)) (v : Written) → nat_le 1 (length tag) ≡ true → Fills w values v → Fills (with_tag own w) (values ++ base64url tag ∷ []) (with_tag tag v)
+tag_fills own tag w values v some f =
+    let value : List (List ℕ) = values ++ base64url tag ∷ [] in
+    let placed = fills_place (codes "tag") own tag w values v f in
+    subst (λ b. Fills (if b || nat_le 1 (length own) then with_place (codes "tag") own w else w) value (with_tag tag v)) (sym f.leaves)
+    (subst (λ b. Fills (with_place (codes "tag") own w) value (if b || nat_le 1 (length tag) then with_place (codes "tag") tag v else v)) (sym f.whole)
+    (subst (λ b. Fills (with_place (codes "tag") own w) value (if b then with_place (codes "tag") tag v else v)) (sym some) placed))
 
-json_frame : UrlTextsAreJson → HasUrlCharacters → DecodesExactly → (detach : Bool) (o : EncryptedObject)
-    → IsJweFrame false detach o (all_texts (with_members true (inside detach o.ciphertext) o nothing_written))
-json_frame url characters exact detach o = record {
-  places =
-      places_count _ _ [] _ (round_values url characters exact detach o [] (0 ∷ []) IsOctets-nil (first_or 0 [] (omega arith) IsOctets-nil) refl)
-      ∙ places_are detach [] (0 ∷ []);
-  filled = λ ciphertext tag is tagged some. ap Ok (sym (is_filled _ _ _ (round_values url characters exact detach o ciphertext tag is tagged some)));
-}
+-- ---- in either form
 
--- ---- the compact texts
+-- With any ciphertext and tag in its places, it is the text of the object with these in place of its own.
+record IsRound (compact detach : Bool) (o : EncryptedObject) (w : Written) (ciphertext tag : List ℕ) : Type 0 where
+  whole : Written
+  written : jwe_written false compact detach (sealed_with o ciphertext tag) ≡ Ok whole
+  fills : Fills w (in_places detach ciphertext [] ++ base64url tag ∷ []) whole
 
-compact_filled : DecodesExactly → (detach : Bool) (o : EncryptedObject) (ciphertext tag : List ℕ)
-    → joined o.protected (key_of_first o.recipients) o.iv (kept detach ciphertext) tag ≡ filled (all_texts (with_parts true (inside detach o.ciphertext) o nothing_written)) (in_places detach ciphertext (tag ∷ []))
-compact_filled exact true o ciphertext tag = rw (no_octets exact) (simp (append_assoc, append-nil))
-compact_filled exact false o ciphertext tag = simp (append_assoc, append-nil)
-
-compact_places : (detach : Bool) (o : EncryptedObject) → length (all_texts (with_parts true (inside detach o.ciphertext) o nothing_written)) ≡ (if detach then 2 else 3)
-compact_places true o = refl
-compact_places false o = refl
-
--- neither the ciphertext nor the tag decides whether the object has a compact text
+-- neither decides whether the object has a compact text
 same_fit : (o : EncryptedObject) (ciphertext tag : List ℕ) (rs : List Recipient) → is_compact (sealed_with o ciphertext tag) rs ≡ is_compact o rs
 same_fit o ciphertext tag [] = refl
 same_fit o ciphertext tag (r ∷ []) = refl
 same_fit o ciphertext tag (r ∷ (other ∷ rest)) = refl
 
-compact_frame : DecodesExactly → (detach : Bool) (o : EncryptedObject) → is_compact o o.recipients ≡ true
-    → IsJweFrame true detach o (all_texts (with_parts true (inside detach o.ciphertext) o nothing_written))
-unfolding jwe_compact_text
-compact_frame exact detach o fits = record {
-  places = compact_places detach o;
-  filled = λ ciphertext tag is tagged some. rw (same_fit o ciphertext tag o.recipients ∙ fits) (ap Ok (compact_filled exact detach o ciphertext tag));
+compact_fills : (detach : Bool) (o : EncryptedObject) (ciphertext tag : List ℕ) → Fills (with_compact (inside detach o.ciphertext) (parts_of o) (nothing_written true))
+    (in_places detach ciphertext [] ++ base64url tag ∷ []) (with_compact (inside detach ciphertext) (parts_of (sealed_with o ciphertext tag)) (nothing_written false))
+compact_fills detach o ciphertext tag =
+    let key = fills_part (key_of_first (parts_of o).recipients) _ [] _ (fills_pushed o.protected _ [] _ fills_nothing) in
+    let content = fills_content_part detach o.ciphertext ciphertext _ _ (fills_part o.iv _ [] _ key) in
+    fills_place_part o.tag tag _ (in_places detach ciphertext []) _ content
+
+json_fills : (detach : Bool) (o : EncryptedObject) (ciphertext tag : List ℕ) → nat_le 1 (length tag) ≡ true
+    → Fills (jwe_json true detach (parts_of o)) (in_places detach ciphertext [] ++ base64url tag ∷ []) (jwe_json false detach (parts_of (sealed_with o ciphertext tag)))
+json_fills detach o ciphertext tag some =
+    let rs : List RecipientParts = (parts_of o).recipients in
+    let first : List (List ℕ) = in_places detach ciphertext [] in
+    let both : List (List ℕ) = first ++ base64url tag ∷ [] in
+    let aad = fills_text (codes "aad") (base64url o.aad) _ [] _ (fills_opened (codes "{") _ [] _ fills_nothing) in
+    let content = fills_content (codes "ciphertext") detach o.ciphertext ciphertext _ _ aad in
+    let iv = fills_text (codes "iv") (base64url o.iv) _ first _ (flattened_fills rs _ first _ content) in
+    let general = general_fills rs _ first _ (fills_text (codes "protected") o.protected _ first _ iv) in
+    fills_closed (codes "}") _ both _ (fills_header (codes "unprotected") o.unprotected _ both _ (tag_fills o.tag tag _ first _ some general))
+
+round : (compact detach : Bool) (o : EncryptedObject) (w : Written) → jwe_written true compact detach o ≡ Ok w → (ciphertext tag : List ℕ) → nat_le 1 (length tag) ≡ true
+    → IsRound compact detach o w ciphertext tag
+round true detach o w h ciphertext tag some =
+    let fits = steps (needs (is_compact o o.recipients) NotCompact) _ w h in
+    let is : is_compact o o.recipients ≡ true = passed _ NotCompact fits.0 fits.1 in
+    subst (λ w. IsRound true detach o w ciphertext tag) (same_answer _ w fits.2)
+    (record {
+      whole = with_compact (inside detach ciphertext) (parts_of (sealed_with o ciphertext tag)) (nothing_written false);
+      written = rw (same_fit o ciphertext tag o.recipients ∙ is) refl;
+      fills = compact_fills detach o ciphertext tag;
+    })
+round false detach o w h ciphertext tag some =
+    subst (λ w. IsRound false detach o w ciphertext tag) (same_answer _ w h)
+    (record { whole = jwe_json false detach (parts_of (sealed_with o ciphertext tag)); written = refl; fills = json_fills detach o ciphertext tag some })
+
+-- so its texts stand round them
+texts_are : (compact detach : Bool) (o : EncryptedObject) (w : Written) → jwe_written true compact detach o ≡ Ok w → IsJweFrame compact detach o (all_texts w)
+texts_are compact detach o w h = record {
+  places = let r = round compact detach o w h [] (0 ∷ []) refl in places_count w _ r.whole r.fills ∙ count detach;
+  filled = λ ciphertext tag is tagged some.
+      let r = round compact detach o w h ciphertext tag some in
+      let text = is_filled w (in_places detach ciphertext (tag ∷ [])) r.whole (subst (λ values. Fills w values r.whole) (places_are detach ciphertext (tag ∷ [])) r.fills) in
+      jwe_whole compact detach (sealed_with o ciphertext tag) r.whole r.written ∙ ap Ok (sym text);
 }
+  where
+    count : (detach : Bool) → suc (length (in_places detach [] [] ++ base64url (0 ∷ []) ∷ [])) ≡ (if detach then 2 else 3)
+    count true = refl
+    count false = refl
 
--- ---- both forms
-
-pub is_jwe_frame : UrlTextsAreJson → HasUrlCharacters → DecodesExactly → (compact detach : Bool) (o : EncryptedObject) (texts : List (List ℕ)) → jwe_frame compact detach o ≡ Ok texts
-    → IsJweFrame compact detach o texts
-is_jwe_frame url characters exact true detach o texts h =
-    let w = steps (jwe_written true true detach o) _ texts h in
-    let fits = steps (needs (is_compact o o.recipients) NotCompact) _ w.0 w.1 in
-    subst (IsJweFrame true detach o) (ap all_texts (same_answer _ w.0 fits.2) ∙ same_answer _ texts w.2)
-    (compact_frame exact detach o (passed _ NotCompact fits.0 fits.1))
-is_jwe_frame url characters exact false detach o texts h = subst (IsJweFrame false detach o) (same_answer _ texts h) (json_frame url characters exact detach o)
+pub is_jwe_frame : (compact detach : Bool) (o : EncryptedObject) (texts : List (List ℕ)) → jwe_frame compact detach o ≡ Ok texts → IsJweFrame compact detach o texts
+is_jwe_frame compact detach o texts h =
+    let w = steps (jwe_written true compact detach o) _ texts h in
+    subst (IsJweFrame compact detach o) (same_answer _ texts w.2) (texts_are compact detach o w.0 w.1)

@@ -1,146 +1,103 @@
 -- The texts that stand round the payload and the signatures of a signed object.
 use Rattle.std.proofs.Common.{◌≡◌, ℕ, suc, ◌+◌, List, [], ◌∷◌, ◌++◌, length, map, codes, Bool, true, false, if◌then◌else◌, None, Ok, refl, sym, ap, ◌∙◌, subst, arith, append_assoc, append-nil}
 use Rattle.std.proofs.lemmas.List.{length-map}
-use Rattle.std.specs.List.{AllByRecursion}
 use Rattle.octets.specs.declared.refusal.Refusal.TheVariants.{NotCompact}
-use Rattle.octets.specs.Base64url.{base64url, DecodesExactly, HasUrlCharacters}
-use Rattle.octets.specs.Octets.{IsOctets}
+use Rattle.octets.specs.Base64url.{base64url}
 use Rattle.octets.specs.Outcomes.{needs}
-use Rattle.octets.proofs.Decoded.{IsOctets-nil}
-use Rattle.keys.specs.JsonTexts.{UrlTextsAreJson}
-use Rattle.objects.specs.Frames.{filled, in_places, with_octets, jws_frame, signed_with, IsJwsFrame}
-use Rattle.objects.specs.Jws.{Signature, SignedObject, json_text, is_compact, joined, jws_compact_text, jws_text}
-use Rattle.objects.specs.Texts.{kept}
-use Rattle.objects.specs.Writing.{Written, all_texts, nothing_written, opened, closed, inside, with_content, with_signature, with_signatures, with_first, with_items, with_list, jws_json, jws_written}
-use Rattle.objects.proofs.DetachedContent.{no_octets}
-use Rattle.objects.proofs.JwsWritten.{value_of, values_of, json_written}
-use Rattle.objects.proofs.Places.{Begins, is_filled, places_count, IsPlain, plain_content, with_values_of}
+use Rattle.objects.specs.Frames.{in_places, with_octets, jws_frame, signed_with, IsJwsFrame}
+use Rattle.objects.specs.Jws.{Signature, signature_parts_of, SignedObject, parts_of, with_signature, with_signatures, with_general, with_compact, jws_json, is_compact, jws_written}
+use Rattle.objects.specs.Writing.{Written, all_texts, nothing_written, inside, with_text, with_items, with_place}
+use Rattle.objects.proofs.JwsWritten.{jws_whole}
+use Rattle.objects.proofs.Places.{Fills, is_filled, places_count, fills_nothing, fills_pushed, fills_closed, fills_opened, fills_separated, fills_named, fills_text, fills_header, fills_place, fills_content, fills_place_part, fills_content_part, places_are, texts_count}
 use Rattle.objects.proofs.Steps.{steps, same_answer, passed}
 
 -- ---- the JSON texts round any payload and signatures
 
--- where places are left, what is written does not depend on the values
-same_content : (detach : Bool) (payload other : List ℕ) (w : Written) → with_content true (codes "payload") (inside detach payload) w ≡ with_content true (codes "payload") (inside detach other) w
-same_content true payload other w = refl
-same_content false payload other w = refl
+-- the members behind the payload
+ends_fill : (s : Signature) (octets : List ℕ) (w : Written) (values : List (List ℕ)) (v : Written) → Fills w values v
+    → Fills (with_place (codes "signature") s.signature (with_text (codes "protected") s.protected w)) (values ++ base64url octets ∷ [])
+    (with_place (codes "signature") octets (with_text (codes "protected") s.protected v))
+ends_fill s octets w values v f = fills_place (codes "signature") s.signature octets _ values _ (fills_text (codes "protected") s.protected w values v f)
 
-same_items : (ss : List Signature) (octets : List (List ℕ)) (w : Written) → with_items (with_signature true None) ss w ≡ with_items (with_signature true None) (with_octets ss octets) w
-same_items [] octets w = refl
-same_items (s ∷ ss) [] w = refl
-same_items (s ∷ ss) (x ∷ octets) w = same_items ss octets _
+items_fill : (ss : List Signature) (octets : List (List ℕ)) (w : Written) (values : List (List ℕ)) (v : Written) → length octets ≡ length ss → Fills w values v
+    → Fills (with_items (with_signature None) (map signature_parts_of ss) w) (values ++ map base64url octets) (with_items (with_signature None) (map signature_parts_of (with_octets ss octets)) v)
+items_fill [] [] w values v h f = subst (λ values. Fills w values v) (sym (append-nil values)) f
+items_fill [] (x ∷ octets) w values v h f = absurd (omega (arith, h))
+items_fill (s ∷ ss) [] w values v h f = absurd (omega (arith, h))
+items_fill (s ∷ ss) (x ∷ octets) w values v h f =
+    let start = fills_opened (codes "{") _ values _ (fills_separated w values v f) in
+    let one = fills_closed (codes "}") _ _ _ (ends_fill s x _ values _ (fills_header (codes "header") s.header _ values _ start)) in
+    subst (λ values. Fills (with_items (with_signature None) (map signature_parts_of (s ∷ ss)) w) values (with_items (with_signature None) (map signature_parts_of (with_octets (s ∷ ss) (x ∷ octets))) v))
+    (append_assoc values (base64url x ∷ []) (map base64url octets)) (items_fill ss octets _ (values ++ base64url x ∷ []) _ (omega (arith, h)) one)
 
-same_several : (detach : Bool) (payload : List ℕ) (s t : Signature) (rest : List Signature) (octets : List (List ℕ)) (w : Written)
-    → with_list (codes "signatures") (with_signature true None) (s ∷ (t ∷ rest)) (with_content true (codes "payload") (inside detach payload) w) ≡ with_signatures true (inside detach payload) (with_octets (s ∷ (t ∷ rest)) octets) w
-same_several detach payload s t rest [] w = refl
-same_several detach payload s t rest (x ∷ []) w = refl
-same_several detach payload s t rest (x ∷ (y ∷ octets)) w = ap (closed (codes "]")) (same_items rest octets _)
+general_fills : (detach : Bool) (own payload : List ℕ) (ss : List Signature) (octets : List (List ℕ)) (w v : Written) → length octets ≡ length ss → Fills w [] v
+    → Fills (with_general (inside detach own) (map signature_parts_of ss) w) (in_places detach payload [] ++ map base64url octets)
+    (with_general (inside detach payload) (map signature_parts_of (with_octets ss octets)) v)
+general_fills detach own payload ss octets w v h f =
+    let first : List (List ℕ) = in_places detach payload [] in
+    let name = fills_named (codes "signatures") _ first _ (fills_content (codes "payload") detach own payload w v f) in
+    fills_closed (codes "]") _ _ _ (items_fill ss octets _ first _ h (fills_opened (codes "[") _ first _ name))
 
-same_written : (detach : Bool) (payload other : List ℕ) (ss : List Signature) (octets : List (List ℕ)) (w : Written)
-    → with_signatures true (inside detach payload) ss w ≡ with_signatures true (inside detach other) (with_octets ss octets) w
-same_written detach payload other [] octets w =
-    ap (λ w. with_list (codes "signatures") (with_signature true None) [] w) (same_content detach payload other w)
-same_written true payload other (s ∷ []) [] w = refl
-same_written true payload other (s ∷ []) (x ∷ octets) w = refl
-same_written false payload other (s ∷ []) [] w = refl
-same_written false payload other (s ∷ []) (x ∷ octets) w = refl
-same_written detach payload other (s ∷ (t ∷ rest)) octets w =
-    ap (λ w. with_list (codes "signatures") (with_signature true None) (s ∷ (t ∷ rest)) w) (same_content detach payload other w)
-    ∙ same_several detach other s t rest octets w
+signatures_fill : (detach : Bool) (own payload : List ℕ) (ss : List Signature) (octets : List (List ℕ)) (w v : Written) → length octets ≡ length ss → Fills w [] v
+    → Fills (with_signatures (inside detach own) (map signature_parts_of ss) w) (in_places detach payload [] ++ map base64url octets)
+    (with_signatures (inside detach payload) (map signature_parts_of (with_octets ss octets)) v)
+signatures_fill detach own payload [] octets w v h f = general_fills detach own payload [] octets w v h f
+signatures_fill detach own payload (s ∷ []) [] w v h f = absurd (omega (arith, h))
+signatures_fill detach own payload (s ∷ []) (x ∷ []) w v h f =
+    ends_fill s x _ (in_places detach payload []) _ (fills_content (codes "payload") detach own payload _ _ (fills_header (codes "header") s.header w [] v f))
+signatures_fill detach own payload (s ∷ []) (x ∷ (y ∷ octets)) w v h f = absurd (omega (arith, h))
+signatures_fill detach own payload (s ∷ (t ∷ rest)) [] w v h f = absurd (omega (arith, h))
+signatures_fill detach own payload (s ∷ (t ∷ rest)) (x ∷ []) w v h f = absurd (omega (arith, h))
+signatures_fill detach own payload (s ∷ (t ∷ rest)) (x ∷ (y ∷ octets)) w v h f = general_fills detach own payload (s ∷ (t ∷ rest)) (x ∷ (y ∷ octets)) w v h f
 
--- the values are those of the places
-values_are : (ss : List Signature) (octets values : List (List ℕ)) → length octets ≡ length ss → with_values_of (value_of true) (with_octets ss octets) values ≡ values ++ map base64url octets
-values_are [] [] values h = sym (append-nil values)
-values_are [] (x ∷ octets) values h = absurd (omega (arith, h))
-values_are (s ∷ ss) [] values h = absurd (omega (arith, h))
-values_are (s ∷ ss) (x ∷ octets) values h =
-    values_are ss octets (values ++ base64url x ∷ []) (omega (arith, h)) ∙ append_assoc values (base64url x ∷ []) (map base64url octets)
+-- ---- in either form
 
-in_places_are : (detach : Bool) (payload : List ℕ) (ss : List Signature) (octets : List (List ℕ)) → length octets ≡ length ss
-    → values_of true (inside detach payload) (with_octets ss octets) ≡ in_places detach payload octets
-in_places_are true payload ss octets h = values_are ss octets [] h
-in_places_are false payload ss octets h = values_are ss octets (base64url payload ∷ []) h
+-- With any payload and signatures in its places, it is the text of the object with these in place of its own.
+record IsRound (compact detach : Bool) (o : SignedObject) (w : Written) (payload : List ℕ) (octets : List (List ℕ)) : Type 0 where
+  whole : Written
+  written : jws_written false compact detach (signed_with o payload octets) ≡ Ok whole
+  fills : Fills w (in_places detach payload [] ++ map base64url octets) whole
 
--- octets need no escape
-plain_signatures : HasUrlCharacters → (ss : List Signature) (octets : List (List ℕ)) → length octets ≡ length ss → AllByRecursion IsOctets octets
-    → AllByRecursion (λ s. IsPlain true s.signature) (with_octets ss octets)
-plain_signatures characters [] octets h all = tt
-plain_signatures characters (s ∷ ss) [] h all = absurd (omega (arith, h))
-plain_signatures characters (s ∷ ss) (x ∷ octets) h all = (λ e. characters x all.0, plain_signatures characters ss octets (omega (arith, h)) all.1)
+compact_round : (detach : Bool) (o : SignedObject) (payload : List ℕ) (octets : List (List ℕ)) (ss : List Signature) → o.signatures ≡ ss → is_compact ss ≡ true → length octets ≡ length ss
+    → IsRound true detach o (with_compact (inside detach o.payload) (map signature_parts_of ss) (nothing_written true)) payload octets
+compact_round detach o payload octets [] is fits h = cc fits
+compact_round detach o payload [] (s ∷ []) is fits h = absurd (omega (arith, h))
+compact_round detach o payload (x ∷ []) (s ∷ []) is fits h = record {
+  whole = with_compact (inside detach payload) (record { protected = s.protected; header = s.header; signature = x } ∷ []) (nothing_written false);
+  written = rw (is, fits) refl;
+  fills = fills_place_part s.signature x _ (in_places detach payload []) _ (fills_content_part detach o.payload payload _ _ (fills_pushed s.protected _ [] _ fills_nothing));
+}
+compact_round detach o payload (x ∷ (y ∷ octets)) (s ∷ []) is fits h = absurd (omega (arith, h))
+compact_round detach o payload octets (s ∷ (other ∷ rest)) is fits h = cc fits
 
-round_values : UrlTextsAreJson → HasUrlCharacters → (detach : Bool) (o : SignedObject) (payload : List ℕ) (octets : List (List ℕ)) → IsOctets payload → AllByRecursion IsOctets octets
-    → length octets ≡ length o.signatures → Begins (jws_json true detach o) (in_places detach payload octets) [] (json_text detach (signed_with o payload octets))
-round_values url characters detach o payload octets is all long =
-    let other : SignedObject = signed_with o payload octets in
-    let written = json_written url true detach other (plain_content characters detach payload is) (plain_signatures characters o.signatures octets long all) in
-    let same : jws_json true detach other ≡ jws_json true detach o = ap (closed (codes "}")) (sym (same_written detach o.payload payload o.signatures octets (opened (codes "{") nothing_written))) in
-    subst (λ w. Begins w (in_places detach payload octets) [] (json_text detach other)) same
-    (subst (λ values. Begins (jws_json true detach other) values [] (json_text detach other)) (in_places_are detach payload o.signatures octets long) written)
+round : (compact detach : Bool) (o : SignedObject) (w : Written) → jws_written true compact detach o ≡ Ok w → (payload : List ℕ) (octets : List (List ℕ)) → length octets ≡ length o.signatures
+    → IsRound compact detach o w payload octets
+round true detach o w h payload octets long =
+    let fits = steps (needs (is_compact o.signatures) NotCompact) _ w h in
+    subst (λ w. IsRound true detach o w payload octets) (same_answer _ w fits.2) (compact_round detach o payload octets o.signatures refl (passed _ NotCompact fits.0 fits.1) long)
+round false detach o w h payload octets long =
+    subst (λ w. IsRound false detach o w payload octets) (same_answer _ w h)
+    (record {
+      whole = jws_json false detach (parts_of (signed_with o payload octets));
+      written = refl;
+      fills = fills_closed (codes "}") _ _ _ (signatures_fill detach o.payload payload o.signatures octets _ _ long (fills_opened (codes "{") _ [] _ fills_nothing));
+    })
 
--- ---- how many they are
-
-places_are : (detach : Bool) (payload : List ℕ) (octets : List (List ℕ)) → suc (length (in_places detach payload octets)) ≡ (if detach then 1 else 2) + length octets
-places_are true payload octets = ap suc (length-map octets base64url) ∙ omega arith
-places_are false payload octets = ap (λ n. suc (suc n)) (length-map octets base64url) ∙ omega arith
-
--- no octets for each signature
-abbrev nothing_for : List Signature → List (List ℕ)
-nothing_for [] = []
-nothing_for (s ∷ ss) = [] ∷ nothing_for ss
-
-nothing_count : (ss : List Signature) → length (nothing_for ss) ≡ length ss
-nothing_count [] = refl
-nothing_count (s ∷ ss) = ap suc (nothing_count ss)
-
-nothing_octets : (ss : List Signature) → AllByRecursion IsOctets (nothing_for ss)
-nothing_octets [] = tt
-nothing_octets (s ∷ ss) = (IsOctets-nil, nothing_octets ss)
-
-json_frame : UrlTextsAreJson → HasUrlCharacters → (detach : Bool) (o : SignedObject) → IsJwsFrame false detach o (all_texts (jws_json true detach o))
-json_frame url characters detach o = record {
+-- so its texts stand round them
+texts_are : (compact detach : Bool) (o : SignedObject) (w : Written) → jws_written true compact detach o ≡ Ok w → IsJwsFrame compact detach o (all_texts w)
+texts_are compact detach o w h = record {
   places =
-      let none : List (List ℕ) = nothing_for o.signatures in
-      let count = nothing_count o.signatures in
-      places_count _ _ [] _ (round_values url characters detach o [] none IsOctets-nil (nothing_octets o.signatures) count)
-      ∙ places_are detach [] none ∙ ap (λ n. (if detach then 1 else 2) + n) count;
-  filled = λ payload octets is all long. ap Ok (sym (is_filled _ _ _ (round_values url characters detach o payload octets is all long)));
+      let own : List (List ℕ) = map (λ (s : Signature). s.signature) o.signatures in
+      let count : length own ≡ length o.signatures = length-map o.signatures (λ (s : Signature). s.signature) in
+      let r = round compact detach o w h o.payload own count in
+      places_count w _ r.whole r.fills ∙ ap (λ values. suc (length values)) (places_are detach o.payload own) ∙ texts_count detach o.payload own ∙ ap (λ n. (if detach then 1 else 2) + n) count;
+  filled = λ payload octets is all long.
+      let r = round compact detach o w h payload octets long in
+      let text = is_filled w (in_places detach payload octets) r.whole (subst (λ values. Fills w values r.whole) (places_are detach payload octets) r.fills) in
+      jws_whole compact detach (signed_with o payload octets) r.whole r.written ∙ ap Ok (sym text);
 }
 
--- ---- the compact texts
-
--- the parts of the one signature, with the values in their places
-compact_filled : DecodesExactly → (detach : Bool) (payload own protected octets : List ℕ) (s : Signature) → s.protected ≡ protected
-    → joined protected (kept detach payload) octets ≡ filled (all_texts (with_first true (inside detach own) (s ∷ []) nothing_written)) (in_places detach payload (octets ∷ []))
-compact_filled exact true payload own protected octets s same = rw (same, no_octets exact) (simp (append_assoc, append-nil))
-compact_filled exact false payload own protected octets s same = rw same (simp (append_assoc, append-nil))
-
-compact_frame : DecodesExactly → (detach : Bool) (payload : List ℕ) (signatures : List Signature) → is_compact signatures ≡ true
-    → IsJwsFrame true detach (record { payload = payload; signatures = signatures }) (all_texts (with_first true (inside detach payload) signatures nothing_written))
-unfolding jws_compact_text
-compact_frame exact detach payload [] fits = cc fits
-compact_frame exact detach payload (s ∷ []) fits = record {
-  places = by_detach detach;
-  filled = by_octets;
-}
-  where
-    by_detach : (detach : Bool) → length (all_texts (with_first true (inside detach payload) (s ∷ []) nothing_written)) ≡ (if detach then 1 else 2) + 1
-    by_detach true = refl
-    by_detach false = refl
-
-    by_octets : (other : List ℕ) (octets : List (List ℕ)) → IsOctets other → AllByRecursion IsOctets octets → length octets ≡ 1
-        → jws_text true detach (signed_with (record { payload = payload; signatures = s ∷ [] }) other octets)
-        ≡ Ok (filled (all_texts (with_first true (inside detach payload) (s ∷ []) nothing_written)) (in_places detach other octets))
-    by_octets other [] is all long = absurd (omega (arith, long))
-    by_octets other (x ∷ []) is all long = rw fits (ap Ok (compact_filled exact detach other payload s.protected x s refl))
-    by_octets other (x ∷ (y ∷ octets)) is all long = absurd (omega (arith, long))
-compact_frame exact detach payload (s ∷ (other ∷ rest)) fits = cc fits
-
--- ---- both forms
-
-pub is_jws_frame : UrlTextsAreJson → HasUrlCharacters → DecodesExactly → (compact detach : Bool) (o : SignedObject) (texts : List (List ℕ)) → jws_frame compact detach o ≡ Ok texts
-    → IsJwsFrame compact detach o texts
-is_jws_frame url characters exact true detach o texts h =
-    let w = steps (jws_written true true detach o) _ texts h in
-    let fits = steps (needs (is_compact o.signatures) NotCompact) _ w.0 w.1 in
-    subst (IsJwsFrame true detach o) (ap all_texts (same_answer _ w.0 fits.2) ∙ same_answer _ texts w.2)
-    (compact_frame exact detach o.payload o.signatures (passed _ NotCompact fits.0 fits.1))
-is_jws_frame url characters exact false detach o texts h = subst (IsJwsFrame false detach o) (same_answer _ texts h) (json_frame url characters detach o)
+pub is_jws_frame : (compact detach : Bool) (o : SignedObject) (texts : List (List ℕ)) → jws_frame compact detach o ≡ Ok texts → IsJwsFrame compact detach o texts
+is_jws_frame compact detach o texts h =
+    let w = steps (jws_written true compact detach o) _ texts h in
+    subst (IsJwsFrame compact detach o) (same_answer _ texts w.2) (texts_are compact detach o w.0 w.1)

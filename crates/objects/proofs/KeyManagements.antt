@@ -7,10 +7,12 @@ use Rattle.octets.specs.declared.refusal.Refusal.{Refusal}
 use Rattle.octets.specs.declared.refusal.Refusal.TheVariants.{Header}
 use Rattle.octets.specs.Base64url.{decoded}
 use Rattle.octets.specs.Outcomes.{needs}
-use Rattle.keys.specs.declared.algorithm.ManagementAlg.{ManagementAlg}
-use Rattle.keys.specs.declared.algorithm.ManagementAlg.TheVariants.{Dir, A128Kw, A192Kw, A256Kw, Pbes2Hs256A128Kw, Pbes2Hs384A192Kw, Pbes2Hs512A256Kw, A128GcmKw, A192GcmKw, A256GcmKw}
+use Rattle.keys.specs.declared.algorithm.KeyManagementAlg.{KeyManagementAlg}
+use Rattle.keys.specs.declared.algorithm.KeyManagementMode.{KeyManagementMode}
+use Rattle.keys.specs.declared.algorithm.KeyManagementMode.TheVariants as mode
+use Rattle.keys.specs.Algorithms.{mode_of}
 use Rattle.objects.specs.Headers.{string_parameter, number_parameter, salt, salt_if_there, salt_parameter, octets_parameter}
-use Rattle.objects.specs.KeyManagement.{KeyManagement, Unknown, Direct, KeyWrap, Password, GcmKeyWrap, password_management, gcm_management, management_by, is_password, is_management_of}
+use Rattle.objects.specs.KeyManagement.{KeyManagement, Unknown, Direct, KeyWrap, Password, GcmKeyWrap, password_management, gcm_management, management_in, management_by, is_password, is_management_in, is_management_of}
 use Rattle.objects.proofs.Steps.{steps, passed, same_answer, is_there}
 
 -- a salt that is read has at least 8 octets
@@ -55,15 +57,12 @@ gcm_is header m h =
     let tag = steps (ok_or tag_there.0 Header) _ m tag_there.2 in
     (iv.0, tag.0, same_answer _ m tag.2)
 
-pub management_is : (alg : Option ManagementAlg) (header : Members) (m : KeyManagement) → management_by alg header ≡ Ok m → is_management_of alg m ≡ true
+is_in : (m : KeyManagementMode) (header : Members) (k : KeyManagement) → management_in m header ≡ Ok k → is_management_in m k ≡ true
+is_in mode.Direct header k h = let same : Direct ≡ k = cc h in rw (sym same) refl
+is_in mode.KeyWrap header k h = let same : KeyWrap ≡ k = cc h in rw (sym same) refl
+is_in mode.Password header k h = let is = password_is header k h in rw (sym is.3) is.2
+is_in mode.GcmKeyWrap header k h = let is = gcm_is header k h in rw (sym is.2) refl
+
+pub management_is : (alg : Option KeyManagementAlg) (header : Members) (m : KeyManagement) → management_by alg header ≡ Ok m → is_management_of alg m ≡ true
 management_is None header m h = let same : Unknown ≡ m = cc h in rw (sym same) refl
-management_is (Some Dir) header m h = let same : Direct ≡ m = cc h in rw (sym same) refl
-management_is (Some A128Kw) header m h = let same : KeyWrap ≡ m = cc h in rw (sym same) refl
-management_is (Some A192Kw) header m h = let same : KeyWrap ≡ m = cc h in rw (sym same) refl
-management_is (Some A256Kw) header m h = let same : KeyWrap ≡ m = cc h in rw (sym same) refl
-management_is (Some Pbes2Hs256A128Kw) header m h = let is = password_is header m h in rw (sym is.3) is.2
-management_is (Some Pbes2Hs384A192Kw) header m h = let is = password_is header m h in rw (sym is.3) is.2
-management_is (Some Pbes2Hs512A256Kw) header m h = let is = password_is header m h in rw (sym is.3) is.2
-management_is (Some A128GcmKw) header m h = let is = gcm_is header m h in rw (sym is.2) refl
-management_is (Some A192GcmKw) header m h = let is = gcm_is header m h in rw (sym is.2) refl
-management_is (Some A256GcmKw) header m h = let is = gcm_is header m h in rw (sym is.2) refl
+management_is (Some alg) header m h = is_in (mode_of alg) header m h

@@ -21,6 +21,7 @@ pub mod Joined
 pub mod ReadJson
 pub mod DetachedContent
 pub mod Places
+pub mod WrittenMembers
 pub mod SpellingJwe
 pub mod JweWritten
 pub mod JweFrames

@@ -1,45 +1,30 @@
--- The members of one beside the others, and those of several as a list of objects: they are read as they were put in, and are as JSON has them.
-use Rattle.std.proofs.Common.{◌≡◌, ◌≤◌, ℕ, suc, List, [], ◌∷◌, ◌++◌, length, map, true, false, nat_le, Option, Some, None, Result, Ok, Err, IsUtf8, if◌then◌else◌, refl, ap, ap₂, ◌∙◌, subst, arith}
+-- The members of one beside the others, and those of several as a list of objects: they are read as they stand, and are as JSON has them.
+use Rattle.std.proofs.Common.{◌≡◌, ◌≤◌, ℕ, suc, List, [], ◌∷◌, ◌++◌, length, map, true, false, nat_le, Option, Some, None, Result, Ok, Err, IsUtf8, if◌then◌else◌, refl, ap, ◌∙◌, subst, arith}
 use Rattle.std.proofs.Math.Dec.{leb-suc-suc, leb-suc-zero}
 use Rattle.std.specs.List.{AllByRecursion}
 use Rattle.std.specs.Option.{option_or}
 use Rattle.std.specs.Str.{bytes_eq}
-use Rattle.serde_json.specs.Data.{Data, Items, no_items, item, Members, no_members, put, array, object, items_depth}
+use Rattle.serde_json.specs.Data.{Data, Items, no_items, item, array, object, items_depth}
 use Rattle.serde_json.specs.Find.{get}
 use Rattle.octets.specs.declared.refusal.Refusal.{Refusal}
 use Rattle.octets.specs.declared.refusal.Refusal.TheVariants.{Form}
 use Rattle.octets.specs.Outcomes.{◌>>=◌}
 use Rattle.keys.specs.JsonTexts.{AreJsonItems, KeepJson}
 use Rattle.keys.specs.KeySets.{are_objects}
-use Rattle.objects.specs.Texts.{each_item, object_list, objects_of, put_each, header_depth, listed_header_depth, depth_of_each}
+use Rattle.objects.specs.Texts.{each_item, object_list, header_depth, listed_header_depth, depth_of_each}
 use Rattle.objects.proofs.EachRead.{all_then}
 use Rattle.objects.proofs.Members.{Entries, put_all, first_there, IsJsonIfThere, AreJsonEntries, all_json}
 
 -- the members of each as an object
 abbrev pub listed : {T : Type 0} → (T → Entries) → List T → Items
-listed entries ts = objects_of (λ t. put_all (entries t)) ts
+listed entries [] = no_items
+listed entries (t ∷ ts) = item (object (put_all (entries t))) (listed entries ts)
 
 -- those of one, or under the name the list of several or of none
 abbrev pub each_entries : {T : Type 0} → List ℕ → (T → Entries) → List T → Entries
 each_entries name entries [] = (name, Some (array no_items)) ∷ []
 each_entries name entries (t ∷ []) = entries t
 each_entries name entries (t ∷ (other ∷ rest)) = (name, Some (array (listed entries (t ∷ (other ∷ rest))))) ∷ []
-
--- ---- what is put in
-
--- members that are equal make equal objects
-pub objects_of-map : {X T : Type 0} (members : X → Members) (others : T → Members) (text : X → T) → ((x : X) → members x ≡ others (text x))
-    → (xs : List X) → objects_of members xs ≡ objects_of others (map text xs)
-objects_of-map members others text same [] = refl
-objects_of-map members others text same (x ∷ xs) = ap₂ (λ ms ds. item (object ms) ds) (same x) (objects_of-map members others text same xs)
-
--- what is put in for each is what its texts say
-pub put_each_is : {X T : Type 0} (name : List ℕ) (put_one : X → Members → Members) (text : X → T) (entries : T → Entries) → ((x : X) → put_one x no_members ≡ put_all (entries (text x)))
-    → (xs : List X) → put_each name put_one xs no_members ≡ put_all (each_entries name entries (map text xs))
-put_each_is name put_one text entries same [] = refl
-put_each_is name put_one text entries same (x ∷ []) = same x
-put_each_is name put_one text entries same (x ∷ (other ∷ rest)) =
-    ap (λ ds. put name (array ds) no_members) (objects_of-map (λ x. put_one x no_members) (λ t. put_all (entries t)) text same (x ∷ (other ∷ rest)))
 
 -- ---- what is read
 
@@ -51,19 +36,19 @@ in_front name entries (t ∷ []) other d differs none = ap (option_or d) (none t
 in_front name entries (t ∷ (second ∷ rest)) other d differs none = rw differs refl
 
 -- where the object of each is read as it was made, so is the list
-items_read : {T : Type 0} (read : Data → Result T Refusal) (members : T → Members) → ((t : T) → read (object (members t)) ≡ Ok t)
-    → (ts : List T) → each_item read (objects_of members ts) ≡ Ok ts
-items_read read members reads [] = refl
-items_read read members reads (t ∷ ts) = rw (reads t, items_read read members reads ts) refl
+items_read : {T : Type 0} (read : Data → Result T Refusal) (entries : T → Entries) → ((t : T) → read (object (put_all (entries t))) ≡ Ok t)
+    → (ts : List T) → each_item read (listed entries ts) ≡ Ok ts
+items_read read entries reads [] = refl
+items_read read entries reads (t ∷ ts) = rw (reads t, items_read read entries reads ts) refl
 
 -- it is a list of objects
-objects_are_objects : {T : Type 0} (members : T → Members) (ts : List T) → are_objects (objects_of members ts) ≡ true
-objects_are_objects members [] = refl
-objects_are_objects members (t ∷ ts) = objects_are_objects members ts
+objects_are_objects : {T : Type 0} (entries : T → Entries) (ts : List T) → are_objects (listed entries ts) ≡ true
+objects_are_objects entries [] = refl
+objects_are_objects entries (t ∷ ts) = objects_are_objects entries ts
 
-list_read : {T : Type 0} (members : T → Members) (t : T) (ts : List T) → object_list (array (objects_of members (t ∷ ts))) ≡ Ok (objects_of members (t ∷ ts))
+list_read : {T : Type 0} (entries : T → Entries) (t : T) (ts : List T) → object_list (array (listed entries (t ∷ ts))) ≡ Ok (listed entries (t ∷ ts))
 unfolding object_list
-list_read members t ts = rw (objects_are_objects members ts) refl
+list_read entries t ts = rw (objects_are_objects entries ts) refl
 
 -- the objects of a value: itself, or those of its list, beside which nothing of one may stand
 abbrev pub objects_by : (Data → Result (Unit {0}) Refusal) → Data → Option Data → Result Items Refusal
@@ -91,8 +76,8 @@ each_read name entries read nothing_at front is (t ∷ (other ∷ rest)) some =
     let items = listed entries (t ∷ (other ∷ rest)) in
     let value = object (put_all (front ++ (name, Some (array items)) ∷ [])) in (
       items,
-      ap (objects_by nothing_at value) (is.has_list (array items)) ∙ rw (is.nothing (array items)) (list_read (λ t. put_all (entries t)) t (other ∷ rest)),
-      items_read read (λ t. put_all (entries t)) is.alone (t ∷ (other ∷ rest)),
+      ap (objects_by nothing_at value) (is.has_list (array items)) ∙ rw (is.nothing (array items)) (list_read entries t (other ∷ rest)),
+      items_read read entries is.alone (t ∷ (other ∷ rest)),
     )
 
 -- a list of none is refused

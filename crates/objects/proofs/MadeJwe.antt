@@ -10,9 +10,9 @@ use Rattle.octets.specs.Octets.{IsOctets}
 use Rattle.octets.specs.Outcomes.{needs}
 use Rattle.octets.proofs.Decoded.{IsOctets-nil}
 use Rattle.keys.specs.JsonTexts.{IsJson, KeepJson}
-use Rattle.keys.specs.Limits.{Limits}
+use Rattle.keys.specs.Limits.{Limits, are_few}
 use Rattle.objects.specs.Headers.{header_at}
-use Rattle.objects.specs.Jwe.{RecipientTexts, RecipientParts, SharedTexts, ContentTexts, JweTexts, JweParts, EncryptedObject, shared_texts, recipient_texts, content_texts, no_recipient_at, recipients_by, recipient_objects, json_texts, compact_texts, jwe_texts, recipient_parts, parts_of_texts, object_of_texts, jwe_of, is_shallow, have_whole_numbers, built, AreMembers, ObjectsAreMade}
+use Rattle.objects.specs.Jwe.{EncodedRecipient, RecipientParts, EncodedShared, EncodedContent, EncodedJwe, JweParts, EncryptedObject, encoded_shared, encoded_recipient, encoded_content, no_recipient_at, recipients_by, recipient_objects, encoded_in_json, encoded_in_compact, encoded_jwe, decoded_recipient, decoded_members, decoded_object, jwe_of, is_shallow, have_whole_numbers, built, AreMembers, ObjectsAreMade}
 use Rattle.objects.specs.Texts.{each, each_item, is_json_form, split_at_dot, three_parts, text_at, content_by, content_text, AreOctetsHandedIn, header_depth, depth_of_each}
 use Rattle.objects.proofs.DetachedContent.{MeansOctets, part_octets, member_octets}
 use Rattle.objects.proofs.Each.{as_many}
@@ -24,21 +24,21 @@ use Rattle.objects.proofs.TextOctets.{TextLaws}
 
 -- ---- the texts are octets, but that of the ciphertext, which decodes to octets, and the headers are as JSON has them
 
-pub record IsRecipient (n : ℕ) (t : RecipientTexts) : Type 0 where
+pub record IsRecipient (n : ℕ) (t : EncodedRecipient) : Type 0 where
   pub header : IsHeader n t.header
   pub encrypted_key : IsOctets t.encrypted_key
 
-pub record AreShared (t : SharedTexts) : Type 0 where
+pub record AreShared (t : EncodedShared) : Type 0 where
   pub protected : IsOctets t.protected
   pub unprotected : IsHeader header_depth t.unprotected
   pub aad : IsOctets t.aad
 
-pub record AreContent (t : ContentTexts) : Type 0 where
+pub record AreContent (t : EncodedContent) : Type 0 where
   pub iv : IsOctets t.iv
   pub ciphertext : MeansOctets t.ciphertext
   pub tag : IsOctets t.tag
 
-pub record AreTexts (t : JweTexts) : Type 0 where
+pub record AreTexts (t : EncodedJwe) : Type 0 where
   pub shared : AreShared t.shared
   pub recipients : AllByRecursion (IsRecipient (depth_of_each (length t.recipients))) t.recipients
   pub some : 1 ≤ length t.recipients
@@ -46,16 +46,16 @@ pub record AreTexts (t : JweTexts) : Type 0 where
 
 -- ---- in JSON form
 
-recipient_is : KeepJson → (n : ℕ) (d : Data) (t : RecipientTexts) → 1 ≤ n → IsShallow (suc n) d → recipient_texts d ≡ Ok t → IsRecipient n t
-unfolding recipient_texts
+recipient_is : KeepJson → (n : ℕ) (d : Data) (t : EncodedRecipient) → 1 ≤ n → IsShallow (suc n) d → encoded_recipient d ≡ Ok t → IsRecipient n t
+unfolding encoded_recipient
 recipient_is keep n d t some is h =
     let a = steps (text_at (codes "encrypted_key") d) _ t h in
     let b = steps (header_at (codes "header") d) _ t a.2 in
     subst (IsRecipient n) (same_answer _ t b.2)
     (record { header = header_shallow keep n (codes "header") d b.0 some is b.1; encrypted_key = text_octets keep (codes "encrypted_key") d a.0 is.json a.1 })
 
-shared_are : KeepJson → (d : Data) (t : SharedTexts) → IsShallow 127 d → shared_texts d ≡ Ok t → AreShared t
-unfolding shared_texts
+shared_are : KeepJson → (d : Data) (t : EncodedShared) → IsShallow 127 d → encoded_shared d ≡ Ok t → AreShared t
+unfolding encoded_shared
 shared_are keep d t is h =
     let a = steps (text_at (codes "protected") d) _ t h in
     let b = steps (header_at (codes "unprotected") d) _ t a.2 in
@@ -67,8 +67,8 @@ shared_are keep d t is h =
       aad = text_octets keep (codes "aad") d c.0 is.json c.1;
     })
 
-content_are : KeepJson → TextLaws → (detached : Option (List ℕ)) → AreOctetsHandedIn detached → (d : Data) (t : ContentTexts) → IsJson d → content_texts detached d ≡ Ok t → AreContent t
-unfolding content_texts
+content_are : KeepJson → TextLaws → (detached : Option (List ℕ)) → AreOctetsHandedIn detached → (d : Data) (t : EncodedContent) → IsJson d → encoded_content detached d ≡ Ok t → AreContent t
+unfolding encoded_content
 content_are keep laws detached handed d t is h =
     let a = steps (text_at (codes "iv") d) _ t h in
     let b = steps (content_text detached (codes "ciphertext") d) _ t a.2 in
@@ -90,29 +90,29 @@ objects_are : KeepJson → (d : Data) (items : Items) → IsShallow 127 d → re
 unfolding recipient_objects
 objects_are keep d items is h = objects_by keep d (get (codes "recipients") d) items is refl h
 
-pub json_are : KeepJson → TextLaws → (detached : Option (List ℕ)) → AreOctetsHandedIn detached → (d : Data) (t : JweTexts) → IsShallow 127 d → json_texts detached d ≡ Ok t → AreTexts t
-unfolding json_texts
+pub json_are : KeepJson → TextLaws → (detached : Option (List ℕ)) → AreOctetsHandedIn detached → (d : Data) (t : EncodedJwe) → IsShallow 127 d → encoded_in_json detached d ≡ Ok t → AreTexts t
+unfolding encoded_in_json
 json_are keep laws detached handed d t is h =
-    let a = steps (shared_texts d) _ t h in
+    let a = steps (encoded_shared d) _ t h in
     let b = steps (recipient_objects d) _ t a.2 in
-    let c = steps (each_item recipient_texts b.0) _ t b.2 in
-    let e = steps (content_texts detached d) _ t c.2 in
-    let recipients = each_is IsRecipient recipient_texts (recipient_is keep) b.0 c.0 (objects_are keep d b.0 is b.1) c.1 in
+    let c = steps (each_item encoded_recipient b.0) _ t b.2 in
+    let e = steps (encoded_content detached d) _ t c.2 in
+    let recipients = each_is IsRecipient encoded_recipient (recipient_is keep) b.0 c.0 (objects_are keep d b.0 is b.1) c.1 in
     subst AreTexts (same_answer _ t e.2)
     (record { shared = shared_are keep d a.0 is a.1; recipients = recipients.0; some = recipients.1; content = content_are keep laws detached handed d e.0 is.json e.1 })
 
 -- ---- in compact form
 
 -- the texts of these parts of a compact text
-abbrev pub compact : List ℕ → List ℕ → List ℕ → List ℕ → List ℕ → JweTexts
+abbrev pub compact : List ℕ → List ℕ → List ℕ → List ℕ → List ℕ → EncodedJwe
 compact protected encrypted_key iv ciphertext tag = record {
   shared = record { protected = protected; unprotected = no_members; aad = [] };
   recipients = record { header = no_members; encrypted_key = encrypted_key } ∷ [];
   content = record { iv = iv; ciphertext = ciphertext; tag = tag };
 }
 
-pub compact_are : TextLaws → (detached : Option (List ℕ)) → AreOctetsHandedIn detached → (text : List ℕ) (t : JweTexts) → IsOctets text → compact_texts detached text ≡ Ok t → AreTexts t
-unfolding compact_texts
+pub compact_are : TextLaws → (detached : Option (List ℕ)) → AreOctetsHandedIn detached → (text : List ℕ) (t : EncodedJwe) → IsOctets text → encoded_in_compact detached text ≡ Ok t → AreTexts t
+unfolding encoded_in_compact
 compact_are laws detached handed text t octets h =
     let a = steps (split_at_dot text) _ t h in
     let b = steps (split_at_dot a.0.1) _ t a.2 in
@@ -122,7 +122,7 @@ compact_are laws detached handed text t octets h =
     let second = split_octets a.0.1 b.0 first.1 b.1 in
     let others = three_octets b.0.1 c.0 second.1 c.1 in
     let none : IsHeader header_depth no_members = no_header header_depth (omega arith) in
-    let texts : JweTexts = compact a.0.0 b.0.0 c.0.0 d.0 c.0.2 in
+    let texts : EncodedJwe = compact a.0.0 b.0.0 c.0.0 d.0 c.0.2 in
     subst AreTexts {x = texts} (same_answer texts t d.2)
     (record {
       shared = record { protected = first.0; unprotected = none; aad = IsOctets-nil };
@@ -133,39 +133,39 @@ compact_are laws detached handed text t octets h =
 
 -- ---- in either form
 
-texts_are : ReadingLaws → TextLaws → (detached : Option (List ℕ)) → AreOctetsHandedIn detached → (text : List ℕ) (t : JweTexts) → IsOctets text → jwe_texts detached text ≡ Ok t → AreTexts t
-unfolding jwe_texts
+texts_are : ReadingLaws → TextLaws → (detached : Option (List ℕ)) → AreOctetsHandedIn detached → (text : List ℕ) (t : EncodedJwe) → IsOctets text → encoded_jwe detached text ≡ Ok t → AreTexts t
+unfolding encoded_jwe
 texts_are reading laws detached handed text t octets h =
-    of_text AreTexts (json_texts detached) (compact_texts detached) reading.reads (json_are reading.keep laws detached handed) (compact_are laws detached handed) (is_json_form text) text t octets h
+    of_text AreTexts (encoded_in_json detached) (encoded_in_compact detached) reading.reads (json_are reading.keep laws detached handed) (compact_are laws detached handed) (is_json_form text) text t octets h
 
 -- ---- the members
 
 -- a recipient has the header and the encrypted key that its texts spell
-pub record IsSpelled (t : RecipientTexts) (r : RecipientParts) : Type 0 where
+pub record IsSpelled (t : EncodedRecipient) (r : RecipientParts) : Type 0 where
   pub header : r.header ≡ t.header
   pub encrypted_key : decoded t.encrypted_key ≡ Ok r.encrypted_key
 
-pub recipient_spelled : (t : RecipientTexts) (r : RecipientParts) → recipient_parts t ≡ Ok r → IsSpelled t r
-unfolding recipient_parts
+pub recipient_spelled : (t : EncodedRecipient) (r : RecipientParts) → decoded_recipient t ≡ Ok r → IsSpelled t r
+unfolding decoded_recipient
 recipient_spelled t r h =
     let a = steps (decoded t.encrypted_key) _ r h in
     subst (IsSpelled t) (same_answer _ r a.2) (record { header = refl; encrypted_key = a.1 })
 
 -- an object has the members that its texts spell
-pub record AreSpelled (t : JweTexts) (parts : JweParts) : Type 0 where
+pub record AreSpelled (t : EncodedJwe) (parts : JweParts) : Type 0 where
   pub protected : parts.protected ≡ t.shared.protected
   pub unprotected : parts.unprotected ≡ t.shared.unprotected
   pub aad : decoded t.shared.aad ≡ Ok parts.aad
-  pub recipients : each recipient_parts t.recipients ≡ Ok parts.recipients
+  pub recipients : each decoded_recipient t.recipients ≡ Ok parts.recipients
   pub iv : decoded t.content.iv ≡ Ok parts.iv
   pub ciphertext : decoded t.content.ciphertext ≡ Ok parts.ciphertext
   pub tag : decoded t.content.tag ≡ Ok parts.tag
 
-pub parts_spelled : (t : JweTexts) (parts : JweParts) → parts_of_texts t ≡ Ok parts → AreSpelled t parts
-unfolding parts_of_texts
+pub parts_spelled : (t : EncodedJwe) (parts : JweParts) → decoded_members t ≡ Ok parts → AreSpelled t parts
+unfolding decoded_members
 parts_spelled t parts h =
     let a = steps (decoded t.shared.aad) _ parts h in
-    let b = steps (each recipient_parts t.recipients) _ parts a.2 in
+    let b = steps (each decoded_recipient t.recipients) _ parts a.2 in
     let c = steps (decoded t.content.iv) _ parts b.2 in
     let d = steps (decoded t.content.ciphertext) _ parts c.2 in
     let e = steps (decoded t.content.tag) _ parts d.2 in
@@ -175,28 +175,28 @@ parts_spelled t parts h =
 abbrev IsMade : ℕ → RecipientParts → Type 0
 IsMade n r = IsHeader n r.header × IsOctets r.encrypted_key
 
-recipient_made : ReadingLaws → (n : ℕ) (t : RecipientTexts) (r : RecipientParts) → IsRecipient n t → recipient_parts t ≡ Ok r → IsMade n r
+recipient_made : ReadingLaws → (n : ℕ) (t : EncodedRecipient) (r : RecipientParts) → IsRecipient n t → decoded_recipient t ≡ Ok r → IsMade n r
 recipient_made laws n t r is h =
     let spelled = recipient_spelled t r h in
     (subst (IsHeader n) (sym spelled.header) is.header, laws.octets t.encrypted_key r.encrypted_key is.encrypted_key spelled.encrypted_key)
 
 -- and so they are of all
-recipients_made : ReadingLaws → (ts : List RecipientTexts) (rs : List RecipientParts) → AllByRecursion (IsRecipient (depth_of_each (length ts))) ts → each recipient_parts ts ≡ Ok rs
+recipients_made : ReadingLaws → (ts : List EncodedRecipient) (rs : List RecipientParts) → AllByRecursion (IsRecipient (depth_of_each (length ts))) ts → each decoded_recipient ts ≡ Ok rs
     → AllByRecursion (IsMade (depth_of_each (length rs))) rs
 recipients_made laws ts rs are h =
     let n : ℕ = depth_of_each (length ts) in
-    let all : AllByRecursion (IsMade n) rs = all_read (IsRecipient n) (IsMade n) recipient_parts (recipient_made laws n) ts rs are h in
-    subst (λ k. AllByRecursion (IsMade (depth_of_each k)) rs) (sym (as_many recipient_parts ts rs h)) all
+    let all : AllByRecursion (IsMade n) rs = all_read (IsRecipient n) (IsMade n) decoded_recipient (recipient_made laws n) ts rs are h in
+    subst (λ k. AllByRecursion (IsMade (depth_of_each k)) rs) (sym (as_many decoded_recipient ts rs h)) all
 
-object_made : ReadingLaws → (limits : Limits) (t : JweTexts) (o : EncryptedObject) → AreTexts t → object_of_texts limits t ≡ Ok o → (parts : JweParts) × (AreMembers parts × (built limits parts ≡ Ok o))
-unfolding object_of_texts built
+object_made : ReadingLaws → (limits : Limits) (t : EncodedJwe) (o : EncryptedObject) → AreTexts t → decoded_object limits t ≡ Ok o → (parts : JweParts) × (AreMembers parts × (built limits parts ≡ Ok o))
+unfolding decoded_object built
 object_made laws limits t o are h =
-    let a = steps (needs (nat_le (length t.recipients) limits.recipients) Limit) _ o h in
+    let a = steps (needs (are_few limits (length t.recipients)) Limit) _ o h in
     let b = steps (decoded t.shared.protected) _ o a.2 in
-    let c = steps (parts_of_texts t) _ o b.2 in
+    let c = steps (decoded_members t) _ o b.2 in
     let parts : JweParts = c.0 in
     let spelled = parts_spelled t parts c.1 in
-    let many = as_many recipient_parts t.recipients parts.recipients spelled.recipients in
+    let many = as_many decoded_recipient t.recipients parts.recipients spelled.recipients in
     let n : ℕ = depth_of_each (length parts.recipients) in
     let all : AllByRecursion (IsMade n) parts.recipients = recipients_made laws t.recipients parts.recipients are.recipients spelled.recipients in
     let unprotected : IsHeader header_depth parts.unprotected = subst (IsHeader header_depth) (sym spelled.unprotected) are.shared.unprotected in
@@ -213,13 +213,13 @@ object_made laws limits t o are h =
     let whole : have_whole_numbers parts ≡ true =
     and_from _ _ (header_whole header_depth parts.unprotected unprotected) (all_pass (IsMade n) _ (λ r is. header_whole n r.header is.0) parts.recipients all) in
     let some : nat_le 1 (length parts.recipients) ≡ true = le-leb 1 _ (omega (arith, are.some, many)) in
-    let few : nat_le (length parts.recipients) limits.recipients ≡ true = ap (λ k. nat_le k limits.recipients) many ∙ passed _ Limit a.0 a.1 in
+    let few : are_few limits (length parts.recipients) ≡ true = ap (λ k. are_few limits k) many ∙ passed _ Limit a.0 a.1 in
     let octets : decoded parts.protected ≡ Ok b.0 = ap decoded spelled.protected ∙ b.1 in
     (parts, (members, rw (shallow, whole, some, few, octets) c.2))
 
 pub objects_are_made : ReadingLaws → ObjectsAreMade
 unfolding jwe_of
 objects_are_made laws limits detached text o handed octets h =
-    let a = steps (jwe_texts detached text) (object_of_texts limits) o h in
+    let a = steps (encoded_jwe detached text) (decoded_object limits) o h in
     let are = texts_are laws (record { exact = laws.exact; octets = laws.octets }) detached handed text a.0 octets a.1 in
     object_made laws limits a.0 o are a.2

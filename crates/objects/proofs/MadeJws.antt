@@ -10,9 +10,9 @@ use Rattle.octets.specs.Base64url.{decoded}
 use Rattle.octets.specs.Octets.{IsOctets}
 use Rattle.octets.specs.Outcomes.{◌>>=◌, needs}
 use Rattle.keys.specs.JsonTexts.{KeepJson}
-use Rattle.keys.specs.Limits.{Limits}
+use Rattle.keys.specs.Limits.{Limits, are_few}
 use Rattle.objects.specs.Headers.{header_at}
-use Rattle.objects.specs.Jws.{SignatureTexts, SignatureParts, JwsTexts, JwsParts, DecodedSignature, SignedObject, signature_texts, no_signature_at, signatures_by, signature_objects, json_texts, compact_texts, jws_texts, decoded_signature, decoded_texts, object_of_texts, jws_of, nest_at_most, have_whole_numbers, built, AreMembers, ObjectsAreMade}
+use Rattle.objects.specs.Jws.{EncodedSignature, SignatureParts, EncodedJws, JwsParts, DecodedSignature, SignedObject, encoded_signature, no_signature_at, signatures_by, signature_objects, encoded_in_json, encoded_in_compact, encoded_jws, decoded_part, decoded_signature, decoded_object, jws_of, nest_at_most, have_whole_numbers, built, AreMembers, ObjectsAreMade}
 use Rattle.objects.specs.Texts.{each, each_item, is_json_form, three_parts, text_at, required_text, content_by, content_text, AreOctetsHandedIn, depth_of_each}
 use Rattle.objects.proofs.DetachedContent.{MeansOctets, part_octets, member_octets}
 use Rattle.objects.proofs.Each.{as_many}
@@ -24,20 +24,20 @@ use Rattle.objects.proofs.TextOctets.{TextLaws}
 
 -- ---- the texts are octets, but that of the payload, which decodes to octets, and the headers are as JSON has them
 
-pub record IsSignature (n : ℕ) (t : SignatureTexts) : Type 0 where
+pub record IsSignature (n : ℕ) (t : EncodedSignature) : Type 0 where
   pub protected : IsOctets t.protected
   pub header : IsHeader n t.header
   pub signature : IsOctets t.signature
 
-pub record AreTexts (t : JwsTexts) : Type 0 where
+pub record AreTexts (t : EncodedJws) : Type 0 where
   pub payload : MeansOctets t.payload
   pub signatures : AllByRecursion (IsSignature (depth_of_each (length t.signatures))) t.signatures
   pub some : 1 ≤ length t.signatures
 
 -- ---- in JSON form
 
-signature_is : KeepJson → (n : ℕ) (d : Data) (t : SignatureTexts) → 1 ≤ n → IsShallow (suc n) d → signature_texts d ≡ Ok t → IsSignature n t
-unfolding signature_texts
+signature_is : KeepJson → (n : ℕ) (d : Data) (t : EncodedSignature) → 1 ≤ n → IsShallow (suc n) d → encoded_signature d ≡ Ok t → IsSignature n t
+unfolding encoded_signature
 signature_is keep n d t some is h =
     let a = steps (text_at (codes "protected") d) _ t h in
     let b = steps (header_at (codes "header") d) _ t a.2 in
@@ -59,20 +59,20 @@ objects_are : KeepJson → (d : Data) (items : Items) → IsShallow 127 d → si
 unfolding signature_objects
 objects_are keep d items is h = objects_by keep d (get (codes "signatures") d) items is refl h
 
-pub json_are : KeepJson → TextLaws → (detached : Option (List ℕ)) → AreOctetsHandedIn detached → (d : Data) (t : JwsTexts) → IsShallow 127 d → json_texts detached d ≡ Ok t → AreTexts t
-unfolding json_texts
+pub json_are : KeepJson → TextLaws → (detached : Option (List ℕ)) → AreOctetsHandedIn detached → (d : Data) (t : EncodedJws) → IsShallow 127 d → encoded_in_json detached d ≡ Ok t → AreTexts t
+unfolding encoded_in_json
 json_are keep laws detached handed d t is h =
     let a = steps (content_text detached (codes "payload") d) _ t h in
     let b = steps (signature_objects d) _ t a.2 in
-    let c = steps (each_item signature_texts b.0) _ t b.2 in
-    let signatures = each_is IsSignature signature_texts (signature_is keep) b.0 c.0 (objects_are keep d b.0 is b.1) c.1 in
+    let c = steps (each_item encoded_signature b.0) _ t b.2 in
+    let signatures = each_is IsSignature encoded_signature (signature_is keep) b.0 c.0 (objects_are keep d b.0 is b.1) c.1 in
     subst AreTexts (same_answer _ t c.2)
     (record { payload = member_octets keep laws detached (codes "payload") d a.0 handed is.json a.1; signatures = signatures.0; some = signatures.1 })
 
 -- ---- in compact form
 
-pub compact_are : TextLaws → (detached : Option (List ℕ)) → AreOctetsHandedIn detached → (text : List ℕ) (t : JwsTexts) → IsOctets text → compact_texts detached text ≡ Ok t → AreTexts t
-unfolding compact_texts
+pub compact_are : TextLaws → (detached : Option (List ℕ)) → AreOctetsHandedIn detached → (text : List ℕ) (t : EncodedJws) → IsOctets text → encoded_in_compact detached text ≡ Ok t → AreTexts t
+unfolding encoded_in_compact
 compact_are laws detached handed text t octets h =
     let a = steps (three_parts text) _ t h in
     let b = steps (content_by detached a.0.1) _ t a.2 in
@@ -86,22 +86,22 @@ compact_are laws detached handed text t octets h =
 
 -- ---- in either form
 
-texts_are : ReadingLaws → TextLaws → (detached : Option (List ℕ)) → AreOctetsHandedIn detached → (text : List ℕ) (t : JwsTexts) → IsOctets text → jws_texts detached text ≡ Ok t → AreTexts t
-unfolding jws_texts
+texts_are : ReadingLaws → TextLaws → (detached : Option (List ℕ)) → AreOctetsHandedIn detached → (text : List ℕ) (t : EncodedJws) → IsOctets text → encoded_jws detached text ≡ Ok t → AreTexts t
+unfolding encoded_jws
 texts_are reading laws detached handed text t octets h =
-    of_text AreTexts (json_texts detached) (compact_texts detached) reading.reads (json_are reading.keep laws detached handed) (compact_are laws detached handed) (is_json_form text) text t octets h
+    of_text AreTexts (encoded_in_json detached) (encoded_in_compact detached) reading.reads (json_are reading.keep laws detached handed) (compact_are laws detached handed) (is_json_form text) text t octets h
 
 -- ---- the members
 
 -- a signature has the members that its texts spell, and is decoded from them as from its texts
-pub record IsSpelled (t : SignatureTexts) (s : DecodedSignature) : Type 0 where
+pub record IsSpelled (t : EncodedSignature) (s : DecodedSignature) : Type 0 where
   pub protected : s.parts.protected ≡ t.protected
   pub header : s.parts.header ≡ t.header
   pub signature : decoded t.signature ≡ Ok s.parts.signature
-  pub again : decoded_signature s.parts ≡ Ok s
+  pub again : decoded_part s.parts ≡ Ok s
 
-pub signature_spelled : (t : SignatureTexts) (s : DecodedSignature) → decoded_texts t ≡ Ok s → IsSpelled t s
-unfolding decoded_texts decoded_signature
+pub signature_spelled : (t : EncodedSignature) (s : DecodedSignature) → decoded_signature t ≡ Ok s → IsSpelled t s
+unfolding decoded_signature decoded_part
 signature_spelled t s h =
     let a = steps (decoded t.signature) _ s h in
     let b = steps (decoded t.protected) _ s a.2 in
@@ -112,8 +112,8 @@ signature_spelled t s h =
 abbrev IsMade : ℕ → SignatureParts → Type 0
 IsMade n s = IsUtf8 s.protected × IsHeader n s.header × IsOctets s.signature
 
-signature_made : ReadingLaws → (n : ℕ) (t : SignatureTexts) (s : DecodedSignature) → IsSignature n t → decoded_texts t ≡ Ok s → IsMade n s.parts
-unfolding decoded_signature
+signature_made : ReadingLaws → (n : ℕ) (t : EncodedSignature) (s : DecodedSignature) → IsSignature n t → decoded_signature t ≡ Ok s → IsMade n s.parts
+unfolding decoded_part
 signature_made laws n t s is h =
     let spelled = signature_spelled t s h in
     let own = steps (decoded s.parts.protected) _ s spelled.again in (
@@ -122,19 +122,19 @@ signature_made laws n t s is h =
       laws.octets t.signature s.parts.signature is.signature spelled.signature,
     )
 
-object_made : ReadingLaws → (limits : Limits) (t : JwsTexts) (o : SignedObject) → AreTexts t → object_of_texts limits t ≡ Ok o → (parts : JwsParts) × (AreMembers parts × (built limits parts ≡ Ok o))
-unfolding object_of_texts built
+object_made : ReadingLaws → (limits : Limits) (t : EncodedJws) (o : SignedObject) → AreTexts t → decoded_object limits t ≡ Ok o → (parts : JwsParts) × (AreMembers parts × (built limits parts ≡ Ok o))
+unfolding decoded_object built
 object_made laws limits t o are h =
-    let a = steps (needs (nat_le (length t.signatures) limits.recipients) Limit) _ o h in
+    let a = steps (needs (are_few limits (length t.signatures)) Limit) _ o h in
     let b = steps (decoded t.payload) _ o a.2 in
-    let c = steps (each decoded_texts t.signatures) _ o b.2 in
+    let c = steps (each decoded_signature t.signatures) _ o b.2 in
     let members_of : DecodedSignature → SignatureParts = λ s. s.parts in
     let signatures : List SignatureParts = map members_of c.0 in
-    let many : length signatures ≡ length t.signatures = length-map c.0 members_of ∙ as_many decoded_texts t.signatures c.0 c.1 in
+    let many : length signatures ≡ length t.signatures = length-map c.0 members_of ∙ as_many decoded_signature t.signatures c.0 c.1 in
     let n : ℕ = depth_of_each (length signatures) in
     let texts : AllByRecursion (IsSignature n) t.signatures = subst (λ k. AllByRecursion (IsSignature (depth_of_each k)) t.signatures) (sym many) are.signatures in
     let all : AllByRecursion (IsMade n) signatures =
-    all_images (IsMade n) members_of (λ s is. is) c.0 (all_read (IsSignature n) (λ s. IsMade n s.parts) decoded_texts (signature_made laws n) t.signatures c.0 texts c.1) in
+    all_images (IsMade n) members_of (λ s is. is) c.0 (all_read (IsSignature n) (λ s. IsMade n s.parts) decoded_signature (signature_made laws n) t.signatures c.0 texts c.1) in
     let members : AreMembers (record { payload = b.0; signatures = signatures }) = record {
       payload = are.payload b.0 b.1;
       signatures = all_then (IsMade n) _ (λ s is. (is.0, (is.1.json, is.2))) signatures all;
@@ -142,13 +142,13 @@ object_made laws limits t o are h =
     let shallow : nest_at_most n signatures ≡ true = all_pass (IsMade n) _ (λ s is. le-leb _ n is.1.shallow) signatures all in
     let whole : have_whole_numbers signatures ≡ true = all_pass (IsMade n) _ (λ s is. header_whole n s.header is.1) signatures all in
     let some : nat_le 1 (length signatures) ≡ true = le-leb 1 _ (omega (arith, are.some, many)) in
-    let few : nat_le (length signatures) limits.recipients ≡ true = ap (λ k. nat_le k limits.recipients) many ∙ passed _ Limit a.0 a.1 in
-    let again : each decoded_signature signatures ≡ Ok c.0 = read_again decoded_texts members_of decoded_signature (λ t s h. (signature_spelled t s h).again) t.signatures c.0 c.1 in
+    let few : are_few limits (length signatures) ≡ true = ap (λ k. are_few limits k) many ∙ passed _ Limit a.0 a.1 in
+    let again : each decoded_part signatures ≡ Ok c.0 = read_again decoded_signature members_of decoded_part (λ t s h. (signature_spelled t s h).again) t.signatures c.0 c.1 in
     (record { payload = b.0; signatures = signatures }, (members, rw (shallow, whole, some, few, again) c.2))
 
 pub objects_are_made : ReadingLaws → ObjectsAreMade
 unfolding jws_of
 objects_are_made laws limits detached text o handed octets h =
-    let a = steps (jws_texts detached text) (object_of_texts limits) o h in
+    let a = steps (encoded_jws detached text) (decoded_object limits) o h in
     let are = texts_are laws (record { exact = laws.exact; octets = laws.octets }) detached handed text a.0 octets a.1 in
     object_made laws limits a.0 o are a.2

@@ -5,7 +5,7 @@ use Rattle.std.specs.List.{list_all}
 use Rattle.std.specs.Str.{bytes_eq}
 use Rattle.objects.specs.Jwe.{have_enc, have_one_enc}
 use Rattle.objects.specs.Views.{recipient_view}
-use Rattle.objects.specs.declared.recipient.Recipient.{Recipient as Code}
+use Rattle.objects.specs.declared.jwe.recipient.Recipient.{Recipient as Code}
 
 -- whether all have this `enc`
 all_have_enc : (enc : List ℕ) (recipients : List Code) → have_enc enc (map recipient_view recipients) ≡ list_all (λ (r : Code). bytes_eq (recipient_view r).enc enc) recipients

@@ -13,10 +13,10 @@ use Rattle.octets.specs.Octets.{IsOctets}
 use Rattle.keys.specs.Json.{json_value}
 use Rattle.keys.specs.JsonTexts.{AreJsonMembers, CompactTextReadsBack, KeepJson, UrlTextsAreJson}
 use Rattle.objects.specs.Headers.{header_at, members_if_there}
-use Rattle.objects.specs.Texts.{is_json_form, text_if_there, text_at, required_text, has_members, put_text, put_header, header_depth}
+use Rattle.objects.specs.Texts.{is_json_form, text_if_there, text_at, required_text, has_members, header_depth}
 use Rattle.objects.proofs.Characters.{IsUrlText}
 use Rattle.objects.proofs.EachRead.{all_passed}
-use Rattle.objects.proofs.Members.{Entries, put_if_there, put_all, first_there, get_member-put_all, IsJsonIfThere, AreJsonEntries, all_json}
+use Rattle.objects.proofs.Members.{Entries, put_all, first_there, get_member-put_all, IsJsonIfThere, AreJsonEntries, all_json}
 
 -- the laws of JSON and base64url texts
 pub record Laws : Type 0 where
@@ -43,16 +43,6 @@ text_there (c ∷ text) = Some (string (c ∷ text))
 abbrev pub header_there : Members → Option Data
 header_there no_members = None
 header_there (member name value rest) = Some (object (member name value rest))
-
--- a text is put in where it is there
-pub put_text_is : (name text : List ℕ) (members : Members) → put_text name text members ≡ put_if_there name (text_there text) members
-put_text_is name [] ms = refl
-put_text_is name (c ∷ text) ms = refl
-
--- a header is put in where it is there
-pub put_header_is : (name : List ℕ) (header members : Members) → put_header name header members ≡ put_if_there name (header_there header) members
-put_header_is name no_members ms = refl
-put_header_is name (member k d rest) ms = refl
 
 -- ---- what is read
 

@@ -1,4 +1,4 @@
--- The texts of an encrypted object's members: they are put into its JSON text, read of it, and read as the object.
+-- The texts of an encrypted object's members: they are read of its JSON text, and as the object.
 use Rattle.std.proofs.Common.{◌≡◌, ℕ, suc, ◌+◌, List, [], ◌∷◌, ◌++◌, length, map, codes, Bool, true, nat_le, Option, Some, None, Result, Ok, Err, refl, ap, ◌∙◌, arith}
 use Rattle.std.proofs.lemmas.Bool.{and_parts, le-leb}
 use Rattle.std.proofs.lemmas.List.{length-map}
@@ -12,49 +12,49 @@ use Rattle.octets.specs.Base64url.{base64url, decoded}
 use Rattle.octets.specs.Octets.{IsOctets}
 use Rattle.octets.specs.Outcomes.{◌>>=◌, needs}
 use Rattle.keys.specs.JsonTexts.{IsJson, AreJsonMembers}
-use Rattle.keys.specs.declared.algorithm.ManagementAlg.{ManagementAlg}
-use Rattle.keys.specs.Limits.{Limits}
+use Rattle.keys.specs.declared.algorithm.KeyManagementAlg.{KeyManagementAlg}
+use Rattle.keys.specs.Limits.{Limits, are_few}
 use Rattle.objects.specs.Headers.{header_at}
-use Rattle.objects.specs.Jwe.{JweParts, RecipientParts, EncryptedObject, JweTexts, RecipientTexts, shared_texts, recipient_texts, content_texts, no_recipient_at, recipients_by, recipient_objects, json_texts, recipient_parts, parts_of_texts, encrypted_object, object_of_texts, nest_at_most, is_shallow, have_whole_numbers, built, put_shared, put_recipient, put_recipients, parts_of, AreMembers}
+use Rattle.objects.specs.Jwe.{JweParts, RecipientParts, EncryptedObject, EncodedJwe, EncodedRecipient, encoded_shared, encoded_recipient, encoded_content, no_recipient_at, recipients_by, recipient_objects, encoded_in_json, decoded_recipient, decoded_members, encrypted_object, decoded_object, nest_at_most, is_shallow, have_whole_numbers, built, parts_of, AreMembers}
 use Rattle.objects.specs.Texts.{handed_in, header_depth, depth_of_each}
 use Rattle.objects.proofs.Characters.{IsUrlText}
-use Rattle.objects.proofs.DetachedContent.{content_there, put_content_is, content_entry, content_found}
+use Rattle.objects.proofs.DetachedContent.{content_there, content_entry, content_found}
 use Rattle.objects.proofs.EachRead.{all_passed, all_both, all_images, bounded, each_alike, each_itself}
-use Rattle.objects.proofs.ListedMembers.{each_entries, put_each_is, in_front, objects_by, ReadsEach, each_read, none_read, each_json, each_json_deeper}
+use Rattle.objects.proofs.ListedMembers.{each_entries, in_front, objects_by, ReadsEach, each_read, none_read, each_json, each_json_deeper}
 use Rattle.objects.proofs.MadeOf.{object_is}
 use Rattle.objects.proofs.Members.{Entries, put_all, first_there, get_member-put_all, AreJsonEntries, all_json}
-use Rattle.objects.proofs.Spelling.{Laws, text_there, header_there, put_text_is, put_header_is, text_found, header_found, decoded_characters, name_is_json, spelled_is_json, text_entry, header_entry}
+use Rattle.objects.proofs.Spelling.{Laws, text_there, header_there, text_found, header_found, decoded_characters, name_is_json, spelled_is_json, text_entry, header_entry}
 use Rattle.objects.proofs.Steps.{steps, passed}
 use Rattle.objects.proofs.TextOctets.{octets_of_utf8}
 
 -- ---- the members of the JSON text
 
 -- those of a recipient, from the last one that is put in
-abbrev pub recipient_entries : RecipientTexts → Entries
+abbrev pub recipient_entries : EncodedRecipient → Entries
 recipient_entries t = (codes "header", header_there t.header) ∷ (codes "encrypted_key", text_there t.encrypted_key) ∷ []
 
 -- those beside the recipients
-abbrev pub own_entries : Bool → JweTexts → Entries
+abbrev pub own_entries : Bool → EncodedJwe → Entries
 own_entries detach t =
     (codes "unprotected", header_there t.shared.unprotected) ∷ (codes "tag", text_there t.content.tag) ∷ (codes "protected", text_there t.shared.protected)
     ∷ (codes "iv", text_there t.content.iv) ∷ (codes "ciphertext", content_there detach t.content.ciphertext) ∷ (codes "aad", text_there t.shared.aad) ∷ []
 
-abbrev pub entries : Bool → JweTexts → Entries
+abbrev pub entries : Bool → EncodedJwe → Entries
 entries detach t = own_entries detach t ++ each_entries (codes "recipients") recipient_entries t.recipients
 
 -- a recipient is read where its members stand
-recipient_found : (es : Entries) (t : RecipientTexts) → first_there (codes "encrypted_key") es ≡ option_or (text_there t.encrypted_key) None
-    → first_there (codes "header") es ≡ option_or (header_there t.header) None → recipient_texts (object (put_all es)) ≡ Ok t
-unfolding recipient_texts
+recipient_found : (es : Entries) (t : EncodedRecipient) → first_there (codes "encrypted_key") es ≡ option_or (text_there t.encrypted_key) None
+    → first_there (codes "header") es ≡ option_or (header_there t.header) None → encoded_recipient (object (put_all es)) ≡ Ok t
+unfolding encoded_recipient
 recipient_found es t key header = rw (text_found (codes "encrypted_key") es t.encrypted_key key, header_found (codes "header") es t.header header) refl
 
 -- beside a list of recipients stand no members of one
-nothing_beside : (detach : Bool) (t : JweTexts) (list : Data) → no_recipient_at (object (put_all (own_entries detach t ++ (codes "recipients", Some list) ∷ []))) ≡ Ok tt
+nothing_beside : (detach : Bool) (t : EncodedJwe) (list : Data) → no_recipient_at (object (put_all (own_entries detach t ++ (codes "recipients", Some list) ∷ []))) ≡ Ok tt
 unfolding no_recipient_at
 nothing_beside detach t list = rw (recipient_found (own_entries detach t ++ (codes "recipients", Some list) ∷ []) (record { header = no_members; encrypted_key = [] }) refl refl) refl
 
 -- so recipients are read, one or a list of them
-recipients_are_read : (detach : Bool) (t : JweTexts) → ReadsEach (codes "recipients") recipient_entries recipient_texts no_recipient_at (own_entries detach t)
+recipients_are_read : (detach : Bool) (t : EncodedJwe) → ReadsEach (codes "recipients") recipient_entries encoded_recipient no_recipient_at (own_entries detach t)
 recipients_are_read detach t = record {
   has_no_list = λ r. get_member-put_all (codes "recipients") (own_entries detach t ++ recipient_entries r);
   beside = λ r. recipient_found (own_entries detach t ++ recipient_entries r) r refl refl;
@@ -69,19 +69,19 @@ by_list value None = refl
 by_list value (Some list) = refl
 
 -- the shared header is read as it was put in
-pub unprotected_found : (detach : Bool) (t : JweTexts) → header_at (codes "unprotected") (object (put_all (entries detach t))) ≡ Ok t.shared.unprotected
+pub unprotected_found : (detach : Bool) (t : EncodedJwe) → header_at (codes "unprotected") (object (put_all (entries detach t))) ≡ Ok t.shared.unprotected
 unprotected_found detach t =
     header_found (codes "unprotected") (entries detach t) t.shared.unprotected (in_front (codes "recipients") recipient_entries t.recipients (codes "unprotected") _ refl (λ r. refl))
 
 -- all texts are read as they were put in, beside a ciphertext that is handed in where it is detached
-pub texts_read : (detach : Bool) (ciphertext : List ℕ) (t : JweTexts) → base64url ciphertext ≡ t.content.ciphertext → nat_le 1 (length t.recipients) ≡ true
-    → json_texts (handed_in detach ciphertext) (object (put_all (entries detach t))) ≡ Ok t
-unfolding json_texts shared_texts recipient_objects content_texts
+pub texts_read : (detach : Bool) (ciphertext : List ℕ) (t : EncodedJwe) → base64url ciphertext ≡ t.content.ciphertext → nat_le 1 (length t.recipients) ≡ true
+    → encoded_in_json (handed_in detach ciphertext) (object (put_all (entries detach t))) ≡ Ok t
+unfolding encoded_in_json encoded_shared recipient_objects encoded_content
 texts_read detach ciphertext t same some =
     let es = entries detach t in
     let value = object (put_all es) in
     let front = in_front (codes "recipients") recipient_entries t.recipients in
-    let found = each_read (codes "recipients") recipient_entries recipient_texts no_recipient_at (own_entries detach t) (recipients_are_read detach t) t.recipients some in
+    let found = each_read (codes "recipients") recipient_entries encoded_recipient no_recipient_at (own_entries detach t) (recipients_are_read detach t) t.recipients some in
     rw (
       text_found (codes "protected") es t.shared.protected (front (codes "protected") _ refl (λ r. refl)),
       unprotected_found detach t,
@@ -95,13 +95,13 @@ texts_read detach ciphertext t same some =
     ) refl
 
 -- with no recipient they are refused
-pub no_texts_read : (detach : Bool) (ciphertext : List ℕ) (t : JweTexts) → t.recipients ≡ [] → json_texts (handed_in detach ciphertext) (object (put_all (entries detach t))) ≡ Err Form
-unfolding json_texts shared_texts recipient_objects
+pub no_texts_read : (detach : Bool) (ciphertext : List ℕ) (t : EncodedJwe) → t.recipients ≡ [] → encoded_in_json (handed_in detach ciphertext) (object (put_all (entries detach t))) ≡ Err Form
+unfolding encoded_in_json encoded_shared recipient_objects
 no_texts_read detach ciphertext t none =
     let es = entries detach t in
     let value = object (put_all es) in
     let front = in_front (codes "recipients") recipient_entries t.recipients in
-    let found = none_read (codes "recipients") recipient_entries recipient_texts no_recipient_at (own_entries detach t) (recipients_are_read detach t) t.recipients none in
+    let found = none_read (codes "recipients") recipient_entries encoded_recipient no_recipient_at (own_entries detach t) (recipients_are_read detach t) t.recipients none in
     rw (
       text_found (codes "protected") es t.shared.protected (front (codes "protected") _ refl (λ r. refl)),
       unprotected_found detach t,
@@ -111,10 +111,10 @@ no_texts_read detach ciphertext t none =
     ) refl
 
 -- the texts of a recipient's members, and of all members
-abbrev pub recipient_spelled : RecipientParts → RecipientTexts
+abbrev pub recipient_spelled : RecipientParts → EncodedRecipient
 recipient_spelled p = record { header = p.header; encrypted_key = base64url p.encrypted_key }
 
-abbrev pub parts_spelled : JweParts → JweTexts
+abbrev pub parts_spelled : JweParts → EncodedJwe
 parts_spelled p = record {
   shared = record { protected = p.protected; unprotected = p.unprotected; aad = base64url p.aad };
   recipients = map recipient_spelled p.recipients;
@@ -122,32 +122,20 @@ parts_spelled p = record {
 }
 
 -- those of an object
-abbrev pub spelled : EncryptedObject → JweTexts
+abbrev pub spelled : EncryptedObject → EncodedJwe
 spelled o = parts_spelled (parts_of o)
-
--- these are put into the JSON text
-pub recipient_is_put : (p : RecipientParts) → put_recipient p no_members ≡ put_all (recipient_entries (recipient_spelled p))
-recipient_is_put p = simp (put_text_is, put_header_is)
-
-pub shared_are_put : (detach : Bool) (parts : JweParts) (later : Entries) → put_shared detach parts (put_all later) ≡ put_all (own_entries detach (parts_spelled parts) ++ later)
-shared_are_put detach parts later = simp (put_text_is, put_header_is, put_content_is)
-
-pub members_are_put : (detach : Bool) (parts : JweParts) → put_shared detach parts (put_recipients parts.recipients no_members) ≡ put_all (entries detach (parts_spelled parts))
-members_are_put detach parts =
-    ap (put_shared detach parts) (put_each_is (codes "recipients") put_recipient recipient_spelled recipient_entries recipient_is_put parts.recipients)
-    ∙ shared_are_put detach parts (each_entries (codes "recipients") recipient_entries (map recipient_spelled parts.recipients))
 
 -- ---- the members of which an object is made
 
 -- an object has their texts
-pub object_keeps : (algs : List ManagementAlg) (octets : List ℕ) (parts : JweParts) (o : EncryptedObject) → encrypted_object algs octets parts ≡ Ok o → spelled o ≡ parts_spelled parts
+pub object_keeps : (algs : List KeyManagementAlg) (octets : List ℕ) (parts : JweParts) (o : EncryptedObject) → encrypted_object algs octets parts ≡ Ok o → spelled o ≡ parts_spelled parts
 object_keeps algs octets parts o h = ap parts_spelled (object_is algs octets parts o h)
 
 -- what holds of an object that is made of these parts
 pub record IsBuilt (limits : Limits) (parts : JweParts) (o : EncryptedObject) : Type 0 where
   pub shallow : is_shallow parts ≡ true
   pub some : nat_le 1 (length parts.recipients) ≡ true
-  pub few : nat_le (length parts.recipients) limits.recipients ≡ true
+  pub few : are_few limits (length parts.recipients) ≡ true
   pub octets : List ℕ
   pub decodes : decoded parts.protected ≡ Ok octets
   pub made : encrypted_object limits.management octets parts ≡ Ok o
@@ -158,7 +146,7 @@ is_built limits parts o h =
     let a = steps (needs (is_shallow parts) Json) _ o h in
     let b = steps (needs (have_whole_numbers parts) Number) _ o a.2 in
     let c = steps (needs (nat_le 1 (length parts.recipients)) Form) _ o b.2 in
-    let d = steps (needs (nat_le (length parts.recipients) limits.recipients) Limit) _ o c.2 in
+    let d = steps (needs (are_few limits (length parts.recipients)) Limit) _ o c.2 in
     let e = steps (decoded parts.protected) (λ octets. encrypted_object limits.management octets parts) o d.2 in
     record {
       shallow = passed _ Json a.0 a.1;
@@ -172,16 +160,16 @@ is_built limits parts o h =
 -- what is left of building where the members are read
 abbrev pub decoding : Limits → JweParts → Result EncryptedObject Refusal
 decoding limits parts = do
-  few ← needs (nat_le (length parts.recipients) limits.recipients) Limit
+  few ← needs (are_few limits (length parts.recipients)) Limit
   octets ← decoded parts.protected
   encrypted_object limits.management octets parts
 
 -- the texts of the parts decode to these
-parts_read : Laws → (parts : JweParts) → AreMembers parts → parts_of_texts (parts_spelled parts) ≡ Ok parts
-unfolding parts_of_texts recipient_parts
+parts_read : Laws → (parts : JweParts) → AreMembers parts → decoded_members (parts_spelled parts) ≡ Ok parts
+unfolding decoded_members decoded_recipient
 parts_read laws parts members =
     let round = laws.exact.round_trip in
-    let reads = each_alike (λ p. Ok p) recipient_parts recipient_spelled (λ p h. rw (round p.encrypted_key h.1) refl) parts.recipients members.recipients in
+    let reads = each_alike (λ p. Ok p) decoded_recipient recipient_spelled (λ p h. rw (round p.encrypted_key h.1) refl) parts.recipients members.recipients in
     rw (
       round parts.aad members.aad,
       reads,
@@ -192,18 +180,18 @@ parts_read laws parts members =
     ) refl
 
 -- and are read so
-pub decoding_is : Laws → (limits : Limits) (parts : JweParts) → AreMembers parts → object_of_texts limits (parts_spelled parts) ≡ decoding limits parts
-unfolding object_of_texts
+pub decoding_is : Laws → (limits : Limits) (parts : JweParts) → AreMembers parts → decoded_object limits (parts_spelled parts) ≡ decoding limits parts
+unfolding decoded_object
 decoding_is laws limits parts members = rw (length-map parts.recipients recipient_spelled, parts_read laws parts members) refl
 
 -- as the object
-pub object_read : Laws → (limits : Limits) (parts : JweParts) (o : EncryptedObject) → AreMembers parts → IsBuilt limits parts o → object_of_texts limits (parts_spelled parts) ≡ Ok o
+pub object_read : Laws → (limits : Limits) (parts : JweParts) (o : EncryptedObject) → AreMembers parts → IsBuilt limits parts o → decoded_object limits (parts_spelled parts) ≡ Ok o
 object_read laws limits parts o members is = decoding_is laws limits parts members ∙ rw (is.few, is.decodes) is.made
 
 -- ---- the texts
 
 -- they have letters, digits, `-` and `_` alone
-pub record HasUrlTexts (t : JweTexts) : Type 0 where
+pub record HasUrlTexts (t : EncodedJwe) : Type 0 where
   pub protected : IsUrlText t.shared.protected
   pub aad : IsUrlText t.shared.aad
   pub keys : AllByRecursion (λ r. IsUrlText r.encrypted_key) t.recipients

@@ -1,5 +1,5 @@
 -- What the JSON text of an encrypted object spells is the object, and so is what its compact text spells.
-use Rattle.std.proofs.Common.{◌≡◌, ◌==◌, ◌&&◌, ℕ, List, [], ◌∷◌, length, Bool, true, false, not, Ok, refl, sym, ap, ◌∙◌, subst, arith, append_assoc}
+use Rattle.std.proofs.Common.{◌≡◌, ◌==◌, ◌&&◌, ℕ, List, [], ◌∷◌, length, map, Bool, true, false, not, Ok, refl, sym, ap, ◌∙◌, subst, arith}
 use Rattle.std.proofs.lemmas.Bool.{and_parts, eqb-true}
 use Rattle.serde_json.specs.Data.{no_members}
 use Rattle.octets.specs.declared.refusal.Refusal.TheVariants.{NotCompact}
@@ -7,19 +7,21 @@ use Rattle.octets.specs.Base64url.{base64url, SpellsSixBits}
 use Rattle.octets.specs.Outcomes.{needs}
 use Rattle.keys.specs.JsonTexts.{DeepTextsAreRefused}
 use Rattle.keys.specs.Limits.{Limits}
-use Rattle.objects.specs.Jwe.{JweParts, Recipient, EncryptedObject, JweTexts, compact_texts, jwe_texts, object_of_texts, jwe_of, built, members_text, json_text, is_compact, key_of_first, jwe_compact_text, jwe_text, AreMembers, IsMade, BuildingIsReading, TextsSpellObjects}
-use Rattle.objects.specs.Texts.{has_members, handed_in, kept}
+use Rattle.objects.specs.Jwe.{JweParts, Recipient, EncryptedObject, EncodedJwe, encoded_in_compact, encoded_jwe, decoded_object, jwe_of, built, members_text, recipient_parts_of, parts_of, json_text, is_compact, key_of_first, jwe_written, jwe_compact_text, jwe_text, AreMembers, IsMade, BuildingIsReading, TextsSpellObjects}
+use Rattle.objects.specs.Texts.{has_members, handed_in}
+use Rattle.objects.specs.Writing.{Written}
 use Rattle.objects.proofs.BuildingJwe.{building_is_reading}
 use Rattle.objects.proofs.Characters.{between_dots, joined_characters, no_json_form, no_line_end}
 use Rattle.objects.proofs.CompactTexts.{all_no_dot, split_of_joined, three_of_joined}
-use Rattle.objects.proofs.DetachedContent.{kept_read, kept_characters, kept_text}
+use Rattle.objects.proofs.DetachedContent.{kept, kept_read, kept_characters}
+use Rattle.objects.proofs.JweWritten.{compact_is}
 use Rattle.objects.proofs.MadeOf.{object_is}
 use Rattle.objects.proofs.Spelling.{Laws, no_member}
 use Rattle.objects.proofs.SpellingJwe.{spelled, parts_spelled, object_keeps, IsBuilt, is_built, object_read, HasUrlTexts, url_texts}
 use Rattle.objects.proofs.Steps.{steps, same_answer, passed}
 
 -- the texts of a compact text with these parts
-abbrev compact : List ℕ → List ℕ → List ℕ → List ℕ → List ℕ → JweTexts
+abbrev compact : List ℕ → List ℕ → List ℕ → List ℕ → List ℕ → EncodedJwe
 compact protected key iv ciphertext tag = record {
   shared = record { protected = protected; unprotected = no_members; aad = [] };
   recipients = record { header = no_members; encrypted_key = key } ∷ [];
@@ -28,8 +30,8 @@ compact protected key iv ciphertext tag = record {
 
 -- such parts are read as they were joined, beside a ciphertext that is handed in where it is detached
 split_in_five : (detach : Bool) (protected key iv ciphertext tag : List ℕ) → HasUrlTexts (compact protected key iv (base64url ciphertext) tag)
-    → compact_texts (handed_in detach ciphertext) (between_dots (protected ∷ key ∷ iv ∷ kept detach (base64url ciphertext) ∷ tag ∷ [])) ≡ Ok (compact protected key iv (base64url ciphertext) tag)
-unfolding compact_texts
+    → encoded_in_compact (handed_in detach ciphertext) (between_dots (protected ∷ key ∷ iv ∷ kept detach (base64url ciphertext) ∷ tag ∷ [])) ≡ Ok (compact protected key iv (base64url ciphertext) tag)
+unfolding encoded_in_compact
 split_in_five detach protected key iv ciphertext tag h =
     let part : List ℕ = kept detach (base64url ciphertext) in
     let no_dot = all_no_dot part (kept_characters detach (base64url ciphertext) h.ciphertext) in
@@ -45,7 +47,7 @@ no_text spells (x ∷ xs) h = absurd (omega (arith, eqb-true _ 0 h))
 
 -- an object that a compact text can hold has one recipient, and no other texts than such a text
 only_recipient : SpellsSixBits → (o : EncryptedObject) (rs : List Recipient) → o.recipients ≡ rs → is_compact o rs ≡ true
-    → spelled o ≡ compact o.protected (base64url (key_of_first rs)) (base64url o.iv) (base64url o.ciphertext) (base64url o.tag)
+    → spelled o ≡ compact o.protected (base64url (key_of_first (map recipient_parts_of rs))) (base64url o.iv) (base64url o.ciphertext) (base64url o.tag)
 only_recipient spells o [] is fits = cc fits
 only_recipient spells o (r ∷ []) is fits =
     let first = and_parts (not (has_members o.unprotected)) (not (has_members r.header) && (length o.aad == 0)) fits in
@@ -55,9 +57,9 @@ only_recipient spells o (r ∷ (other ∷ rest)) is fits = cc fits
 
 -- a compact text is read by its parts
 read_compact : (limits : Limits) (detach : Bool) (protected key iv ciphertext tag : List ℕ) (o : EncryptedObject) → HasUrlTexts (compact protected key iv (base64url ciphertext) tag)
-    → object_of_texts limits (compact protected key iv (base64url ciphertext) tag) ≡ Ok o
+    → decoded_object limits (compact protected key iv (base64url ciphertext) tag) ≡ Ok o
     → jwe_of limits (handed_in detach ciphertext) (between_dots (protected ∷ key ∷ iv ∷ kept detach (base64url ciphertext) ∷ tag ∷ [])) ≡ Ok o
-unfolding jwe_of jwe_texts
+unfolding jwe_of encoded_jwe
 read_compact limits detach protected key iv ciphertext tag o url h =
     let parts : List (List ℕ) = protected ∷ key ∷ iv ∷ kept detach (base64url ciphertext) ∷ tag ∷ [] in
     let text : List ℕ = between_dots parts in
@@ -69,19 +71,20 @@ compact_text_spells : Laws → SpellsSixBits → (limits : Limits) (parts : JweP
     → (text : List ℕ) → jwe_compact_text detach o ≡ Ok text → jwe_of limits (handed_in detach o.ciphertext) text ≡ Ok o
 unfolding jwe_compact_text
 compact_text_spells laws spells limits parts o members is detach text h =
-    let a = steps (needs (is_compact o o.recipients) NotCompact) _ text h in
+    let w = steps (jwe_written false true detach o) _ text h in
+    let a = steps (needs (is_compact o o.recipients) NotCompact) _ w.0 w.1 in
     let protected : List ℕ = o.protected in
-    let key : List ℕ = base64url (key_of_first o.recipients) in
+    let key : List ℕ = base64url (key_of_first (parts_of o).recipients) in
     let iv : List ℕ = base64url o.iv in
     let ciphertext : List ℕ = base64url o.ciphertext in
     let tag : List ℕ = base64url o.tag in
     let texts : parts_spelled parts ≡ compact protected key iv ciphertext tag =
     sym (object_keeps limits.management is.octets parts o is.made) ∙ only_recipient spells o o.recipients refl (passed _ NotCompact a.0 a.1) in
-    let part = kept_text laws.exact detach o.ciphertext in
-    let joined : text ≡ between_dots (protected ∷ key ∷ iv ∷ kept detach ciphertext ∷ tag ∷ []) = sym (same_answer _ text a.2) ∙ rw part (simp append_assoc) in
+    let joined : text ≡ between_dots (protected ∷ key ∷ iv ∷ kept detach ciphertext ∷ tag ∷ []) =
+    sym (same_answer _ text w.2) ∙ ap (λ (w : Written). w.text) (sym (same_answer _ w.0 a.2)) ∙ compact_is detach (parts_of o) in
     ap (jwe_of limits (handed_in detach o.ciphertext)) joined
     ∙ read_compact limits detach protected key iv o.ciphertext tag o (subst HasUrlTexts texts (url_texts laws limits parts o members is))
-    (ap (object_of_texts limits) (sym texts) ∙ object_read laws limits parts o members is)
+    (ap (decoded_object limits) (sym texts) ∙ object_read laws limits parts o members is)
 
 -- an object is what its JSON text spells, which is that of its members
 json_text_spells : BuildingIsReading → (limits : Limits) (parts : JweParts) (o : EncryptedObject) → AreMembers parts → built limits parts ≡ Ok o → (detach : Bool)

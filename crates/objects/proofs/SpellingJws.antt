@@ -1,4 +1,4 @@
--- The texts of a signed object's members: they are put into its JSON text, read of it, and read as the object.
+-- The texts of a signed object's members: they are read of its JSON text, and as the object.
 use Rattle.std.proofs.Common.{◌≡◌, ℕ, suc, List, [], ◌∷◌, ◌++◌, length, map, codes, Bool, true, nat_le, Option, Some, None, Result, Ok, Err, IsUtf8, refl, sym, ap, ap₂, ◌∙◌}
 use Rattle.std.proofs.lemmas.Bool.{le-leb}
 use Rattle.std.proofs.lemmas.List.{length-map, map-id}
@@ -12,41 +12,41 @@ use Rattle.octets.specs.Base64url.{base64url, decoded}
 use Rattle.octets.specs.Octets.{IsOctets}
 use Rattle.octets.specs.Outcomes.{◌>>=◌, needs}
 use Rattle.keys.specs.JsonTexts.{IsJson, AreJsonMembers}
-use Rattle.keys.specs.Limits.{Limits}
-use Rattle.objects.specs.Jws.{JwsParts, SignatureParts, SignedObject, DecodedSignature, JwsTexts, SignatureTexts, signature_texts, no_signature_at, signatures_by, signature_objects, json_texts, decoded_signature, decoded_texts, signed_object, object_of_texts, nest_at_most, have_whole_numbers, built, put_signature, parts_of, AreMembers}
-use Rattle.objects.specs.Texts.{each, handed_in, put_content, put_each, header_depth, depth_of_each}
+use Rattle.keys.specs.Limits.{Limits, are_few}
+use Rattle.objects.specs.Jws.{JwsParts, SignatureParts, SignedObject, DecodedSignature, EncodedJws, EncodedSignature, encoded_signature, no_signature_at, signatures_by, signature_objects, encoded_in_json, decoded_part, decoded_signature, signed_object, decoded_object, nest_at_most, have_whole_numbers, built, parts_of, AreMembers}
+use Rattle.objects.specs.Texts.{each, handed_in, header_depth, depth_of_each}
 use Rattle.objects.proofs.Characters.{IsUrlText}
-use Rattle.objects.proofs.DetachedContent.{content_there, put_content_is, content_entry, content_found}
+use Rattle.objects.proofs.DetachedContent.{content_there, content_entry, content_found}
 use Rattle.objects.proofs.EachRead.{all_passed, all_both, all_images, bounded, each_keeps, each_all, each_alike}
-use Rattle.objects.proofs.ListedMembers.{each_entries, put_each_is, in_front, objects_by, ReadsEach, each_read, none_read, each_json, each_json_deeper}
+use Rattle.objects.proofs.ListedMembers.{each_entries, in_front, objects_by, ReadsEach, each_read, none_read, each_json, each_json_deeper}
 use Rattle.objects.proofs.MadeOf.{signed_is}
-use Rattle.objects.proofs.Members.{Entries, put_if_there, put_all, first_there, get_member-put_all, IsJsonIfThere, AreJsonEntries, all_json}
-use Rattle.objects.proofs.Spelling.{Laws, text_there, header_there, put_text_is, put_header_is, text_found, header_found, required_found, decoded_characters, name_is_json, spelled_is_json, required_entry, text_entry, header_entry}
+use Rattle.objects.proofs.Members.{Entries, put_all, first_there, get_member-put_all, IsJsonIfThere, AreJsonEntries, all_json}
+use Rattle.objects.proofs.Spelling.{Laws, text_there, header_there, text_found, header_found, required_found, decoded_characters, name_is_json, spelled_is_json, required_entry, text_entry, header_entry}
 use Rattle.objects.proofs.Steps.{steps, same_answer, passed}
 use Rattle.objects.proofs.TextOctets.{octets_of_utf8}
 
 -- ---- the members of the JSON text
 
 -- those of a signature, from the last one that is put in
-abbrev pub signature_entries : SignatureTexts → Entries
+abbrev pub signature_entries : EncodedSignature → Entries
 signature_entries t = (codes "header", header_there t.header) ∷ (codes "signature", Some (string t.signature)) ∷ (codes "protected", text_there t.protected) ∷ []
 
 -- that beside the signatures
-abbrev own_entries : Bool → JwsTexts → Entries
+abbrev own_entries : Bool → EncodedJws → Entries
 own_entries detach t = (codes "payload", content_there detach t.payload) ∷ []
 
-abbrev pub entries : Bool → JwsTexts → Entries
+abbrev pub entries : Bool → EncodedJws → Entries
 entries detach t = own_entries detach t ++ each_entries (codes "signatures") signature_entries t.signatures
 
 -- a signature is read where its members stand
-signature_found : (es : Entries) (t : SignatureTexts) → first_there (codes "protected") es ≡ option_or (text_there t.protected) None
-    → first_there (codes "header") es ≡ option_or (header_there t.header) None → first_there (codes "signature") es ≡ Some (string t.signature) → signature_texts (object (put_all es)) ≡ Ok t
-unfolding signature_texts
+signature_found : (es : Entries) (t : EncodedSignature) → first_there (codes "protected") es ≡ option_or (text_there t.protected) None
+    → first_there (codes "header") es ≡ option_or (header_there t.header) None → first_there (codes "signature") es ≡ Some (string t.signature) → encoded_signature (object (put_all es)) ≡ Ok t
+unfolding encoded_signature
 signature_found es t protected header signature =
     rw (text_found (codes "protected") es t.protected protected, header_found (codes "header") es t.header header, required_found (codes "signature") es t.signature signature) refl
 
 -- beside a list of signatures stand no members of one
-nothing_beside : (detach : Bool) (t : JwsTexts) (list : Data) → no_signature_at (object (put_all (own_entries detach t ++ (codes "signatures", Some list) ∷ []))) ≡ Ok tt
+nothing_beside : (detach : Bool) (t : EncodedJws) (list : Data) → no_signature_at (object (put_all (own_entries detach t ++ (codes "signatures", Some list) ∷ []))) ≡ Ok tt
 unfolding no_signature_at
 nothing_beside detach t list =
     let es : Entries = own_entries detach t ++ (codes "signatures", Some list) ∷ [] in
@@ -54,7 +54,7 @@ nothing_beside detach t list =
     rw (text_found (codes "protected") es [] refl, header_found (codes "header") es no_members refl, no_signature) refl
 
 -- so signatures are read, one or a list of them
-signatures_are_read : (detach : Bool) (t : JwsTexts) → ReadsEach (codes "signatures") signature_entries signature_texts no_signature_at (own_entries detach t)
+signatures_are_read : (detach : Bool) (t : EncodedJws) → ReadsEach (codes "signatures") signature_entries encoded_signature no_signature_at (own_entries detach t)
 signatures_are_read detach t = record {
   has_no_list = λ s. get_member-put_all (codes "signatures") (own_entries detach t ++ signature_entries s);
   beside = λ s. signature_found (own_entries detach t ++ signature_entries s) s refl refl refl;
@@ -69,45 +69,34 @@ by_list value None = refl
 by_list value (Some list) = refl
 
 -- all texts are read as they were put in, beside a payload that is handed in where it is detached
-pub texts_read : (detach : Bool) (payload : List ℕ) (t : JwsTexts) → base64url payload ≡ t.payload → nat_le 1 (length t.signatures) ≡ true
-    → json_texts (handed_in detach payload) (object (put_all (entries detach t))) ≡ Ok t
-unfolding json_texts signature_objects
+pub texts_read : (detach : Bool) (payload : List ℕ) (t : EncodedJws) → base64url payload ≡ t.payload → nat_le 1 (length t.signatures) ≡ true
+    → encoded_in_json (handed_in detach payload) (object (put_all (entries detach t))) ≡ Ok t
+unfolding encoded_in_json signature_objects
 texts_read detach payload t same some =
     let value = object (put_all (entries detach t)) in
     let front = in_front (codes "signatures") signature_entries t.signatures in
-    let found = each_read (codes "signatures") signature_entries signature_texts no_signature_at (own_entries detach t) (signatures_are_read detach t) t.signatures some in
+    let found = each_read (codes "signatures") signature_entries encoded_signature no_signature_at (own_entries detach t) (signatures_are_read detach t) t.signatures some in
     rw (content_found detach (codes "payload") (entries detach t) payload t.payload same (front (codes "payload") _ refl (λ s. refl)), by_list value (get (codes "signatures") value), found.1, found.2) refl
 
 -- with no signature they are refused
-pub no_texts_read : (detach : Bool) (payload : List ℕ) (t : JwsTexts) → base64url payload ≡ t.payload → t.signatures ≡ [] → json_texts (handed_in detach payload) (object (put_all (entries detach t))) ≡ Err Form
-unfolding json_texts signature_objects
+pub no_texts_read : (detach : Bool) (payload : List ℕ) (t : EncodedJws) → base64url payload ≡ t.payload → t.signatures ≡ [] → encoded_in_json (handed_in detach payload) (object (put_all (entries detach t))) ≡ Err Form
+unfolding encoded_in_json signature_objects
 no_texts_read detach payload t same none =
     let value = object (put_all (entries detach t)) in
     let front = in_front (codes "signatures") signature_entries t.signatures in
-    let found = none_read (codes "signatures") signature_entries signature_texts no_signature_at (own_entries detach t) (signatures_are_read detach t) t.signatures none in
+    let found = none_read (codes "signatures") signature_entries encoded_signature no_signature_at (own_entries detach t) (signatures_are_read detach t) t.signatures none in
     rw (content_found detach (codes "payload") (entries detach t) payload t.payload same (front (codes "payload") _ refl (λ s. refl)), by_list value (get (codes "signatures") value), found) refl
 
 -- the texts of a signature's members, and of all members
-abbrev pub signature_spelled : SignatureParts → SignatureTexts
+abbrev pub signature_spelled : SignatureParts → EncodedSignature
 signature_spelled p = record { protected = p.protected; header = p.header; signature = base64url p.signature }
 
-abbrev pub parts_spelled : JwsParts → JwsTexts
+abbrev pub parts_spelled : JwsParts → EncodedJws
 parts_spelled p = record { payload = base64url p.payload; signatures = map signature_spelled p.signatures }
 
 -- those of an object
-abbrev pub spelled : SignedObject → JwsTexts
+abbrev pub spelled : SignedObject → EncodedJws
 spelled o = parts_spelled (parts_of o)
-
--- these are put into the JSON text
-pub signature_is_put : (p : SignatureParts) → put_signature p no_members ≡ put_all (signature_entries (signature_spelled p))
-signature_is_put p = simp (put_text_is, put_header_is)
-
-pub members_are_put : (detach : Bool) (parts : JwsParts)
-    → put_content detach (codes "payload") parts.payload (put_each (codes "signatures") put_signature parts.signatures no_members) ≡ put_all (entries detach (parts_spelled parts))
-members_are_put detach parts =
-    put_content_is detach (codes "payload") parts.payload (put_each (codes "signatures") put_signature parts.signatures no_members)
-    ∙ ap (put_if_there (codes "payload") (content_there detach (base64url parts.payload)))
-    (put_each_is (codes "signatures") put_signature signature_spelled signature_entries signature_is_put parts.signatures)
 
 -- ---- the members of which an object is made
 
@@ -115,9 +104,9 @@ members_are_put detach parts =
 pub record IsBuilt (limits : Limits) (parts : JwsParts) (o : SignedObject) : Type 0 where
   pub shallow : nest_at_most (depth_of_each (length parts.signatures)) parts.signatures ≡ true
   pub some : nat_le 1 (length parts.signatures) ≡ true
-  pub few : nat_le (length parts.signatures) limits.recipients ≡ true
+  pub few : are_few limits (length parts.signatures) ≡ true
   pub decoded : List DecodedSignature
-  pub decodes : each decoded_signature parts.signatures ≡ Ok decoded
+  pub decodes : each decoded_part parts.signatures ≡ Ok decoded
   pub made : signed_object limits.management parts.payload decoded ≡ Ok o
 
 pub is_built : (limits : Limits) (parts : JwsParts) (o : SignedObject) → built limits parts ≡ Ok o → IsBuilt limits parts o
@@ -126,8 +115,8 @@ is_built limits parts o h =
     let a = steps (needs (nest_at_most (depth_of_each (length parts.signatures)) parts.signatures) Json) _ o h in
     let b = steps (needs (have_whole_numbers parts.signatures) Number) _ o a.2 in
     let c = steps (needs (nat_le 1 (length parts.signatures)) Form) _ o b.2 in
-    let d = steps (needs (nat_le (length parts.signatures) limits.recipients) Limit) _ o c.2 in
-    let e = steps (each decoded_signature parts.signatures) (λ signatures. signed_object limits.management parts.payload signatures) o d.2 in
+    let d = steps (needs (are_few limits (length parts.signatures)) Limit) _ o c.2 in
+    let e = steps (each decoded_part parts.signatures) (λ signatures. signed_object limits.management parts.payload signatures) o d.2 in
     record {
       shallow = passed _ Json a.0 a.1;
       some = passed _ Form c.0 c.1;
@@ -137,8 +126,8 @@ is_built limits parts o h =
       made = e.2;
     }
 
-decoded_is : (p : SignatureParts) (d : DecodedSignature) → decoded_signature p ≡ Ok d → d.parts ≡ p
-unfolding decoded_signature
+decoded_is : (p : SignatureParts) (d : DecodedSignature) → decoded_part p ≡ Ok d → d.parts ≡ p
+unfolding decoded_part
 decoded_is p d h =
     let a = steps (decoded p.protected) _ d h in
     ap (λ (d : DecodedSignature). d.parts) (sym (same_answer _ d a.2))
@@ -147,7 +136,7 @@ decoded_is p d h =
 pub parts_are : (limits : Limits) (parts : JwsParts) (o : SignedObject) → IsBuilt limits parts o → parts_of o ≡ parts
 parts_are limits parts o is =
     let signed = signed_is limits.management parts.payload is.decoded o is.made in
-    let kept = each_keeps decoded_signature (λ p. p) (λ (d : DecodedSignature). d.parts) decoded_is parts.signatures is.decoded is.decodes ∙ map-id parts.signatures in
+    let kept = each_keeps decoded_part (λ p. p) (λ (d : DecodedSignature). d.parts) decoded_is parts.signatures is.decoded is.decodes ∙ map-id parts.signatures in
     ap₂ (λ payload signatures. let p : JwsParts = record { payload = payload; signatures = signatures } in p) signed.payload (signed.signatures ∙ kept)
 
 -- and so their texts
@@ -157,35 +146,35 @@ object_keeps limits parts o is = ap parts_spelled (parts_are limits parts o is)
 -- what is left of building where the members are read
 abbrev pub decoding : Limits → JwsParts → Result SignedObject Refusal
 decoding limits parts = do
-  few ← needs (nat_le (length parts.signatures) limits.recipients) Limit
-  signatures ← each decoded_signature parts.signatures
+  few ← needs (are_few limits (length parts.signatures)) Limit
+  signatures ← each decoded_part parts.signatures
   signed_object limits.management parts.payload signatures
 
 -- the texts of the parts are read so
-pub decoding_is : Laws → (limits : Limits) (parts : JwsParts) → AreMembers parts → object_of_texts limits (parts_spelled parts) ≡ decoding limits parts
-unfolding object_of_texts decoded_texts
+pub decoding_is : Laws → (limits : Limits) (parts : JwsParts) → AreMembers parts → decoded_object limits (parts_spelled parts) ≡ decoding limits parts
+unfolding decoded_object decoded_signature
 decoding_is laws limits parts members =
     let round = laws.exact.round_trip in
-    let reads = each_alike decoded_signature decoded_texts signature_spelled (λ p h. rw (round p.signature h.1.1) refl) parts.signatures members.signatures in
+    let reads = each_alike decoded_part decoded_signature signature_spelled (λ p h. rw (round p.signature h.1.1) refl) parts.signatures members.signatures in
     rw (length-map parts.signatures signature_spelled, round parts.payload members.payload, reads) refl
 
 -- as the object
-pub object_read : Laws → (limits : Limits) (parts : JwsParts) (o : SignedObject) → AreMembers parts → IsBuilt limits parts o → object_of_texts limits (parts_spelled parts) ≡ Ok o
+pub object_read : Laws → (limits : Limits) (parts : JwsParts) (o : SignedObject) → AreMembers parts → IsBuilt limits parts o → decoded_object limits (parts_spelled parts) ≡ Ok o
 object_read laws limits parts o members is = decoding_is laws limits parts members ∙ rw (is.few, is.decodes) is.made
 
 -- ---- the texts
 
 -- the texts of a signature have letters, digits, `-` and `_` alone
-abbrev AreUrlTexts : SignatureTexts → Type 0
+abbrev AreUrlTexts : EncodedSignature → Type 0
 AreUrlTexts s = IsUrlText s.protected × IsUrlText s.signature
 
 -- so have those of an object
-pub record HasUrlTexts (t : JwsTexts) : Type 0 where
+pub record HasUrlTexts (t : EncodedJws) : Type 0 where
   pub payload : IsUrlText t.payload
   pub signatures : AllByRecursion AreUrlTexts t.signatures
 
-signature_url_texts : Laws → (p : SignatureParts) (d : DecodedSignature) → IsUtf8 p.protected × (AreJsonMembers p.header × IsOctets p.signature) → decoded_signature p ≡ Ok d → AreUrlTexts (signature_spelled p)
-unfolding decoded_signature
+signature_url_texts : Laws → (p : SignatureParts) (d : DecodedSignature) → IsUtf8 p.protected × (AreJsonMembers p.header × IsOctets p.signature) → decoded_part p ≡ Ok d → AreUrlTexts (signature_spelled p)
+unfolding decoded_part
 signature_url_texts laws p d members h =
     let a = steps (decoded p.protected) _ d h in
     (decoded_characters laws p.protected a.0 (octets_of_utf8 p.protected members.0) a.1, laws.characters p.signature members.1.1)
@@ -193,7 +182,7 @@ signature_url_texts laws p d members h =
 pub url_texts : Laws → (limits : Limits) (parts : JwsParts) (o : SignedObject) → AreMembers parts → IsBuilt limits parts o → HasUrlTexts (parts_spelled parts)
 url_texts laws limits parts o members is = record {
   payload = laws.characters parts.payload members.payload;
-  signatures = all_images AreUrlTexts signature_spelled (λ p h. h) parts.signatures (each_all decoded_signature (signature_url_texts laws) parts.signatures is.decoded is.decodes members.signatures);
+  signatures = all_images AreUrlTexts signature_spelled (λ p h. h) parts.signatures (each_all decoded_part (signature_url_texts laws) parts.signatures is.decoded is.decodes members.signatures);
 }
 
 -- the members of a signature are as JSON has them, and nest no deeper than its header

@@ -1,29 +1,31 @@
 -- What the JSON text of a signed object spells is the object, and so is what its compact text spells.
-use Rattle.std.proofs.Common.{◌≡◌, ℕ, List, [], ◌∷◌, Bool, true, false, Ok, refl, sym, ap, ◌∙◌, subst, append_assoc}
+use Rattle.std.proofs.Common.{◌≡◌, ℕ, List, [], ◌∷◌, map, Bool, true, false, Ok, refl, sym, ap, ◌∙◌, subst}
 use Rattle.serde_json.specs.Data.{no_members}
 use Rattle.octets.specs.declared.refusal.Refusal.TheVariants.{NotCompact}
 use Rattle.octets.specs.Base64url.{base64url}
 use Rattle.octets.specs.Outcomes.{needs}
 use Rattle.keys.specs.JsonTexts.{DeepTextsAreRefused}
 use Rattle.keys.specs.Limits.{Limits}
-use Rattle.objects.specs.Jws.{JwsParts, Signature, SignedObject, JwsTexts, compact_texts, jws_texts, object_of_texts, jws_of, built, members_text, json_text, is_compact, joined_first, jws_compact_text, jws_text, AreMembers, IsMade, BuildingIsReading, TextsSpellObjects}
-use Rattle.objects.specs.Texts.{handed_in, kept}
+use Rattle.objects.specs.Jws.{JwsParts, Signature, SignedObject, EncodedJws, encoded_in_compact, encoded_jws, decoded_object, jws_of, built, members_text, signature_parts_of, json_text, with_compact, is_compact, jws_written, jws_compact_text, jws_text, AreMembers, IsMade, BuildingIsReading, TextsSpellObjects}
+use Rattle.objects.specs.Texts.{handed_in}
+use Rattle.objects.specs.Writing.{Written, nothing_written, inside}
 use Rattle.objects.proofs.BuildingJws.{building_is_reading}
 use Rattle.objects.proofs.Characters.{between_dots, joined_characters, no_json_form, no_line_end}
 use Rattle.objects.proofs.CompactTexts.{all_no_dot, three_of_joined}
-use Rattle.objects.proofs.DetachedContent.{kept_read, kept_characters, kept_text}
+use Rattle.objects.proofs.DetachedContent.{kept, kept_read, kept_characters}
+use Rattle.objects.proofs.JwsWritten.{compact_is}
 use Rattle.objects.proofs.Spelling.{Laws, no_member}
 use Rattle.objects.proofs.SpellingJws.{spelled, parts_spelled, parts_are, object_keeps, IsBuilt, is_built, object_read, HasUrlTexts, url_texts}
 use Rattle.objects.proofs.Steps.{steps, same_answer, passed}
 
 -- the texts of a compact text with these parts
-abbrev compact : List ℕ → List ℕ → List ℕ → JwsTexts
+abbrev compact : List ℕ → List ℕ → List ℕ → EncodedJws
 compact protected payload signature = record { payload = payload; signatures = record { protected = protected; header = no_members; signature = signature } ∷ [] }
 
 -- such parts are read as they were joined, beside a payload that is handed in where it is detached
 split_in_three : (detach : Bool) (protected payload signature : List ℕ) → HasUrlTexts (compact protected (base64url payload) signature)
-    → compact_texts (handed_in detach payload) (between_dots (protected ∷ kept detach (base64url payload) ∷ signature ∷ [])) ≡ Ok (compact protected (base64url payload) signature)
-unfolding compact_texts
+    → encoded_in_compact (handed_in detach payload) (between_dots (protected ∷ kept detach (base64url payload) ∷ signature ∷ [])) ≡ Ok (compact protected (base64url payload) signature)
+unfolding encoded_in_compact
 split_in_three detach protected payload signature h =
     let part : List ℕ = kept detach (base64url payload) in
     let no_dot = all_no_dot part (kept_characters detach (base64url payload) h.payload) in
@@ -35,20 +37,23 @@ record IsAlone (detach : Bool) (o : SignedObject) (signatures : List Signature) 
   protected : List ℕ
   signature : List ℕ
   texts : spelled o ≡ compact protected (base64url o.payload) signature
-  text : joined_first (kept detach o.payload) signatures ≡ between_dots (protected ∷ kept detach (base64url o.payload) ∷ signature ∷ [])
+  text : (with_compact (inside detach o.payload) (map signature_parts_of signatures) (nothing_written false)).text ≡ between_dots (protected ∷ kept detach (base64url o.payload) ∷ signature ∷ [])
 
-only_signature : Laws → (detach : Bool) (o : SignedObject) (signatures : List Signature) → o.signatures ≡ signatures → is_compact signatures ≡ true → IsAlone detach o signatures
-only_signature laws detach o [] is fits = cc fits
-only_signature laws detach o (s ∷ []) is fits =
-    let payload = kept_text laws.exact detach o.payload in
-    record { protected = s.protected; signature = base64url s.signature; texts = rw (is, no_member s.header fits) refl; text = rw payload (simp append_assoc) }
-only_signature laws detach o (s ∷ (other ∷ rest)) is fits = cc fits
+only_signature : (detach : Bool) (o : SignedObject) (signatures : List Signature) → o.signatures ≡ signatures → is_compact signatures ≡ true → IsAlone detach o signatures
+only_signature detach o [] is fits = cc fits
+only_signature detach o (s ∷ []) is fits = record {
+  protected = s.protected;
+  signature = base64url s.signature;
+  texts = rw (is, no_member s.header fits) refl;
+  text = compact_is detach o.payload (signature_parts_of s) [];
+}
+only_signature detach o (s ∷ (other ∷ rest)) is fits = cc fits
 
 -- a compact text is read by its parts
 read_compact : (limits : Limits) (detach : Bool) (protected payload signature : List ℕ) (o : SignedObject) → HasUrlTexts (compact protected (base64url payload) signature)
-    → object_of_texts limits (compact protected (base64url payload) signature) ≡ Ok o
+    → decoded_object limits (compact protected (base64url payload) signature) ≡ Ok o
     → jws_of limits (handed_in detach payload) (between_dots (protected ∷ kept detach (base64url payload) ∷ signature ∷ [])) ≡ Ok o
-unfolding jws_of jws_texts
+unfolding jws_of encoded_jws
 read_compact limits detach protected payload signature o url h =
     let parts : List (List ℕ) = protected ∷ kept detach (base64url payload) ∷ signature ∷ [] in
     let text : List ℕ = between_dots parts in
@@ -60,12 +65,13 @@ compact_text_spells : Laws → (limits : Limits) (parts : JwsParts) (o : SignedO
     → (text : List ℕ) → jws_compact_text detach o ≡ Ok text → jws_of limits (handed_in detach o.payload) text ≡ Ok o
 unfolding jws_compact_text
 compact_text_spells laws limits parts o members is detach text h =
-    let a = steps (needs (is_compact o.signatures) NotCompact) _ text h in
-    let one = only_signature laws detach o o.signatures refl (passed _ NotCompact a.0 a.1) in
+    let w = steps (jws_written false true detach o) _ text h in
+    let a = steps (needs (is_compact o.signatures) NotCompact) _ w.0 w.1 in
+    let one = only_signature detach o o.signatures refl (passed _ NotCompact a.0 a.1) in
     let texts : parts_spelled parts ≡ compact one.protected (base64url o.payload) one.signature = sym (object_keeps limits parts o is) ∙ one.texts in
-    ap (jws_of limits (handed_in detach o.payload)) (sym (same_answer _ text a.2) ∙ one.text)
+    ap (jws_of limits (handed_in detach o.payload)) (sym (same_answer _ text w.2) ∙ ap (λ (w : Written). w.text) (sym (same_answer _ w.0 a.2)) ∙ one.text)
     ∙ read_compact limits detach one.protected o.payload one.signature o (subst HasUrlTexts texts (url_texts laws limits parts o members is))
-    (ap (object_of_texts limits) (sym texts) ∙ object_read laws limits parts o members is)
+    (ap (decoded_object limits) (sym texts) ∙ object_read laws limits parts o members is)
 
 -- an object is what its JSON text spells, which is that of its members
 json_text_spells : BuildingIsReading → (limits : Limits) (parts : JwsParts) (o : SignedObject) → AreMembers parts → built limits parts ≡ Ok o → (detach : Bool)

@@ -1,6 +1,6 @@
 -- Objects that are written one after another in a list.
 use Rattle.std.proofs.Common.{◌≡◌, ℕ, ◌+◌, ◌<◌, List, [], ◌∷◌, ◌++◌, length, map, take, get_or, codes, refl, sym, ap, ◌∙◌}
-use Rattle.std.proofs.lemmas.List.{map_more}
+use Rattle.std.proofs.lemmas.List.{map_more, length-map}
 use Rattle.objects.specs.Writing.{Written, opened, closed, separated, with_items}
 
 -- one more behind those that were written
@@ -17,3 +17,11 @@ one_more_item with_one seen xs i x start w so_far lt at =
     ap (λ w. closed (codes "}") (with_one (seen x) (opened (codes "{") (separated w)))) so_far
     ∙ sym (items_more with_one front (seen x) start)
     ∙ ap (λ y. with_items with_one (front ++ seen y ∷ []) start) at ∙ ap (λ l. with_items with_one l start) (sym (map_more seen xs i x lt))
+
+-- what is seen of what is seen
+pub map_map : {A B C : Type 0} (g : B → C) (f : A → B) (xs : List A) → map g (map f xs) ≡ map (λ x. g (f x)) xs
+map_map g f [] = refl
+map_map g f (x ∷ xs) = ap (λ rest. g (f x) ∷ rest) (map_map g f xs)
+
+-- a list by what is seen of each
+pub ruleset seen = (map_map, length-map)

@@ -5,9 +5,9 @@ use Rattle.octets.specs.declared.refusal.Refusal.{Refusal}
 use Rattle.octets.specs.Base64url.{base64url}
 use Rattle.octets.specs.Octets.{IsOctets}
 use Rattle.octets.specs.Outcomes.{◌>>=◌}
-use Rattle.objects.specs.Jws.{Signature, SignedObject, jws_text}
-use Rattle.objects.specs.Jwe.{EncryptedObject, jwe_text}
-use Rattle.objects.specs.Writing.{all_texts, jws_written, jwe_written}
+use Rattle.objects.specs.Jws.{Signature, SignedObject, jws_written, jws_text}
+use Rattle.objects.specs.Jwe.{EncryptedObject, jwe_written, jwe_text}
+use Rattle.objects.specs.Writing.{all_texts}
 
 -- with values in the places between the texts
 abbrev pub filled : List (List ℕ) → List (List ℕ) → List ℕ

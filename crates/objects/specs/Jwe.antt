@@ -1,5 +1,5 @@
 -- JWE objects (RFC 7516): their compact texts (section 7.1) and their JSON texts, general and flattened (section 7.2).
-use Rattle.std.specs.Prelude.{◌≡◌, ℕ, ◌&&◌, ◌==◌, Bool, true, false, not, List, [], ◌∷◌, ◌++◌, length, map, codes, nat_le, is_some, is_none, if◌then◌else◌, Option, Some, None, Result, Ok}
+use Rattle.std.specs.Prelude.{◌≡◌, ℕ, ◌&&◌, ◌||◌, ◌==◌, Bool, true, false, not, List, [], ◌∷◌, length, map, codes, nat_le, is_some, is_none, if◌then◌else◌, Option, Some, None, Result, Ok}
 use Rattle.std.specs.List.{AllByRecursion, list_all}
 use Rattle.std.specs.Str.{bytes_eq, IsUtf8}
 use Rattle.serde_json.specs.Data.{Data, Items, no_items, item, Members, no_members, object, depth}
@@ -11,13 +11,14 @@ use Rattle.octets.specs.Outcomes.{◌>>=◌, needs}
 use Rattle.octets.specs.Octets.{IsOctets}
 use Rattle.octets.specs.Base64url.{base64url, decoded}
 use Rattle.octets.specs.LineEnds.{without_line_end}
-use Rattle.keys.specs.declared.algorithm.ManagementAlg.{ManagementAlg}
+use Rattle.keys.specs.declared.algorithm.KeyManagementAlg.{KeyManagementAlg}
 use Rattle.keys.specs.Json.{json_value, member_numbers_are_whole}
 use Rattle.keys.specs.JsonTexts.{AreJsonMembers}
-use Rattle.keys.specs.Limits.{Limits}
+use Rattle.keys.specs.Limits.{Limits, are_few}
 use Rattle.objects.specs.Headers.{header_at, protected_members, joint_header, string_there, has_no_crit}
 use Rattle.objects.specs.KeyManagement.{KeyManagement, key_management}
-use Rattle.objects.specs.Texts.{each, each_item, is_json_form, split_at_dot, three_parts, text_at, content_by, content_text, handed_in, AreOctetsHandedIn, object_list, has_text, has_members, kept, put_text, put_content, put_header, put_each, header_depth, depth_of_each}
+use Rattle.objects.specs.Texts.{each, each_item, is_json_form, split_at_dot, three_parts, text_at, content_by, content_text, handed_in, AreOctetsHandedIn, object_list, has_text, has_members, header_depth, depth_of_each}
+use Rattle.objects.specs.Writing.{Written, nothing_written, pushed, opened, closed, with_text, with_header, with_place, with_content, inside, with_list, with_part, with_place_part, with_content_part}
 
 -- ---- the members of an object
 
@@ -39,41 +40,41 @@ pub record JweParts : Type 0 where
 -- ---- the members of a text
 
 -- what all recipients share beside the content: headers, and additional data
-pub record SharedTexts : Type 0 where
+pub record EncodedShared : Type 0 where
   pub protected : List ℕ
   pub unprotected : Members
   pub aad : List ℕ
 
-pub record RecipientTexts : Type 0 where
+pub record EncodedRecipient : Type 0 where
   pub header : Members
   pub encrypted_key : List ℕ
 
-pub record ContentTexts : Type 0 where
+pub record EncodedContent : Type 0 where
   pub iv : List ℕ
   pub ciphertext : List ℕ
   pub tag : List ℕ
 
 -- the members of an object, with the texts that they have
-pub record JweTexts : Type 0 where
-  pub shared : SharedTexts
-  pub recipients : List RecipientTexts
-  pub content : ContentTexts
+pub record EncodedJwe : Type 0 where
+  pub shared : EncodedShared
+  pub recipients : List EncodedRecipient
+  pub content : EncodedContent
 
-unfoldable pub shared_texts : Data → Result SharedTexts Refusal
-shared_texts value = do
+unfoldable pub encoded_shared : Data → Result EncodedShared Refusal
+encoded_shared value = do
   protected ← text_at (codes "protected") value
   unprotected ← header_at (codes "unprotected") value
   aad ← text_at (codes "aad") value
   Ok (record { protected = protected; unprotected = unprotected; aad = aad })
 
-unfoldable pub recipient_texts : Data → Result RecipientTexts Refusal
-recipient_texts value = do
+unfoldable pub encoded_recipient : Data → Result EncodedRecipient Refusal
+encoded_recipient value = do
   encrypted_key ← text_at (codes "encrypted_key") value
   header ← header_at (codes "header") value
   Ok (record { header = header; encrypted_key = encrypted_key })
 
-unfoldable pub content_texts : Option (List ℕ) → Data → Result ContentTexts Refusal
-content_texts detached value = do
+unfoldable pub encoded_content : Option (List ℕ) → Data → Result EncodedContent Refusal
+encoded_content detached value = do
   iv ← text_at (codes "iv") value
   ciphertext ← content_text detached (codes "ciphertext") value
   tag ← text_at (codes "tag") value
@@ -82,7 +83,7 @@ content_texts detached value = do
 -- nothing of a recipient stands there; it may, where it is empty
 unfoldable pub no_recipient_at : Data → Result (Unit {0}) Refusal
 no_recipient_at value = do
-  own ← recipient_texts value
+  own ← encoded_recipient value
   needs (not (has_text own.encrypted_key) && not (has_members own.header)) Form
 
 -- The object itself where it is flattened (section 7.2.2), or those of the list of a general one (section 7.2.1), beside which nothing of a recipient may stand.
@@ -95,17 +96,17 @@ recipients_by value (Some list) = do
 unfoldable pub recipient_objects : Data → Result Items Refusal
 recipient_objects value = recipients_by value (get (codes "recipients") value)
 
-unfoldable pub json_texts : Option (List ℕ) → Data → Result JweTexts Refusal
-json_texts detached value = do
-  shared ← shared_texts value
+unfoldable pub encoded_in_json : Option (List ℕ) → Data → Result EncodedJwe Refusal
+encoded_in_json detached value = do
+  shared ← encoded_shared value
   objects ← recipient_objects value
-  recipients ← each_item recipient_texts objects
-  content ← content_texts detached value
+  recipients ← each_item encoded_recipient objects
+  content ← encoded_content detached value
   Ok (record { shared = shared; recipients = recipients; content = content })
 
 -- exactly five parts between dots
-unfoldable pub compact_texts : Option (List ℕ) → List ℕ → Result JweTexts Refusal
-compact_texts detached text = do
+unfoldable pub encoded_in_compact : Option (List ℕ) → List ℕ → Result EncodedJwe Refusal
+encoded_in_compact detached text = do
   protected ← split_at_dot text
   encrypted_key ← split_at_dot protected.1
   content ← three_parts encrypted_key.1
@@ -117,19 +118,19 @@ compact_texts detached text = do
   })
 
 -- Those of a JSON text, or of a compact text, with a line end or without. The ciphertext may have been handed in beside it.
-unfoldable pub jwe_texts : Option (List ℕ) → List ℕ → Result JweTexts Refusal
-jwe_texts detached text = if is_json_form text then (json_value text >>= json_texts detached) else compact_texts detached (without_line_end text)
+unfoldable pub encoded_jwe : Option (List ℕ) → List ℕ → Result EncodedJwe Refusal
+encoded_jwe detached text = if is_json_form text then (json_value text >>= encoded_in_json detached) else encoded_in_compact detached (without_line_end text)
 
 -- the octets that they are the base64url texts of, the text of the protected header aside
-unfoldable pub recipient_parts : RecipientTexts → Result RecipientParts Refusal
-recipient_parts texts = do
+unfoldable pub decoded_recipient : EncodedRecipient → Result RecipientParts Refusal
+decoded_recipient texts = do
   encrypted_key ← decoded texts.encrypted_key
   Ok (record { header = texts.header; encrypted_key = encrypted_key })
 
-unfoldable pub parts_of_texts : JweTexts → Result JweParts Refusal
-parts_of_texts texts = do
+unfoldable pub decoded_members : EncodedJwe → Result JweParts Refusal
+decoded_members texts = do
   aad ← decoded texts.shared.aad
-  recipients ← each recipient_parts texts.recipients
+  recipients ← each decoded_recipient texts.recipients
   iv ← decoded texts.content.iv
   ciphertext ← decoded texts.content.ciphertext
   tag ← decoded texts.content.tag
@@ -180,20 +181,20 @@ without_ciphertext o = record {
 -- ---- the header of a recipient
 
 -- a recipient, by its joint header
-unfoldable pub recipient_by : List ManagementAlg → Members → RecipientParts → Result Recipient Refusal
+unfoldable pub recipient_by : List KeyManagementAlg → Members → RecipientParts → Result Recipient Refusal
 recipient_by algs header parts = do
   alg ← string_there (codes "alg") header
   enc ← string_there (codes "enc") header
   management ← key_management algs alg header
   Ok (record { header = parts.header; encrypted_key = parts.encrypted_key; alg = alg; enc = enc; management = management })
 
-unfoldable pub recipient_of : List ManagementAlg → Members → Members → RecipientParts → Result Recipient Refusal
+unfoldable pub recipient_of : List KeyManagementAlg → Members → Members → RecipientParts → Result Recipient Refusal
 recipient_of algs protected unprotected parts = do
   header ← joint_header protected unprotected parts.header
   recipient_by algs header parts
 
 -- all of them, in order
-abbrev pub recipients_of : List ManagementAlg → Members → Members → List RecipientParts → Result (List Recipient) Refusal
+abbrev pub recipients_of : List KeyManagementAlg → Members → Members → List RecipientParts → Result (List Recipient) Refusal
 recipients_of algs protected unprotected parts = each (recipient_of algs protected unprotected) parts
 
 -- `enc` is the same for all
@@ -204,7 +205,7 @@ abbrev pub have_one_enc : List Recipient → Bool
 have_one_enc [] = true
 have_one_enc (first ∷ rest) = have_enc first.enc (first ∷ rest)
 
-unfoldable pub recipients_of_one_enc : List ManagementAlg → Members → Members → List RecipientParts → Result (List Recipient) Refusal
+unfoldable pub recipients_of_one_enc : List KeyManagementAlg → Members → Members → List RecipientParts → Result (List Recipient) Refusal
 recipients_of_one_enc algs protected unprotected parts = do
   recipients ← recipients_of algs protected unprotected parts
   one ← needs (have_one_enc recipients) Header
@@ -213,34 +214,34 @@ recipients_of_one_enc algs protected unprotected parts = do
 -- ---- members that are refused
 
 -- neither `crit` nor `zip`: no extension is known, and no content is compressed
-abbrev pub is_plain : Members → Bool
-is_plain header = has_no_crit header && is_none (get_member (codes "zip") header)
+abbrev pub has_no_crit_or_zip : Members → Bool
+has_no_crit_or_zip header = has_no_crit header && is_none (get_member (codes "zip") header)
 
 -- in no part of a header
-abbrev pub are_plain : Members → Members → List RecipientParts → Bool
-are_plain protected unprotected recipients = is_plain protected && (is_plain unprotected && list_all (λ r. is_plain r.header) recipients)
+abbrev pub have_no_crit_or_zip : Members → Members → List RecipientParts → Bool
+have_no_crit_or_zip protected unprotected recipients = has_no_crit_or_zip protected && (has_no_crit_or_zip unprotected && list_all (λ r. has_no_crit_or_zip r.header) recipients)
 
 -- the object with these members and these octets of its protected header
-unfoldable pub encrypted_object : List ManagementAlg → List ℕ → JweParts → Result EncryptedObject Refusal
+unfoldable pub encrypted_object : List KeyManagementAlg → List ℕ → JweParts → Result EncryptedObject Refusal
 encrypted_object algs octets parts = do
   protected ← protected_members octets
   recipients ← recipients_of_one_enc algs protected parts.unprotected parts.recipients
-  plain ← needs (are_plain protected parts.unprotected parts.recipients) Unsupported
+  plain ← needs (have_no_crit_or_zip protected parts.unprotected parts.recipients) Unsupported
   Ok (record { protected = parts.protected; protected_members = protected; unprotected = parts.unprotected; iv = parts.iv; aad = parts.aad; ciphertext = parts.ciphertext; tag = parts.tag; recipients = recipients })
 
 -- the object whose members have these texts; it has not too many recipients
-unfoldable pub object_of_texts : Limits → JweTexts → Result EncryptedObject Refusal
-object_of_texts limits texts = do
-  few ← needs (nat_le (length texts.recipients) limits.recipients) Limit
+unfoldable pub decoded_object : Limits → EncodedJwe → Result EncryptedObject Refusal
+decoded_object limits texts = do
+  few ← needs (are_few limits (length texts.recipients)) Limit
   octets ← decoded texts.shared.protected
-  parts ← parts_of_texts texts
+  parts ← decoded_members texts
   encrypted_object limits.management octets parts
 
 -- the object of a text, and of a ciphertext where one was handed in, or the first refusal
 unfoldable pub jwe_of : Limits → Option (List ℕ) → List ℕ → Result EncryptedObject Refusal
 jwe_of limits detached text = do
-  texts ← jwe_texts detached text
-  object_of_texts limits texts
+  texts ← encoded_jwe detached text
+  decoded_object limits texts
 
 -- ---- an object that is made of its members
 
@@ -260,32 +261,50 @@ built limits parts = do
   shallow ← needs (is_shallow parts) Json
   whole ← needs (have_whole_numbers parts) Number
   some ← needs (nat_le 1 (length parts.recipients)) Form
-  few ← needs (nat_le (length parts.recipients) limits.recipients) Limit
+  few ← needs (are_few limits (length parts.recipients)) Limit
   octets ← decoded parts.protected
   encrypted_object limits.management octets parts
 
 -- ---- its texts
 
 -- the header and the encrypted key of a recipient
-abbrev pub put_recipient : RecipientParts → Members → Members
-put_recipient r members = put_header (codes "header") r.header (put_text (codes "encrypted_key") (base64url r.encrypted_key) members)
+abbrev pub with_recipient : RecipientParts → Written → Written
+with_recipient r w = with_header (codes "header") r.header (with_text (codes "encrypted_key") (base64url r.encrypted_key) w)
 
-abbrev pub put_recipients : List RecipientParts → Members → Members
-put_recipients recipients members = put_each (codes "recipients") put_recipient recipients members
+-- one recipient stands beside the other members (section 7.2.2)
+abbrev pub with_flattened : List RecipientParts → Written → Written
+with_flattened [] w = w
+with_flattened (r ∷ []) w = with_recipient r w
+with_flattened (r ∷ (other ∷ rest)) w = w
 
--- the headers that all recipients share, and the content with its tag; the ciphertext is there unless it is detached
-abbrev pub put_shared : Bool → JweParts → Members → Members
-put_shared detach parts members =
-    put_header (codes "unprotected") parts.unprotected (
-    put_text (codes "tag") (base64url parts.tag) (
-    put_text (codes "protected") parts.protected (
-    put_text (codes "iv") (base64url parts.iv) (
-    put_content detach (codes "ciphertext") parts.ciphertext (
-    put_text (codes "aad") (base64url parts.aad) members)))))
+-- several, or none, are a list (section 7.2.1)
+abbrev pub with_general : List RecipientParts → Written → Written
+with_general [] w = with_list (codes "recipients") with_recipient [] w
+with_general (r ∷ []) w = w
+with_general (r ∷ (other ∷ rest)) w = with_list (codes "recipients") with_recipient (r ∷ (other ∷ rest)) w
 
--- The JSON text of members, which stand in byte order of their names: flattened where there is one recipient, and else general.
+-- a place for the tag, or its text where it is not empty
+abbrev pub with_tag : List ℕ → Written → Written
+with_tag tag w = if w.places || nat_le 1 (length tag) then with_place (codes "tag") tag w else w
+
+-- the members, in byte order of their names
+abbrev pub with_members : Option (List ℕ) → JweParts → Written → Written
+with_members ciphertext parts w =
+    with_header (codes "unprotected") parts.unprotected (
+    with_tag parts.tag (
+    with_general parts.recipients (
+    with_text (codes "protected") parts.protected (
+    with_text (codes "iv") (base64url parts.iv) (
+    with_flattened parts.recipients (
+    with_content (codes "ciphertext") ciphertext (
+    with_text (codes "aad") (base64url parts.aad) w)))))))
+
+-- Their JSON text: flattened where there is one recipient, and else general. A detached ciphertext has no place in it.
+abbrev pub jwe_json : Bool → Bool → JweParts → Written
+jwe_json places detach parts = closed (codes "}") (with_members (inside detach parts.ciphertext) parts (opened (codes "{") (nothing_written places)))
+
 unfoldable pub members_text : Bool → JweParts → List ℕ
-members_text detach parts = compact_text (object (put_shared detach parts (put_recipients parts.recipients no_members)))
+members_text detach parts = (jwe_json false detach parts).text
 
 -- the members of an object
 abbrev pub recipient_parts_of : Recipient → RecipientParts
@@ -306,10 +325,18 @@ parts_of o = record {
 abbrev pub json_text : Bool → EncryptedObject → List ℕ
 json_text detach o = members_text detach (parts_of o)
 
--- the parts of a compact text between dots
-abbrev pub joined : List ℕ → List ℕ → List ℕ → List ℕ → List ℕ → List ℕ
-joined protected encrypted_key iv ciphertext tag =
-    protected ++ codes "." ++ base64url encrypted_key ++ codes "." ++ base64url iv ++ codes "." ++ base64url ciphertext ++ codes "." ++ base64url tag
+abbrev pub key_of_first : List RecipientParts → List ℕ
+key_of_first [] = []
+key_of_first (r ∷ rest) = r.encrypted_key
+
+-- the parts of a compact text (section 7.1), with the encrypted key of the first recipient
+abbrev pub with_compact : Option (List ℕ) → JweParts → Written → Written
+with_compact ciphertext parts w =
+    with_place_part parts.tag (
+    with_content_part ciphertext (
+    with_part parts.iv (
+    with_part (key_of_first parts.recipients) (
+    pushed parts.protected w))))
 
 -- all of the object stands in a compact text: its one recipient has no per-recipient header, and there is nothing that is shared but not protected
 abbrev pub is_compact : EncryptedObject → List Recipient → Bool
@@ -317,15 +344,18 @@ is_compact o [] = false
 is_compact o (r ∷ []) = not (has_members o.unprotected) && (not (has_members r.header) && (length o.aad == 0))
 is_compact o (r ∷ (other ∷ rest)) = false
 
-abbrev pub key_of_first : List Recipient → List ℕ
-key_of_first [] = []
-key_of_first (r ∷ rest) = r.encrypted_key
+-- the compact text, where it can hold the object, or the JSON text
+abbrev pub jwe_written : Bool → Bool → Bool → EncryptedObject → Result Written Refusal
+jwe_written places true detach o = do
+  fits ← needs (is_compact o o.recipients) NotCompact
+  Ok (with_compact (inside detach o.ciphertext) (parts_of o) (nothing_written places))
+jwe_written places false detach o = Ok (jwe_json places detach (parts_of o))
 
--- the compact text (RFC 7516 section 7.1), where it can hold the object; the part of a detached ciphertext is empty
+-- the compact text, where it can hold the object; the part of a detached ciphertext is empty
 unfoldable pub jwe_compact_text : Bool → EncryptedObject → Result (List ℕ) Refusal
 jwe_compact_text detach o = do
-  fits ← needs (is_compact o o.recipients) NotCompact
-  Ok (joined o.protected (key_of_first o.recipients) o.iv (kept detach o.ciphertext) o.tag)
+  w ← jwe_written false true detach o
+  Ok w.text
 
 -- compact or JSON, with the ciphertext or without
 abbrev pub jwe_text : Bool → Bool → EncryptedObject → Result (List ℕ) Refusal
@@ -348,6 +378,10 @@ pub record AreMembers (parts : JweParts) : Type 0 where
 -- with Number, since the numbers of such members are whole.
 abbrev pub BuildingIsReading : Type 0
 BuildingIsReading = (limits : Limits) (parts : JweParts) → AreMembers parts → (detach : Bool) → built limits parts ≡ jwe_of limits (handed_in detach parts.ciphertext) (members_text detach parts)
+
+-- The JSON text of members is the compact text of the value that it is read as: nothing stands between its tokens, and no name twice.
+abbrev pub JsonTextsAreCompact : Type 0
+JsonTextsAreCompact = (detach : Bool) (parts : JweParts) (value : Data) → AreMembers parts → json_value (members_text detach parts) ≡ Ok value → members_text detach parts ≡ compact_text value
 
 -- the object can be made of members, as each that is read can
 abbrev pub IsMade : Limits → EncryptedObject → Type 0

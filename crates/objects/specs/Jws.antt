@@ -1,23 +1,24 @@
 -- JWS objects (RFC 7515): their compact texts (section 7.1) and their JSON texts, general and flattened (section 7.2).
-use Rattle.std.specs.Prelude.{◌≡◌, ℕ, ◌&&◌, Bool, true, false, not, List, [], ◌∷◌, ◌++◌, length, map, codes, nat_le, is_some, is_none, if◌then◌else◌, Option, Some, None, Result, Ok}
+use Rattle.std.specs.Prelude.{◌≡◌, ℕ, ◌&&◌, Bool, true, false, not, List, [], ◌∷◌, length, map, codes, nat_le, is_some, is_none, if◌then◌else◌, Option, Some, None, Result, Ok}
 use Rattle.std.specs.List.{AllByRecursion, list_all}
 use Rattle.std.specs.Str.{IsUtf8}
-use Rattle.serde_json.specs.Data.{Data, Items, no_items, item, Members, no_members, string, object, put, depth}
+use Rattle.serde_json.specs.Data.{Data, Items, no_items, item, Members, no_members, object, depth}
 use Rattle.serde_json.specs.Find.{get}
 use Rattle.serde_json.specs.Written.{compact_text}
 use Rattle.octets.specs.declared.refusal.Refusal.{Refusal}
 use Rattle.octets.specs.declared.refusal.Refusal.TheVariants.{Json, Number, Form, Unsupported, Limit, NotCompact}
 use Rattle.octets.specs.Outcomes.{◌>>=◌, needs}
 use Rattle.octets.specs.Octets.{IsOctets}
-use Rattle.octets.specs.Base64url.{base64url, decoded}
+use Rattle.octets.specs.Base64url.{decoded}
 use Rattle.octets.specs.LineEnds.{without_line_end}
-use Rattle.keys.specs.declared.algorithm.ManagementAlg.{ManagementAlg}
+use Rattle.keys.specs.declared.algorithm.KeyManagementAlg.{KeyManagementAlg}
 use Rattle.keys.specs.Json.{json_value, member_numbers_are_whole}
 use Rattle.keys.specs.JsonTexts.{AreJsonMembers}
-use Rattle.keys.specs.Limits.{Limits}
+use Rattle.keys.specs.Limits.{Limits, are_few}
 use Rattle.objects.specs.Headers.{header_at, protected_members, joint_header, string_there, has_no_crit}
 use Rattle.objects.specs.KeyManagement.{key_management}
-use Rattle.objects.specs.Texts.{each, each_item, is_json_form, three_parts, text_at, required_text, content_by, content_text, handed_in, AreOctetsHandedIn, object_list, has_text, has_members, kept, put_text, put_content, put_header, put_each, depth_of_each}
+use Rattle.objects.specs.Texts.{each, each_item, is_json_form, three_parts, text_at, required_text, content_by, content_text, handed_in, AreOctetsHandedIn, object_list, has_text, has_members, depth_of_each}
+use Rattle.objects.specs.Writing.{Written, nothing_written, pushed, opened, closed, with_text, with_header, with_place, with_content, inside, with_list, with_place_part, with_content_part}
 
 -- ---- the members of an object
 
@@ -34,18 +35,18 @@ pub record JwsParts : Type 0 where
 -- ---- the members of a text
 
 -- the same, with the text of the signature
-pub record SignatureTexts : Type 0 where
+pub record EncodedSignature : Type 0 where
   pub protected : List ℕ
   pub header : Members
   pub signature : List ℕ
 
-pub record JwsTexts : Type 0 where
+pub record EncodedJws : Type 0 where
   pub payload : List ℕ
-  pub signatures : List SignatureTexts
+  pub signatures : List EncodedSignature
 
 -- the signature must be there
-unfoldable pub signature_texts : Data → Result SignatureTexts Refusal
-signature_texts value = do
+unfoldable pub encoded_signature : Data → Result EncodedSignature Refusal
+encoded_signature value = do
   protected ← text_at (codes "protected") value
   header ← header_at (codes "header") value
   signature ← required_text (codes "signature") value
@@ -68,23 +69,23 @@ signatures_by value (Some list) = do
 unfoldable pub signature_objects : Data → Result Items Refusal
 signature_objects value = signatures_by value (get (codes "signatures") value)
 
-unfoldable pub json_texts : Option (List ℕ) → Data → Result JwsTexts Refusal
-json_texts detached value = do
+unfoldable pub encoded_in_json : Option (List ℕ) → Data → Result EncodedJws Refusal
+encoded_in_json detached value = do
   payload ← content_text detached (codes "payload") value
   objects ← signature_objects value
-  signatures ← each_item signature_texts objects
+  signatures ← each_item encoded_signature objects
   Ok (record { payload = payload; signatures = signatures })
 
 -- exactly three parts between dots
-unfoldable pub compact_texts : Option (List ℕ) → List ℕ → Result JwsTexts Refusal
-compact_texts detached text = do
+unfoldable pub encoded_in_compact : Option (List ℕ) → List ℕ → Result EncodedJws Refusal
+encoded_in_compact detached text = do
   parts ← three_parts text
   payload ← content_by detached parts.1
   Ok (record { payload = payload; signatures = record { protected = parts.0; header = no_members; signature = parts.2 } ∷ [] })
 
 -- Those of a JSON text, or of a compact text, with a line end or without. The payload may have been handed in beside it.
-unfoldable pub jws_texts : Option (List ℕ) → List ℕ → Result JwsTexts Refusal
-jws_texts detached text = if is_json_form text then (json_value text >>= json_texts detached) else compact_texts detached (without_line_end text)
+unfoldable pub encoded_jws : Option (List ℕ) → List ℕ → Result EncodedJws Refusal
+encoded_jws detached text = if is_json_form text then (json_value text >>= encoded_in_json detached) else encoded_in_compact detached (without_line_end text)
 
 -- ---- the object
 
@@ -111,16 +112,16 @@ pub record HeadedSignature : Type 0 where
   pub members : Members
   pub parts : SignatureParts
 
-unfoldable pub decoded_signature : SignatureParts → Result DecodedSignature Refusal
-decoded_signature parts = do
+unfoldable pub decoded_part : SignatureParts → Result DecodedSignature Refusal
+decoded_part parts = do
   octets ← decoded parts.protected
   Ok (record { octets = octets; parts = parts })
 
 -- one whose members have these texts
-unfoldable pub decoded_texts : SignatureTexts → Result DecodedSignature Refusal
-decoded_texts texts = do
+unfoldable pub decoded_signature : EncodedSignature → Result DecodedSignature Refusal
+decoded_signature texts = do
   signature ← decoded texts.signature
-  decoded_signature (record { protected = texts.protected; header = texts.header; signature = signature })
+  decoded_part (record { protected = texts.protected; header = texts.header; signature = signature })
 
 unfoldable pub headed_signature : DecodedSignature → Result HeadedSignature Refusal
 headed_signature s = do
@@ -129,7 +130,7 @@ headed_signature s = do
 
 -- Its headers have no name in common, and name the algorithm together. Where that is one of key management, they have the parameters
 -- that it reads.
-unfoldable pub signature_by : List ManagementAlg → HeadedSignature → Result Signature Refusal
+unfoldable pub signature_by : List KeyManagementAlg → HeadedSignature → Result Signature Refusal
 signature_by algs s = do
   header ← joint_header s.members no_members s.parts.header
   alg ← string_there (codes "alg") header
@@ -137,36 +138,36 @@ signature_by algs s = do
   Ok (record { protected = s.parts.protected; protected_members = s.members; header = s.parts.header; signature = s.parts.signature; alg = alg })
 
 -- neither header has a `crit`
-abbrev pub is_plain : HeadedSignature → Bool
-is_plain s = has_no_crit s.members && has_no_crit s.parts.header
+abbrev pub headers_have_no_crit : HeadedSignature → Bool
+headers_have_no_crit s = has_no_crit s.members && has_no_crit s.parts.header
 
 -- Each step is taken for every signature before the next.
-unfoldable pub signatures_of : List ManagementAlg → List DecodedSignature → Result (List Signature) Refusal
+unfoldable pub signatures_of : List KeyManagementAlg → List DecodedSignature → Result (List Signature) Refusal
 signatures_of algs decoded = do
   headed ← each headed_signature decoded
   signatures ← each (signature_by algs) headed
-  plain ← needs (list_all is_plain headed) Unsupported
+  plain ← needs (list_all headers_have_no_crit headed) Unsupported
   Ok signatures
 
 -- the object of a payload and these signatures
-unfoldable pub signed_object : List ManagementAlg → List ℕ → List DecodedSignature → Result SignedObject Refusal
+unfoldable pub signed_object : List KeyManagementAlg → List ℕ → List DecodedSignature → Result SignedObject Refusal
 signed_object algs payload decoded = do
   signatures ← signatures_of algs decoded
   Ok (record { payload = payload; signatures = signatures })
 
 -- the object whose members have these texts; it has not too many signatures
-unfoldable pub object_of_texts : Limits → JwsTexts → Result SignedObject Refusal
-object_of_texts limits texts = do
-  few ← needs (nat_le (length texts.signatures) limits.recipients) Limit
+unfoldable pub decoded_object : Limits → EncodedJws → Result SignedObject Refusal
+decoded_object limits texts = do
+  few ← needs (are_few limits (length texts.signatures)) Limit
   payload ← decoded texts.payload
-  signatures ← each decoded_texts texts.signatures
+  signatures ← each decoded_signature texts.signatures
   signed_object limits.management payload signatures
 
 -- the object of a text, and of a payload where one was handed in, or the first refusal
 unfoldable pub jws_of : Limits → Option (List ℕ) → List ℕ → Result SignedObject Refusal
 jws_of limits detached text = do
-  texts ← jws_texts detached text
-  object_of_texts limits texts
+  texts ← encoded_jws detached text
+  decoded_object limits texts
 
 -- ---- an object that is made of its members
 
@@ -182,22 +183,37 @@ built limits parts = do
   shallow ← needs (nest_at_most (depth_of_each (length parts.signatures)) parts.signatures) Json
   whole ← needs (have_whole_numbers parts.signatures) Number
   some ← needs (nat_le 1 (length parts.signatures)) Form
-  few ← needs (nat_le (length parts.signatures) limits.recipients) Limit
-  signatures ← each decoded_signature parts.signatures
+  few ← needs (are_few limits (length parts.signatures)) Limit
+  signatures ← each decoded_part parts.signatures
   signed_object limits.management parts.payload signatures
 
 -- ---- its texts
 
--- the members of a signature, which is always there
-abbrev pub put_signature : SignatureParts → Members → Members
-put_signature s members =
-    put_header (codes "header") s.header (put (codes "signature") (string (base64url s.signature)) (put_text (codes "protected") s.protected members))
+-- a signature, and the payload where it stands beside it
+abbrev pub with_signature : Option (List ℕ) → SignatureParts → Written → Written
+with_signature payload s w =
+    with_place (codes "signature") s.signature (
+    with_text (codes "protected") s.protected (
+    with_content (codes "payload") payload (
+    with_header (codes "header") s.header w)))
+
+-- the payload, and a list of signatures (section 7.2.1)
+abbrev pub with_general : Option (List ℕ) → List SignatureParts → Written → Written
+with_general payload signatures w = with_list (codes "signatures") (with_signature None) signatures (with_content (codes "payload") payload w)
+
+-- one signature stands beside the payload (section 7.2.2); several, or none, are a list
+abbrev pub with_signatures : Option (List ℕ) → List SignatureParts → Written → Written
+with_signatures payload [] w = with_general payload [] w
+with_signatures payload (s ∷ []) w = with_signature payload s w
+with_signatures payload (s ∷ (other ∷ rest)) w = with_general payload (s ∷ (other ∷ rest)) w
 
 -- The JSON text of members, which stand in byte order of their names: flattened where there is one signature, and else general. A detached
 -- payload has no place in it.
+abbrev pub jws_json : Bool → Bool → JwsParts → Written
+jws_json places detach parts = closed (codes "}") (with_signatures (inside detach parts.payload) parts.signatures (opened (codes "{") (nothing_written places)))
+
 unfoldable pub members_text : Bool → JwsParts → List ℕ
-members_text detach parts =
-    compact_text (object (put_content detach (codes "payload") parts.payload (put_each (codes "signatures") put_signature parts.signatures no_members)))
+members_text detach parts = (jws_json false detach parts).text
 
 -- the members of an object
 abbrev pub signature_parts_of : Signature → SignatureParts
@@ -210,9 +226,10 @@ parts_of o = record { payload = o.payload; signatures = map signature_parts_of o
 abbrev pub json_text : Bool → SignedObject → List ℕ
 json_text detach o = members_text detach (parts_of o)
 
--- the parts of a compact text between dots
-abbrev pub joined : List ℕ → List ℕ → List ℕ → List ℕ
-joined protected payload signature = protected ++ codes "." ++ base64url payload ++ codes "." ++ base64url signature
+-- the parts of a compact text (section 7.1), with those of the first signature
+abbrev pub with_compact : Option (List ℕ) → List SignatureParts → Written → Written
+with_compact payload [] w = w
+with_compact payload (s ∷ rest) w = with_place_part s.signature (with_content_part payload (pushed s.protected w))
 
 -- all of the object stands in a compact text: its one signature has no unprotected header
 abbrev pub is_compact : List Signature → Bool
@@ -220,15 +237,18 @@ is_compact [] = false
 is_compact (s ∷ []) = not (has_members s.header)
 is_compact (s ∷ (other ∷ rest)) = false
 
-abbrev pub joined_first : List ℕ → List Signature → List ℕ
-joined_first payload [] = []
-joined_first payload (s ∷ rest) = joined s.protected payload s.signature
+-- the compact text, where it can hold the object, or the JSON text
+abbrev pub jws_written : Bool → Bool → Bool → SignedObject → Result Written Refusal
+jws_written places true detach o = do
+  fits ← needs (is_compact o.signatures) NotCompact
+  Ok (with_compact (inside detach o.payload) (parts_of o).signatures (nothing_written places))
+jws_written places false detach o = Ok (jws_json places detach (parts_of o))
 
--- the compact text (section 7.1), where it can hold the object; the part of a detached payload is empty
+-- the compact text, where it can hold the object; the part of a detached payload is empty
 unfoldable pub jws_compact_text : Bool → SignedObject → Result (List ℕ) Refusal
 jws_compact_text detach o = do
-  fits ← needs (is_compact o.signatures) NotCompact
-  Ok (joined_first (kept detach o.payload) o.signatures)
+  w ← jws_written false true detach o
+  Ok w.text
 
 -- compact or JSON, with the payload or without
 abbrev pub jws_text : Bool → Bool → SignedObject → Result (List ℕ) Refusal
@@ -246,6 +266,10 @@ pub record AreMembers (parts : JwsParts) : Type 0 where
 -- with Number, since the numbers of such members are whole.
 abbrev pub BuildingIsReading : Type 0
 BuildingIsReading = (limits : Limits) (parts : JwsParts) → AreMembers parts → (detach : Bool) → built limits parts ≡ jws_of limits (handed_in detach parts.payload) (members_text detach parts)
+
+-- The JSON text of members is the compact text of the value that it is read as: nothing stands between its tokens, and no name twice.
+abbrev pub JsonTextsAreCompact : Type 0
+JsonTextsAreCompact = (detach : Bool) (parts : JwsParts) (value : Data) → AreMembers parts → json_value (members_text detach parts) ≡ Ok value → members_text detach parts ≡ compact_text value
 
 -- the object can be made of members, as each that is read can
 abbrev pub IsMade : Limits → SignedObject → Type 0

@@ -6,9 +6,10 @@ use Rattle.serde_json.specs.Data.{Members}
 use Rattle.octets.specs.declared.refusal.Refusal.{Refusal}
 use Rattle.octets.specs.declared.refusal.Refusal.TheVariants.{Header}
 use Rattle.octets.specs.Outcomes.{◌>>=◌, needs}
-use Rattle.keys.specs.declared.algorithm.ManagementAlg.{ManagementAlg}
-use Rattle.keys.specs.declared.algorithm.ManagementAlg.TheVariants.{Dir, A128Kw, A192Kw, A256Kw, Pbes2Hs256A128Kw, Pbes2Hs384A192Kw, Pbes2Hs512A256Kw, A128GcmKw, A192GcmKw, A256GcmKw}
-use Rattle.keys.specs.Algorithms.{management_alg_among}
+use Rattle.keys.specs.declared.algorithm.KeyManagementAlg.{KeyManagementAlg}
+use Rattle.keys.specs.declared.algorithm.KeyManagementMode.{KeyManagementMode}
+use Rattle.keys.specs.declared.algorithm.KeyManagementMode.TheVariants as mode
+use Rattle.keys.specs.Algorithms.{management_alg_among, mode_of}
 use Rattle.objects.specs.Headers.{number_parameter, salt_parameter, octets_parameter}
 
 -- How a recipient's key delivers the content encryption key, with the header parameters that its algorithm reads.
@@ -43,39 +44,36 @@ gcm_management header = do
   tag ← ok_or tag_if_there Header
   Ok (GcmKeyWrap iv tag)
 
--- what a header says by its algorithm
-abbrev pub management_by : Option ManagementAlg → Members → Result KeyManagement Refusal
+-- what a header says where its algorithm delivers so
+abbrev pub management_in : KeyManagementMode → Members → Result KeyManagement Refusal
+management_in mode.Direct header = Ok Direct
+management_in mode.KeyWrap header = Ok KeyWrap
+management_in mode.Password header = password_management header
+management_in mode.GcmKeyWrap header = gcm_management header
+
+-- by its algorithm
+abbrev pub management_by : Option KeyManagementAlg → Members → Result KeyManagement Refusal
 management_by None header = Ok Unknown
-management_by (Some Dir) header = Ok Direct
-management_by (Some A128Kw) header = Ok KeyWrap
-management_by (Some A192Kw) header = Ok KeyWrap
-management_by (Some A256Kw) header = Ok KeyWrap
-management_by (Some Pbes2Hs256A128Kw) header = password_management header
-management_by (Some Pbes2Hs384A192Kw) header = password_management header
-management_by (Some Pbes2Hs512A256Kw) header = password_management header
-management_by (Some A128GcmKw) header = gcm_management header
-management_by (Some A192GcmKw) header = gcm_management header
-management_by (Some A256GcmKw) header = gcm_management header
+management_by (Some alg) header = management_in (mode_of alg) header
 
 -- by the name of this, among the algorithms that are known
-abbrev pub key_management : List ManagementAlg → List ℕ → Members → Result KeyManagement Refusal
+abbrev pub key_management : List KeyManagementAlg → List ℕ → Members → Result KeyManagement Refusal
 key_management algs alg header = management_by (management_alg_among algs alg) header
 
 -- the salt input and the count are as they have to be
 abbrev pub is_password : List ℕ → ℕ → Bool
 is_password p2s p2c = nat_le 8 (length p2s) && nat_le 1 p2c
 
+-- it is one of an algorithm that delivers so
+abbrev pub is_management_in : KeyManagementMode → KeyManagement → Bool
+is_management_in mode.Direct Direct = true
+is_management_in mode.KeyWrap KeyWrap = true
+is_management_in mode.Password (Password p2s p2c) = is_password p2s p2c
+is_management_in mode.GcmKeyWrap (GcmKeyWrap iv tag) = true
+is_management_in m management = false
+
 -- it is that of the algorithm
-abbrev pub is_management_of : Option ManagementAlg → KeyManagement → Bool
+abbrev pub is_management_of : Option KeyManagementAlg → KeyManagement → Bool
+is_management_of (Some alg) management = is_management_in (mode_of alg) management
 is_management_of None Unknown = true
-is_management_of (Some Dir) Direct = true
-is_management_of (Some A128Kw) KeyWrap = true
-is_management_of (Some A192Kw) KeyWrap = true
-is_management_of (Some A256Kw) KeyWrap = true
-is_management_of (Some Pbes2Hs256A128Kw) (Password p2s p2c) = is_password p2s p2c
-is_management_of (Some Pbes2Hs384A192Kw) (Password p2s p2c) = is_password p2s p2c
-is_management_of (Some Pbes2Hs512A256Kw) (Password p2s p2c) = is_password p2s p2c
-is_management_of (Some A128GcmKw) (GcmKeyWrap iv tag) = true
-is_management_of (Some A192GcmKw) (GcmKeyWrap iv tag) = true
-is_management_of (Some A256GcmKw) (GcmKeyWrap iv tag) = true
-is_management_of alg management = false
+is_management_of None management = false

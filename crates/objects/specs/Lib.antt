@@ -2,8 +2,8 @@ pub mod Headers
 pub mod KeyManagement
 pub mod KeyManagementView
 pub mod Texts
+pub mod Writing
 pub mod Jws
 pub mod Jwe
-pub mod Writing
 pub mod Views
 pub mod Frames

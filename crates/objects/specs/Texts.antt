@@ -1,11 +1,11 @@
--- The texts of JWS and JWE objects (RFC 7515 section 7, RFC 7516 section 7): which form they have, the parts of a compact text, and
--- the members of a JSON text, as they are read and written.
+-- The texts of JWS and JWE objects (RFC 7515 section 7, RFC 7516 section 7) as they are read: which form they have, the parts of a compact
+-- text, and the members of a JSON text.
 use Rattle.std.specs.Prelude.{ℕ, ◌+◌, ◌==◌, ◌||◌, ◌&&◌, Bool, true, false, not, List, [], ◌∷◌, take, drop, is_none, position, nat_le, if◌then◌else◌, Option, Some, None, option_and_then, IfSome, Result, Ok, Err}
 use Rattle.std.specs.List.{find}
 use Rattle.std.specs.Option.{ok_or}
 use Rattle.std.specs.Result.{result_unwrap_or}
 use Rattle.std.specs.Str.{byte}
-use Rattle.serde_json.specs.Data.{Data, Items, no_items, item, Members, no_members, member, string, array, object, put}
+use Rattle.serde_json.specs.Data.{Data, Items, no_items, item, Members, no_members, member}
 use Rattle.serde_json.specs.Find.{get, as_str, as_array}
 use Rattle.octets.specs.declared.refusal.Refusal.{Refusal}
 use Rattle.octets.specs.declared.refusal.Refusal.TheVariants.{Form}
@@ -119,11 +119,6 @@ abbrev pub handed_out : Bool → List ℕ → List ℕ
 handed_out false content = []
 handed_out true content = content
 
--- what is left of the content in the text
-abbrev pub kept : Bool → List ℕ → List ℕ
-kept false content = content
-kept true content = []
-
 -- ---- lists
 
 abbrev pub has_items : Items → Bool
@@ -140,33 +135,6 @@ object_list value = do
 abbrev pub has_members : Members → Bool
 has_members no_members = false
 has_members (member k d rest) = true
-
--- ---- the members that are written
-
--- a member that is there where its text is not empty
-abbrev pub put_text : List ℕ → List ℕ → Members → Members
-put_text name [] members = members
-put_text name (c ∷ text) members = put name (string (c ∷ text)) members
-
--- the content, unless it is detached
-abbrev pub put_content : Bool → List ℕ → List ℕ → Members → Members
-put_content true name content members = members
-put_content false name content members = put name (string (base64url content)) members
-
--- a header that is there where it has members
-abbrev pub put_header : List ℕ → Members → Members → Members
-put_header name header members = if has_members header then put name (object header) members else members
-
--- the members of each, as an object
-abbrev pub objects_of : {X : Type 0} → (X → Members) → List X → Items
-objects_of members_of [] = no_items
-objects_of members_of (x ∷ rest) = item (object (members_of x)) (objects_of members_of rest)
-
--- Those of one stand beside the others; several, or none, are a list of objects.
-abbrev pub put_each : {X : Type 0} → List ℕ → (X → Members → Members) → List X → Members → Members
-put_each name put_one [] members = put name (array no_items) members
-put_each name put_one (x ∷ []) members = put_one x members
-put_each name put_one (x ∷ (other ∷ rest)) members = put name (array (objects_of (λ each. put_one each no_members) (x ∷ (other ∷ rest)))) members
 
 -- ---- how deep a header may nest
 

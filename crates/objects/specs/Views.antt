@@ -8,39 +8,39 @@ use Rattle.serde_json.specs.View.{members_view}
 use Rattle.serde_json.specs.declared.value.Value.{Value}
 use Rattle.octets.specs.Base64url.{base64url}
 use Rattle.objects.specs.Headers.{all_members}
-use Rattle.objects.specs.Jwe.{RecipientParts, Recipient, SharedTexts, RecipientTexts, ContentTexts, JweTexts, JweParts, EncryptedObject}
-use Rattle.objects.specs.Jws.{SignatureParts, JwsParts, SignatureTexts, JwsTexts, Signature, DecodedSignature, HeadedSignature, SignedObject}
+use Rattle.objects.specs.Jwe.{RecipientParts, Recipient, EncodedShared, EncodedRecipient, EncodedContent, EncodedJwe, JweParts, EncryptedObject}
+use Rattle.objects.specs.Jws.{SignatureParts, JwsParts, EncodedSignature, EncodedJws, Signature, DecodedSignature, HeadedSignature, SignedObject}
 use Rattle.objects.specs.KeyManagementView.{management_view}
 use Rattle.objects.specs.Texts.{meaning}
 use Rattle.objects.specs.Writing.{Written}
 use Rattle.objects.specs.declared.content.Content.{Content}
 use Rattle.objects.specs.declared.content.Content.TheVariants.{Text, Octets}
-use Rattle.objects.specs.declared.frames.Texts as texts_written
+use Rattle.objects.specs.declared.writer.TextWriter as writer
 use Rattle.objects.specs.declared.header.Header as header
 use Rattle.objects.specs.declared.jwe.Jwe as jwe
-use Rattle.objects.specs.declared.jwe.JweMembers as jwe_members
-use Rattle.objects.specs.declared.jwe.JweParts as jwe_parts
-use Rattle.objects.specs.declared.jwe_texts.ContentTexts as content
-use Rattle.objects.specs.declared.jwe_texts.JweTexts as texts
-use Rattle.objects.specs.declared.jwe_texts.RecipientTexts as recipient_texts
-use Rattle.objects.specs.declared.jwe_texts.SharedTexts as shared
-use Rattle.objects.specs.declared.jws.DecodedSignature as decoded
-use Rattle.objects.specs.declared.jws.HeadedSignature as headed
+use Rattle.objects.specs.declared.jwe.parts.JweMembers as jwe_members
+use Rattle.objects.specs.declared.jwe.parts.JweParts as jwe_parts
+use Rattle.objects.specs.declared.jwe.encoded.EncodedContent as content
+use Rattle.objects.specs.declared.jwe.encoded.EncodedJwe as texts
+use Rattle.objects.specs.declared.jwe.encoded.EncodedRecipient as encoded_recipient
+use Rattle.objects.specs.declared.jwe.encoded.EncodedShared as shared
+use Rattle.objects.specs.declared.jws.parts.DecodedSignature as decoded
+use Rattle.objects.specs.declared.jws.signature.HeadedSignature as headed
 use Rattle.objects.specs.declared.jws.Jws as jws
-use Rattle.objects.specs.declared.jws.JwsParts as jws_parts
-use Rattle.objects.specs.declared.jws.Signature as signature
-use Rattle.objects.specs.declared.jws.SignatureMembers as signature_members
-use Rattle.objects.specs.declared.jws.SignatureParts as signature_parts
-use Rattle.objects.specs.declared.jws_texts.JwsTexts as jws_texts
-use Rattle.objects.specs.declared.jws_texts.SignatureTexts as signature_texts
-use Rattle.objects.specs.declared.payload.HeldContent as held
-use Rattle.objects.specs.declared.payload.HeldContent.TheVariants.{Text as HeldText, Octets as HeldOctets}
-use Rattle.objects.specs.declared.payload.Payload as payload
-use Rattle.objects.specs.declared.payload.Payload.TheVariants.{Text as PayloadText, Octets as PayloadOctets}
-use Rattle.objects.specs.declared.received_text.ReceivedText as received
-use Rattle.objects.specs.declared.recipient.Recipient as recipient
-use Rattle.objects.specs.declared.recipient.RecipientMembers as members
-use Rattle.objects.specs.declared.recipient.RecipientParts as parts
+use Rattle.objects.specs.declared.jws.parts.JwsParts as jws_parts
+use Rattle.objects.specs.declared.jws.signature.Signature as signature
+use Rattle.objects.specs.declared.jws.parts.SignatureMembers as signature_members
+use Rattle.objects.specs.declared.jws.parts.SignatureParts as signature_parts
+use Rattle.objects.specs.declared.jws.encoded.EncodedJws as encoded_jws
+use Rattle.objects.specs.declared.jws.encoded.EncodedSignature as encoded_signature
+use Rattle.objects.specs.declared.content.payload.HeldContent as held
+use Rattle.objects.specs.declared.content.payload.HeldContent.TheVariants.{Text as HeldText, Octets as HeldOctets}
+use Rattle.objects.specs.declared.content.payload.Payload as payload
+use Rattle.objects.specs.declared.content.payload.Payload.TheVariants.{Text as PayloadText, Octets as PayloadOctets}
+use Rattle.objects.specs.declared.content.received_text.ReceivedText as received
+use Rattle.objects.specs.declared.jwe.recipient.Recipient as recipient
+use Rattle.objects.specs.declared.jwe.parts.RecipientMembers as members
+use Rattle.objects.specs.declared.jwe.parts.RecipientParts as parts
 
 -- ---- headers
 
@@ -75,11 +75,11 @@ abbrev pub payload_view : payload.Payload → List ℕ
 payload_view (PayloadText text) = received_view text
 payload_view (PayloadOctets octets) = octets.items
 
-abbrev pub signature_texts_view : signature_texts.SignatureTexts → SignatureTexts
-signature_texts_view t = record { protected = t.protected.now; header = members_view t.header.map.entries; signature = t.signature.now }
+abbrev pub encoded_signature_view : encoded_signature.EncodedSignature → EncodedSignature
+encoded_signature_view t = record { protected = t.protected.now; header = members_view t.header.map.entries; signature = t.signature.now }
 
-abbrev pub jws_texts_view : jws_texts.JwsTexts → JwsTexts
-jws_texts_view t = record { payload = content_text_view t.payload; signatures = map signature_texts_view t.signatures.items }
+abbrev pub encoded_jws_view : encoded_jws.EncodedJws → EncodedJws
+encoded_jws_view t = record { payload = content_text_view t.payload; signatures = map encoded_signature_view t.signatures.items }
 
 abbrev pub signature_parts_view : signature_parts.SignatureParts → SignatureParts
 signature_parts_view p = record { protected = string_bytes p.protected; header = members_view p.header.entries; signature = p.signature.items }
@@ -90,11 +90,11 @@ jws_parts_view p = record { payload = p.payload.items; signatures = map signatur
 abbrev pub signature_members_view : signature_members.SignatureMembers → SignatureParts
 signature_members_view m = record { protected = string_bytes m.protected; header = members_view m.header.map.entries; signature = m.signature.items }
 
-abbrev pub decoded_view : decoded.DecodedSignature → DecodedSignature
-decoded_view d = record { octets = d.octets.items; parts = signature_members_view d.members }
+abbrev pub decoded_signature_view : decoded.DecodedSignature → DecodedSignature
+decoded_signature_view d = record { octets = d.octets.items; parts = signature_members_view d.members }
 
-abbrev pub headed_view : headed.HeadedSignature → HeadedSignature
-headed_view h = record { members = members_view h.protected.entries; parts = signature_members_view h.members }
+abbrev pub headed_signature_view : headed.HeadedSignature → HeadedSignature
+headed_signature_view h = record { members = members_view h.protected.entries; parts = signature_members_view h.members }
 
 abbrev pub signature_view : signature.Signature → Signature
 signature_view s = record {
@@ -125,20 +125,20 @@ recipient_view r = record {
   management = management_view r.named.management;
 }
 
-abbrev pub shared_view : shared.SharedTexts → SharedTexts
-shared_view t = record { protected = t.protected.now; unprotected = members_view t.unprotected.map.entries; aad = t.aad.now }
+abbrev pub encoded_shared_view : shared.EncodedShared → EncodedShared
+encoded_shared_view t = record { protected = t.protected.now; unprotected = members_view t.unprotected.map.entries; aad = t.aad.now }
 
-abbrev pub recipient_texts_view : recipient_texts.RecipientTexts → RecipientTexts
-recipient_texts_view t = record { header = members_view t.header.map.entries; encrypted_key = t.encrypted_key.now }
+abbrev pub encoded_recipient_view : encoded_recipient.EncodedRecipient → EncodedRecipient
+encoded_recipient_view t = record { header = members_view t.header.map.entries; encrypted_key = t.encrypted_key.now }
 
-abbrev pub content_view : content.ContentTexts → ContentTexts
-content_view t = record { iv = t.iv.now; ciphertext = content_text_view t.ciphertext; tag = t.tag.now }
+abbrev pub encoded_content_view : content.EncodedContent → EncodedContent
+encoded_content_view t = record { iv = t.iv.now; ciphertext = content_text_view t.ciphertext; tag = t.tag.now }
 
-abbrev pub texts_view : texts.JweTexts → JweTexts
-texts_view t = record { shared = shared_view t.shared; recipients = map recipient_texts_view t.recipients.items; content = content_view t.content }
+abbrev pub encoded_jwe_view : texts.EncodedJwe → EncodedJwe
+encoded_jwe_view t = record { shared = encoded_shared_view t.shared; recipients = map encoded_recipient_view t.recipients.items; content = encoded_content_view t.content }
 
-abbrev pub parts_view : jwe_parts.JweParts → JweParts
-parts_view p = record {
+abbrev pub jwe_parts_view : jwe_parts.JweParts → JweParts
+jwe_parts_view p = record {
   protected = string_bytes p.protected;
   unprotected = members_view p.unprotected.entries;
   iv = p.iv.items;
@@ -173,5 +173,5 @@ jwe_view j = record {
 
 -- ---- what is written
 
-abbrev pub written_view : texts_written.Texts → Written
-written_view t = record { finished = map string_bytes t.finished.items; text = string_bytes t.text; later = t.later }
+abbrev pub written_view : writer.TextWriter → Written
+written_view t = record { finished = map string_bytes t.finished.items; text = string_bytes t.text; later = t.later; places = t.places }

@@ -1,14 +1,17 @@
 //! The content of an object, which stands in its text or is handed in beside it (RFC 7515 appendix F).
-ghost use Rattle.std.specs.Prelude.{◌≡◌, option_map};
+ghost use Rattle.std.specs.Prelude.{option_map};
 ghost use Rattle.serde_json.specs.View.{view};
 ghost use Rattle.octets.specs.Base64url.{decoded};
 ghost use Rattle.octets.specs.Outcomes.{AgreesUnlessMemory};
 ghost use Rattle.objects.specs.Texts.{AreOctetsHandedIn, content_by, content_text};
 ghost use Rattle.objects.specs.Views.{content_text_view, payload_view};
 
-use crate::payload::Payload;
-use crate::received_text::ReceivedText;
-use crate::texts::{required_text, text_at};
+pub(crate) mod payload;
+pub(crate) mod received_text;
+
+use crate::content::payload::Payload;
+use crate::content::received_text::ReceivedText;
+use crate::json_members::{required_text, text_at};
 use octets::laws::{are_octets, base64url_decodes_exactly};
 use octets::{Refusal, b64_decode, needs};
 use serde_json::Value;

@@ -3,12 +3,14 @@ ghost use Rattle.std.specs.Prelude.{◌≡◌, true, IfOk};
 ghost use Rattle.octets.specs.Outcomes.{AgreesUnlessMemory};
 ghost use Rattle.keys.specs.Algorithms.{management_alg_of};
 ghost use Rattle.keys.specs.Limits.{limits};
-ghost use Rattle.objects.specs.KeyManagement.{key_management, management_by, password_management, gcm_management, is_management_of};
+ghost use Rattle.objects.specs.KeyManagement.{key_management, management_by, management_in, password_management, gcm_management, is_management_of};
 ghost use Rattle.objects.specs.KeyManagementView.{management_view};
 ghost use Rattle.objects.specs.Views.{header_view};
 
+pub(crate) mod named;
+
 use crate::Header;
-use keys::ManagementAlg;
+use keys::{KeyManagementAlg, KeyManagementMode};
 use octets::{Refusal, needs};
 use std::alloc::Global;
 
@@ -47,31 +49,36 @@ pub(crate) fn read_key_management(
     ensures exact { AgreesUnlessMemory management_view result (key_management limits.management alg.now (header_view header.entry)) }
     ensures of_alg { IfOk result (λ management. is_management_of (management_alg_of alg.now) (management_view management) ≡ true) }
 {
-    read_management(alloc, ManagementAlg::named(alg), header)
+    read_management(alloc, KeyManagementAlg::named(alg), header)
 }
 
 /// What a header says by an algorithm.
 fn read_management(
     alloc: Global,
-    alg: Option<ManagementAlg>,
+    alg: Option<KeyManagementAlg>,
     header: Header<'_>,
 ) -> Result<KeyManagement, Refusal>
     ensures { AgreesUnlessMemory management_view result (management_by alg (header_view header.entry)) }
 {
     match alg {
         None => Ok(KeyManagement::Unknown),
-        Some(ManagementAlg::Dir) => Ok(KeyManagement::Direct),
-        Some(ManagementAlg::A128Kw | ManagementAlg::A192Kw | ManagementAlg::A256Kw) => {
-            Ok(KeyManagement::KeyWrap)
-        }
-        Some(
-            ManagementAlg::Pbes2Hs256A128Kw
-            | ManagementAlg::Pbes2Hs384A192Kw
-            | ManagementAlg::Pbes2Hs512A256Kw,
-        ) => read_password(alloc, header),
-        Some(ManagementAlg::A128GcmKw | ManagementAlg::A192GcmKw | ManagementAlg::A256GcmKw) => {
-            read_gcm_key_wrap(alloc, header)
-        }
+        Some(alg) => management_in(alloc, alg.mode(), header),
+    }
+}
+
+/// What a header says where its algorithm delivers so.
+fn management_in(
+    alloc: Global,
+    mode: KeyManagementMode,
+    header: Header<'_>,
+) -> Result<KeyManagement, Refusal>
+    ensures { AgreesUnlessMemory management_view result (management_in mode (header_view header.entry)) }
+{
+    match mode {
+        KeyManagementMode::Direct => Ok(KeyManagement::Direct),
+        KeyManagementMode::KeyWrap => Ok(KeyManagement::KeyWrap),
+        KeyManagementMode::Password => read_password(alloc, header),
+        KeyManagementMode::GcmKeyWrap => read_gcm_key_wrap(alloc, header),
     }
 }
 

@@ -30,6 +30,19 @@ pub fn jws_building_is_reading()
     base64url_has_url_characters();
 }
 
+/// The JSON text of a signed object's members is the compact text of the value that it is read as.
+pub fn jws_json_texts_are_compact()
+    ensures { jws.JsonTextsAreCompact }
+{
+    compact_text_reads_back();
+    deep_texts_are_refused();
+    members_keep_json();
+    url_texts_are_json();
+    base64url_decodes_exactly();
+    base64url_decodes_to_octets();
+    base64url_has_url_characters();
+}
+
 /// The JSON text of a signed object that is made of its members, and its compact text where it has one, are read as this
 /// object.
 pub fn jws_texts_spell_objects()
@@ -67,6 +80,19 @@ pub fn jws_compact_texts_are_exact()
 /// An encrypted object is made of members, or refused, as the JSON text of these is read.
 pub fn jwe_building_is_reading()
     ensures { jwe.BuildingIsReading }
+{
+    compact_text_reads_back();
+    deep_texts_are_refused();
+    members_keep_json();
+    url_texts_are_json();
+    base64url_decodes_exactly();
+    base64url_decodes_to_octets();
+    base64url_has_url_characters();
+}
+
+/// The JSON text of an encrypted object's members is the compact text of the value that it is read as.
+pub fn jwe_json_texts_are_compact()
+    ensures { jwe.JsonTextsAreCompact }
 {
     compact_text_reads_back();
     deep_texts_are_refused();

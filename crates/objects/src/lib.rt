@@ -15,34 +15,26 @@
 //! ```
 #![tactic(auto)]
 
+mod compact;
 mod content;
-mod dots;
-mod frames;
+mod form;
 mod header;
-mod header_members;
+mod json_members;
 mod jwe;
-mod jwe_building;
-mod jwe_texts;
-mod jwe_writing;
 mod jws;
-mod jws_building;
-mod jws_texts;
-mod jws_writing;
 mod key_management;
 pub mod laws;
-mod named_management;
-mod payload;
-mod received_text;
-mod recipient;
-mod recipient_list;
-mod signature_list;
-mod texts;
+mod writer;
 
-pub use header::{Header, header_at, read_protected};
-pub use jwe::{Jwe, JweParts};
-pub use jws::{Jws, JwsParts, Signature, SignatureParts};
+pub use content::payload::HeldContent;
+pub use content::received_text::ReceivedText;
+pub use header::Header;
+pub use header::parts::{header_at, read_protected};
+pub use json_members::text_at;
+pub use jwe::Jwe;
+pub use jwe::parts::{JweParts, RecipientParts};
+pub use jwe::recipient::Recipient;
+pub use jws::Jws;
+pub use jws::parts::{JwsParts, SignatureParts};
+pub use jws::signature::Signature;
 pub use key_management::KeyManagement;
-pub use payload::HeldContent;
-pub use received_text::ReceivedText;
-pub use recipient::{Recipient, RecipientParts};
-pub use texts::text_at;

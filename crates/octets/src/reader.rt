@@ -2,6 +2,7 @@
 ghost use Rattle.std.specs.Prelude.{◌≡◌, ℕ, ◌+◌, ◌*◌, ◌/◌, ◌≤◌, List, [], ◌++◌, length, take, drop, IfOk, OnOk, OnErr, IfErr, Ok, Err};
 ghost use Rattle.octets.specs.Base64url.{decoded, settled, unsettled};
 
+use crate::sizes::PIECE_TEXT;
 use crate::transform::Transform;
 use crate::writer::join;
 use crate::{Refusal, without_line_end};
@@ -87,7 +88,7 @@ impl Transform for B64Reader {
     fn feed<'t>(
         &mut self,
         piece: &'t [u8],
-        space: &'t mut [u8; 5488],
+        space: &'t mut [u8; PIECE_TEXT],
     ) -> Result<&'t [u8], Refusal> {
         let Some(octets) = space.first_chunk_mut::<3072>() else {
             unreachable!()
@@ -96,7 +97,7 @@ impl Transform for B64Reader {
         Ok(&octets[..len])
     }
 
-    fn finish<'t>(self, space: &'t mut [u8; 5488]) -> Result<(&'t [u8], ()), Refusal> {
+    fn finish<'t>(self, space: &'t mut [u8; PIECE_TEXT]) -> Result<(&'t [u8], ()), Refusal> {
         let len = decode_onto(without_line_end(self.waiting()), space)?;
         Ok((&space[..len], ()))
     }

@@ -8,6 +8,7 @@ ghost use Rattle.octets.specs.Outcomes.{GivesUnlessExternal, is_external};
 ghost use Rattle.octets.specs.Plan.{Plan, Grows, beginning_of};
 ghost use Rattle.octets.specs.Pumps.{behind, RefusesFrom};
 
+use crate::sizes::{PIECE, PIECE_TEXT};
 use crate::whole::read_piece;
 use crate::{Input, Output, Refusal, write_whole};
 
@@ -30,7 +31,11 @@ pub trait Transform: Drop {
 
     /// Takes the next piece, of at most 4,096 octets, and gives what it fixes now, which may stand in `space`. Refused where
     /// every content that begins so is.
-    fn feed<'t>(&mut self, piece: &'t [u8], space: &'t mut [u8; 5488]) -> Result<&'t [u8], Refusal>
+    fn feed<'t>(
+        &mut self,
+        piece: &'t [u8],
+        space: &'t mut [u8; PIECE_TEXT],
+    ) -> Result<&'t [u8], Refusal>
         requires { length piece.now ≤ 4096 }
         ensures fed { (job : Job) (p : List ℕ) → is_fed self.old job p → IsOctets (p ++ piece.now)
             → OnOk result (is_fed self.new job (p ++ piece.now)) }
@@ -41,7 +46,7 @@ pub trait Transform: Drop {
         ensures cause { IfErr result (λ e. is_external e ≡ false) };
 
     /// Gives the rest, which may stand in `space`, and what is left. Refused where the content is.
-    fn finish<'t>(self, space: &'t mut [u8; 5488]) -> Result<(&'t [u8], Self::Rest), Refusal>
+    fn finish<'t>(self, space: &'t mut [u8; PIECE_TEXT]) -> Result<(&'t [u8], Self::Rest), Refusal>
         ensures left { (job : Job) (p : List ℕ) → is_fed self job p → IsOctets p
             → IfOk result (λ end. is_left end.1 job p) }
         ensures text { (job : Job) (p : List ℕ) → is_fed self job p → IsOctets p
@@ -84,8 +89,8 @@ pub fn pump<I: Input, T: Transform, O: Output>(
     ensures uncut { IfErr result (λ refusal. refusal ≢ Refusal.Write → O.written out.new ≡ O.written out.old → out.new ≡ out.old) }
     ensures faults { TellsFaults (counts I.failures content.old content.new ∷ []) (counts O.failures out.old out.new ∷ []) result }
 {
-    let mut buf = [0; 4096];
-    let mut space = [0; 5488];
+    let mut buf = [0; PIECE];
+    let mut space = [0; PIECE_TEXT];
     let mut transform = transform;
     let mut front = before;
     'pieces: loop {

@@ -6,11 +6,9 @@ ghost use Rattle.octets.specs.Octets.{IsOctets};
 ghost use Rattle.octets.specs.Outcomes.{IsReadingFailure, IsDrawingFailure};
 
 use crate::laws::are_octets;
+use crate::sizes::PIECE;
 use crate::{Input, Output, Refusal};
 use std::alloc::Global;
-
-/// The most octets that one read of a whole input asks for.
-const LONGEST_READ: usize = 4096;
 
 /// All that the input still gives, up to its end. Refused with `Read` where the input fails, and for
 /// want of memory.
@@ -23,7 +21,7 @@ pub fn read_to_end<I: Input>(alloc: Global, input: &mut I) -> Result<Vec<u8>, Re
     ensures extends { Extends (I.consumed input.old) (I.consumed input.new) }
 {
     let mut octets = Vec::new(alloc);
-    let mut buf = [0u8; LONGEST_READ];
+    let mut buf = [0u8; PIECE];
     'reads: loop {
         let n = input.read(&mut buf)?;
         if n == 0 {
@@ -35,7 +33,7 @@ pub fn read_to_end<I: Input>(alloc: Global, input: &mut I) -> Result<Vec<u8>, Re
 
 /// Reads the next piece of a content into the front of `buf`, and answers its length: 0 only at the end. Refused with `Read`
 /// where the input fails.
-pub(crate) fn read_piece<I: Input>(content: &mut I, buf: &mut [u8; 4096]) -> Result<usize, Refusal>
+pub(crate) fn read_piece<I: Input>(content: &mut I, buf: &mut [u8; PIECE]) -> Result<usize, Refusal>
     requires { IsFinite (I.remaining content.old) }
     ensures within { IfOk result (λ n. n ≤ 4096) }
     ensures piece { IfOk result (λ n. I.consumed content.new ≡ I.consumed content.old ++ take n buf.new) }
@@ -68,10 +66,10 @@ pub fn draw<I: Input>(random: &mut I, out: &mut [u8]) -> Result<(), Refusal>
     ensures at_most { length (appended (I.consumed random.old) (I.consumed random.new)) ≤ length out.old }
     ensures untouched { length out.old ≡ 0 → random.new ≡ random.old }
 {
-    let mut buf = [0u8; LONGEST_READ];
+    let mut buf = [0u8; PIECE];
     let mut filled = 0;
     'draws: while filled < out.len() {
-        let room = (out.len() - filled).min(LONGEST_READ);
+        let room = (out.len() - filled).min(PIECE);
         let n = random.read(&mut buf[..room])?;
         if n == 0 {
             return Err(Refusal::Random);

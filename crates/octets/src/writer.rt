@@ -3,6 +3,7 @@ ghost use Rattle.std.specs.Prelude.{◌≡◌, ℕ, ◌+◌, ◌*◌, ◌/◌, �
 ghost use Rattle.octets.specs.Base64url.{base64url, whole_groups, part_group};
 
 use crate::Refusal;
+use crate::sizes::PIECE_TEXT;
 use crate::transform::Transform;
 use base64::engine::general_purpose::URL_SAFE_NO_PAD as BASE64URL;
 use std::marker::Model;
@@ -38,7 +39,7 @@ impl B64Writer {
 
     /// Takes the next piece, of at most 4,112 octets. Writes the text of the groups that are whole now
     /// to the front of `out`, and answers its length.
-    pub fn feed(&mut self, piece: &[u8], out: &mut [u8; 5488]) -> usize
+    pub fn feed(&mut self, piece: &[u8], out: &mut [u8; PIECE_TEXT]) -> usize
         requires { length piece.now ≤ 4112 }
         ensures within { result ≤ 5488 }
         ensures len { result ≡ (length self.old + length piece.now) / 3 * 4 }
@@ -96,13 +97,13 @@ impl Transform for B64Writer {
     fn feed<'t>(
         &mut self,
         piece: &'t [u8],
-        space: &'t mut [u8; 5488],
+        space: &'t mut [u8; PIECE_TEXT],
     ) -> Result<&'t [u8], Refusal> {
         let len = B64Writer::feed(self, piece, space);
         Ok(&space[..len])
     }
 
-    fn finish<'t>(self, space: &'t mut [u8; 5488]) -> Result<(&'t [u8], ()), Refusal> {
+    fn finish<'t>(self, space: &'t mut [u8; PIECE_TEXT]) -> Result<(&'t [u8], ()), Refusal> {
         let len = encode_onto(self.waiting(), space);
         Ok((&space[..len], ()))
     }

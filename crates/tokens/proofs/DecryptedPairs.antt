@@ -5,37 +5,38 @@ use Rattle.std.proofs.lemmas.Bool.{and_from, or_left, le-leb}
 use Rattle.std.specs.List.{AllByRecursion, list_all, list_any}
 use Rattle.std.specs.Option.{option_or}
 use Rattle.ciphers.specs.Delivery.{key_tag_of}
-use Rattle.keys.specs.declared.algorithm.ManagementAlg.{ManagementAlg}
-use Rattle.keys.specs.declared.algorithm.ManagementAlg.TheVariants.{Dir, A128Kw, A192Kw, A256Kw, Pbes2Hs256A128Kw, Pbes2Hs384A192Kw, Pbes2Hs512A256Kw, A128GcmKw, A192GcmKw, A256GcmKw}
-use Rattle.keys.specs.Algorithms.{is_password_based, management_algs}
+use Rattle.keys.specs.declared.algorithm.KeyManagementAlg.{KeyManagementAlg}
+use Rattle.keys.specs.declared.algorithm.KeyManagementMode.{KeyManagementMode}
+use Rattle.keys.specs.declared.algorithm.KeyManagementMode.TheVariants as mode
+use Rattle.keys.specs.Algorithms.{mode_of, is_password, is_password_based, management_algs}
 use Rattle.keys.specs.Keys.{OctetKey}
 use Rattle.keys.specs.Limits.{Limits}
 use Rattle.objects.specs.Jwe.{EncryptedObject}
 use Rattle.tokens.specs.Algorithms.{Algorithms, key_alg}
-use Rattle.tokens.specs.Choosing.{Receiver, passwords, Encryption}
+use Rattle.tokens.specs.Choosing.{RecipientKey, password_count, EncryptionPlan}
 use Rattle.tokens.specs.Decrypting.{algorithms_of, is_candidate, Pair, pairs_of, all_pairs, has_pairs, iterations_by, iterations_of, all_iterations, pairs_to_try, SealedContent, sealed_content, opened_by, first_opened, decrypted}
-use Rattle.tokens.specs.Delivering.{drawn_for, parameters_with, management_with}
-use Rattle.tokens.proofs.AlgorithmNames.{management_named, encryption_named}
+use Rattle.tokens.specs.Delivering.{delivered_in, drawn_for, parameters_with, management_with}
+use Rattle.tokens.proofs.AlgorithmCases.{management_named, encryption_named}
 use Rattle.tokens.proofs.DeliveredKeys.{with_drawn}
 use Rattle.tokens.proofs.EncryptedHeaders.{made_by}
 
 -- ---- the pairs
 
 -- the algorithms by which a receiver is delivered the content encryption key
-abbrev pub algorithms_by : Encryption → Receiver → Algorithms
+abbrev pub algorithms_by : EncryptionPlan → RecipientKey → Algorithms
 algorithms_by e r = record { management = r.management; encryption = e.encryption }
 
 -- its recipient, with a key
-abbrev pub pair_by : Encryption → List ℕ → OctetKey → Receiver × List ℕ → Pair
+abbrev pub pair_by : EncryptionPlan → List ℕ → OctetKey → RecipientKey × List ℕ → Pair
 pair_by e cek key x = record { recipient = made_by e cek x; algorithms = algorithms_by e x.0; key = key }
 
 -- the recipient names them
-algorithms_are : (e : Encryption) (cek : List ℕ) (x : Receiver × List ℕ) → algorithms_of management_algs (made_by e cek x) ≡ Some (algorithms_by e x.0)
+algorithms_are : (e : EncryptionPlan) (cek : List ℕ) (x : RecipientKey × List ℕ) → algorithms_of management_algs (made_by e cek x) ≡ Some (algorithms_by e x.0)
 unfolding algorithms_of
 algorithms_are e cek x = rw (management_named, encryption_named) refl
 
 -- so the key and the recipient are a pair where the key is a candidate
-pairs_are : (e : Encryption) (cek : List ℕ) (key : OctetKey) (x : Receiver × List ℕ)
+pairs_are : (e : EncryptionPlan) (cek : List ℕ) (key : OctetKey) (x : RecipientKey × List ℕ)
     → pairs_of management_algs (key ∷ []) (made_by e cek x) ≡ (if is_candidate (algorithms_by e x.0) key then pair_by e cek key x ∷ [] else [])
 pairs_are e cek key x = rw algorithms_are (by_test (is_candidate (algorithms_by e x.0) key))
   where
@@ -52,17 +53,14 @@ pub record TakeAtMost (most n : ℕ) (pairs : List Pair) : Type 0 where
   pub all_few : all_iterations pairs ≤ n
 
 -- a password alone takes iterations
-iterations_are : (alg : ManagementAlg) (drawn : List ℕ) (p2c : ℕ) (tag : List ℕ) → iterations_by (management_with alg drawn p2c tag) ≡ (if is_password_based alg then p2c else 0)
-iterations_are Dir drawn p2c tag = refl
-iterations_are A128Kw drawn p2c tag = refl
-iterations_are A192Kw drawn p2c tag = refl
-iterations_are A256Kw drawn p2c tag = refl
-iterations_are Pbes2Hs256A128Kw drawn p2c tag = refl
-iterations_are Pbes2Hs384A192Kw drawn p2c tag = refl
-iterations_are Pbes2Hs512A256Kw drawn p2c tag = refl
-iterations_are A128GcmKw drawn p2c tag = refl
-iterations_are A192GcmKw drawn p2c tag = refl
-iterations_are A256GcmKw drawn p2c tag = refl
+iterations_in : (m : KeyManagementMode) (drawn : List ℕ) (p2c : ℕ) (tag : List ℕ) → iterations_by (delivered_in m drawn p2c tag) ≡ (if is_password m then p2c else 0)
+iterations_in mode.Direct drawn p2c tag = refl
+iterations_in mode.KeyWrap drawn p2c tag = refl
+iterations_in mode.Password drawn p2c tag = refl
+iterations_in mode.GcmKeyWrap drawn p2c tag = refl
+
+iterations_are : (alg : KeyManagementAlg) (drawn : List ℕ) (p2c : ℕ) (tag : List ℕ) → iterations_by (management_with alg drawn p2c tag) ≡ (if is_password_based alg then p2c else 0)
+iterations_are alg drawn p2c tag = iterations_in (mode_of alg) drawn p2c tag
 
 -- one more receiver counts for the iterations of its pair
 one_more : (most : ℕ) (password : Bool) (n p2c : ℕ) → (password ≡ true → p2c ≤ most)
@@ -71,24 +69,24 @@ one_more most true n p2c few = (few refl, omega arith)
 one_more most false n p2c few = (omega arith, omega arith)
 
 -- so the pairs of all recipients take as many for each password
-pub take_at_most : (most : ℕ) (e : Encryption) (cek : List ℕ) (key : OctetKey) (receivers : List Receiver) (drawn : List ℕ)
+pub take_at_most : (most : ℕ) (e : EncryptionPlan) (cek : List ℕ) (key : OctetKey) (receivers : List RecipientKey) (drawn : List ℕ)
     → AllByRecursion (λ r. is_password_based r.management ≡ true → e.p2c ≤ most) receivers
-    → TakeAtMost most (passwords receivers * e.p2c) (all_pairs management_algs (key ∷ []) (map (made_by e cek) (with_drawn receivers drawn)))
+    → TakeAtMost most (password_count receivers * e.p2c) (all_pairs management_algs (key ∷ []) (map (made_by e cek) (with_drawn receivers drawn)))
 take_at_most most e cek key [] drawn few = record { each_few = refl; all_few = omega arith }
 take_at_most most e cek key (r ∷ rest) drawn few =
     rw (pairs_are e cek key (r, take (drawn_for r) drawn))
     (by_test (is_candidate (algorithms_by e r) key) (take_at_most most e cek key rest (drop (drawn_for r) drawn) few.1))
   where
-    by_test : (candidate : Bool) → TakeAtMost most (passwords rest * e.p2c) (all_pairs management_algs (key ∷ []) (map (made_by e cek) (with_drawn rest (drop (drawn_for r) drawn))))
-        → TakeAtMost most (passwords (r ∷ rest) * e.p2c)
+    by_test : (candidate : Bool) → TakeAtMost most (password_count rest * e.p2c) (all_pairs management_algs (key ∷ []) (map (made_by e cek) (with_drawn rest (drop (drawn_for r) drawn))))
+        → TakeAtMost most (password_count (r ∷ rest) * e.p2c)
         ((if candidate then pair_by e cek key (r, take (drawn_for r) drawn) ∷ [] else []) ++ all_pairs management_algs (key ∷ []) (map (made_by e cek) (with_drawn rest (drop (drawn_for r) drawn))))
     by_test true all =
-        let here = one_more most (is_password_based r.management) (passwords rest) e.p2c few.0 in
+        let here = one_more most (is_password_based r.management) (password_count rest) e.p2c few.0 in
         let octets : List ℕ = take (drawn_for r) drawn in
         let takes = iterations_are r.management octets e.p2c (key_tag_of (key_alg r.management) r.key.octets (parameters_with octets e.p2c) cek) in
         record { each_few = and_from _ _ (le-leb _ most (rw takes here.0)) all.each_few; all_few = omega (arith, takes, here.1, all.all_few) }
     by_test false all =
-        let here = one_more most (is_password_based r.management) (passwords rest) e.p2c few.0 in
+        let here = one_more most (is_password_based r.management) (password_count rest) e.p2c few.0 in
         record { each_few = all.each_few; all_few = omega (arith, here.1, all.all_few) }
 
 -- ---- what they open
@@ -113,11 +111,11 @@ opened_later s plaintext (pair ∷ pairs) later only h = by_opened (opened_by s 
     by_opened (Some other) is rest = ap Some (only.0 other is)
 
 -- what a receiver with this key opens, by which it is a candidate
-abbrev pub Opens : Encryption → List ℕ → OctetKey → SealedContent → List ℕ → Receiver × List ℕ → Type 0
+abbrev pub Opens : EncryptionPlan → List ℕ → OctetKey → SealedContent → List ℕ → RecipientKey × List ℕ → Type 0
 Opens e cek key s plaintext x = x.0.key ≡ key → (is_candidate (algorithms_by e x.0) key ≡ true) × (opened_by s (pair_by e cek key x) ≡ Some plaintext)
 
 -- so the first pair that opens gives the plaintext, where the key opens nothing else at the recipient of a key before it
-pub first_opens : (e : Encryption) (cek : List ℕ) (key : OctetKey) (s : SealedContent) (plaintext : List ℕ) (before after : List OctetKey) (xs : List (Receiver × List ℕ))
+pub first_opens : (e : EncryptionPlan) (cek : List ℕ) (key : OctetKey) (s : SealedContent) (plaintext : List ℕ) (before after : List OctetKey) (xs : List (RecipientKey × List ℕ))
     → map (λ x. x.0.key) xs ≡ before ++ key ∷ after → AllByRecursion (Opens e cek key s plaintext) xs
     → AllByRecursion (OpensOnly s plaintext) (all_pairs management_algs (key ∷ []) (take (length before) (map (made_by e cek) xs)))
     → first_opened s (all_pairs management_algs (key ∷ []) (map (made_by e cek) xs)) ≡ Some plaintext
@@ -136,7 +134,7 @@ first_opens e cek key s plaintext (k ∷ before) after (x ∷ rest) keys all onl
 -- ---- what is decrypted
 
 -- a recipient that is made is supported
-pub supported : (e : Encryption) (cek : List ℕ) (xs : List (Receiver × List ℕ)) → 1 ≤ length xs → list_any (λ r. is_some (algorithms_of management_algs r)) (map (made_by e cek) xs) ≡ true
+pub supported : (e : EncryptionPlan) (cek : List ℕ) (xs : List (RecipientKey × List ℕ)) → 1 ≤ length xs → list_any (λ r. is_some (algorithms_of management_algs r)) (map (made_by e cek) xs) ≡ true
 supported e cek [] some = absurd (omega arith)
 supported e cek (x ∷ rest) some =
     or_left (is_some (algorithms_of management_algs (made_by e cek x))) (list_any (λ r. is_some (algorithms_of management_algs r)) (map (made_by e cek) rest)) (ap is_some (algorithms_are e cek x))

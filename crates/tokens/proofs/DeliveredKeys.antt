@@ -10,33 +10,33 @@ use Rattle.octets.proofs.Decoded.{IsOctets-nil, IsOctets-take, IsOctets-drop}
 use Rattle.ciphers.specs.Sealing.{cek_len, iv_len}
 use Rattle.ciphers.specs.declared.key_alg.KeyAlg.TheVariants as variants
 use Rattle.keys.specs.declared.algorithm.Algorithm.TheVariants.{Encryption as EncryptionWith}
-use Rattle.keys.specs.declared.algorithm.EncryptionAlg.{EncryptionAlg}
-use Rattle.keys.specs.declared.algorithm.ManagementAlg.{ManagementAlg}
-use Rattle.keys.specs.declared.algorithm.ManagementAlg.TheVariants.{Dir, A128Kw, A192Kw, A256Kw, Pbes2Hs256A128Kw, Pbes2Hs384A192Kw, Pbes2Hs512A256Kw, A128GcmKw, A192GcmKw, A256GcmKw}
+use Rattle.keys.specs.declared.algorithm.ContentEncryptionAlg.{ContentEncryptionAlg}
+use Rattle.keys.specs.declared.algorithm.KeyManagementAlg.{KeyManagementAlg}
+use Rattle.keys.specs.declared.algorithm.KeyManagementAlg.TheVariants.{Dir}
 use Rattle.keys.specs.Keys.{OctetKey, AreOctetKeys, fits}
 use Rattle.objects.proofs.EachRead.{all_then, all_both}
 use Rattle.tokens.specs.Algorithms.{content_alg, key_alg, parameters_by}
-use Rattle.tokens.specs.Choosing.{Receiver, is_direct, is_alone, stand_together, Encryption}
+use Rattle.tokens.specs.Choosing.{RecipientKey, is_direct, is_alone, direct_key_is_alone, EncryptionPlan}
 use Rattle.tokens.specs.Delivering.{drawn_by, drawn_for, drawn_for_all, parameters_with, management_with, Delivery, delivery_to, deliveries_to}
-use Rattle.tokens.specs.Encrypting.{direct_key, drawn_cek, cek_drawn, octets_drawn, for_receivers, after_receivers, cek_by}
-use Rattle.tokens.proofs.Candidates.{direct_key_fits}
+use Rattle.tokens.specs.Encrypting.{direct_key, drawn_cek, cek_drawn, random_len, for_receivers, after_receivers, cek_by}
+use Rattle.tokens.proofs.AlgorithmCases.{direct_is, direct_alg, encrypted_alike, tag_alike, iv_is_drawn, tag_is_made, direct_key_fits}
 use Rattle.tokens.proofs.SettledEncryptions.{Receives, Settles}
 
 -- ---- the receivers with the octets that are drawn for them
 
 -- these follow one another
-abbrev pub with_drawn : List Receiver → List ℕ → List (Receiver × List ℕ)
+abbrev pub with_drawn : List RecipientKey → List ℕ → List (RecipientKey × List ℕ)
 with_drawn [] drawn = []
 with_drawn (r ∷ rest) drawn = (r, take (drawn_for r) drawn) ∷ with_drawn rest (drop (drawn_for r) drawn)
 
 -- a receiver that is so, with just as many octets as are drawn for it
-pub record IsDrawn (P : Receiver → Type 0) (x : Receiver × List ℕ) : Type 0 where
+pub record IsDrawn (P : RecipientKey → Type 0) (x : RecipientKey × List ℕ) : Type 0 where
   pub holds : P x.0
   pub octets : IsOctets x.1
   pub long : length x.1 ≡ drawn_for x.0
 
 -- where each receiver is so, each has its octets
-pub all_drawn : (P : Receiver → Type 0) (receivers : List Receiver) (drawn : List ℕ) → AllByRecursion P receivers → IsOctets drawn → length drawn ≡ drawn_for_all receivers
+pub all_drawn : (P : RecipientKey → Type 0) (receivers : List RecipientKey) (drawn : List ℕ) → AllByRecursion P receivers → IsOctets drawn → length drawn ≡ drawn_for_all receivers
     → AllByRecursion (IsDrawn P) (with_drawn receivers drawn)
 all_drawn P [] drawn all octets long = tt
 all_drawn P (r ∷ rest) drawn all octets long =
@@ -48,42 +48,29 @@ all_drawn P (r ∷ rest) drawn all octets long =
     )
 
 -- and there are as many
-pub as_many_drawn : (receivers : List Receiver) (drawn : List ℕ) → length (with_drawn receivers drawn) ≡ length receivers
+pub as_many_drawn : (receivers : List RecipientKey) (drawn : List ℕ) → length (with_drawn receivers drawn) ≡ length receivers
 as_many_drawn [] drawn = refl
 as_many_drawn (r ∷ rest) drawn = ap suc (as_many_drawn rest (drop (drawn_for r) drawn))
 
 -- the delivery to a receiver
-abbrev pub delivery : Encryption → List ℕ → Receiver × List ℕ → Delivery
+abbrev pub delivery : EncryptionPlan → List ℕ → RecipientKey × List ℕ → Delivery
 delivery e cek x = delivery_to e cek x.0 x.1
 
 -- the deliveries are those to the receivers with their octets
-pub deliveries_are : (e : Encryption) (cek : List ℕ) (receivers : List Receiver) (drawn : List ℕ) → deliveries_to e cek receivers drawn ≡ map (delivery e cek) (with_drawn receivers drawn)
+pub deliveries_are : (e : EncryptionPlan) (cek : List ℕ) (receivers : List RecipientKey) (drawn : List ℕ) → deliveries_to e cek receivers drawn ≡ map (delivery e cek) (with_drawn receivers drawn)
 deliveries_are e cek [] drawn = refl
 deliveries_are e cek (r ∷ rest) drawn = ap (λ others. delivery_to e cek r (take (drawn_for r) drawn) ∷ others) (deliveries_are e cek rest (drop (drawn_for r) drawn))
 
 -- ---- what is chosen or drawn
 
 -- It has its length, and is the key that is used directly, where one is.
-pub record IsCek (enc : EncryptionAlg) (receivers : List Receiver) (cek : List ℕ) : Type 0 where
+pub record IsCek (enc : ContentEncryptionAlg) (receivers : List RecipientKey) (cek : List ℕ) : Type 0 where
   pub octets : IsOctets cek
   pub fits : length cek ≡ cek_len (content_alg enc)
   pub direct : AllByRecursion (λ r. is_direct r.management ≡ true → cek ≡ r.key.octets) receivers
 
--- an algorithm that uses the key directly
-direct_is : (alg : ManagementAlg) → is_direct alg ≡ true → alg ≡ Dir
-direct_is Dir h = refl
-direct_is A128Kw h = cc h
-direct_is A192Kw h = cc h
-direct_is A256Kw h = cc h
-direct_is Pbes2Hs256A128Kw h = cc h
-direct_is Pbes2Hs384A192Kw h = cc h
-direct_is Pbes2Hs512A256Kw h = cc h
-direct_is A128GcmKw h = cc h
-direct_is A192GcmKw h = cc h
-direct_is A256GcmKw h = cc h
-
 -- so it is for one receiver
-cek_of_one : (enc : EncryptionAlg) (r : Receiver) (drawn : List ℕ) (direct : Bool) → is_direct r.management ≡ direct → fits r.key (EncryptionWith r.management enc) ≡ true
+cek_of_one : (enc : ContentEncryptionAlg) (r : RecipientKey) (drawn : List ℕ) (direct : Bool) → is_direct r.management ≡ direct → fits r.key (EncryptionWith r.management enc) ≡ true
     → IsOctets r.key.octets → IsOctets drawn → length drawn ≡ drawn_cek (if direct then Some r.key.octets else None) (cek_len (content_alg enc))
     → IsCek enc (r ∷ []) (unwrap_or (if direct then Some r.key.octets else None) drawn)
 cek_of_one enc r drawn true is fit octets random long = record {
@@ -94,18 +81,18 @@ cek_of_one enc r drawn true is fit octets random long = record {
 cek_of_one enc r drawn false is fit octets random long = record { octets = random; fits = long; direct = (λ e. cc (is, e), tt) }
 
 -- several receivers use no key directly
-none_direct : (receivers : List Receiver) → list_any (λ r. is_direct r.management) receivers ≡ false → AllByRecursion (λ r. is_direct r.management ≡ false) receivers
+none_direct : (receivers : List RecipientKey) → list_any (λ r. is_direct r.management) receivers ≡ false → AllByRecursion (λ r. is_direct r.management ≡ false) receivers
 none_direct [] h = tt
 none_direct (r ∷ rest) h = let both = or_parts (is_direct r.management) (list_any (λ r. is_direct r.management) rest) h in (both.0, none_direct rest both.1)
 
 -- so the key, or what is drawn, is the content encryption key
-pub cek_is : (enc : EncryptionAlg) (receivers : List Receiver) (drawn : List ℕ) → stand_together receivers ≡ true → 1 ≤ length receivers
+pub cek_is : (enc : ContentEncryptionAlg) (receivers : List RecipientKey) (drawn : List ℕ) → direct_key_is_alone receivers ≡ true → 1 ≤ length receivers
     → AllByRecursion (λ r. fits r.key (EncryptionWith r.management enc) ≡ true) receivers → AllByRecursion (λ r. IsOctets r.key.octets) receivers → IsOctets drawn
     → length drawn ≡ drawn_cek (direct_key receivers) (cek_len (content_alg enc)) → IsCek enc receivers (unwrap_or (direct_key receivers) drawn)
 cek_is enc [] drawn together some fit octets random long = absurd (omega arith)
 cek_is enc (r ∷ []) drawn together some fit octets random long = cek_of_one enc r drawn (is_direct r.management) refl fit.0 octets.0 random long
 cek_is enc (r ∷ (other ∷ rest)) drawn together some fit octets random long =
-    let all : List Receiver = r ∷ (other ∷ rest) in
+    let all : List RecipientKey = r ∷ (other ∷ rest) in
     let several : is_alone all ≡ false = lt-leb (suc (suc (length rest))) 1 (omega arith) in
     let wrap : not (list_any (λ r. is_direct r.management) all) ≡ true = subst (λ alone. (alone || not (list_any (λ r. is_direct r.management) all)) ≡ true) several together in
     let none = none_direct all (not-true _ wrap) in
@@ -118,84 +105,14 @@ cek_is enc (r ∷ (other ∷ rest)) drawn together some fit octets random long =
 
 -- ---- how it is delivered
 
--- a cipher that uses the key directly is that of such an algorithm
-direct_alg : (alg : ManagementAlg) → key_alg alg ≡ variants.Dir → is_direct alg ≡ true
-direct_alg Dir h = refl
-direct_alg A128Kw h = cc h
-direct_alg A192Kw h = cc h
-direct_alg A256Kw h = cc h
-direct_alg Pbes2Hs256A128Kw h = cc h
-direct_alg Pbes2Hs384A192Kw h = cc h
-direct_alg Pbes2Hs512A256Kw h = cc h
-direct_alg A128GcmKw h = cc h
-direct_alg A192GcmKw h = cc h
-direct_alg A256GcmKw h = cc h
-
--- the parameters that an algorithm does not read do not matter to the encrypted key, ..
-encrypted_alike : (alg : ManagementAlg) (key drawn : List ℕ) (p2c : ℕ) (tag cek : List ℕ)
-    → encrypted_key_of (key_alg alg) key (parameters_by (management_with alg drawn p2c tag)) cek ≡ encrypted_key_of (key_alg alg) key (parameters_with drawn p2c) cek
-unfolding encrypted_key_of
-encrypted_alike Dir key drawn p2c tag cek = refl
-encrypted_alike A128Kw key drawn p2c tag cek = refl
-encrypted_alike A192Kw key drawn p2c tag cek = refl
-encrypted_alike A256Kw key drawn p2c tag cek = refl
-encrypted_alike Pbes2Hs256A128Kw key drawn p2c tag cek = refl
-encrypted_alike Pbes2Hs384A192Kw key drawn p2c tag cek = refl
-encrypted_alike Pbes2Hs512A256Kw key drawn p2c tag cek = refl
-encrypted_alike A128GcmKw key drawn p2c tag cek = refl
-encrypted_alike A192GcmKw key drawn p2c tag cek = refl
-encrypted_alike A256GcmKw key drawn p2c tag cek = refl
-
--- .. nor to the tag
-pub tag_alike : (alg : ManagementAlg) (key drawn : List ℕ) (p2c : ℕ) (tag cek : List ℕ)
-    → key_tag_of (key_alg alg) key (parameters_by (management_with alg drawn p2c tag)) cek ≡ key_tag_of (key_alg alg) key (parameters_with drawn p2c) cek
-unfolding key_tag_of
-tag_alike Dir key drawn p2c tag cek = refl
-tag_alike A128Kw key drawn p2c tag cek = refl
-tag_alike A192Kw key drawn p2c tag cek = refl
-tag_alike A256Kw key drawn p2c tag cek = refl
-tag_alike Pbes2Hs256A128Kw key drawn p2c tag cek = refl
-tag_alike Pbes2Hs384A192Kw key drawn p2c tag cek = refl
-tag_alike Pbes2Hs512A256Kw key drawn p2c tag cek = refl
-tag_alike A128GcmKw key drawn p2c tag cek = refl
-tag_alike A192GcmKw key drawn p2c tag cek = refl
-tag_alike A256GcmKw key drawn p2c tag cek = refl
-
--- an initialization vector that is read is the one that was drawn
-iv_is_drawn : (alg : ManagementAlg) (drawn : List ℕ) (p2c : ℕ) (tag : List ℕ) → IsOctets drawn → length drawn ≡ drawn_by alg
-    → (let iv : List ℕ = (parameters_by (management_with alg drawn p2c tag)).iv in IsOctets iv × IsIvOf (key_alg alg) iv)
-iv_is_drawn Dir drawn p2c tag octets long = (IsOctets-nil, tt)
-iv_is_drawn A128Kw drawn p2c tag octets long = (IsOctets-nil, tt)
-iv_is_drawn A192Kw drawn p2c tag octets long = (IsOctets-nil, tt)
-iv_is_drawn A256Kw drawn p2c tag octets long = (IsOctets-nil, tt)
-iv_is_drawn Pbes2Hs256A128Kw drawn p2c tag octets long = (IsOctets-nil, tt)
-iv_is_drawn Pbes2Hs384A192Kw drawn p2c tag octets long = (IsOctets-nil, tt)
-iv_is_drawn Pbes2Hs512A256Kw drawn p2c tag octets long = (IsOctets-nil, tt)
-iv_is_drawn A128GcmKw drawn p2c tag octets long = (octets, long)
-iv_is_drawn A192GcmKw drawn p2c tag octets long = (octets, long)
-iv_is_drawn A256GcmKw drawn p2c tag octets long = (octets, long)
-
--- a tag that is read is the one that was made
-tag_is_made : (alg : ManagementAlg) (made tag drawn : List ℕ) (p2c : ℕ) → made ≡ tag → IsTagOf (key_alg alg) made (parameters_by (management_with alg drawn p2c tag)).tag
-tag_is_made Dir made tag drawn p2c same = tt
-tag_is_made A128Kw made tag drawn p2c same = tt
-tag_is_made A192Kw made tag drawn p2c same = tt
-tag_is_made A256Kw made tag drawn p2c same = tt
-tag_is_made Pbes2Hs256A128Kw made tag drawn p2c same = tt
-tag_is_made Pbes2Hs384A192Kw made tag drawn p2c same = tt
-tag_is_made Pbes2Hs512A256Kw made tag drawn p2c same = tt
-tag_is_made A128GcmKw made tag drawn p2c same = same
-tag_is_made A192GcmKw made tag drawn p2c same = same
-tag_is_made A256GcmKw made tag drawn p2c same = same
-
 -- The receiver is delivered the content encryption key, by a key of octets and an initialization vector of octets.
-pub record Delivers (e : Encryption) (cek : List ℕ) (x : Receiver × List ℕ) : Type 0 where
+pub record Delivers (e : EncryptionPlan) (cek : List ℕ) (x : RecipientKey × List ℕ) : Type 0 where
   pub key : IsOctets x.0.key.octets
   pub iv : IsOctets (parameters_by (delivery e cek x).management).iv
   pub delivers : IsDelivered (key_alg x.0.management) (content_alg e.encryption) x.0.key.octets (parameters_by (delivery e cek x).management) (delivery e cek x).encrypted_key cek
 
 -- so it is where it is the content encryption key of the receivers
-delivered_to : (e : Encryption) (cek : List ℕ) (x : Receiver × List ℕ) → IsOctets cek → length cek ≡ cek_len (content_alg e.encryption) → IsOctets x.0.key.octets
+delivered_to : (e : EncryptionPlan) (cek : List ℕ) (x : RecipientKey × List ℕ) → IsOctets cek → length cek ≡ cek_len (content_alg e.encryption) → IsOctets x.0.key.octets
     → (is_direct x.0.management ≡ true → cek ≡ x.0.key.octets) → IsOctets x.1 → length x.1 ≡ drawn_for x.0 → Delivers e cek x
 delivered_to e cek x octets fits key direct drawn long =
     let alg = x.0.management in
@@ -217,19 +134,19 @@ delivered_to e cek x octets fits key direct drawn long =
 -- ---- by the octets that are drawn
 
 -- where the keys are octets, so are those of the receivers
-octet_keys : (receivers : List Receiver) (keys : List OctetKey) → map (λ r. r.key) receivers ≡ keys → AreOctetKeys keys → AllByRecursion (λ r. IsOctets r.key.octets) receivers
+octet_keys : (receivers : List RecipientKey) (keys : List OctetKey) → map (λ r. r.key) receivers ≡ keys → AreOctetKeys keys → AllByRecursion (λ r. IsOctets r.key.octets) receivers
 octet_keys receivers keys same octets = of_images receivers (subst AreOctetKeys (sym same) octets)
   where
-    of_images : (receivers : List Receiver) → AreOctetKeys (map (λ r. r.key) receivers) → AllByRecursion (λ r. IsOctets r.key.octets) receivers
+    of_images : (receivers : List RecipientKey) → AreOctetKeys (map (λ r. r.key) receivers) → AllByRecursion (λ r. IsOctets r.key.octets) receivers
     of_images [] all = tt
     of_images (r ∷ rest) all = (all.0, of_images rest all.1)
 
 -- the octets after those of the receivers
-pub after_long : (e : Encryption) (random : List ℕ) → length random ≡ octets_drawn e → length (after_receivers e random) ≡ cek_drawn e + iv_len (content_alg e.encryption)
+pub after_long : (e : EncryptionPlan) (random : List ℕ) → length random ≡ random_len e → length (after_receivers e random) ≡ cek_drawn e + iv_len (content_alg e.encryption)
 after_long e random long = length-drop (drawn_for_all e.receivers) random ∙ omega (arith, long)
 
 -- the content encryption key of the receivers
-pub cek_by_is : (keys : List OctetKey) (e : Encryption) (random : List ℕ) → Settles keys e → AreOctetKeys keys → IsOctets random → length random ≡ octets_drawn e
+pub cek_by_is : (keys : List OctetKey) (e : EncryptionPlan) (random : List ℕ) → Settles keys e → AreOctetKeys keys → IsOctets random → length random ≡ random_len e
     → IsCek e.encryption e.receivers (cek_by e random)
 cek_by_is keys e random by key_octets octets long =
     let later : List ℕ = after_receivers e random in
@@ -238,23 +155,23 @@ cek_by_is keys e random by key_octets octets long =
     (length-take-le (cek_drawn e) later (omega (arith, after_long e random long)))
 
 -- the receivers with the octets that are drawn
-abbrev pub drawn_by_each : Encryption → List ℕ → List (Receiver × List ℕ)
+abbrev pub drawn_by_each : EncryptionPlan → List ℕ → List (RecipientKey × List ℕ)
 drawn_by_each e random = with_drawn e.receivers (for_receivers e random)
 
 -- each has its octets, ..
-pub each_drawn : (P : Receiver → Type 0) (e : Encryption) (random : List ℕ) → AllByRecursion P e.receivers → IsOctets random → length random ≡ octets_drawn e
+pub each_drawn : (P : RecipientKey → Type 0) (e : EncryptionPlan) (random : List ℕ) → AllByRecursion P e.receivers → IsOctets random → length random ≡ random_len e
     → AllByRecursion (IsDrawn P) (drawn_by_each e random)
 each_drawn P e random all octets long =
     let n : ℕ = drawn_for_all e.receivers in
     all_drawn P e.receivers (for_receivers e random) all (IsOctets-take n random octets) (length-take-le n random (omega (arith, long)))
 
 -- .. and is delivered the content encryption key
-pub each_delivered : (keys : List OctetKey) (e : Encryption) (random : List ℕ) → Settles keys e → AreOctetKeys keys → IsOctets random → length random ≡ octets_drawn e
+pub each_delivered : (keys : List OctetKey) (e : EncryptionPlan) (random : List ℕ) → Settles keys e → AreOctetKeys keys → IsOctets random → length random ≡ random_len e
     → AllByRecursion (Delivers e (cek_by e random)) (drawn_by_each e random)
 each_delivered keys e random by key_octets octets long =
     let cek : List ℕ = cek_by e random in
     let is : IsCek e.encryption e.receivers cek = cek_by_is keys e random by key_octets octets long in
-    let P : Receiver → Type 0 = λ r. IsOctets r.key.octets × (is_direct r.management ≡ true → cek ≡ r.key.octets) in
+    let P : RecipientKey → Type 0 = λ r. IsOctets r.key.octets × (is_direct r.management ≡ true → cek ≡ r.key.octets) in
     let each_key : AllByRecursion P e.receivers = all_both (λ r key direct. (key, direct)) e.receivers (octet_keys e.receivers keys by.keys_are key_octets) is.direct in
     all_then (IsDrawn P) (Delivers e cek) (λ x d. delivered_to e cek x is.octets is.fits d.holds.0 d.holds.1 d.octets d.long) (drawn_by_each e random)
     (each_drawn P e random each_key octets long)

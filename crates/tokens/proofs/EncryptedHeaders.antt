@@ -17,10 +17,11 @@ use Rattle.objects.specs.Texts.{each}
 use Rattle.objects.proofs.EachRead.{all_then, all_both}
 use Rattle.objects.proofs.Members.{Entries}
 use Rattle.tokens.specs.Algorithms.{content_alg, key_alg, parameters_by}
-use Rattle.tokens.specs.Choosing.{Receiver, is_alone, Encryption}
+use Rattle.tokens.specs.Choosing.{RecipientKey, is_alone, EncryptionPlan}
 use Rattle.tokens.specs.Delivering.{drawn_for, parameters_with, Delivery, deliveries_to}
-use Rattle.tokens.specs.Encrypting.{octets_drawn, for_receivers, cek_by, with_parameters, protected_header, own_header, header_of, recipient_by, recipients_by}
-use Rattle.tokens.proofs.DeliveredKeys.{with_drawn, IsDrawn, delivery, deliveries_are, tag_alike, Delivers, drawn_by_each, each_drawn, each_delivered}
+use Rattle.tokens.specs.Encrypting.{random_len, for_receivers, cek_by, with_parameters, protected_header, per_recipient_header, header_of, recipient_by, recipients_by}
+use Rattle.tokens.proofs.AlgorithmCases.{tag_alike}
+use Rattle.tokens.proofs.DeliveredKeys.{with_drawn, IsDrawn, delivery, deliveries_are, Delivers, drawn_by_each, each_drawn, each_delivered}
 use Rattle.tokens.proofs.HeaderTexts.{ReadsBack, read_back}
 use Rattle.tokens.proofs.JointHeaders.{AreFree, IsJoint, into_protected, into_own, IsHeader, empty_header}
 use Rattle.tokens.proofs.JointParameters.{parameters_of, with_parameters_is, awaits_management, free_names, AreParameters, are_parameters, header_with, recipient, recipient_is_read}
@@ -36,19 +37,19 @@ pub record OctetLaws : Type 0 where
 -- ---- the parameters
 
 -- those of the delivery to a receiver
-abbrev pub parameters_for : Encryption → List ℕ → Receiver × List ℕ → Entries
+abbrev pub parameters_for : EncryptionPlan → List ℕ → RecipientKey × List ℕ → Entries
 parameters_for e cek x = parameters_of e.given (delivery e cek x)
 
 -- A receiver is delivered the content encryption key with the octets that are drawn for it, and the encrypted key and the parameters are
 -- octets.
-pub record IsReady (e : Encryption) (cek : List ℕ) (x : Receiver × List ℕ) : Type 0 where
+pub record IsReady (e : EncryptionPlan) (cek : List ℕ) (x : RecipientKey × List ℕ) : Type 0 where
   pub receives : Receives e x.0
   pub delivers : Delivers e cek x
   pub parameters : AreParameters (delivery e cek x).management
   pub encrypted : IsOctets (delivery e cek x).encrypted_key
 
 -- so it is where the laws of ciphers hold
-ready : OctetLaws → (e : Encryption) (cek : List ℕ) (x : Receiver × List ℕ) → IsDrawn (Receives e) x → Delivers e cek x → IsReady e cek x
+ready : OctetLaws → (e : EncryptionPlan) (cek : List ℕ) (x : RecipientKey × List ℕ) → IsDrawn (Receives e) x → Delivers e cek x → IsReady e cek x
 ready laws e cek x drawn delivers =
     let alg = x.0.management in
     let tag : List ℕ = key_tag_of (key_alg alg) x.0.key.octets (parameters_with x.1 e.p2c) cek in
@@ -65,18 +66,18 @@ ready laws e cek x drawn delivers =
 -- ---- the headers
 
 -- The header of the recipient may be written, and with it the joint header has the parameters.
-pub record IsHeaded (e : Encryption) (cek : List ℕ) (header own : Members) (x : Receiver × List ℕ) : Type 0 where
+pub record IsHeaded (e : EncryptionPlan) (cek : List ℕ) (header own : Members) (x : RecipientKey × List ℕ) : Type 0 where
   pub joint : IsJoint header e.unprotected own (parameters_for e cek x) (joint_of e)
   pub written : IsHeader own
 
 -- the names of the parameters are free
-free : (e : Encryption) (cek : List ℕ) (x : Receiver × List ℕ) → IsReady e cek x → AreFree (joint_of e) (parameters_for e cek x)
+free : (e : EncryptionPlan) (cek : List ℕ) (x : RecipientKey × List ℕ) → IsReady e cek x → AreFree (joint_of e) (parameters_for e cek x)
 free e cek x is =
     let awaits = is.receives.awaits in
     free_names e.given.alg e.given.p2c _ (delivery e cek x).management (joint_of e) awaits.alg_there (awaits_management e.given.alg e.given.p2c x.0.management x.1 e.p2c _ (joint_of e) awaits)
 
 -- the protected header has those of one receiver, ..
-headed_one : (e : Encryption) (cek : List ℕ) (x : Receiver × List ℕ) → IsReady e cek x → are_disjoint e.protected e.unprotected no_members ≡ true
+headed_one : (e : EncryptionPlan) (cek : List ℕ) (x : RecipientKey × List ℕ) → IsReady e cek x → are_disjoint e.protected e.unprotected no_members ≡ true
     → IsHeaded e cek (with_parameters e.given (delivery e cek x) e.protected) no_members x
 headed_one e cek x is disjoint = record {
   joint = rw with_parameters_is (into_protected e.protected e.unprotected (parameters_for e cek x) disjoint (free e cek x is));
@@ -84,7 +85,7 @@ headed_one e cek x is disjoint = record {
 }
 
 -- .. and the header of a recipient those of one among several
-headed_among : (e : Encryption) (cek : List ℕ) (x : Receiver × List ℕ) → are_disjoint e.protected e.unprotected no_members ≡ true → IsReady e cek x
+headed_among : (e : EncryptionPlan) (cek : List ℕ) (x : RecipientKey × List ℕ) → are_disjoint e.protected e.unprotected no_members ≡ true → IsReady e cek x
     → IsHeaded e cek e.protected (with_parameters e.given (delivery e cek x) no_members) x
 headed_among e cek x disjoint is = record {
   joint = rw with_parameters_is (into_own e.protected e.unprotected (parameters_for e cek x) disjoint (free e cek x is));
@@ -92,36 +93,36 @@ headed_among e cek x disjoint is = record {
 }
 
 -- so the headers of receivers may be written, and the joint headers have their parameters
-headed : (e : Encryption) (cek : List ℕ) (receivers : List Receiver) (drawn : List ℕ) → IsHeader e.protected → are_disjoint e.protected e.unprotected no_members ≡ true → 1 ≤ length receivers
+headed : (e : EncryptionPlan) (cek : List ℕ) (receivers : List RecipientKey) (drawn : List ℕ) → IsHeader e.protected → are_disjoint e.protected e.unprotected no_members ≡ true → 1 ≤ length receivers
     → AllByRecursion (IsReady e cek) (with_drawn receivers drawn)
     → (let header = protected_header e.given (deliveries_to e cek receivers drawn) e.protected in
-    IsHeader header × AllByRecursion (λ x. IsHeaded e cek header (own_header e.given (is_alone receivers) (delivery e cek x)) x) (with_drawn receivers drawn))
+    IsHeader header × AllByRecursion (λ x. IsHeaded e cek header (per_recipient_header e.given (is_alone receivers) (delivery e cek x)) x) (with_drawn receivers drawn))
 headed e cek [] drawn may disjoint some all = absurd (omega arith)
 headed e cek (r ∷ []) drawn may disjoint some all =
-    let x : Receiver × List ℕ = (r, take (drawn_for r) drawn) in
+    let x : RecipientKey × List ℕ = (r, take (drawn_for r) drawn) in
     (header_with e.given (delivery e cek x) e.protected may all.0.parameters, (headed_one e cek x all.0 disjoint, tt))
 headed e cek (r ∷ (other ∷ rest)) drawn may disjoint some all =
     let several : is_alone (r ∷ (other ∷ rest)) ≡ false = lt-leb (suc (suc (length rest))) 1 (omega arith) in
-    let xs : List (Receiver × List ℕ) = with_drawn (r ∷ (other ∷ rest)) drawn in
-    let each_headed : AllByRecursion (λ x. IsHeaded e cek e.protected (own_header e.given false (delivery e cek x)) x) xs =
+    let xs : List (RecipientKey × List ℕ) = with_drawn (r ∷ (other ∷ rest)) drawn in
+    let each_headed : AllByRecursion (λ x. IsHeaded e cek e.protected (per_recipient_header e.given false (delivery e cek x)) x) xs =
     all_then (IsReady e cek) _ (λ x is. headed_among e cek x disjoint is) xs all in
-    (may, subst (λ alone. AllByRecursion (λ x. IsHeaded e cek e.protected (own_header e.given alone (delivery e cek x)) x) xs) (sym several) each_headed)
+    (may, subst (λ alone. AllByRecursion (λ x. IsHeaded e cek e.protected (per_recipient_header e.given alone (delivery e cek x)) x) xs) (sym several) each_headed)
 
 -- ---- what is written by random octets
 
 -- each receiver is delivered the content encryption key, and has its headers
-pub record IsWritten (e : Encryption) (random : List ℕ) (x : Receiver × List ℕ) : Type 0 where
+pub record IsWritten (e : EncryptionPlan) (random : List ℕ) (x : RecipientKey × List ℕ) : Type 0 where
   pub ready : IsReady e (cek_by e random) x
-  pub headed : IsHeaded e (cek_by e random) (header_of e random) (own_header e.given (is_alone e.receivers) (delivery e (cek_by e random) x)) x
+  pub headed : IsHeaded e (cek_by e random) (header_of e random) (per_recipient_header e.given (is_alone e.receivers) (delivery e (cek_by e random) x)) x
 
 -- the protected header may be written, and reads back
-pub record Writes (e : Encryption) (random : List ℕ) : Type 0 where
+pub record Writes (e : EncryptionPlan) (random : List ℕ) : Type 0 where
   pub header : IsHeader (header_of e random)
   pub back : ReadsBack (header_of e random)
   pub each_written : AllByRecursion (IsWritten e random) (drawn_by_each e random)
 
 -- so what is settled is written, by just as many random octets as are drawn
-pub writes : OctetLaws → (keys : List OctetKey) (e : Encryption) (random : List ℕ) → Settles keys e → AreOctetKeys keys → IsOctets random → length random ≡ octets_drawn e → Writes e random
+pub writes : OctetLaws → (keys : List OctetKey) (e : EncryptionPlan) (random : List ℕ) → Settles keys e → AreOctetKeys keys → IsOctets random → length random ≡ random_len e → Writes e random
 writes laws keys e random by key_octets octets long =
     let cek : List ℕ = cek_by e random in
     let all : AllByRecursion (IsReady e cek) (drawn_by_each e random) =
@@ -137,28 +138,28 @@ writes laws keys e random by key_octets octets long =
 -- ---- the recipients
 
 -- what is given of a recipient
-abbrev pub given_by : Encryption → List ℕ → Receiver × List ℕ → RecipientParts
+abbrev pub given_by : EncryptionPlan → List ℕ → RecipientKey × List ℕ → RecipientParts
 given_by e cek x = recipient_by e.given (is_alone e.receivers) (delivery e cek x)
 
 -- the recipient that is made of it
-abbrev pub made_by : Encryption → List ℕ → Receiver × List ℕ → Recipient
-made_by e cek x = recipient (own_header e.given (is_alone e.receivers) (delivery e cek x)) (delivery e cek x) e.encryption
+abbrev pub made_by : EncryptionPlan → List ℕ → RecipientKey × List ℕ → Recipient
+made_by e cek x = recipient (per_recipient_header e.given (is_alone e.receivers) (delivery e cek x)) (delivery e cek x) e.encryption
 
 -- the recipients are given by the receivers with their octets
-pub recipients_are : (e : Encryption) (random : List ℕ) → recipients_by e random ≡ map (given_by e (cek_by e random)) (drawn_by_each e random)
+pub recipients_are : (e : EncryptionPlan) (random : List ℕ) → recipients_by e random ≡ map (given_by e (cek_by e random)) (drawn_by_each e random)
 recipients_are e random =
     let cek : List ℕ = cek_by e random in
     let by : Delivery → RecipientParts = recipient_by e.given (is_alone e.receivers) in
     ap (map by) (deliveries_are e cek e.receivers (for_receivers e random)) ∙ map-map by (delivery e cek) (drawn_by_each e random)
 
 -- so they are read
-pub recipients_are_read : (keys : List OctetKey) (e : Encryption) (random : List ℕ) → Settles keys e → Writes e random
+pub recipients_are_read : (keys : List OctetKey) (e : EncryptionPlan) (random : List ℕ) → Settles keys e → Writes e random
     → each (recipient_of management_algs (header_of e random) e.unprotected) (map (given_by e (cek_by e random)) (drawn_by_each e random))
     ≡ Ok (map (made_by e (cek_by e random)) (drawn_by_each e random))
 recipients_are_read keys e random by is =
     let cek : List ℕ = cek_by e random in
     each_made {P = IsWritten e random} (recipient_of management_algs (header_of e random) e.unprotected) (given_by e cek) (made_by e cek)
     (λ x written.
-    recipient_is_read e.given x.0.management x.1 e.p2c _ _ e.encryption (header_of e random) e.unprotected (own_header e.given (is_alone e.receivers) (delivery e cek x)) (joint_of e)
+    recipient_is_read e.given x.0.management x.1 e.p2c _ _ e.encryption (header_of e random) e.unprotected (per_recipient_header e.given (is_alone e.receivers) (delivery e cek x)) (joint_of e)
     written.headed.joint written.ready.receives.awaits by.enc written.ready.parameters)
     (drawn_by_each e random) is.each_written

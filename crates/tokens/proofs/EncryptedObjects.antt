@@ -22,19 +22,19 @@ use Rattle.keys.specs.Algorithms.{encryption_name, management_algs}
 use Rattle.keys.specs.Json.{member_numbers_are_whole}
 use Rattle.keys.specs.JsonTexts.{AreJsonMembers}
 use Rattle.keys.specs.Keys.{OctetKey, AreOctetKeys}
-use Rattle.keys.specs.Limits.{Limits}
+use Rattle.keys.specs.Limits.{Limits, are_few}
 use Rattle.keys.proofs.ReadingBack.{numbers_whole}
 use Rattle.keys.proofs.UrlTexts.{url_texts_are_json}
-use Rattle.objects.specs.Jwe.{RecipientParts, EncryptedObject, have_one_enc, is_plain, encrypted_object, built, AreMembers, recipients_of_one_enc}
+use Rattle.objects.specs.Jwe.{RecipientParts, EncryptedObject, have_one_enc, has_no_crit_or_zip, encrypted_object, built, AreMembers, recipients_of_one_enc, jwe_text}
 use Rattle.objects.specs.Texts.{header_depth, depth_of_each, handed_out}
 use Rattle.objects.proofs.EachRead.{all_images}
 use Rattle.objects.proofs.SpellingJwe.{is_built}
 use Rattle.objects.proofs.Steps.{steps, passed, same_answer}
 use Rattle.tokens.specs.Algorithms.{content_alg}
-use Rattle.tokens.specs.Choosing.{Receiver, Encryption, encryption_of}
-use Rattle.tokens.specs.Decrypting.{authenticated}
+use Rattle.tokens.specs.Choosing.{RecipientKey, EncryptionPlan, read_encryption}
+use Rattle.tokens.specs.Decrypting.{additional_authenticated_data}
 use Rattle.tokens.specs.Delivering.{drawn_for_all}
-use Rattle.tokens.specs.Encrypting.{cek_drawn, octets_drawn, for_receivers, after_receivers, cek_by, iv_by, header_of, header_by, recipients_by, sealing_by, sealed_by, parts_by, encrypted, text_of, written_of, plan_by, encrypting_by}
+use Rattle.tokens.specs.Encrypting.{cek_drawn, random_len, for_receivers, after_receivers, cek_by, iv_by, header_of, header_by, recipients_by, sealing_by, sealed_by, parts_by, encrypted, written_of, plan_by, enc_plan}
 use Rattle.tokens.proofs.DeliveredKeys.{as_many_drawn, IsCek, Delivers, after_long, cek_by_is, drawn_by_each, each_delivered}
 use Rattle.tokens.proofs.HeaderTexts.{shallow_enough}
 use Rattle.tokens.proofs.EncryptedHeaders.{IsWritten, Writes, writes, given_by, made_by, recipients_are, recipients_are_read}
@@ -45,7 +45,7 @@ pub use Rattle.tokens.proofs.SettledEncryptions.{Settles, settles}
 -- ---- the object
 
 -- what is made of the members
-abbrev pub object_by : Encryption → List ℕ → Sealed → EncryptedObject
+abbrev pub object_by : EncryptionPlan → List ℕ → Sealed → EncryptedObject
 object_by e random s = record {
   protected = base64url (header_by e random);
   protected_members = header_of e random;
@@ -58,28 +58,28 @@ object_by e random s = record {
 }
 
 -- all recipients that are made have the content encryption that was chosen
-all_have_enc : (e : Encryption) (cek : List ℕ) (xs : List (Receiver × List ℕ)) → list_all (λ r. bytes_eq r.enc (encryption_name e.encryption)) (map (made_by e cek) xs) ≡ true
+all_have_enc : (e : EncryptionPlan) (cek : List ℕ) (xs : List (RecipientKey × List ℕ)) → list_all (λ r. bytes_eq r.enc (encryption_name e.encryption)) (map (made_by e cek) xs) ≡ true
 all_have_enc e cek [] = refl
 all_have_enc e cek (x ∷ rest) = and_from _ _ ((bytes_eq-Decides (encryption_name e.encryption) (encryption_name e.encryption)).1 refl) (all_have_enc e cek rest)
 
 -- so it is the same for all
-one_enc : (e : Encryption) (cek : List ℕ) (xs : List (Receiver × List ℕ)) → have_one_enc (map (made_by e cek) xs) ≡ true
+one_enc : (e : EncryptionPlan) (cek : List ℕ) (xs : List (RecipientKey × List ℕ)) → have_one_enc (map (made_by e cek) xs) ≡ true
 one_enc e cek [] = refl
 one_enc e cek (x ∷ rest) = all_have_enc e cek (x ∷ rest)
 
 -- as many recipients are given as there are receivers
-as_many : (e : Encryption) (random : List ℕ) → length (map (given_by e (cek_by e random)) (drawn_by_each e random)) ≡ length e.receivers
+as_many : (e : EncryptionPlan) (random : List ℕ) → length (map (given_by e (cek_by e random)) (drawn_by_each e random)) ≡ length e.receivers
 as_many e random = length-map (drawn_by_each e random) (given_by e (cek_by e random)) ∙ as_many_drawn e.receivers (for_receivers e random)
 
 -- so the object is built of its members
-pub built_is : (limits : Limits) → limits.management ≡ management_algs → (keys : List OctetKey) (e : Encryption) (random : List ℕ) (s : Sealed) → Settles keys e → Writes e random → nat_le (length e.receivers) limits.recipients ≡ true
+pub built_is : (limits : Limits) → limits.management ≡ management_algs → (keys : List OctetKey) (e : EncryptionPlan) (random : List ℕ) (s : Sealed) → Settles keys e → Writes e random → are_few limits (length e.receivers) ≡ true
     → built limits (parts_by e random s) ≡ Ok (object_by e random s)
 unfolding built encrypted_object recipients_of_one_enc
 built_is limits known keys e random s by is few =
     let cek : List ℕ = cek_by e random in
-    let xs : List (Receiver × List ℕ) = drawn_by_each e random in
+    let xs : List (RecipientKey × List ℕ) = drawn_by_each e random in
     let header : Members = header_of e random in
-    let given : Receiver × List ℕ → RecipientParts = given_by e cek in
+    let given : RecipientKey × List ℕ → RecipientParts = given_by e cek in
     let n : ℕ = depth_of_each (length (map given xs)) in
     let unprotected_shallow : nat_le (depth (object e.unprotected)) header_depth ≡ true = shallow_enough (depth (object e.unprotected)) 1 by.unprotected.shallow in
     let unprotected_whole : member_numbers_are_whole e.unprotected ≡ true = numbers_whole (object e.unprotected) by.unprotected.json in
@@ -88,10 +88,10 @@ built_is limits known keys e random s by is few =
     (λ x w. shallow_enough (depth (object (given x).header)) (length (map given xs)) w.headed.written.shallow) xs is.each_written in
     let whole : list_all (λ r. member_numbers_are_whole r.header) (map given xs) ≡ true =
     all_pass {P = IsWritten e random} (λ r. member_numbers_are_whole r.header) given (λ x w. numbers_whole (object (given x).header) w.headed.written.json) xs is.each_written in
-    let plain : list_all (λ r. is_plain r.header) (map given xs) ≡ true =
-    all_pass {P = IsWritten e random} (λ r. is_plain r.header) given (λ x w. w.headed.written.plain) xs is.each_written in
+    let plain : list_all (λ r. has_no_crit_or_zip r.header) (map given xs) ≡ true =
+    all_pass {P = IsWritten e random} (λ r. has_no_crit_or_zip r.header) given (λ x w. w.headed.written.plain) xs is.each_written in
     let some : nat_le 1 (length (map given xs)) ≡ true = ap (nat_le 1) (as_many e random) ∙ le-leb 1 (length e.receivers) by.some in
-    let few_given : nat_le (length (map given xs)) limits.recipients ≡ true = ap (λ k. nat_le k limits.recipients) (as_many e random) ∙ few in
+    let few_given : are_few limits (length (map given xs)) ≡ true = ap (λ k. are_few limits k) (as_many e random) ∙ few in
     rw (
       known,
       recipients_are e random,
@@ -111,10 +111,10 @@ built_is limits known keys e random s by is few =
     ) refl
 
 -- what is built has no more receivers than an object may have
-pub few_receivers : (limits : Limits) (e : Encryption) (random : List ℕ) (s : Sealed) (o : EncryptedObject) → built limits (parts_by e random s) ≡ Ok o → nat_le (length e.receivers) limits.recipients ≡ true
+pub few_receivers : (limits : Limits) (e : EncryptionPlan) (random : List ℕ) (s : Sealed) (o : EncryptedObject) → built limits (parts_by e random s) ≡ Ok o → are_few limits (length e.receivers) ≡ true
 few_receivers limits e random s o made =
     let given : length (recipients_by e random) ≡ length e.receivers = rw recipients_are (as_many e random) in
-    ap (λ k. nat_le k limits.recipients) (sym given) ∙ (is_built limits (parts_by e random s) o made).few
+    ap (λ k. are_few limits k) (sym given) ∙ (is_built limits (parts_by e random s) o made).few
 
 -- ---- what is sealed
 
@@ -135,16 +135,16 @@ sealed_is s p made h =
 -- What is encrypted by just as many random octets as are drawn: what the plaintext is sealed to, and the object that is made of it. The
 -- content encryption key is delivered to each receiver, the plaintext opens what is sealed, and the members are as JSON has them, or
 -- octets.
-pub record IsEncrypted (limits : Limits) (e : Encryption) (random plaintext : List ℕ) (o : EncryptedObject) : Type 0 where
+pub record IsEncrypted (limits : Limits) (e : EncryptionPlan) (random plaintext : List ℕ) (o : EncryptedObject) : Type 0 where
   pub sealed : Sealed
   pub delivers : AllByRecursion (Delivers e (cek_by e random)) (drawn_by_each e random)
-  pub opens : IsOpening (content_alg e.encryption) (cek_by e random) (iv_by e random) (authenticated (base64url (header_by e random)) e.aad) sealed.ciphertext sealed.tag plaintext
+  pub opens : IsOpening (content_alg e.encryption) (cek_by e random) (iv_by e random) (additional_authenticated_data (base64url (header_by e random)) e.aad) sealed.ciphertext sealed.tag plaintext
   pub members : AreMembers (parts_by e random sealed)
   pub made : built limits (parts_by e random sealed) ≡ Ok o
   pub is : object_by e random sealed ≡ o
 
 -- the members are as JSON has them, or octets
-are_members : (keys : List OctetKey) (e : Encryption) (random : List ℕ) (s : Sealed) → Settles keys e → Writes e random → IsOctets random
+are_members : (keys : List OctetKey) (e : EncryptionPlan) (random : List ℕ) (s : Sealed) → Settles keys e → Writes e random → IsOctets random
     → IsOctets s.ciphertext → IsOctets s.tag → AreMembers (parts_by e random s)
 are_members keys e random s by w random_octets ciphertext tag =
     let later : List ℕ = after_receivers e random in
@@ -160,19 +160,19 @@ are_members keys e random s by w random_octets ciphertext tag =
     }
 
 -- the steps of encrypting
-pub encrypting_steps : (limits : Limits) (e : Encryption) (random plaintext : List ℕ) (o : EncryptedObject) → encrypted limits e random plaintext ≡ Ok o
+pub encrypting_steps : (limits : Limits) (e : EncryptionPlan) (random plaintext : List ℕ) (o : EncryptedObject) → encrypted limits e random plaintext ≡ Ok o
     → (s : Sealed) × (sealed_by (sealing_by e random) plaintext ≡ Ok s) × (built limits (parts_by e random s) ≡ Ok o)
 unfolding encrypted
 encrypting_steps limits e random plaintext o h = steps (sealed_by (sealing_by e random) plaintext) (λ s. built limits (parts_by e random s)) o h
 
 -- all this holds of it
-pub is_encrypted : OctetLaws → (limits : Limits) → limits.management ≡ management_algs → (keys : List OctetKey) (e : Encryption) (random plaintext : List ℕ) (o : EncryptedObject) → AreOctetKeys keys → IsOctets random → IsOctets plaintext
-    → length random ≡ octets_drawn e → Settles keys e → encrypted limits e random plaintext ≡ Ok o → IsEncrypted limits e random plaintext o
+pub is_encrypted : OctetLaws → (limits : Limits) → limits.management ≡ management_algs → (keys : List OctetKey) (e : EncryptionPlan) (random plaintext : List ℕ) (o : EncryptedObject) → AreOctetKeys keys → IsOctets random → IsOctets plaintext
+    → length random ≡ random_len e → Settles keys e → encrypted limits e random plaintext ≡ Ok o → IsEncrypted limits e random plaintext o
 is_encrypted laws limits known keys e random plaintext o key_octets random_octets octets long by h =
     let enc = content_alg e.encryption in
     let cek : List ℕ = cek_by e random in
     let iv : List ℕ = iv_by e random in
-    let authentic : List ℕ = authenticated (base64url (header_by e random)) e.aad in
+    let authentic : List ℕ = additional_authenticated_data (base64url (header_by e random)) e.aad in
     let made = encrypting_steps limits e random plaintext o h in
     let s : Sealed = made.0 in
     let sealed = sealed_is (sealing_by e random) plaintext s made.1 in
@@ -201,25 +201,25 @@ is_encrypted laws limits known keys e random plaintext o key_octets random_octet
 
 -- what is written of an object is its text, and its ciphertext beside it where this is detached
 pub written_is : (compact detach : Bool) (o : EncryptedObject) (texts : OutputTexts) → written_of compact detach o ≡ Ok texts
-    → (text_of compact detach o ≡ Ok texts.text) × (handed_out detach o.ciphertext ≡ texts.content)
+    → (jwe_text compact detach o ≡ Ok texts.text) × (handed_out detach o.ciphertext ≡ texts.content)
 written_is compact detach o texts h =
     let beside : List ℕ → OutputTexts = λ text. record { text = text; content = handed_out detach o.ciphertext } in
-    let text = steps (text_of compact detach o) (λ text. Ok (beside text)) texts h in
+    let text = steps (jwe_text compact detach o) (λ text. Ok (beside text)) texts h in
     let same : beside text.0 ≡ texts = same_answer (beside text.0) texts text.2 in
     (text.1 ∙ ap (λ (t : OutputTexts). Ok t.text) same, ap (λ (t : OutputTexts). t.content) same)
 
 -- what a template and keys settle, and the plan by the random octets that are drawn
-pub plan_is : (limits : Limits) (compact detach : Bool) (keys : List OctetKey) (template random : List ℕ) (plan : Plan OutputTexts) → plan_from (encrypting_by limits compact detach keys template) random ≡ Ok plan
-    → (e : Encryption) × (encryption_of limits compact keys template ≡ Ok e) × (length (take (octets_drawn e) random) ≡ octets_drawn e)
-    × (plan_by limits compact detach e (take (octets_drawn e) random) ≡ plan)
-unfolding encrypting_by
+pub plan_is : (limits : Limits) (compact detach : Bool) (keys : List OctetKey) (template random : List ℕ) (plan : Plan OutputTexts) → plan_from (enc_plan limits compact detach keys template) random ≡ Ok plan
+    → (e : EncryptionPlan) × (read_encryption limits compact keys template ≡ Ok e) × (length (take (random_len e) random) ≡ random_len e)
+    × (plan_by limits compact detach e (take (random_len e) random) ≡ plan)
+unfolding enc_plan
 plan_is limits compact detach keys template random plan h =
-    let draft = steps (encrypting_by limits compact detach keys template) _ plan h in
+    let draft = steps (enc_plan limits compact detach keys template) _ plan h in
     let enough = steps (needs (nat_le draft.0.drawn (length random)) Random) _ plan draft.2 in
-    let settled = steps (encryption_of limits compact keys template) _ draft.0 draft.1 in
-    let e : Encryption = settled.0 in
-    let made : Draft OutputTexts = record { drawn = octets_drawn e; plan = plan_by limits compact detach e } in
+    let settled = steps (read_encryption limits compact keys template) _ draft.0 draft.1 in
+    let e : EncryptionPlan = settled.0 in
+    let made : Draft OutputTexts = record { drawn = random_len e; plan = plan_by limits compact detach e } in
     let same : made ≡ draft.0 = same_answer made draft.0 settled.2 in
-    let room : nat_le (octets_drawn e) (length random) ≡ true = ap (λ (d : Draft OutputTexts). nat_le d.drawn (length random)) same ∙ passed _ Random enough.0 enough.1 in
-    let whole : plan_by limits compact detach e (take (octets_drawn e) random) ≡ plan = ap (λ (d : Draft OutputTexts). d.plan (take d.drawn random)) same ∙ same_answer _ plan enough.2 in
-    (e, settled.1, length-take-le (octets_drawn e) random (leb-true (octets_drawn e) (length random) room), whole)
+    let room : nat_le (random_len e) (length random) ≡ true = ap (λ (d : Draft OutputTexts). nat_le d.drawn (length random)) same ∙ passed _ Random enough.0 enough.1 in
+    let whole : plan_by limits compact detach e (take (random_len e) random) ≡ plan = ap (λ (d : Draft OutputTexts). d.plan (take d.drawn random)) same ∙ same_answer _ plan enough.2 in
+    (e, settled.1, length-take-le (random_len e) random (leb-true (random_len e) (length random) room), whole)

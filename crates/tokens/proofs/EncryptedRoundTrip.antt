@@ -11,15 +11,15 @@ use Rattle.keys.specs.declared.algorithm.Algorithm.TheVariants.{Encryption as En
 use Rattle.keys.specs.Algorithms.{management_operations, management_algs}
 use Rattle.keys.specs.Keys.{OctetKey, AreOctetKeys, allows, fits}
 use Rattle.keys.specs.Limits.{Limits}
-use Rattle.objects.specs.Jwe.{JweParts, EncryptedObject, built, json_text, jwe_of, AreMembers, TextsSpellObjects}
+use Rattle.objects.specs.Jwe.{JweParts, EncryptedObject, built, json_text, jwe_of, AreMembers, TextsSpellObjects, jwe_text}
 use Rattle.objects.specs.Texts.{handed_in}
 use Rattle.objects.proofs.EachRead.{all_both}
 use Rattle.objects.proofs.Steps.{steps, same_answer}
 use Rattle.tokens.specs.Algorithms.{content_alg, key_alg, parameters_by}
-use Rattle.tokens.specs.Choosing.{Receiver, passwords, Encryption}
+use Rattle.tokens.specs.Choosing.{RecipientKey, password_count, EncryptionPlan}
 use Rattle.tokens.specs.Decrypting.{all_pairs, is_candidate, SealedContent, sealed_content, cek_of, opened_by, decrypted}
 use Rattle.tokens.specs.Delivering.{drawn_for}
-use Rattle.tokens.specs.Encrypting.{octets_drawn, for_receivers, cek_by, encrypted, text_of, written_of, parts_by, encrypting_by, AreSound, OpensNoOther, EncryptedDecrypts}
+use Rattle.tokens.specs.Encrypting.{random_len, for_receivers, cek_by, encrypted, written_of, parts_by, enc_plan, AreSound, OpensNoOther, EncryptedDecrypts}
 use Rattle.tokens.proofs.Beginnings.{handed_back}
 use Rattle.tokens.proofs.DecryptedPairs.{algorithms_by, pair_by, TakeAtMost, take_at_most, Opens, first_opens, supported, opened_is_decrypted}
 use Rattle.tokens.proofs.DeliveredKeys.{with_drawn, IsDrawn, as_many_drawn, Delivers, drawn_by_each, each_drawn}
@@ -35,7 +35,7 @@ pub record Laws : Type 0 where
   pub spells : TextsSpellObjects
 
 -- the object is read from its text in either form, and from its ciphertext where this is detached
-text_is_read : Laws → (limits : Limits) (compact detach : Bool) (parts : JweParts) (o : EncryptedObject) (text : List ℕ) → AreMembers parts → built limits parts ≡ Ok o → text_of compact detach o ≡ Ok text
+text_is_read : Laws → (limits : Limits) (compact detach : Bool) (parts : JweParts) (o : EncryptedObject) (text : List ℕ) → AreMembers parts → built limits parts ≡ Ok o → jwe_text compact detach o ≡ Ok text
     → jwe_of limits (handed_in detach o.ciphertext) text ≡ Ok o
 text_is_read laws limits true detach parts o text members is h = (laws.spells limits parts o members is detach).1 text h
 text_is_read laws limits false detach parts o text members is h =
@@ -50,13 +50,13 @@ written_is_read laws limits compact detach parts o texts members is h =
     ap (λ content. jwe_of limits content texts.text) beside ∙ text_is_read laws limits compact detach parts o texts.text members is written.0
 
 -- a key that may decrypt and fits is a candidate
-candidate_is : (e : Encryption) (r : Receiver) → allows r.key (management_operations r.management).1 ≡ true → fits r.key (EncryptionWith r.management e.encryption) ≡ true
+candidate_is : (e : EncryptionPlan) (r : RecipientKey) → allows r.key (management_operations r.management).1 ≡ true → fits r.key (EncryptionWith r.management e.encryption) ≡ true
     → is_candidate (algorithms_by e r) r.key ≡ true
 unfolding is_candidate
 candidate_is e r may fit = rw (may, fit) refl
 
 -- what is delivered opens what is sealed
-opened_is : Laws → (e : Encryption) (cek : List ℕ) (x : Receiver × List ℕ) (s : SealedContent) (plaintext : List ℕ) → IsOctets s.iv → Delivers e cek x
+opened_is : Laws → (e : EncryptionPlan) (cek : List ℕ) (x : RecipientKey × List ℕ) (s : SealedContent) (plaintext : List ℕ) → IsOctets s.iv → Delivers e cek x
     → IsOpening (content_alg e.encryption) cek s.iv s.aad s.ciphertext s.tag plaintext → opened_by s (pair_by e cek x.0.key x) ≡ Some plaintext
 unfolding opened_by cek_of
 opened_is laws e cek x s plaintext start is opens =
@@ -65,7 +65,7 @@ opened_is laws e cek x s plaintext start is opens =
     ((laws.opens (content_alg e.encryption) cek s.iv s.aad s.ciphertext s.tag plaintext is.delivers.octets start).1 opens)
 
 -- so a receiver's key that may decrypt opens the plaintext
-key_opens : Laws → (e : Encryption) (cek : List ℕ) (key : OctetKey) (x : Receiver × List ℕ) (s : SealedContent) (plaintext : List ℕ) → IsOctets s.iv → Receives e x.0
+key_opens : Laws → (e : EncryptionPlan) (cek : List ℕ) (key : OctetKey) (x : RecipientKey × List ℕ) (s : SealedContent) (plaintext : List ℕ) → IsOctets s.iv → Receives e x.0
     → (x.0.key ≡ key → allows key (management_operations x.0.management).1 ≡ true) → Delivers e cek x
     → IsOpening (content_alg e.encryption) cek s.iv s.aad s.ciphertext s.tag plaintext → Opens e cek key s plaintext x
 key_opens laws e cek key x s plaintext start receives may delivers opens same =
@@ -74,34 +74,34 @@ key_opens laws e cek key x s plaintext start receives may delivers opens same =
     (candidate_is e x.0 may_own receives.fit, opened_is laws e cek x s plaintext start delivers opens)
 
 -- the keys of receivers with their octets
-keys_of_drawn : (receivers : List Receiver) (drawn : List ℕ) → map (λ x. x.0.key) (with_drawn receivers drawn) ≡ map (λ r. r.key) receivers
+keys_of_drawn : (receivers : List RecipientKey) (drawn : List ℕ) → map (λ x. x.0.key) (with_drawn receivers drawn) ≡ map (λ r. r.key) receivers
 keys_of_drawn [] drawn = refl
 keys_of_drawn (r ∷ rest) drawn = ap (λ keys. r.key ∷ keys) (keys_of_drawn rest (drop (drawn_for r) drawn))
 
 -- the object is decrypted with each key alone that may decrypt
-decrypts : Laws → (limits : Limits) → limits.management ≡ management_algs → (before after : List OctetKey) (key : OctetKey) (e : Encryption) (random plaintext : List ℕ) (o : EncryptedObject) → Settles (before ++ key ∷ after) e → TakesFew limits e → IsOctets random
-    → length random ≡ octets_drawn e → AllByRecursion (λ r. r.key ≡ key → allows key (management_operations r.management).1 ≡ true) e.receivers
+decrypts : Laws → (limits : Limits) → limits.management ≡ management_algs → (before after : List OctetKey) (key : OctetKey) (e : EncryptionPlan) (random plaintext : List ℕ) (o : EncryptedObject) → Settles (before ++ key ∷ after) e → TakesFew limits e → IsOctets random
+    → length random ≡ random_len e → AllByRecursion (λ r. r.key ≡ key → allows key (management_operations r.management).1 ≡ true) e.receivers
     → (is : IsEncrypted limits e random plaintext o) → OpensNoOther (length before) key (object_by e random is.sealed) plaintext
     → decrypted limits (key ∷ []) (object_by e random is.sealed) ≡ Ok plaintext
 decrypts laws limits known before after key e random plaintext o by few random_octets long may is only =
     let all : EncryptedObject = object_by e random is.sealed in
     let s : SealedContent = sealed_content all in
     let cek : List ℕ = cek_by e random in
-    let xs : List (Receiver × List ℕ) = drawn_by_each e random in
-    let P : Receiver → Type 0 = λ r. Receives e r × (r.key ≡ key → allows key (management_operations r.management).1 ≡ true) in
+    let xs : List (RecipientKey × List ℕ) = drawn_by_each e random in
+    let P : RecipientKey → Type 0 = λ r. Receives e r × (r.key ≡ key → allows key (management_operations r.management).1 ≡ true) in
     let each_may : AllByRecursion (IsDrawn P) xs =
     each_drawn P e random (all_both (λ r receives may. (receives, may)) e.receivers by.receive may) random_octets long in
     let each_opens : AllByRecursion (Opens e cek key s plaintext) xs =
     all_both (λ x may delivers. key_opens laws e cek key x s plaintext is.members.iv may.holds.0 may.holds.1 delivers is.opens) xs each_may is.delivers in
-    let most : TakeAtMost limits.greatest_p2c_read (passwords e.receivers * e.p2c) (all_pairs management_algs (key ∷ []) all.recipients) =
+    let most : TakeAtMost limits.greatest_p2c_read (password_count e.receivers * e.p2c) (all_pairs management_algs (key ∷ []) all.recipients) =
     take_at_most limits.greatest_p2c_read e cek key e.receivers (for_receivers e random) few.each_few in
     opened_is_decrypted limits known key all plaintext (supported e cek xs (omega (arith, as_many_drawn e.receivers (for_receivers e random), by.some)))
     (record { each_few = most.each_few; all_few = omega (arith, most.all_few, few.all_few) })
     (first_opens e cek key s plaintext before after xs (keys_of_drawn e.receivers (for_receivers e random) ∙ by.keys_are) each_opens only)
 
 -- so what is written of it is that of an object which is decrypted
-read_and_decrypted : Laws → (limits : Limits) → limits.management ≡ management_algs → (compact detach : Bool) (keys : List OctetKey) (e : Encryption) (random plaintext : List ℕ) (texts : OutputTexts)
-    → AreOctetKeys keys → IsOctets random → IsOctets plaintext → length random ≡ octets_drawn e → Settles keys e → TakesFew limits e
+read_and_decrypted : Laws → (limits : Limits) → limits.management ≡ management_algs → (compact detach : Bool) (keys : List OctetKey) (e : EncryptionPlan) (random plaintext : List ℕ) (texts : OutputTexts)
+    → AreOctetKeys keys → IsOctets random → IsOctets plaintext → length random ≡ random_len e → Settles keys e → TakesFew limits e
     → (encrypted limits e random plaintext >>= written_of compact detach) ≡ Ok texts
     → (o : EncryptedObject) × ((jwe_of limits (handed_in detach texts.content) texts.text ≡ Ok o)
     × ((before after : List OctetKey) (key : OctetKey) → keys ≡ before ++ key ∷ after → AllByRecursion (λ r. r.key ≡ key → allows key (management_operations r.management).1 ≡ true) e.receivers
@@ -122,9 +122,9 @@ read_and_decrypted laws limits known compact detach keys e random plaintext text
 -- and so it is where keys and a template settle what is encrypted
 pub encrypted_decrypts : Laws → (limits : Limits) → AreSound limits → EncryptedDecrypts limits
 encrypted_decrypts laws limits sound compact detach keys template random plaintext texts key_octets random_octets octets h =
-    let plan = steps (plan_from (encrypting_by limits compact detach keys template) random) (λ p. p.whole plaintext) texts h in
+    let plan = steps (plan_from (enc_plan limits compact detach keys template) random) (λ p. p.whole plaintext) texts h in
     let settled = plan_is limits compact detach keys template random plan.0 plan.1 in
-    let e : Encryption = settled.0 in
-    let o = read_and_decrypted laws limits sound.algorithms compact detach keys e (take (octets_drawn e) random) plaintext texts key_octets (IsOctets-take (octets_drawn e) random random_octets) octets settled.2
+    let e : EncryptionPlan = settled.0 in
+    let o = read_and_decrypted laws limits sound.algorithms compact detach keys e (take (random_len e) random) plaintext texts key_octets (IsOctets-take (random_len e) random random_octets) octets settled.2
     (settles limits sound compact keys template e settled.1) (takes_few limits sound compact keys template e settled.1) (ap (λ (p : Plan OutputTexts). p.whole plaintext) settled.3 ∙ plan.2) in
     (o.0, (o.1.0, λ before after key among may. o.1.1 before after key among (may e settled.1)))

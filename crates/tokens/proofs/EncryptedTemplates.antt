@@ -10,19 +10,19 @@ use Rattle.octets.specs.Octets.{IsOctets}
 use Rattle.octets.specs.Outcomes.{◌>>=◌, needs}
 use Rattle.octets.specs.Base64url.{decoded}
 use Rattle.octets.proofs.Decoded.{IsOctets-nil, octets_of_meaning}
-use Rattle.keys.specs.declared.algorithm.EncryptionAlg.{EncryptionAlg}
-use Rattle.keys.specs.declared.algorithm.ManagementAlg.{ManagementAlg}
+use Rattle.keys.specs.declared.algorithm.ContentEncryptionAlg.{ContentEncryptionAlg}
+use Rattle.keys.specs.declared.algorithm.KeyManagementAlg.{KeyManagementAlg}
 use Rattle.keys.specs.Algorithms.{management_name, encryption_name, management_alg_of, encryption_alg_of}
 use Rattle.keys.specs.Json.{is_object, has_only}
 use Rattle.keys.specs.JsonTexts.{IsJson, AreJsonMembers}
 use Rattle.keys.proofs.JsonParts.{keep_json}
 use Rattle.objects.specs.Headers.{header_at, are_disjoint, all_members, joint_header, if_there, string_parameter, number_parameter}
-use Rattle.objects.specs.Jwe.{is_plain}
+use Rattle.objects.specs.Jwe.{has_no_crit_or_zip}
 use Rattle.objects.specs.Texts.{text_if_there, text_at}
 use Rattle.objects.proofs.Steps.{steps, passed, same_answer}
 use Rattle.objects.proofs.TextOctets.{octets_of_utf8}
 use Rattle.tokens.specs.EncryptionTemplate.{TemplateTexts, template_texts, AlgorithmsAsked, supported_management, management_asked, supported_encryption, encryption_asked, leaves_parameters, algorithms_asked, EncryptionTemplate, encryption_template}
-use Rattle.tokens.proofs.AlgorithmNames.{management_name_is, encryption_name_is}
+use Rattle.tokens.proofs.AlgorithmCases.{management_name_is, encryption_name_is}
 use Rattle.tokens.proofs.HeaderTexts.{members_json}
 use Rattle.tokens.proofs.JointHeaders.{not_there, plain_parts}
 use Rattle.tokens.proofs.JointParameters.{as_count}
@@ -33,8 +33,8 @@ use Rattle.tokens.proofs.JointParameters.{as_count}
 -- asked for, and it lacks what encryption writes.
 pub record Asks (p u : Members) (asked : AlgorithmsAsked) : Type 0 where
   pub disjoint : are_disjoint p u no_members ≡ true
-  pub plain : is_plain p ≡ true
-  pub unprotected_plain : is_plain u ≡ true
+  pub plain : has_no_crit_or_zip p ≡ true
+  pub unprotected_plain : has_no_crit_or_zip u ≡ true
   pub management : if_there as_str (get_member (codes "alg") (all_members p u no_members)) ≡ Ok (option_map management_name asked.management)
   pub encryption : if_there as_str (get_member (codes "enc") (all_members p u no_members)) ≡ Ok (option_map encryption_name asked.encryption)
   pub count : if_there as_count (get_member (codes "p2c") (all_members p u no_members)) ≡ asked.p2c
@@ -53,12 +53,12 @@ asked_by of name_of supported name asked names none some h = by_found (of name) 
     by_found (Some a) e h = ap Some (names a e) ∙ ap (option_map name_of) (same_answer (Some a) asked (sym (some a) ∙ h))
 
 -- so is that of the key management, if there is one
-management_is : (name : Option (List ℕ)) (asked : Option ManagementAlg) → management_asked name ≡ Ok asked → name ≡ option_map management_name asked
+management_is : (name : Option (List ℕ)) (asked : Option KeyManagementAlg) → management_asked name ≡ Ok asked → name ≡ option_map management_name asked
 management_is None asked h = ap (option_map management_name) (same_answer None asked h)
 management_is (Some name) asked h = asked_by management_alg_of management_name supported_management name asked (management_name_is name) refl (λ a. refl) h
 
 -- and that of the content encryption
-encryption_is : (name : Option (List ℕ)) (asked : Option EncryptionAlg) → encryption_asked name ≡ Ok asked → name ≡ option_map encryption_name asked
+encryption_is : (name : Option (List ℕ)) (asked : Option ContentEncryptionAlg) → encryption_asked name ≡ Ok asked → name ≡ option_map encryption_name asked
 encryption_is None asked h = ap (option_map encryption_name) (same_answer None asked h)
 encryption_is (Some name) asked h = asked_by encryption_alg_of encryption_name supported_encryption name asked (encryption_name_is name) refl (λ a. refl) h
 
@@ -91,7 +91,7 @@ asks p u asked h =
     let alg = steps (string_parameter (codes "alg") header) _ asked joint.1 in
     let enc = steps (string_parameter (codes "enc") header) _ asked alg.2 in
     let left = steps (needs (leaves_parameters header) Header) _ asked enc.2 in
-    let plain = steps (needs (is_plain header) Unsupported) _ asked left.2 in
+    let plain = steps (needs (has_no_crit_or_zip header) Unsupported) _ asked left.2 in
     let management = steps (management_asked alg.0) _ asked plain.2 in
     let encryption = steps (encryption_asked enc.0) _ asked management.2 in
     let parts = plain_parts p u (passed _ Unsupported plain.0 plain.1) in

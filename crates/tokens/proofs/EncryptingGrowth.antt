@@ -7,13 +7,13 @@ use Rattle.octets.proofs.Decoded.{IsOctets-take}
 use Rattle.ciphers.specs.Sealing.{Sealed, IsTooLong}
 use Rattle.ciphers.proofs.Growing.{fixed_grows, ciphertext_grows}
 use Rattle.keys.specs.Keys.{OctetKey, AreOctetKeys}
-use Rattle.keys.specs.Limits.{limits}
+use Rattle.keys.specs.Limits.{limits, are_few}
 use Rattle.objects.specs.Frames.{filled, in_places, first_text}
 use Rattle.objects.proofs.Steps.{steps, same_answer}
 use Rattle.tokens.specs.Algorithms.{content_alg}
-use Rattle.tokens.specs.Choosing.{Encryption, encryption_of}
-use Rattle.tokens.specs.Decrypting.{authenticated}
-use Rattle.tokens.specs.Encrypting.{octets_drawn, cek_by, iv_by, header_by, sealing_by, encrypted, frame_by, text_before, within_longest, written_of, ciphertext_fixed, text_fixed, plan_by, EncryptingGrows}
+use Rattle.tokens.specs.Choosing.{EncryptionPlan, read_encryption}
+use Rattle.tokens.specs.Decrypting.{additional_authenticated_data}
+use Rattle.tokens.specs.Encrypting.{random_len, cek_by, iv_by, header_by, sealing_by, encrypted, frame_by, text_before, within_longest, written_of, ciphertext_fixed, text_fixed, plan_by, EncryptingGrows}
 use Rattle.tokens.proofs.Beginnings.{begins_behind, empty_begins, groups_grow, frame_begins, handed_out_begins, BothBegin, both_grow_by_beginnings}
 use Rattle.tokens.proofs.DeliveredKeys.{cek_by_is}
 use Rattle.tokens.proofs.Sealed.{all_within}
@@ -35,30 +35,30 @@ within_grows None p q = record { rest = q; continues = refl }
 within_grows (Some most) p q = take_grows most p q
 
 -- what is fixed goes on
-pub more_fixed : (e : Encryption) (random p q : List ℕ) → Begins (ciphertext_fixed e random p) (ciphertext_fixed e random (p ++ q))
+pub more_fixed : (e : EncryptionPlan) (random p q : List ℕ) → Begins (ciphertext_fixed e random p) (ciphertext_fixed e random (p ++ q))
 more_fixed e random p q =
     let s = sealing_by e random in
     let front : List ℕ = within_longest s.longest p in
     let more = within_grows s.longest p q in
     subst (λ l. Begins (s.fixed front) (s.fixed l)) (sym more.continues)
-    (fixed_grows (content_alg e.encryption) (cek_by e random) (iv_by e random) (authenticated (base64url (header_by e random)) e.aad) front more.rest)
+    (fixed_grows (content_alg e.encryption) (cek_by e random) (iv_by e random) (additional_authenticated_data (base64url (header_by e random)) e.aad) front more.rest)
 
 -- and begins the ciphertext, where the plaintext is not too long
-pub fixed_begins : (e : Encryption) (random p q : List ℕ) → (IsTooLong (sealing_by e random) (p ++ q) → ⊥) → Begins (ciphertext_fixed e random p) ((sealing_by e random).sealed (p ++ q)).ciphertext
+pub fixed_begins : (e : EncryptionPlan) (random p q : List ℕ) → (IsTooLong (sealing_by e random) (p ++ q) → ⊥) → Begins (ciphertext_fixed e random p) ((sealing_by e random).sealed (p ++ q)).ciphertext
 fixed_begins e random p q short =
     let s = sealing_by e random in
     subst (λ l. Begins (s.fixed l) (s.sealed (p ++ q)).ciphertext) (sym (all_within s.longest p q short))
-    (ciphertext_grows (content_alg e.encryption) (cek_by e random) (iv_by e random) (authenticated (base64url (header_by e random)) e.aad) p q)
+    (ciphertext_grows (content_alg e.encryption) (cek_by e random) (iv_by e random) (additional_authenticated_data (base64url (header_by e random)) e.aad) p q)
 
 -- ---- the text
 
 -- what is fixed of it goes on as what is fixed of the ciphertext does
-text_goes_on : (compact detach : Bool) (e : Encryption) (random x y : List ℕ) → Begins x y → Begins (text_fixed limits compact detach e random x) (text_fixed limits compact detach e random y)
+text_goes_on : (compact detach : Bool) (e : EncryptionPlan) (random x y : List ℕ) → Begins x y → Begins (text_fixed limits compact detach e random x) (text_fixed limits compact detach e random y)
 text_goes_on compact true e random x y b = empty_begins []
 text_goes_on compact false e random x y b = begins_behind (text_before limits compact e random) _ _ (groups_grow x y b)
 
 -- and begins the frame with the ciphertext and the tag in it
-text_begins : (compact detach : Bool) (e : Encryption) (random : List ℕ) (texts : List (List ℕ)) (x : List ℕ) (s : Sealed) → frame_by limits compact detach e random ≡ Ok texts
+text_begins : (compact detach : Bool) (e : EncryptionPlan) (random : List ℕ) (texts : List (List ℕ)) (x : List ℕ) (s : Sealed) → frame_by limits compact detach e random ≡ Ok texts
     → length texts ≡ (if detach then 2 else 3) → Begins x s.ciphertext → Begins (text_fixed limits compact detach e random x) (filled texts (in_places detach s.ciphertext (s.tag ∷ [])))
 text_begins compact true e random texts x s is places b = empty_begins _
 text_begins compact false e random texts x s is places b =
@@ -68,8 +68,8 @@ text_begins compact false e random texts x s is places b =
 -- ---- what is encrypted
 
 -- by just as many random octets as are drawn, what is fixed begins what is written
-written_begins : OctetLaws → (compact detach : Bool) (keys : List OctetKey) (template : List ℕ) (e : Encryption) (random p q : List ℕ) (texts : OutputTexts) → AreOctetKeys keys → IsOctets random
-    → IsOctets (p ++ q) → length random ≡ octets_drawn e → encryption_of limits compact keys template ≡ Ok e → (plan_by limits compact detach e random).whole (p ++ q) ≡ Ok texts
+written_begins : OctetLaws → (compact detach : Bool) (keys : List OctetKey) (template : List ℕ) (e : EncryptionPlan) (random p q : List ℕ) (texts : OutputTexts) → AreOctetKeys keys → IsOctets random
+    → IsOctets (p ++ q) → length random ≡ random_len e → read_encryption limits compact keys template ≡ Ok e → (plan_by limits compact detach e random).whole (p ++ q) ≡ Ok texts
     → BothBegin ((plan_by limits compact detach e random).fixed p) texts
 written_begins laws compact detach keys template e random p q texts key_octets random_octets octets long is h =
     let front : List ℕ = ciphertext_fixed e random p in
@@ -77,7 +77,7 @@ written_begins laws compact detach keys template e random p q texts key_octets r
     let made = encrypting_steps limits e random (p ++ q) o.0 o.1 in
     let s : Sealed = made.0 in
     let sealed = sealed_is (sealing_by e random) (p ++ q) s made.1 in
-    let few : nat_le (length e.receivers) limits.recipients ≡ true = few_receivers limits e random s o.0 made.2 in
+    let few : are_few limits (length e.receivers) ≡ true = few_receivers limits e random s o.0 made.2 in
     let cek = cek_by_is keys e random (settles limits these_are_sound compact keys template e is) key_octets random_octets long in
     let framed = has_frame compact keys template e random is few laws key_octets random_octets long detach in
     let begins : Begins front s.ciphertext = subst (λ (x : Sealed). Begins front x.ciphertext) sealed.1 (fixed_begins e random p q sealed.0) in
@@ -92,9 +92,9 @@ written_begins laws compact detach keys template e random p q texts key_octets r
 pub encrypting_grows : OctetLaws → EncryptingGrows
 encrypting_grows laws compact detach keys template random plan key_octets random_octets h =
     let is = plan_is limits compact detach keys template random plan h in
-    let e : Encryption = is.0 in
-    let drawn : List ℕ = take (octets_drawn e) random in
-    let drawn_octets : IsOctets drawn = IsOctets-take (octets_drawn e) random random_octets in
+    let e : EncryptionPlan = is.0 in
+    let drawn : List ℕ = take (random_len e) random in
+    let drawn_octets : IsOctets drawn = IsOctets-take (random_len e) random random_octets in
     subst BothGrow is.3
     (both_grow_by_beginnings (plan_by limits compact detach e drawn)
     (λ p q. record { text = text_goes_on compact detach e drawn _ _ (more_fixed e drawn p q); content = handed_out_begins detach _ _ (more_fixed e drawn p q) })

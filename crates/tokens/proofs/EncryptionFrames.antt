@@ -7,25 +7,22 @@ use Rattle.octets.specs.Base64url.{base64url}
 use Rattle.octets.specs.Octets.{IsOctets}
 use Rattle.octets.specs.Outcomes.{◌>>=◌}
 use Rattle.octets.specs.Plan.{plan_from}
-use Rattle.octets.proofs.Characters.{has_url_characters}
 use Rattle.octets.proofs.Decoded.{IsOctets-drop}
-use Rattle.octets.proofs.Meanings.{decodes_exactly}
 use Rattle.ciphers.specs.Sealing.{Sealed, Sealing, IsTooLong, cek_len}
 use Rattle.ciphers.proofs.Tags.{some_tag}
 use Rattle.keys.specs.Keys.{OctetKey, AreOctetKeys}
-use Rattle.keys.specs.Limits.{limits}
-use Rattle.keys.proofs.UrlTexts.{url_texts_are_json}
+use Rattle.keys.specs.Limits.{limits, are_few}
 use Rattle.objects.specs.Frames.{filled, in_places, jwe_frame, IsJweFrame}
-use Rattle.objects.specs.Jwe.{EncryptedObject, built, jwe_text}
+use Rattle.objects.specs.Jwe.{EncryptedObject, built, jwe_written, jwe_text}
 use Rattle.objects.specs.Texts.{handed_out}
-use Rattle.objects.specs.Writing.{Written, all_texts, jwe_written}
+use Rattle.objects.specs.Writing.{Written, all_texts}
 use Rattle.objects.proofs.JweFrames.{is_jwe_frame}
 use Rattle.objects.proofs.JweWritten.{jwe_refused}
 use Rattle.tokens.specs.Algorithms.{content_alg}
-use Rattle.tokens.specs.Choosing.{Encryption, encryption_of}
-use Rattle.tokens.specs.Decrypting.{authenticated}
+use Rattle.tokens.specs.Choosing.{EncryptionPlan, read_encryption}
+use Rattle.tokens.specs.Decrypting.{additional_authenticated_data}
 use Rattle.tokens.specs.Delivering.{drawn_for_all}
-use Rattle.tokens.specs.Encrypting.{cek_drawn, octets_drawn, after_receivers, cek_by, iv_by, header_by, sealing_by, sealed_by, parts_by, encrypted, unsealed, frame_by, text_of, written_of, plan_by, encrypting_by}
+use Rattle.tokens.specs.Encrypting.{cek_drawn, random_len, after_receivers, cek_by, iv_by, header_by, sealing_by, sealed_by, parts_by, encrypted, unsealed, frame_by, written_of, plan_by, enc_plan}
 use Rattle.tokens.specs.SealedTexts.{IsUnsealed}
 use Rattle.tokens.proofs.DeliveredKeys.{after_long}
 use Rattle.tokens.proofs.EncryptedHeaders.{OctetLaws, Writes, writes}
@@ -35,14 +32,10 @@ use Rattle.tokens.proofs.EncryptingPlans.{plan_of_drawn}
 use Rattle.tokens.proofs.SoundLimits.{these_are_sound}
 use Rattle.tokens.proofs.SettledEncryptions.{Settles, settles, stands_alone}
 
-same_text : (compact detach : Bool) (o : EncryptedObject) → text_of compact detach o ≡ jwe_text compact detach o
-same_text true detach o = refl
-same_text false detach o = refl
-
 -- keys and a template settle an encryption, and so many octets are drawn as it takes
-module _ (compact : Bool) (keys : List OctetKey) (template : List ℕ) (e : Encryption) (random : List ℕ)
-    (is : encryption_of limits compact keys template ≡ Ok e) (few : nat_le (length e.receivers) limits.recipients ≡ true) (laws : OctetLaws) (key_octets : AreOctetKeys keys)
-    (random_octets : IsOctets random) (long : length random ≡ octets_drawn e) where
+module _ (compact : Bool) (keys : List OctetKey) (template : List ℕ) (e : EncryptionPlan) (random : List ℕ)
+    (is : read_encryption limits compact keys template ≡ Ok e) (few : are_few limits (length e.receivers) ≡ true) (laws : OctetLaws) (key_octets : AreOctetKeys keys)
+    (random_octets : IsOctets random) (long : length random ≡ random_len e) where
   by : Settles keys e
   by = settles limits these_are_sound compact keys template e is
 
@@ -60,14 +53,14 @@ module _ (compact : Bool) (keys : List OctetKey) (template : List ℕ) (e : Encr
       )
       by_written (Err r) h =
           let text = has_text compact detach e random unsealed (stands_alone limits these_are_sound compact keys template e is) by.some in
-          let both : Ok text.0 ≡ Err NotCompact = sym text.1 ∙ same_text compact detach (object_by e random unsealed) ∙ (jwe_refused true compact detach (object_by e random unsealed) r h).1 in
+          let both : Ok text.0 ≡ Err NotCompact = sym text.1 ∙ (jwe_refused true compact detach (object_by e random unsealed) r h).1 in
           cc both
 
   module _ (detach : Bool) (texts : List (List ℕ)) (framed : frame_by limits compact detach e random ≡ Ok texts) where
     -- the texts stand round the ciphertext and the tag of the object
     pub frame : IsJweFrame compact detach (object_by e random unsealed) texts
     frame =
-        is_jwe_frame url_texts_are_json has_url_characters decodes_exactly compact detach (object_by e random unsealed) texts
+        is_jwe_frame compact detach (object_by e random unsealed) texts
         (sym (ap (λ r. r >>= jwe_frame compact detach) (built_is limits refl keys e random unsealed by w few)) ∙ framed)
 
     -- round every ciphertext and tag they are what is written of the object of these
@@ -76,7 +69,7 @@ module _ (compact : Bool) (keys : List OctetKey) (template : List ℕ) (e : Encr
     texts_are s ciphertext tag some =
         ap (λ r. r >>= written_of compact detach) (built_is limits refl keys e random s by w few)
         ∙ ap (λ r. r >>= λ text. Ok (record { text = text; content = handed_out detach s.ciphertext }))
-        (same_text compact detach (object_by e random s) ∙ frame.filled s.ciphertext s.tag ciphertext tag (le-leb 1 (length s.tag) some))
+        (frame.filled s.ciphertext s.tag ciphertext tag (le-leb 1 (length s.tag) some))
 
   -- ---- every plaintext
 
@@ -85,7 +78,7 @@ module _ (compact : Bool) (keys : List OctetKey) (template : List ℕ) (e : Encr
     sealed_octets p octets short =
         let later : List ℕ = after_receivers e random in
         let iv : IsOctets (iv_by e random) = IsOctets-drop (cek_drawn e) later (IsOctets-drop (drawn_for_all e.receivers) random random_octets) in
-        laws.opened (content_alg e.encryption) (cek_by e random) (iv_by e random) (authenticated (base64url (header_by e random)) e.aad) _ _ p cek iv (record {
+        laws.opened (content_alg e.encryption) (cek_by e random) (iv_by e random) (additional_authenticated_data (base64url (header_by e random)) e.aad) _ _ p cek iv (record {
           cek_fits = cek_fits;
           iv_fits = length-drop (cek_drawn e) later ∙ omega (arith, after_long e random long);
           octets = octets;
@@ -101,18 +94,18 @@ module _ (compact : Bool) (keys : List OctetKey) (template : List ℕ) (e : Encr
     whole_is detach texts framed p sealed octets h =
         let is_sealed = sealed_is (sealing_by e random) p sealed h in
         let both = sealed_octets p octets is_sealed.0 in
-        let some : 1 ≤ length ((sealing_by e random).sealed p).tag = some_tag (content_alg e.encryption) (cek_by e random) (iv_by e random) (authenticated (base64url (header_by e random)) e.aad) p in
+        let some : 1 ≤ length ((sealing_by e random).sealed p).tag = some_tag (content_alg e.encryption) (cek_by e random) (iv_by e random) (additional_authenticated_data (base64url (header_by e random)) e.aad) p in
         ap (λ r. (r >>= λ s. built limits (parts_by e random s)) >>= written_of compact detach) h
         ∙ subst (λ x. (built limits (parts_by e random x) >>= written_of compact detach) ≡ Ok (record { text = filled texts (in_places detach x.ciphertext (x.tag ∷ [])); content = handed_out detach x.ciphertext })) is_sealed.1
         (texts_are detach texts framed ((sealing_by e random).sealed p) both.0 both.1 some)
 
 -- ---- what is settled before there is a plaintext
 
-pub is_unsealed : {S : Type 0} (is_sealing : S → Sealing → List ℕ → Type 0) (compact detach : Bool) (keys : List OctetKey) (template : List ℕ) (e : Encryption) (random octets rest : List ℕ) (sealer : S) (texts : List (List ℕ))
-    → encryption_of limits compact keys template ≡ Ok e → nat_le (length e.receivers) limits.recipients ≡ true → OctetLaws → AreOctetKeys keys → IsOctets random
-    → length random ≡ octets_drawn e → octets ≡ random ++ rest
+pub is_unsealed : {S : Type 0} (is_sealing : S → Sealing → List ℕ → Type 0) (compact detach : Bool) (keys : List OctetKey) (template : List ℕ) (e : EncryptionPlan) (random octets rest : List ℕ) (sealer : S) (texts : List (List ℕ))
+    → read_encryption limits compact keys template ≡ Ok e → are_few limits (length e.receivers) ≡ true → OctetLaws → AreOctetKeys keys → IsOctets random
+    → length random ≡ random_len e → octets ≡ random ++ rest
     → is_sealing sealer (sealing_by e random) [] → frame_by limits compact detach e random ≡ Ok texts → IsOctets (cek_by e random) × (length (cek_by e random) ≡ cek_len (content_alg e.encryption))
-    → IsUnsealed is_sealing compact detach (plan_from (encrypting_by limits compact detach keys template) octets) sealer texts
+    → IsUnsealed is_sealing compact detach (plan_from (enc_plan limits compact detach keys template) octets) sealer texts
 is_unsealed is_sealing compact detach keys template e random octets rest sealer texts is few laws key_octets random_octets long continues begun framed cek = record {
   encryption = e;
   random = random;

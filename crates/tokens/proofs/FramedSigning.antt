@@ -14,13 +14,13 @@ use Rattle.prf.specs.Hmac.{hmac}
 use Rattle.keys.specs.Keys.{OctetKey}
 use Rattle.keys.specs.Limits.{limits}
 use Rattle.objects.specs.Frames.{filled, in_places, first_text, jws_frame, signed_with, IsJwsFrame}
-use Rattle.objects.specs.Jws.{Signature, signature_parts_of, SignatureTexts, SignedObject, JwsTexts, JwsParts, built, jws_text}
+use Rattle.objects.specs.Jws.{Signature, signature_parts_of, EncodedSignature, SignedObject, EncodedJws, JwsParts, built, jws_written, jws_text}
 use Rattle.objects.specs.Texts.{handed_out}
-use Rattle.objects.specs.Writing.{Written, all_texts, jws_written}
+use Rattle.objects.specs.Writing.{Written, all_texts}
 use Rattle.objects.proofs.JwsWritten.{jws_refused}
 use Rattle.objects.proofs.SpellingJws.{signature_spelled, spelled, parts_spelled, is_built, object_keeps}
 use Rattle.tokens.specs.Signatures.{signature_hash, signature_of}
-use Rattle.tokens.specs.Signing.{Signer, Signing, protected_by, signature_by, unsigned_part_by, unsigned_by, signed, text_of, text_before, written_of, plan_by, signing_of, signing_by}
+use Rattle.tokens.specs.Signing.{Signer, Signing, protected_by, signature_by, unsigned_part_by, unsigned_by, signed, text_before, written_of, plan_by, read_signing, sig_plan}
 use Rattle.tokens.specs.SigningInputs.{signature_text, unsigned_protected}
 use Rattle.octets.specs.Encoding.{encoding}
 use Rattle.octets.specs.Pumps.{behind}
@@ -59,12 +59,12 @@ signed_alike s payload =
     ap (λ l. built limits (record { payload = payload; signatures = l })) (parts_alike s.header payload s.signers)
     ∙ built_alike limits [] payload (map (unsigned_part_by s.header) s.signers) (map (octets_by payload) s.signers)
 
-own_texts : (ss : List Signature) → unsigned_protected ss ≡ map (λ (x : SignatureTexts). x.protected) (map signature_spelled (map signature_parts_of ss))
+own_texts : (ss : List Signature) → unsigned_protected ss ≡ map (λ (x : EncodedSignature). x.protected) (map signature_spelled (map signature_parts_of ss))
 own_texts [] = refl
 own_texts (s ∷ ss) = ap (λ l. s.protected ∷ l) (own_texts ss)
 
 given_texts : (header : Members) (signers : List Signer)
-    → map (λ (x : SignatureTexts). x.protected) (let p : JwsParts = record { payload = []; signatures = map (unsigned_part_by header) signers } in parts_spelled p).signatures ≡ map protected_by signers
+    → map (λ (x : EncodedSignature). x.protected) (let p : JwsParts = record { payload = []; signatures = map (unsigned_part_by header) signers } in parts_spelled p).signatures ≡ map protected_by signers
 given_texts header [] = refl
 given_texts header (s ∷ signers) = ap (λ l. protected_by s ∷ l) (given_texts header signers)
 
@@ -74,7 +74,7 @@ unfolding unsigned_by
 unsigned_are s o made =
     let parts : JwsParts = record { payload = []; signatures = map (unsigned_part_by s.header) s.signers } in
     let kept : spelled o ≡ parts_spelled parts = object_keeps limits parts o (is_built limits parts o made) in
-    own_texts o.signatures ∙ ap (λ (t : JwsTexts). map (λ (x : SignatureTexts). x.protected) t.signatures) kept ∙ given_texts s.header s.signers
+    own_texts o.signatures ∙ ap (λ (t : EncodedJws). map (λ (x : EncodedSignature). x.protected) t.signatures) kept ∙ given_texts s.header s.signers
 
 pub unsigned_count : (s : Signing) (o : SignedObject) → unsigned_by limits s ≡ Ok o → length o.signatures ≡ length s.signers
 unsigned_count s o made = sym (length-map o.signatures (λ x. x.protected)) ∙ ap length (unsigned_are s o made) ∙ length-map s.signers protected_by
@@ -85,10 +85,6 @@ pub object_refused : (compact detach : Bool) (s : Signing) (payload : List ℕ) 
 object_refused compact detach s payload e h =
     ap (λ r. r >>= written_of compact detach) (signed_alike s payload ∙ ap (λ r. r >>= λ o. Ok (signed_with o payload (map (octets_by payload) s.signers))) h)
 
-same_text : (compact detach : Bool) (o : SignedObject) → text_of compact detach o ≡ jws_text compact detach o
-same_text true detach o = refl
-same_text false detach o = refl
-
 signed_is_with : (s : Signing) (o : SignedObject) (payload : List ℕ) → unsigned_by limits s ≡ Ok o → signed limits s payload ≡ Ok (signed_with o payload (map (octets_by payload) s.signers))
 signed_is_with s o payload made = signed_alike s payload ∙ ap (λ r. r >>= λ o. Ok (signed_with o payload (map (octets_by payload) s.signers))) made
 
@@ -98,16 +94,15 @@ text_refused compact detach s o payload made h =
     let with_all_put : SignedObject = signed_with o payload (map (octets_by payload) s.signers) in
     ap (λ r. r >>= written_of compact detach) (signed_is_with s o payload made)
     ∙ ap (λ r. r >>= λ text. Ok (record { text = text; content = handed_out detach payload }))
-    (same_text compact detach with_all_put ∙ refused_alike compact detach o payload (map (octets_by payload) s.signers) h)
+    (refused_alike compact detach o payload (map (octets_by payload) s.signers) h)
 
 -- ---- what is written
 
 module _ (compact detach : Bool) (s : Signing) (o : SignedObject) (texts : List (List ℕ)) (made : unsigned_by limits s ≡ Ok o) (frame : IsJwsFrame compact detach o texts) where
   object_text : (payload : List ℕ) → IsOctets payload
-      → text_of compact detach (signed_with o payload (map (octets_by payload) s.signers)) ≡ Ok (filled texts (in_places detach payload (map (octets_by payload) s.signers)))
+      → jws_text compact detach (signed_with o payload (map (octets_by payload) s.signers)) ≡ Ok (filled texts (in_places detach payload (map (octets_by payload) s.signers)))
   object_text payload octets =
-      same_text compact detach (signed_with o payload (map (octets_by payload) s.signers))
-      ∙ frame.filled payload (map (octets_by payload) s.signers) octets (all_octets payload s.signers) (length-map s.signers (octets_by payload) ∙ sym (unsigned_count s o made))
+      frame.filled payload (map (octets_by payload) s.signers) octets (all_octets payload s.signers) (length-map s.signers (octets_by payload) ∙ sym (unsigned_count s o made))
 
   -- it fills the texts
   pub whole_is : (payload : List ℕ) → IsOctets payload
@@ -149,14 +144,14 @@ module _ (compact : Bool) (s : Signing) (o : SignedObject) (first : List ℕ) (r
 
 -- ---- what may stand
 
-pub by_signing : (compact detach : Bool) (keys : List OctetKey) (template : List ℕ) (s : Signing) → signing_of limits compact keys template ≡ Ok s
-    → signing_by limits compact detach keys template ≡ Ok (plan_by limits compact detach s)
-unfolding signing_by
+pub by_signing : (compact detach : Bool) (keys : List OctetKey) (template : List ℕ) (s : Signing) → read_signing limits compact keys template ≡ Ok s
+    → sig_plan limits compact detach keys template ≡ Ok (plan_by limits compact detach s)
+unfolding sig_plan
 by_signing compact detach keys template s h = ap (λ r. r >>= λ s. Ok (plan_by limits compact detach s)) h
 
-pub signing_refused : (compact detach : Bool) (keys : List OctetKey) (template payload : List ℕ) (e : Refusal) → signing_of limits compact keys template ≡ Err e
-    → planned (signing_by limits compact detach keys template) payload ≡ Err e
-unfolding signing_by
+pub signing_refused : (compact detach : Bool) (keys : List OctetKey) (template payload : List ℕ) (e : Refusal) → read_signing limits compact keys template ≡ Err e
+    → planned (sig_plan limits compact detach keys template) payload ≡ Err e
+unfolding sig_plan
 signing_refused compact detach keys template payload e h = ap (λ r. planned (r >>= λ s. Ok (plan_by limits compact detach s)) payload) h
 
 -- ---- causes

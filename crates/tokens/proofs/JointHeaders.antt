@@ -15,7 +15,7 @@ use Rattle.serde_json.proofs.Views.{get_member-put, get_member-put_other}
 use Rattle.keys.specs.JsonTexts.{AreJsonMembers}
 use Rattle.keys.proofs.JsonParts.{keep_json}
 use Rattle.objects.specs.Headers.{overlap, are_disjoint, all_members, has_no_crit}
-use Rattle.objects.specs.Jwe.{is_plain}
+use Rattle.objects.specs.Jwe.{has_no_crit_or_zip}
 use Rattle.objects.specs.Texts.{listed_header_depth}
 use Rattle.objects.proofs.Members.{Entries, put_if_there, first_there, IsJsonIfThere, AreJsonEntries}
 use Rattle.objects.proofs.Names.{get_member-all_members}
@@ -118,7 +118,7 @@ absent name p u h = neither (get_member name p) (get_member name u) (sym (get_me
     neither (Some d) y h = cc h
 
 -- the parts of a header without members that are refused have none either
-pub plain_parts : (p u : Members) → is_plain (all_members p u no_members) ≡ true → (is_plain p ≡ true) × (is_plain u ≡ true)
+pub plain_parts : (p u : Members) → has_no_crit_or_zip (all_members p u no_members) ≡ true → (has_no_crit_or_zip p ≡ true) × (has_no_crit_or_zip u ≡ true)
 plain_parts p u h =
     let header = all_members p u no_members in
     let both = and_parts (has_no_crit header) (is_none (get_member (codes "zip") header)) h in
@@ -192,7 +192,7 @@ into_own p u es h free = record {
 pub record IsHeader (header : Members) : Type 0 where
   pub json : AreJsonMembers header
   pub shallow : depth (object header) ≤ listed_header_depth
-  pub plain : is_plain header ≡ true
+  pub plain : has_no_crit_or_zip header ≡ true
 
 -- members stay JSON, and nest no deeper, with one more entry
 one_more : (name : List ℕ) (o : Option Data) (ms : Members) (n : ℕ) → IsUtf8 name → IsJsonIfThere 0 o → AreJsonMembers ms × (members_depth ms ≤ n)

@@ -10,20 +10,21 @@ use Rattle.octets.specs.Octets.{IsOctets}
 use Rattle.octets.specs.Base64url.{base64url, is_url_character}
 use Rattle.octets.proofs.Characters.{has_url_characters}
 use Rattle.octets.proofs.Meanings.{decodes_exactly}
-use Rattle.keys.specs.declared.algorithm.EncryptionAlg.{EncryptionAlg}
-use Rattle.keys.specs.declared.algorithm.ManagementAlg.{ManagementAlg}
-use Rattle.keys.specs.declared.algorithm.ManagementAlg.TheVariants.{Dir, A128Kw, A192Kw, A256Kw, Pbes2Hs256A128Kw, Pbes2Hs384A192Kw, Pbes2Hs512A256Kw, A128GcmKw, A192GcmKw, A256GcmKw}
-use Rattle.keys.specs.Algorithms.{management_name, encryption_name, is_password_based, management_algs}
+use Rattle.keys.specs.declared.algorithm.ContentEncryptionAlg.{ContentEncryptionAlg}
+use Rattle.keys.specs.declared.algorithm.KeyManagementAlg.{KeyManagementAlg}
+use Rattle.keys.specs.declared.algorithm.KeyManagementMode.{KeyManagementMode}
+use Rattle.keys.specs.declared.algorithm.KeyManagementMode.TheVariants as mode
+use Rattle.keys.specs.Algorithms.{management_name, encryption_name, mode_of, is_password, is_password_based, management_algs}
 use Rattle.keys.proofs.UrlTexts.{url_texts_are_json}
 use Rattle.objects.specs.Headers.{all_members, joint_header, required, if_there, string_parameter, string_there, number_parameter, salt_parameter, octets_parameter}
 use Rattle.objects.specs.Jwe.{Recipient, recipient_by, recipient_of}
-use Rattle.objects.specs.KeyManagement.{KeyManagement, Unknown, Direct, KeyWrap, Password, GcmKeyWrap, password_management, gcm_management, management_by, key_management}
+use Rattle.objects.specs.KeyManagement.{management_in, KeyManagement, Unknown, Direct, KeyWrap, Password, GcmKeyWrap, password_management, gcm_management, management_by, key_management}
 use Rattle.objects.proofs.Members.{Entries, put_if_there, first_there, IsJsonIfThere, AreJsonEntries}
 use Rattle.objects.proofs.Spelling.{name_is_json}
 use Rattle.tokens.specs.Choosing.{with_name, with_p2c, Given}
-use Rattle.tokens.specs.Delivering.{salt_len, drawn_by, management_with, Delivery}
+use Rattle.tokens.specs.Delivering.{drawn_in, delivered_in, salt_len, drawn_by, management_with, Delivery}
 use Rattle.tokens.specs.Encrypting.{with_management, with_parameters}
-use Rattle.tokens.proofs.AlgorithmNames.{management_named, management_is_text, encryption_is_text}
+use Rattle.tokens.proofs.AlgorithmCases.{management_named, management_is_text, encryption_is_text}
 use Rattle.tokens.proofs.JointHeaders.{put_onto, IsFree, AreFree, IsJoint, IsHeader, header_onto}
 
 -- ---- entries that are there unless the template gives them
@@ -158,18 +159,16 @@ AwaitsManagement counted (Password p2s p2c) header = (get_member (codes "p2s") h
 AwaitsManagement counted (GcmKeyWrap iv tag) header = (get_member (codes "tag") header ≡ None) × (get_member (codes "iv") header ≡ None)
 
 -- so it does by what was drawn for an algorithm
-pub awaits_management : (named counted : Bool) (alg : ManagementAlg) (drawn : List ℕ) (p2c : ℕ) (tag : List ℕ) (header : Members)
+awaits_in : (named counted : Bool) (m : KeyManagementMode) (name drawn : List ℕ) (p2c : ℕ) (tag : List ℕ) (header : Members)
+    → Awaits named counted (is_password m) name p2c header → AwaitsManagement counted (delivered_in m drawn p2c tag) header
+awaits_in named counted mode.Direct name drawn p2c tag header is = tt
+awaits_in named counted mode.KeyWrap name drawn p2c tag header is = tt
+awaits_in named counted mode.Password name drawn p2c tag header is = (is.no_salt, (is.count refl).there)
+awaits_in named counted mode.GcmKeyWrap name drawn p2c tag header is = (is.no_tag, is.no_iv)
+
+pub awaits_management : (named counted : Bool) (alg : KeyManagementAlg) (drawn : List ℕ) (p2c : ℕ) (tag : List ℕ) (header : Members)
     → Awaits named counted (is_password_based alg) (management_name alg) p2c header → AwaitsManagement counted (management_with alg drawn p2c tag) header
-awaits_management named counted Dir drawn p2c tag header is = tt
-awaits_management named counted A128Kw drawn p2c tag header is = tt
-awaits_management named counted A192Kw drawn p2c tag header is = tt
-awaits_management named counted A256Kw drawn p2c tag header is = tt
-awaits_management named counted Pbes2Hs256A128Kw drawn p2c tag header is = (is.no_salt, (is.count refl).there)
-awaits_management named counted Pbes2Hs384A192Kw drawn p2c tag header is = (is.no_salt, (is.count refl).there)
-awaits_management named counted Pbes2Hs512A256Kw drawn p2c tag header is = (is.no_salt, (is.count refl).there)
-awaits_management named counted A128GcmKw drawn p2c tag header is = (is.no_tag, is.no_iv)
-awaits_management named counted A192GcmKw drawn p2c tag header is = (is.no_tag, is.no_iv)
-awaits_management named counted A256GcmKw drawn p2c tag header is = (is.no_tag, is.no_iv)
+awaits_management named counted alg drawn p2c tag header is = awaits_in named counted (mode_of alg) (management_name alg) drawn p2c tag header is
 
 -- then the names of the parameters are free
 pub free_names : (named counted : Bool) (alg : List ℕ) (m : KeyManagement) (header : Members) → IsGiven as_str named (get_member (codes "alg") header) alg → AwaitsManagement counted m header
@@ -196,18 +195,16 @@ AreParameters (Password p2s p2c) = IsOctets p2s × (length p2s ≡ salt_len) × 
 AreParameters (GcmKeyWrap iv tag) = IsOctets iv × IsOctets tag
 
 -- so they are by what was drawn for an algorithm, where the tag that was made is octets
-pub are_parameters : (alg : ManagementAlg) (drawn : List ℕ) (p2c : ℕ) (tag : List ℕ) → IsOctets drawn → length drawn ≡ drawn_by alg
+parameters_in : (m : KeyManagementMode) (drawn : List ℕ) (p2c : ℕ) (tag : List ℕ) → IsOctets drawn → length drawn ≡ drawn_in m
+    → (is_password m ≡ true → (1 ≤ p2c) × (p2c < 2 ^ 64)) → IsOctets tag → AreParameters (delivered_in m drawn p2c tag)
+parameters_in mode.Direct drawn p2c tag octets long count tag_octets = tt
+parameters_in mode.KeyWrap drawn p2c tag octets long count tag_octets = tt
+parameters_in mode.Password drawn p2c tag octets long count tag_octets = let c = count refl in (octets, long, c.0, c.1)
+parameters_in mode.GcmKeyWrap drawn p2c tag octets long count tag_octets = (octets, tag_octets)
+
+pub are_parameters : (alg : KeyManagementAlg) (drawn : List ℕ) (p2c : ℕ) (tag : List ℕ) → IsOctets drawn → length drawn ≡ drawn_by alg
     → (is_password_based alg ≡ true → (1 ≤ p2c) × (p2c < 2 ^ 64)) → IsOctets tag → AreParameters (management_with alg drawn p2c tag)
-are_parameters Dir drawn p2c tag octets long count tag_octets = tt
-are_parameters A128Kw drawn p2c tag octets long count tag_octets = tt
-are_parameters A192Kw drawn p2c tag octets long count tag_octets = tt
-are_parameters A256Kw drawn p2c tag octets long count tag_octets = tt
-are_parameters Pbes2Hs256A128Kw drawn p2c tag octets long count tag_octets = let c = count refl in (octets, long, c.0, c.1)
-are_parameters Pbes2Hs384A192Kw drawn p2c tag octets long count tag_octets = let c = count refl in (octets, long, c.0, c.1)
-are_parameters Pbes2Hs512A256Kw drawn p2c tag octets long count tag_octets = let c = count refl in (octets, long, c.0, c.1)
-are_parameters A128GcmKw drawn p2c tag octets long count tag_octets = (octets, tag_octets)
-are_parameters A192GcmKw drawn p2c tag octets long count tag_octets = (octets, tag_octets)
-are_parameters A256GcmKw drawn p2c tag octets long count tag_octets = (octets, tag_octets)
+are_parameters alg drawn p2c tag octets long count tag_octets = parameters_in (mode_of alg) drawn p2c tag octets long count tag_octets
 
 -- and then they are JSON
 json_parameters : (named counted : Bool) (alg : List ℕ) (m : KeyManagement) → IsUtf8 alg → AreParameters m → AreJsonEntries 0 (parameters named counted alg m)
@@ -261,7 +258,7 @@ header_with given d header is parameters =
     (no_crit given.alg given.p2c name d.management) (no_zip given.alg given.p2c name d.management))
 
 -- as with the name of a content encryption
-pub header_with_enc : (given : Bool) (enc : EncryptionAlg) (header : Members) → IsHeader header → IsHeader (put_onto header ((codes "enc", unless given (string (encryption_name enc))) ∷ []))
+pub header_with_enc : (given : Bool) (enc : ContentEncryptionAlg) (header : Members) → IsHeader header → IsHeader (put_onto header ((codes "enc", unless given (string (encryption_name enc))) ∷ []))
 header_with_enc given enc header is =
     let value : Data = string (encryption_name enc) in
     header_onto header ((codes "enc", unless given value) ∷ []) is
@@ -293,21 +290,19 @@ unfolding gcm_management octets_parameter string_parameter
 read_gcm_key_wrap iv tag header there is = rw (there.0, decodes_exactly.round_trip iv is.0, there.1, decodes_exactly.round_trip tag is.1) refl
 
 -- by an algorithm and what was drawn for it
-read_management : (alg : ManagementAlg) (drawn : List ℕ) (p2c : ℕ) (tag : List ℕ) (header : Members) → HasManagement (management_with alg drawn p2c tag) header
+read_in : (m : KeyManagementMode) (drawn : List ℕ) (p2c : ℕ) (tag : List ℕ) (header : Members) → HasManagement (delivered_in m drawn p2c tag) header
+    → AreParameters (delivered_in m drawn p2c tag) → management_in m header ≡ Ok (delivered_in m drawn p2c tag)
+read_in mode.Direct drawn p2c tag header there is = refl
+read_in mode.KeyWrap drawn p2c tag header there is = refl
+read_in mode.Password drawn p2c tag header there is = read_password drawn p2c header there is
+read_in mode.GcmKeyWrap drawn p2c tag header there is = read_gcm_key_wrap drawn tag header there is
+
+read_management : (alg : KeyManagementAlg) (drawn : List ℕ) (p2c : ℕ) (tag : List ℕ) (header : Members) → HasManagement (management_with alg drawn p2c tag) header
     → AreParameters (management_with alg drawn p2c tag) → management_by (Some alg) header ≡ Ok (management_with alg drawn p2c tag)
-read_management Dir drawn p2c tag header there is = refl
-read_management A128Kw drawn p2c tag header there is = refl
-read_management A192Kw drawn p2c tag header there is = refl
-read_management A256Kw drawn p2c tag header there is = refl
-read_management Pbes2Hs256A128Kw drawn p2c tag header there is = read_password drawn p2c header there is
-read_management Pbes2Hs384A192Kw drawn p2c tag header there is = read_password drawn p2c header there is
-read_management Pbes2Hs512A256Kw drawn p2c tag header there is = read_password drawn p2c header there is
-read_management A128GcmKw drawn p2c tag header there is = read_gcm_key_wrap drawn tag header there is
-read_management A192GcmKw drawn p2c tag header there is = read_gcm_key_wrap drawn tag header there is
-read_management A256GcmKw drawn p2c tag header there is = read_gcm_key_wrap drawn tag header there is
+read_management alg drawn p2c tag header there is = read_in (mode_of alg) drawn p2c tag header there is
 
 -- the recipient of a delivery, with this header
-abbrev pub recipient : Members → Delivery → EncryptionAlg → Recipient
+abbrev pub recipient : Members → Delivery → ContentEncryptionAlg → Recipient
 recipient own d enc = record {
   header = own;
   encrypted_key = d.encrypted_key;
@@ -347,7 +342,7 @@ name_there named counted alg m header before members is =
     ∙ there_with as_str named (string alg) alg (get_member (codes "alg") before) refl is
 
 -- it is read where the joint header has the parameters beside what awaits them
-pub recipient_is_read : (given : Given) (alg : ManagementAlg) (drawn : List ℕ) (p2c : ℕ) (tag key : List ℕ) (enc : EncryptionAlg) (p u own before : Members)
+pub recipient_is_read : (given : Given) (alg : KeyManagementAlg) (drawn : List ℕ) (p2c : ℕ) (tag key : List ℕ) (enc : ContentEncryptionAlg) (p u own before : Members)
     → (let d : Delivery = record { alg = alg; management = management_with alg drawn p2c tag; encrypted_key = key } in
     IsJoint p u own (parameters_of given d) before → Awaits given.alg given.p2c (is_password_based alg) (management_name alg) p2c before
     → if_there as_str (get_member (codes "enc") before) ≡ Ok (Some (encryption_name enc)) → AreParameters d.management

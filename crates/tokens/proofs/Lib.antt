@@ -8,7 +8,7 @@ pub mod FramedSigning
 pub mod StandingSignatures
 pub mod HeaderMembers
 pub mod HeaderTexts
-pub mod Candidates
+pub mod AlgorithmCases
 pub mod Receivers
 pub mod PairLists
 pub mod Iterations
@@ -22,7 +22,6 @@ pub mod SignedTexts
 pub mod SigningGrowth
 pub mod SignedRoundTrip
 pub mod EncryptingPlans
-pub mod AlgorithmNames
 pub mod JointHeaders
 pub mod JointParameters
 pub mod EncryptedTemplates

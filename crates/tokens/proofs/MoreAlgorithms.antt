@@ -8,14 +8,14 @@ use Rattle.octets.specs.declared.refusal.Refusal.{Refusal}
 use Rattle.octets.specs.declared.refusal.Refusal.TheVariants.{Header, Unsupported, Limit}
 use Rattle.octets.specs.Base64url.{decoded}
 use Rattle.octets.specs.Outcomes.{needs}
-use Rattle.keys.specs.declared.algorithm.ManagementAlg.{ManagementAlg}
+use Rattle.keys.specs.declared.algorithm.KeyManagementAlg.{KeyManagementAlg}
 use Rattle.keys.specs.Algorithms.{management_name, management_alg_among}
 use Rattle.keys.specs.Keys.{OctetKey}
-use Rattle.keys.specs.Limits.{Limits}
+use Rattle.keys.specs.Limits.{Limits, are_few}
 use Rattle.objects.specs.Headers.{protected_members, joint_header, string_there}
-use Rattle.objects.specs.Jwe.{JweTexts, RecipientParts, Recipient, JweParts, EncryptedObject, recipient_by, recipient_of, recipients_of, have_one_enc, recipients_of_one_enc, are_plain, encrypted_object, parts_of_texts, object_of_texts, jwe_texts, jwe_of}
+use Rattle.objects.specs.Jwe.{EncodedJwe, RecipientParts, Recipient, JweParts, EncryptedObject, recipient_by, recipient_of, recipients_of, have_one_enc, recipients_of_one_enc, have_no_crit_or_zip, encrypted_object, decoded_members, decoded_object, encoded_jwe, jwe_of}
 use Rattle.objects.specs.Jws as jws
-use Rattle.objects.specs.Jws.{JwsTexts, DecodedSignature, HeadedSignature, Signature, SignedObject, decoded_texts, headed_signature, signature_by, signatures_of, signed_object, jws_texts, jws_of}
+use Rattle.objects.specs.Jws.{EncodedJws, DecodedSignature, HeadedSignature, Signature, SignedObject, decoded_signature, headed_signature, signature_by, signatures_of, signed_object, encoded_jws, jws_of}
 use Rattle.objects.specs.KeyManagement.{KeyManagement, management_by, key_management}
 use Rattle.objects.specs.Texts.{each}
 use Rattle.objects.proofs.EachRead.{all_passed}
@@ -26,23 +26,23 @@ use Rattle.tokens.specs.MoreAlgorithms.{knowing, needs_no_more, OpensAlike}
 -- ---- names
 
 -- a name is looked up among the first algorithms, and then among the others
-found_among : (known further : List ManagementAlg) (name : List ℕ)
+found_among : (known further : List KeyManagementAlg) (name : List ℕ)
     → management_alg_among (known ++ further) name ≡ option_or (management_alg_among known name) (management_alg_among further name)
 unfolding management_alg_among
 found_among [] further name = refl
 found_among (alg ∷ known) further name = by_test (bytes_eq name (management_name alg)) _ _ _ (found_among known further name)
   where
-    by_test : (named : Bool) (all first others : Option ManagementAlg) → all ≡ option_or first others
+    by_test : (named : Bool) (all first others : Option KeyManagementAlg) → all ≡ option_or first others
         → (if named then Some alg else all) ≡ option_or (if named then Some alg else first) others
     by_test true all first others rest = refl
     by_test false all first others rest = rest
 
 -- so one that needs none of the others names the same with them
-named_alike : (known further : List ManagementAlg) (name : List ℕ) → needs_no_more known further name ≡ true
+named_alike : (known further : List KeyManagementAlg) (name : List ℕ) → needs_no_more known further name ≡ true
     → management_alg_among (known ++ further) name ≡ management_alg_among known name
 named_alike known further name enough = found_among known further name ∙ by_found (management_alg_among known name) (management_alg_among further name) enough
   where
-    by_found : (first other : Option ManagementAlg) → (is_some first || not (is_some other)) ≡ true → option_or first other ≡ first
+    by_found : (first other : Option KeyManagementAlg) → (is_some first || not (is_some other)) ≡ true → option_or first other ≡ first
     by_found (Some alg) other enough = refl
     by_found None None enough = refl
     by_found None (Some alg) enough = cc enough
@@ -66,7 +66,7 @@ each_alike P read other alike (x ∷ xs) ys all h =
 abbrev recipient_with : RecipientParts → List ℕ → List ℕ → KeyManagement → Recipient
 recipient_with parts alg enc q = record { header = parts.header; encrypted_key = parts.encrypted_key; alg = alg; enc = enc; management = q }
 
-recipient_made : (algs : List ManagementAlg) (p u header : Members) (parts : RecipientParts) (alg enc : List ℕ) (q : KeyManagement) → joint_header p u parts.header ≡ Ok header
+recipient_made : (algs : List KeyManagementAlg) (p u header : Members) (parts : RecipientParts) (alg enc : List ℕ) (q : KeyManagement) → joint_header p u parts.header ≡ Ok header
     → string_there (codes "alg") header ≡ Ok alg → string_there (codes "enc") header ≡ Ok enc → key_management algs alg header ≡ Ok q
     → recipient_of algs p u parts ≡ Ok (recipient_with parts alg enc q)
 unfolding recipient_of recipient_by
@@ -85,44 +85,44 @@ object_with parts protected recipients = record {
   recipients = recipients;
 }
 
-object_made : (algs : List ManagementAlg) (octets : List ℕ) (parts : JweParts) (protected : Members) (recipients : List Recipient) → protected_members octets ≡ Ok protected
-    → recipients_of algs protected parts.unprotected parts.recipients ≡ Ok recipients → have_one_enc recipients ≡ true → are_plain protected parts.unprotected parts.recipients ≡ true
+object_made : (algs : List KeyManagementAlg) (octets : List ℕ) (parts : JweParts) (protected : Members) (recipients : List Recipient) → protected_members octets ≡ Ok protected
+    → recipients_of algs protected parts.unprotected parts.recipients ≡ Ok recipients → have_one_enc recipients ≡ true → have_no_crit_or_zip protected parts.unprotected parts.recipients ≡ true
     → encrypted_object algs octets parts ≡ Ok (object_with parts protected recipients)
 unfolding encrypted_object recipients_of_one_enc
 object_made algs octets parts protected recipients a b c d = rw (a, b, c, d) refl
 
 -- and of its text
-text_read : (limits : Limits) (algs : List ManagementAlg) (detached : Option (List ℕ)) (text octets : List ℕ) (texts : JweTexts) (parts : JweParts) → jwe_texts detached text ≡ Ok texts
-    → nat_le (length texts.recipients) limits.recipients ≡ true → decoded texts.shared.protected ≡ Ok octets → parts_of_texts texts ≡ Ok parts
+text_read : (limits : Limits) (algs : List KeyManagementAlg) (detached : Option (List ℕ)) (text octets : List ℕ) (texts : EncodedJwe) (parts : JweParts) → encoded_jwe detached text ≡ Ok texts
+    → are_few limits (length texts.recipients) ≡ true → decoded texts.shared.protected ≡ Ok octets → decoded_members texts ≡ Ok parts
     → jwe_of (knowing limits algs) detached text ≡ encrypted_object algs octets parts
-unfolding jwe_of object_of_texts
+unfolding jwe_of decoded_object
 text_read limits algs detached text octets texts parts a b c d = rw (a, b, c, d) refl
 
 -- of a signature
 abbrev signature_with : HeadedSignature → List ℕ → Signature
 signature_with s alg = record { protected = s.parts.protected; protected_members = s.members; header = s.parts.header; signature = s.parts.signature; alg = alg }
 
-signature_made : (algs : List ManagementAlg) (s : HeadedSignature) (header : Members) (alg : List ℕ) (q : KeyManagement) → joint_header s.members no_members s.parts.header ≡ Ok header
+signature_made : (algs : List KeyManagementAlg) (s : HeadedSignature) (header : Members) (alg : List ℕ) (q : KeyManagement) → joint_header s.members no_members s.parts.header ≡ Ok header
     → string_there (codes "alg") header ≡ Ok alg → key_management algs alg header ≡ Ok q → signature_by algs s ≡ Ok (signature_with s alg)
 unfolding signature_by
 signature_made algs s header alg q a b c = rw (a, b, c) refl
 
 -- of a signed object
-signed_made : (algs : List ManagementAlg) (payload : List ℕ) (decoded : List DecodedSignature) (headed : List HeadedSignature) (signatures : List Signature)
-    → each headed_signature decoded ≡ Ok headed → each (signature_by algs) headed ≡ Ok signatures → list_all jws.is_plain headed ≡ true
+signed_made : (algs : List KeyManagementAlg) (payload : List ℕ) (decoded : List DecodedSignature) (headed : List HeadedSignature) (signatures : List Signature)
+    → each headed_signature decoded ≡ Ok headed → each (signature_by algs) headed ≡ Ok signatures → list_all jws.headers_have_no_crit headed ≡ true
     → signed_object algs payload decoded ≡ Ok (record { payload = payload; signatures = signatures })
 unfolding signed_object signatures_of
 signed_made algs payload decoded headed signatures a b c = rw (a, b, c) refl
 
 -- and of its text
-signed_text_read : (limits : Limits) (algs : List ManagementAlg) (detached : Option (List ℕ)) (text payload : List ℕ) (texts : JwsTexts) (signatures : List DecodedSignature)
-    → jws_texts detached text ≡ Ok texts → nat_le (length texts.signatures) limits.recipients ≡ true → decoded texts.payload ≡ Ok payload
-    → each decoded_texts texts.signatures ≡ Ok signatures → jws_of (knowing limits algs) detached text ≡ signed_object algs payload signatures
-unfolding jws_of jws.object_of_texts
+signed_text_read : (limits : Limits) (algs : List KeyManagementAlg) (detached : Option (List ℕ)) (text payload : List ℕ) (texts : EncodedJws) (signatures : List DecodedSignature)
+    → encoded_jws detached text ≡ Ok texts → are_few limits (length texts.signatures) ≡ true → decoded texts.payload ≡ Ok payload
+    → each decoded_signature texts.signatures ≡ Ok signatures → jws_of (knowing limits algs) detached text ≡ signed_object algs payload signatures
+unfolding jws_of jws.decoded_object
 signed_text_read limits algs detached text payload texts signatures a b c d = rw (a, b, c, d) refl
 
 -- ---- where enough names name the same among two lists of algorithms
-module _ (limits : Limits) (algs others : List ManagementAlg) (enough : List ℕ → Bool)
+module _ (limits : Limits) (algs others : List KeyManagementAlg) (enough : List ℕ → Bool)
     (alike : (name : List ℕ) → enough name ≡ true → management_alg_among algs name ≡ management_alg_among others name) where
   -- the management of a key is read alike
   management_alike : (header : Members) (alg : List ℕ) (q : KeyManagement) → enough alg ≡ true → key_management algs alg header ≡ Ok q → key_management others alg header ≡ Ok q
@@ -148,7 +148,7 @@ module _ (limits : Limits) (algs others : List ManagementAlg) (enough : List ℕ
   object_alike octets parts o all h =
       let protected = steps (protected_members octets) _ o h in
       let read = steps (recipients_of_one_enc algs protected.0 parts.unprotected parts.recipients) _ o protected.2 in
-      let plain = steps (needs (are_plain protected.0 parts.unprotected parts.recipients) Unsupported) _ o read.2 in
+      let plain = steps (needs (have_no_crit_or_zip protected.0 parts.unprotected parts.recipients) Unsupported) _ o read.2 in
       let recipients = steps (recipients_of algs protected.0 parts.unprotected parts.recipients) _ read.0 read.1 in
       let one = steps (needs (have_one_enc recipients.0) Header) _ read.0 recipients.2 in
       let same : recipients.0 ≡ read.0 = same_answer recipients.0 read.0 one.2 in
@@ -164,12 +164,12 @@ module _ (limits : Limits) (algs others : List ManagementAlg) (enough : List ℕ
   -- of a text
   read_alike : (detached : Option (List ℕ)) (text : List ℕ) (o : EncryptedObject) → list_all (λ r. enough r.alg) o.recipients ≡ true → jwe_of (knowing limits algs) detached text ≡ Ok o
       → jwe_of (knowing limits others) detached text ≡ Ok o
-  unfolding jwe_of object_of_texts
+  unfolding jwe_of decoded_object
   read_alike detached text o all h =
-      let texts = steps (jwe_texts detached text) _ o h in
-      let few = steps (needs (nat_le (length texts.0.recipients) limits.recipients) Limit) _ o texts.2 in
+      let texts = steps (encoded_jwe detached text) _ o h in
+      let few = steps (needs (are_few limits (length texts.0.recipients)) Limit) _ o texts.2 in
       let octets = steps (decoded texts.0.shared.protected) _ o few.2 in
-      let parts = steps (parts_of_texts texts.0) _ o octets.2 in
+      let parts = steps (decoded_members texts.0) _ o octets.2 in
       text_read limits others detached text octets.0 texts.0 parts.0 texts.1 (passed _ Limit few.0 few.1) octets.1 parts.1 ∙ object_alike octets.0 parts.0 o all parts.2
 
   -- so is a signature
@@ -191,7 +191,7 @@ module _ (limits : Limits) (algs others : List ManagementAlg) (enough : List ℕ
       let read = steps (signatures_of algs decoded) _ o h in
       let headed = steps (each headed_signature decoded) _ read.0 read.1 in
       let signatures = steps (each (signature_by algs) headed.0) _ read.0 headed.2 in
-      let plain = steps (needs (list_all jws.is_plain headed.0) Unsupported) _ read.0 signatures.2 in
+      let plain = steps (needs (list_all jws.headers_have_no_crit headed.0) Unsupported) _ read.0 signatures.2 in
       let same : signatures.0 ≡ read.0 = same_answer signatures.0 read.0 plain.2 in
       let theirs : signatures.0 ≡ o.signatures = same ∙ ap (λ (o : SignedObject). o.signatures) (same_answer _ o read.2) in
       let each_enough : AllByRecursion (λ s. enough s.alg ≡ true) signatures.0 =
@@ -204,12 +204,12 @@ module _ (limits : Limits) (algs others : List ManagementAlg) (enough : List ℕ
   -- of a text
   signed_read_alike : (detached : Option (List ℕ)) (text : List ℕ) (o : SignedObject) → list_all (λ s. enough s.alg) o.signatures ≡ true → jws_of (knowing limits algs) detached text ≡ Ok o
       → jws_of (knowing limits others) detached text ≡ Ok o
-  unfolding jws_of jws.object_of_texts
+  unfolding jws_of jws.decoded_object
   signed_read_alike detached text o all h =
-      let texts = steps (jws_texts detached text) _ o h in
-      let few = steps (needs (nat_le (length texts.0.signatures) limits.recipients) Limit) _ o texts.2 in
+      let texts = steps (encoded_jws detached text) _ o h in
+      let few = steps (needs (are_few limits (length texts.0.signatures)) Limit) _ o texts.2 in
       let payload = steps (decoded texts.0.payload) _ o few.2 in
-      let signatures = steps (each decoded_texts texts.0.signatures) _ o payload.2 in
+      let signatures = steps (each decoded_signature texts.0.signatures) _ o payload.2 in
       signed_text_read limits others detached text payload.0 texts.0 signatures.0 texts.1 (passed _ Limit few.0 few.1) payload.1 signatures.1
       ∙ signed_object_alike payload.0 signatures.0 o all signatures.2
 
@@ -235,9 +235,9 @@ module _ (limits : Limits) (algs others : List ManagementAlg) (enough : List ℕ
 
 -- ---- with and without the further algorithms
 
-pub opens_alike : (limits : Limits) (known further : List ManagementAlg) → OpensAlike limits known further
+pub opens_alike : (limits : Limits) (known further : List KeyManagementAlg) → OpensAlike limits known further
 opens_alike limits known further =
-    let more : List ManagementAlg = known ++ further in
+    let more : List KeyManagementAlg = known ++ further in
     let enough : List ℕ → Bool = needs_no_more known further in
     let back : (name : List ℕ) → enough name ≡ true → management_alg_among known name ≡ management_alg_among more name = λ name is. sym (named_alike known further name is) in
     record {

@@ -6,10 +6,10 @@ use Rattle.keys.specs.declared.key.Key.{Key}
 use Rattle.keys.specs.Keys.{OctetKey}
 use Rattle.keys.specs.Limits.{limits}
 use Rattle.keys.specs.Views.{key_view}
-use Rattle.objects.specs.declared.recipient.Recipient.{Recipient as Code}
+use Rattle.objects.specs.declared.jwe.recipient.Recipient.{Recipient as Code}
 use Rattle.objects.specs.Jwe.{Recipient}
 use Rattle.objects.specs.Views.{recipient_view}
-use Rattle.tokens.specs.declared.pair.Pair.{Pair as CodePair}
+use Rattle.tokens.specs.declared.decrypt.pair.Pair.{Pair as CodePair}
 use Rattle.tokens.specs.Algorithms.{Algorithms}
 use Rattle.tokens.specs.Decrypting.{Pair, algorithms_of, is_candidate, pairs_with, pairs_by, pairs_of, all_pairs, has_pairs}
 use Rattle.tokens.specs.Views.{pair_view}

@@ -1,5 +1,5 @@
 -- Receivers of a content encryption key: what a test of all of them says of each, and what is counted over them.
-use Rattle.std.proofs.Common.{◌≡◌, ℕ, zero, suc, ◌≤◌, Bool, true, false, not, nat_le, List, [], ◌∷◌, length, map, Some, None, Ok, lit≤, refl, sym, ap, ◌∙◌, arith}
+use Rattle.std.proofs.Common.{◌≡◌, ℕ, zero, suc, ◌≤◌, Bool, true, false, not, nat_le, List, [], ◌∷◌, length, map, Some, None, Ok, lit≤, refl, sym, ap, ◌∙◌, subst, arith}
 use Rattle.std.proofs.lemmas.Bool.{leb-true, le-leb, lt-leb, and_parts, and_from, or_left, or_right}
 use Rattle.std.proofs.lemmas.List.{length-map}
 use Rattle.std.proofs.lemmas.List.Folds.{list_all-map}
@@ -11,21 +11,21 @@ use Rattle.octets.specs.Outcomes.{needs}
 use Rattle.ciphers.specs.Delivery.{IsCountOf, IsIvOf}
 use Rattle.ciphers.specs.Sealing as ciphers
 use Rattle.keys.specs.declared.algorithm.Algorithm.TheVariants.{Encryption as EncryptionWith}
-use Rattle.keys.specs.declared.algorithm.EncryptionAlg.{EncryptionAlg}
-use Rattle.keys.specs.declared.algorithm.EncryptionAlg.TheVariants.{A128CbcHs256, A192CbcHs384, A256CbcHs512, A128Gcm, A192Gcm, A256Gcm}
-use Rattle.keys.specs.declared.algorithm.ManagementAlg.{ManagementAlg}
-use Rattle.keys.specs.declared.algorithm.ManagementAlg.TheVariants.{Dir, A128Kw, A192Kw, A256Kw, Pbes2Hs256A128Kw, Pbes2Hs384A192Kw, Pbes2Hs512A256Kw, A128GcmKw, A192GcmKw, A256GcmKw}
+use Rattle.keys.specs.declared.algorithm.ContentEncryptionAlg.{ContentEncryptionAlg}
+use Rattle.keys.specs.declared.algorithm.ContentEncryptionAlg.TheVariants.{A128CbcHs256, A192CbcHs384, A256CbcHs512, A128Gcm, A192Gcm, A256Gcm}
+use Rattle.keys.specs.declared.algorithm.KeyManagementAlg.{KeyManagementAlg}
+use Rattle.keys.specs.declared.algorithm.KeyManagementAlg.TheVariants.{Dir}
 use Rattle.keys.specs.Algorithms.{is_password_based, management_operations}
 use Rattle.keys.specs.Keys.{allows, fits}
 use Rattle.keys.specs.Limits.{limits}
 use Rattle.keys.specs.Views.{key_view}
-use Rattle.tokens.specs.declared.receiver.Receiver.{Receiver as Code}
+use Rattle.tokens.specs.declared.encrypt.recipient_key.RecipientKey.{RecipientKey as Code}
 use Rattle.tokens.specs.Algorithms.{key_alg, content_alg}
-use Rattle.tokens.specs.Choosing.{is_direct, stand_together, may_encrypt, passwords, is_written}
+use Rattle.tokens.specs.Choosing.{is_direct, direct_key_is_alone, may_encrypt, password_count, p2c_may_be_written}
 use Rattle.tokens.specs.Delivering.{drawn_by}
 use Rattle.tokens.specs.Encrypting.{direct_key}
-use Rattle.tokens.specs.Views.{receiver_view}
-use Rattle.tokens.proofs.Candidates.{direct_key_fits}
+use Rattle.tokens.specs.Views.{recipient_key_view}
+use Rattle.tokens.proofs.AlgorithmCases.{direct_is, direct_key_fits}
 
 -- a step that went on is one whose test holds
 pub held : (test : Bool) (refusal : Refusal) (done : Unit {0}) → Ok done ≡ needs test refusal → test ≡ true
@@ -59,41 +59,41 @@ list_any-map p h [] = refl
 list_any-map p h (y ∷ ys) = ap (λ others. p (h y) || others) (list_any-map p h ys)
 
 -- all that may encrypt fit
-pub all_fit : (enc : EncryptionAlg) (receivers : List Code) → list_all (may_encrypt enc) (map receiver_view receivers) ≡ true
+pub all_fit : (enc : ContentEncryptionAlg) (receivers : List Code) → list_all (may_encrypt enc) (map recipient_key_view receivers) ≡ true
     → list_all (λ r. fits (key_view r.key.now) (EncryptionWith r.management enc)) receivers ≡ true
 all_fit enc receivers all =
-    all_pass_other (λ r. may_encrypt enc (receiver_view r)) (λ r. fits (key_view r.key.now) (EncryptionWith r.management enc)) receivers
+    all_pass_other (λ r. may_encrypt enc (recipient_key_view r)) (λ r. fits (key_view r.key.now) (EncryptionWith r.management enc)) receivers
     (λ r may. (and_parts (allows (key_view r.key.now) (management_operations r.management).0) (fits (key_view r.key.now) (EncryptionWith r.management enc)) may).1)
-    (sym (list_all-map (may_encrypt enc) receiver_view receivers) ∙ all)
+    (sym (list_all-map (may_encrypt enc) recipient_key_view receivers) ∙ all)
 
 -- where there are several that stand together, none is used directly
-pub all_stand_together : (receivers : List Code) → stand_together (map receiver_view receivers) ≡ true
+pub all_stand_together : (receivers : List Code) → direct_key_is_alone (map recipient_key_view receivers) ≡ true
     → list_all (λ r. not (is_direct r.management) || nat_le (length receivers) 1) receivers ≡ true
 all_stand_together receivers together =
-    by_count (nat_le (length receivers) 1) (rw (sym (ap (λ n. nat_le n 1) (length-map receivers receiver_view))) together)
+    by_count (nat_le (length receivers) 1) (rw (sym (ap (λ n. nat_le n 1) (length-map receivers recipient_key_view))) together)
   where
-    by_count : (few : Bool) → (few || not (list_any (λ r. is_direct r.management) (map receiver_view receivers))) ≡ true
+    by_count : (few : Bool) → (few || not (list_any (λ r. is_direct r.management) (map recipient_key_view receivers))) ≡ true
         → list_all (λ r. not (is_direct r.management) || few) receivers ≡ true
     by_count true together = all_pass (λ r. not (is_direct r.management) || true) receivers (λ r. or_right (not (is_direct r.management)) true refl)
     by_count false together =
         all_pass_other (λ r. not (is_direct r.management)) (λ r. not (is_direct r.management) || false) receivers (λ r is. or_left (not (is_direct r.management)) false is)
-        (sym (list_all-map (λ r. not (is_direct r.management)) receiver_view receivers) ∙ none_passes (λ r. is_direct r.management) (map receiver_view receivers) together)
+        (sym (list_all-map (λ r. not (is_direct r.management)) recipient_key_view receivers) ∙ none_passes (λ r. is_direct r.management) (map recipient_key_view receivers) together)
 
 -- where the number of iterations may be written, a password takes one at least
-pub all_counted : (p2c : ℕ) (receivers : List Code) → is_written limits (passwords (map receiver_view receivers)) p2c ≡ true
+pub all_counted : (p2c : ℕ) (receivers : List Code) → p2c_may_be_written limits (password_count (map recipient_key_view receivers)) p2c ≡ true
     → list_all (λ r. not (is_password_based r.management) || nat_le 1 p2c) receivers ≡ true
-all_counted p2c receivers written = by_count (passwords (map receiver_view receivers)) refl written
+all_counted p2c receivers written = by_count (password_count (map recipient_key_view receivers)) refl written
   where
     by_first : (password some : Bool) (n : ℕ) (others : Bool) → (n ≡ 0 → others ≡ true) → (if password then suc n else n) ≡ 0 → ((not password || some) && others) ≡ true
     by_first true some n others rest none = absurd (omega (arith, none))
     by_first false some n others rest none = rest none
 
-    none_counted : (list : List Code) → passwords (map receiver_view list) ≡ 0 → list_all (λ r. not (is_password_based r.management) || nat_le 1 p2c) list ≡ true
+    none_counted : (list : List Code) → password_count (map recipient_key_view list) ≡ 0 → list_all (λ r. not (is_password_based r.management) || nat_le 1 p2c) list ≡ true
     none_counted [] none = refl
     none_counted (r ∷ list) none =
-        by_first (is_password_based r.management) (nat_le 1 p2c) (passwords (map receiver_view list)) (list_all (λ q. not (is_password_based q.management) || nat_le 1 p2c) list) (none_counted list) none
+        by_first (is_password_based r.management) (nat_le 1 p2c) (password_count (map recipient_key_view list)) (list_all (λ q. not (is_password_based q.management) || nat_le 1 p2c) list) (none_counted list) none
 
-    by_count : (n : ℕ) → passwords (map receiver_view receivers) ≡ n → is_written limits n p2c ≡ true → list_all (λ r. not (is_password_based r.management) || nat_le 1 p2c) receivers ≡ true
+    by_count : (n : ℕ) → password_count (map recipient_key_view receivers) ≡ n → p2c_may_be_written limits n p2c ≡ true → list_all (λ r. not (is_password_based r.management) || nat_le 1 p2c) receivers ≡ true
     by_count zero is written = none_counted receivers is
     by_count (suc n) is written =
         let least = and_parts (nat_le limits.least_p2c p2c) (nat_le p2c limits.greatest_p2c && nat_le (suc n * p2c) limits.p2c_sum) written in
@@ -101,67 +101,24 @@ all_counted p2c receivers written = by_count (passwords (map receiver_view recei
         let some : nat_le 1 p2c ≡ true = le-leb 1 p2c (omega (arith, enough)) in
         all_pass (λ r. not (is_password_based r.management) || nat_le 1 p2c) receivers (λ r. or_right (not (is_password_based r.management)) (nat_le 1 p2c) some)
 
--- where a password is counted at least once, the algorithm takes the count
-pub counts_where_password : (alg : ManagementAlg) (p2c : ℕ) → (not (is_password_based alg) || nat_le 1 p2c) ≡ true → IsCountOf (key_alg alg) p2c
-counts_where_password Dir p2c h = tt
-counts_where_password A128Kw p2c h = tt
-counts_where_password A192Kw p2c h = tt
-counts_where_password A256Kw p2c h = tt
-counts_where_password Pbes2Hs256A128Kw p2c h = leb-true 1 p2c h
-counts_where_password Pbes2Hs384A192Kw p2c h = leb-true 1 p2c h
-counts_where_password Pbes2Hs512A256Kw p2c h = leb-true 1 p2c h
-counts_where_password A128GcmKw p2c h = tt
-counts_where_password A192GcmKw p2c h = tt
-counts_where_password A256GcmKw p2c h = tt
-
--- what is drawn for an algorithm is an initialization vector of its length, where it reads one
-pub iv_of_drawn : (alg : ManagementAlg) (drawn : List ℕ) → length drawn ≡ drawn_by alg → IsIvOf (key_alg alg) drawn
-iv_of_drawn Dir drawn long = tt
-iv_of_drawn A128Kw drawn long = tt
-iv_of_drawn A192Kw drawn long = tt
-iv_of_drawn A256Kw drawn long = tt
-iv_of_drawn Pbes2Hs256A128Kw drawn long = tt
-iv_of_drawn Pbes2Hs384A192Kw drawn long = tt
-iv_of_drawn Pbes2Hs512A256Kw drawn long = tt
-iv_of_drawn A128GcmKw drawn long = long
-iv_of_drawn A192GcmKw drawn long = long
-iv_of_drawn A256GcmKw drawn long = long
-
--- a content encryption key has 64 octets at most
-pub cek_size : (enc : EncryptionAlg) → ciphers.cek_len (content_alg enc) ≤ 64
-cek_size A128CbcHs256 = lit≤ tt
-cek_size A192CbcHs384 = lit≤ tt
-cek_size A256CbcHs512 = lit≤ tt
-cek_size A128Gcm = lit≤ tt
-cek_size A192Gcm = lit≤ tt
-cek_size A256Gcm = lit≤ tt
-
 -- the key that is used directly has the length of a content encryption key
-pub direct_fits : (enc : EncryptionAlg) (receivers : List Code) (key : List ℕ) → list_all (λ r. fits (key_view r.key.now) (EncryptionWith r.management enc)) receivers ≡ true
-    → direct_key (map receiver_view receivers) ≡ Some key → length key ≡ ciphers.cek_len (content_alg enc)
+pub direct_fits : (enc : ContentEncryptionAlg) (receivers : List Code) (key : List ℕ) → list_all (λ r. fits (key_view r.key.now) (EncryptionWith r.management enc)) receivers ≡ true
+    → direct_key (map recipient_key_view receivers) ≡ Some key → length key ≡ ciphers.cek_len (content_alg enc)
 direct_fits enc [] key fit is = cc is
 direct_fits enc (r ∷ rest) key fit is =
-    by_management r.management
+    by_use (is_direct r.management) refl
     (and_parts (fits (key_view r.key.now) (EncryptionWith r.management enc)) (list_all (λ q. fits (key_view q.key.now) (EncryptionWith q.management enc)) rest) fit).0 is
   where
-    by_management : (alg : ManagementAlg) → fits (key_view r.key.now) (EncryptionWith alg enc) ≡ true → (if is_direct alg then Some (key_view r.key.now).octets else None) ≡ Some key
+    by_use : (direct : Bool) → is_direct r.management ≡ direct → fits (key_view r.key.now) (EncryptionWith r.management enc) ≡ true → (if direct then Some (key_view r.key.now).octets else None) ≡ Some key
         → length key ≡ ciphers.cek_len (content_alg enc)
-    by_management Dir fit is =
+    by_use true direct fit is =
         let same : (key_view r.key.now).octets ≡ key = cc is in
-        ap length (sym same) ∙ direct_key_fits enc (key_view r.key.now) fit
-    by_management A128Kw fit is = cc is
-    by_management A192Kw fit is = cc is
-    by_management A256Kw fit is = cc is
-    by_management Pbes2Hs256A128Kw fit is = cc is
-    by_management Pbes2Hs384A192Kw fit is = cc is
-    by_management Pbes2Hs512A256Kw fit is = cc is
-    by_management A128GcmKw fit is = cc is
-    by_management A192GcmKw fit is = cc is
-    by_management A256GcmKw fit is = cc is
+        ap length (sym same) ∙ direct_key_fits enc (key_view r.key.now) (subst (λ alg. fits (key_view r.key.now) (EncryptionWith alg enc) ≡ true) (direct_is r.management direct) fit)
+    by_use false direct fit is = cc is
 
 -- a key that is used directly is the content encryption key, since it is alone
 pub direct_is_cek : (receivers : List Code) (drawn cek : List ℕ) → list_all (λ r. not (is_direct r.management) || nat_le (length receivers) 1) receivers ≡ true
-    → cek ≡ unwrap_or (direct_key (map receiver_view receivers)) drawn → AllByRecursion (λ r. r.management ≡ Dir → cek ≡ (key_view r.key.now).octets) receivers
+    → cek ≡ unwrap_or (direct_key (map recipient_key_view receivers)) drawn → AllByRecursion (λ r. r.management ≡ Dir → cek ≡ (key_view r.key.now).octets) receivers
 direct_is_cek [] drawn cek alone is = tt
 direct_is_cek (r ∷ []) drawn cek alone is = (λ direct. is ∙ rw direct refl, tt)
 direct_is_cek (r ∷ (other ∷ rest)) drawn cek alone is = none_direct (nat_le (length (r ∷ (other ∷ rest))) 1) (lt-leb (length (r ∷ (other ∷ rest))) 1 (omega arith)) (r ∷ (other ∷ rest)) alone

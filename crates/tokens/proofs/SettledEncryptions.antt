@@ -11,8 +11,8 @@ use Rattle.octets.specs.declared.refusal.Refusal.TheVariants.{Header, KeyDoesNot
 use Rattle.octets.specs.Octets.{IsOctets}
 use Rattle.octets.specs.Outcomes.{needs}
 use Rattle.keys.specs.declared.algorithm.Algorithm.TheVariants.{Encryption as EncryptionWith}
-use Rattle.keys.specs.declared.algorithm.EncryptionAlg.{EncryptionAlg}
-use Rattle.keys.specs.declared.algorithm.ManagementAlg.{ManagementAlg}
+use Rattle.keys.specs.declared.algorithm.ContentEncryptionAlg.{ContentEncryptionAlg}
+use Rattle.keys.specs.declared.algorithm.KeyManagementAlg.{KeyManagementAlg}
 use Rattle.keys.specs.Algorithms.{management_name, encryption_name, is_password_based, management_operations}
 use Rattle.keys.specs.Json.{json_value}
 use Rattle.keys.specs.Keys.{OctetKey, allows, fits}
@@ -23,7 +23,7 @@ use Rattle.objects.specs.Texts.{each}
 use Rattle.objects.proofs.EachRead.{all_passed, all_then, all_both, each_keeps}
 use Rattle.objects.proofs.Members.{Entries}
 use Rattle.objects.proofs.Steps.{steps, passed, same_answer}
-use Rattle.tokens.specs.Choosing.{chosen_management, Receiver, receiver_by, is_alone, stand_together, encryption_for, may_encrypt, passwords, chosen_p2c, is_written, with_name, is_given, Encryption, has_no_more, encryption_with, encryption_of}
+use Rattle.tokens.specs.Choosing.{chosen_management, RecipientKey, recipient_key_by, is_alone, direct_key_is_alone, encryption_for, may_encrypt, password_count, chosen_p2c, p2c_may_be_written, with_name, is_given, EncryptionPlan, compact_has_room, settle_encryption, read_encryption}
 use Rattle.tokens.specs.Encrypting.{AreSound}
 use Rattle.tokens.specs.EncryptionTemplate.{AlgorithmsAsked, EncryptionTemplate, encryption_template}
 use Rattle.tokens.specs.Template.{is_shallow, is_empty}
@@ -34,24 +34,24 @@ use Rattle.tokens.proofs.JointParameters.{unless, free_unless, IsGiven, not_give
 use Rattle.tokens.proofs.ReadLists.{each_gives}
 
 -- the joint header, where nothing is written for a receiver
-abbrev pub joint_of : Encryption → Members
+abbrev pub joint_of : EncryptionPlan → Members
 joint_of e = all_members e.protected e.unprotected no_members
 
 -- it awaits the parameters of a receiver
-abbrev pub AwaitsReceiver : Encryption → Receiver → Type 0
+abbrev pub AwaitsReceiver : EncryptionPlan → RecipientKey → Type 0
 AwaitsReceiver e r = Awaits e.given.alg e.given.p2c (is_password_based r.management) (management_name r.management) e.p2c (joint_of e)
 
 -- so it does, and the key fits
-pub record Receives (e : Encryption) (r : Receiver) : Type 0 where
+pub record Receives (e : EncryptionPlan) (r : RecipientKey) : Type 0 where
   pub fit : fits r.key (EncryptionWith r.management e.encryption) ≡ true
   pub awaits : AwaitsReceiver e r
 
 -- The receivers are those of the keys in order, at least one, and a key that is used directly is the only one. The headers may be written and have no name in common, the joint header names the content encryption,
 -- and the additional data are octets.
-pub record Settles (keys : List OctetKey) (e : Encryption) : Type 0 where
+pub record Settles (keys : List OctetKey) (e : EncryptionPlan) : Type 0 where
   pub keys_are : map (λ r. r.key) e.receivers ≡ keys
   pub some : 1 ≤ length e.receivers
-  pub together : stand_together e.receivers ≡ true
+  pub together : direct_key_is_alone e.receivers ≡ true
   pub receive : AllByRecursion (Receives e) e.receivers
   pub enc : if_there as_str (get_member (codes "enc") (joint_of e)) ≡ Ok (Some (encryption_name e.encryption))
   pub disjoint : are_disjoint e.protected e.unprotected no_members ≡ true
@@ -60,31 +60,31 @@ pub record Settles (keys : List OctetKey) (e : Encryption) : Type 0 where
   pub aad : IsOctets e.aad
 
 -- the iterations of each password, and of all together, are no more than are read
-pub record TakesFew (limits : Limits) (e : Encryption) : Type 0 where
+pub record TakesFew (limits : Limits) (e : EncryptionPlan) : Type 0 where
   pub each_few : AllByRecursion (λ r. is_password_based r.management ≡ true → e.p2c ≤ limits.greatest_p2c_read) e.receivers
-  pub all_few : passwords e.receivers * e.p2c ≤ limits.p2c_sum
+  pub all_few : password_count e.receivers * e.p2c ≤ limits.p2c_sum
 
 -- ---- the algorithms
 
 -- a receiver has the key
-key_is : (asked : Option ManagementAlg) (key : OctetKey) (r : Receiver) → receiver_by asked key ≡ Ok r → r.key ≡ key
-unfolding receiver_by
+key_is : (asked : Option KeyManagementAlg) (key : OctetKey) (r : RecipientKey) → recipient_key_by asked key ≡ Ok r → r.key ≡ key
+unfolding recipient_key_by
 key_is asked key r h =
     let a = steps (chosen_management asked key) _ r h in
-    ap (λ (r : Receiver). r.key) (sym (same_answer _ r a.2))
+    ap (λ (r : RecipientKey). r.key) (sym (same_answer _ r a.2))
 
 -- and the key management that the template names, where it does
-management_kept : (asked : Option ManagementAlg) (key : OctetKey) (r : Receiver) → receiver_by asked key ≡ Ok r → (a : ManagementAlg) → asked ≡ Some a → a ≡ r.management
-unfolding receiver_by
+management_kept : (asked : Option KeyManagementAlg) (key : OctetKey) (r : RecipientKey) → recipient_key_by asked key ≡ Ok r → (a : KeyManagementAlg) → asked ≡ Some a → a ≡ r.management
+unfolding recipient_key_by
 management_kept None key r h a e = cc e
 management_kept (Some b) key r h a e =
     let same : record { key = key; management = b } ≡ r = same_answer _ r h in
     let asks : b ≡ a = cc e in
-    sym asks ∙ ap (λ (r : Receiver). r.management) same
+    sym asks ∙ ap (λ (r : RecipientKey). r.management) same
 
 -- so is its content encryption, and there is a receiver
-encryption_kept : (asked : Option EncryptionAlg) (receivers : List Receiver) (enc : EncryptionAlg) → encryption_for asked receivers ≡ Ok enc
-    → (1 ≤ length receivers) × ((a : EncryptionAlg) → asked ≡ Some a → a ≡ enc)
+encryption_kept : (asked : Option ContentEncryptionAlg) (receivers : List RecipientKey) (enc : ContentEncryptionAlg) → encryption_for asked receivers ≡ Ok enc
+    → (1 ≤ length receivers) × ((a : ContentEncryptionAlg) → asked ≡ Some a → a ≡ enc)
 encryption_kept asked [] enc h = cc h
 encryption_kept None (r ∷ rest) enc h = (omega arith, λ a e. cc e)
 encryption_kept (Some b) (r ∷ rest) enc h = (omega arith, λ a e. cc (e, h))
@@ -92,19 +92,19 @@ encryption_kept (Some b) (r ∷ rest) enc h = (omega arith, λ a e. cc (e, h))
 -- ---- the iterations
 
 -- where a receiver is a password, there are passwords
-password_counts : (receivers : List Receiver) (n : ℕ) → passwords receivers ≤ n → AllByRecursion (λ r. is_password_based r.management ≡ true → 1 ≤ n) receivers
+password_counts : (receivers : List RecipientKey) (n : ℕ) → password_count receivers ≤ n → AllByRecursion (λ r. is_password_based r.management ≡ true → 1 ≤ n) receivers
 password_counts [] n few = tt
 password_counts (r ∷ rest) n few = by_test (is_password_based r.management) refl (password_counts rest n) few
   where
-    by_test : (password : Bool) → is_password_based r.management ≡ password → (passwords rest ≤ n → AllByRecursion (λ r. is_password_based r.management ≡ true → 1 ≤ n) rest)
-        → (if password then suc (passwords rest) else passwords rest) ≤ n → AllByRecursion (λ r. is_password_based r.management ≡ true → 1 ≤ n) (r ∷ rest)
+    by_test : (password : Bool) → is_password_based r.management ≡ password → (password_count rest ≤ n → AllByRecursion (λ r. is_password_based r.management ≡ true → 1 ≤ n) rest)
+        → (if password then suc (password_count rest) else password_count rest) ≤ n → AllByRecursion (λ r. is_password_based r.management ≡ true → 1 ≤ n) (r ∷ rest)
     by_test true is later few = (λ e. omega (arith, few), later (omega (arith, few)))
     by_test false is later few = (λ e. cc (is, e), later few)
 
 -- ---- all that is settled
 
 -- what is settled by these receivers, algorithms and headers
-abbrev encryption_by : EncryptionTemplate → List Receiver → EncryptionAlg → ℕ → Members → Encryption
+abbrev encryption_by : EncryptionTemplate → List RecipientKey → ContentEncryptionAlg → ℕ → Members → EncryptionPlan
 encryption_by t receivers encryption p2c protected = record {
   encryption = encryption;
   receivers = receivers;
@@ -116,15 +116,15 @@ encryption_by t receivers encryption p2c protected = record {
 }
 
 -- where compact form is asked for, it can hold what is settled
-abbrev pub holds_no_more : Bool → Encryption → Bool
+abbrev pub holds_no_more : Bool → EncryptionPlan → Bool
 holds_no_more compact e = if compact then is_alone e.receivers && (is_empty e.unprotected && (length e.aad == 0)) else true
 
 -- the protected header with the name of the content encryption
-abbrev with_enc : EncryptionTemplate → EncryptionAlg → Members
+abbrev with_enc : EncryptionTemplate → ContentEncryptionAlg → Members
 with_enc t enc = with_name (is_some t.asked.encryption) (codes "enc") (encryption_name enc) t.protected
 
 -- a receiver that may encrypt, and whose parameters are awaited, receives
-receives : (e : Encryption) (r : Receiver) → may_encrypt e.encryption r ≡ true → AwaitsReceiver e r → Receives e r
+receives : (e : EncryptionPlan) (r : RecipientKey) → may_encrypt e.encryption r ≡ true → AwaitsReceiver e r → Receives e r
 receives e r may awaits = record {
   fit = (and_parts (allows r.key (management_operations r.management).0) (fits r.key (EncryptionWith r.management e.encryption)) may).1;
   awaits = awaits;
@@ -133,7 +133,7 @@ receives e r may awaits = record {
 -- ---- where what may be written may be read
 module _ (limits : Limits) (sound : AreSound limits) where
   -- how many iterations are written
-  within : (n p2c : ℕ) → is_written limits (suc n) p2c ≡ true → (1 ≤ p2c) × (p2c ≤ limits.greatest_p2c) × (suc n * p2c ≤ limits.p2c_sum)
+  within : (n p2c : ℕ) → p2c_may_be_written limits (suc n) p2c ≡ true → (1 ≤ p2c) × (p2c ≤ limits.greatest_p2c) × (suc n * p2c ≤ limits.p2c_sum)
   within n p2c h =
       let first = and_parts (nat_le limits.least_p2c p2c) (nat_le p2c limits.greatest_p2c && nat_le (suc n * p2c) limits.p2c_sum) h in
       let second = and_parts (nat_le p2c limits.greatest_p2c) (nat_le (suc n * p2c) limits.p2c_sum) first.1 in
@@ -141,19 +141,19 @@ module _ (limits : Limits) (sound : AreSound limits) where
       (omega (arith, least, sound.some), leb-true p2c limits.greatest_p2c second.0, leb-true (suc n * p2c) limits.p2c_sum second.1)
 
   -- so all passwords together take few enough
-  few_iterations : (n p2c : ℕ) → is_written limits n p2c ≡ true → n * p2c ≤ limits.p2c_sum
+  few_iterations : (n p2c : ℕ) → p2c_may_be_written limits n p2c ≡ true → n * p2c ≤ limits.p2c_sum
   few_iterations zero p2c h = omega arith
   few_iterations (suc n) p2c h = (within n p2c h).2
 
   -- and each no more than are read
-  each_few : (receivers : List Receiver) (n p2c : ℕ) → is_written limits n p2c ≡ true → AllByRecursion (λ r. is_password_based r.management ≡ true → 1 ≤ n) receivers
+  each_few : (receivers : List RecipientKey) (n p2c : ℕ) → p2c_may_be_written limits n p2c ≡ true → AllByRecursion (λ r. is_password_based r.management ≡ true → 1 ≤ n) receivers
       → AllByRecursion (λ r. is_password_based r.management ≡ true → p2c ≤ limits.greatest_p2c_read) receivers
   each_few receivers zero p2c h some = all_then _ _ (λ r none password. absurd (omega (arith, none password))) receivers some
   each_few receivers (suc n) p2c h some = all_then _ _ (λ r _ password. omega (arith, (within n p2c h).1, sound.read)) receivers some
 
   -- where there are passwords, the header gives their count, or it is free
   counted : (n : ℕ) (asked : Result (Option ℕ) Refusal) (p2c : ℕ) (header : Members) → if_there as_count (get_member (codes "p2c") header) ≡ asked → chosen_p2c limits n asked ≡ Ok p2c
-      → is_written limits n p2c ≡ true → 1 ≤ n → Counted (is_given asked) p2c header
+      → p2c_may_be_written limits n p2c ≡ true → 1 ≤ n → Counted (is_given asked) p2c header
   counted zero asked p2c header is chosen written some = absurd (omega arith)
   counted (suc n) (Err refusal) p2c header is chosen written some = cc chosen
   counted (suc n) (Ok None) p2c header is chosen written some =
@@ -164,44 +164,44 @@ module _ (limits : Limits) (sound : AreSound limits) where
       record { there = is ∙ ap (λ k. Ok (Some k)) (same_answer m p2c chosen); some = count.0; whole = omega (arith, count.1, sound.whole) }
 
   -- the joint header of a template awaits the parameters of each receiver
-  awaits : (p u : Members) (asked : AlgorithmsAsked) (receivers : List Receiver) (p2c : ℕ) → Asks p u asked → chosen_p2c limits (passwords receivers) asked.p2c ≡ Ok p2c
-      → is_written limits (passwords receivers) p2c ≡ true → (r : Receiver) → ((a : ManagementAlg) → asked.management ≡ Some a → a ≡ r.management)
-      → (is_password_based r.management ≡ true → 1 ≤ passwords receivers)
+  awaits : (p u : Members) (asked : AlgorithmsAsked) (receivers : List RecipientKey) (p2c : ℕ) → Asks p u asked → chosen_p2c limits (password_count receivers) asked.p2c ≡ Ok p2c
+      → p2c_may_be_written limits (password_count receivers) p2c ≡ true → (r : RecipientKey) → ((a : KeyManagementAlg) → asked.management ≡ Some a → a ≡ r.management)
+      → (is_password_based r.management ≡ true → 1 ≤ password_count receivers)
       → Awaits (is_some asked.management) (is_given asked.p2c) (is_password_based r.management) (management_name r.management) p2c (all_members p u no_members)
   awaits p u asked receivers p2c is chosen written r named some =
       let header = all_members p u no_members in
       record {
         alg_there = given_if_asked as_str management_name (get_member (codes "alg") header) asked.management r.management is.management named;
-        count = λ password. counted (passwords receivers) asked.p2c p2c header is.count chosen written (some password);
+        count = λ password. counted (password_count receivers) asked.p2c p2c header is.count chosen written (some password);
         no_salt = is.no_salt;
         no_iv = is.no_iv;
         no_tag = is.no_tag;
       }
 
   -- what is chosen for a template and keys, one step after another
-  record IsChosen (compact : Bool) (keys : List OctetKey) (t : EncryptionTemplate) (receivers : List Receiver) (enc : EncryptionAlg) (p2c : ℕ) : Type 0 where
-    by_keys : each (receiver_by t.asked.management) keys ≡ Ok receivers
-    together : stand_together receivers ≡ true
+  record IsChosen (compact : Bool) (keys : List OctetKey) (t : EncryptionTemplate) (receivers : List RecipientKey) (enc : ContentEncryptionAlg) (p2c : ℕ) : Type 0 where
+    by_keys : each (recipient_key_by t.asked.management) keys ≡ Ok receivers
+    together : direct_key_is_alone receivers ≡ true
     encryption : encryption_for t.asked.encryption receivers ≡ Ok enc
     fit : list_all (may_encrypt enc) receivers ≡ true
-    count : chosen_p2c limits (passwords receivers) t.asked.p2c ≡ Ok p2c
+    count : chosen_p2c limits (password_count receivers) t.asked.p2c ≡ Ok p2c
     shallow : (is_shallow limits t.protected && is_shallow limits t.unprotected) ≡ true
-    written : is_written limits (passwords receivers) p2c ≡ true
-    alone : has_no_more compact receivers t ≡ true
+    written : p2c_may_be_written limits (password_count receivers) p2c ≡ true
+    alone : compact_has_room compact receivers t ≡ true
 
   -- the steps of settling
-  chosen : (compact : Bool) (keys : List OctetKey) (t : EncryptionTemplate) (e : Encryption) → encryption_with limits compact keys t ≡ Ok e
-      → (receivers : List Receiver) × (enc : EncryptionAlg) × (p2c : ℕ) × IsChosen compact keys t receivers enc p2c × (encryption_by t receivers enc p2c (with_enc t enc) ≡ e)
-  unfolding encryption_with
+  chosen : (compact : Bool) (keys : List OctetKey) (t : EncryptionTemplate) (e : EncryptionPlan) → settle_encryption limits compact keys t ≡ Ok e
+      → (receivers : List RecipientKey) × (enc : ContentEncryptionAlg) × (p2c : ℕ) × IsChosen compact keys t receivers enc p2c × (encryption_by t receivers enc p2c (with_enc t enc) ≡ e)
+  unfolding settle_encryption
   chosen compact keys t e h =
-      let receivers = steps (each (receiver_by t.asked.management) keys) _ e h in
-      let together = steps (needs (stand_together receivers.0) Header) _ e receivers.2 in
+      let receivers = steps (each (recipient_key_by t.asked.management) keys) _ e h in
+      let together = steps (needs (direct_key_is_alone receivers.0) Header) _ e receivers.2 in
       let encryption = steps (encryption_for t.asked.encryption receivers.0) _ e together.2 in
       let fit = steps (needs (list_all (may_encrypt encryption.0) receivers.0) KeyDoesNotFit) _ e encryption.2 in
-      let p2c = steps (chosen_p2c limits (passwords receivers.0) t.asked.p2c) _ e fit.2 in
+      let p2c = steps (chosen_p2c limits (password_count receivers.0) t.asked.p2c) _ e fit.2 in
       let shallow = steps (needs (is_shallow limits t.protected && is_shallow limits t.unprotected) Limit) _ e p2c.2 in
-      let written = steps (needs (is_written limits (passwords receivers.0) p2c.0) Limit) _ e shallow.2 in
-      let alone = steps (needs (has_no_more compact receivers.0 t) NotCompact) _ e written.2 in
+      let written = steps (needs (p2c_may_be_written limits (password_count receivers.0) p2c.0) Limit) _ e shallow.2 in
+      let alone = steps (needs (compact_has_room compact receivers.0 t) NotCompact) _ e written.2 in
       let all : IsChosen compact keys t receivers.0 encryption.0 p2c.0 = record {
         by_keys = receivers.1;
         together = passed _ Header together.0 together.1;
@@ -215,7 +215,7 @@ module _ (limits : Limits) (sound : AreSound limits) where
       (receivers.0, encryption.0, p2c.0, all, same_answer _ e alone.2)
 
   -- so it is settled
-  settled_by : (compact : Bool) (keys : List OctetKey) (t : EncryptionTemplate) (rs : List Receiver) (enc : EncryptionAlg) (p2c : ℕ) → IsTemplate t → IsChosen compact keys t rs enc p2c
+  settled_by : (compact : Bool) (keys : List OctetKey) (t : EncryptionTemplate) (rs : List RecipientKey) (enc : ContentEncryptionAlg) (p2c : ℕ) → IsTemplate t → IsChosen compact keys t rs enc p2c
       → Settles keys (encryption_by t rs enc p2c (with_enc t enc)) × TakesFew limits (encryption_by t rs enc p2c (with_enc t enc))
   settled_by compact keys t rs enc p2c is by =
       let header : Members = all_members t.protected t.unprotected no_members in
@@ -229,17 +229,17 @@ module _ (limits : Limits) (sound : AreSound limits) where
       into_protected t.protected t.unprotected entry is.asks.disjoint
       (free_unless given header (codes "enc") value (not_given as_str given (get_member (codes "enc") header) (encryption_name enc) enc_there), tt) in
       let both = and_parts (is_shallow limits t.protected) (is_shallow limits t.unprotected) by.shallow in
-      let e : Encryption = encryption_by t rs enc p2c (put_onto t.protected entry) in
-      let named_each : AllByRecursion (λ r. (a : ManagementAlg) → t.asked.management ≡ Some a → a ≡ r.management) rs =
-      each_gives (receiver_by t.asked.management) (management_kept t.asked.management) keys rs by.by_keys in
-      let counts = password_counts rs (passwords rs) (omega arith) in
+      let e : EncryptionPlan = encryption_by t rs enc p2c (put_onto t.protected entry) in
+      let named_each : AllByRecursion (λ r. (a : KeyManagementAlg) → t.asked.management ≡ Some a → a ≡ r.management) rs =
+      each_gives (recipient_key_by t.asked.management) (management_kept t.asked.management) keys rs by.by_keys in
+      let counts = password_counts rs (password_count rs) (omega arith) in
       let awaits_each : AllByRecursion (AwaitsReceiver e) rs =
       all_both (λ r named some.
       still_awaits e.given.alg e.given.p2c (is_password_based r.management) (management_name r.management) p2c header (joint_of e)
       (joint.members (codes "alg")) (joint.members (codes "p2c")) (joint.members (codes "p2s")) (joint.members (codes "iv")) (joint.members (codes "tag"))
       (awaits t.protected t.unprotected t.asked rs p2c is.asks by.count by.written r named some)) rs named_each counts in
       let settles : Settles keys e = record {
-        keys_are = each_keeps (receiver_by t.asked.management) (λ key. key) (λ r. r.key) (key_is t.asked.management) keys rs by.by_keys ∙ map-id keys;
+        keys_are = each_keeps (recipient_key_by t.asked.management) (λ key. key) (λ r. r.key) (key_is t.asked.management) keys rs by.by_keys ∙ map-id keys;
         some = kept.0;
         together = by.together;
         receive = all_both (receives e) rs (all_passed (may_encrypt enc) rs by.fit) awaits_each;
@@ -249,14 +249,14 @@ module _ (limits : Limits) (sound : AreSound limits) where
         unprotected = record { json = is.unprotected; shallow = stands limits t.unprotected sound.depth both.1; plain = is.asks.unprotected_plain };
         aad = is.aad;
       } in
-      let few : TakesFew limits e = record { each_few = each_few rs (passwords rs) p2c by.written counts; all_few = few_iterations (passwords rs) p2c by.written } in
+      let few : TakesFew limits e = record { each_few = each_few rs (password_count rs) p2c by.written counts; all_few = few_iterations (password_count rs) p2c by.written } in
       subst (λ p. Settles keys (encryption_by t rs enc p2c p) × TakesFew limits (encryption_by t rs enc p2c p)) (sym (with_name_is given (codes "enc") (encryption_name enc) t.protected))
       (settles, few)
 
   -- all this holds of what a template's text and keys settle
-  settled : (compact : Bool) (keys : List OctetKey) (template : List ℕ) (e : Encryption) → encryption_of limits compact keys template ≡ Ok e
+  settled : (compact : Bool) (keys : List OctetKey) (template : List ℕ) (e : EncryptionPlan) → read_encryption limits compact keys template ≡ Ok e
       → Settles keys e × TakesFew limits e × (holds_no_more compact e ≡ true)
-  unfolding encryption_of
+  unfolding read_encryption
   settled compact keys template e h =
       let value = steps (json_value template) _ e h in
       let t = steps (encryption_template value.0) _ e value.2 in
@@ -266,13 +266,13 @@ module _ (limits : Limits) (sound : AreSound limits) where
       subst (λ e. Settles keys e × TakesFew limits e × (holds_no_more compact e ≡ true)) by.4 (both.0, both.1, by.3.alone)
 
   -- so keys and a template settle an encryption, ..
-  pub settles : (compact : Bool) (keys : List OctetKey) (template : List ℕ) (e : Encryption) → encryption_of limits compact keys template ≡ Ok e → Settles keys e
+  pub settles : (compact : Bool) (keys : List OctetKey) (template : List ℕ) (e : EncryptionPlan) → read_encryption limits compact keys template ≡ Ok e → Settles keys e
   settles compact keys template e h = (settled compact keys template e h).0
 
   -- .. which takes few iterations, ..
-  pub takes_few : (compact : Bool) (keys : List OctetKey) (template : List ℕ) (e : Encryption) → encryption_of limits compact keys template ≡ Ok e → TakesFew limits e
+  pub takes_few : (compact : Bool) (keys : List OctetKey) (template : List ℕ) (e : EncryptionPlan) → read_encryption limits compact keys template ≡ Ok e → TakesFew limits e
   takes_few compact keys template e h = (settled compact keys template e h).1
 
   -- .. and which compact form can hold where it is asked for
-  pub stands_alone : (compact : Bool) (keys : List OctetKey) (template : List ℕ) (e : Encryption) → encryption_of limits compact keys template ≡ Ok e → holds_no_more compact e ≡ true
+  pub stands_alone : (compact : Bool) (keys : List OctetKey) (template : List ℕ) (e : EncryptionPlan) → read_encryption limits compact keys template ≡ Ok e → holds_no_more compact e ≡ true
   stands_alone compact keys template e h = (settled compact keys template e h).2

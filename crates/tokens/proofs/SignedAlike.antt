@@ -6,14 +6,15 @@ use Rattle.octets.specs.declared.refusal.Refusal.{Refusal}
 use Rattle.octets.specs.declared.refusal.Refusal.TheVariants.{Json, Number, Form, Unsupported, Limit, NotCompact}
 use Rattle.octets.specs.Base64url.{decoded}
 use Rattle.octets.specs.Outcomes.{◌>>=◌, needs}
-use Rattle.keys.specs.declared.algorithm.ManagementAlg.{ManagementAlg}
+use Rattle.keys.specs.declared.algorithm.KeyManagementAlg.{KeyManagementAlg}
 use Rattle.keys.specs.Json.{member_numbers_are_whole}
-use Rattle.keys.specs.Limits.{Limits}
+use Rattle.keys.specs.Limits.{Limits, are_few}
 use Rattle.objects.specs.Frames.{with_octets, signed_with}
 use Rattle.objects.specs.Headers.{protected_members, joint_header, string_there}
-use Rattle.objects.specs.Jws.{SignatureParts, DecodedSignature, HeadedSignature, Signature, SignedObject, decoded_signature, headed_signature, signature_by, is_plain, signatures_of, signed_object, built, is_compact, jws_text, jws_compact_text}
+use Rattle.objects.specs.Jws.{SignatureParts, DecodedSignature, HeadedSignature, Signature, SignedObject, decoded_part, headed_signature, signature_by, headers_have_no_crit, signatures_of, signed_object, built, is_compact, jws_text, jws_compact_text}
 use Rattle.objects.specs.KeyManagement.{KeyManagement, key_management}
 use Rattle.objects.specs.Texts.{each, depth_of_each}
+use Rattle.objects.specs.Writing.{Written}
 
 -- ---- each of a list with a value put into it
 
@@ -72,8 +73,8 @@ put_octets s v = record { protected = s.protected; protected_members = s.protect
 abbrev made_with : HeadedSignature → List ℕ → List ℕ → Signature
 made_with h v alg = record { protected = h.parts.protected; protected_members = h.members; header = h.parts.header; signature = v; alg = alg }
 
-decoded_alike : (p : SignatureParts) (v : List ℕ) → decoded_signature (put_part p v) ≡ (decoded_signature p >>= λ d. Ok (put_decoded d v))
-unfolding decoded_signature
+decoded_alike : (p : SignatureParts) (v : List ℕ) → decoded_part (put_part p v) ≡ (decoded_part p >>= λ d. Ok (put_decoded d v))
+unfolding decoded_part
 decoded_alike p v = by_answer (decoded p.protected)
   where
     by_answer : (r : Result (List ℕ) Refusal)
@@ -92,7 +93,7 @@ headed_alike d v = by_answer (protected_members d.octets)
     by_answer (Ok own) = refl
     by_answer (Err e) = refl
 
-signature_alike : (algs : List ManagementAlg) (h : HeadedSignature) (v : List ℕ) → signature_by algs (put_headed h v) ≡ (signature_by algs h >>= λ s. Ok (put_octets s v))
+signature_alike : (algs : List KeyManagementAlg) (h : HeadedSignature) (v : List ℕ) → signature_by algs (put_headed h v) ≡ (signature_by algs h >>= λ s. Ok (put_octets s v))
 unfolding signature_by
 signature_alike algs h v = by_header (joint_header h.members no_members h.parts.header)
   where
@@ -113,7 +114,7 @@ signature_alike algs h v = by_header (joint_header h.members no_members h.parts.
     by_header (Ok header) = by_alg header (string_there (codes "alg") header)
     by_header (Err e) = refl
 
-signatures_alike : (algs : List ManagementAlg) (ds : List DecodedSignature) (values : List (List ℕ)) → signatures_of algs (with_all put_decoded ds values) ≡ (signatures_of algs ds >>= λ ss. Ok (with_all put_octets ss values))
+signatures_alike : (algs : List KeyManagementAlg) (ds : List DecodedSignature) (values : List (List ℕ)) → signatures_of algs (with_all put_decoded ds values) ≡ (signatures_of algs ds >>= λ ss. Ok (with_all put_octets ss values))
 unfolding signatures_of
 signatures_alike algs ds values = rw (each-with_all headed_signature put_decoded put_headed headed_alike ds values) (by_headed (each headed_signature ds))
   where
@@ -124,11 +125,11 @@ signatures_alike algs ds values = rw (each-with_all headed_signature put_decoded
     by_signatures plain (Err e) = refl
 
     by_headed : (r : Result (List HeadedSignature) Refusal)
-        → ((r >>= λ hs. Ok (with_all put_headed hs values)) >>= λ hs. each (signature_by algs) hs >>= λ ss. needs (list_all is_plain hs) Unsupported >>= λ u. Ok ss)
-        ≡ ((r >>= λ hs. each (signature_by algs) hs >>= λ ss. needs (list_all is_plain hs) Unsupported >>= λ u. Ok ss) >>= λ ss. Ok (with_all put_octets ss values))
+        → ((r >>= λ hs. Ok (with_all put_headed hs values)) >>= λ hs. each (signature_by algs) hs >>= λ ss. needs (list_all headers_have_no_crit hs) Unsupported >>= λ u. Ok ss)
+        ≡ ((r >>= λ hs. each (signature_by algs) hs >>= λ ss. needs (list_all headers_have_no_crit hs) Unsupported >>= λ u. Ok ss) >>= λ ss. Ok (with_all put_octets ss values))
     by_headed (Ok hs) =
-        rw (each-with_all (signature_by algs) put_headed put_octets (signature_alike algs) hs values, all-with_all put_headed is_plain (λ h v. refl) hs values)
-        (by_signatures (list_all is_plain hs) (each (signature_by algs) hs))
+        rw (each-with_all (signature_by algs) put_headed put_octets (signature_alike algs) hs values, all-with_all put_headed headers_have_no_crit (λ h v. refl) hs values)
+        (by_signatures (list_all headers_have_no_crit hs) (each (signature_by algs) hs))
     by_headed (Err e) = refl
 
 with_octets_is : (ss : List Signature) (values : List (List ℕ)) → with_all put_octets ss values ≡ with_octets ss values
@@ -147,10 +148,10 @@ built_alike limits own payload parts values =
       length-with_all put_part parts values,
       all-with_all put_part (λ p. nat_le (depth (object p.header)) (depth_of_each (length parts))) (λ p v. refl) parts values,
       all-with_all put_part (λ p. member_numbers_are_whole p.header) (λ p v. refl) parts values,
-      each-with_all decoded_signature put_part put_decoded decoded_alike parts values,
+      each-with_all decoded_part put_part put_decoded decoded_alike parts values,
     )
     (by_tests (list_all (λ p. nat_le (depth (object p.header)) (depth_of_each (length parts))) parts) (list_all (λ p. member_numbers_are_whole p.header) parts)
-    (nat_le 1 (length parts)) (nat_le (length parts) limits.recipients) (each decoded_signature parts))
+    (nat_le 1 (length parts)) (are_few limits (length parts)) (each decoded_part parts))
   where
     by_signatures : (r : Result (List Signature) Refusal)
         → ((r >>= λ ss. Ok (with_all put_octets ss values)) >>= λ ss. Ok (record { payload = payload; signatures = ss }))
@@ -190,6 +191,7 @@ unfolding jws_compact_text
 refused_alike false detach o payload values h = cc h
 refused_alike true detach o payload values h = rw (compact_alike o.signatures values) (by_test (is_compact o.signatures) _ _ h)
   where
-    by_test : (fits : Bool) (x y : List ℕ) → (needs fits NotCompact >>= λ _. Ok x) ≡ Err NotCompact → (needs fits NotCompact >>= λ _. Ok y) ≡ Err NotCompact
+    by_test : (fits : Bool) (x y : Written) → ((needs fits NotCompact >>= λ _. Ok x) >>= λ (w : Written). Ok w.text) ≡ Err NotCompact
+        → ((needs fits NotCompact >>= λ _. Ok y) >>= λ (w : Written). Ok w.text) ≡ Err NotCompact
     by_test true x y h = cc h
     by_test false x y h = refl

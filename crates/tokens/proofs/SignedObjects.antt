@@ -14,17 +14,17 @@ use Rattle.keys.specs.Algorithms.{signature_name, management_alg_among, manageme
 use Rattle.keys.specs.Json.{json_value, member_numbers_are_whole}
 use Rattle.keys.specs.JsonTexts.{AreJsonMembers}
 use Rattle.keys.specs.Keys.{OctetKey}
-use Rattle.keys.specs.Limits.{limits}
+use Rattle.keys.specs.Limits.{limits, are_few}
 use Rattle.keys.proofs.ReadingBack.{numbers_whole}
 use Rattle.keys.proofs.ValuesRead.{reads_json}
 use Rattle.objects.specs.Headers.{joint_header, string_there, has_no_crit}
 use Rattle.objects.specs.Jws as jws
-use Rattle.objects.specs.Jws.{SignatureParts, Signature, SignedObject, DecodedSignature, HeadedSignature, decoded_signature, headed_signature, is_plain, signatures_of, signed_object, built}
+use Rattle.objects.specs.Jws.{SignatureParts, Signature, SignedObject, DecodedSignature, HeadedSignature, decoded_part, headed_signature, headers_have_no_crit, signatures_of, signed_object, built, jws_text}
 use Rattle.objects.specs.Texts.{each, handed_out, depth_of_each}
 use Rattle.objects.proofs.EachRead.{all_passed, all_both}
 use Rattle.objects.proofs.Steps.{steps, same_answer, passed}
 use Rattle.tokens.specs.Signatures.{signature_of}
-use Rattle.tokens.specs.Signing.{Signer, Signing, signer_by, may_sign, has_no_more, signing_with, signing_of, protected_by, signature_by, signed, text_of, written_of}
+use Rattle.tokens.specs.Signing.{Signer, Signing, signer_by, may_sign, compact_has_room, settle_signing, read_signing, protected_by, signature_by, signed, written_of}
 use Rattle.tokens.specs.Template.{SignatureTemplate, template_of, header_text, is_shallow}
 use Rattle.tokens.proofs.HeaderTexts.{ReadsBack, read_back, stands, shallow_enough}
 use Rattle.tokens.proofs.ReadLists.{each_gives, each_made, all_pass}
@@ -46,14 +46,14 @@ pub record IsSigning (compact : Bool) (keys : List OctetKey) (s : Signing) : Typ
   pub json : AreJsonMembers s.header
   pub plain : has_no_crit s.header ≡ true
   pub shallow : is_shallow limits s.header ≡ true
-  pub alone : has_no_more compact s ≡ true
+  pub alone : compact_has_room compact s ≡ true
 
 -- where the protected header is shallow enough and the key may sign, a signer that is settled signs
 may_and_shallow : (header : Members) (s : Signer) → IsSettled header s → (may_sign s ≡ true) × (is_shallow limits s.protected ≡ true) → Signs header s
 may_and_shallow header s is tests = record { settled = is; back = read_back s.protected is.json (stands limits s.protected (lit≤ tt) tests.1); may = tests.0 }
 
-pub is_signing : (compact : Bool) (keys : List OctetKey) (text : List ℕ) (s : Signing) → signing_of limits compact keys text ≡ Ok s → IsSigning compact keys s
-unfolding signing_of signing_with
+pub is_signing : (compact : Bool) (keys : List OctetKey) (text : List ℕ) (s : Signing) → read_signing limits compact keys text ≡ Ok s → IsSigning compact keys s
+unfolding read_signing settle_signing
 is_signing compact keys text s h =
     let value = steps (json_value text) _ s h in
     let template = steps (template_of value.0) _ s value.2 in
@@ -61,7 +61,7 @@ is_signing compact keys text s h =
     let signers = steps (each (signer_by t) keys) _ s template.2 in
     let fit = steps (needs (list_all may_sign signers.0) KeyDoesNotFit) _ s signers.2 in
     let shallow = steps (needs (list_all (λ s. is_shallow limits s.protected) signers.0 && is_shallow limits t.per_signature) Limit) _ s fit.2 in
-    let alone = steps (needs (has_no_more compact (record { signers = signers.0; header = t.per_signature })) NotCompact) _ s shallow.2 in
+    let alone = steps (needs (compact_has_room compact (record { signers = signers.0; header = t.per_signature })) NotCompact) _ s shallow.2 in
     let is : IsTemplate t = is_template value.0 t (reads_json text value.0 value.1).0 template.1 in
     let both = and_parts (list_all (λ s. is_shallow limits s.protected) signers.0) (is_shallow limits t.per_signature) (passed _ Limit shallow.0 shallow.1) in
     let may : AllByRecursion (λ s. may_sign s ≡ true) signers.0 = all_passed may_sign signers.0 (passed _ KeyDoesNotFit fit.0 fit.1) in
@@ -101,8 +101,8 @@ abbrev pub object_by : Signing → List ℕ → SignedObject
 object_by s payload = record { payload = payload; signatures = map (made_by s.header payload) s.signers }
 
 -- each step gives it
-decodes : (header : Members) (payload : List ℕ) (s : Signer) → Signs header s → decoded_signature (signature_by header payload s) ≡ Ok (decoded_by header payload s)
-unfolding decoded_signature
+decodes : (header : Members) (payload : List ℕ) (s : Signer) → Signs header s → decoded_part (signature_by header payload s) ≡ Ok (decoded_by header payload s)
+unfolding decoded_part
 decodes header payload s is = rw (meaning_of_text (header_text s.protected) is.back.octets) refl
 
 reads : (header : Members) (payload : List ℕ) (s : Signer) → Signs header s → headed_signature (decoded_by header payload s) ≡ Ok (headed_by header payload s)
@@ -121,7 +121,7 @@ unfolding jws.signature_by joint_header string_there
 makes header payload s is = rw (is.settled.disjoint, is.settled.alg, no_management s.alg) refl
 
 -- so signing makes the object of its signers' signatures
-pub signed_is : (compact : Bool) (keys : List OctetKey) (s : Signing) (payload : List ℕ) → IsSigning compact keys s → nat_le 1 (length s.signers) ≡ true → nat_le (length s.signers) limits.recipients ≡ true
+pub signed_is : (compact : Bool) (keys : List OctetKey) (s : Signing) (payload : List ℕ) → IsSigning compact keys s → nat_le 1 (length s.signers) ≡ true → are_few limits (length s.signers) ≡ true
     → signed limits s payload ≡ Ok (object_by s payload)
 unfolding signed built signed_object signatures_of
 signed_is compact keys s payload is some few =
@@ -133,25 +133,25 @@ signed_is compact keys s payload is some few =
     let whole : list_all (λ p. member_numbers_are_whole p.header) (map given s.signers) ≡ true =
     all_pass (λ p. member_numbers_are_whole p.header) given (λ x h. numbers_whole (object s.header) is.json) s.signers is.signs in
     let some_parts : nat_le 1 (length (map given s.signers)) ≡ true = ap (nat_le 1) long ∙ some in
-    let few_parts : nat_le (length (map given s.signers)) limits.recipients ≡ true = ap (λ k. nat_le k limits.recipients) long ∙ few in
-    let decoded = each_made decoded_signature given (decoded_by s.header payload) (decodes s.header payload) s.signers is.signs in
+    let few_parts : are_few limits (length (map given s.signers)) ≡ true = ap (λ k. are_few limits k) long ∙ few in
+    let decoded = each_made decoded_part given (decoded_by s.header payload) (decodes s.header payload) s.signers is.signs in
     let headed = each_made headed_signature (decoded_by s.header payload) (headed_by s.header payload) (reads s.header payload) s.signers is.signs in
     let made = each_made (jws.signature_by limits.management) (headed_by s.header payload) (made_by s.header payload) (makes s.header payload) s.signers is.signs in
-    let plain : list_all is_plain (map (headed_by s.header payload) s.signers) ≡ true =
-    all_pass is_plain (headed_by s.header payload) (λ x h. and_from (has_no_crit x.protected) (has_no_crit s.header) h.settled.plain is.plain) s.signers is.signs in
+    let plain : list_all headers_have_no_crit (map (headed_by s.header payload) s.signers) ≡ true =
+    all_pass headers_have_no_crit (headed_by s.header payload) (λ x h. and_from (has_no_crit x.protected) (has_no_crit s.header) h.settled.plain is.plain) s.signers is.signs in
     rw (shallow, whole, some_parts, few_parts, decoded, headed, made, plain) refl
 
 -- ---- what is written of it
 
 -- an object that has a text is written so
-pub is_written : (compact detach : Bool) (o : SignedObject) (text : List ℕ) → text_of compact detach o ≡ Ok text
+pub is_written : (compact detach : Bool) (o : SignedObject) (text : List ℕ) → jws_text compact detach o ≡ Ok text
     → written_of compact detach o ≡ Ok (record { text = text; content = handed_out detach o.payload })
 is_written compact detach o text h = rw h refl
 
 -- what is written is the object's text, and its payload where it is detached
 pub written_is : (compact detach : Bool) (o : SignedObject) (texts : OutputTexts) → written_of compact detach o ≡ Ok texts
-    → (text_of compact detach o ≡ Ok texts.text) × (texts.content ≡ handed_out detach o.payload)
+    → (jws_text compact detach o ≡ Ok texts.text) × (texts.content ≡ handed_out detach o.payload)
 written_is compact detach o texts h =
-    let text = steps (text_of compact detach o) (λ text. Ok (record { text = text; content = handed_out detach o.payload })) texts h in
+    let text = steps (jws_text compact detach o) (λ text. Ok (record { text = text; content = handed_out detach o.payload })) texts h in
     let same = same_answer (record { text = text.0; content = handed_out detach o.payload }) texts text.2 in
     (text.1 ∙ ap (λ (t : OutputTexts). Ok t.text) same, ap (λ (t : OutputTexts). t.content) (sym same))

@@ -19,15 +19,15 @@ use Rattle.keys.specs.declared.operation.Operation.TheVariants.{Sign, Verify}
 use Rattle.keys.specs.Algorithms.{signature_alg_of}
 use Rattle.keys.specs.JsonTexts.{AreJsonMembers}
 use Rattle.keys.specs.Keys.{OctetKey, allows, fits}
-use Rattle.keys.specs.Limits.{limits}
+use Rattle.keys.specs.Limits.{limits, are_few}
 use Rattle.keys.proofs.UrlTexts.{url_texts_are_json}
-use Rattle.objects.specs.Jws.{SignatureParts, Signature, SignedObject, AreMembers, TextsSpellObjects, json_text, jws_compact_text, jws_of}
+use Rattle.objects.specs.Jws.{SignatureParts, Signature, SignedObject, AreMembers, TextsSpellObjects, json_text, jws_compact_text, jws_of, jws_text}
 use Rattle.objects.specs.Texts.{handed_in}
 use Rattle.objects.proofs.EachRead.{all_images}
 use Rattle.objects.proofs.SpellingJws.{is_built}
 use Rattle.objects.proofs.Steps.{steps, same_answer}
 use Rattle.tokens.specs.Signatures.{signature_of}
-use Rattle.tokens.specs.Signing.{Signer, Signing, signer_by, signing_of, protected_by, signature_by, parts_by, signed, text_of, written_of, plan_by, signing_by}
+use Rattle.tokens.specs.Signing.{Signer, Signing, signer_by, read_signing, protected_by, signature_by, parts_by, signed, written_of, plan_by, sig_plan}
 use Rattle.tokens.specs.Template.{SignatureTemplate, header_text}
 use Rattle.tokens.specs.Verifying.{may_verify, verifies, are_verified, verified_payload, verifying_by, SignedVerifies}
 use Rattle.tokens.proofs.Beginnings.{handed_back}
@@ -60,7 +60,7 @@ are_members s payload octets json signs = record {
 
 -- the object is read from its text in either form, where it is read from each
 form_is_read : (compact detach : Bool) (handed : Option (List ℕ)) (o : SignedObject) (text : List ℕ) → jws_of limits handed (json_text detach o) ≡ Ok o
-    → ((text : List ℕ) → jws_compact_text detach o ≡ Ok text → jws_of limits handed text ≡ Ok o) → text_of compact detach o ≡ Ok text → jws_of limits handed text ≡ Ok o
+    → ((text : List ℕ) → jws_compact_text detach o ≡ Ok text → jws_of limits handed text ≡ Ok o) → jws_text compact detach o ≡ Ok text → jws_of limits handed text ≡ Ok o
 form_is_read true detach handed o text json compact h = compact text h
 form_is_read false detach handed o text json compact h = ap (jws_of limits handed) (sym (same_answer (json_text detach o) text h)) ∙ json
 
@@ -73,7 +73,7 @@ texts_are_read spells compact detach keys s payload texts octets is h =
     let built = is_built limits (parts_by s payload) o.0 o.1 in
     let long : length (map (signature_by s.header payload) s.signers) ≡ length s.signers = length-map s.signers (signature_by s.header payload) in
     let some : nat_le 1 (length s.signers) ≡ true = ap (nat_le 1) (sym long) ∙ built.some in
-    let few : nat_le (length s.signers) limits.recipients ≡ true = ap (λ n. nat_le n limits.recipients) (sym long) ∙ built.few in
+    let few : are_few limits (length s.signers) ≡ true = ap (λ n. are_few limits n) (sym long) ∙ built.few in
     let spelled = spells limits (parts_by s payload) o.0 (are_members s payload octets is.json is.signs) o.1 detach in
     let written = written_is compact detach o.0 texts o.2 in
     let handed : handed_in detach texts.content ≡ handed_in detach o.0.payload = ap (handed_in detach) written.1 ∙ handed_back detach o.0.payload in
@@ -127,10 +127,10 @@ payload_verified compact all before key after s payload may is =
     by_all false one each = each
 
 pub signed_verifies : TextsSpellObjects → SignedVerifies
-unfolding signing_by
+unfolding sig_plan
 signed_verifies spells compact detach keys template payload texts octets h =
-    let plan = steps (signing_by limits compact detach keys template) (λ plan. plan.whole payload) texts h in
-    let s = steps (signing_of limits compact keys template) (λ s. Ok (plan_by limits compact detach s)) plan.0 plan.1 in
+    let plan = steps (sig_plan limits compact detach keys template) (λ plan. plan.whole payload) texts h in
+    let s = steps (read_signing limits compact keys template) (λ s. Ok (plan_by limits compact detach s)) plan.0 plan.1 in
     let whole : (signed limits s.0 payload >>= written_of compact detach) ≡ Ok texts =
     ap (λ (p : Plan OutputTexts). p.whole payload) (same_answer (plan_by limits compact detach s.0) plan.0 s.2) ∙ plan.2 in
     let is : IsSigning compact keys s.0 = is_signing compact keys template s.0 s.1 in (

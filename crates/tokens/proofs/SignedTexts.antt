@@ -4,12 +4,13 @@ use Rattle.std.proofs.lemmas.Bool.{and_parts, leb-true}
 use Rattle.serde_json.specs.Data.{Members, no_members, member}
 use Rattle.octets.specs.Outcomes.{◌>>=◌}
 use Rattle.octets.specs.Plan.{OutputTexts, Plan}
-use Rattle.keys.specs.Limits.{limits}
-use Rattle.objects.specs.Jws.{is_compact, joined_first, json_text, jws_compact_text}
-use Rattle.objects.specs.Texts.{handed_out, kept, has_members}
+use Rattle.keys.specs.Limits.{limits, are_few}
+use Rattle.objects.specs.Jws.{SignedObject, parts_of, with_compact, is_compact, json_text, jws_compact_text, jws_text}
+use Rattle.objects.specs.Texts.{handed_out, has_members}
+use Rattle.objects.specs.Writing.{nothing_written, inside}
 use Rattle.objects.proofs.Each.{as_many}
 use Rattle.objects.proofs.Steps.{steps, same_answer}
-use Rattle.tokens.specs.Signing.{Signer, Signing, signer_by, has_no_more, signing_of, signed, text_of, written_of, plan_by, signing_by, SigningMakesTexts}
+use Rattle.tokens.specs.Signing.{Signer, Signing, signer_by, compact_has_room, read_signing, signed, written_of, plan_by, sig_plan, SigningMakesTexts}
 use Rattle.tokens.specs.Template.{is_empty}
 use Rattle.tokens.proofs.SignedObjects.{is_signing, made_by, object_by, signed_is, is_written}
 
@@ -26,20 +27,22 @@ fits header payload (s ∷ (other ∷ rest)) alone some =
     absurd (omega arith)
 
 -- so the object has a text
-has_text : (compact detach : Bool) (s : Signing) (payload : List ℕ) → has_no_more compact s ≡ true → nat_le 1 (length s.signers) ≡ true
-    → (text : List ℕ) × (text_of compact detach (object_by s payload) ≡ Ok text)
+has_text : (compact detach : Bool) (s : Signing) (payload : List ℕ) → compact_has_room compact s ≡ true → nat_le 1 (length s.signers) ≡ true
+    → (text : List ℕ) × (jws_text compact detach (object_by s payload) ≡ Ok text)
 unfolding jws_compact_text
-has_text true detach s payload alone some = (joined_first (kept detach payload) (map (made_by s.header payload) s.signers), rw (fits s.header payload s.signers alone some) refl)
+has_text true detach s payload alone some =
+    let o : SignedObject = object_by s payload in
+    ((with_compact (inside detach o.payload) (parts_of o).signatures (nothing_written false)).text, rw (fits s.header payload s.signers alone some) refl)
 has_text false detach s payload alone some = (json_text detach (object_by s payload), refl)
 
 pub signing_makes_texts : SigningMakesTexts
-unfolding signing_by
+unfolding sig_plan
 signing_makes_texts compact detach keys template payload plan some few h =
-    let s = steps (signing_of limits compact keys template) _ plan h in
+    let s = steps (read_signing limits compact keys template) _ plan h in
     let is = is_signing compact keys template s.0 s.1 in
     let long : length s.0.signers ≡ length keys = as_many (signer_by is.template) keys s.0.signers is.by_keys in
     let some_signers : nat_le 1 (length s.0.signers) ≡ true = ap (nat_le 1) long ∙ some in
-    let few_signers : nat_le (length s.0.signers) limits.recipients ≡ true = ap (λ n. nat_le n limits.recipients) long ∙ few in
+    let few_signers : are_few limits (length s.0.signers) ≡ true = ap (λ n. are_few limits n) long ∙ few in
     let made = signed_is compact keys s.0 payload is some_signers few_signers in
     let text = has_text compact detach s.0 payload is.alone some_signers in
     let planned : plan.whole payload ≡ (signed limits s.0 payload >>= written_of compact detach) =

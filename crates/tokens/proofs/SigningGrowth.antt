@@ -4,10 +4,7 @@ use Rattle.octets.specs.Base64url.{base64url, whole_groups}
 use Rattle.octets.specs.Octets.{IsOctets}
 use Rattle.octets.specs.Outcomes.{◌>>=◌}
 use Rattle.octets.specs.Plan.{OutputTexts, Begins}
-use Rattle.octets.proofs.Characters.{has_url_characters}
-use Rattle.octets.proofs.Meanings.{decodes_exactly}
 use Rattle.keys.specs.Limits.{limits}
-use Rattle.keys.proofs.UrlTexts.{url_texts_are_json}
 use Rattle.objects.specs.Frames.{filled, in_places, first_text, jws_frame, IsJwsFrame}
 use Rattle.objects.proofs.JwsFrames.{is_jws_frame}
 use Rattle.objects.proofs.Steps.{same_answer}
@@ -42,7 +39,7 @@ both_begin_all compact detach s p q written octets h =
     let has = has_frame compact detach s (p ++ q) written h in
     let o = has.0 in
     let texts = has.1 in
-    let frame : IsJwsFrame compact detach o texts = is_jws_frame url_texts_are_json has_url_characters decodes_exactly compact detach o texts has.3 in
+    let frame : IsJwsFrame compact detach o texts = is_jws_frame compact detach o texts has.3 in
     let is = ap (λ r. r >>= jws_frame compact detach) has.2 ∙ has.3 in
     subst (BothBegin ((plan_by limits compact detach s).fixed p)) (same_answer _ written (sym (whole_is compact detach s o texts has.2 frame (p ++ q) octets) ∙ h))
     (record {

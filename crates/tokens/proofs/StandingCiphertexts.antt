@@ -16,7 +16,7 @@ use Rattle.keys.specs.Limits.{limits}
 use Rattle.objects.specs.Frames.{filled, first_text}
 use Rattle.objects.specs.Jwe.{built}
 use Rattle.objects.proofs.Steps.{steps, same_answer}
-use Rattle.tokens.specs.Choosing.{Encryption}
+use Rattle.tokens.specs.Choosing.{EncryptionPlan}
 use Rattle.tokens.specs.Encrypting.{sealing_by, sealed_by, text_before, parts_by, written_of, encrypted, plan_by, ciphertext_fixed}
 use Rattle.tokens.specs.SealedTexts.{sealed_plan, IsUnsealed}
 use Rattle.tokens.proofs.Beginnings.{AppendsPrefixOf-behind, groups_grow, text_grows}
@@ -27,7 +27,7 @@ use Rattle.tokens.proofs.StandingSignatures.{all_read}
 -- ---- what is fixed of the ciphertext goes on
 
 -- where what is fixed of a ciphertext does
-sealed_grows : (plan : Plan (List ℕ)) (e : Encryption) (random : List ℕ) → ((x y : List ℕ) → Begins x y → Begins (plan.fixed x) (plan.fixed y))
+sealed_grows : (plan : Plan (List ℕ)) (e : EncryptionPlan) (random : List ℕ) → ((x y : List ℕ) → Begins x y → Begins (plan.fixed x) (plan.fixed y))
     → ((x y w : List ℕ) → Begins x y → plan.whole y ≡ Ok w → Begins (plan.fixed x) w) → Grows (sealed_plan plan (sealing_by e random))
 sealed_grows plan e random fixed whole = record {
   more = λ p q. fixed _ _ (more_fixed e random p q);
@@ -37,11 +37,11 @@ sealed_grows plan e random fixed whole = record {
       whole _ made.0.ciphertext w (subst (λ (x : Sealed). Begins (ciphertext_fixed e random p) x.ciphertext) is.1 (fixed_begins e random p q is.0)) made.2;
 }
 
-pub encoded_grows : (e : Encryption) (random : List ℕ) → Grows (sealed_plan encoding (sealing_by e random))
+pub encoded_grows : (e : EncryptionPlan) (random : List ℕ) → Grows (sealed_plan encoding (sealing_by e random))
 encoded_grows e random =
     sealed_grows encoding e random groups_grow (λ x y w b h. subst (Begins (base64url (whole_groups x))) (same_answer (base64url y) w h) (text_grows x y b))
 
-pub plain_grows : (e : Encryption) (random : List ℕ) → Grows (sealed_plan as_it_is (sealing_by e random))
+pub plain_grows : (e : EncryptionPlan) (random : List ℕ) → Grows (sealed_plan as_it_is (sealing_by e random))
 plain_grows e random = sealed_grows as_it_is e random (λ x y b. b) (λ x y w b h. subst (Begins x) (same_answer y w h) b)
 
 -- ---- what is written of a sealed plaintext
@@ -77,7 +77,7 @@ sealed_refused plan s p r never h = by_answer (sealed_by s p) refl
         ap Err same
 
 -- is so as a whole
-pub encryption_refused : (compact detach : Bool) (e : Encryption) (random p : List ℕ) (r : Refusal) → sealed_by (sealing_by e random) p ≡ Err r → (plan_by limits compact detach e random).whole p ≡ Err r
+pub encryption_refused : (compact detach : Bool) (e : EncryptionPlan) (random p : List ℕ) (r : Refusal) → sealed_by (sealing_by e random) p ≡ Err r → (plan_by limits compact detach e random).whole p ≡ Err r
 unfolding encrypted
 encryption_refused compact detach e random p r h = ap (λ x. (x >>= λ s. built limits (parts_by e random s)) >>= written_of compact detach) h
 

@@ -5,14 +5,14 @@ use Rattle.ciphers.specs.declared.content_alg.ContentAlg.{ContentAlg}
 use Rattle.ciphers.specs.declared.content_alg.ContentAlg.TheVariants as content
 use Rattle.ciphers.specs.declared.key_alg.KeyAlg.{KeyAlg}
 use Rattle.ciphers.specs.declared.key_alg.KeyAlg.TheVariants as delivery
-use Rattle.keys.specs.declared.algorithm.EncryptionAlg.{EncryptionAlg}
-use Rattle.keys.specs.declared.algorithm.EncryptionAlg.TheVariants.{A128CbcHs256, A192CbcHs384, A256CbcHs512, A128Gcm, A192Gcm, A256Gcm}
-use Rattle.keys.specs.declared.algorithm.ManagementAlg.{ManagementAlg}
-use Rattle.keys.specs.declared.algorithm.ManagementAlg.TheVariants.{Dir, A128Kw, A192Kw, A256Kw, Pbes2Hs256A128Kw, Pbes2Hs384A192Kw, Pbes2Hs512A256Kw, A128GcmKw, A192GcmKw, A256GcmKw}
+use Rattle.keys.specs.declared.algorithm.ContentEncryptionAlg.{ContentEncryptionAlg}
+use Rattle.keys.specs.declared.algorithm.ContentEncryptionAlg.TheVariants.{A128CbcHs256, A192CbcHs384, A256CbcHs512, A128Gcm, A192Gcm, A256Gcm}
+use Rattle.keys.specs.declared.algorithm.KeyManagementAlg.{KeyManagementAlg}
+use Rattle.keys.specs.declared.algorithm.KeyManagementAlg.TheVariants.{Dir, A128Kw, A192Kw, A256Kw, Pbes2Hs256A128Kw, Pbes2Hs384A192Kw, Pbes2Hs512A256Kw, A128GcmKw, A192GcmKw, A256GcmKw}
 use Rattle.objects.specs.KeyManagement.{KeyManagement, Unknown, Direct, KeyWrap, Password, GcmKeyWrap}
 
 -- of content encryption (RFC 7518 section 5.1)
-abbrev pub content_alg : EncryptionAlg → ContentAlg
+abbrev pub content_alg : ContentEncryptionAlg → ContentAlg
 content_alg A128CbcHs256 = content.A128CbcHs256
 content_alg A192CbcHs384 = content.A192CbcHs384
 content_alg A256CbcHs512 = content.A256CbcHs512
@@ -21,7 +21,7 @@ content_alg A192Gcm = content.A192Gcm
 content_alg A256Gcm = content.A256Gcm
 
 -- of key management (RFC 7518 section 4.1)
-abbrev pub key_alg : ManagementAlg → KeyAlg
+abbrev pub key_alg : KeyManagementAlg → KeyAlg
 key_alg Dir = delivery.Dir
 key_alg A128Kw = delivery.A128Kw
 key_alg A192Kw = delivery.A192Kw
@@ -47,5 +47,5 @@ parameters_by (GcmKeyWrap iv tag) = record { iv = iv; tag = tag; p2s = []; p2c =
 
 -- both algorithms of an encrypted object
 pub record Algorithms : Type 0 where
-  pub management : ManagementAlg
-  pub encryption : EncryptionAlg
+  pub management : KeyManagementAlg
+  pub encryption : ContentEncryptionAlg

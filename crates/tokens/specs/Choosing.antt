@@ -8,11 +8,13 @@ use Rattle.octets.specs.declared.refusal.Refusal.{Refusal}
 use Rattle.octets.specs.declared.refusal.Refusal.TheVariants.{Header, NoAlgorithm, KeyDoesNotFit, Limit, NotCompact}
 use Rattle.octets.specs.Outcomes.{◌>>=◌, needs}
 use Rattle.keys.specs.declared.algorithm.Algorithm.TheVariants.{Encryption as EncryptionWith}
-use Rattle.keys.specs.declared.algorithm.EncryptionAlg.{EncryptionAlg}
-use Rattle.keys.specs.declared.algorithm.EncryptionAlg.TheVariants.{A128CbcHs256, A192CbcHs384, A256CbcHs512}
-use Rattle.keys.specs.declared.algorithm.ManagementAlg.{ManagementAlg}
-use Rattle.keys.specs.declared.algorithm.ManagementAlg.TheVariants.{Dir, A128Kw, A192Kw, A256Kw, Pbes2Hs256A128Kw, Pbes2Hs384A192Kw, Pbes2Hs512A256Kw, A128GcmKw, A192GcmKw, A256GcmKw}
-use Rattle.keys.specs.Algorithms.{encryption_name, management_alg_of, encryption_alg_of, is_password_based, management_operations}
+use Rattle.keys.specs.declared.algorithm.ContentEncryptionAlg.{ContentEncryptionAlg}
+use Rattle.keys.specs.declared.algorithm.ContentEncryptionAlg.TheVariants.{A128CbcHs256, A192CbcHs384, A256CbcHs512}
+use Rattle.keys.specs.declared.algorithm.KeyManagementAlg.{KeyManagementAlg}
+use Rattle.keys.specs.declared.algorithm.KeyManagementAlg.TheVariants.{Dir, A128Kw, A192Kw, A256Kw}
+use Rattle.keys.specs.declared.algorithm.KeyManagementMode.{KeyManagementMode}
+use Rattle.keys.specs.declared.algorithm.KeyManagementMode.TheVariants as mode
+use Rattle.keys.specs.Algorithms.{encryption_name, management_alg_of, encryption_alg_of, mode_of, kek_len, is_password_based, management_operations}
 use Rattle.keys.specs.Json.{json_value}
 use Rattle.keys.specs.Keys.{OctetKey, allows, fits}
 use Rattle.keys.specs.Limits.{Limits}
@@ -23,7 +25,7 @@ use Rattle.tokens.specs.Template.{is_shallow, is_empty}
 -- ---- the algorithms of a key
 
 -- the one whose keys have n octets
-abbrev pub management_by_length : ℕ → Option ManagementAlg
+abbrev pub management_by_length : ℕ → Option KeyManagementAlg
 management_by_length n =
     if n == 16 then Some A128Kw
     else if n == 24 then Some A192Kw
@@ -31,22 +33,22 @@ management_by_length n =
     else None
 
 -- the one that its `alg` names, where the name of a content encryption asks for direct use
-abbrev pub management_by_name : Option ManagementAlg → Option EncryptionAlg → Option ManagementAlg
+abbrev pub management_by_name : Option KeyManagementAlg → Option ContentEncryptionAlg → Option KeyManagementAlg
 management_by_name (Some alg) enc = Some alg
 management_by_name None (Some enc) = Some Dir
 management_by_name None None = None
 
-abbrev pub management_of_key : Option (List ℕ) → ℕ → Result ManagementAlg Refusal
+abbrev pub management_of_key : Option (List ℕ) → ℕ → Result KeyManagementAlg Refusal
 management_of_key None n = ok_or (management_by_length n) NoAlgorithm
 management_of_key (Some name) n = ok_or (management_by_name (management_alg_of name) (encryption_alg_of name)) KeyDoesNotFit
 
 -- that of the template, or that of the key
-abbrev pub chosen_management : Option ManagementAlg → OctetKey → Result ManagementAlg Refusal
+abbrev pub chosen_management : Option KeyManagementAlg → OctetKey → Result KeyManagementAlg Refusal
 chosen_management (Some alg) key = Ok alg
 chosen_management None key = management_of_key key.alg (length key.octets)
 
 -- the content encryption whose key has n octets, where the key is used directly
-abbrev pub encryption_by_length : ℕ → Option EncryptionAlg
+abbrev pub encryption_by_length : ℕ → Option ContentEncryptionAlg
 encryption_by_length n =
     if n == 32 then Some A128CbcHs256
     else if n == 48 then Some A192CbcHs384
@@ -54,74 +56,77 @@ encryption_by_length n =
     else None
 
 -- the one that the `alg` of a key names
-abbrev pub encryption_by_name : Option (List ℕ) → Option EncryptionAlg
+abbrev pub encryption_by_name : Option (List ℕ) → Option ContentEncryptionAlg
 encryption_by_name None = None
 encryption_by_name (Some name) = encryption_alg_of name
 
+-- the CBC one whose AES key is as long as the key of the wrap, of n octets
+abbrev pub encryption_by_wrap : ℕ → Option ContentEncryptionAlg
+encryption_by_wrap n =
+    if n == 16 then Some A128CbcHs256
+    else if n == 24 then Some A192CbcHs384
+    else if n == 32 then Some A256CbcHs512
+    else None
+
 -- the one that goes with key management
-abbrev pub encryption_by_management : ManagementAlg → OctetKey → Option EncryptionAlg
-encryption_by_management Dir key = option_or (encryption_by_name key.alg) (encryption_by_length (length key.octets))
-encryption_by_management A128Kw key = Some A128CbcHs256
-encryption_by_management A192Kw key = Some A192CbcHs384
-encryption_by_management A256Kw key = Some A256CbcHs512
-encryption_by_management Pbes2Hs256A128Kw key = Some A128CbcHs256
-encryption_by_management Pbes2Hs384A192Kw key = Some A192CbcHs384
-encryption_by_management Pbes2Hs512A256Kw key = Some A256CbcHs512
-encryption_by_management A128GcmKw key = Some A128CbcHs256
-encryption_by_management A192GcmKw key = Some A192CbcHs384
-encryption_by_management A256GcmKw key = Some A256CbcHs512
+abbrev pub encryption_in : KeyManagementMode → ℕ → OctetKey → Option ContentEncryptionAlg
+encryption_in mode.Direct n key = option_or (encryption_by_name key.alg) (encryption_by_length (length key.octets))
+encryption_in mode.KeyWrap n key = encryption_by_wrap n
+encryption_in mode.Password n key = encryption_by_wrap n
+encryption_in mode.GcmKeyWrap n key = encryption_by_wrap n
+
+abbrev pub encryption_by_management : KeyManagementAlg → OctetKey → Option ContentEncryptionAlg
+encryption_by_management alg key = encryption_in (mode_of alg) (kek_len alg) key
 
 -- that of the template, or that one
-abbrev pub chosen_encryption : Option EncryptionAlg → ManagementAlg → OctetKey → Result EncryptionAlg Refusal
+abbrev pub chosen_encryption : Option ContentEncryptionAlg → KeyManagementAlg → OctetKey → Result ContentEncryptionAlg Refusal
 chosen_encryption (Some enc) alg key = Ok enc
 chosen_encryption None alg key = ok_or (encryption_by_management alg key) NoAlgorithm
 
 -- ---- the receivers
 
 -- a key, and the algorithm by which it receives the content encryption key
-pub record Receiver : Type 0 where
+pub record RecipientKey : Type 0 where
   pub key : OctetKey
-  pub management : ManagementAlg
+  pub management : KeyManagementAlg
 
-unfoldable pub receiver_by : Option ManagementAlg → OctetKey → Result Receiver Refusal
-receiver_by asked key = do
+unfoldable pub recipient_key_by : Option KeyManagementAlg → OctetKey → Result RecipientKey Refusal
+recipient_key_by asked key = do
   management ← chosen_management asked key
   Ok (record { key = key; management = management })
 
-abbrev pub is_direct : ManagementAlg → Bool
-is_direct Dir = true
-is_direct A128Kw = false
-is_direct A192Kw = false
-is_direct A256Kw = false
-is_direct Pbes2Hs256A128Kw = false
-is_direct Pbes2Hs384A192Kw = false
-is_direct Pbes2Hs512A256Kw = false
-is_direct A128GcmKw = false
-is_direct A192GcmKw = false
-is_direct A256GcmKw = false
+abbrev pub is_direct_in : KeyManagementMode → Bool
+is_direct_in mode.Direct = true
+is_direct_in mode.KeyWrap = false
+is_direct_in mode.Password = false
+is_direct_in mode.GcmKeyWrap = false
 
-abbrev pub is_alone : List Receiver → Bool
+-- the key is the content encryption key
+abbrev pub is_direct : KeyManagementAlg → Bool
+is_direct alg = is_direct_in (mode_of alg)
+
+abbrev pub is_alone : List RecipientKey → Bool
 is_alone receivers = nat_le (length receivers) 1
 
 -- a key that is used directly is the only one
-abbrev pub stand_together : List Receiver → Bool
-stand_together receivers = is_alone receivers || not (list_any (λ r. is_direct r.management) receivers)
+abbrev pub direct_key_is_alone : List RecipientKey → Bool
+direct_key_is_alone receivers = is_alone receivers || not (list_any (λ r. is_direct r.management) receivers)
 
 -- the content encryption of the template, or the one that goes with the first receiver
-abbrev pub encryption_for : Option EncryptionAlg → List Receiver → Result EncryptionAlg Refusal
+abbrev pub encryption_for : Option ContentEncryptionAlg → List RecipientKey → Result ContentEncryptionAlg Refusal
 encryption_for asked [] = Err NoAlgorithm
 encryption_for asked (r ∷ rest) = chosen_encryption asked r.management r.key
 
 -- the key may encrypt, and fits
-abbrev pub may_encrypt : EncryptionAlg → Receiver → Bool
+abbrev pub may_encrypt : ContentEncryptionAlg → RecipientKey → Bool
 may_encrypt encryption r = allows r.key (management_operations r.management).0 && fits r.key (EncryptionWith r.management encryption)
 
 -- ---- the iterations of PBKDF2
 
 -- how many receivers are passwords
-abbrev pub passwords : List Receiver → ℕ
-passwords [] = 0
-passwords (r ∷ rest) = if is_password_based r.management then suc (passwords rest) else passwords rest
+abbrev pub password_count : List RecipientKey → ℕ
+password_count [] = 0
+password_count (r ∷ rest) = if is_password_based r.management then suc (password_count rest) else password_count rest
 
 -- the iterations for n passwords: those of the template, or else the usual number
 abbrev pub chosen_p2c : Limits → ℕ → Result (Option ℕ) Refusal → Result ℕ Refusal
@@ -130,9 +135,9 @@ chosen_p2c limits (suc n) (Err refusal) = Err refusal
 chosen_p2c limits (suc n) (Ok p2c) = Ok (unwrap_or p2c limits.usual_p2c)
 
 -- as many as may be written, and for n passwords together not too many
-abbrev pub is_written : Limits → ℕ → ℕ → Bool
-is_written limits zero p2c = true
-is_written limits (suc n) p2c = nat_le limits.least_p2c p2c && (nat_le p2c limits.greatest_p2c && nat_le (suc n * p2c) limits.p2c_sum)
+abbrev pub p2c_may_be_written : Limits → ℕ → ℕ → Bool
+p2c_may_be_written limits zero p2c = true
+p2c_may_be_written limits (suc n) p2c = nat_le limits.least_p2c p2c && (nat_le p2c limits.greatest_p2c && nat_le (suc n * p2c) limits.p2c_sum)
 
 -- ---- the headers
 
@@ -160,9 +165,9 @@ pub record Given : Type 0 where
 
 -- The content encryption, the receivers in order, and the iterations, which are 0 where no key is a password; the headers, but for
 -- what is written for the receivers; and the additional data.
-pub record Encryption : Type 0 where
-  pub encryption : EncryptionAlg
-  pub receivers : List Receiver
+pub record EncryptionPlan : Type 0 where
+  pub encryption : ContentEncryptionAlg
+  pub receivers : List RecipientKey
   pub given : Given
   pub p2c : ℕ
   pub protected : Members
@@ -170,20 +175,20 @@ pub record Encryption : Type 0 where
   pub aad : List ℕ
 
 -- a compact text has one recipient, and no member but those that are protected
-abbrev pub has_no_more : Bool → List Receiver → EncryptionTemplate → Bool
-has_no_more compact receivers t = if compact then is_alone receivers && (is_empty t.unprotected && (length t.aad == 0)) else true
+abbrev pub compact_has_room : Bool → List RecipientKey → EncryptionTemplate → Bool
+compact_has_room compact receivers t = if compact then is_alone receivers && (is_empty t.unprotected && (length t.aad == 0)) else true
 
 -- Each step is taken for every key before the next.
-unfoldable pub encryption_with : Limits → Bool → List OctetKey → EncryptionTemplate → Result Encryption Refusal
-encryption_with limits compact keys t = do
-  receivers ← each (receiver_by t.asked.management) keys
-  together ← needs (stand_together receivers) Header
+unfoldable pub settle_encryption : Limits → Bool → List OctetKey → EncryptionTemplate → Result EncryptionPlan Refusal
+settle_encryption limits compact keys t = do
+  receivers ← each (recipient_key_by t.asked.management) keys
+  together ← needs (direct_key_is_alone receivers) Header
   encryption ← encryption_for t.asked.encryption receivers
   fit ← needs (list_all (may_encrypt encryption) receivers) KeyDoesNotFit
-  p2c ← chosen_p2c limits (passwords receivers) t.asked.p2c
+  p2c ← chosen_p2c limits (password_count receivers) t.asked.p2c
   shallow ← needs (is_shallow limits t.protected && is_shallow limits t.unprotected) Limit
-  written ← needs (is_written limits (passwords receivers) p2c) Limit
-  alone ← needs (has_no_more compact receivers t) NotCompact
+  written ← needs (p2c_may_be_written limits (password_count receivers) p2c) Limit
+  alone ← needs (compact_has_room compact receivers t) NotCompact
   Ok (record {
     encryption = encryption;
     receivers = receivers;
@@ -195,8 +200,8 @@ encryption_with limits compact keys t = do
   })
 
 -- that of keys and a template's text, or the first refusal
-unfoldable pub encryption_of : Limits → Bool → List OctetKey → List ℕ → Result Encryption Refusal
-encryption_of limits compact keys text = do
+unfoldable pub read_encryption : Limits → Bool → List OctetKey → List ℕ → Result EncryptionPlan Refusal
+read_encryption limits compact keys text = do
   value ← json_value text
   template ← encryption_template value
-  encryption_with limits compact keys template
+  settle_encryption limits compact keys template

@@ -9,10 +9,11 @@ use Rattle.octets.specs.Outcomes.{◌>>=◌, needs}
 use Rattle.octets.specs.Base64url.{base64url}
 use Rattle.ciphers.specs.Openings.{opening, delivered}
 use Rattle.keys.specs.declared.algorithm.Algorithm.TheVariants.{Encryption}
-use Rattle.keys.specs.declared.algorithm.EncryptionAlg.{EncryptionAlg}
-use Rattle.keys.specs.declared.algorithm.ManagementAlg.{ManagementAlg}
-use Rattle.keys.specs.declared.algorithm.ManagementAlg.TheVariants.{Dir, A128Kw, A192Kw, A256Kw, Pbes2Hs256A128Kw, Pbes2Hs384A192Kw, Pbes2Hs512A256Kw, A128GcmKw, A192GcmKw, A256GcmKw}
-use Rattle.keys.specs.Algorithms.{management_alg_among, encryption_alg_of, management_operations}
+use Rattle.keys.specs.declared.algorithm.ContentEncryptionAlg.{ContentEncryptionAlg}
+use Rattle.keys.specs.declared.algorithm.KeyManagementAlg.{KeyManagementAlg}
+use Rattle.keys.specs.declared.algorithm.KeyManagementMode.{KeyManagementMode}
+use Rattle.keys.specs.declared.algorithm.KeyManagementMode.TheVariants as mode
+use Rattle.keys.specs.Algorithms.{management_alg_among, encryption_alg_of, mode_of, management_operations}
 use Rattle.keys.specs.Keys.{OctetKey, allows, fits}
 use Rattle.keys.specs.Limits.{Limits, limits}
 use Rattle.objects.specs.Jwe.{Recipient, EncryptedObject}
@@ -21,13 +22,13 @@ use Rattle.tokens.specs.Algorithms.{Algorithms, content_alg, key_alg, parameters
 
 -- ---- the pairs that are tried
 
-abbrev pub algorithms_by : Option ManagementAlg → Option EncryptionAlg → Option Algorithms
+abbrev pub algorithms_by : Option KeyManagementAlg → Option ContentEncryptionAlg → Option Algorithms
 algorithms_by None enc = None
 algorithms_by (Some alg) None = None
 algorithms_by (Some alg) (Some enc) = Some (record { management = alg; encryption = enc })
 
 -- the algorithms of a recipient, where both are supported
-unfoldable pub algorithms_of : List ManagementAlg → Recipient → Option Algorithms
+unfoldable pub algorithms_of : List KeyManagementAlg → Recipient → Option Algorithms
 algorithms_of algs r = algorithms_by (management_alg_among algs r.alg) (encryption_alg_of r.enc)
 
 -- the key allows what the receiver does, and fits
@@ -47,11 +48,11 @@ abbrev pub pairs_by : List OctetKey → Recipient → Option Algorithms → List
 pairs_by keys r None = []
 pairs_by keys r (Some a) = pairs_with r a keys
 
-abbrev pub pairs_of : List ManagementAlg → List OctetKey → Recipient → List Pair
+abbrev pub pairs_of : List KeyManagementAlg → List OctetKey → Recipient → List Pair
 pairs_of algs keys r = pairs_by keys r (algorithms_of algs r)
 
 -- of the recipients in order
-abbrev pub all_pairs : List ManagementAlg → List OctetKey → List Recipient → List Pair
+abbrev pub all_pairs : List KeyManagementAlg → List OctetKey → List Recipient → List Pair
 all_pairs algs keys [] = []
 all_pairs algs keys (r ∷ recipients) = pairs_of algs keys r ++ all_pairs algs keys recipients
 
@@ -91,9 +92,9 @@ pairs_to_try limits keys recipients = do
 -- ---- what a pair opens
 
 -- the text of the protected header, and after a dot that of the other additional data, where there are some (step 14)
-abbrev pub authenticated : List ℕ → List ℕ → List ℕ
-authenticated protected [] = protected
-authenticated protected (a ∷ aad) = protected ++ (byte "." ∷ base64url (a ∷ aad))
+abbrev pub additional_authenticated_data : List ℕ → List ℕ → List ℕ
+additional_authenticated_data protected [] = protected
+additional_authenticated_data protected (a ∷ aad) = protected ++ (byte "." ∷ base64url (a ∷ aad))
 
 -- what an object holds of its content
 pub record SealedContent : Type 0 where
@@ -103,7 +104,7 @@ pub record SealedContent : Type 0 where
   pub tag : List ℕ
 
 abbrev pub sealed_content : EncryptedObject → SealedContent
-sealed_content o = record { iv = o.iv; aad = authenticated o.protected o.aad; ciphertext = o.ciphertext; tag = o.tag }
+sealed_content o = record { iv = o.iv; aad = additional_authenticated_data o.protected o.aad; ciphertext = o.ciphertext; tag = o.tag }
 
 -- the content encryption key that the recipient's encrypted key delivers
 unfoldable pub cek_of : Pair → Option (List ℕ)
@@ -128,28 +129,26 @@ decrypted limits keys o = do
 -- ---- work
 
 -- iterations of PBKDF2, encrypted keys that were unwrapped, and contents that were opened or tried
-pub record Counts : Type 0 where
+pub record WorkCounts : Type 0 where
   pub iterations : ℕ
   pub unwraps : ℕ
   pub openings : ℕ
 
-abbrev pub no_work : Counts
+abbrev pub no_work : WorkCounts
 no_work = record { iterations = 0; unwraps = 0; openings = 0 }
 
-abbrev pub unwraps_of : ManagementAlg → ℕ
-unwraps_of Dir = 0
-unwraps_of A128Kw = 1
-unwraps_of A192Kw = 1
-unwraps_of A256Kw = 1
-unwraps_of Pbes2Hs256A128Kw = 1
-unwraps_of Pbes2Hs384A192Kw = 1
-unwraps_of Pbes2Hs512A256Kw = 1
-unwraps_of A128GcmKw = 1
-unwraps_of A192GcmKw = 1
-unwraps_of A256GcmKw = 1
+-- how many encrypted keys are unwrapped: none where the key is used directly
+abbrev pub unwraps_in : KeyManagementMode → ℕ
+unwraps_in mode.Direct = 0
+unwraps_in mode.KeyWrap = 1
+unwraps_in mode.Password = 1
+unwraps_in mode.GcmKeyWrap = 1
+
+abbrev pub unwraps_of : KeyManagementAlg → ℕ
+unwraps_of alg = unwraps_in (mode_of alg)
 
 -- with one pair more, which opens or tries the content where a content encryption key is delivered
-abbrev pub with_pair : Counts → Pair → Counts
+abbrev pub with_pair : WorkCounts → Pair → WorkCounts
 with_pair w pair = record {
   iterations = w.iterations + iterations_of pair;
   unwraps = w.unwraps + unwraps_of pair.algorithms.management;
@@ -157,18 +156,18 @@ with_pair w pair = record {
 }
 
 -- with the pairs up to and with the first that opens
-abbrev pub with_pairs : SealedContent → Counts → List Pair → Counts
+abbrev pub with_pairs : SealedContent → WorkCounts → List Pair → WorkCounts
 with_pairs s w [] = w
 with_pairs s w (pair ∷ pairs) = if is_some (opened_by s pair) then with_pair w pair else with_pairs s (with_pair w pair) pairs
 
 -- What a result tells: that of all the pairs that were tried, and none where they are refused or memory ran out before.
-abbrev pub work_told : {X : Type 0} → EncryptedObject → Result (List Pair) Refusal → Result X Refusal → Counts
+abbrev pub work_told : {X : Type 0} → EncryptedObject → Result (List Pair) Refusal → Result X Refusal → WorkCounts
 work_told o (Err r) result = no_work
 work_told o (Ok pairs) (Err Memory) = no_work
 work_told o (Ok pairs) result = with_pairs (sealed_content o) no_work pairs
 
 -- within the limits of an object and a set
-pub record IsBounded (w : Counts) : Type 0 where
+pub record IsBounded (w : WorkCounts) : Type 0 where
   pub iterations : w.iterations ≤ limits.p2c_sum
   pub unwraps : w.unwraps ≤ limits.keys * limits.recipients
   pub openings : w.openings ≤ limits.keys * limits.recipients

@@ -13,14 +13,14 @@ use Rattle.ciphers.specs.Openings.{is_longer}
 use Rattle.ciphers.specs.Sealing.{Sealed, Sealing, sealing, cek_len, iv_len}
 use Rattle.keys.specs.Algorithms.{management_name, management_operations, management_algs}
 use Rattle.keys.specs.Keys.{OctetKey, AreOctetKeys, allows}
-use Rattle.keys.specs.Limits.{Limits, limits}
+use Rattle.keys.specs.Limits.{Limits, limits, are_few}
 use Rattle.objects.specs.Frames.{first_text, jwe_frame}
 use Rattle.objects.specs.KeyManagement.{KeyManagement, Unknown, Direct, KeyWrap, Password, GcmKeyWrap}
-use Rattle.objects.specs.Jwe.{RecipientParts, JweParts, EncryptedObject, built, json_text, jwe_compact_text, jwe_of}
+use Rattle.objects.specs.Jwe.{RecipientParts, JweParts, EncryptedObject, built, json_text, jwe_compact_text, jwe_of, jwe_text}
 use Rattle.objects.specs.Texts.{handed_in, handed_out, listed_header_depth}
 use Rattle.tokens.specs.Algorithms.{content_alg}
-use Rattle.tokens.specs.Choosing.{Receiver, is_direct, is_alone, with_name, with_p2c, Given, Encryption, encryption_of}
-use Rattle.tokens.specs.Decrypting.{authenticated, all_pairs, sealed_content, opened_by, decrypted}
+use Rattle.tokens.specs.Choosing.{RecipientKey, is_direct, is_alone, with_name, with_p2c, Given, EncryptionPlan, read_encryption}
+use Rattle.tokens.specs.Decrypting.{additional_authenticated_data, all_pairs, sealed_content, opened_by, decrypted}
 use Rattle.tokens.specs.Delivering.{drawn_for_all, Delivery, deliveries_to}
 use Rattle.tokens.specs.Template.{header_text}
 
@@ -28,7 +28,7 @@ use Rattle.tokens.specs.Template.{header_text}
 -- of the content
 
 -- the key that is used directly, if one is: it is the only one
-abbrev pub direct_key : List Receiver → Option (List ℕ)
+abbrev pub direct_key : List RecipientKey → Option (List ℕ)
 direct_key [] = None
 direct_key (r ∷ rest) = if is_direct r.management then Some r.key.octets else None
 
@@ -37,25 +37,25 @@ abbrev pub drawn_cek : Option (List ℕ) → ℕ → ℕ
 drawn_cek None n = n
 drawn_cek (Some key) n = 0
 
-abbrev pub cek_drawn : Encryption → ℕ
+abbrev pub cek_drawn : EncryptionPlan → ℕ
 cek_drawn e = drawn_cek (direct_key e.receivers) (cek_len (content_alg e.encryption))
 
-abbrev pub octets_drawn : Encryption → ℕ
-octets_drawn e = drawn_for_all e.receivers + cek_drawn e + iv_len (content_alg e.encryption)
+abbrev pub random_len : EncryptionPlan → ℕ
+random_len e = drawn_for_all e.receivers + cek_drawn e + iv_len (content_alg e.encryption)
 
-abbrev pub for_receivers : Encryption → List ℕ → List ℕ
+abbrev pub for_receivers : EncryptionPlan → List ℕ → List ℕ
 for_receivers e random = take (drawn_for_all e.receivers) random
 
-abbrev pub after_receivers : Encryption → List ℕ → List ℕ
+abbrev pub after_receivers : EncryptionPlan → List ℕ → List ℕ
 after_receivers e random = drop (drawn_for_all e.receivers) random
 
-abbrev pub cek_by : Encryption → List ℕ → List ℕ
+abbrev pub cek_by : EncryptionPlan → List ℕ → List ℕ
 cek_by e random = unwrap_or (direct_key e.receivers) (take (cek_drawn e) (after_receivers e random))
 
-abbrev pub iv_by : Encryption → List ℕ → List ℕ
+abbrev pub iv_by : EncryptionPlan → List ℕ → List ℕ
 iv_by e random = drop (cek_drawn e) (after_receivers e random)
 
-abbrev pub deliveries_by : Encryption → List ℕ → List Delivery
+abbrev pub deliveries_by : EncryptionPlan → List ℕ → List Delivery
 deliveries_by e random = deliveries_to e (cek_by e random) e.receivers (for_receivers e random)
 
 -- ---- the headers
@@ -79,28 +79,28 @@ protected_header given (d ∷ []) header = with_parameters given d header
 protected_header given (d ∷ (other ∷ rest)) header = header
 
 -- .. and else into the header of each recipient.
-abbrev pub own_header : Given → Bool → Delivery → Members
-own_header given alone d = if alone then no_members else with_parameters given d no_members
+abbrev pub per_recipient_header : Given → Bool → Delivery → Members
+per_recipient_header given alone d = if alone then no_members else with_parameters given d no_members
 
 -- the protected header with what is drawn
-abbrev pub header_of : Encryption → List ℕ → Members
+abbrev pub header_of : EncryptionPlan → List ℕ → Members
 header_of e random = protected_header e.given (deliveries_by e random) e.protected
 
 -- its text
-abbrev pub header_by : Encryption → List ℕ → List ℕ
+abbrev pub header_by : EncryptionPlan → List ℕ → List ℕ
 header_by e random = header_text (header_of e random)
 
 -- a recipient, by whether it is the only one
 abbrev pub recipient_by : Given → Bool → Delivery → RecipientParts
-recipient_by given alone d = record { header = own_header given alone d; encrypted_key = d.encrypted_key }
+recipient_by given alone d = record { header = per_recipient_header given alone d; encrypted_key = d.encrypted_key }
 
-abbrev pub recipients_by : Encryption → List ℕ → List RecipientParts
+abbrev pub recipients_by : EncryptionPlan → List ℕ → List RecipientParts
 recipients_by e random = map (recipient_by e.given (is_alone e.receivers)) (deliveries_by e random)
 
 -- ---- the object of a plaintext
 
-abbrev pub sealing_by : Encryption → List ℕ → Sealing
-sealing_by e random = sealing (content_alg e.encryption) (cek_by e random) (iv_by e random) (authenticated (base64url (header_by e random)) e.aad)
+abbrev pub sealing_by : EncryptionPlan → List ℕ → Sealing
+sealing_by e random = sealing (content_alg e.encryption) (cek_by e random) (iv_by e random) (additional_authenticated_data (base64url (header_by e random)) e.aad)
 
 -- what the plaintext becomes, where it is not too long
 unfoldable pub sealed_by : Sealing → List ℕ → Result Sealed Refusal
@@ -109,7 +109,7 @@ sealed_by s plaintext = do
   Ok (s.sealed plaintext)
 
 -- the members of the object
-abbrev pub parts_by : Encryption → List ℕ → Sealed → JweParts
+abbrev pub parts_by : EncryptionPlan → List ℕ → Sealed → JweParts
 parts_by e random s = record {
   protected = base64url (header_by e random);
   unprotected = e.unprotected;
@@ -120,7 +120,7 @@ parts_by e random s = record {
   recipients = recipients_by e random;
 }
 
-unfoldable pub encrypted : Limits → Encryption → List ℕ → List ℕ → Result EncryptedObject Refusal
+unfoldable pub encrypted : Limits → EncryptionPlan → List ℕ → List ℕ → Result EncryptedObject Refusal
 encrypted limits e random plaintext = do
   s ← sealed_by (sealing_by e random) plaintext
   built limits (parts_by e random s)
@@ -131,18 +131,13 @@ abbrev pub unsealed : Sealed
 unsealed = record { ciphertext = []; tag = [] }
 
 -- the texts that stand round its ciphertext and its tag
-abbrev pub frame_by : Limits → Bool → Bool → Encryption → List ℕ → Result (List (List ℕ)) Refusal
+abbrev pub frame_by : Limits → Bool → Bool → EncryptionPlan → List ℕ → Result (List (List ℕ)) Refusal
 frame_by limits compact detach e random = built limits (parts_by e random unsealed) >>= jwe_frame compact detach
 
 -- ---- its text
 
--- compact or JSON, with the ciphertext or without
-abbrev pub text_of : Bool → Bool → EncryptedObject → Result (List ℕ) Refusal
-text_of true detach o = jwe_compact_text detach o
-text_of false detach o = Ok (json_text detach o)
-
 -- what stands before the ciphertext's text: the first text of the object's frame
-abbrev pub text_before : Limits → Bool → Encryption → List ℕ → List ℕ
+abbrev pub text_before : Limits → Bool → EncryptionPlan → List ℕ → List ℕ
 text_before limits compact e random = first_text (frame_by limits compact false e random)
 
 abbrev pub within_longest : Option ℕ → List ℕ → List ℕ
@@ -152,44 +147,44 @@ within_longest (Some most) front = take most front
 -- what is written of the object: its text, and the ciphertext beside it where it is detached
 abbrev pub written_of : Bool → Bool → EncryptedObject → Result OutputTexts Refusal
 written_of compact detach o = do
-  text ← text_of compact detach o
+  text ← jwe_text compact detach o
   Ok (record { text = text; content = handed_out detach o.ciphertext })
 
 -- what a beginning of the plaintext fixes of the ciphertext
-abbrev pub ciphertext_fixed : Encryption → List ℕ → List ℕ → List ℕ
+abbrev pub ciphertext_fixed : EncryptionPlan → List ℕ → List ℕ → List ℕ
 ciphertext_fixed e random front = (sealing_by e random).fixed (within_longest (sealing_by e random).longest front)
 
 -- It fixes the text before the ciphertext, and whole groups of what it fixes of this; where it is detached, nothing of the text is
 -- written before its end.
-abbrev pub text_fixed : Limits → Bool → Bool → Encryption → List ℕ → List ℕ → List ℕ
+abbrev pub text_fixed : Limits → Bool → Bool → EncryptionPlan → List ℕ → List ℕ → List ℕ
 text_fixed _ compact true e random ciphertext = []
 text_fixed limits compact false e random ciphertext = text_before limits compact e random ++ base64url (whole_groups ciphertext)
 
 -- what is written by the plaintext
-abbrev pub plan_by : Limits → Bool → Bool → Encryption → List ℕ → Plan OutputTexts
+abbrev pub plan_by : Limits → Bool → Bool → EncryptionPlan → List ℕ → Plan OutputTexts
 plan_by limits compact detach e random = record {
   whole = λ plaintext. encrypted limits e random plaintext >>= written_of compact detach;
   fixed = λ front. record { text = text_fixed limits compact detach e random (ciphertext_fixed e random front); content = handed_out detach (ciphertext_fixed e random front) };
 }
 
 -- what keys and a template's text settle, or the first refusal
-unfoldable pub encrypting_by : Limits → Bool → Bool → List OctetKey → List ℕ → Result (Draft OutputTexts) Refusal
-encrypting_by limits compact detach keys text = do
-  e ← encryption_of limits compact keys text
-  Ok (record { drawn = octets_drawn e; plan = plan_by limits compact detach e })
+unfoldable pub enc_plan : Limits → Bool → Bool → List OctetKey → List ℕ → Result (Draft OutputTexts) Refusal
+enc_plan limits compact detach keys text = do
+  e ← read_encryption limits compact keys text
+  Ok (record { drawn = random_len e; plan = plan_by limits compact detach e })
 
 -- ---- what it fixes, and what it makes
 
 -- What a beginning of the plaintext fixes of both texts goes on as more is read, and begins the whole texts.
 abbrev pub EncryptingGrows : Type 0
 EncryptingGrows = (compact detach : Bool) (keys : List OctetKey) (template random : List ℕ) (plan : Plan OutputTexts) → AreOctetKeys keys → IsOctets random
-    → plan_from (encrypting_by limits compact detach keys template) random ≡ Ok plan → BothGrow plan
+    → plan_from (enc_plan limits compact detach keys template) random ≡ Ok plan → BothGrow plan
 
 -- What keys and a template settle makes an object of every plaintext that is not too long, and its texts: no refusal comes after the
 -- random octets but Limit.
 abbrev pub EncryptingMakesTexts : Type 0
-EncryptingMakesTexts = (compact detach : Bool) (keys : List OctetKey) (template random plaintext : List ℕ) (plan : Plan OutputTexts) → nat_le (length keys) limits.recipients ≡ true
-    → AreOctetKeys keys → IsOctets random → plan_from (encrypting_by limits compact detach keys template) random ≡ Ok plan → IfErr (plan.whole plaintext) (λ refusal. refusal ≡ Limit)
+EncryptingMakesTexts = (compact detach : Bool) (keys : List OctetKey) (template random plaintext : List ℕ) (plan : Plan OutputTexts) → are_few limits (length keys) ≡ true
+    → AreOctetKeys keys → IsOctets random → plan_from (enc_plan limits compact detach keys template) random ≡ Ok plan → IfErr (plan.whole plaintext) (λ refusal. refusal ≡ Limit)
 
 -- ---- what is encrypted is decrypted
 
@@ -205,7 +200,7 @@ pub record AreSound (limits : Limits) : Type 0 where
 -- the key may decrypt by the algorithm that it encrypts with
 abbrev pub MayDecrypt : Limits → Bool → List OctetKey → OctetKey → List ℕ → Type 0
 MayDecrypt limits compact keys key template =
-    (e : Encryption) → encryption_of limits compact keys template ≡ Ok e
+    (e : EncryptionPlan) → read_encryption limits compact keys template ≡ Ok e
     → AllByRecursion (λ r. r.key ≡ key → allows key (management_operations r.management).1 ≡ true) e.receivers
 
 -- at each of the first n recipients the key opens nothing, or this plaintext
@@ -217,7 +212,7 @@ OpensNoOther n key o plaintext =
 -- where it may decrypt and opens nothing else at the recipient of a key before it.
 abbrev pub EncryptedDecrypts : Limits → Type 0
 EncryptedDecrypts limits = (compact detach : Bool) (keys : List OctetKey) (template random plaintext : List ℕ) (texts : OutputTexts) → AreOctetKeys keys → IsOctets random → IsOctets plaintext
-    → planned (plan_from (encrypting_by limits compact detach keys template) random) plaintext ≡ Ok texts
+    → planned (plan_from (enc_plan limits compact detach keys template) random) plaintext ≡ Ok texts
     → (o : EncryptedObject) × ((jwe_of limits (handed_in detach texts.content) texts.text ≡ Ok o)
     × ((before after : List OctetKey) (key : OctetKey) → keys ≡ before ++ key ∷ after → MayDecrypt limits compact keys key template → OpensNoOther (length before) key o plaintext
     → decrypted limits (key ∷ []) o ≡ Ok plaintext))

@@ -7,12 +7,12 @@ use Rattle.octets.specs.declared.refusal.Refusal.{Refusal}
 use Rattle.octets.specs.declared.refusal.Refusal.TheVariants.{Form, Header, Unsupported}
 use Rattle.octets.specs.Outcomes.{◌>>=◌, needs}
 use Rattle.octets.specs.Base64url.{decoded}
-use Rattle.keys.specs.declared.algorithm.EncryptionAlg.{EncryptionAlg}
-use Rattle.keys.specs.declared.algorithm.ManagementAlg.{ManagementAlg}
+use Rattle.keys.specs.declared.algorithm.ContentEncryptionAlg.{ContentEncryptionAlg}
+use Rattle.keys.specs.declared.algorithm.KeyManagementAlg.{KeyManagementAlg}
 use Rattle.keys.specs.Algorithms.{management_alg_of, encryption_alg_of}
 use Rattle.keys.specs.Json.{is_object, has_only}
 use Rattle.objects.specs.Headers.{header_at, joint_header, string_parameter, number_parameter}
-use Rattle.objects.specs.Jwe.{is_plain}
+use Rattle.objects.specs.Jwe.{has_no_crit_or_zip}
 use Rattle.objects.specs.Texts.{text_at}
 
 -- its headers and the text of its additional data
@@ -34,23 +34,23 @@ template_texts value = do
 -- The algorithms that the headers name, if they do, and the count of iterations that they give, if they do. It is refused where
 -- it is no whole number, but only for an algorithm that reads it.
 pub record AlgorithmsAsked : Type 0 where
-  pub management : Option ManagementAlg
-  pub encryption : Option EncryptionAlg
+  pub management : Option KeyManagementAlg
+  pub encryption : Option ContentEncryptionAlg
   pub p2c : Result (Option ℕ) Refusal
 
-abbrev pub supported_management : Option ManagementAlg → Result (Option ManagementAlg) Refusal
+abbrev pub supported_management : Option KeyManagementAlg → Result (Option KeyManagementAlg) Refusal
 supported_management None = Err Unsupported
 supported_management (Some alg) = Ok (Some alg)
 
-abbrev pub management_asked : Option (List ℕ) → Result (Option ManagementAlg) Refusal
+abbrev pub management_asked : Option (List ℕ) → Result (Option KeyManagementAlg) Refusal
 management_asked None = Ok None
 management_asked (Some name) = supported_management (management_alg_of name)
 
-abbrev pub supported_encryption : Option EncryptionAlg → Result (Option EncryptionAlg) Refusal
+abbrev pub supported_encryption : Option ContentEncryptionAlg → Result (Option ContentEncryptionAlg) Refusal
 supported_encryption None = Err Unsupported
 supported_encryption (Some alg) = Ok (Some alg)
 
-abbrev pub encryption_asked : Option (List ℕ) → Result (Option EncryptionAlg) Refusal
+abbrev pub encryption_asked : Option (List ℕ) → Result (Option ContentEncryptionAlg) Refusal
 encryption_asked None = Ok None
 encryption_asked (Some name) = supported_encryption (encryption_alg_of name)
 
@@ -67,7 +67,7 @@ algorithms_asked protected unprotected = do
   alg ← string_parameter (codes "alg") header
   enc ← string_parameter (codes "enc") header
   left ← needs (leaves_parameters header) Header
-  plain ← needs (is_plain header) Unsupported
+  plain ← needs (has_no_crit_or_zip header) Unsupported
   management ← management_asked alg
   encryption ← encryption_asked enc
   Ok (record { management = management; encryption = encryption; p2c = number_parameter (codes "p2c") header })

@@ -11,7 +11,7 @@ use Rattle.ciphers.specs.Sealing.{Sealed, Sealing, IsTooLong, KeepsPace}
 use Rattle.keys.specs.Limits.{limits}
 use Rattle.objects.specs.Frames.{filled, in_places}
 use Rattle.objects.specs.Texts.{handed_out}
-use Rattle.tokens.specs.Choosing.{Encryption}
+use Rattle.tokens.specs.Choosing.{EncryptionPlan}
 use Rattle.tokens.specs.Encrypting.{sealing_by, sealed_by, within_longest, frame_by, plan_by}
 
 -- ---- the ciphertext
@@ -47,7 +47,7 @@ IsSealingText is_sealing x waiting s p = IsFed is_sealing x s p × (waiting ≡ 
 -- The sealing of what the plan is of was started, and the texts are those of its frame. Round the ciphertext and the tag of every
 -- plaintext they are what is written of its object.
 pub record IsUnsealed {S : Type 0} (is_sealing : S → Sealing → List ℕ → Type 0) (compact detach : Bool) (plan : Result (Plan OutputTexts) Refusal) (sealer : S) (texts : List (List ℕ)) : Type 0 where
-  pub encryption : Encryption
+  pub encryption : EncryptionPlan
   pub random : List ℕ
   pub is : plan ≡ Ok (plan_by limits compact detach encryption random)
   pub begun : is_sealing sealer (sealing_by encryption random) []

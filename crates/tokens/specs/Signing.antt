@@ -14,10 +14,10 @@ use Rattle.keys.specs.declared.algorithm.SignatureAlg.TheVariants.{Hs256, Hs384,
 use Rattle.keys.specs.declared.operation.Operation.TheVariants.{Sign}
 use Rattle.keys.specs.Algorithms.{signature_alg_of}
 use Rattle.keys.specs.Json.{json_value}
-use Rattle.keys.specs.Limits.{Limits, limits}
+use Rattle.keys.specs.Limits.{Limits, limits, are_few}
 use Rattle.keys.specs.Keys.{OctetKey, allows, fits}
 use Rattle.objects.specs.Frames.{first_text, jws_frame}
-use Rattle.objects.specs.Jws.{SignatureParts, JwsParts, SignedObject, built, json_text, jws_compact_text}
+use Rattle.objects.specs.Jws.{SignatureParts, JwsParts, SignedObject, built, json_text, jws_compact_text, jws_text}
 use Rattle.objects.specs.Texts.{each, handed_out}
 use Rattle.tokens.specs.Template.{SignatureTemplate, template_of, with_alg, header_text, is_shallow, is_empty}
 use Rattle.tokens.specs.Signatures.{signature_of}
@@ -65,24 +65,24 @@ pub record Signing : Type 0 where
   pub header : Members
 
 -- a compact text holds one signature, and no unprotected header
-abbrev pub has_no_more : Bool → Signing → Bool
-has_no_more compact s = if compact then nat_le (length s.signers) 1 && is_empty s.header else true
+abbrev pub compact_has_room : Bool → Signing → Bool
+compact_has_room compact s = if compact then nat_le (length s.signers) 1 && is_empty s.header else true
 
 -- Each step is taken for every key before the next.
-unfoldable pub signing_with : Limits → Bool → List OctetKey → SignatureTemplate → Result Signing Refusal
-signing_with limits compact keys template = do
+unfoldable pub settle_signing : Limits → Bool → List OctetKey → SignatureTemplate → Result Signing Refusal
+settle_signing limits compact keys template = do
   signers ← each (signer_by template) keys
   fit ← needs (list_all may_sign signers) KeyDoesNotFit
   shallow ← needs (list_all (λ s. is_shallow limits s.protected) signers && is_shallow limits template.per_signature) Limit
-  alone ← needs (has_no_more compact (record { signers = signers; header = template.per_signature })) NotCompact
+  alone ← needs (compact_has_room compact (record { signers = signers; header = template.per_signature })) NotCompact
   Ok (record { signers = signers; header = template.per_signature })
 
 -- that of keys and a template's text, or the first refusal
-unfoldable pub signing_of : Limits → Bool → List OctetKey → List ℕ → Result Signing Refusal
-signing_of limits compact keys text = do
+unfoldable pub read_signing : Limits → Bool → List OctetKey → List ℕ → Result Signing Refusal
+read_signing limits compact keys text = do
   value ← json_value text
   template ← template_of value
-  signing_with limits compact keys template
+  settle_signing limits compact keys template
 
 -- ---- the object of a payload
 
@@ -115,15 +115,10 @@ unsigned_by limits s = built limits (record { payload = []; signatures = map (un
 
 -- ---- its text
 
--- compact or JSON, with the payload or without
-abbrev pub text_of : Bool → Bool → SignedObject → Result (List ℕ) Refusal
-text_of true detach o = jws_compact_text detach o
-text_of false detach o = Ok (json_text detach o)
-
 -- what is written of the object: its text, and the payload beside it where it is detached
 abbrev pub written_of : Bool → Bool → SignedObject → Result OutputTexts Refusal
 written_of compact detach o = do
-  text ← text_of compact detach o
+  text ← jws_text compact detach o
   Ok (record { text = text; content = handed_out detach o.payload })
 
 -- what stands before the payload's text: the first text of the object's frame
@@ -144,9 +139,9 @@ plan_by limits compact detach s = record {
 }
 
 -- that of the signers of keys and a template's text, or the first refusal
-unfoldable pub signing_by : Limits → Bool → Bool → List OctetKey → List ℕ → Result (Plan OutputTexts) Refusal
-signing_by limits compact detach keys template = do
-  s ← signing_of limits compact keys template
+unfoldable pub sig_plan : Limits → Bool → Bool → List OctetKey → List ℕ → Result (Plan OutputTexts) Refusal
+sig_plan limits compact detach keys template = do
+  s ← read_signing limits compact keys template
   Ok (plan_by limits compact detach s)
 
 -- the plan of every signing goes on as its payload does
@@ -155,5 +150,5 @@ SigningGrows = (compact detach : Bool) (s : Signing) → BothGrow (plan_by limit
 
 -- What keys and a template settle makes an object of every payload, and its texts.
 abbrev pub SigningMakesTexts : Type 0
-SigningMakesTexts = (compact detach : Bool) (keys : List OctetKey) (template payload : List ℕ) (plan : Plan OutputTexts) → nat_le 1 (length keys) ≡ true → nat_le (length keys) limits.recipients ≡ true
-    → signing_by limits compact detach keys template ≡ Ok plan → (texts : OutputTexts) × (plan.whole payload ≡ Ok texts)
+SigningMakesTexts = (compact detach : Bool) (keys : List OctetKey) (template payload : List ℕ) (plan : Plan OutputTexts) → nat_le 1 (length keys) ≡ true → are_few limits (length keys) ≡ true
+    → sig_plan limits compact detach keys template ≡ Ok plan → (texts : OutputTexts) × (plan.whole payload ≡ Ok texts)

@@ -16,7 +16,7 @@ use Rattle.keys.specs.Keys.{OctetKey, allows, fits}
 use Rattle.objects.specs.Jws.{Signature, SignedObject, jws_of}
 use Rattle.objects.specs.Texts.{handed_in}
 use Rattle.tokens.specs.Signatures.{signature_of}
-use Rattle.tokens.specs.Signing.{signing_by}
+use Rattle.tokens.specs.Signing.{sig_plan}
 
 -- ---- the pairs of a signature and a key
 
@@ -71,6 +71,6 @@ verifying_by all wanted keys o = do
 -- gives the payload.
 abbrev pub SignedVerifies : Type 0
 SignedVerifies = (compact detach : Bool) (keys : List OctetKey) (template payload : List ℕ) (texts : OutputTexts) → IsOctets payload
-    → planned (signing_by limits compact detach keys template) payload ≡ Ok texts
+    → planned (sig_plan limits compact detach keys template) payload ≡ Ok texts
     → (o : SignedObject) × ((jws_of limits (handed_in detach texts.content) texts.text ≡ Ok o)
     × ((all : Bool) (before after : List OctetKey) (key : OctetKey) → keys ≡ before ++ key ∷ after → allows key Verify ≡ true → verifying_by all true (key ∷ []) o ≡ Ok payload))

@@ -4,24 +4,24 @@ use Rattle.serde_json.specs.View.{members_view}
 use Rattle.keys.specs.Views.{key_view}
 use Rattle.objects.specs.KeyManagementView.{management_view}
 use Rattle.objects.specs.Views.{part_view, recipient_view}
-use Rattle.tokens.specs.declared.template.Template.{Template}
-use Rattle.tokens.specs.declared.signer.Signer.{Signer as CodeSigner}
-use Rattle.tokens.specs.declared.sign.Signing.{Signing as CodeSigning}
+use Rattle.tokens.specs.declared.sign.template.Template.{Template}
+use Rattle.tokens.specs.declared.sign.signer.Signer.{Signer as CodeSigner}
+use Rattle.tokens.specs.declared.sign.settle.Signing.{Signing as CodeSigning}
 use Rattle.tokens.specs.declared.algorithms.Algorithms.{Algorithms as CodeAlgorithms}
-use Rattle.tokens.specs.declared.pair.Pair.{Pair as CodePair}
+use Rattle.tokens.specs.declared.decrypt.pair.Pair.{Pair as CodePair}
 use Rattle.tokens.specs.declared.decrypt.Sealed.{Sealed}
 use Rattle.tokens.specs.declared.decrypt.Work.{Work}
-use Rattle.tokens.specs.declared.receiver.Receiver.{Receiver as CodeReceiver}
-use Rattle.tokens.specs.declared.encryption.Given.{Given as CodeGiven}
-use Rattle.tokens.specs.declared.encryption.Encryption.{Encryption as CodeEncryption}
-use Rattle.tokens.specs.declared.delivering.Delivery.{Delivery as CodeDelivery}
-use Rattle.tokens.specs.declared.encryption_template.AlgorithmsAsked.{AlgorithmsAsked as CodeAsked}
-use Rattle.tokens.specs.declared.encryption_template.EncryptionTemplate.{EncryptionTemplate as CodeTemplate}
-use Rattle.tokens.specs.declared.encryption_template.TemplateTexts.{TemplateTexts as CodeTexts}
+use Rattle.tokens.specs.declared.encrypt.recipient_key.RecipientKey.{RecipientKey as CodeRecipientKey}
+use Rattle.tokens.specs.declared.encrypt.plan.Given.{Given as CodeGiven}
+use Rattle.tokens.specs.declared.encrypt.plan.EncryptionPlan.{EncryptionPlan as CodeEncryptionPlan}
+use Rattle.tokens.specs.declared.encrypt.deliver.Delivery.{Delivery as CodeDelivery}
+use Rattle.tokens.specs.declared.encrypt.template.AlgorithmsAsked.{AlgorithmsAsked as CodeAsked}
+use Rattle.tokens.specs.declared.encrypt.template.EncryptionTemplate.{EncryptionTemplate as CodeTemplate}
+use Rattle.tokens.specs.declared.encrypt.template.TemplateTexts.{TemplateTexts as CodeTexts}
 use Rattle.tokens.specs.Algorithms.{Algorithms}
 use Rattle.tokens.specs.EncryptionTemplate.{TemplateTexts, AlgorithmsAsked, EncryptionTemplate}
-use Rattle.tokens.specs.Choosing.{Receiver, Given, Encryption}
-use Rattle.tokens.specs.Decrypting.{Pair, SealedContent, Counts}
+use Rattle.tokens.specs.Choosing.{RecipientKey, Given, EncryptionPlan}
+use Rattle.tokens.specs.Decrypting.{Pair, SealedContent, WorkCounts}
 use Rattle.tokens.specs.Delivering.{Delivery}
 use Rattle.tokens.specs.Template.{SignatureTemplate}
 use Rattle.tokens.specs.Signing.{Signer, Signing}
@@ -45,7 +45,7 @@ pair_view p = record { recipient = recipient_view p.recipient.now; algorithms = 
 abbrev pub sealed_view : Sealed → List ℕ → SealedContent
 sealed_view s ciphertext = record { iv = s.iv.now; aad = s.aad.now; ciphertext = ciphertext; tag = s.tag.now }
 
-abbrev pub work_view : Work → Counts
+abbrev pub work_view : Work → WorkCounts
 work_view w = record { iterations = w.iterations; unwraps = w.unwraps; openings = w.openings }
 
 abbrev pub template_texts_view : CodeTexts → TemplateTexts
@@ -57,16 +57,16 @@ asked_view a = record { management = a.management; encryption = a.encryption; p2
 abbrev pub encryption_template_view : CodeTemplate → EncryptionTemplate
 encryption_template_view t = record { protected = part_view t.protected; unprotected = part_view t.unprotected; aad = t.aad.items; asked = asked_view t.asked }
 
-abbrev pub receiver_view : CodeReceiver → Receiver
-receiver_view r = record { key = key_view r.key.now; management = r.management }
+abbrev pub recipient_key_view : CodeRecipientKey → RecipientKey
+recipient_key_view r = record { key = key_view r.key.now; management = r.management }
 
 abbrev pub given_view : CodeGiven → Given
 given_view g = record { alg = g.alg; p2c = g.p2c }
 
-abbrev pub encryption_view : CodeEncryption → Encryption
-encryption_view e = record {
+abbrev pub encryption_plan_view : CodeEncryptionPlan → EncryptionPlan
+encryption_plan_view e = record {
   encryption = e.encryption;
-  receivers = map receiver_view e.receivers.items;
+  receivers = map recipient_key_view e.receivers.items;
   given = given_view e.given;
   p2c = e.p2c;
   protected = members_view e.protected.entries;

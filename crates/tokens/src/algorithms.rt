@@ -9,21 +9,21 @@ ghost use Rattle.tokens.specs.Decrypting.{algorithms_by, unwraps_of, iterations_
 ghost use Rattle.tokens.specs.Views.{algorithms_view};
 
 use ciphers::{ContentAlg, KeyAlg, KeyParameters};
-use keys::{EncryptionAlg, ManagementAlg};
+use keys::{ContentEncryptionAlg, KeyManagementAlg, KeyManagementMode};
 use objects::KeyManagement;
 
 /// Both algorithms of an encrypted object.
 #[derive(Clone, Copy)]
 pub(crate) struct Algorithms {
-    pub(crate) management: ManagementAlg,
-    pub(crate) encryption: EncryptionAlg,
+    pub(crate) management: KeyManagementAlg,
+    pub(crate) encryption: ContentEncryptionAlg,
 }
 
 impl Algorithms {
     /// Those that are named, where both are.
     pub(crate) fn named(
-        management: Option<ManagementAlg>,
-        encryption: Option<EncryptionAlg>,
+        management: Option<KeyManagementAlg>,
+        encryption: Option<ContentEncryptionAlg>,
     ) -> Option<Algorithms>
         ensures { option_map algorithms_view result ≡ algorithms_by management encryption }
     {
@@ -36,33 +36,33 @@ impl Algorithms {
     }
 }
 
-pub(crate) fn content_alg(enc: EncryptionAlg) -> ContentAlg
+pub(crate) fn content_alg(enc: ContentEncryptionAlg) -> ContentAlg
     ensures { result ≡ content_alg enc }
 {
     match enc {
-        EncryptionAlg::A128CbcHs256 => ContentAlg::A128CbcHs256,
-        EncryptionAlg::A192CbcHs384 => ContentAlg::A192CbcHs384,
-        EncryptionAlg::A256CbcHs512 => ContentAlg::A256CbcHs512,
-        EncryptionAlg::A128Gcm => ContentAlg::A128Gcm,
-        EncryptionAlg::A192Gcm => ContentAlg::A192Gcm,
-        EncryptionAlg::A256Gcm => ContentAlg::A256Gcm,
+        ContentEncryptionAlg::A128CbcHs256 => ContentAlg::A128CbcHs256,
+        ContentEncryptionAlg::A192CbcHs384 => ContentAlg::A192CbcHs384,
+        ContentEncryptionAlg::A256CbcHs512 => ContentAlg::A256CbcHs512,
+        ContentEncryptionAlg::A128Gcm => ContentAlg::A128Gcm,
+        ContentEncryptionAlg::A192Gcm => ContentAlg::A192Gcm,
+        ContentEncryptionAlg::A256Gcm => ContentAlg::A256Gcm,
     }
 }
 
-pub(crate) fn key_alg(alg: ManagementAlg) -> KeyAlg
+pub(crate) fn key_alg(alg: KeyManagementAlg) -> KeyAlg
     ensures { result ≡ key_alg alg }
 {
     match alg {
-        ManagementAlg::Dir => KeyAlg::Dir,
-        ManagementAlg::A128Kw => KeyAlg::A128Kw,
-        ManagementAlg::A192Kw => KeyAlg::A192Kw,
-        ManagementAlg::A256Kw => KeyAlg::A256Kw,
-        ManagementAlg::Pbes2Hs256A128Kw => KeyAlg::Pbes2Hs256A128Kw,
-        ManagementAlg::Pbes2Hs384A192Kw => KeyAlg::Pbes2Hs384A192Kw,
-        ManagementAlg::Pbes2Hs512A256Kw => KeyAlg::Pbes2Hs512A256Kw,
-        ManagementAlg::A128GcmKw => KeyAlg::A128GcmKw,
-        ManagementAlg::A192GcmKw => KeyAlg::A192GcmKw,
-        ManagementAlg::A256GcmKw => KeyAlg::A256GcmKw,
+        KeyManagementAlg::Dir => KeyAlg::Dir,
+        KeyManagementAlg::A128Kw => KeyAlg::A128Kw,
+        KeyManagementAlg::A192Kw => KeyAlg::A192Kw,
+        KeyManagementAlg::A256Kw => KeyAlg::A256Kw,
+        KeyManagementAlg::Pbes2Hs256A128Kw => KeyAlg::Pbes2Hs256A128Kw,
+        KeyManagementAlg::Pbes2Hs384A192Kw => KeyAlg::Pbes2Hs384A192Kw,
+        KeyManagementAlg::Pbes2Hs512A256Kw => KeyAlg::Pbes2Hs512A256Kw,
+        KeyManagementAlg::A128GcmKw => KeyAlg::A128GcmKw,
+        KeyManagementAlg::A192GcmKw => KeyAlg::A192GcmKw,
+        KeyManagementAlg::A256GcmKw => KeyAlg::A256GcmKw,
     }
 }
 
@@ -95,20 +95,13 @@ pub(crate) fn parameters(management: &KeyManagement) -> KeyParameters<'_>
 }
 
 /// How many encrypted keys are unwrapped: none where the key is used directly.
-pub(crate) fn unwraps(alg: ManagementAlg) -> u64
+pub(crate) fn unwraps(alg: KeyManagementAlg) -> u64
     ensures count { result ≡ unwraps_of alg }
     ensures bound { result ≤ 1 }
 {
-    match alg {
-        ManagementAlg::Dir => 0,
-        ManagementAlg::A128Kw
-        | ManagementAlg::A192Kw
-        | ManagementAlg::A256Kw
-        | ManagementAlg::Pbes2Hs256A128Kw
-        | ManagementAlg::Pbes2Hs384A192Kw
-        | ManagementAlg::Pbes2Hs512A256Kw
-        | ManagementAlg::A128GcmKw
-        | ManagementAlg::A192GcmKw
-        | ManagementAlg::A256GcmKw => 1,
+    match alg.mode() {
+        KeyManagementMode::Direct => 0,
+        KeyManagementMode::KeyWrap | KeyManagementMode::Password | KeyManagementMode::GcmKeyWrap =>
+            1,
     }
 }

@@ -1,26 +1,28 @@
 //! Decrypting with any key of a set (RFC 7516 section 5.2).
-ghost use Rattle.std.specs.Prelude.{◌≡◌, ◌≢◌, ◌+◌, ◌≤◌, ◌*◌, [], ◌∷◌, true, length, take, map, option_map, OnOk, OnErr, IfOk, IfErr, IfNone, IsTrue};
-ghost use Rattle.std.specs.Cow.{cow_str_bytes};
+ghost use Rattle.std.specs.Prelude.{◌≡◌, ◌≢◌, ◌+◌, ◌≤◌, ◌*◌, [], ◌∷◌, true, length, take, map, option_map, OnOk, OnErr, IfErr, IfNone, IsTrue};
 ghost use Rattle.std.specs.Result.{result_unwrap_or};
 ghost use Rattle.octets.specs.Devices.{appended, AppendsPrefixOf};
 ghost use Rattle.octets.specs.Faults.{TellsFaults, counts};
 ghost use Rattle.octets.specs.Outcomes.{AgreesUnlessMemory, AgreesUnlessExternal};
 ghost use Rattle.keys.specs.Limits.{limits};
 ghost use Rattle.objects.specs.Views.{jwe_view};
-ghost use Rattle.tokens.specs.Decrypting.{decrypted, pairs_to_try, are_within, iterations_of, authenticated, first_opened, opened_by, cek_of, no_work, with_pair, with_pairs, work_told, IsBounded};
+ghost use Rattle.tokens.specs.Decrypting.{decrypted, pairs_to_try, are_within, iterations_of, additional_authenticated_data, first_opened, opened_by, cek_of, no_work, with_pair, with_pairs, work_told, IsBounded};
 ghost use Rattle.tokens.specs.Views.{pair_view, sealed_view, work_view};
 
+mod pair;
+mod pairs;
+
+use crate::aad::additional_authenticated_data;
 use crate::algorithms::{Algorithms, content_alg, key_alg, parameters, unwraps};
-use crate::pair::Pair;
-use crate::pairs::{iterations, pairs_to_try};
+use crate::decrypt::pair::Pair;
+use crate::decrypt::pairs::{iterations, pairs_to_try};
 use ciphers::Cek;
 use ciphers::laws::{delivers_exactly, opens_exactly};
 use keys::KeySet;
 use objects::Jwe;
 use octets::laws::are_octets;
-use octets::{Output, Refusal, b64_append, emit};
+use octets::{Output, Refusal, emit};
 use std::alloc::Global;
-use std::borrow::CowStr;
 
 /// What was done to open an object, over the pairs of a recipient and a key that were tried.
 #[derive(Clone, Copy, Debug, PartialEq, Eq)]
@@ -109,7 +111,7 @@ fn open_first(alloc: Global, keys: &KeySet, jwe: Jwe, work: &mut Work) -> Result
     let mut jwe = jwe;
     let mut octets = jwe.take_ciphertext(alloc);
     let pairs = pairs_to_try(alloc, keys.keys(), jwe.recipients())?;
-    let aad = authenticated(alloc, jwe.protected(), jwe.aad())?;
+    let aad = additional_authenticated_data(alloc, jwe.protected(), jwe.aad())?;
     let sealed = Sealed {
         iv: jwe.iv(),
         aad: aad.as_bytes(),
@@ -118,25 +120,6 @@ fn open_first(alloc: Global, keys: &KeySet, jwe: Jwe, work: &mut Work) -> Result
     let len = open_pairs(&pairs, sealed, &mut octets, work).ok_or(Refusal::NotOpened)?;
     octets.truncate(len);
     Ok(octets)
-}
-
-/// The additional data: the text of the protected header, and after a dot that of the others, where there are some
-/// (RFC 7516 section 5.2, step 14).
-pub(crate) fn authenticated<'t>(
-    alloc: Global,
-    protected: &'t str,
-    aad: &[u8],
-) -> Result<CowStr<'t>, Refusal>
-    ensures text { IfOk result (λ text. cow_str_bytes text ≡ authenticated protected.now aad.now) }
-    ensures memory { IfErr result (λ e. e ≡ Refusal.Memory) }
-{
-    if aad.is_empty() {
-        return Ok(CowStr::Borrowed(protected));
-    }
-    let mut text = String::from_str(alloc, protected)?;
-    text.push('.')?;
-    b64_append(&mut text, aad)?;
-    Ok(CowStr::Owned(text))
 }
 
 /// Opens the ciphertext where it stands by the first pair that opens it, and answers the length of the plaintext.
@@ -191,7 +174,7 @@ fn open_pair(
 }
 
 /// The content encryption key that a pair delivers.
-#[tactic(auto, unfolding(crate::specs::Decrypting::cek_of), using(crate::proofs::Candidates::is_key_of, crate::proofs::Candidates::counts))]
+#[tactic(auto, unfolding(crate::specs::Decrypting::cek_of), using(crate::proofs::AlgorithmCases::is_key_of, crate::proofs::AlgorithmCases::counts))]
 fn deliver(pair: &Pair<'_>) -> Option<Cek>
     requires { iterations_of (pair_view pair.now) ≤ limits.greatest_p2c_read }
     ensures { result ≡ cek_of (pair_view pair.now) }

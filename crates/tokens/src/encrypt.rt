@@ -16,20 +16,28 @@ ghost use Rattle.keys.specs.Keys.{fits};
 ghost use Rattle.keys.specs.Limits.{limits};
 ghost use Rattle.objects.specs.Frames.{filled};
 ghost use Rattle.tokens.specs.Algorithms.{content_alg as content_alg_of};
-ghost use Rattle.tokens.specs.Encrypting.{encrypting_by, frame_by, sealing_by, octets_drawn, direct_key, cek_drawn, cek_by};
+ghost use Rattle.tokens.specs.Encrypting.{enc_plan, frame_by, sealing_by, random_len, direct_key, cek_drawn, cek_by};
 ghost use Rattle.tokens.specs.SealedTexts.{IsUnsealed};
-ghost use Rattle.tokens.specs.Views.{receiver_view, encryption_view};
+ghost use Rattle.tokens.specs.Views.{recipient_key_view, encryption_plan_view};
 
+mod ciphertext;
+mod deliver;
+mod plan;
+mod recipient_key;
+mod recipients;
+mod settle;
+mod template;
+
+use crate::aad::additional_authenticated_data;
 use crate::algorithms::content_alg;
-use crate::choosing::{is_direct, read_encryption};
 use crate::copies::copied;
-use crate::decrypt::authenticated;
-use crate::delivering::{SALT_LEN, deliver_to_all, drawn_for_all};
-use crate::encryption::Encryption;
-use crate::receiver::Receiver;
-use crate::recipients::{protected_header, recipients};
-use crate::sealing::{Ciphertext, EncodedCiphertext, Tag};
-use crate::template::header_text;
+use crate::encrypt::ciphertext::{Ciphertext, EncodedCiphertext, Tag};
+use crate::encrypt::deliver::{SALT_LEN, deliver_to_all, drawn_for_all};
+use crate::encrypt::plan::EncryptionPlan;
+use crate::encrypt::recipient_key::RecipientKey;
+use crate::encrypt::recipients::{protected_header, recipients};
+use crate::encrypt::settle::{is_direct, read_encryption};
+use crate::headers::header_text;
 use ciphers::laws::{what_delivers_is_octets, what_is_opened_is_octets};
 use ciphers::{Cek, ContentSealer, Sealer};
 use keys::laws::are_octet_keys;
@@ -52,7 +60,7 @@ const MOST_DRAWN: usize = MOST_KEYS * SALT_LEN + 80;
 /// encryption means direct use; or else A128KW, A192KW or A256KW by the key's length. That of content encryption is the one of
 /// the headers' `enc`; or else, of a key that is used directly, the one of its `alg` or the CBC one of its length; or else the
 /// CBC one that goes with the key management of the first key. For a password `p2c` is that of the headers, or else 100,000,
-/// and `p2s`, of 16 octets, is drawn; for A128GCMKW, A192GCMKW and A256GCMKW `iv`, of 12 octets, is drawn, and `tag` is made
+/// and `p2s`, of 16 octets, is drawn; for AES-GCM key wrap `iv`, of 12 octets, is drawn, and `tag` is made
 /// with the encrypted key.
 ///
 /// What the headers do not give is written: `enc` into the protected header; `alg`, `p2c`, `p2s`, `iv` and `tag` into the
@@ -62,18 +70,12 @@ const MOST_DRAWN: usize = MOST_KEYS * SALT_LEN + 80;
 /// is it, and then the initialization vector, and exactly these octets are read, after every refusal that the template and the
 /// keys give.
 ///
-/// Refused, in this order, each step for every key before the next, with `Json`; `Number`; `Form` where the template has
-/// another form; `Base64` where `aad` is no base64url text; `Header` where a name stands in both headers, `alg` or `enc` is no
-/// string, or there is a `p2s`, an `iv` or a `tag`; `Unsupported` where there is a `crit` or a `zip`, or an algorithm that is
-/// not supported; `NoAlgorithm` where nothing says the algorithm of key management, and `KeyDoesNotFit` where a key's `alg` is
-/// none of encryption; `Header` where a key of several is used directly; `NoAlgorithm` where nothing says the algorithm of
-/// content encryption; `KeyDoesNotFit` where a key may not encrypt, or does not fit; where one is a password, `Header` where
-/// `p2c` is no whole number; `Limit` where a header nests more than 64 deep, the `p2c` of a password is not from 1,000 to
-/// 2,000,000, or those of all passwords are more than 16,000,000; `NotCompact` where a compact text is asked for, and there are
-/// several keys or the template gives more than a protected header; then with `Read` where the random input fails, and `Random`
-/// where it ends too early; then with `Read` where the content fails, and `Limit` where it is too long; and with `Write` where
-/// an output fails.
-#[tactic(auto, unfolding(crate::specs::Encrypting::encrypting_by))]
+/// Refused, in the order that docs/SPECIFICATION.md has under "Encrypting", each step for every key before the next, with `Json`,
+/// `Number`, `Form`, `Base64`, `Header` or `Unsupported` for the template; `NoAlgorithm`, `KeyDoesNotFit` or `Header` for the
+/// keys and the algorithms; `Limit` for a header that is too deep, or for iterations; `NotCompact` where a compact text cannot hold
+/// what they give; then with `Read` where the random input fails, and `Random` where it ends too early; then with `Read` where the
+/// content fails, and `Limit` where it is too long; and with `Write` where an output fails.
+#[tactic(auto, unfolding(crate::specs::Encrypting::enc_plan))]
 pub fn jwe_encrypt<I: Input, O: Output>(
     alloc: Global,
     keys: &KeySet,
@@ -88,33 +90,33 @@ pub fn jwe_encrypt<I: Input, O: Output>(
     ensures answer { (octets plaintext : List ℕ)
         → IsPossibleInput (observed I.consumed I.is_at_end random.old random.new) octets
         → IsPossibleInput (observed I.consumed I.is_at_end content.old content.new) plaintext
-        → AgreesUnlessExternal (planned (plan_from (encrypting_by limits compact (is_some detached.entry) keys.now template.now) octets) plaintext)
+        → AgreesUnlessExternal (planned (plan_from (enc_plan limits compact (is_some detached.entry) keys.now template.now) octets) plaintext)
         (record { text = appended (O.written out.old) (O.written out.new); content = wrote_on O.written (lent detached.entry detached.exit) }) result }
 
     // Exactly the octets of the receivers, the key and the vector are read of the random input, and no more before a refusal.
     ensures drawn { OnOk result (length (appended (I.consumed random.old) (I.consumed random.new))
-        ≡ drawn_of (encrypting_by limits compact (is_some detached.entry) keys.now template.now)) }
+        ≡ drawn_of (enc_plan limits compact (is_some detached.entry) keys.now template.now)) }
     ensures at_most { length (appended (I.consumed random.old) (I.consumed random.new))
-        ≤ drawn_of (encrypting_by limits compact (is_some detached.entry) keys.now template.now) }
+        ≤ drawn_of (enc_plan limits compact (is_some detached.entry) keys.now template.now) }
     ensures beginning { OnErr result (AppendsPrefixOf
-        (begun (plan_from (encrypting_by limits compact (is_some detached.entry) keys.now template.now) (appended (I.consumed random.old) (I.consumed random.new)))
+        (begun (plan_from (enc_plan limits compact (is_some detached.entry) keys.now template.now) (appended (I.consumed random.old) (I.consumed random.new)))
         (observed I.consumed I.is_at_end content.old content.new)).text (O.written out.old) (O.written out.new)) }
     ensures beginning_beside { OnErr result (IfLent (lent detached.entry detached.exit) (λ old new. AppendsPrefixOf
-        (begun (plan_from (encrypting_by limits compact (is_some detached.entry) keys.now template.now) (appended (I.consumed random.old) (I.consumed random.new)))
+        (begun (plan_from (enc_plan limits compact (is_some detached.entry) keys.now template.now) (appended (I.consumed random.old) (I.consumed random.new)))
         (observed I.consumed I.is_at_end content.old content.new)).content (O.written old) (O.written new))) }
     ensures finished { OnOk result (IsTrue (O.is_finished out.new) × IfLent (lent detached.entry detached.exit) (λ old new. IsTrue (O.is_finished new))) }
 
     // Where the content fails, what stands is at most 4,160 octets behind what was read of it.
     ensures keeps_up { result ≡ Err Refusal.Read → appended (I.consumed content.old) (I.consumed content.new) ≢ []
-        → KeepsUp (λ front. (fixed_by (plan_from (encrypting_by limits compact (is_some detached.entry) keys.now template.now) (appended (I.consumed random.old) (I.consumed random.new))) front).text) (appended (I.consumed content.old) (I.consumed content.new)) (O.written out.old) (O.written out.new)
+        → KeepsUp (λ front. (fixed_by (plan_from (enc_plan limits compact (is_some detached.entry) keys.now template.now) (appended (I.consumed random.old) (I.consumed random.new))) front).text) (appended (I.consumed content.old) (I.consumed content.new)) (O.written out.old) (O.written out.new)
         × IfLent (lent detached.entry detached.exit) (λ old new.
-        KeepsUp (λ front. (fixed_by (plan_from (encrypting_by limits compact (is_some detached.entry) keys.now template.now) (appended (I.consumed random.old) (I.consumed random.new))) front).content) (appended (I.consumed content.old) (I.consumed content.new)) (O.written old) (O.written new)) }
+        KeepsUp (λ front. (fixed_by (plan_from (enc_plan limits compact (is_some detached.entry) keys.now template.now) (appended (I.consumed random.old) (I.consumed random.new))) front).content) (appended (I.consumed content.old) (I.consumed content.new)) (O.written old) (O.written new)) }
 
     // What the template and the keys refuse is refused before anything is drawn, and the content is touched once all is drawn.
-    ensures content_last { (refusal : Refusal) → encrypting_by limits compact (is_some detached.entry) keys.now template.now ≡ Err refusal
+    ensures content_last { (refusal : Refusal) → enc_plan limits compact (is_some detached.entry) keys.now template.now ≡ Err refusal
         → (random.new ≡ random.old) × (content.new ≡ content.old) }
     ensures random_first { length (appended (I.consumed random.old) (I.consumed random.new))
-        < drawn_of (encrypting_by limits compact (is_some detached.entry) keys.now template.now) → content.new ≡ content.old }
+        < drawn_of (enc_plan limits compact (is_some detached.entry) keys.now template.now) → content.new ≡ content.old }
     ensures uncut { IfErr result (λ refusal.
         (DidNotFail refusal (counts O.failures out.old out.new) → O.written out.new ≡ O.written out.old → out.new ≡ out.old)
         × IfLent (lent detached.entry detached.exit) (λ old new. refusal ≢ Refusal.Write → O.written new ≡ O.written old → new ≡ old)) }
@@ -122,7 +124,7 @@ pub fn jwe_encrypt<I: Input, O: Output>(
     // The text is not begun before the ciphertext stands whole beside it, where it is detached.
     ensures content_first { OnErr result ((out.new ≡ out.old) ⊎ IfLent (lent detached.entry detached.exit) (λ old new.
         IsTrue (I.is_at_end content.new) × IsTrue (O.is_finished new)
-        × (O.written new ≡ O.written old ++ (begun (plan_from (encrypting_by limits compact (is_some detached.entry) keys.now template.now) (appended (I.consumed random.old) (I.consumed random.new)))
+        × (O.written new ≡ O.written old ++ (begun (plan_from (enc_plan limits compact (is_some detached.entry) keys.now template.now) (appended (I.consumed random.old) (I.consumed random.new)))
         (observed I.consumed I.is_at_end content.old content.new)).content))) }
 
     // All memory is taken before the content is touched, and an output that did not fail is as it was where nothing of it could be
@@ -136,13 +138,17 @@ pub fn jwe_encrypt<I: Input, O: Output>(
 {
     match detached {
         None => {
-            let Framed { texts, sealer } = prepare(alloc, keys, template, compact, false, random)?;
+            let PreparedEncryption { texts, sealer } = prepare(
+                alloc, keys, template, compact, false, random,
+            )?;
             let ciphertext = EncodedCiphertext::start(sealer);
             let tag = pump(content, ciphertext, texts[0].as_bytes(), out)?;
             write_tag(&tag, &texts[1..], out)
         }
         Some(detached) => {
-            let Framed { texts, sealer } = prepare(alloc, keys, template, compact, true, random)?;
+            let PreparedEncryption { texts, sealer } = prepare(
+                alloc, keys, template, compact, true, random,
+            )?;
             let tag = pump(content, Ciphertext::start(sealer), &[], detached)?;
             detached.finish()?;
             write_tag(&tag, &texts, out)
@@ -152,14 +158,14 @@ pub fn jwe_encrypt<I: Input, O: Output>(
 
 /// What is settled before there is a plaintext: the texts round the ciphertext and the tag, and the sealing, begun.
 #[derive(Drop)]
-struct Framed {
+struct PreparedEncryption {
     texts: Vec<String>,
     sealer: ContentSealer,
 }
 
 /// All that is settled before the plaintext is read. Refused, but for want of memory or where the random input fails, as the plan
 /// is with every plaintext.
-#[tactic(auto, unfolding(crate::specs::Encrypting::encrypting_by))]
+#[tactic(auto, unfolding(crate::specs::Encrypting::enc_plan))]
 fn prepare<I: Input>(
     alloc: Global,
     keys: &KeySet,
@@ -167,24 +173,24 @@ fn prepare<I: Input>(
     compact: bool,
     detach: bool,
     random: &mut I,
-) -> Result<Framed, Refusal>
+) -> Result<PreparedEncryption, Refusal>
     ensures unsealed { (octets : List ℕ) → IsPossibleInput (observed I.consumed I.is_at_end random.old random.new) octets
         → IfOk result (λ made. IsUnsealed ⟦<ContentSealer as Sealer>⟧.is_sealing compact detach
-        (plan_from (encrypting_by limits compact detach keys.now template.now) octets) made.sealer (map string_bytes made.texts.items)) }
+        (plan_from (enc_plan limits compact detach keys.now template.now) octets) made.sealer (map string_bytes made.texts.items)) }
     ensures places { IfOk result (λ made. length made.texts.items ≡ (if detach then 2 else 3)) }
     ensures refused { (octets plaintext : List ℕ) → IsPossibleInput (observed I.consumed I.is_at_end random.old random.new) octets
-        → IfErr result (λ e. is_external e ≡ false → planned (plan_from (encrypting_by limits compact detach keys.now template.now) octets) plaintext ≡ Err e) }
+        → IfErr result (λ e. is_external e ≡ false → planned (plan_from (enc_plan limits compact detach keys.now template.now) octets) plaintext ≡ Err e) }
     ensures drawn { OnOk result (length (appended (I.consumed random.old) (I.consumed random.new))
-        ≡ drawn_of (encrypting_by limits compact detach keys.now template.now)) }
+        ≡ drawn_of (enc_plan limits compact detach keys.now template.now)) }
     ensures at_most { length (appended (I.consumed random.old) (I.consumed random.new))
-        ≤ drawn_of (encrypting_by limits compact detach keys.now template.now) }
-    ensures template_first { (refusal : Refusal) → encrypting_by limits compact detach keys.now template.now ≡ Err refusal
+        ≤ drawn_of (enc_plan limits compact detach keys.now template.now) }
+    ensures template_first { (refusal : Refusal) → enc_plan limits compact detach keys.now template.now ≡ Err refusal
         → IsErr result × (random.new ≡ random.old) }
     ensures faults { TellsFaults (counts I.failures random.old random.new ∷ []) [] result }
 {
     let encryption = read_encryption(alloc, keys, template, compact)?;
     let mut buf = [0; MOST_DRAWN];
-    let drawn = &mut buf[..octets_drawn(&encryption)];
+    let drawn = &mut buf[..random_len(&encryption)];
     draw(random, drawn)?;
     are_octets(drawn);
     are_octet_keys(keys);
@@ -196,17 +202,17 @@ fn prepare<I: Input>(
 /// The texts and the sealing of an encryption by the octets that were drawn, before there is a plaintext.
 fn begin_sealing(
     alloc: Global,
-    encryption: Encryption<'_>,
+    encryption: EncryptionPlan<'_>,
     random: &[u8],
     compact: bool,
     detach: bool,
-) -> Result<Framed, Refusal>
-    requires long { length random.now ≡ octets_drawn (encryption_view encryption) }
-    requires made { IsOk (frame_by limits compact detach (encryption_view encryption) random.now) }
-    ensures sealing { IfOk result (λ made. ⟦<ContentSealer as Sealer>⟧.is_sealing made.sealer (sealing_by (encryption_view encryption.entry) random.now) []) }
-    ensures framed { IfOk result (λ made. frame_by limits compact detach (encryption_view encryption.entry) random.now ≡ Ok (map string_bytes made.texts.items)) }
-    ensures cek { IfOk result (λ made. IsOctets (cek_by (encryption_view encryption.entry) random.now)
-        × (length (cek_by (encryption_view encryption.entry) random.now) ≡ cek_len (content_alg_of (encryption_view encryption.entry).encryption))) }
+) -> Result<PreparedEncryption, Refusal>
+    requires long { length random.now ≡ random_len (encryption_plan_view encryption) }
+    requires made { IsOk (frame_by limits compact detach (encryption_plan_view encryption) random.now) }
+    ensures sealing { IfOk result (λ made. ⟦<ContentSealer as Sealer>⟧.is_sealing made.sealer (sealing_by (encryption_plan_view encryption.entry) random.now) []) }
+    ensures framed { IfOk result (λ made. frame_by limits compact detach (encryption_plan_view encryption.entry) random.now ≡ Ok (map string_bytes made.texts.items)) }
+    ensures cek { IfOk result (λ made. IsOctets (cek_by (encryption_plan_view encryption.entry) random.now)
+        × (length (cek_by (encryption_plan_view encryption.entry) random.now) ≡ cek_len (content_alg_of (encryption_plan_view encryption.entry).encryption))) }
     ensures memory { IfErr result (λ e. e ≡ Refusal.Memory) }
 {
     let (for_receivers, random) = random.split_at(drawn_for_all(&encryption.receivers));
@@ -215,7 +221,7 @@ fn begin_sealing(
     are_octets(cek.octets());
     let deliveries = deliver_to_all(alloc, &encryption, for_receivers, &cek)?;
     let alg = content_alg(encryption.encryption);
-    let Encryption {
+    let EncryptionPlan {
         receivers,
         given,
         protected,
@@ -227,7 +233,7 @@ fn begin_sealing(
     let header = header_text(alloc, header)?;
     let protected = b64_encode(alloc, header.as_bytes())?;
     let sealer = {
-        let data = authenticated(alloc, &protected, &aad)?;
+        let data = additional_authenticated_data(alloc, &protected, &aad)?;
         alg.seal(cek.octets(), iv, data.as_bytes())
     };
     let recipients = recipients(alloc, given, receivers.len() <= 1, deliveries)?;
@@ -244,7 +250,7 @@ fn begin_sealing(
         },
     )?;
     let texts = jwe.frame(alloc, compact, detach)?;
-    Ok(Framed { texts, sealer })
+    Ok(PreparedEncryption { texts, sealer })
 }
 
 /// Writes the first text, the tag, and the text after it, and finishes.
@@ -264,8 +270,8 @@ fn write_tag<O: Output>(tag: &Tag, texts: &[String], out: &mut O) -> Result<(), 
 }
 
 /// How many octets are drawn.
-fn octets_drawn(encryption: &Encryption<'_>) -> usize
-    ensures count { result ≡ octets_drawn (encryption_view encryption.now) }
+fn random_len(encryption: &EncryptionPlan<'_>) -> usize
+    ensures count { result ≡ random_len (encryption_plan_view encryption.now) }
     ensures bound { result ≤ 1104 }
 {
     let for_receivers = drawn_for_all(&encryption.receivers);
@@ -273,8 +279,8 @@ fn octets_drawn(encryption: &Encryption<'_>) -> usize
 }
 
 /// How many of them the content encryption key takes.
-fn cek_drawn(encryption: &Encryption<'_>) -> usize
-    ensures count { result ≡ cek_drawn (encryption_view encryption.now) }
+fn cek_drawn(encryption: &EncryptionPlan<'_>) -> usize
+    ensures count { result ≡ cek_drawn (encryption_plan_view encryption.now) }
     ensures bound { result ≤ 64 }
 {
     match direct_key(&encryption.receivers) {
@@ -284,8 +290,8 @@ fn cek_drawn(encryption: &Encryption<'_>) -> usize
 }
 
 /// The key that is used directly, if one is: it is the only one.
-fn direct_key<'k>(receivers: &[Receiver<'k>]) -> Option<&'k [u8]>
-    ensures { option_map (λ key. key.now) result ≡ direct_key (map receiver_view receivers.now) }
+fn direct_key<'k>(receivers: &[RecipientKey<'k>]) -> Option<&'k [u8]>
+    ensures { option_map (λ key. key.now) result ≡ direct_key (map recipient_key_view receivers.now) }
 {
     let first = receivers.first()?;
     if is_direct(first.management) {
@@ -296,10 +302,10 @@ fn direct_key<'k>(receivers: &[Receiver<'k>]) -> Option<&'k [u8]>
 }
 
 /// The content encryption key: what was drawn, or the key that is used directly.
-fn content_key(encryption: &Encryption<'_>, drawn: &[u8]) -> Cek
-    requires { length drawn.now ≡ cek_drawn (encryption_view encryption.now) }
-    ensures cek { result ≡ unwrap_or (direct_key (encryption_view encryption.now).receivers) drawn.now }
-    ensures fits { length result ≡ cek_len (content_alg_of (encryption_view encryption.now).encryption) }
+fn content_key(encryption: &EncryptionPlan<'_>, drawn: &[u8]) -> Cek
+    requires { length drawn.now ≡ cek_drawn (encryption_plan_view encryption.now) }
+    ensures cek { result ≡ unwrap_or (direct_key (encryption_plan_view encryption.now).receivers) drawn.now }
+    ensures fits { length result ≡ cek_len (content_alg_of (encryption_plan_view encryption.now).encryption) }
 {
     match direct_key(&encryption.receivers) {
         Some(key) => Cek::new(key),

@@ -1,6 +1,6 @@
 //! Laws of the definitions, each the contract of a function that does nothing.
 ghost use Rattle.std.specs.Prelude.{◌≡◌, ◌++◌, List};
-ghost use Rattle.keys.specs.declared.algorithm.ManagementAlg.{ManagementAlg};
+ghost use Rattle.keys.specs.declared.algorithm.KeyManagementAlg.{KeyManagementAlg};
 ghost use Rattle.keys.specs.Algorithms.{earlier_management_algs, gcm_management_algs};
 ghost use Rattle.keys.specs.Limits.{Limits, limits};
 ghost use Rattle.tokens.specs.Encrypting.{AreSound, EncryptedDecrypts, EncryptingGrows, EncryptingMakesTexts};
@@ -65,7 +65,7 @@ pub fn what_is_encrypted_decrypts()
 /// of none of the further ones, are read as before, and the encrypted ones are decrypted as before. So it is of all others with
 /// the three of key wrap by AES in GCM, which with them are the algorithms of the limits.
 pub fn more_algorithms_open_alike()
-    ensures all { (limits : Limits) (known further : List ManagementAlg) → OpensAlike limits known further }
+    ensures all { (limits : Limits) (known further : List KeyManagementAlg) → OpensAlike limits known further }
     ensures gcm { OpensAlike limits earlier_management_algs gcm_management_algs
         × (knowing limits (earlier_management_algs ++ gcm_management_algs) ≡ limits) }
 {}

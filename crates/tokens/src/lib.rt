@@ -10,26 +10,16 @@
 //! ```
 #![tactic(auto)]
 
+mod aad;
 mod algorithms;
-mod choosing;
 mod copies;
 mod decrypt;
-mod delivering;
 mod encrypt;
-mod encryption;
-mod encryption_template;
+mod headers;
 pub mod laws;
-mod pair;
-mod pairs;
-mod payload;
-mod receiver;
-mod recipients;
-mod sealing;
+mod mac;
 mod sign;
-mod signature;
-mod signer;
 mod signing_input;
-mod template;
 mod verify;
 
 pub use decrypt::{Work, jwe_decrypt};

@@ -5,18 +5,15 @@ ghost use Rattle.objects.specs.Views.{held_view};
 ghost use Rattle.prf.specs.HashFunction.{HashFunction};
 ghost use Rattle.prf.specs.Hmac.{hmac};
 ghost use Rattle.prf.specs.Views.{HoldsHmac};
-ghost use Rattle.tokens.specs.Signatures.{signature_hash};
+ghost use Rattle.tokens.specs.Signatures.{signature_hash, signing_input};
 ghost use Rattle.tokens.specs.Signing.{Signer};
 ghost use Rattle.tokens.specs.SigningInputs.{HoldEach};
 
-use crate::signature::Signature;
+use crate::mac::Mac;
 use keys::SignatureAlg;
 use objects::HeldContent;
-use octets::B64Writer;
+use octets::{B64Writer, PIECE, PIECE_TEXT};
 use prf::{Hash, Hmac, Sha256, Sha384, Sha512};
-
-/// How many octets of a payload are encoded at a time.
-const PIECE: usize = 4096;
 
 /// A signing input that is taken in pieces.
 pub(crate) trait SigningInput: Drop {
@@ -29,7 +26,7 @@ pub(crate) trait SigningInput: Drop {
             → has_taken self.new f key (text ++ piece.now) };
 
     /// The signature of all that was taken.
-    fn sign(self) -> Signature
+    fn sign(self) -> Mac
         ensures { (f : HashFunction) (key text : List ℕ) → has_taken self f key text → result ≡ hmac f key text };
 }
 
@@ -70,11 +67,11 @@ impl SigningInput for HmacInput {
         }
     }
 
-    fn sign(self) -> Signature {
+    fn sign(self) -> Mac {
         match self {
-            HmacInput::Hs256(mac) => Signature::finish(mac),
-            HmacInput::Hs384(mac) => Signature::finish(mac),
-            HmacInput::Hs512(mac) => Signature::finish(mac),
+            HmacInput::Hs256(mac) => Mac::finish(mac),
+            HmacInput::Hs384(mac) => Mac::finish(mac),
+            HmacInput::Hs512(mac) => Mac::finish(mac),
         }
     }
 }
@@ -89,13 +86,27 @@ fn begun<H: Hash>(key: &[u8], protected: &[u8]) -> Hmac<H>
     mac
 }
 
+/// The signature of the text of the protected header, a dot, and the base64url text of the payload.
+pub(crate) fn signature_of(
+    alg: SignatureAlg,
+    key: &[u8],
+    protected: &[u8],
+    payload: HeldContent<'_>,
+) -> Mac
+    ensures { result ≡ hmac (signature_hash alg) key.now (signing_input protected.now (held_view payload.entry)) }
+{
+    let mut input = HmacInput::begin(alg, key, protected);
+    take_payload(&mut input, payload);
+    input.sign()
+}
+
 /// Takes the base64url text of the octets, in pieces.
 fn take_encoded<S: SigningInput>(input: &mut S, octets: &[u8])
     ensures { (f : HashFunction) (key text : List ℕ) → S.has_taken input.old f key text
         → S.has_taken input.new f key (text ++ base64url octets.now) }
 {
     let mut writer = B64Writer::start();
-    let mut text = [0; 5488];
+    let mut text = [0; PIECE_TEXT];
     for piece in octets.chunks(PIECE) {
         let len = writer.feed(piece, &mut text);
         input.take(&text[..len]);

@@ -11,7 +11,7 @@ ghost use Rattle.keys.specs.Views.{key_view};
 ghost use Rattle.objects.specs.Views.{held_view, jws_view, signature_view};
 ghost use Rattle.tokens.specs.Verifying.{verifying_by, verified_payload, are_verified as are_verified_by, may_verify as may_verify_pair, verifies as verifies_pair, is_candidate as is_candidate_key, is_signed as is_signed_by};
 
-use crate::signature::Signature as Mac;
+use crate::signing_input::signature_of;
 use keys::{Algorithm, Key, KeySet, Operation, SignatureAlg};
 use objects::{HeldContent, Jws, Signature};
 use octets::{Output, Refusal, needs, same_octets};
@@ -149,6 +149,6 @@ fn is_candidate(key: &Key, alg: SignatureAlg) -> bool
 fn is_signed(signature: &Signature, payload: HeldContent<'_>, key: &Key, alg: SignatureAlg) -> bool
     ensures { result ≡ is_signed_by alg (held_view payload.entry) (signature_view signature.now) (key_view key.now) }
 {
-    let mac = Mac::compute(alg, key.octets(), signature.protected().as_bytes(), payload);
+    let mac = signature_of(alg, key.octets(), signature.protected().as_bytes(), payload);
     same_octets(mac.octets(), signature.signature())
 }

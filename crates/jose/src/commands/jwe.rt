@@ -1,5 +1,5 @@
 //! The commands `jwe enc`, `jwe dec` and `jwe fmt`, from devices to devices.
-ghost use Rattle.std.specs.Prelude.{◌≡◌, ◌≢◌, ◌⊎◌, ◌<◌, ◌≤◌, ◌++◌, false, not, ◌&&◌, ◌||◌, ℕ, List, [], ◌∷◌, length, Err, OnOk, OnErr, IfErr, IsTrue, string_bytes};
+ghost use Rattle.std.specs.Prelude.{◌≡◌, ◌≢◌, ◌⊎◌, ◌<◌, ◌≤◌, ◌++◌, false, not, ◌&&◌, ◌||◌, ℕ, List, [], ◌∷◌, length, option_map, Err, OnOk, OnErr, IfErr, IsTrue, string_bytes};
 ghost use Rattle.std.specs.Iterator.{IsFinite};
 ghost use Rattle.octets.specs.Devices.{appended, observed, IsPossibleInput, AppendsPrefixOf};
 ghost use Rattle.octets.specs.declared.refusal.Refusal.{Refusal};
@@ -10,13 +10,12 @@ ghost use Rattle.octets.specs.Pumps.{KeepsUp};
 ghost use Rattle.keys.specs.Limits.{limits};
 ghost use Rattle.objects.specs.Texts.{handed_in};
 ghost use Rattle.objects.specs.Views.{jwe_view};
-ghost use Rattle.tokens.specs.Encrypting.{text_of};
 ghost use Rattle.jose.specs.Jwe.{enc_answer, dec_answer, jwe_fmt_answer};
-ghost use Rattle.jose.specs.Ports.{formed};
+ghost use Rattle.jose.specs.Ports.{formed, object_texts};
 
-use crate::commands::{no_output, read_beside, read_object, read_with_keys};
-use objects::Jwe;
-use octets::{Input, Output, Refusal, emit, read_to_end};
+use crate::commands::{no_output, read_beside, read_object, read_with_keys, write_object};
+use objects::{HeldContent, Jwe};
+use octets::{Input, Output, Refusal, read_to_end};
 use std::alloc::Global;
 use tokens::{jwe_decrypt, jwe_encrypt};
 
@@ -133,7 +132,7 @@ pub(crate) fn decrypt<I: Input, O: Output>(
     alloc: Global,
     text: &mut I,
     keys: &mut I,
-    given: bool,
+    detached_given: bool,
     content: &mut I,
     out: &mut O,
 ) -> Result<(), Refusal>
@@ -144,23 +143,23 @@ pub(crate) fn decrypt<I: Input, O: Output>(
         → IsPossibleInput (observed I.consumed I.is_at_end text.old text.new) whole_text
         → IsPossibleInput (observed I.consumed I.is_at_end keys.old keys.new) whole_keys
         → IsPossibleInput (observed I.consumed I.is_at_end content.old content.new) whole_content
-        → AgreesUnlessExternal (dec_answer limits whole_keys (handed_in given whole_content) whole_text) (appended (O.written out.old) (O.written out.new)) result }
+        → AgreesUnlessExternal (dec_answer limits whole_keys (handed_in detached_given whole_content) whole_text) (appended (O.written out.old) (O.written out.new)) result }
 
     // The output is not touched before a key has opened the object.
     ensures held_back { IfErr result (λ refusal. refusal ≢ Refusal.Write → out.new ≡ out.old) }
     ensures beginning { OnErr result (AppendsPrefixOf
-        (accepted (dec_answer limits (appended (I.consumed keys.old) (I.consumed keys.new)) (handed_in given (appended (I.consumed content.old) (I.consumed content.new))) (appended (I.consumed text.old) (I.consumed text.new)))
-        (I.is_at_end keys.new && I.is_at_end text.new && (not given || I.is_at_end content.new))) (O.written out.old) (O.written out.new)) }
+        (accepted (dec_answer limits (appended (I.consumed keys.old) (I.consumed keys.new)) (handed_in detached_given (appended (I.consumed content.old) (I.consumed content.new))) (appended (I.consumed text.old) (I.consumed text.new)))
+        (I.is_at_end keys.new && I.is_at_end text.new && (not detached_given || I.is_at_end content.new))) (O.written out.old) (O.written out.new)) }
     ensures finished { OnOk result (IsTrue (O.is_finished out.new)) }
     ensures in_order { (I.is_at_end text.new ≡ false → keys.new ≡ keys.old)
         × (I.is_at_end keys.new && I.is_at_end text.new ≡ false → content.new ≡ content.old) }
     ensures reads_first { IfErr result (λ refusal. is_external refusal ≡ false
-        → IsTrue (I.is_at_end text.new) × IsTrue (I.is_at_end keys.new) × (IsTrue given → IsTrue (I.is_at_end content.new))) }
-    ensures untouched { given ≡ false → content.new ≡ content.old }
+        → IsTrue (I.is_at_end text.new) × IsTrue (I.is_at_end keys.new) × (IsTrue detached_given → IsTrue (I.is_at_end content.new))) }
+    ensures untouched { detached_given ≡ false → content.new ≡ content.old }
     ensures faults { TellsFaults (counts I.failures text.old text.new ∷ counts I.failures keys.old keys.new ∷ counts I.failures content.old content.new ∷ [])
         (counts O.failures out.old out.new ∷ []) result }
 {
-    let (text, set, beside) = read_object(alloc, text, keys, given, content)?;
+    let (text, set, beside) = read_object(alloc, text, keys, detached_given, content)?;
     let jwe = Jwe::read(alloc, &text, beside)?;
     jwe_decrypt(alloc, &set, jwe, out).1
 }
@@ -170,7 +169,7 @@ pub(crate) fn decrypt<I: Input, O: Output>(
 pub(crate) fn format<I: Input, O: Output>(
     alloc: Global,
     text: &mut I,
-    given: bool,
+    detached_given: bool,
     content: &mut I,
     compact: bool,
     detach: bool,
@@ -182,47 +181,50 @@ pub(crate) fn format<I: Input, O: Output>(
     ensures answer { (whole whole_content : List ℕ)
         → IsPossibleInput (observed I.consumed I.is_at_end text.old text.new) whole
         → IsPossibleInput (observed I.consumed I.is_at_end content.old content.new) whole_content
-        → AgreesUnlessExternal (jwe_fmt_answer limits compact detach (handed_in given whole_content) whole)
+        → AgreesUnlessExternal (jwe_fmt_answer limits compact detach (handed_in detached_given whole_content) whole)
         (record { text = appended (O.written out.old) (O.written out.new); content = appended (O.written detached.old) (O.written detached.new) }) result }
 
     // The outputs are not touched before all is accepted, and the text's not before the content stands whole beside it, where it
     // goes out there.
     ensures held_back { IfErr result (λ refusal. (DidNotFail refusal (counts O.failures out.old out.new) → out.new ≡ out.old)
         × (refusal ≢ Refusal.Write → detached.new ≡ detached.old)) }
-    ensures content_first { OnErr result ((out.new ≡ out.old) ⊎ (IsTrue detach → (IsTrue given → IsTrue (I.is_at_end content.new)) × IsTrue (O.is_finished detached.new)
-        × (O.written detached.new ≡ O.written detached.old ++ (formed (jwe_fmt_answer limits compact detach (handed_in given (appended (I.consumed content.old) (I.consumed content.new))) (appended (I.consumed text.old) (I.consumed text.new)))
-        (I.is_at_end text.new && (not given || I.is_at_end content.new))).content))) }
+    ensures content_first { OnErr result ((out.new ≡ out.old) ⊎ (IsTrue detach → (IsTrue detached_given → IsTrue (I.is_at_end content.new)) × IsTrue (O.is_finished detached.new)
+        × (O.written detached.new ≡ O.written detached.old ++ (formed (jwe_fmt_answer limits compact detach (handed_in detached_given (appended (I.consumed content.old) (I.consumed content.new))) (appended (I.consumed text.old) (I.consumed text.new)))
+        (I.is_at_end text.new && (not detached_given || I.is_at_end content.new))).content))) }
     ensures beginning { OnErr result (
-        (AppendsPrefixOf (formed (jwe_fmt_answer limits compact detach (handed_in given (appended (I.consumed content.old) (I.consumed content.new))) (appended (I.consumed text.old) (I.consumed text.new)))
-        (I.is_at_end text.new && (not given || I.is_at_end content.new))).text (O.written out.old) (O.written out.new))
-        × (AppendsPrefixOf (formed (jwe_fmt_answer limits compact detach (handed_in given (appended (I.consumed content.old) (I.consumed content.new))) (appended (I.consumed text.old) (I.consumed text.new)))
-        (I.is_at_end text.new && (not given || I.is_at_end content.new))).content (O.written detached.old) (O.written detached.new))) }
+        (AppendsPrefixOf (formed (jwe_fmt_answer limits compact detach (handed_in detached_given (appended (I.consumed content.old) (I.consumed content.new))) (appended (I.consumed text.old) (I.consumed text.new)))
+        (I.is_at_end text.new && (not detached_given || I.is_at_end content.new))).text (O.written out.old) (O.written out.new))
+        × (AppendsPrefixOf (formed (jwe_fmt_answer limits compact detach (handed_in detached_given (appended (I.consumed content.old) (I.consumed content.new))) (appended (I.consumed text.old) (I.consumed text.new)))
+        (I.is_at_end text.new && (not detached_given || I.is_at_end content.new))).content (O.written detached.old) (O.written detached.new))) }
     ensures finished { OnOk result (IsTrue (O.is_finished out.new) × (IsTrue detach → IsTrue (O.is_finished detached.new))) }
 
     // No content is read before the text was read to its end, and none where it is not given.
     ensures in_order { I.is_at_end text.new ≡ false → content.new ≡ content.old }
-    ensures reads_first { IfErr result (λ refusal. is_external refusal ≡ false → IsTrue (I.is_at_end text.new) × (IsTrue given → IsTrue (I.is_at_end content.new))) }
-    ensures untouched { (given ≡ false → content.new ≡ content.old) × (detach ≡ false → detached.new ≡ detached.old) }
+    ensures reads_first { IfErr result (λ refusal. is_external refusal ≡ false → IsTrue (I.is_at_end text.new) × (IsTrue detached_given → IsTrue (I.is_at_end content.new))) }
+    ensures untouched { (detached_given ≡ false → content.new ≡ content.old) × (detach ≡ false → detached.new ≡ detached.old) }
     ensures faults { TellsFaults (counts I.failures text.old text.new ∷ counts I.failures content.old content.new ∷ [])
         (counts O.failures out.old out.new ∷ counts O.failures detached.old detached.new ∷ []) result }
 {
     let text = read_to_end(alloc, text)?;
-    let beside = read_beside(alloc, given, content)?;
-    let object = Jwe::read(alloc, &text, beside)?;
-    let formed = formed(alloc, &object, compact, detach)?;
-    if detach {
-        emit(detached, object.ciphertext())?;
-    }
-    emit(out, formed.as_bytes())
+    let beside = read_beside(alloc, detached_given, content)?;
+    let (object, formed) = formed(alloc, &text, beside, compact, detach)?;
+    let ciphertext = HeldContent::Octets(object.ciphertext());
+    write_object(&formed, detach, ciphertext, out, detached)
 }
 
-/// The text of the object in the form that is asked for.
-fn formed(alloc: Global, object: &Jwe, compact: bool, detach: bool) -> Result<String, Refusal>
-    ensures { AgreesUnlessMemory string_bytes result (text_of compact detach (jwe_view object.now)) }
+/// The object of the text, and its text in the form that is asked for.
+#[tactic(auto, unfolding(crate::specs::Jwe::jwe_fmt_answer))]
+fn formed(
+    alloc: Global,
+    text: &[u8],
+    beside: Option<Vec<u8>>,
+    compact: bool,
+    detach: bool,
+) -> Result<(Jwe, String), Refusal>
+    ensures { AgreesUnlessMemory (λ read. object_texts detach (jwe_view read.0).ciphertext (string_bytes read.1)) result
+        (jwe_fmt_answer limits compact detach (option_map (λ c. c.items) beside) text.now) }
 {
-    if compact {
-        object.to_compact(alloc, detach)
-    } else {
-        object.to_json(alloc, detach)
-    }
+    let object = Jwe::read(alloc, text, beside)?;
+    let formed = object.to_text(alloc, compact, detach)?;
+    Ok((object, formed))
 }

@@ -1,5 +1,5 @@
 //! The commands `jws sig`, `jws ver` and `jws fmt`, from devices to devices.
-ghost use Rattle.std.specs.Prelude.{◌≡◌, ◌≢◌, ◌⊎◌, ◌++◌, false, not, ◌&&◌, ◌||◌, ℕ, List, [], ◌∷◌, Err, OnOk, OnErr, IfErr, IsTrue, string_bytes};
+ghost use Rattle.std.specs.Prelude.{◌≡◌, ◌≢◌, ◌⊎◌, ◌++◌, false, not, ◌&&◌, ◌||◌, ℕ, List, [], ◌∷◌, option_map, Err, OnOk, OnErr, IfErr, IsTrue, string_bytes};
 ghost use Rattle.std.specs.Iterator.{IsFinite};
 ghost use Rattle.octets.specs.Devices.{appended, observed, IsPossibleInput, AppendsPrefixOf};
 ghost use Rattle.octets.specs.declared.refusal.Refusal.{Refusal};
@@ -10,13 +10,12 @@ ghost use Rattle.octets.specs.Pumps.{KeepsUp};
 ghost use Rattle.keys.specs.Limits.{limits};
 ghost use Rattle.objects.specs.Texts.{handed_in};
 ghost use Rattle.objects.specs.Views.{jws_view};
-ghost use Rattle.tokens.specs.Signing.{text_of};
 ghost use Rattle.jose.specs.Jws.{sig_answer, ver_answer, jws_fmt_answer};
-ghost use Rattle.jose.specs.Ports.{formed};
+ghost use Rattle.jose.specs.Ports.{formed, object_texts};
 
-use crate::commands::{no_output, read_beside, read_object, read_with_keys};
+use crate::commands::{no_output, read_beside, read_object, read_with_keys, write_object};
 use objects::Jws;
-use octets::{Input, Output, Refusal, emit, read_to_end};
+use octets::{Input, Output, Refusal, read_to_end};
 use std::alloc::Global;
 use tokens::{jws_sign, jws_verify};
 
@@ -110,10 +109,10 @@ pub(crate) fn verify<I: Input, O: Output>(
     alloc: Global,
     text: &mut I,
     keys: &mut I,
-    given: bool,
+    detached_given: bool,
     content: &mut I,
     all: bool,
-    wanted: bool,
+    payload_wanted: bool,
     out: &mut O,
 ) -> Result<(), Refusal>
     requires text { IsFinite (I.remaining text.old) }
@@ -123,25 +122,25 @@ pub(crate) fn verify<I: Input, O: Output>(
         → IsPossibleInput (observed I.consumed I.is_at_end text.old text.new) whole_text
         → IsPossibleInput (observed I.consumed I.is_at_end keys.old keys.new) whole_keys
         → IsPossibleInput (observed I.consumed I.is_at_end content.old content.new) whole_content
-        → AgreesUnlessExternal (ver_answer limits all wanted whole_keys (handed_in given whole_content) whole_text) (appended (O.written out.old) (O.written out.new)) result }
+        → AgreesUnlessExternal (ver_answer limits all payload_wanted whole_keys (handed_in detached_given whole_content) whole_text) (appended (O.written out.old) (O.written out.new)) result }
 
     // The output is not touched before all is accepted.
     ensures held_back { IfErr result (λ refusal. refusal ≢ Refusal.Write → out.new ≡ out.old) }
     ensures beginning { OnErr result (AppendsPrefixOf
-        (accepted (ver_answer limits all wanted (appended (I.consumed keys.old) (I.consumed keys.new)) (handed_in given (appended (I.consumed content.old) (I.consumed content.new))) (appended (I.consumed text.old) (I.consumed text.new)))
-        (I.is_at_end keys.new && I.is_at_end text.new && (not given || I.is_at_end content.new))) (O.written out.old) (O.written out.new)) }
-    ensures finished { OnOk result (IsTrue wanted → IsTrue (O.is_finished out.new)) }
-    ensures untouched { (wanted ≡ false → out.new ≡ out.old) × (given ≡ false → content.new ≡ content.old) }
+        (accepted (ver_answer limits all payload_wanted (appended (I.consumed keys.old) (I.consumed keys.new)) (handed_in detached_given (appended (I.consumed content.old) (I.consumed content.new))) (appended (I.consumed text.old) (I.consumed text.new)))
+        (I.is_at_end keys.new && I.is_at_end text.new && (not detached_given || I.is_at_end content.new))) (O.written out.old) (O.written out.new)) }
+    ensures finished { OnOk result (IsTrue payload_wanted → IsTrue (O.is_finished out.new)) }
+    ensures untouched { (payload_wanted ≡ false → out.new ≡ out.old) × (detached_given ≡ false → content.new ≡ content.old) }
     ensures in_order { (I.is_at_end text.new ≡ false → keys.new ≡ keys.old)
         × (I.is_at_end keys.new && I.is_at_end text.new ≡ false → content.new ≡ content.old) }
     ensures reads_first { IfErr result (λ refusal. is_external refusal ≡ false
-        → IsTrue (I.is_at_end text.new) × IsTrue (I.is_at_end keys.new) × (IsTrue given → IsTrue (I.is_at_end content.new))) }
+        → IsTrue (I.is_at_end text.new) × IsTrue (I.is_at_end keys.new) × (IsTrue detached_given → IsTrue (I.is_at_end content.new))) }
     ensures faults { TellsFaults (counts I.failures text.old text.new ∷ counts I.failures keys.old keys.new ∷ counts I.failures content.old content.new ∷ [])
         (counts O.failures out.old out.new ∷ []) result }
 {
-    let (text, set, beside) = read_object(alloc, text, keys, given, content)?;
+    let (text, set, beside) = read_object(alloc, text, keys, detached_given, content)?;
     let jws = Jws::read(alloc, &text, beside)?;
-    if wanted {
+    if payload_wanted {
         jws_verify(&set, &jws, all, Some(out))
     } else {
         jws_verify(&set, &jws, all, no_output(out))
@@ -153,7 +152,7 @@ pub(crate) fn verify<I: Input, O: Output>(
 pub(crate) fn format<I: Input, O: Output>(
     alloc: Global,
     text: &mut I,
-    given: bool,
+    detached_given: bool,
     content: &mut I,
     compact: bool,
     detach: bool,
@@ -165,47 +164,49 @@ pub(crate) fn format<I: Input, O: Output>(
     ensures answer { (whole whole_content : List ℕ)
         → IsPossibleInput (observed I.consumed I.is_at_end text.old text.new) whole
         → IsPossibleInput (observed I.consumed I.is_at_end content.old content.new) whole_content
-        → AgreesUnlessExternal (jws_fmt_answer limits compact detach (handed_in given whole_content) whole)
+        → AgreesUnlessExternal (jws_fmt_answer limits compact detach (handed_in detached_given whole_content) whole)
         (record { text = appended (O.written out.old) (O.written out.new); content = appended (O.written detached.old) (O.written detached.new) }) result }
 
     // The outputs are not touched before all is accepted, and the text's not before the content stands whole beside it, where it
     // goes out there.
     ensures held_back { IfErr result (λ refusal. (DidNotFail refusal (counts O.failures out.old out.new) → out.new ≡ out.old)
         × (refusal ≢ Refusal.Write → detached.new ≡ detached.old)) }
-    ensures content_first { OnErr result ((out.new ≡ out.old) ⊎ (IsTrue detach → (IsTrue given → IsTrue (I.is_at_end content.new)) × IsTrue (O.is_finished detached.new)
-        × (O.written detached.new ≡ O.written detached.old ++ (formed (jws_fmt_answer limits compact detach (handed_in given (appended (I.consumed content.old) (I.consumed content.new))) (appended (I.consumed text.old) (I.consumed text.new)))
-        (I.is_at_end text.new && (not given || I.is_at_end content.new))).content))) }
+    ensures content_first { OnErr result ((out.new ≡ out.old) ⊎ (IsTrue detach → (IsTrue detached_given → IsTrue (I.is_at_end content.new)) × IsTrue (O.is_finished detached.new)
+        × (O.written detached.new ≡ O.written detached.old ++ (formed (jws_fmt_answer limits compact detach (handed_in detached_given (appended (I.consumed content.old) (I.consumed content.new))) (appended (I.consumed text.old) (I.consumed text.new)))
+        (I.is_at_end text.new && (not detached_given || I.is_at_end content.new))).content))) }
     ensures beginning { OnErr result (
-        (AppendsPrefixOf (formed (jws_fmt_answer limits compact detach (handed_in given (appended (I.consumed content.old) (I.consumed content.new))) (appended (I.consumed text.old) (I.consumed text.new)))
-        (I.is_at_end text.new && (not given || I.is_at_end content.new))).text (O.written out.old) (O.written out.new))
-        × (AppendsPrefixOf (formed (jws_fmt_answer limits compact detach (handed_in given (appended (I.consumed content.old) (I.consumed content.new))) (appended (I.consumed text.old) (I.consumed text.new)))
-        (I.is_at_end text.new && (not given || I.is_at_end content.new))).content (O.written detached.old) (O.written detached.new))) }
+        (AppendsPrefixOf (formed (jws_fmt_answer limits compact detach (handed_in detached_given (appended (I.consumed content.old) (I.consumed content.new))) (appended (I.consumed text.old) (I.consumed text.new)))
+        (I.is_at_end text.new && (not detached_given || I.is_at_end content.new))).text (O.written out.old) (O.written out.new))
+        × (AppendsPrefixOf (formed (jws_fmt_answer limits compact detach (handed_in detached_given (appended (I.consumed content.old) (I.consumed content.new))) (appended (I.consumed text.old) (I.consumed text.new)))
+        (I.is_at_end text.new && (not detached_given || I.is_at_end content.new))).content (O.written detached.old) (O.written detached.new))) }
     ensures finished { OnOk result (IsTrue (O.is_finished out.new) × (IsTrue detach → IsTrue (O.is_finished detached.new))) }
 
     // No content is read before the text was read to its end, and none where it is not given.
     ensures in_order { I.is_at_end text.new ≡ false → content.new ≡ content.old }
-    ensures reads_first { IfErr result (λ refusal. is_external refusal ≡ false → IsTrue (I.is_at_end text.new) × (IsTrue given → IsTrue (I.is_at_end content.new))) }
-    ensures untouched { (given ≡ false → content.new ≡ content.old) × (detach ≡ false → detached.new ≡ detached.old) }
+    ensures reads_first { IfErr result (λ refusal. is_external refusal ≡ false → IsTrue (I.is_at_end text.new) × (IsTrue detached_given → IsTrue (I.is_at_end content.new))) }
+    ensures untouched { (detached_given ≡ false → content.new ≡ content.old) × (detach ≡ false → detached.new ≡ detached.old) }
     ensures faults { TellsFaults (counts I.failures text.old text.new ∷ counts I.failures content.old content.new ∷ [])
         (counts O.failures out.old out.new ∷ counts O.failures detached.old detached.new ∷ []) result }
 {
     let text = read_to_end(alloc, text)?;
-    let beside = read_beside(alloc, given, content)?;
-    let object = Jws::read(alloc, &text, beside)?;
-    let formed = formed(alloc, &object, compact, detach)?;
-    if detach {
-        object.write_payload(detached)?;
-    }
-    emit(out, formed.as_bytes())
+    let beside = read_beside(alloc, detached_given, content)?;
+    let (object, formed) = formed(alloc, &text, beside, compact, detach)?;
+    write_object(&formed, detach, object.held_payload(), out, detached)
 }
 
-/// The text of the object in the form that is asked for.
-fn formed(alloc: Global, object: &Jws<'_>, compact: bool, detach: bool) -> Result<String, Refusal>
-    ensures { AgreesUnlessMemory string_bytes result (text_of compact detach (jws_view object.now)) }
+/// The object of the text, and its text in the form that is asked for.
+#[tactic(auto, unfolding(crate::specs::Jws::jws_fmt_answer))]
+fn formed<'t>(
+    alloc: Global,
+    text: &'t [u8],
+    beside: Option<Vec<u8>>,
+    compact: bool,
+    detach: bool,
+) -> Result<(Jws<'t>, String), Refusal>
+    ensures { AgreesUnlessMemory (λ read. object_texts detach (jws_view read.0).payload (string_bytes read.1)) result
+        (jws_fmt_answer limits compact detach (option_map (λ c. c.items) beside) text.now) }
 {
-    if compact {
-        object.to_compact(alloc, detach)
-    } else {
-        object.to_json(alloc, detach)
-    }
+    let object = Jws::read(alloc, text, beside)?;
+    let formed = object.to_text(alloc, compact, detach)?;
+    Ok((object, formed))
 }

@@ -1,18 +1,19 @@
 use Rattle.std.proofs.Common.{◌≡◌, Some, length, map, ap, ◌∙◌, arith}
 use Rattle.tokens.specs.Encrypting.{direct_key}
-use Rattle.tokens.specs.Views.{receiver_view}
-use Rattle.tokens.proofs.Receivers.{cek_size, direct_fits}
+use Rattle.tokens.specs.Views.{recipient_key_view}
+use Rattle.tokens.proofs.AlgorithmCases.{cek_size}
+use Rattle.tokens.proofs.Receivers.{direct_fits}
 use Rattle.tokens.proofs.encrypt.content_key.Goals as goal
 
 pub new-requires : goal.new-requires
 new-requires c =
     let e = c.args.encryption.now in
-    let is : direct_key (map receiver_view e.receivers.items) ≡ Some c.in-Some.key.now = cc c.in-Some.ensures in
+    let is : direct_key (map recipient_key_view e.receivers.items) ≡ Some c.in-Some.key.now = cc c.in-Some.ensures in
     let fits = direct_fits e.encryption e.receivers.items c.in-Some.key.now e.fit is in
     omega (arith, fits, cek_size e.encryption)
 
 pub returns-in-Some-clause-fits : goal.returns-in-Some-clause-fits
 returns-in-Some-clause-fits c =
     let e = c.args.encryption.now in
-    let is : direct_key (map receiver_view e.receivers.items) ≡ Some c.in-Some.key.now = cc c.in-Some.ensures in
+    let is : direct_key (map recipient_key_view e.receivers.items) ≡ Some c.in-Some.key.now = cc c.in-Some.ensures in
     ap length c.new.ensures ∙ direct_fits e.encryption e.receivers.items c.in-Some.key.now e.fit is

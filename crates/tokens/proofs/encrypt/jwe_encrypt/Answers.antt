@@ -16,7 +16,7 @@ use Rattle.octets.proofs.Spared.{not_told, stands_first}
 use Rattle.ciphers.specs.contracts.sealer.ContentSealerSealer.TheImpl.{is_sealing-value}
 use Rattle.keys.specs.Limits.{limits}
 use Rattle.objects.specs.Frames.{filled}
-use Rattle.tokens.specs.Encrypting.{encrypting_by, sealing_by}
+use Rattle.tokens.specs.Encrypting.{enc_plan, sealing_by}
 use Rattle.tokens.specs.SealedTexts.{sealed_plan}
 use Rattle.tokens.proofs.StandingCiphertexts.{encoded_grows, plain_grows, sealed_refused, refused, inside_places, inside_part, inside_fixed, inside_tag_part, inside_answer, beside_places, beside_is, beside_fixed, beside_texts, beside_answer}
 use Rattle.tokens.proofs.StandingSignatures.{first_and_others, others_are}
@@ -29,7 +29,7 @@ returns-in_err-tag-in-None-clause-answer g c octets plaintext octets_may may =
     let first = c.as_bytes.result.now in
     let s = sealing_by u.encryption u.random in
     let fed = c.start-ciphertext.ensures s u.begun in
-    let plan = plan_from (encrypting_by limits c.args.compact false c.args.keys.now c.args.template.now) octets in
+    let plan = plan_from (enc_plan limits c.args.compact false c.args.keys.now c.args.template.now) octets in
     rw (c.in-None.is) (passed_on _ _ _ c.in_err-tag-in-None.field-0.0 (search rules)
     (λ inside. refused is_sealing-value.it c.args.compact plan made.field-0.sealer false _ u plaintext c.in_err-tag-in-None.field-0.0 (sealed_refused encoding s plaintext _ (λ text e never. cc never) (behind_refused first (sealed_plan encoding s) plaintext _ (c.in_err-tag-in-None.ensures.answer s plaintext fed may inside)))))
 
@@ -183,7 +183,7 @@ returns-in_err-tag-in-Some-clause-answer g c octets plaintext octets_may may =
     let u = made.ensures.unsealed octets octets_may in
     let s = sealing_by u.encryption u.random in
     let fed = c.start.ensures s u.begun in
-    let plan = plan_from (encrypting_by limits c.args.compact true c.args.keys.now c.args.template.now) octets in
+    let plan = plan_from (enc_plan limits c.args.compact true c.args.keys.now c.args.template.now) octets in
     rw (c.in-Some.is) (passed_on _ _ _ c.in_err-tag-in-Some.field-0.0 (search rules)
     (λ inside. refused is_sealing-value.it c.args.compact plan made.field-0.sealer true _ u plaintext c.in_err-tag-in-Some.field-0.0 (sealed_refused as_it_is s plaintext _ (λ text e never. cc never) (behind_refused [] (sealed_plan as_it_is s) plaintext _ (c.in_err-tag-in-Some.ensures.answer s plaintext fed may inside)))))
 
@@ -293,7 +293,7 @@ returns-in_ok-finish-in-Some-clause-answer g c octets plaintext octets_may may =
     let pumped = c.in_ok-tag-in-Some.ensures in
     let whole = sym (behind_nothing (sealed_plan as_it_is s) p) ∙ pumped.answer s p fed (seen_possible consumed at_end c.args.content.now c.pump-in-Some.new.content) in
     let tag = c.in_ok-tag-in-Some.tag in
-    let plan = plan_from (encrypting_by limits c.args.compact true c.args.keys.now c.args.template.now) octets in
+    let plan = plan_from (enc_plan limits c.args.compact true c.args.keys.now c.args.template.now) octets in
     let finished = subst (λ l. planned plan plaintext ≡ Ok (record { text = appended (written c.args.out.now) (written c.write_tag-in-Some.new.out); content = appended old l })) (sym c.finish.ensures.same) in
     rw (c.in-Some.is) (agrees_last _ _ c.write_tag-in-Some.result c.write_tag-in-Some.ensures.all c.write_tag-in-Some.ensures.cause
     (λ all. finished (beside_answer is_sealing-value.it c.args.compact _ made.field-0.sealer _ u p ended old out tag is_octets

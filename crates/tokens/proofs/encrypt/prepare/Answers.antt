@@ -1,12 +1,12 @@
 use Rattle.std.proofs.Common.{◌≡◌, ◌++◌, true, length, map, nat_le, string_bytes, refl, sym, ap, ◌∙◌, arith, rules}
 use Rattle.std.proofs.lemmas.Bool.{le-leb}
 use Rattle.std.proofs.lemmas.List.{length-map}
-use Rattle.keys.specs.Limits.{limits}
+use Rattle.keys.specs.Limits.{limits, are_few}
 use Rattle.ciphers.specs.contracts.sealer.ContentSealerSealer.TheImpl.{is_sealing-value}
 use Rattle.octets.specs.Devices.{appended}
 use Rattle.octets.proofs.Agreement.{appended-append}
-use Rattle.tokens.specs.Encrypting.{octets_drawn}
-use Rattle.tokens.specs.Views.{encryption_view, receiver_view}
+use Rattle.tokens.specs.Encrypting.{random_len}
+use Rattle.tokens.specs.Views.{encryption_plan_view, recipient_key_view}
 use Rattle.tokens.proofs.EncryptedHeaders.{OctetLaws}
 use Rattle.tokens.proofs.EncryptionFrames.{has_frame, frame, is_unsealed}
 use Rattle.tokens.proofs.Sealed.{if_ok_all, map_ok}
@@ -14,10 +14,10 @@ use Rattle.tokens.proofs.encrypt.prepare.Goals as goal
 
 pub begin_sealing-requires-clause-made : goal.begin_sealing-requires-clause-made
 begin_sealing-requires-clause-made g c =
-    let e = encryption_view c.in_ok-encryption.encryption in
+    let e = encryption_plan_view c.in_ok-encryption.encryption in
     let items = c.in_ok-encryption.encryption.receivers.items in
-    let few : nat_le (length e.receivers) limits.recipients ≡ true = le-leb (length e.receivers) limits.recipients (omega (arith, length-map items receiver_view, c.in_ok-encryption.encryption.few)) in
-    let long : length c.draw.new.out ≡ octets_drawn e = search rules in
+    let few : are_few limits (length e.receivers) ≡ true = le-leb (length e.receivers) limits.recipients (omega (arith, length-map items recipient_key_view, c.in_ok-encryption.encryption.few)) in
+    let long : length c.draw.new.out ≡ random_len e = search rules in
     let laws : OctetLaws = record { opened = c.what_is_opened_is_octets.ensures; delivering = c.what_delivers_is_octets.ensures } in
     let framed = has_frame c.args.compact c.args.keys.now c.args.template.now e c.draw.new.out c.in_ok-encryption.ensures few laws c.are_octet_keys.ensures c.are_octets.ensures long c.args.detach in
     rw framed.1 refl
@@ -25,10 +25,10 @@ begin_sealing-requires-clause-made g c =
 pub returns-clause-unsealed : goal.returns-clause-unsealed
 returns-clause-unsealed g c octets may =
     let consumed = g.I.Input.consumed in
-    let e = encryption_view c.in_ok-encryption.encryption in
+    let e = encryption_plan_view c.in_ok-encryption.encryption in
     let items = c.in_ok-encryption.encryption.receivers.items in
-    let few : nat_le (length e.receivers) limits.recipients ≡ true = le-leb (length e.receivers) limits.recipients (omega (arith, length-map items receiver_view, c.in_ok-encryption.encryption.few)) in
-    let long : length c.draw.new.out ≡ octets_drawn e = search rules in
+    let few : are_few limits (length e.receivers) ≡ true = le-leb (length e.receivers) limits.recipients (omega (arith, length-map items recipient_key_view, c.in_ok-encryption.encryption.few)) in
+    let long : length c.draw.new.out ≡ random_len e = search rules in
     let drawn : appended (consumed c.args.random.now) (consumed c.draw.new.random) ≡ c.draw.new.out =
     ap (appended (consumed c.args.random.now)) c.in_ok-draw.ensures.octets ∙ appended-append (consumed c.args.random.now) c.draw.new.out in
     let laws : OctetLaws = record { opened = c.what_is_opened_is_octets.ensures; delivering = c.what_delivers_is_octets.ensures } in
@@ -38,10 +38,10 @@ returns-clause-unsealed g c octets may =
 
 pub returns-clause-places : goal.returns-clause-places
 returns-clause-places g c =
-    let e = encryption_view c.in_ok-encryption.encryption in
+    let e = encryption_plan_view c.in_ok-encryption.encryption in
     let items = c.in_ok-encryption.encryption.receivers.items in
-    let few : nat_le (length e.receivers) limits.recipients ≡ true = le-leb (length e.receivers) limits.recipients (omega (arith, length-map items receiver_view, c.in_ok-encryption.encryption.few)) in
-    let long : length c.draw.new.out ≡ octets_drawn e = search rules in
+    let few : are_few limits (length e.receivers) ≡ true = le-leb (length e.receivers) limits.recipients (omega (arith, length-map items recipient_key_view, c.in_ok-encryption.encryption.few)) in
+    let long : length c.draw.new.out ≡ random_len e = search rules in
     let laws : OctetLaws = record { opened = c.what_is_opened_is_octets.ensures; delivering = c.what_delivers_is_octets.ensures } in
     map_ok c.begin_sealing.result c.begin_sealing.ensures.framed
     (λ made framed. sym (length-map made.texts.items string_bytes)

@@ -4,7 +4,7 @@ use Rattle.octets.specs.Outcomes.{is_memory, is_external}
 use Rattle.octets.specs.Plan.{planned}
 use Rattle.keys.specs.Limits.{limits}
 use Rattle.objects.specs.Views.{jws_view}
-use Rattle.tokens.specs.Signing.{signing_by, protected_by}
+use Rattle.tokens.specs.Signing.{sig_plan, protected_by}
 use Rattle.tokens.specs.SigningInputs.{HoldEach}
 use Rattle.tokens.specs.Views.{signing_view, signer_view}
 use Rattle.tokens.specs.contracts.signing_input.HmacInputSigningInput.TheImpl.{has_taken-value}
@@ -18,7 +18,7 @@ signing_inputs-requires c =
 pub returns-in_err-signing-clause-refused : goal.returns-in_err-signing-clause-refused
 returns-in_err-signing-clause-refused c =
     let e : Refusal = c.in_err-signing.field-0.0 in
-    let refused : is_memory e ≡ false → (is_external e ≡ false) × ((payload : List ℕ) → planned (signing_by limits c.args.compact c.args.detach c.args.keys.now c.args.template.now) payload ≡ Err e) =
+    let refused : is_memory e ≡ false → (is_external e ≡ false) × ((payload : List ℕ) → planned (sig_plan limits c.args.compact c.args.detach c.args.keys.now c.args.template.now) payload ≡ Err e) =
     λ h. ((c.in_err-signing.ensures h).1, λ payload. signing_refused c.args.compact c.args.detach c.args.keys.now c.args.template.now payload e (c.in_err-signing.ensures h).0) in
     search (rules, refused)
 
@@ -27,7 +27,7 @@ returns-in_err-jws-clause-refused c =
     let e : Refusal = c.in_err-jws.field-0.0 in
     let s = signing_view c.in_ok-signing.signing in
     let is = by_signing c.args.compact c.args.detach c.args.keys.now c.args.template.now s c.in_ok-signing.ensures in
-    let refused : is_memory e ≡ false → (is_external e ≡ false) × ((payload : List ℕ) → planned (signing_by limits c.args.compact c.args.detach c.args.keys.now c.args.template.now) payload ≡ Err e) =
+    let refused : is_memory e ≡ false → (is_external e ≡ false) × ((payload : List ℕ) → planned (sig_plan limits c.args.compact c.args.detach c.args.keys.now c.args.template.now) payload ≡ Err e) =
     λ h. ((c.in_err-jws.ensures h).1, λ payload. ap (λ p. planned p payload) is ∙ object_refused c.args.compact c.args.detach s payload e (c.in_err-jws.ensures h).0) in
     search (rules, refused)
 
@@ -36,7 +36,7 @@ returns-in_err-texts-clause-refused c =
     let e : Refusal = c.in_err-texts.field-0.0 in
     let s = signing_view c.in_ok-signing.signing in
     let is = by_signing c.args.compact c.args.detach c.args.keys.now c.args.template.now s c.in_ok-signing.ensures in
-    let refused : is_memory e ≡ false → (is_external e ≡ false) × ((payload : List ℕ) → planned (signing_by limits c.args.compact c.args.detach c.args.keys.now c.args.template.now) payload ≡ Err e) =
+    let refused : is_memory e ≡ false → (is_external e ≡ false) × ((payload : List ℕ) → planned (sig_plan limits c.args.compact c.args.detach c.args.keys.now c.args.template.now) payload ≡ Err e) =
     λ h.
     let not_compact = c.in_err-texts.ensures.refused (memory_apart e h) in (
       ap is_external not_compact.0,

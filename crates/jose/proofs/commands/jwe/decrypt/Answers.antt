@@ -33,8 +33,8 @@ returns-clause-beginning g c =
     let new = c.read_object.new in
     let text = appended (consumed old.text.now) (consumed new.text) in
     let keys = appended (consumed old.keys.now) (consumed new.keys) in
-    let given = handed_in old.given (appended (consumed old.content.now) (consumed new.content)) in
+    let detached_given = handed_in old.detached_given (appended (consumed old.content.now) (consumed new.content)) in
     let t : text ≡ c.deref.result.now = c.in_ok-text.ensures.text text (seen_possible consumed at_end old.text.now new.text) ∙ sym c.deref.ensures.value in
     let k : key_set limits keys false ≡ Ok c.in_ok-text.set = c.in_ok-text.ensures.keys keys (seen_possible consumed at_end old.keys.now new.keys) in
-    let d : given ≡ option_map (λ v. v.items) c.in_ok-text.beside = c.in_ok-text.ensures.content _ (seen_possible consumed at_end old.content.now new.content) in
+    let d : detached_given ≡ option_map (λ v. v.items) c.in_ok-text.beside = c.in_ok-text.ensures.content _ (seen_possible consumed at_end old.content.now new.content) in
     rw (c.in_ok-text.ensures.ends.0, c.in_ok-text.ensures.ends.1, beside_ended _ _ c.in_ok-text.ensures.content_ends, k, t, d, c.in_ok-jwe.ensures.exact) c.jwe_decrypt.ensures.beginning

@@ -7,7 +7,7 @@ use Rattle.octets.specs.Outcomes.{AgreesUnlessExternal}
 use Rattle.octets.specs.Plan.{plan_from, planned}
 use Rattle.octets.proofs.Growing.{kept_up_by_none}
 use Rattle.octets.proofs.Agreement.{on_refusal, on_success, seen_possible, unlent}
-use Rattle.tokens.specs.Encrypting.{encrypting_by}
+use Rattle.tokens.specs.Encrypting.{enc_plan}
 use Rattle.jose.proofs.Agreement.{refused}
 use Rattle.jose.proofs.Fixed.{encrypted_inside}
 use Rattle.jose.proofs.commands.jwe.encrypt.Goals as goal
@@ -77,7 +77,7 @@ returns-clause-answer g c whole_template whole_keys octets plaintext template_ma
     let written = g.O.Output.written in
     let text = appended (written c.args.out.now) (written c.jwe_encrypt-else-detach.new.out) in
     rw (k, t, c.if-detach.false, drop-length (written c.args.detached.now))
-    (unlent written c.no_output.result _ (λ detach content. AgreesUnlessExternal (planned (plan_from (encrypting_by limits c.args.compact detach c.in_ok-template.set c.deref-else-detach.result.now) octets) plaintext) (record { text = text; content = content }) c.jwe_encrypt-else-detach.result)
+    (unlent written c.no_output.result _ (λ detach content. AgreesUnlessExternal (planned (plan_from (enc_plan limits c.args.compact detach c.in_ok-template.set c.deref-else-detach.result.now) octets) plaintext) (record { text = text; content = content }) c.jwe_encrypt-else-detach.result)
     c.no_output.ensures (c.jwe_encrypt-else-detach.ensures.answer octets plaintext octets_may plaintext_may))
 
 pub returns-clause-drawn : goal.returns-clause-drawn

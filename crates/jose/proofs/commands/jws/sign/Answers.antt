@@ -7,7 +7,7 @@ use Rattle.octets.specs.Outcomes.{AgreesUnlessExternal}
 use Rattle.octets.specs.Plan.{planned}
 use Rattle.octets.proofs.Growing.{kept_up_by_none}
 use Rattle.octets.proofs.Agreement.{on_refusal, seen_possible, unlent}
-use Rattle.tokens.specs.Signing.{signing_by}
+use Rattle.tokens.specs.Signing.{sig_plan}
 use Rattle.jose.proofs.Agreement.{refused}
 use Rattle.jose.proofs.Fixed.{signed_inside}
 use Rattle.jose.proofs.commands.jws.sign.Goals as goal
@@ -59,7 +59,7 @@ returns-clause-answer g c whole_template whole_keys payload template_may keys_ma
     let written = g.O.Output.written in
     let text = appended (written c.args.out.now) (written c.jws_sign-else-detach.new.out) in
     rw (k, t, c.if-detach.false, drop-length (written c.args.detached.now))
-    (unlent written c.no_output.result _ (λ detach content. AgreesUnlessExternal (planned (signing_by limits c.args.compact detach c.in_ok-template.set c.deref-else-detach.result.now) payload) (record { text = text; content = content }) c.jws_sign-else-detach.result)
+    (unlent written c.no_output.result _ (λ detach content. AgreesUnlessExternal (planned (sig_plan limits c.args.compact detach c.in_ok-template.set c.deref-else-detach.result.now) payload) (record { text = text; content = content }) c.jws_sign-else-detach.result)
     c.no_output.ensures (c.jws_sign-else-detach.ensures.answer payload payload_may))
 
 pub returns-clause-beginning : goal.returns-clause-beginning

@@ -24,34 +24,34 @@ returns-in_err-jws-clause-answer g c whole_text whole_keys whole_content text_ma
     refused _ _ c.in_err-jws.field-0.0 c.from_residual-in_err-jws.result c.from_residual-in_err-jws.ensures.1
     (λ inside. rw (k, t, c.in_ok-text.ensures.content whole_content content_may, (c.in_err-jws.ensures.exact (not_memory _ inside)).0))
 
-pub returns-then-wanted-clause-answer : goal.returns-then-wanted-clause-answer
-returns-then-wanted-clause-answer g c whole_text whole_keys whole_content text_may keys_may content_may =
+pub returns-then-payload_wanted-clause-answer : goal.returns-then-payload_wanted-clause-answer
+returns-then-payload_wanted-clause-answer g c whole_text whole_keys whole_content text_may keys_may content_may =
     let t : whole_text ≡ c.deref.result.now = c.in_ok-text.ensures.text whole_text text_may ∙ sym c.deref.ensures.value in
     let k : key_set limits whole_keys false ≡ Ok c.in_ok-text.set = c.in_ok-text.ensures.keys whole_keys keys_may in
-    rw (k, t, c.in_ok-text.ensures.content whole_content content_may, c.in_ok-jws.ensures.exact, c.if-wanted.true) c.jws_verify.ensures.answer
+    rw (k, t, c.in_ok-text.ensures.content whole_content content_may, c.in_ok-jws.ensures.exact, c.if-payload_wanted.true) c.jws_verify.ensures.answer
 
-pub returns-then-wanted-clause-beginning : goal.returns-then-wanted-clause-beginning
-returns-then-wanted-clause-beginning g c =
+pub returns-then-payload_wanted-clause-beginning : goal.returns-then-payload_wanted-clause-beginning
+returns-then-payload_wanted-clause-beginning g c =
     let consumed = g.I.Input.consumed in
     let at_end = g.I.Input.is_at_end in
     let old = c.args in
     let new = c.read_object.new in
     let text = appended (consumed old.text.now) (consumed new.text) in
     let keys = appended (consumed old.keys.now) (consumed new.keys) in
-    let given = handed_in old.given (appended (consumed old.content.now) (consumed new.content)) in
+    let detached_given = handed_in old.detached_given (appended (consumed old.content.now) (consumed new.content)) in
     let t : text ≡ c.deref.result.now = c.in_ok-text.ensures.text text (seen_possible consumed at_end old.text.now new.text) ∙ sym c.deref.ensures.value in
     let k : key_set limits keys false ≡ Ok c.in_ok-text.set = c.in_ok-text.ensures.keys keys (seen_possible consumed at_end old.keys.now new.keys) in
-    let d : given ≡ option_map (λ v. v.items) c.in_ok-text.beside = c.in_ok-text.ensures.content _ (seen_possible consumed at_end old.content.now new.content) in
-    rw (c.in_ok-text.ensures.ends.0, c.in_ok-text.ensures.ends.1, beside_ended _ _ c.in_ok-text.ensures.content_ends, k, t, d, c.in_ok-jws.ensures.exact, c.if-wanted.true) c.jws_verify.ensures.beginning
+    let d : detached_given ≡ option_map (λ v. v.items) c.in_ok-text.beside = c.in_ok-text.ensures.content _ (seen_possible consumed at_end old.content.now new.content) in
+    rw (c.in_ok-text.ensures.ends.0, c.in_ok-text.ensures.ends.1, beside_ended _ _ c.in_ok-text.ensures.content_ends, k, t, d, c.in_ok-jws.ensures.exact, c.if-payload_wanted.true) c.jws_verify.ensures.beginning
 
 pub returns-clause-answer : goal.returns-clause-answer
 returns-clause-answer g c whole_text whole_keys whole_content text_may keys_may content_may =
     let t : whole_text ≡ c.deref.result.now = c.in_ok-text.ensures.text whole_text text_may ∙ sym c.deref.ensures.value in
     let k : key_set limits whole_keys false ≡ Ok c.in_ok-text.set = c.in_ok-text.ensures.keys whole_keys keys_may in
     let written = g.O.Output.written in
-    rw (k, t, c.in_ok-text.ensures.content whole_content content_may, c.in_ok-jws.ensures.exact, c.if-wanted.false, drop-length (written c.args.out.now))
-    (unlent written c.no_output.result _ (λ wanted payload. AgreesUnlessExternal (verifying_by c.args.all wanted c.in_ok-text.set (jws_view c.in_ok-jws.jws)) payload c.jws_verify-else-wanted.result)
-    c.no_output.ensures c.jws_verify-else-wanted.ensures.answer)
+    rw (k, t, c.in_ok-text.ensures.content whole_content content_may, c.in_ok-jws.ensures.exact, c.if-payload_wanted.false, drop-length (written c.args.out.now))
+    (unlent written c.no_output.result _ (λ payload_wanted payload. AgreesUnlessExternal (verifying_by c.args.all payload_wanted c.in_ok-text.set (jws_view c.in_ok-jws.jws)) payload c.jws_verify-else-payload_wanted.result)
+    c.no_output.ensures c.jws_verify-else-payload_wanted.ensures.answer)
 
 pub returns-clause-beginning : goal.returns-clause-beginning
-returns-clause-beginning g c = at_refusal c.jws_verify-else-wanted.result (AppendsPrefixOf-kept _ _)
+returns-clause-beginning g c = at_refusal c.jws_verify-else-payload_wanted.result (AppendsPrefixOf-kept _ _)

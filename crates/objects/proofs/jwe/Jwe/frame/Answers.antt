@@ -11,6 +11,6 @@ returns-in_err-written-clause-refused c = search (rules, jwe_refused)
 
 pub returns-clause-texts : goal.returns-clause-texts
 returns-clause-texts c =
-    let frame = is_jwe_frame c.url_texts_are_json.ensures c.base64url_has_url_characters.ensures c.base64url_decodes_exactly.ensures c.args.compact c.args.detach (jwe_view c.args.self.now)
-    (all_texts (written_view c.in_ok-written.field-0)) (ap (λ r. r >>= λ w. Ok (all_texts w)) c.in_ok-written.ensures) in
+    let frame = is_jwe_frame c.args.compact c.args.detach (jwe_view c.args.self.now) (all_texts (written_view c.in_ok-written.field-0))
+    (ap (λ r. r >>= λ w. Ok (all_texts w)) c.in_ok-written.ensures) in
     search (rules, frame)

@@ -1,0 +1,152 @@
+//! The one entry point of all commands.
+ghost use Rattle.std.specs.Prelude.{◌≡◌, Err, OnOk, OnErr, IfErr};
+ghost use Rattle.jose.specs.Invocations.{invocation_view};
+ghost use Rattle.octets.specs.Faults.{TellsFaults};
+ghost use Rattle.jose.specs.Ports.{observed_inputs, written_texts, AreFinite, AppendPrefixesOf, input_counts, output_counts};
+ghost use Rattle.jose.specs.Answer.{Answers, DrawsAll, DrawsNoMore, AreFinished, AreUntouched, AreUncut, AreUnread, AreKeptUp, IsContentFirst, AreInOrder, ReadsFirst, DrawsFirst, TakesMemoryFirst, RefusesFirst, HoldsBack, beginning};
+
+use crate::commands::{b64, jwe, jwk, jws};
+use crate::ports::{Inputs, Outputs};
+use crate::words::invocation::Invocation;
+use crate::words::table::Command;
+use octets::{Input, Output, Refusal};
+use std::alloc::Global;
+
+/// Does what is asked.
+pub fn run<I: Input, O: Output>(
+    alloc: Global,
+    invocation: &Invocation,
+    inputs: &mut Inputs<I>,
+    outputs: &mut Outputs<O>,
+) -> Result<(), Refusal>
+    requires { AreFinite I.remaining inputs.old }
+
+    // The outputs, or the refusal, are those of the answer.
+    ensures answer { Answers (invocation_view invocation.now) (observed_inputs I.consumed I.is_at_end inputs.old inputs.new) (written_texts O.written outputs.old outputs.new) result }
+
+    // Of the random input exactly what the answer takes is read, and no more before a refusal.
+    ensures drawn { OnOk result (DrawsAll (invocation_view invocation.now) (observed_inputs I.consumed I.is_at_end inputs.old inputs.new)) }
+    ensures at_most { DrawsNoMore (invocation_view invocation.now) (observed_inputs I.consumed I.is_at_end inputs.old inputs.new) }
+
+    // After a refusal each output holds a stated beginning.
+    ensures beginning { OnErr result (AppendPrefixesOf O.written (beginning (invocation_view invocation.now) (observed_inputs I.consumed I.is_at_end inputs.old inputs.new)) outputs.old outputs.new) }
+    ensures held_back { IfErr result (HoldsBack O.failures (invocation_view invocation.now) outputs.old outputs.new) }
+    ensures uncut { IfErr result (AreUncut O.failures O.written outputs.old outputs.new) }
+    ensures unread { IfErr result (AreUnread O.failures (invocation_view invocation.now) (observed_inputs I.consumed I.is_at_end inputs.old inputs.new) outputs.old outputs.new) }
+    ensures keeps_up { result ≡ Err Refusal.Read → AreKeptUp O.written (invocation_view invocation.now) (observed_inputs I.consumed I.is_at_end inputs.old inputs.new) outputs.old outputs.new }
+    ensures content_first { OnErr result (IsContentFirst O.written O.is_finished (invocation_view invocation.now) (observed_inputs I.consumed I.is_at_end inputs.old inputs.new) outputs.old outputs.new) }
+
+    // Inputs are read one after another, and what comes last only where all before it is accepted.
+    ensures in_order { AreInOrder (invocation_view invocation.now) (observed_inputs I.consumed I.is_at_end inputs.old inputs.new) inputs.old inputs.new }
+    ensures reads_first { IfErr result (ReadsFirst (invocation_view invocation.now) (observed_inputs I.consumed I.is_at_end inputs.old inputs.new)) }
+    ensures random_first { DrawsFirst (invocation_view invocation.now) (observed_inputs I.consumed I.is_at_end inputs.old inputs.new) inputs.old inputs.new }
+    ensures memory_first { IfErr result (TakesMemoryFirst (invocation_view invocation.now) inputs.old inputs.new) }
+    ensures content_last { RefusesFirst (invocation_view invocation.now) (observed_inputs I.consumed I.is_at_end inputs.old inputs.new) inputs.old inputs.new }
+
+    // At the end all that was written is where it belongs.
+    ensures finished { OnOk result (AreFinished O.is_finished (invocation_view invocation.now) outputs.new) }
+    ensures untouched { AreUntouched (invocation_view invocation.now) inputs.old inputs.new outputs.old outputs.new }
+
+    // A device that failed in the call is told, and no other is.
+    ensures faults { TellsFaults (input_counts I.failures inputs.old inputs.new) (output_counts O.failures outputs.old outputs.new) result }
+{
+    match invocation.command {
+        Command::JwkGen => jwk::generate(
+            alloc,
+            &mut inputs.text,
+            &mut inputs.random,
+            &mut outputs.text,
+        ),
+        Command::JwkThp => {
+            let hash = invocation.hash().ok_or(Refusal::Usage)?;
+            jwk::thumbprints(alloc, &mut inputs.text, hash, &mut outputs.text)
+        }
+        Command::B64Enc => b64::encode(&mut inputs.content, &mut outputs.text),
+        Command::B64Dec => b64::decode(&mut inputs.text, &mut outputs.content),
+        Command::JwsSig => {
+            let compact = invocation.has('c');
+            let detach = invocation.has('O');
+            jws::sign(
+                alloc,
+                &mut inputs.text,
+                &mut inputs.keys,
+                compact,
+                detach,
+                &mut inputs.content,
+                &mut outputs.text,
+                &mut outputs.content,
+            )
+        }
+        Command::JwsVer => {
+            let detached_given = invocation.has('I');
+            let all = invocation.has('a');
+            let payload_wanted = invocation.has('O');
+            jws::verify(
+                alloc,
+                &mut inputs.text,
+                &mut inputs.keys,
+                detached_given,
+                &mut inputs.content,
+                all,
+                payload_wanted,
+                &mut outputs.content,
+            )
+        }
+        Command::JwsFmt => {
+            let detached_given = invocation.has('I');
+            let compact = invocation.has('c');
+            let detach = invocation.has('O');
+            jws::format(
+                alloc,
+                &mut inputs.text,
+                detached_given,
+                &mut inputs.content,
+                compact,
+                detach,
+                &mut outputs.text,
+                &mut outputs.content,
+            )
+        }
+        Command::JweEnc => {
+            let compact = invocation.has('c');
+            let detach = invocation.has('O');
+            jwe::encrypt(
+                alloc,
+                &mut inputs.text,
+                &mut inputs.keys,
+                compact,
+                detach,
+                &mut inputs.random,
+                &mut inputs.content,
+                &mut outputs.text,
+                &mut outputs.content,
+            )
+        }
+        Command::JweDec => {
+            let detached_given = invocation.has('I');
+            jwe::decrypt(
+                alloc,
+                &mut inputs.text,
+                &mut inputs.keys,
+                detached_given,
+                &mut inputs.content,
+                &mut outputs.content,
+            )
+        }
+        Command::JweFmt => {
+            let detached_given = invocation.has('I');
+            let compact = invocation.has('c');
+            let detach = invocation.has('O');
+            jwe::format(
+                alloc,
+                &mut inputs.text,
+                detached_given,
+                &mut inputs.content,
+                compact,
+                detach,
+                &mut outputs.text,
+                &mut outputs.content,
+            )
+        }
+    }
+}

@@ -1,0 +1,338 @@
+//! `jws fmt` and `jwe fmt`: texts in one form, and what they become in the other, with the content inside or beside them. The objects
+//! are those of RFC 7516, of Python's `hmac` and of Python's `cryptography`; their members are laid out as docs/SPECIFICATION.md says.
+use crate::tests::command_words::{
+    COMPACT_JWE, COMPACT_JWS, ENCRYPT_COMPACT, FORMAT_JWE, FORMAT_JWS,
+};
+use crate::tests::harness::{Answer, encrypts, expect_rows, expect_text};
+use crate::tests::peers::python_gcm_key_wrap::{BY_A128GCMKW, BY_A128GCMKW_COMPACT, FOR_FOUR_KEYS};
+use crate::tests::peers::python_several_keys::{FOR_THREE, THREE_KEYS};
+use crate::tests::samples::{
+    ABC, ABC_BESIDE, ABC_FLATTENED, ABC_FLATTENED_BESIDE, ABC_GENERAL, ABC_GENERAL_BESIDE,
+    ABC_WITH_HEADER, EMPTY_SIGNED, OCTETS_FROM_0,
+};
+use crate::tests::standards::rfc7516::{
+    RFC7516_A3, RFC7516_A3_BESIDE, RFC7516_A3_FLATTENED, RFC7516_A3_FLATTENED_BESIDE, RFC7516_A4,
+    RFC7516_A4_WRITTEN, RFC7516_CIPHERTEXT,
+};
+use octets::Refusal;
+use std::test::Fail;
+
+/// Commands that change the form, texts, and what these become.
+const FORMATTED: &[(&[&str], &str, Answer<'_>)] = &[
+    (&FORMAT_JWS, ABC, Answer::Text(ABC_FLATTENED)),
+    (&COMPACT_JWS, ABC_FLATTENED, Answer::Text(ABC)),
+    (&COMPACT_JWS, ABC, Answer::Text(ABC)),
+    (&FORMAT_JWS, ABC_FLATTENED, Answer::Text(ABC_FLATTENED)),
+    (&FORMAT_JWS, ABC_GENERAL, Answer::Text(ABC_GENERAL)),
+    (
+        &COMPACT_JWS,
+        ABC_GENERAL,
+        Answer::Refusal(Refusal::NotCompact),
+    ),
+    (
+        &COMPACT_JWS,
+        ABC_WITH_HEADER,
+        Answer::Refusal(Refusal::NotCompact),
+    ),
+    // A list of one, with a member that is unknown.
+    (
+        &FORMAT_JWS,
+        "{\"payload\":\"YWJj\",\"signatures\":[{\"protected\":\"eyJhbGciOiJIUzI1NiJ9\",\"signature\":\"sxvqVTS8XjHJPVB24OsGa2pZqgR8ZX_Ab4pTTtgI47Y\",\"x\":1}]}",
+        Answer::Text(ABC_FLATTENED),
+    ),
+    // Whether algorithms are supported is not asked.
+    (
+        &FORMAT_JWS,
+        "eyJhbGciOiJub25lIn0.YWJj.",
+        Answer::Text(
+            "{\"payload\":\"YWJj\",\"protected\":\"eyJhbGciOiJub25lIn0\",\"signature\":\"\"}",
+        ),
+    ),
+    (
+        &FORMAT_JWS,
+        "eyJhbGciOiJIUzI1NiJ9.YWJj",
+        Answer::Refusal(Refusal::Form),
+    ),
+    // An algorithm that derives a key from a password, with no parameters, with them, and with a short salt or no count.
+    (
+        &FORMAT_JWS,
+        "{\"payload\":\"YWJj\",\"signature\":\"\",\"header\":{\"alg\":\"PBES2-HS256+A128KW\"}}",
+        Answer::Refusal(Refusal::Header),
+    ),
+    (
+        &FORMAT_JWS,
+        "{\"payload\":\"YWJj\",\"signature\":\"\",\"header\":{\"alg\":\"PBES2-HS256+A128KW\",\"p2s\":\"AAECAwQFBgc\",\"p2c\":1}}",
+        Answer::Text(
+            "{\"header\":{\"alg\":\"PBES2-HS256+A128KW\",\"p2c\":1,\"p2s\":\"AAECAwQFBgc\"},\"payload\":\"YWJj\",\"signature\":\"\"}",
+        ),
+    ),
+    (
+        &FORMAT_JWS,
+        "{\"payload\":\"YWJj\",\"signature\":\"\",\"header\":{\"alg\":\"PBES2-HS256+A128KW\",\"p2s\":\"AAECAwQFBg\",\"p2c\":1}}",
+        Answer::Refusal(Refusal::Header),
+    ),
+    (
+        &FORMAT_JWS,
+        "{\"payload\":\"YWJj\",\"signature\":\"\",\"header\":{\"alg\":\"PBES2-HS256+A128KW\",\"p2s\":\"AAECAwQFBgc\",\"p2c\":0}}",
+        Answer::Refusal(Refusal::Header),
+    ),
+    // An algorithm that wraps a key in GCM, of a signature.
+    (
+        &FORMAT_JWS,
+        "{\"payload\":\"YWJj\",\"signature\":\"\",\"header\":{\"alg\":\"A128GCMKW\"}}",
+        Answer::Refusal(Refusal::Header),
+    ),
+    (
+        &FORMAT_JWS,
+        "{\"payload\":\"YWJj\",\"signature\":\"\",\"header\":{\"alg\":\"A128GCMKW\",\"iv\":\"AA\"}}",
+        Answer::Refusal(Refusal::Header),
+    ),
+    (
+        &FORMAT_JWS,
+        "{\"payload\":\"YWJj\",\"signature\":\"\",\"header\":{\"alg\":\"A128GCMKW\",\"iv\":\"AA\",\"tag\":\"\"}}",
+        Answer::Text(
+            "{\"header\":{\"alg\":\"A128GCMKW\",\"iv\":\"AA\",\"tag\":\"\"},\"payload\":\"YWJj\",\"signature\":\"\"}",
+        ),
+    ),
+    // The same of a recipient; of another algorithm these are unknown members.
+    (
+        &FORMAT_JWE,
+        "{\"ciphertext\":\"\",\"unprotected\":{\"alg\":\"A128GCMKW\",\"enc\":\"A128GCM\",\"iv\":\"AA\",\"tag\":\"\"}}",
+        Answer::Text(
+            "{\"ciphertext\":\"\",\"unprotected\":{\"alg\":\"A128GCMKW\",\"enc\":\"A128GCM\",\"iv\":\"AA\",\"tag\":\"\"}}",
+        ),
+    ),
+    (
+        &FORMAT_JWE,
+        "{\"ciphertext\":\"\",\"unprotected\":{\"alg\":\"A192GCMKW\",\"enc\":\"A128GCM\",\"iv\":\"AA\",\"tag\":\"\"}}",
+        Answer::Text(
+            "{\"ciphertext\":\"\",\"unprotected\":{\"alg\":\"A192GCMKW\",\"enc\":\"A128GCM\",\"iv\":\"AA\",\"tag\":\"\"}}",
+        ),
+    ),
+    (
+        &FORMAT_JWE,
+        "{\"ciphertext\":\"\",\"unprotected\":{\"alg\":\"A256GCMKW\",\"enc\":\"A128GCM\",\"iv\":\"AA\",\"tag\":\"\"}}",
+        Answer::Text(
+            "{\"ciphertext\":\"\",\"unprotected\":{\"alg\":\"A256GCMKW\",\"enc\":\"A128GCM\",\"iv\":\"AA\",\"tag\":\"\"}}",
+        ),
+    ),
+    (
+        &FORMAT_JWE,
+        "{\"ciphertext\":\"\",\"unprotected\":{\"alg\":\"A192GCMKW\",\"enc\":\"A128GCM\",\"iv\":\"AA\"}}",
+        Answer::Refusal(Refusal::Header),
+    ),
+    (
+        &FORMAT_JWE,
+        "{\"ciphertext\":\"\",\"unprotected\":{\"alg\":\"A256GCMKW\",\"enc\":\"A128GCM\",\"tag\":\"\"}}",
+        Answer::Refusal(Refusal::Header),
+    ),
+    (
+        &FORMAT_JWE,
+        "{\"ciphertext\":\"\",\"unprotected\":{\"alg\":\"A128GCMKW\",\"enc\":\"A128GCM\",\"iv\":5,\"tag\":\"\"}}",
+        Answer::Refusal(Refusal::Header),
+    ),
+    (
+        &FORMAT_JWE,
+        "{\"ciphertext\":\"\",\"unprotected\":{\"alg\":\"A128KW\",\"enc\":\"A128GCM\",\"iv\":5,\"tag\":\"AB\"}}",
+        Answer::Text(
+            "{\"ciphertext\":\"\",\"unprotected\":{\"alg\":\"A128KW\",\"enc\":\"A128GCM\",\"iv\":5,\"tag\":\"AB\"}}",
+        ),
+    ),
+    (&FORMAT_JWE, RFC7516_A3, Answer::Text(RFC7516_A3_FLATTENED)),
+    (&COMPACT_JWE, RFC7516_A3_FLATTENED, Answer::Text(RFC7516_A3)),
+    (&FORMAT_JWE, RFC7516_A4, Answer::Text(RFC7516_A4_WRITTEN)),
+    (
+        &FORMAT_JWE,
+        RFC7516_A4_WRITTEN,
+        Answer::Text(RFC7516_A4_WRITTEN),
+    ),
+    (
+        &COMPACT_JWE,
+        RFC7516_A4,
+        Answer::Refusal(Refusal::NotCompact),
+    ),
+    (
+        &COMPACT_JWE,
+        "{\"aad\":\"YQ\",\"ciphertext\":\"\",\"protected\":\"eyJhbGciOiJkaXIiLCJlbmMiOiJBMTI4R0NNIn0\"}",
+        Answer::Refusal(Refusal::NotCompact),
+    ),
+    // The encrypted key in a list of one, there and beside it, and beside a list of none.
+    (
+        &FORMAT_JWE,
+        "{\"ciphertext\":\"KDlTtXchhZTGufMYmOYGS4HffxPSUrfmqCHXaI9wOGY\",\"iv\":\"AxY8DCtDaGlsbGljb3RoZQ\",\"protected\":\"eyJhbGciOiJBMTI4S1ciLCJlbmMiOiJBMTI4Q0JDLUhTMjU2In0\",\"recipients\":[{\"encrypted_key\":\"6KB707dM9YTIgHtLvtgWQ8mKwboJW3of9locizkDTHzBC2IlrT1oOQ\"}],\"tag\":\"U0m_YmjN04DJvceFICbCVQ\"}",
+        Answer::Text(RFC7516_A3_FLATTENED),
+    ),
+    (
+        &FORMAT_JWE,
+        "{\"ciphertext\":\"KDlTtXchhZTGufMYmOYGS4HffxPSUrfmqCHXaI9wOGY\",\"encrypted_key\":\"6KB707dM9YTIgHtLvtgWQ8mKwboJW3of9locizkDTHzBC2IlrT1oOQ\",\"iv\":\"AxY8DCtDaGlsbGljb3RoZQ\",\"protected\":\"eyJhbGciOiJBMTI4S1ciLCJlbmMiOiJBMTI4Q0JDLUhTMjU2In0\",\"recipients\":[{\"encrypted_key\":\"6KB707dM9YTIgHtLvtgWQ8mKwboJW3of9locizkDTHzBC2IlrT1oOQ\"}],\"tag\":\"U0m_YmjN04DJvceFICbCVQ\"}",
+        Answer::Refusal(Refusal::Form),
+    ),
+    (
+        &FORMAT_JWE,
+        "{\"ciphertext\":\"KDlTtXchhZTGufMYmOYGS4HffxPSUrfmqCHXaI9wOGY\",\"encrypted_key\":\"6KB707dM9YTIgHtLvtgWQ8mKwboJW3of9locizkDTHzBC2IlrT1oOQ\",\"iv\":\"AxY8DCtDaGlsbGljb3RoZQ\",\"protected\":\"eyJhbGciOiJBMTI4S1ciLCJlbmMiOiJBMTI4Q0JDLUhTMjU2In0\",\"recipients\":[],\"tag\":\"U0m_YmjN04DJvceFICbCVQ\"}",
+        Answer::Refusal(Refusal::Form),
+    ),
+];
+
+#[test]
+fn objects_change_their_form(rt: HostRuntime) -> Result<(), Fail> {
+    for (words, text, answer) in FORMATTED {
+        expect_text(&rt, words, text, "", *answer)?;
+    }
+    Ok(())
+}
+
+/// Texts, and what these become in JSON form and in compact form.
+const FORMATTED_GCM_KEY_WRAPS: &[(&str, Answer<'_>, Answer<'_>)] = &[
+    (
+        BY_A128GCMKW,
+        Answer::Text(BY_A128GCMKW),
+        Answer::Text(BY_A128GCMKW_COMPACT),
+    ),
+    (
+        BY_A128GCMKW_COMPACT,
+        Answer::Text(BY_A128GCMKW),
+        Answer::Text(BY_A128GCMKW_COMPACT),
+    ),
+    (
+        FOR_FOUR_KEYS,
+        Answer::Text(FOR_FOUR_KEYS),
+        Answer::Refusal(Refusal::NotCompact),
+    ),
+    (
+        "{\"aad\":\"YWJj\",\"ciphertext\":\"MIuB6Y6lQt0uHhkwwLJjp-le7_TxaQ\",\"encrypted_key\":\"n2GpwXYK5Udfx3edLrpqEw\",\"iv\":\"HB0eHyAhIiMkJSYn\",\"protected\":\"eyJpdiI6IkFBRUNBd1FGQmdjSUNRb0wiLCJ0YWciOiI5OUlvaDItVFRHNmFmU1hocjd0ODBBIn0\",\"tag\":\"SfOcKFulafSQNN9mpGESBg\",\"unprotected\":{\"alg\":\"A128GCMKW\",\"enc\":\"A128GCM\"}}",
+        Answer::Text(
+            "{\"aad\":\"YWJj\",\"ciphertext\":\"MIuB6Y6lQt0uHhkwwLJjp-le7_TxaQ\",\"encrypted_key\":\"n2GpwXYK5Udfx3edLrpqEw\",\"iv\":\"HB0eHyAhIiMkJSYn\",\"protected\":\"eyJpdiI6IkFBRUNBd1FGQmdjSUNRb0wiLCJ0YWciOiI5OUlvaDItVFRHNmFmU1hocjd0ODBBIn0\",\"tag\":\"SfOcKFulafSQNN9mpGESBg\",\"unprotected\":{\"alg\":\"A128GCMKW\",\"enc\":\"A128GCM\"}}",
+        ),
+        Answer::Refusal(Refusal::NotCompact),
+    ),
+];
+
+#[test]
+fn objects_by_gcm_key_wrap_change_their_form(rt: HostRuntime) -> Result<(), Fail> {
+    for (text, json, compact) in FORMATTED_GCM_KEY_WRAPS {
+        expect_text(&rt, &FORMAT_JWE, text, "", *json)?;
+        expect_text(&rt, &COMPACT_JWE, text, "", *compact)?;
+    }
+    Ok(())
+}
+
+/// Signed and encrypted objects, whose content goes out beside them, or comes in so.
+const DETACHED: &[(&[&str], &str, &[u8], Answer<'_>)] = &[
+    (
+        &["jws", "fmt", "-O", "beside"],
+        ABC,
+        b"",
+        Answer::Both(ABC_FLATTENED_BESIDE, b"abc"),
+    ),
+    (
+        &["jws", "fmt", "-c", "-O", "beside"],
+        ABC_FLATTENED,
+        b"",
+        Answer::Both(ABC_BESIDE, b"abc"),
+    ),
+    (
+        &["jws", "fmt", "-O", "beside"],
+        ABC_GENERAL,
+        b"",
+        Answer::Both(ABC_GENERAL_BESIDE, b"abc"),
+    ),
+    (
+        &["jws", "fmt", "-c", "-I", "beside"],
+        ABC_FLATTENED_BESIDE,
+        b"abc",
+        Answer::Text(ABC),
+    ),
+    (
+        &["jws", "fmt", "-I", "beside"],
+        ABC_BESIDE,
+        b"abc",
+        Answer::Text(ABC_FLATTENED),
+    ),
+    (
+        &["jws", "fmt", "-I", "beside", "-O", "also"],
+        ABC_BESIDE,
+        b"abc",
+        Answer::Both(ABC_FLATTENED_BESIDE, b"abc"),
+    ),
+    (
+        &["jws", "fmt", "-c", "-O", "beside"],
+        EMPTY_SIGNED,
+        b"",
+        Answer::Both(EMPTY_SIGNED, b""),
+    ),
+    (
+        &["jws", "fmt", "-c", "-I", "beside"],
+        ABC_GENERAL_BESIDE,
+        b"abc",
+        Answer::Refusal(Refusal::NotCompact),
+    ),
+    (
+        &["jws", "fmt", "-c", "-O", "beside"],
+        ABC_GENERAL,
+        b"",
+        Answer::Refusal(Refusal::NotCompact),
+    ),
+    (
+        &["jws", "fmt", "-I", "beside"],
+        ABC,
+        b"abc",
+        Answer::Refusal(Refusal::Form),
+    ),
+    (
+        &["jws", "fmt"],
+        ABC_FLATTENED_BESIDE,
+        b"abc",
+        Answer::Refusal(Refusal::Form),
+    ),
+    (
+        &["jwe", "fmt", "-O", "beside"],
+        RFC7516_A3,
+        b"",
+        Answer::Both(RFC7516_A3_FLATTENED_BESIDE, RFC7516_CIPHERTEXT),
+    ),
+    (
+        &["jwe", "fmt", "-c", "-I", "beside"],
+        RFC7516_A3_FLATTENED_BESIDE,
+        RFC7516_CIPHERTEXT,
+        Answer::Text(RFC7516_A3),
+    ),
+    (
+        &["jwe", "fmt", "-c", "-O", "beside"],
+        RFC7516_A3_FLATTENED,
+        b"",
+        Answer::Both(RFC7516_A3_BESIDE, RFC7516_CIPHERTEXT),
+    ),
+    (
+        &["jwe", "fmt", "-I", "beside"],
+        RFC7516_A3_BESIDE,
+        RFC7516_CIPHERTEXT,
+        Answer::Text(RFC7516_A3_FLATTENED),
+    ),
+    (
+        &["jwe", "fmt", "-I", "beside"],
+        RFC7516_A3_FLATTENED,
+        RFC7516_CIPHERTEXT,
+        Answer::Refusal(Refusal::Form),
+    ),
+];
+
+#[test]
+fn content_goes_out_and_comes_in_beside_the_text(rt: HostRuntime) -> Result<(), Fail> {
+    expect_rows(&rt, "", DETACHED)
+}
+
+#[test]
+fn a_text_for_several_is_not_compact(rt: HostRuntime) -> Result<(), Fail> {
+    expect_text(&rt, &FORMAT_JWE, FOR_THREE, "", Answer::Text(FOR_THREE))?;
+    let refused = Answer::Refusal(Refusal::NotCompact);
+    expect_text(&rt, &COMPACT_JWE, FOR_THREE, "", refused)?;
+    encrypts(
+        &rt,
+        &ENCRYPT_COMPACT,
+        "{}",
+        THREE_KEYS,
+        OCTETS_FROM_0,
+        refused,
+    )
+}

@@ -1,0 +1,155 @@
+//! `jwe dec`: objects and keys that do not open them, and why, by docs/SPECIFICATION.md. What opens stands in `standards` and `peers`.
+use crate::tests::command_words::DECRYPT;
+use crate::tests::harness::{Answer, decrypts, expect_text};
+use crate::tests::samples::with_many;
+use crate::tests::standards::rfc7516::{LINE, RFC7516_A3, RFC7516_A3_BESIDE, RFC7516_KEY};
+use octets::Refusal;
+use std::process::Abort;
+use std::test::Fail;
+
+/// Objects and keys that do not open them, and why.
+const NOT_OPENED: &[(&str, &str, Refusal)] = &[
+    // Another key, a key of another length, and another tag.
+    (
+        RFC7516_A3,
+        "{\"kty\":\"oct\",\"k\":\"AAAAAAAAAAAAAAAAAAAAAA\"}",
+        Refusal::NotOpened,
+    ),
+    (
+        RFC7516_A3,
+        "{\"kty\":\"oct\",\"k\":\"AAAAAAAAAAAAAAAAAAAAAAAAAAAAAAAA\"}",
+        Refusal::KeyDoesNotFit,
+    ),
+    (
+        "eyJhbGciOiJBMTI4S1ciLCJlbmMiOiJBMTI4Q0JDLUhTMjU2In0.6KB707dM9YTIgHtLvtgWQ8mKwboJW3of9locizkDTHzBC2IlrT1oOQ.AxY8DCtDaGlsbGljb3RoZQ.KDlTtXchhZTGufMYmOYGS4HffxPSUrfmqCHXaI9wOGY.V0m_YmjN04DJvceFICbCVQ",
+        RFC7516_KEY,
+        Refusal::NotOpened,
+    ),
+    // Additional data that were taken out.
+    (
+        "{\"ciphertext\":\"KDlTtXchhZTGufMYmOYGS4HffxPSUrfmqCHXaI9wOGY\",\"encrypted_key\":\"6KB707dM9YTIgHtLvtgWQ8mKwboJW3of9locizkDTHzBC2IlrT1oOQ\",\"iv\":\"AxY8DCtDaGlsbGljb3RoZQ\",\"protected\":\"eyJhbGciOiJBMTI4S1ciLCJlbmMiOiJBMTI4Q0JDLUhTMjU2In0\",\"tag\":\"Ad4ceFwp9FUwMtpzh4qXaQ\"}",
+        RFC7516_KEY,
+        Refusal::NotOpened,
+    ),
+    // A vector, a tag and an encrypted key of another length.
+    (
+        "eyJhbGciOiJBMTI4S1ciLCJlbmMiOiJBMTI4Q0JDLUhTMjU2In0.6KB707dM9YTIgHtLvtgWQ8mKwboJW3of9locizkDTHzBC2IlrT1oOQ.AxY8DCtDaGlsbGljb3Ro.KDlTtXchhZTGufMYmOYGS4HffxPSUrfmqCHXaI9wOGY.U0m_YmjN04DJvceFICbCVQ",
+        RFC7516_KEY,
+        Refusal::NotOpened,
+    ),
+    (
+        "eyJhbGciOiJBMTI4S1ciLCJlbmMiOiJBMTI4Q0JDLUhTMjU2In0.6KB707dM9YTIgHtLvtgWQ8mKwboJW3of9locizkDTHzBC2IlrT1oOQ.AxY8DCtDaGlsbGljb3RoZQ.KDlTtXchhZTGufMYmOYGS4HffxPSUrfmqCHXaI9wOGY.U0m_YmjN04DJvceFICbC",
+        RFC7516_KEY,
+        Refusal::NotOpened,
+    ),
+    (
+        "eyJhbGciOiJBMTI4S1ciLCJlbmMiOiJBMTI4Q0JDLUhTMjU2In0.6KB707dM9YTIgHtLvtgWQ8mKwboJW3of9locizkD.AxY8DCtDaGlsbGljb3RoZQ.KDlTtXchhZTGufMYmOYGS4HffxPSUrfmqCHXaI9wOGY.U0m_YmjN04DJvceFICbCVQ",
+        RFC7516_KEY,
+        Refusal::NotOpened,
+    ),
+    (
+        "eyJhbGciOiJBMTI4S1ciLCJlbmMiOiJBMTI4Q0JDLUhTMjU2In0..AxY8DCtDaGlsbGljb3RoZQ.KDlTtXchhZTGufMYmOYGS4HffxPSUrfmqCHXaI9wOGY.U0m_YmjN04DJvceFICbCVQ",
+        RFC7516_KEY,
+        Refusal::NotOpened,
+    ),
+    // No tag, and no ciphertext.
+    (
+        "eyJhbGciOiJBMTI4S1ciLCJlbmMiOiJBMTI4Q0JDLUhTMjU2In0.6KB707dM9YTIgHtLvtgWQ8mKwboJW3of9locizkDTHzBC2IlrT1oOQ.AxY8DCtDaGlsbGljb3RoZQ.KDlTtXchhZTGufMYmOYGS4HffxPSUrfmqCHXaI9wOGY.",
+        RFC7516_KEY,
+        Refusal::NotOpened,
+    ),
+    (RFC7516_A3_BESIDE, RFC7516_KEY, Refusal::NotOpened),
+    // A key that may not decrypt.
+    (
+        RFC7516_A3,
+        "{\"kty\":\"oct\",\"k\":\"GawgguFyGrWKav7AX4VKUg\",\"use\":\"sig\"}",
+        Refusal::KeyDoesNotFit,
+    ),
+    (
+        RFC7516_A3,
+        "{\"kty\":\"oct\",\"k\":\"GawgguFyGrWKav7AX4VKUg\",\"key_ops\":[\"wrapKey\"]}",
+        Refusal::KeyDoesNotFit,
+    ),
+    // The forms.
+    ("", RFC7516_KEY, Refusal::Form),
+    ("a.b.c.d", RFC7516_KEY, Refusal::Form),
+    (
+        "{\"ciphertext\":\"\",\"recipients\":[]}",
+        RFC7516_KEY,
+        Refusal::Form,
+    ),
+    // The headers.
+    (
+        "eyJlbmMiOiJBMTI4Q0JDLUhTMjU2In0.6KB707dM9YTIgHtLvtgWQ8mKwboJW3of9locizkDTHzBC2IlrT1oOQ.AxY8DCtDaGlsbGljb3RoZQ.KDlTtXchhZTGufMYmOYGS4HffxPSUrfmqCHXaI9wOGY.U0m_YmjN04DJvceFICbCVQ",
+        RFC7516_KEY,
+        Refusal::Header,
+    ),
+    (
+        "eyJhbGciOiJBMTI4S1cifQ.6KB707dM9YTIgHtLvtgWQ8mKwboJW3of9locizkDTHzBC2IlrT1oOQ.AxY8DCtDaGlsbGljb3RoZQ.KDlTtXchhZTGufMYmOYGS4HffxPSUrfmqCHXaI9wOGY.U0m_YmjN04DJvceFICbCVQ",
+        RFC7516_KEY,
+        Refusal::Header,
+    ),
+    (
+        "eyJhbGciOjEsImVuYyI6IkExMjhDQkMtSFMyNTYifQ.6KB707dM9YTIgHtLvtgWQ8mKwboJW3of9locizkDTHzBC2IlrT1oOQ.AxY8DCtDaGlsbGljb3RoZQ.KDlTtXchhZTGufMYmOYGS4HffxPSUrfmqCHXaI9wOGY.U0m_YmjN04DJvceFICbCVQ",
+        RFC7516_KEY,
+        Refusal::Header,
+    ),
+    (
+        "{\"ciphertext\":\"\",\"header\":{\"alg\":\"A128KW\"},\"unprotected\":{\"alg\":\"A128KW\",\"enc\":\"A128GCM\"}}",
+        RFC7516_KEY,
+        Refusal::Header,
+    ),
+    (
+        "eyJhbGciOiJBMTI4S1ciLCJjcml0IjpbImV4cCJdLCJlbmMiOiJBMTI4Q0JDLUhTMjU2In0.6KB707dM9YTIgHtLvtgWQ8mKwboJW3of9locizkDTHzBC2IlrT1oOQ.AxY8DCtDaGlsbGljb3RoZQ.KDlTtXchhZTGufMYmOYGS4HffxPSUrfmqCHXaI9wOGY.U0m_YmjN04DJvceFICbCVQ",
+        RFC7516_KEY,
+        Refusal::Unsupported,
+    ),
+    (
+        "eyJhbGciOiJBMTI4S1ciLCJlbmMiOiJBMTI4Q0JDLUhTMjU2IiwiemlwIjoiREVGIn0.6KB707dM9YTIgHtLvtgWQ8mKwboJW3of9locizkDTHzBC2IlrT1oOQ.AxY8DCtDaGlsbGljb3RoZQ.KDlTtXchhZTGufMYmOYGS4HffxPSUrfmqCHXaI9wOGY.U0m_YmjN04DJvceFICbCVQ",
+        RFC7516_KEY,
+        Refusal::Unsupported,
+    ),
+    (
+        "eyJhbGciOiJSU0EtT0FFUCIsImVuYyI6IkExMjhDQkMtSFMyNTYifQ.6KB707dM9YTIgHtLvtgWQ8mKwboJW3of9locizkDTHzBC2IlrT1oOQ.AxY8DCtDaGlsbGljb3RoZQ.KDlTtXchhZTGufMYmOYGS4HffxPSUrfmqCHXaI9wOGY.U0m_YmjN04DJvceFICbCVQ",
+        RFC7516_KEY,
+        Refusal::Unsupported,
+    ),
+    (
+        "eyJhbGciOiJBMTI4S1ciLCJlbmMiOiJBMTI4Q0JDIn0.6KB707dM9YTIgHtLvtgWQ8mKwboJW3of9locizkDTHzBC2IlrT1oOQ.AxY8DCtDaGlsbGljb3RoZQ.KDlTtXchhZTGufMYmOYGS4HffxPSUrfmqCHXaI9wOGY.U0m_YmjN04DJvceFICbCVQ",
+        RFC7516_KEY,
+        Refusal::Unsupported,
+    ),
+    // The keys before the object.
+    ("", " {}", Refusal::Key),
+];
+
+#[test]
+fn what_does_not_open_is_told(rt: HostRuntime) -> Result<(), Fail> {
+    for (text, keys, refusal) in NOT_OPENED {
+        decrypts(&rt, text, keys, Answer::Refusal(*refusal))?;
+    }
+    Ok(())
+}
+
+/// What is read of an object with so many recipients before the last, which is that of RFC 7516 appendix A.4.
+fn decrypts_for_last_of<R: Abort + AllocGlobal>(
+    rt: &R,
+    before: usize,
+    answer: Answer<'_>,
+) -> Result<(), Fail> {
+    let text = with_many(
+        rt,
+        "{\"protected\":\"eyJlbmMiOiJBMTI4Q0JDLUhTMjU2In0\",\"unprotected\":{\"alg\":\"A128KW\"},\"iv\":\"AxY8DCtDaGlsbGljb3RoZQ\",\"ciphertext\":\"KDlTtXchhZTGufMYmOYGS4HffxPSUrfmqCHXaI9wOGY\",\"tag\":\"Mz-VPPyU4RlcuYv1IwIvzw\",\"recipients\":[",
+        "{}",
+        before,
+        "{\"encrypted_key\":\"6KB707dM9YTIgHtLvtgWQ8mKwboJW3of9locizkDTHzBC2IlrT1oOQ\"}",
+        "]}",
+    )?;
+    decrypts(rt, &text, RFC7516_KEY, answer)
+}
+
+#[test]
+fn an_object_has_256_recipients_at_most(rt: HostRuntime) -> Result<(), Fail> {
+    decrypts_for_last_of(&rt, 255, Answer::Content(LINE))?;
+    decrypts_for_last_of(&rt, 256, Answer::Refusal(Refusal::Limit))
+}

@@ -1,0 +1,109 @@
+//! `jwk gen`: templates, and the keys that are made of given random octets or the cause of their refusal, by docs/SPECIFICATION.md.
+use crate::tests::harness::{Answer, Given, expect};
+use crate::tests::samples::{MADE_KEY, octets_from_0};
+use octets::Refusal;
+use std::process::Abort;
+use std::test::Fail;
+
+/// Making keys by these templates, from so many of the octets from 0 on, answers so.
+fn makes_each<R: Abort + AllocGlobal>(
+    rt: &R,
+    len: usize,
+    rows: &[(&str, Answer<'_>)],
+) -> Result<(), Fail> {
+    for (template, answer) in rows {
+        let given = Given {
+            text: template,
+            content: b"",
+            keys: "",
+            random: octets_from_0(len),
+        };
+        expect(rt, &["jwk", "gen", "-i", "t"], &given, *answer)?;
+    }
+    Ok(())
+}
+
+/// Templates, and their keys.
+const TEMPLATES: &[(&str, Answer<'_>)] = &[
+    ("{\"alg\":\"A128KW\"}", Answer::Text(MADE_KEY)),
+    (
+        "{\"bytes\":16}",
+        Answer::Text("{\"k\":\"AAECAwQFBgcICQoLDA0ODw\",\"kty\":\"oct\"}"),
+    ),
+    (
+        "{\"alg\":\"A128KW\",\"use\":\"enc\"}",
+        Answer::Text(
+            "{\"alg\":\"A128KW\",\"k\":\"AAECAwQFBgcICQoLDA0ODw\",\"kty\":\"oct\",\"use\":\"enc\"}",
+        ),
+    ),
+];
+
+#[test]
+fn a_key_is_made_by_its_template(rt: HostRuntime) -> Result<(), Fail> {
+    makes_each(&rt, 16, TEMPLATES)
+}
+
+/// Templates by which no key is made.
+const OTHER_TEMPLATES: &[(&str, Answer<'_>)] = &[
+    // Octets that are not there, and no size.
+    ("{\"bytes\":17}", Answer::Refusal(Refusal::Random)),
+    ("{}", Answer::Refusal(Refusal::NoAlgorithm)),
+    ("{\"alg\":\"dir\"}", Answer::Refusal(Refusal::NoAlgorithm)),
+    // Sizes that do not fit, an unknown algorithm, and too many octets.
+    (
+        "{\"alg\":\"HS256\",\"bytes\":16}",
+        Answer::Refusal(Refusal::KeyDoesNotFit),
+    ),
+    ("{\"alg\":\"RS256\"}", Answer::Refusal(Refusal::Unsupported)),
+    ("{\"bytes\":4097}", Answer::Refusal(Refusal::Limit)),
+    // Templates that are none.
+    ("{\"bytes\":0}", Answer::Refusal(Refusal::Key)),
+    ("{\"k\":\"AA\"}", Answer::Refusal(Refusal::Key)),
+    ("{\"kty\":\"EC\"}", Answer::Refusal(Refusal::Key)),
+];
+
+#[test]
+fn the_first_cause_refuses_a_key_template(rt: HostRuntime) -> Result<(), Fail> {
+    makes_each(&rt, 16, OTHER_TEMPLATES)
+}
+
+/// Templates of keys, and their keys of the octets 0, 1, 2 and on, or their refusals.
+const GCM_KEY_WRAP_TEMPLATES: &[(&str, Answer<'_>)] = &[
+    (
+        "{\"alg\":\"A128GCMKW\"}",
+        Answer::Text(
+            "{\"alg\":\"A128GCMKW\",\"k\":\"AAECAwQFBgcICQoLDA0ODw\",\"key_ops\":[\"wrapKey\",\"unwrapKey\"],\"kty\":\"oct\"}",
+        ),
+    ),
+    (
+        "{\"alg\":\"A192GCMKW\"}",
+        Answer::Text(
+            "{\"alg\":\"A192GCMKW\",\"k\":\"AAECAwQFBgcICQoLDA0ODxAREhMUFRYX\",\"key_ops\":[\"wrapKey\",\"unwrapKey\"],\"kty\":\"oct\"}",
+        ),
+    ),
+    (
+        "{\"alg\":\"A256GCMKW\"}",
+        Answer::Text(
+            "{\"alg\":\"A256GCMKW\",\"k\":\"AAECAwQFBgcICQoLDA0ODxAREhMUFRYXGBkaGxwdHh8\",\"key_ops\":[\"wrapKey\",\"unwrapKey\"],\"kty\":\"oct\"}",
+        ),
+    ),
+    (
+        "{\"alg\":\"A192GCMKW\",\"use\":\"enc\",\"bytes\":24}",
+        Answer::Text(
+            "{\"alg\":\"A192GCMKW\",\"k\":\"AAECAwQFBgcICQoLDA0ODxAREhMUFRYX\",\"kty\":\"oct\",\"use\":\"enc\"}",
+        ),
+    ),
+    (
+        "{\"alg\":\"A256GCMKW\",\"bytes\":16}",
+        Answer::Refusal(Refusal::KeyDoesNotFit),
+    ),
+    (
+        "{\"alg\":\"A512GCMKW\"}",
+        Answer::Refusal(Refusal::Unsupported),
+    ),
+];
+
+#[test]
+fn a_key_for_gcm_key_wrap_is_made_by_its_template(rt: HostRuntime) -> Result<(), Fail> {
+    makes_each(&rt, 32, GCM_KEY_WRAP_TEMPLATES)
+}

@@ -1,0 +1,191 @@
+//! `jws ver` of objects with several signatures and of sets of keys, with `-a` and without. The signatures are by Python's `hmac`.
+use crate::tests::command_words::{VERIFY, VERIFY_ALL};
+use crate::tests::harness::{Answer, expect_text, verifies};
+use crate::tests::samples::{
+    ABC, ABC_FLATTENED, ABC_FLATTENED_BESIDE, ABC_GENERAL, ABC_WITH_HEADER, KEY_AND_SMALL_KEY,
+    KEY_TO_31, KEY_TO_47, TWO_KEYS, TWO_LONG_KEYS, with_many,
+};
+use crate::tests::standards::rfc7515::RFC7515_KEY;
+use octets::Refusal;
+use std::process::Abort;
+use std::test::Fail;
+
+/// Objects and keys, what some of these verify, and what all do.
+const VERIFIED: &[(&str, &str, Answer<'_>, Answer<'_>)] = &[
+    (
+        ABC_GENERAL,
+        TWO_KEYS,
+        Answer::Content(b"abc"),
+        Answer::Content(b"abc"),
+    ),
+    (
+        ABC_GENERAL,
+        RFC7515_KEY,
+        Answer::Content(b"abc"),
+        Answer::Content(b"abc"),
+    ),
+    (
+        ABC_GENERAL,
+        KEY_TO_31,
+        Answer::Content(b"abc"),
+        Answer::Content(b"abc"),
+    ),
+    (
+        ABC_WITH_HEADER,
+        RFC7515_KEY,
+        Answer::Content(b"abc"),
+        Answer::Content(b"abc"),
+    ),
+    (
+        ABC_FLATTENED,
+        RFC7515_KEY,
+        Answer::Content(b"abc"),
+        Answer::Content(b"abc"),
+    ),
+    // Of two keys one made a signature, and the other made none or cannot.
+    (
+        ABC,
+        TWO_LONG_KEYS,
+        Answer::Content(b"abc"),
+        Answer::Refusal(Refusal::NotOpened),
+    ),
+    (
+        ABC_GENERAL,
+        TWO_LONG_KEYS,
+        Answer::Content(b"abc"),
+        Answer::Refusal(Refusal::NotOpened),
+    ),
+    (
+        ABC,
+        KEY_AND_SMALL_KEY,
+        Answer::Content(b"abc"),
+        Answer::Refusal(Refusal::NotOpened),
+    ),
+    // Keys with an algorithm of another name, and none that may verify.
+    (
+        ABC_GENERAL,
+        KEY_TO_47,
+        Answer::Refusal(Refusal::NotOpened),
+        Answer::Refusal(Refusal::NotOpened),
+    ),
+    (
+        ABC_GENERAL,
+        "{\"kty\":\"oct\",\"k\":\"AAAAAAAAAAAAAAAAAAAAAAAAAAAAAAAAAAAAAAAAAA\"}",
+        Answer::Refusal(Refusal::KeyDoesNotFit),
+        Answer::Refusal(Refusal::KeyDoesNotFit),
+    ),
+    // The first algorithm is not supported, and neither is.
+    (
+        "{\"payload\":\"YWJj\",\"signatures\":[{\"protected\":\"eyJhbGciOiJSUzI1NiJ9\",\"signature\":\"AA\"},{\"protected\":\"eyJhbGciOiJIUzI1NiJ9\",\"signature\":\"8-sUlaJJTTOyeAYgv-kHNN9tT55A-tUCHOYatGHTJa0\"}]}",
+        TWO_KEYS,
+        Answer::Content(b"abc"),
+        Answer::Refusal(Refusal::NotOpened),
+    ),
+    (
+        "{\"payload\":\"YWJj\",\"signatures\":[{\"protected\":\"eyJhbGciOiJSUzI1NiJ9\",\"signature\":\"AA\"},{\"header\":{\"alg\":\"ES256\"},\"signature\":\"AA\"}]}",
+        TWO_KEYS,
+        Answer::Refusal(Refusal::Unsupported),
+        Answer::Refusal(Refusal::Unsupported),
+    ),
+    // A `crit` of the second signature.
+    (
+        "{\"payload\":\"YWJj\",\"signatures\":[{\"protected\":\"eyJhbGciOiJIUzI1NiJ9\",\"signature\":\"8-sUlaJJTTOyeAYgv-kHNN9tT55A-tUCHOYatGHTJa0\"},{\"protected\":\"eyJhbGciOiJIUzI1NiIsImNyaXQiOlsieCJdfQ\",\"signature\":\"AA\"}]}",
+        KEY_TO_31,
+        Answer::Refusal(Refusal::Unsupported),
+        Answer::Refusal(Refusal::Unsupported),
+    ),
+    // An algorithm that derives a key from a password, with no parameters, with them, and with a short salt or no count.
+    (
+        "{\"payload\":\"YWJj\",\"signature\":\"\",\"header\":{\"alg\":\"PBES2-HS256+A128KW\"}}",
+        TWO_KEYS,
+        Answer::Refusal(Refusal::Header),
+        Answer::Refusal(Refusal::Header),
+    ),
+    (
+        "{\"payload\":\"YWJj\",\"signature\":\"\",\"header\":{\"alg\":\"PBES2-HS256+A128KW\",\"p2s\":\"AAECAwQFBgc\",\"p2c\":1}}",
+        TWO_KEYS,
+        Answer::Refusal(Refusal::Unsupported),
+        Answer::Refusal(Refusal::Unsupported),
+    ),
+    (
+        "{\"payload\":\"YWJj\",\"signature\":\"\",\"header\":{\"alg\":\"PBES2-HS256+A128KW\",\"p2s\":\"AAECAwQFBg\",\"p2c\":1}}",
+        TWO_KEYS,
+        Answer::Refusal(Refusal::Header),
+        Answer::Refusal(Refusal::Header),
+    ),
+    (
+        "{\"payload\":\"YWJj\",\"signature\":\"\",\"header\":{\"alg\":\"PBES2-HS256+A128KW\",\"p2s\":\"AAECAwQFBgc\",\"p2c\":0}}",
+        TWO_KEYS,
+        Answer::Refusal(Refusal::Header),
+        Answer::Refusal(Refusal::Header),
+    ),
+    // An algorithm that wraps a key in GCM, with no parameters, with one, with both, and with one that is no base64url text.
+    (
+        "{\"payload\":\"YWJj\",\"signature\":\"\",\"header\":{\"alg\":\"A128GCMKW\"}}",
+        TWO_KEYS,
+        Answer::Refusal(Refusal::Header),
+        Answer::Refusal(Refusal::Header),
+    ),
+    (
+        "{\"payload\":\"YWJj\",\"signature\":\"\",\"header\":{\"alg\":\"A128GCMKW\",\"iv\":\"AA\"}}",
+        TWO_KEYS,
+        Answer::Refusal(Refusal::Header),
+        Answer::Refusal(Refusal::Header),
+    ),
+    (
+        "{\"payload\":\"YWJj\",\"signature\":\"\",\"header\":{\"alg\":\"A128GCMKW\",\"tag\":\"\"}}",
+        TWO_KEYS,
+        Answer::Refusal(Refusal::Header),
+        Answer::Refusal(Refusal::Header),
+    ),
+    (
+        "{\"payload\":\"YWJj\",\"signature\":\"\",\"header\":{\"alg\":\"A128GCMKW\",\"iv\":\"AA\",\"tag\":\"\"}}",
+        TWO_KEYS,
+        Answer::Refusal(Refusal::Unsupported),
+        Answer::Refusal(Refusal::Unsupported),
+    ),
+    (
+        "{\"payload\":\"YWJj\",\"signature\":\"\",\"header\":{\"alg\":\"A128GCMKW\",\"iv\":5,\"tag\":\"\"}}",
+        TWO_KEYS,
+        Answer::Refusal(Refusal::Header),
+        Answer::Refusal(Refusal::Header),
+    ),
+    (
+        "{\"payload\":\"YWJj\",\"signature\":\"\",\"header\":{\"alg\":\"A128GCMKW\",\"iv\":\"AA\",\"tag\":\"AB\"}}",
+        TWO_KEYS,
+        Answer::Refusal(Refusal::Header),
+        Answer::Refusal(Refusal::Header),
+    ),
+];
+
+#[test]
+fn some_keys_verify_or_all(rt: HostRuntime) -> Result<(), Fail> {
+    for (text, keys, some, all) in VERIFIED {
+        verifies(&rt, text, keys, *some)?;
+        expect_text(&rt, &VERIFY_ALL, text, keys, *all)?;
+    }
+    Ok(())
+}
+
+/// What is read of an object with so many signatures before the last, which is that of `ABC`.
+fn verifies_last_of<R: Abort + AllocGlobal>(
+    rt: &R,
+    before: usize,
+    answer: Answer<'_>,
+) -> Result<(), Fail> {
+    let text = with_many(
+        rt,
+        "{\"payload\":\"YWJj\",\"signatures\":[",
+        "{\"header\":{\"alg\":\"HS256\"},\"signature\":\"AA\"}",
+        before,
+        ABC_FLATTENED_BESIDE,
+        "]}",
+    )?;
+    verifies(rt, &text, RFC7515_KEY, answer)
+}
+
+#[test]
+fn an_object_has_256_signatures_at_most(rt: HostRuntime) -> Result<(), Fail> {
+    verifies_last_of(&rt, 255, Answer::Content(b"abc"))?;
+    verifies_last_of(&rt, 256, Answer::Refusal(Refusal::Limit))
+}

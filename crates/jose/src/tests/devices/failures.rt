@@ -1,0 +1,375 @@
+//! One read or write that fails: each call of each device of each command in turn. What is written and said is by the standards'
+//! examples, RFC 7515 appendix A.1's key and RFC 7516 appendix A.3.
+ghost use Rattle.std.specs.Prelude.{◌<◌};
+
+use crate::tests::command_words::{DECRYPT, ENCRYPT_COMPACT, SIGN_COMPACT, VERIFY};
+use crate::tests::harness::{expect_octets, expect_same, owned};
+use crate::tests::samples::{ABC, ABC_BESIDE, ABC_FLATTENED_BESIDE, TEMPLATE};
+use crate::tests::standards::rfc7515::RFC7515_KEY;
+use crate::tests::standards::rfc7516::{
+    LINE, RFC7516_A3, RFC7516_A3_BESIDE, RFC7516_CIPHERTEXT, RFC7516_KEY, RFC7516_RANDOM,
+};
+use crate::{Inputs, Outputs, parse, run};
+use octets::{Failing, FailingInput, FailingOutput, MemoryInput, Refusal};
+use std::alloc::Global;
+use std::process::Abort;
+use std::test::Fail;
+
+/// The devices: `-i`, `-I`, `-k`, `-R`, and then `-o` and `-O`.
+const TEXT: usize = 0;
+
+const CONTENT: usize = 1;
+
+const NONE: usize = 9;
+
+const TEXT_OUT: usize = 4;
+
+const CONTENT_OUT: usize = 5;
+
+const DEVICES: usize = 6;
+
+/// The words; what `-i`, `-I`, `-k` and `-R` give; the input that is read while its text is written, if there is one; and what is
+/// written to `-o` and `-O`.
+type Row<'a> = (
+    &'a [&'a str],
+    (&'a str, &'a [u8], &'a str, &'a [u8]),
+    usize,
+    &'a str,
+    &'a [u8],
+);
+
+/// `jwk` and `b64`.
+const KEYS_AND_OCTETS: &[Row<'_>] = &[
+    (
+        &["jwk", "gen", "-i", "t", "-R", "r"],
+        ("{\"bytes\":16}", b"", "", b"0123456789abcdef"),
+        NONE,
+        "{\"k\":\"MDEyMzQ1Njc4OWFiY2RlZg\",\"kty\":\"oct\"}",
+        b"",
+    ),
+    (
+        &["jwk", "thp"],
+        (
+            "{\"kty\":\"oct\",\"k\":\"MDEyMzQ1Njc4OWFiY2RlZg\"}",
+            b"",
+            "",
+            b"",
+        ),
+        NONE,
+        "v1ILoKSndMgSbgGCnD1FaJtavl1L3pU4wgD_Xg_R6QQ",
+        b"",
+    ),
+    (
+        &["b64", "enc"],
+        ("", b"foobarfo", "", b""),
+        CONTENT,
+        "Zm9vYmFyZm8",
+        b"",
+    ),
+    (
+        &["b64", "dec"],
+        ("Zm9vYmFyZm8\r\n", b"", "", b""),
+        TEXT,
+        "",
+        b"foobarfo",
+    ),
+];
+
+const SIGNED: &[Row<'_>] = &[
+    (
+        &SIGN_COMPACT,
+        (TEMPLATE, b"abc", RFC7515_KEY, b""),
+        CONTENT,
+        ABC,
+        b"",
+    ),
+    (
+        &[
+            "jws", "sig", "-c", "-s", "t", "-I", "p", "-k", "k", "-O", "b",
+        ],
+        (TEMPLATE, b"abc", RFC7515_KEY, b""),
+        CONTENT,
+        ABC_BESIDE,
+        b"abc",
+    ),
+    (&VERIFY, (ABC, b"", RFC7515_KEY, b""), NONE, "", b"abc"),
+    (
+        &["jws", "ver", "-I", "b", "-k", "k", "-O", "p"],
+        (ABC_BESIDE, b"abc", RFC7515_KEY, b""),
+        NONE,
+        "",
+        b"abc",
+    ),
+    (
+        &["jws", "fmt", "-O", "b"],
+        (ABC, b"", "", b""),
+        NONE,
+        ABC_FLATTENED_BESIDE,
+        b"abc",
+    ),
+    (
+        &["jws", "fmt", "-c", "-I", "b"],
+        (ABC_FLATTENED_BESIDE, b"abc", "", b""),
+        NONE,
+        ABC,
+        b"",
+    ),
+];
+
+const ENCRYPTED: &[Row<'_>] = &[
+    (
+        &ENCRYPT_COMPACT,
+        ("{}", LINE, RFC7516_KEY, RFC7516_RANDOM),
+        CONTENT,
+        RFC7516_A3,
+        b"",
+    ),
+    (
+        &["jwe", "enc", "-c", "-I", "p", "-k", "k", "-O", "b"],
+        ("{}", LINE, RFC7516_KEY, RFC7516_RANDOM),
+        CONTENT,
+        RFC7516_A3_BESIDE,
+        RFC7516_CIPHERTEXT,
+    ),
+    (
+        &DECRYPT,
+        (RFC7516_A3, b"", RFC7516_KEY, b""),
+        NONE,
+        "",
+        LINE,
+    ),
+    (
+        &["jwe", "dec", "-I", "b", "-k", "k", "-O", "p"],
+        (RFC7516_A3_BESIDE, RFC7516_CIPHERTEXT, RFC7516_KEY, b""),
+        NONE,
+        "",
+        LINE,
+    ),
+    (
+        &["jwe", "fmt", "-c", "-O", "b"],
+        (RFC7516_A3, b"", "", b""),
+        NONE,
+        RFC7516_A3_BESIDE,
+        RFC7516_CIPHERTEXT,
+    ),
+    (
+        &["jwe", "fmt", "-c", "-I", "b"],
+        (RFC7516_A3_BESIDE, RFC7516_CIPHERTEXT, "", b""),
+        NONE,
+        RFC7516_A3,
+        b"",
+    ),
+];
+
+/// What a run did, with the failures of its devices.
+#[derive(Drop)]
+struct Run {
+    result: Result<(), Refusal>,
+    text: FailingOutput,
+    content: FailingOutput,
+    failures: [u64; DEVICES],
+}
+
+/// The failing of one of the devices; the others never fail.
+fn failing_of(device: usize, it: usize, failing: Failing) -> Failing {
+    if device == it {
+        failing
+    } else {
+        Failing::Once(u64::MAX)
+    }
+}
+
+/// Does what the row asks where one of the devices fails, with so many octets at a call.
+fn performed(
+    alloc: Global,
+    row: &Row<'_>,
+    device: usize,
+    failing: Failing,
+    step: usize,
+) -> Result<Run, Refusal>
+    requires { 0 < step }
+{
+    let (words, (text, content, keys, random), ..) = *row;
+    let text = MemoryInput::new(text.as_bytes(), step);
+    let content = MemoryInput::new(content, step);
+    let keys = MemoryInput::new(keys.as_bytes(), step);
+    let random = MemoryInput::new(random, step);
+    let mut inputs = Inputs {
+        text: FailingInput::new(text, failing_of(device, TEXT, failing)),
+        content: FailingInput::new(content, failing_of(device, CONTENT, failing)),
+        keys: FailingInput::new(keys, failing_of(device, 2, failing)),
+        random: FailingInput::new(random, failing_of(device, 3, failing)),
+    };
+    let text_out = failing_of(device, TEXT_OUT, failing);
+    let content_out = failing_of(device, CONTENT_OUT, failing);
+    let mut outputs = Outputs {
+        text: FailingOutput::new(alloc, 20_000, step, text_out)?,
+        content: FailingOutput::new(alloc, 20_000, step, content_out)?,
+    };
+    let words = owned(alloc, words)?;
+    let invocation = parse(alloc, &words)?;
+    let result = run(alloc, &invocation, &mut inputs, &mut outputs);
+    let failures = [
+        inputs.text.failures(),
+        inputs.content.failures(),
+        inputs.keys.failures(),
+        inputs.random.failures(),
+        outputs.text.failures(),
+        outputs.content.failures(),
+    ];
+    let Outputs { text, content } = outputs;
+    Ok(Run {
+        result,
+        text,
+        content,
+        failures,
+    })
+}
+
+/// The run met no failure, and wrote all.
+fn expect_whole<R: Abort>(rt: &R, row: &Row<'_>, run: &Run) {
+    let (_, (at, ..), _, text, content) = *row;
+    expect_same(rt, run.result, Ok(()), at);
+    expect_octets(rt, run.text.octets(), text.as_bytes(), at);
+    expect_octets(rt, run.content.octets(), content, at);
+    expect_same(rt, run.text.is_finished(), !text.is_empty(), at);
+    expect_same(rt, run.content.is_finished(), !content.is_empty(), at);
+}
+
+/// The output was not touched.
+fn expect_untouched<R: Abort>(rt: &R, output: &FailingOutput, at: &str) {
+    expect_octets(rt, output.octets(), b"", at);
+    expect_same(rt, output.is_finished(), false, at);
+}
+
+/// The failure of this device is told, and each output holds a stated beginning.
+fn expect_told<R: Abort>(rt: &R, row: &Row<'_>, run: &Run, device: usize) {
+    let (_, (at, ..), streams, text, content) = *row;
+    let mut wanted = [0; DEVICES];
+    wanted[device.min(CONTENT_OUT)] = 1;
+    expect_same(rt, run.failures, wanted, at);
+    let refusal = if device < TEXT_OUT {
+        Refusal::Read
+    } else {
+        Refusal::Write
+    };
+    expect_same(rt, run.result, Err(refusal), at);
+    let begins = text.as_bytes().starts_with(run.text.octets())
+        && content.starts_with(run.content.octets());
+    assert!(rt; begins, "at {at:?}");
+    if device == CONTENT_OUT || device < TEXT_OUT && device != streams {
+        expect_untouched(rt, &run.text, at);
+    }
+    if device < TEXT_OUT && device != streams {
+        expect_untouched(rt, &run.content, at);
+    }
+}
+
+/// Each call of the device fails in turn, alone or with all after it, until a run meets no failure.
+fn fails_in_turn<R: Abort + AllocGlobal>(
+    rt: &R,
+    row: &Row<'_>,
+    device: usize,
+    step: usize,
+    is_alone: bool,
+) -> Result<(), Fail>
+    requires { 0 < step }
+{
+    for call in 0..1000 {
+        let failing = if is_alone {
+            Failing::Once(call)
+        } else {
+            Failing::From(call)
+        };
+        let run = performed(rt.alloc(), row, device, failing, step)?;
+        if run.failures == [0; DEVICES] {
+            expect_whole(rt, row, &run);
+            return Ok(());
+        }
+        expect_told(rt, row, &run, device);
+    }
+    panic!(rt; "no run without a failure");
+}
+
+fn each_fails_in_turn<R: Abort + AllocGlobal>(rt: &R, rows: &[Row<'_>]) -> Result<(), Fail> {
+    for row in rows {
+        for device in 0..DEVICES {
+            fails_in_turn(rt, row, device, 4096, true)?;
+            fails_in_turn(rt, row, device, 4096, false)?;
+            fails_in_turn(rt, row, device, 1, true)?;
+            fails_in_turn(rt, row, device, 1, false)?;
+        }
+    }
+    Ok(())
+}
+
+#[test]
+fn each_failure_is_told_of_keys_and_octets(rt: HostRuntime) -> Result<(), Fail> {
+    each_fails_in_turn(&rt, KEYS_AND_OCTETS)
+}
+
+#[test]
+fn each_failure_is_told_of_signed_objects(rt: HostRuntime) -> Result<(), Fail> {
+    each_fails_in_turn(&rt, SIGNED)
+}
+
+#[test]
+fn each_failure_is_told_of_encrypted_objects(rt: HostRuntime) -> Result<(), Fail> {
+    each_fails_in_turn(&rt, ENCRYPTED)
+}
+
+/// Of 10,000 zero octets the input fails after so many.
+fn broken<R: Abort + AllocGlobal>(
+    rt: &R,
+    words: &[&str],
+    keys: &str,
+    random: &[u8],
+    most: usize,
+) -> Result<Run, Fail> {
+    let zeros = [0; 10_000];
+    let row: Row<'_> = (words, ("{}", &zeros, keys, random), CONTENT, "", b"");
+    Ok(performed(rt.alloc(), &row, CONTENT, Failing::After(most), 4096)?)
+}
+
+#[test]
+fn what_was_read_before_a_failure_is_written(rt: HostRuntime) -> Result<(), Fail> {
+    let run = broken(&rt, &["b64", "enc"], "", b"", 8192)?;
+    expect_same(&rt, run.result, Err(Refusal::Read), "");
+    let len = run.text.octets().len();
+    assert!(rt; len >= 5376 && len <= 10_920, "{len}");
+    assert!(rt; run.text.octets().iter().all(|c| *c == b'A'));
+
+    let words = &ENCRYPT_COMPACT;
+    let whole = broken(&rt, words, RFC7516_KEY, RFC7516_RANDOM, 20_000)?;
+    expect_same(&rt, whole.result, Ok(()), "");
+    let run = broken(&rt, words, RFC7516_KEY, RFC7516_RANDOM, 9000)?;
+    expect_same(&rt, run.result, Err(Refusal::Read), "");
+    let len = run.text.octets().len();
+    assert!(rt; len >= 6570 && len <= 12_118, "{len}");
+    assert!(rt; whole.text.octets().starts_with(run.text.octets()));
+    Ok(())
+}
+
+fn calls_no_output<R: Abort + AllocGlobal>(rt: &R, row: &Row<'_>) -> Result<(), Fail> {
+    let run = performed(rt.alloc(), row, CONTENT_OUT, Failing::From(0), 4096)?;
+    expect_same(rt, run.result, Err(Refusal::NotOpened), "");
+    expect_same(rt, run.failures, [0; DEVICES], "");
+    expect_untouched(rt, &run.content, "");
+    Ok(())
+}
+
+/// Where nothing opens or verifies, an output that would fail is not called.
+#[test]
+fn what_does_not_open_calls_no_output(rt: HostRuntime) -> Result<(), Fail> {
+    let changed =
+        "eyJhbGciOiJBMTI4S1ciLCJlbmMiOiJBMTI4Q0JDLUhTMjU2In0.6KB707dM9YTIgHtLvtgWQ8mKwboJW3of9locizkDTHzBC2IlrT1oOQ.AxY8DCtDaGlsbGljb3RoZQ.KDlTtXchhZTGufMYmOYGS4HffxPSUrfmqCHXaI9wOGY.V0m_YmjN04DJvceFICbCVQ";
+    let forged = "eyJhbGciOiJIUzI1NiJ9.YWJk.sxvqVTS8XjHJPVB24OsGa2pZqgR8ZX_Ab4pTTtgI47Y";
+    calls_no_output(
+        &rt,
+        &(&DECRYPT, (changed, b"", RFC7516_KEY, b""), NONE, "", b""),
+    )?;
+    calls_no_output(
+        &rt,
+        &(&VERIFY, (forged, b"", RFC7515_KEY, b""), NONE, "", b""),
+    )
+}

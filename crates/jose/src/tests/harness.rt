@@ -1,0 +1,420 @@
+//! What runs a command over memory and compares what it wrote, refused and finished with what a test expects.
+ghost use Rattle.jose.specs.Ports.{AreFinite};
+
+use crate::tests::command_words::{DECRYPT, ENCRYPT, VERIFY};
+use crate::tests::library::building::octets;
+use crate::tests::samples::{OCTETS_FROM_0, OCTETS_FROM_1};
+use crate::tests::standards::rfc7516::LINE;
+use crate::{Inputs, Outputs, parse, run};
+use keys::KeySet;
+use objects::Jwe;
+use octets::{Input, MemoryInput, MemoryOutput, ReaderInput, Refusal, encode_onto};
+use prf::{HashAlg, digest};
+use std::alloc::{AllocError, Global};
+use std::fmt::Debug;
+use std::io;
+use std::io::Read;
+use std::process::Abort;
+use std::test::Fail;
+use tokens::{Work, jwe_decrypt};
+
+/// How many octets each output takes, where there is room enough.
+pub(crate) const ROOM: usize = 3_000_000;
+
+/// What the inputs hold.
+#[derive(Clone, Copy)]
+pub(crate) struct Given<'a> {
+    pub(crate) text: &'a str,
+    pub(crate) content: &'a [u8],
+    pub(crate) keys: &'a str,
+    pub(crate) random: &'a [u8],
+}
+
+impl<'a> Given<'a> {
+    /// A text and keys alone.
+    pub(crate) fn of(text: &'a str, keys: &'a str) -> Given<'a> {
+        Given {
+            text,
+            content: b"",
+            keys,
+            random: b"",
+        }
+    }
+
+    pub(crate) fn octets(&self) -> GivenOctets<'a> {
+        GivenOctets {
+            text: self.text.as_bytes(),
+            content: self.content,
+            keys: self.keys.as_bytes(),
+            random: self.random,
+        }
+    }
+}
+
+/// What the inputs hold, where it need not be UTF-8.
+#[derive(Clone, Copy)]
+pub(crate) struct GivenOctets<'a> {
+    pub(crate) text: &'a [u8],
+    pub(crate) content: &'a [u8],
+    pub(crate) keys: &'a [u8],
+    pub(crate) random: &'a [u8],
+}
+
+/// What a call of the program did.
+#[derive(Drop)]
+pub(crate) struct Done {
+    pub(crate) result: Result<(), Refusal>,
+    pub(crate) text: MemoryOutput,
+    pub(crate) content: MemoryOutput,
+}
+
+pub(crate) fn owned(alloc: Global, words: &[&str]) -> Result<Vec<String>, AllocError> {
+    let mut all = Vec::new(alloc);
+    for word in words {
+        all.push(String::from_str(alloc, word)?)?;
+    }
+    Ok(all)
+}
+
+/// Reads the words and does what they ask, over these inputs and over outputs with room for so many octets.
+fn performed<I: Input>(
+    alloc: Global,
+    words: &[&str],
+    inputs: &mut Inputs<I>,
+    room: usize,
+) -> Result<Done, Refusal>
+    requires { AreFinite I.remaining inputs.old }
+{
+    let mut outputs = Outputs {
+        text: MemoryOutput::new(alloc, room)?,
+        content: MemoryOutput::new(alloc, room)?,
+    };
+    let words = owned(alloc, words)?;
+    let result = match parse(alloc, &words) {
+        Ok(invocation) => run(alloc, &invocation, inputs, &mut outputs),
+        Err(refusal) => Err(refusal),
+    };
+    let Outputs { text, content } = outputs;
+    Ok(Done {
+        result,
+        text,
+        content,
+    })
+}
+
+/// Reads the words and does what they ask, over inputs that give so many octets at a read and outputs with
+/// room for so many.
+pub(crate) fn outcome(
+    alloc: Global,
+    words: &[&str],
+    given: &Given<'_>,
+    step: usize,
+    room: usize,
+) -> Result<Done, Refusal> {
+    outcome_of_octets(alloc, words, &given.octets(), step, room)
+}
+
+/// The same over inputs that need not be UTF-8.
+pub(crate) fn outcome_of_octets(
+    alloc: Global,
+    words: &[&str],
+    given: &GivenOctets<'_>,
+    step: usize,
+    room: usize,
+) -> Result<Done, Refusal> {
+    let step = step.max(1);
+    let mut inputs = Inputs {
+        text: MemoryInput::new(given.text, step),
+        content: MemoryInput::new(given.content, step),
+        keys: MemoryInput::new(given.keys, step),
+        random: MemoryInput::new(given.random, step),
+    };
+    performed(alloc, words, &mut inputs, room)
+}
+
+/// The same where the content fails once all of it was read.
+pub(crate) fn outcome_of_failing(
+    alloc: Global,
+    words: &[&str],
+    given: &Given<'_>,
+) -> Result<Done, Refusal> {
+    let mut inputs = Inputs {
+        text: ReaderInput::new(Breaking::new(given.text.as_bytes(), false)),
+        content: ReaderInput::new(Breaking::new(given.content, true)),
+        keys: ReaderInput::new(Breaking::new(given.keys.as_bytes(), false)),
+        random: ReaderInput::new(Breaking::new(given.random, false)),
+    };
+    performed(alloc, words, &mut inputs, ROOM)
+}
+
+/// A reader that gives these octets, and then fails or ends.
+#[derive(Drop)]
+struct Breaking<'a> {
+    octets: &'a [u8],
+    fails: bool,
+}
+
+impl<'a> Breaking<'a> {
+    fn new(octets: &'a [u8], fails: bool) -> Breaking<'a> {
+        Breaking { octets, fails }
+    }
+}
+
+impl<'a> Read for Breaking<'a> {
+    fn read(&mut self, buf: &mut [u8]) -> io::Result<usize> {
+        if self.octets.is_empty() && self.fails {
+            return Err(io::Error::from(io::ErrorKind::Other));
+        }
+        self.octets.read(buf)
+    }
+}
+
+/// What a call of the program has to do.
+#[derive(Clone, Copy)]
+pub(crate) enum Answer<'a> {
+    /// Write this to `-o`, and nothing to `-O`.
+    Text(&'a str),
+    /// Write this to `-O`, and nothing to `-o`.
+    Content(&'a [u8]),
+    /// Write the first to `-o`, and the second to `-O`.
+    Both(&'a str, &'a [u8]),
+    /// Write what has this SHA-256, in base64url, to `-o`, and nothing to `-O`.
+    Digest(&'a [u8]),
+    /// Write what has the first to `-o`, and what has the second to `-O`.
+    Digests(&'a [u8], &'a [u8]),
+    /// Write nothing, and say this.
+    Refusal(Refusal),
+}
+
+/// The words answer so, over inputs that give many octets at a read, and one.
+pub(crate) fn expect<R: Abort + AllocGlobal>(
+    rt: &R,
+    words: &[&str],
+    given: &Given<'_>,
+    answer: Answer<'_>,
+) -> Result<(), Fail> {
+    for step in [4096, 1] {
+        let done = outcome(rt.alloc(), words, given, step, ROOM)?;
+        expect_done(rt, &done, given.text, answer);
+    }
+    Ok(())
+}
+
+pub(crate) fn expect_done<R: Abort>(rt: &R, done: &Done, at: &str, answer: Answer<'_>) {
+    match answer {
+        Answer::Text(text) => {
+            expect_same(rt, done.result, Ok(()), at);
+            expect_written(rt, &done.text, text.as_bytes(), true, at);
+            expect_written(rt, &done.content, b"", false, at);
+        }
+        Answer::Content(content) => {
+            expect_same(rt, done.result, Ok(()), at);
+            expect_written(rt, &done.text, b"", false, at);
+            expect_written(rt, &done.content, content, true, at);
+        }
+        Answer::Both(text, content) => {
+            expect_same(rt, done.result, Ok(()), at);
+            expect_written(rt, &done.text, text.as_bytes(), true, at);
+            expect_written(rt, &done.content, content, true, at);
+        }
+        Answer::Digest(text) => {
+            expect_same(rt, done.result, Ok(()), at);
+            expect_digest(rt, &done.text, text, at);
+            expect_written(rt, &done.content, b"", false, at);
+        }
+        Answer::Digests(text, content) => {
+            expect_same(rt, done.result, Ok(()), at);
+            expect_digest(rt, &done.text, text, at);
+            expect_digest(rt, &done.content, content, at);
+        }
+        Answer::Refusal(refusal) => {
+            expect_same(rt, done.result, Err(refusal), at);
+            expect_written(rt, &done.text, b"", false, at);
+            expect_written(rt, &done.content, b"", false, at);
+        }
+    }
+}
+
+pub(crate) fn expect_written<R: Abort>(
+    rt: &R,
+    output: &MemoryOutput,
+    octets: &[u8],
+    is_finished: bool,
+    at: &str,
+) {
+    expect_octets(rt, output.octets(), octets, at);
+    expect_same(rt, output.is_finished(), is_finished, at);
+}
+
+/// The output holds a beginning of the text, and is not finished.
+pub(crate) fn expect_beginning(rt: &impl Abort, output: &MemoryOutput, text: &[u8]) {
+    let len = output.octets().len();
+    assert!(rt; len <= text.len());
+    expect_written(rt, output, &text[..len], false, "a beginning");
+}
+
+/// The output is finished, and holds what has this SHA-256, in base64url.
+pub(crate) fn expect_digest<R: Abort>(rt: &R, output: &MemoryOutput, wanted: &[u8], at: &str) {
+    let mut octets = [0; 64];
+    let len = digest(HashAlg::S256, output.octets(), &mut octets);
+    let mut text = [0; 86];
+    let len = encode_onto(&octets[..len], &mut text);
+    expect_octets(rt, &text[..len], wanted, at);
+    assert!(rt; output.is_finished(), "at {at}");
+}
+
+/// The two are the same; where they are not, the message says at what. An `assert_eq!` at each place would be proved anew.
+pub(crate) fn expect_same<T: PartialEq + Debug + Drop, N: Debug + Drop>(
+    rt: &impl Abort,
+    found: T,
+    wanted: T,
+    at: N,
+) {
+    assert_eq!(rt; found, wanted, "at {at:?}");
+}
+
+pub(crate) fn expect_octets(rt: &impl Abort, found: &[u8], wanted: &[u8], at: &str) {
+    assert_eq!(rt; *found, *wanted, "at {at}");
+}
+
+/// The words answer so over a text and keys alone.
+pub(crate) fn expect_text<R: Abort + AllocGlobal>(
+    rt: &R,
+    words: &[&str],
+    text: &str,
+    keys: &str,
+    answer: Answer<'_>,
+) -> Result<(), Fail> {
+    expect(rt, words, &Given::of(text, keys), answer)
+}
+
+/// What the words make of a text, a content beside it, and keys.
+pub(crate) fn expect_rows<R: Abort + AllocGlobal>(
+    rt: &R,
+    keys: &str,
+    rows: &[(&[&str], &str, &[u8], Answer<'_>)],
+) -> Result<(), Fail> {
+    for (words, text, content, answer) in rows {
+        let given = Given {
+            text,
+            content,
+            keys,
+            random: b"",
+        };
+        expect(rt, words, &given, *answer)?;
+    }
+    Ok(())
+}
+
+/// Verifying answers so.
+pub(crate) fn verifies<R: Abort + AllocGlobal>(
+    rt: &R,
+    text: &str,
+    keys: &str,
+    answer: Answer<'_>,
+) -> Result<(), Fail> {
+    expect_text(rt, &VERIFY, text, keys, answer)
+}
+
+/// Decrypting answers so.
+pub(crate) fn decrypts<R: Abort + AllocGlobal>(
+    rt: &R,
+    text: &str,
+    keys: &str,
+    answer: Answer<'_>,
+) -> Result<(), Fail> {
+    expect_text(rt, &DECRYPT, text, keys, answer)
+}
+
+/// Encrypting `LINE` answers so.
+pub(crate) fn encrypts<R: Abort + AllocGlobal>(
+    rt: &R,
+    words: &[&str],
+    template: &str,
+    keys: &str,
+    random: &[u8],
+    answer: Answer<'_>,
+) -> Result<(), Fail> {
+    let given = Given {
+        text: template,
+        content: LINE,
+        keys,
+        random,
+    };
+    expect(rt, words, &given, answer)
+}
+
+/// By each of these templates and keys nothing is encrypted, for this cause.
+pub(crate) fn encrypts_nothing<R: Abort + AllocGlobal>(
+    rt: &R,
+    rows: &[(&str, &str, Refusal)],
+) -> Result<(), Fail> {
+    for (template, keys, refusal) in rows {
+        let refused = Answer::Refusal(*refusal);
+        encrypts(rt, &ENCRYPT, template, keys, OCTETS_FROM_0, refused)?;
+    }
+    Ok(())
+}
+
+/// What is encrypted of the content by the first words is decrypted to it by the second, with what is beside the text, if anything.
+pub(crate) fn comes_back<R: Abort + AllocGlobal>(
+    rt: &R,
+    encrypting: &[&str],
+    decrypting: &[&str],
+    template: &str,
+    keys: &str,
+    content: &[u8],
+) -> Result<(), Fail> {
+    let given = Given {
+        text: template,
+        content,
+        keys,
+        random: OCTETS_FROM_1,
+    };
+    let encrypted = outcome(rt.alloc(), encrypting, &given, 4096, ROOM)?;
+    let given = Given {
+        text: str::from_utf8(encrypted.text.octets()).unwrap_or(""),
+        content: encrypted.content.octets(),
+        keys,
+        random: b"",
+    };
+    let decrypted = outcome(rt.alloc(), decrypting, &given, 4096, ROOM)?;
+    expect_octets(rt, decrypted.content.octets(), content, template);
+    expect_same(rt, decrypted.result, Ok(()), template);
+    Ok(())
+}
+
+/// `LINE`, or a refusal, and this work.
+pub(crate) fn expect_work<R: Abort + AllocGlobal>(
+    rt: &R,
+    text: &str,
+    keys: &str,
+    work: Work,
+    answer: Result<(), Refusal>,
+) -> Result<(), Fail> {
+    expect_opening(rt, text, keys, LINE, work, answer)
+}
+
+/// The plaintext, or a refusal, and this work.
+pub(crate) fn expect_opening<R: Abort + AllocGlobal>(
+    rt: &R,
+    text: &str,
+    keys: &str,
+    plaintext: &[u8],
+    work: Work,
+    answer: Result<(), Refusal>,
+) -> Result<(), Fail> {
+    let set = KeySet::read(rt.alloc(), keys.as_bytes(), false)?;
+    let jwe = Jwe::read(rt.alloc(), text.as_bytes(), None)?;
+    let mut out = MemoryOutput::new(rt.alloc(), 64)?;
+    let (told, ended) = jwe_decrypt(rt.alloc(), &set, jwe, &mut out);
+    expect_same(rt, ended, answer, text);
+    expect_same(rt, told, work, text);
+    expect_octets(
+        rt,
+        out.octets(),
+        if answer.is_ok() { plaintext } else { b"" },
+        text,
+    );
+    Ok(())
+}

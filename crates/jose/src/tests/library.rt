@@ -1,0 +1,10 @@
+//! Calls of the crates below, each with ample memory: what they read, build and write, and what they refuse with which cause.
+
+pub(crate) mod building;
+mod frames;
+mod headers;
+pub(crate) mod jwe;
+mod jws;
+mod key_templates;
+mod key_texts;
+mod signing;

@@ -1,0 +1,57 @@
+//! What `jws_sign` signs `jws_verify` verifies, with its key alone. The signature is by Python's `hmac`.
+use crate::tests::harness::{expect_octets, expect_same, expect_written};
+use crate::tests::samples::KEY_TO_31;
+use crate::tests::standards::rfc7515::RFC7515_KEY;
+use keys::KeySet;
+use objects::Jws;
+use octets::{MemoryInput, MemoryOutput, Refusal};
+use std::process::Abort;
+use std::test::Fail;
+use tokens::{jws_sign, jws_verify};
+
+/// `abc` signed with `KEY_TO_31`.
+const ABC: &[u8] = b"eyJhbGciOiJIUzI1NiJ9.YWJj.8-sUlaJJTTOyeAYgv-kHNN9tT55A-tUCHOYatGHTJa0";
+
+#[test]
+fn a_payload_is_signed_with_its_key(rt: HostRuntime) -> Result<(), Fail> {
+    let key = KeySet::read(rt.alloc(), KEY_TO_31.as_bytes(), true)?;
+    let mut payload = MemoryInput::new(b"abc", 1);
+    let mut text = MemoryOutput::new(rt.alloc(), 256)?;
+    let signed = jws_sign(rt.alloc(), &key, b"{}", true, &mut payload, &mut text, None);
+    expect_same(&rt, signed, Ok(()), "signing");
+    expect_octets(&rt, text.octets(), ABC, "the token");
+    Ok(())
+}
+
+/// Verifying `ABC` with the keys answers so, and this is written.
+fn expect_verified<R: Abort + AllocGlobal>(
+    rt: &R,
+    keys: &str,
+    wanted: bool,
+    answer: Result<(), Refusal>,
+    written: &[u8],
+) -> Result<(), Fail> {
+    let keys = KeySet::read(rt.alloc(), keys.as_bytes(), false)?;
+    let jws = Jws::read(rt.alloc(), ABC, None)?;
+    let mut content = MemoryOutput::new(rt.alloc(), 16)?;
+    let out = if wanted { Some(&mut content) } else { None };
+    let verified = jws_verify(&keys, &jws, false, out);
+    expect_same(rt, verified, answer, "verifying");
+    expect_written(
+        rt,
+        &content,
+        written,
+        wanted && answer.is_ok(),
+        "the payload",
+    );
+    Ok(())
+}
+
+#[test]
+fn a_signed_payload_verifies_with_its_key_alone(rt: HostRuntime) -> Result<(), Fail> {
+    let refused = Err(Refusal::NotOpened);
+    expect_verified(&rt, KEY_TO_31, true, Ok(()), b"abc")?;
+    expect_verified(&rt, KEY_TO_31, false, Ok(()), b"")?;
+    expect_verified(&rt, RFC7515_KEY, true, refused, b"")?;
+    expect_verified(&rt, RFC7515_KEY, false, refused, b"")
+}

@@ -1,0 +1,45 @@
+//! Objects of other programs, which open here. Those that are composed with Python have stated random octets, and what is encrypted
+//! of these is the same text.
+
+mod general_form;
+mod jwcrypto;
+mod latchset;
+pub(crate) mod python;
+pub(crate) mod python_gcm_key_wrap;
+pub(crate) mod python_password;
+pub(crate) mod python_several_keys;
+
+use crate::tests::command_words::DECRYPT;
+use crate::tests::harness::{Answer, Given, ROOM, decrypts, encrypts, expect_done, outcome};
+use crate::tests::samples::octets_from_0;
+use crate::tests::standards::rfc7516::LINE;
+use std::process::Abort;
+use std::test::Fail;
+
+/// The objects are decrypted so.
+pub(crate) fn expect_each<R: Abort + AllocGlobal>(
+    rt: &R,
+    objects: &[(&str, &str)],
+    answer: Answer<'_>,
+) -> Result<(), Fail> {
+    for (text, keys) in objects {
+        let given = Given::of(text, keys);
+        let done = outcome(rt.alloc(), &DECRYPT, &given, 4096, ROOM)?;
+        expect_done(rt, &done, text, answer);
+    }
+    Ok(())
+}
+
+/// Of each template, keys and so many of the octets from 0 on `LINE` becomes this text, which the keys decrypt.
+pub(crate) fn gives_and_opens<R: Abort + AllocGlobal>(
+    rt: &R,
+    words: &[&str],
+    rows: &[(&str, &str, usize, &str)],
+) -> Result<(), Fail> {
+    for (template, keys, drawn, text) in rows {
+        let random = octets_from_0(*drawn);
+        encrypts(rt, words, template, keys, random, Answer::Text(text))?;
+        decrypts(rt, text, keys, Answer::Content(LINE))?;
+    }
+    Ok(())
+}

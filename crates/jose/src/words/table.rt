@@ -1,0 +1,221 @@
+//! The commands of the program, in one table: their words, and what each option takes and names.
+ghost use Rattle.std.specs.Prelude.{◌≡◌, find, map, option_map, true, IfSome};
+ghost use Rattle.clap.specs.Words.{is_simple_and_free};
+ghost use Rattle.jose.specs.Commands.{commands, command_named, has_words};
+ghost use Rattle.jose.specs.Rows.{command_entry, option_entry};
+ghost use Rattle.jose.specs.Reading.{app_for};
+
+/// What the program can be asked to do.
+#[derive(Clone, Copy, Debug, PartialEq, Eq)]
+pub enum Command {
+    /// `jwk gen`: make a key.
+    JwkGen,
+    /// `jwk thp`: the thumbprints of keys.
+    JwkThp,
+    /// `b64 enc`: the base64url text of octets.
+    B64Enc,
+    /// `b64 dec`: the octets of a base64url text.
+    B64Dec,
+    /// `jws sig`: sign a payload.
+    JwsSig,
+    /// `jws ver`: verify an object.
+    JwsVer,
+    /// `jws fmt`: an object in another form.
+    JwsFmt,
+    /// `jwe enc`: encrypt a plaintext.
+    JweEnc,
+    /// `jwe dec`: decrypt an object.
+    JweDec,
+    /// `jwe fmt`: an object in another form.
+    JweFmt,
+}
+
+/// What an option takes.
+#[derive(Clone, Copy)]
+pub(crate) enum Kind {
+    /// Nothing: it is there or not.
+    Flag,
+    /// A value, which has to be given.
+    Required,
+    /// A value.
+    Optional,
+    /// A value, and this one where none is given.
+    Default(&'static str),
+}
+
+/// What the value of an option names.
+#[derive(Clone, Copy, PartialEq, Eq)]
+pub(crate) enum Role {
+    /// An input: a file, or `-` for standard input.
+    Input,
+    /// An output: a file, or `-` for standard output.
+    Output,
+    /// Neither.
+    Neither,
+}
+
+/// An option: its letter, a name for what it is for, what it takes, and what its value names.
+#[derive(Clone, Copy)]
+pub(crate) struct OptionRow(
+    pub(crate) char,
+    pub(crate) &'static str,
+    pub(crate) Kind,
+    pub(crate) Role,
+);
+
+/// A command: the two words that pick it, and its options.
+#[derive(Clone, Copy)]
+pub(crate) struct CommandRow {
+    pub(crate) command: Command,
+    pub(crate) noun: &'static str,
+    pub(crate) verb: &'static str,
+    pub(crate) options: &'static [OptionRow],
+}
+
+/// All commands.
+static COMMANDS: [CommandRow; 10] = [
+    CommandRow {
+        command: Command::JwkGen,
+        noun: "jwk",
+        verb: "gen",
+        options: &[
+            OptionRow('i', "template", Kind::Required, Role::Input),
+            OptionRow('o', "key", Kind::Default("-"), Role::Output),
+            OptionRow('R', "random", Kind::Optional, Role::Input),
+        ],
+    },
+    CommandRow {
+        command: Command::JwkThp,
+        noun: "jwk",
+        verb: "thp",
+        options: &[
+            OptionRow('i', "keys", Kind::Default("-"), Role::Input),
+            OptionRow('a', "hash", Kind::Default("S256"), Role::Neither),
+            OptionRow('o', "thumbprints", Kind::Default("-"), Role::Output),
+        ],
+    },
+    CommandRow {
+        command: Command::B64Enc,
+        noun: "b64",
+        verb: "enc",
+        options: &[
+            OptionRow('I', "octets", Kind::Default("-"), Role::Input),
+            OptionRow('o', "text", Kind::Default("-"), Role::Output),
+        ],
+    },
+    CommandRow {
+        command: Command::B64Dec,
+        noun: "b64",
+        verb: "dec",
+        options: &[
+            OptionRow('i', "text", Kind::Default("-"), Role::Input),
+            OptionRow('O', "octets", Kind::Default("-"), Role::Output),
+        ],
+    },
+    CommandRow {
+        command: Command::JwsSig,
+        noun: "jws",
+        verb: "sig",
+        options: &[
+            OptionRow('s', "template", Kind::Default("{}"), Role::Input),
+            OptionRow('I', "payload", Kind::Default("-"), Role::Input),
+            OptionRow('k', "keys", Kind::Required, Role::Input),
+            OptionRow('o', "object", Kind::Default("-"), Role::Output),
+            OptionRow('O', "detached", Kind::Optional, Role::Output),
+            OptionRow('c', "compact", Kind::Flag, Role::Neither),
+        ],
+    },
+    CommandRow {
+        command: Command::JwsVer,
+        noun: "jws",
+        verb: "ver",
+        options: &[
+            OptionRow('i', "object", Kind::Default("-"), Role::Input),
+            OptionRow('I', "detached", Kind::Optional, Role::Input),
+            OptionRow('k', "keys", Kind::Required, Role::Input),
+            OptionRow('a', "all", Kind::Flag, Role::Neither),
+            OptionRow('O', "payload", Kind::Optional, Role::Output),
+        ],
+    },
+    CommandRow {
+        command: Command::JwsFmt,
+        noun: "jws",
+        verb: "fmt",
+        options: &[
+            OptionRow('i', "object", Kind::Default("-"), Role::Input),
+            OptionRow('I', "detached", Kind::Optional, Role::Input),
+            OptionRow('o', "text", Kind::Default("-"), Role::Output),
+            OptionRow('O', "payload", Kind::Optional, Role::Output),
+            OptionRow('c', "compact", Kind::Flag, Role::Neither),
+        ],
+    },
+    CommandRow {
+        command: Command::JweEnc,
+        noun: "jwe",
+        verb: "enc",
+        options: &[
+            OptionRow('i', "template", Kind::Default("{}"), Role::Input),
+            OptionRow('I', "plaintext", Kind::Default("-"), Role::Input),
+            OptionRow('k', "keys", Kind::Required, Role::Input),
+            OptionRow('o', "object", Kind::Default("-"), Role::Output),
+            OptionRow('O', "detached", Kind::Optional, Role::Output),
+            OptionRow('c', "compact", Kind::Flag, Role::Neither),
+            OptionRow('R', "random", Kind::Optional, Role::Input),
+        ],
+    },
+    CommandRow {
+        command: Command::JweDec,
+        noun: "jwe",
+        verb: "dec",
+        options: &[
+            OptionRow('i', "object", Kind::Default("-"), Role::Input),
+            OptionRow('I', "detached", Kind::Optional, Role::Input),
+            OptionRow('k', "keys", Kind::Required, Role::Input),
+            OptionRow('O', "plaintext", Kind::Default("-"), Role::Output),
+        ],
+    },
+    CommandRow {
+        command: Command::JweFmt,
+        noun: "jwe",
+        verb: "fmt",
+        options: &[
+            OptionRow('i', "object", Kind::Default("-"), Role::Input),
+            OptionRow('I', "detached", Kind::Optional, Role::Input),
+            OptionRow('o', "text", Kind::Default("-"), Role::Output),
+            OptionRow('O', "ciphertext", Kind::Optional, Role::Output),
+            OptionRow('c', "compact", Kind::Flag, Role::Neither),
+        ],
+    },
+];
+
+impl CommandRow {
+    fn has_words(&self, noun: &str, verb: &str) -> bool
+        ensures { result ≡ has_words noun.now verb.now (command_entry self.now) }
+    {
+        self.noun == noun && self.verb == verb
+    }
+}
+
+/// The command that has these two words.
+pub(crate) fn command_row(noun: &str, verb: &str) -> Option<&'static CommandRow>
+    ensures row { option_map (λ row. command_entry row.now) result
+        ≡ command_named noun.now verb.now }
+    ensures simple { IfSome result (λ row.
+        is_simple_and_free (app_for (map option_entry row.now.options.now)) ≡ true) }
+{
+    row_among(table(), noun, verb)
+}
+
+#[tactic(auto, unfolding(crate::specs::Commands::commands))]
+pub(crate) fn table() -> &'static [CommandRow]
+    ensures { map command_entry result.now ≡ commands }
+{
+    &COMMANDS
+}
+
+fn row_among<'a>(rows: &'a [CommandRow], noun: &str, verb: &str) -> Option<&'a CommandRow>
+    ensures { option_map (λ row. row.now) result
+        ≡ find (λ row. has_words noun.now verb.now (command_entry row)) rows.now }
+{
+    rows.iter().find(|row| row.has_words(noun, verb))
+}

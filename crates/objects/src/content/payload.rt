@@ -1,0 +1,155 @@
+//! The payload of a signed object, as the base64url text that was received or as octets. A text is checked and written in
+//! pieces, without memory.
+ghost use Rattle.std.specs.Prelude.{◌≡◌, ◌++◌, Err, IfOk, IfErr, OnOk, OnErr, IsTrue};
+ghost use Rattle.octets.specs.Base64url.{base64url, decoded};
+ghost use Rattle.octets.specs.Devices.{next_count, AppendsPrefixOf};
+ghost use Rattle.octets.specs.Outcomes.{AgreesUnlessMemory};
+ghost use Rattle.objects.specs.Texts.{meaning};
+ghost use Rattle.objects.specs.Views.{held_view, payload_view, received_view};
+
+use crate::content::received_text::ReceivedText;
+use octets::laws::{
+    are_octets, base64url_decodes_exactly, base64url_decodes_to_octets,
+    base64url_has_url_characters,
+};
+use octets::{
+    B64Reader, Output, PIECE, PIECE_TEXT, Refusal, Transform, b64_decode, emit, needs,
+    without_line_end, write_whole,
+};
+use std::alloc::Global;
+
+/// The payload of a signed object.
+#[derive(Drop)]
+pub(crate) enum Payload<'t> {
+    Text(ReceivedText<'t>),
+    Octets(Vec<u8>),
+}
+
+/// A content as it is held: the base64url text that was received, or the octets.
+#[derive(Clone, Copy)]
+pub enum HeldContent<'c> {
+    Text(ReceivedText<'c>),
+    Octets(&'c [u8]),
+}
+
+impl<'t> ReceivedText<'t> {
+    /// Refused with `Base64` where the text is no base64url text.
+    pub(crate) fn read(text: &'t [u8]) -> Result<ReceivedText<'t>, Refusal>
+        ensures { AgreesUnlessMemory received_view result (decoded text.entry.now) }
+    {
+        are_octets(text);
+        base64url_decodes_exactly();
+        base64url_decodes_to_octets();
+        check(text)?;
+        Ok(ReceivedText { text })
+    }
+
+    /// The text.
+    pub fn text(&self) -> &'t [u8]
+        ensures { result.now ≡ base64url (received_view self.now) }
+    {
+        self.text
+    }
+}
+
+impl<'t> Payload<'t> {
+    pub(crate) fn held(&self) -> HeldContent<'_>
+        ensures { held_view result ≡ payload_view self.now }
+    {
+        match self {
+            Payload::Text(text) => HeldContent::Text(*text),
+            Payload::Octets(octets) => HeldContent::Octets(octets),
+        }
+    }
+
+    /// A copy of the octets.
+    pub(crate) fn octets(&self, alloc: Global) -> Result<Vec<u8>, Refusal>
+        ensures copy { IfOk result (λ octets. octets.items ≡ payload_view self.now) }
+        ensures memory { IfErr result (λ e. e ≡ Refusal.Memory) }
+    {
+        match self {
+            Payload::Text(text) => meant(alloc, text),
+            Payload::Octets(octets) => copied(alloc, octets),
+        }
+    }
+}
+
+impl HeldContent<'_> {
+    /// Writes the octets, and finishes. It asks for no memory. Where the output fails a beginning of them stands.
+    pub fn write<O: Output>(&self, out: &mut O) -> Result<(), Refusal>
+        ensures all { OnOk result (O.written out.new ≡ O.written out.old ++ held_view self.now) }
+        ensures finished { OnOk result (IsTrue (O.is_finished out.new)) }
+        ensures works { OnOk result (O.failures out.new ≡ O.failures out.old) }
+        ensures part { OnErr result (AppendsPrefixOf (held_view self.now) (O.written out.old) (O.written out.new)) }
+        ensures cause { OnErr result (result ≡ Err Refusal.Write) }
+        ensures fails { OnErr result (O.failures out.new ≡ next_count (O.failures out.old)) }
+    {
+        match self {
+            HeldContent::Text(text) => write_meaning(text, out),
+            HeldContent::Octets(octets) => emit(out, octets),
+        }
+    }
+}
+
+/// Refused with `Base64` where the text is no base64url text.
+fn check(text: &[u8]) -> Result<(), Refusal>
+    ensures { AgreesUnlessMemory (λ done. meaning text.now) result (decoded text.now) }
+{
+    are_octets(text);
+    base64url_decodes_exactly();
+    base64url_decodes_to_octets();
+    base64url_has_url_characters();
+    needs(without_line_end(text).len() == text.len(), Refusal::Base64)?;
+    let mut reader = B64Reader::start();
+    let mut space = [0; PIECE_TEXT];
+    for piece in text.chunks(PIECE) {
+        Transform::feed(&mut reader, piece, &mut space)?;
+    }
+    Transform::finish(reader, &mut space)?;
+    Ok(())
+}
+
+/// Writes the octets that the text means, and finishes.
+fn write_meaning<O: Output>(text: &ReceivedText<'_>, out: &mut O) -> Result<(), Refusal>
+    ensures all { OnOk result (O.written out.new ≡ O.written out.old ++ received_view text.now) }
+    ensures finished { OnOk result (IsTrue (O.is_finished out.new)) }
+    ensures works { OnOk result (O.failures out.new ≡ O.failures out.old) }
+    ensures part { OnErr result (AppendsPrefixOf (received_view text.now) (O.written out.old) (O.written out.new)) }
+    ensures cause { OnErr result (result ≡ Err Refusal.Write) }
+    ensures fails { OnErr result (O.failures out.new ≡ next_count (O.failures out.old)) }
+{
+    are_octets(text.text);
+    base64url_decodes_exactly();
+    base64url_has_url_characters();
+    let mut reader = B64Reader::start();
+    let mut space = [0; PIECE_TEXT];
+    for piece in text.text.chunks(PIECE) {
+        let Ok(octets) = Transform::feed(&mut reader, piece, &mut space) else {
+            unreachable!()
+        };
+        write_whole(out, octets)?;
+    }
+    let Ok((octets, ())) = Transform::finish(reader, &mut space) else {
+        unreachable!()
+    };
+    emit(out, octets)
+}
+
+/// The octets that the text means.
+fn meant(alloc: Global, text: &ReceivedText<'_>) -> Result<Vec<u8>, Refusal>
+    ensures meaning { IfOk result (λ octets. octets.items ≡ received_view text.now) }
+    ensures memory { IfErr result (λ e. e ≡ Refusal.Memory) }
+{
+    base64url_decodes_exactly();
+    b64_decode(alloc, text.text)
+}
+
+/// A copy of the octets.
+fn copied(alloc: Global, octets: &[u8]) -> Result<Vec<u8>, Refusal>
+    ensures copy { IfOk result (λ copy. copy.items ≡ octets.now) }
+    ensures memory { IfErr result (λ e. e ≡ Refusal.Memory) }
+{
+    let mut copy = Vec::new(alloc);
+    copy.extend_from_slice(octets)?;
+    Ok(copy)
+}

@@ -1,0 +1,126 @@
+//! Encrypted objects that are made of their members. It sees no text of an object.
+ghost use Rattle.std.specs.Prelude.{◌≡◌, true, map, nat_le, suc, IfOk, IfErr};
+ghost use Rattle.std.specs.List.{list_all};
+ghost use Rattle.serde_json.specs.Data.{members_depth};
+ghost use Rattle.octets.specs.Outcomes.{AgreesUnlessMemory};
+ghost use Rattle.keys.specs.Json.{member_numbers_are_whole};
+ghost use Rattle.keys.specs.Limits.{limits};
+ghost use Rattle.objects.specs.Jwe.{AreMembers, IsMade, built, is_shallow as is_shallow_object, have_whole_numbers as have_whole_numbers_parts};
+ghost use Rattle.objects.specs.Views.{jwe_view, jwe_members_view, jwe_parts_view, recipient_members_view, recipient_parts_view};
+
+use crate::header::depth::{HEADER_DEPTH, depth_of_each};
+use crate::header::parts::with_whole_numbers;
+use crate::jwe::parts::{JweMembers, JweParts, RecipientMembers, RecipientParts};
+use crate::jwe::{Jwe, encrypted_object};
+use keys::{MOST_RECIPIENTS, members_have_whole_numbers, object_nests_at_most};
+use octets::{Refusal, b64_decode, needs};
+use std::alloc::Global;
+
+impl Jwe {
+    /// The object with these members. Refused as its JSON text would be, in the order of `Jwe::read`: `Json` where that nests
+    /// more than 127 deep; `Number` where a header holds a number that is no whole number of 64 bits; `Form` where there is no
+    /// recipient; `Limit` where there are more than 256; `Base64` where the text of the protected header is no base64url text;
+    /// and then for the headers.
+    pub fn build(alloc: Global, parts: JweParts) -> Result<Jwe, Refusal>
+        ensures exact { AgreesUnlessMemory jwe_view result (built limits (jwe_parts_view parts)) }
+        ensures made { IfOk result (λ jwe. AreMembers (jwe_parts_view parts) → IsMade limits (jwe_view jwe)) }
+    {
+        object_of_parts(alloc, parts)
+    }
+}
+
+/// The object with these members.
+#[tactic(auto, unfolding(crate::specs::Jwe::built))]
+fn object_of_parts(alloc: Global, parts: JweParts) -> Result<Jwe, Refusal>
+    ensures { AgreesUnlessMemory jwe_view result (built limits (jwe_parts_view parts)) }
+{
+    needs(is_shallow(&parts), Refusal::Json)?;
+    needs(have_whole_numbers(&parts), Refusal::Number)?;
+    needs(!parts.recipients.is_empty(), Refusal::Form)?;
+    needs(parts.recipients.len() <= MOST_RECIPIENTS, Refusal::Limit)?;
+    let protected = b64_decode(alloc, parts.protected.as_bytes())?;
+    let members = members_of_parts(alloc, parts)?;
+    encrypted_object(alloc, &protected, members)
+}
+
+/// No header is too deep for the JSON text.
+#[tactic(auto, using(crate::proofs::Each::views))]
+fn is_shallow(parts: &JweParts) -> bool
+    ensures { result ≡ is_shallow_object (jwe_parts_view parts.now) }
+{
+    object_nests_at_most(&parts.unprotected, HEADER_DEPTH)
+        && headers_nest_at_most(&parts.recipients, depth_of_each(parts.recipients.len()))
+}
+
+fn headers_nest_at_most(recipients: &[RecipientParts], depth: usize) -> bool
+    ensures { result ≡ list_all (λ r. nat_le (suc (members_depth (recipient_parts_view r).header)) depth) recipients.now }
+{
+    recipients
+        .iter()
+        .all(|recipient| object_nests_at_most(&recipient.header, depth))
+}
+
+/// No header holds a number that is not whole.
+#[tactic(auto, using(crate::proofs::Each::views))]
+fn have_whole_numbers(parts: &JweParts) -> bool
+    ensures { result ≡ have_whole_numbers_parts (jwe_parts_view parts.now) }
+{
+    members_have_whole_numbers(&parts.unprotected) && headers_have_whole_numbers(&parts.recipients)
+}
+
+fn headers_have_whole_numbers(recipients: &[RecipientParts]) -> bool
+    ensures { result ≡ list_all (λ r. member_numbers_are_whole (recipient_parts_view r).header) recipients.now }
+{
+    recipients
+        .iter()
+        .all(|recipient| members_have_whole_numbers(&recipient.header))
+}
+
+/// The members, whose numbers are whole.
+#[tactic(auto, using(crate::proofs::Each::views))]
+fn members_of_parts(alloc: Global, parts: JweParts) -> Result<JweMembers, Refusal>
+    requires { have_whole_numbers_parts (jwe_parts_view parts) ≡ true }
+    ensures members { IfOk result (λ members. jwe_members_view members ≡ jwe_parts_view parts) }
+    ensures memory { IfErr result (λ e. e ≡ Refusal.Memory) }
+{
+    let JweParts {
+        protected,
+        unprotected,
+        iv,
+        aad,
+        ciphertext,
+        tag,
+        recipients,
+    } = parts;
+    Ok(JweMembers {
+        protected,
+        unprotected: with_whole_numbers(unprotected),
+        iv,
+        aad,
+        ciphertext,
+        tag,
+        recipients: members_of_recipients(alloc, recipients)?,
+    })
+}
+
+fn members_of_recipients(
+    alloc: Global,
+    parts: Vec<RecipientParts>,
+) -> Result<Vec<RecipientMembers>, Refusal>
+    requires { list_all (λ r. member_numbers_are_whole (recipient_parts_view r).header) parts.items ≡ true }
+    ensures members { IfOk result (λ recipients. map recipient_members_view recipients.items ≡ map recipient_parts_view parts.items) }
+    ensures memory { IfErr result (λ e. e ≡ Refusal.Memory) }
+{
+    let mut recipients = Vec::new(alloc);
+    for recipient in parts {
+        let RecipientParts {
+            header,
+            encrypted_key,
+        } = recipient;
+        recipients.push(RecipientMembers {
+            header: with_whole_numbers(header),
+            encrypted_key,
+        })?;
+    }
+    Ok(recipients)
+}

@@ -1,0 +1,49 @@
+//! What an encrypted object holds: its members, as they are given and as they are kept.
+
+use crate::header::members::HeaderMembers;
+use serde_json::{Map, Value};
+
+/// The members of an encrypted object. An absent one is empty.
+#[derive(Drop)]
+pub struct JweParts {
+    /// The text of the protected header.
+    pub protected: String,
+    /// The shared unprotected header.
+    pub unprotected: Map<String, Value>,
+    /// The initialization vector.
+    pub iv: Vec<u8>,
+    /// The additional data beside the protected header.
+    pub aad: Vec<u8>,
+    pub ciphertext: Vec<u8>,
+    /// The authentication tag.
+    pub tag: Vec<u8>,
+    pub recipients: Vec<RecipientParts>,
+}
+
+/// The same, whose headers have compact texts.
+#[derive(Drop)]
+pub(crate) struct JweMembers {
+    pub(crate) protected: String,
+    pub(crate) unprotected: HeaderMembers,
+    pub(crate) iv: Vec<u8>,
+    pub(crate) aad: Vec<u8>,
+    pub(crate) ciphertext: Vec<u8>,
+    pub(crate) tag: Vec<u8>,
+    pub(crate) recipients: Vec<RecipientMembers>,
+}
+
+/// What an object holds of a recipient. An absent member is empty.
+#[derive(Drop)]
+pub struct RecipientParts {
+    /// The per-recipient unprotected header (RFC 7516 section 7.2.1): the member `header`.
+    pub header: Map<String, Value>,
+    /// The encrypted key, of no octets where the content encryption key is agreed on.
+    pub encrypted_key: Vec<u8>,
+}
+
+/// The same, whose header has a compact text.
+#[derive(Drop)]
+pub(crate) struct RecipientMembers {
+    pub(crate) header: HeaderMembers,
+    pub(crate) encrypted_key: Vec<u8>,
+}

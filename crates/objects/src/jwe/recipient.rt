@@ -1,0 +1,165 @@
+//! The recipients of an encrypted object (RFC 7516). It sees their headers, and no key.
+ghost use Rattle.std.specs.Prelude.{◌≡◌, true, length, map, IfOk};
+ghost use Rattle.serde_json.specs.View.{members_view};
+ghost use Rattle.octets.specs.Outcomes.{AgreesUnlessMemory};
+ghost use Rattle.keys.specs.Algorithms.{management_alg_of};
+ghost use Rattle.keys.specs.Limits.{limits};
+ghost use Rattle.objects.specs.Jwe.{recipient_of, has_no_crit_or_zip, recipients_of, recipients_of_one_enc, have_one_enc as have_one_enc_of};
+ghost use Rattle.objects.specs.KeyManagement.{is_management_of};
+ghost use Rattle.objects.specs.KeyManagementView.{management_view};
+ghost use Rattle.objects.specs.Views.{recipient_view, recipient_members_view};
+ghost use Rattle.std.specs.List.{list_all};
+ghost use Rattle.std.specs.Str.{bytes_eq};
+
+use crate::header::members::HeaderMembers;
+use crate::header::parts::{has_no_crit, part_member};
+use crate::header::string_there;
+use crate::jwe::parts::RecipientMembers;
+use crate::key_management::named::NamedManagement;
+use crate::key_management::read_key_management;
+use crate::{Header, KeyManagement};
+use octets::{Refusal, needs};
+use serde_json::{Map, Value};
+use std::alloc::Global;
+
+/// A recipient: its members, and what its joint header says of the algorithms.
+#[derive(Drop)]
+pub struct Recipient {
+    pub(crate) header: HeaderMembers,
+    encrypted_key: Vec<u8>,
+    named: NamedManagement,
+    enc: String,
+}
+
+/// The recipient, by the other parts of its joint header. Refused with `Header` where a name stands in two parts;
+/// where `alg` or `enc` is absent or no string; where the algorithm derives a key from a password, where `p2s` is not the
+/// base64url text of at least 8 octets, or `p2c` no whole number from 1; and, where it wraps a key by AES in GCM, where
+/// `iv` or `tag` is no base64url text.
+#[tactic(auto, unfolding(crate::specs::Jwe::recipient_of, crate::specs::Jwe::recipient_by, crate::specs::Headers::string_there))]
+pub(crate) fn read_recipient(
+    alloc: Global,
+    protected: &Map<String, Value>,
+    unprotected: &Map<String, Value>,
+    members: RecipientMembers,
+) -> Result<Recipient, Refusal>
+    ensures { AgreesUnlessMemory recipient_view result (recipient_of limits.management (members_view protected.now.entries)
+        (members_view unprotected.now.entries) (recipient_members_view members)) }
+{
+    let header = Header::joint(
+        Some(protected),
+        Some(unprotected),
+        Some(&members.header.map),
+    )?;
+    let alg = string_there(alloc, header.alg()?)?;
+    let enc = string_there(alloc, header.enc()?)?;
+    let management = read_key_management(alloc, &alg, header)?;
+    let RecipientMembers {
+        header,
+        encrypted_key,
+    } = members;
+    Ok(Recipient {
+        header,
+        encrypted_key,
+        named: NamedManagement { alg, management },
+        enc,
+    })
+}
+
+impl Recipient {
+    /// Its per-recipient unprotected header (RFC 7516 section 7.2.1): the member `header`.
+    pub fn header(&self) -> &Map<String, Value>
+        ensures { members_view result.now.entries ≡ (recipient_view self.now).header }
+    {
+        &self.header.map
+    }
+
+    /// Its encrypted key.
+    pub fn encrypted_key(&self) -> &[u8]
+        ensures { result.now ≡ (recipient_view self.now).encrypted_key }
+    {
+        &self.encrypted_key
+    }
+
+    /// The name of the algorithm of key management (RFC 7516 section 4.1.1).
+    pub fn alg(&self) -> &str
+        ensures { result.now ≡ (recipient_view self.now).alg }
+    {
+        &self.named.alg
+    }
+
+    /// The name of the algorithm of content encryption (RFC 7516 section 4.1.2).
+    pub fn enc(&self) -> &str
+        ensures { result.now ≡ (recipient_view self.now).enc }
+    {
+        &self.enc
+    }
+
+    /// How its key delivers the content encryption key, with the parameters that its algorithm reads (RFC 7518 section 4).
+    pub fn management(&self) -> &KeyManagement
+        ensures management { management_view result.now ≡ (recipient_view self.now).management }
+        ensures of_alg { is_management_of (management_alg_of (recipient_view self.now).alg) (recipient_view self.now).management ≡ true }
+    {
+        &self.named.management
+    }
+}
+
+/// The header has neither a `crit` nor a `zip`, whatever they hold: no extension is known (RFC 7515 section 4.1.11),
+/// and no content is compressed (RFC 7516 section 4.1.3).
+pub(crate) fn has_no_crit_or_zip(header: &Map<String, Value>) -> bool
+    ensures { result ≡ has_no_crit_or_zip (members_view header.now.entries) }
+{
+    has_no_crit(header) && part_member(Some(header), "zip").is_none()
+}
+
+/// The recipients, whose `enc` is the same for all.
+#[tactic(auto, unfolding(crate::specs::Jwe::recipients_of_one_enc), using(crate::proofs::Each::as_many_views))]
+pub(crate) fn recipients_of_one_enc(
+    alloc: Global,
+    protected: &Map<String, Value>,
+    unprotected: &Map<String, Value>,
+    parts: Vec<RecipientMembers>,
+) -> Result<Vec<Recipient>, Refusal>
+    ensures as_many { IfOk result (λ recipients. length recipients.items ≡ length parts.items) }
+    ensures exact { AgreesUnlessMemory (λ recipients. map recipient_view recipients.items) result
+        (recipients_of_one_enc limits.management (members_view protected.now.entries) (members_view unprotected.now.entries) (map recipient_members_view parts.items)) }
+{
+    let recipients = read_recipients(alloc, protected, unprotected, parts)?;
+    needs(have_one_enc(&recipients), Refusal::Header)?;
+    Ok(recipients)
+}
+
+/// The recipients, in order, by the other parts of their joint headers.
+#[tactic(auto, using(crate::proofs::Each::reading))]
+fn read_recipients(
+    alloc: Global,
+    protected: &Map<String, Value>,
+    unprotected: &Map<String, Value>,
+    parts: Vec<RecipientMembers>,
+) -> Result<Vec<Recipient>, Refusal>
+    ensures { AgreesUnlessMemory (λ recipients. map recipient_view recipients.items) result
+        (recipients_of limits.management (members_view protected.now.entries) (members_view unprotected.now.entries) (map recipient_members_view parts.items)) }
+{
+    let mut recipients = Vec::new(alloc);
+    for recipient in parts {
+        recipients.push(read_recipient(alloc, protected, unprotected, recipient)?)?;
+    }
+    Ok(recipients)
+}
+
+/// `enc` is the same for all.
+#[tactic(auto, using(crate::proofs::Recipients::one_enc))]
+fn have_one_enc(recipients: &[Recipient]) -> bool
+    ensures { result ≡ have_one_enc_of (map recipient_view recipients.now) }
+{
+    match recipients {
+        [] => true,
+        [first, ..] => have_enc(recipients, first.enc()),
+    }
+}
+
+/// All have this `enc`.
+fn have_enc(recipients: &[Recipient], enc: &str) -> bool
+    ensures { result ≡ list_all (λ r. bytes_eq (recipient_view r).enc enc.now) recipients.now }
+{
+    recipients.iter().all(|recipient| recipient.enc() == enc)
+}

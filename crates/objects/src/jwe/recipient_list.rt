@@ -1,0 +1,12 @@
+//! A list of recipients that is not too long.
+ghost use Rattle.std.specs.Prelude.{◌≤◌, length};
+ghost use Rattle.keys.specs.Limits.{limits};
+
+use crate::jwe::recipient::Recipient;
+
+/// The recipients of an object: 64 at most.
+#[derive(Drop)]
+pub(crate) struct RecipientList {
+    pub(crate) list: Vec<Recipient>,
+    ghost few: { length list.items ≤ limits.recipients },
+}

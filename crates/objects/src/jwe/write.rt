@@ -1,0 +1,205 @@
+//! The texts of an encrypted object (RFC 7516 section 7). It composes what the object holds, and refuses only what a
+//! form cannot hold.
+ghost use Rattle.std.specs.Prelude.{◌≡◌, ◌≢◌, map, option_map, Err, Ok, IfOk, IfErr, OnOk, OnErr, string_bytes};
+ghost use Rattle.octets.specs.Outcomes.{AgreesUnlessMemory};
+ghost use Rattle.keys.specs.Limits.{limits};
+ghost use Rattle.objects.specs.Frames.{IsJweFrame, jwe_frame};
+ghost use Rattle.objects.specs.Jwe.{IsMade, jwe_of, with_compact, with_members, with_flattened, with_general, with_tag, recipient_parts_of, parts_of, jwe_written, json_text, jwe_compact_text, jwe_text, is_compact as is_compact_object, key_of_first};
+ghost use Rattle.objects.specs.Texts.{handed_in};
+ghost use Rattle.objects.specs.Views.{held_view, jwe_view, recipient_view, written_view};
+
+use crate::content::payload::HeldContent;
+use crate::header::parts::has_members;
+use crate::jwe::Jwe;
+use crate::jwe::recipient::Recipient;
+use crate::laws::jwe_texts_spell_objects;
+use crate::writer::{Listed, TextWriter, inside};
+use octets::{Refusal, needs};
+use std::alloc::Global;
+
+impl Jwe {
+    /// The JSON text, its members in byte order of their names: flattened where there is one recipient, and else general
+    /// (RFC 7516 section 7.2). An optional member that is empty is left out, and so is the ciphertext where it is detached.
+    pub fn to_json(&self, alloc: Global, detach: bool) -> Result<String, Refusal>
+        ensures exact { AgreesUnlessMemory string_bytes result (Ok (json_text detach (jwe_view self.now))) }
+        ensures spells { IsMade limits (jwe_view self.now) → IfOk result (λ text. jwe_of limits (handed_in detach (jwe_view self.now).ciphertext) (string_bytes text) ≡ Ok (jwe_view self.now)) }
+    {
+        self.to_text(alloc, false, detach)
+    }
+
+    /// The compact text (RFC 7516 section 7.1), in which the part of a detached ciphertext is empty. Refused with
+    /// `NotCompact` where the object has more than one recipient, a header that is not protected, or additional data of its
+    /// own.
+    pub fn to_compact(&self, alloc: Global, detach: bool) -> Result<String, Refusal>
+        ensures exact { AgreesUnlessMemory string_bytes result (jwe_compact_text detach (jwe_view self.now)) }
+        ensures spells { IsMade limits (jwe_view self.now) → IfOk result (λ text. jwe_of limits (handed_in detach (jwe_view self.now).ciphertext) (string_bytes text) ≡ Ok (jwe_view self.now)) }
+    {
+        self.to_text(alloc, true, detach)
+    }
+
+    /// Its text in compact form where that is asked for, or else in JSON form, as `to_compact` and `to_json` have it.
+    pub fn to_text(&self, alloc: Global, compact: bool, detach: bool) -> Result<String, Refusal>
+        ensures exact { AgreesUnlessMemory string_bytes result (jwe_text compact detach (jwe_view self.now)) }
+        ensures spells { IsMade limits (jwe_view self.now) → IfOk result (λ text. jwe_of limits (handed_in detach (jwe_view self.now).ciphertext) (string_bytes text) ≡ Ok (jwe_view self.now)) }
+    {
+        jwe_texts_spell_objects();
+        Ok(self.written(alloc, false, compact, detach)?.into_text())
+    }
+
+    /// The texts that stand before, between and after the base64url texts of a ciphertext, which has no place where it is
+    /// detached, and of the tag; in compact form where that is asked for, or else in JSON form. The object's own ciphertext
+    /// and tag do not matter. Refused with `NotCompact` as `to_compact` is.
+    pub fn frame(&self, alloc: Global, compact: bool, detach: bool) -> Result<Vec<String>, Refusal>
+        ensures exact { AgreesUnlessMemory (λ texts. map string_bytes texts.items) result (jwe_frame compact detach (jwe_view self.now)) }
+        ensures texts { IfOk result (λ texts. IsJweFrame compact detach (jwe_view self.now) (map string_bytes texts.items)) }
+        ensures refused { IfErr result (λ e. e ≢ Refusal.Memory → (e ≡ Refusal.NotCompact) × (jwe_text compact detach (jwe_view self.now) ≡ Err Refusal.NotCompact)) }
+    {
+        self.written(alloc, true, compact, detach)?.into_texts()
+    }
+
+    /// What is written of it, with its ciphertext and tag or with places left for these.
+    fn written(
+        &self,
+        alloc: Global,
+        places: bool,
+        compact: bool,
+        detach: bool,
+    ) -> Result<TextWriter, Refusal>
+        ensures { AgreesUnlessMemory written_view result (jwe_written places compact detach (jwe_view self.now)) }
+    {
+        let ciphertext = inside(detach, HeldContent::Octets(self.ciphertext()));
+        let mut texts = TextWriter::new(alloc, places);
+        if compact {
+            needs(is_compact(self), Refusal::NotCompact)?;
+            write_compact(alloc, &mut texts, self, ciphertext)?;
+        } else {
+            texts.begin("{")?;
+            write_members(alloc, &mut texts, self, ciphertext)?;
+            texts.end("}")?;
+        }
+        Ok(texts)
+    }
+}
+
+/// Writes the parts of a compact text.
+fn write_compact(
+    alloc: Global,
+    texts: &mut TextWriter,
+    jwe: &Jwe,
+    ciphertext: Option<HeldContent<'_>>,
+) -> Result<(), Refusal>
+    ensures written { OnOk result (written_view texts.new ≡ with_compact (option_map held_view ciphertext.entry) (parts_of (jwe_view jwe.now)) (written_view texts.old)) }
+    ensures memory { OnErr result (result ≡ Err Refusal.Memory) }
+{
+    texts.push(jwe.protected())?;
+    texts.part(key_of_first(jwe.recipients()))?;
+    texts.part(jwe.iv())?;
+    texts.content_part(alloc, ciphertext)?;
+    texts.place_part(alloc, HeldContent::Octets(jwe.tag()))
+}
+
+/// Writes the members of a JSON text.
+fn write_members(
+    alloc: Global,
+    texts: &mut TextWriter,
+    jwe: &Jwe,
+    ciphertext: Option<HeldContent<'_>>,
+) -> Result<(), Refusal>
+    ensures written { OnOk result (written_view texts.new ≡ with_members (option_map held_view ciphertext.entry) (parts_of (jwe_view jwe.now)) (written_view texts.old)) }
+    ensures memory { OnErr result (result ≡ Err Refusal.Memory) }
+{
+    texts.octets(alloc, "aad", jwe.aad())?;
+    texts.content(alloc, "ciphertext", ciphertext)?;
+    write_flattened(alloc, texts, jwe.recipients())?;
+    texts.octets(alloc, "iv", jwe.iv())?;
+    texts.text(
+        alloc,
+        "protected",
+        String::from_str(alloc, jwe.protected())?,
+    )?;
+    write_general(alloc, texts, jwe.recipients())?;
+    write_tag(alloc, texts, jwe.tag())?;
+    texts.header(alloc, "unprotected", &jwe.unprotected)
+}
+
+/// Writes the members of the one recipient.
+fn write_flattened(
+    alloc: Global,
+    texts: &mut TextWriter,
+    recipients: &[Recipient],
+) -> Result<(), Refusal>
+    ensures written { OnOk result (written_view texts.new ≡ with_flattened (map recipient_parts_of (map recipient_view recipients.now)) (written_view texts.old)) }
+    ensures memory { OnErr result (result ≡ Err Refusal.Memory) }
+{
+    match recipients {
+        [recipient] => recipient.write(alloc, texts),
+        _ => Ok(()),
+    }
+}
+
+/// Writes a list of several recipients, or of none.
+#[tactic(auto, using(crate::proofs::WrittenItems::seen))]
+fn write_general(
+    alloc: Global,
+    texts: &mut TextWriter,
+    recipients: &[Recipient],
+) -> Result<(), Refusal>
+    ensures written { OnOk result (written_view texts.new ≡ with_general (map recipient_parts_of (map recipient_view recipients.now)) (written_view texts.old)) }
+    ensures memory { OnErr result (result ≡ Err Refusal.Memory) }
+{
+    match recipients {
+        [_] => Ok(()),
+        _ => texts.list(alloc, "recipients", recipients),
+    }
+}
+
+impl Listed for Recipient {
+    ghost use Rattle.objects.specs.Jwe.{RecipientParts, recipient_parts_of, with_recipient};
+    ghost use Rattle.objects.specs.Views.{recipient_view};
+
+    ghost Seen = { RecipientParts };
+
+    ghost seen = { λ r. recipient_parts_of (recipient_view r) };
+
+    ghost with_one = { with_recipient };
+
+    fn write(&self, alloc: Global, texts: &mut TextWriter) -> Result<(), Refusal> {
+        texts.octets(alloc, "encrypted_key", self.encrypted_key())?;
+        texts.header(alloc, "header", &self.header)
+    }
+}
+
+/// Leaves a place for the tag, or writes its text where it is not empty.
+fn write_tag(alloc: Global, texts: &mut TextWriter, tag: &[u8]) -> Result<(), Refusal>
+    ensures written { OnOk result (written_view texts.new ≡ with_tag tag.now (written_view texts.old)) }
+    ensures memory { OnErr result (result ≡ Err Refusal.Memory) }
+{
+    if texts.places || !tag.is_empty() {
+        texts.place(alloc, "tag", HeldContent::Octets(tag))?;
+    }
+    Ok(())
+}
+
+/// A compact text has room for all of the object.
+fn is_compact(jwe: &Jwe) -> bool
+    ensures { result ≡ is_compact_object (jwe_view jwe.now) (jwe_view jwe.now).recipients }
+{
+    match jwe.recipients() {
+        [recipient] => {
+            !has_members(jwe.unprotected())
+                && !has_members(recipient.header())
+                && jwe.aad().is_empty()
+        }
+        _ => false,
+    }
+}
+
+/// The encrypted key of the first recipient.
+fn key_of_first(recipients: &[Recipient]) -> &[u8]
+    ensures { result.now ≡ key_of_first (map recipient_parts_of (map recipient_view recipients.now)) }
+{
+    match recipients {
+        [] => b"",
+        [recipient, ..] => recipient.encrypted_key(),
+    }
+}

@@ -1,0 +1,106 @@
+//! Signed objects that are made of their members. It sees no text of an object.
+ghost use Rattle.std.specs.Prelude.{◌≡◌, true, length, map, IfOk};
+ghost use Rattle.std.specs.List.{list_all};
+ghost use Rattle.octets.specs.Outcomes.{AgreesUnlessMemory};
+ghost use Rattle.keys.specs.Json.{member_numbers_are_whole};
+ghost use Rattle.keys.specs.Limits.{limits};
+ghost use Rattle.objects.specs.Jws.{AreMembers, IsMade, built, decoded_part, nest_at_most as nest_at_most_parts, have_whole_numbers as have_whole_numbers_parts};
+ghost use Rattle.objects.specs.Texts.{each};
+ghost use Rattle.objects.specs.Views.{jws_view, jws_parts_view, signature_parts_view, decoded_signature_view};
+
+use crate::content::payload::Payload;
+use crate::header::depth::depth_of_each;
+use crate::header::parts::with_whole_numbers;
+use crate::jws::parts::{DecodedSignature, JwsParts, SignatureMembers, SignatureParts};
+use crate::jws::{Jws, signed_object};
+use keys::{MOST_RECIPIENTS, members_have_whole_numbers, object_nests_at_most};
+use octets::{Refusal, b64_decode, needs};
+use std::alloc::Global;
+
+impl<'t> Jws<'t> {
+    /// The object with these members. Refused as its JSON text would be, in the order of `Jws::read`: `Json` where that nests
+    /// more than 127 deep; `Number` where a header holds a number that is no whole number of 64 bits; `Form` where there is no
+    /// signature; `Limit` where there are more than 256; `Base64` where the text of a protected header is no base64url text; and
+    /// then for the headers.
+    pub fn build(alloc: Global, parts: JwsParts) -> Result<Jws<'t>, Refusal>
+        ensures exact { AgreesUnlessMemory jws_view result (built limits (jws_parts_view parts)) }
+        ensures made { IfOk result (λ jws. AreMembers (jws_parts_view parts) → IsMade limits (jws_view jws)) }
+    {
+        object_of_parts(alloc, parts)
+    }
+}
+
+/// The object with these members.
+#[tactic(auto, unfolding(crate::specs::Jws::built))]
+fn object_of_parts<'t>(alloc: Global, parts: JwsParts) -> Result<Jws<'t>, Refusal>
+    ensures { AgreesUnlessMemory jws_view result (built limits (jws_parts_view parts)) }
+{
+    let JwsParts {
+        payload,
+        signatures,
+    } = parts;
+    let depth = depth_of_each(signatures.len());
+    needs(nest_at_most(&signatures, depth), Refusal::Json)?;
+    needs(have_whole_numbers(&signatures), Refusal::Number)?;
+    needs(!signatures.is_empty(), Refusal::Form)?;
+    needs(signatures.len() <= MOST_RECIPIENTS, Refusal::Limit)?;
+    let signatures = decoded_parts(alloc, signatures)?;
+    signed_object(alloc, Payload::Octets(payload), signatures)
+}
+
+/// No unprotected header nests deeper.
+fn nest_at_most(signatures: &[SignatureParts], depth: usize) -> bool
+    ensures { result ≡ nest_at_most_parts depth (map signature_parts_view signatures.now) }
+{
+    signatures
+        .iter()
+        .all(|signature| object_nests_at_most(&signature.header, depth))
+}
+
+/// No unprotected header holds a number that is not whole.
+fn have_whole_numbers(signatures: &[SignatureParts]) -> bool
+    ensures whole { result ≡ have_whole_numbers_parts (map signature_parts_view signatures.now) }
+    ensures each { result ≡ list_all (λ s. member_numbers_are_whole (signature_parts_view s).header) signatures.now }
+{
+    signatures
+        .iter()
+        .all(|signature| members_have_whole_numbers(&signature.header))
+}
+
+/// With the octets of their protected headers. Refused with `Base64` where the text of one is no base64url text.
+#[tactic(auto, using(crate::proofs::Each::reading))]
+fn decoded_parts(
+    alloc: Global,
+    parts: Vec<SignatureParts>,
+) -> Result<Vec<DecodedSignature>, Refusal>
+    requires { list_all (λ s. member_numbers_are_whole (signature_parts_view s).header) parts.items ≡ true }
+    ensures exact { AgreesUnlessMemory (λ signatures. map decoded_signature_view signatures.items) result (each decoded_part (map signature_parts_view parts.items)) }
+    ensures as_many { IfOk result (λ signatures. length signatures.items ≡ length parts.items) }
+{
+    let mut signatures = Vec::new(alloc);
+    for part in parts {
+        signatures.push(decoded_part(alloc, part)?)?;
+    }
+    Ok(signatures)
+}
+
+#[tactic(auto, unfolding(crate::specs::Jws::decoded_part))]
+fn decoded_part(alloc: Global, parts: SignatureParts) -> Result<DecodedSignature, Refusal>
+    requires { member_numbers_are_whole (signature_parts_view parts).header ≡ true }
+    ensures { AgreesUnlessMemory decoded_signature_view result (decoded_part (signature_parts_view parts)) }
+{
+    let SignatureParts {
+        protected,
+        header,
+        signature,
+    } = parts;
+    let octets = b64_decode(alloc, protected.as_bytes())?;
+    Ok(DecodedSignature {
+        octets,
+        members: SignatureMembers {
+            protected,
+            header: with_whole_numbers(header),
+            signature,
+        },
+    })
+}

@@ -1,0 +1,36 @@
+//! What a signed object holds: its members, as they are given, as they are kept, and with the octets of a protected header.
+
+use crate::header::members::HeaderMembers;
+use serde_json::{Map, Value};
+
+/// What an object holds of a signature. An absent member is empty.
+#[derive(Drop)]
+pub struct SignatureParts {
+    /// The text of the protected header.
+    pub protected: String,
+    /// The unprotected header (RFC 7515 section 7.2.1): the member `header`.
+    pub header: Map<String, Value>,
+    pub signature: Vec<u8>,
+}
+
+/// The members of a signed object.
+#[derive(Drop)]
+pub struct JwsParts {
+    pub payload: Vec<u8>,
+    pub signatures: Vec<SignatureParts>,
+}
+
+/// What an object holds of a signature, whose unprotected header has a compact text.
+#[derive(Drop)]
+pub(crate) struct SignatureMembers {
+    pub(crate) protected: String,
+    pub(crate) header: HeaderMembers,
+    pub(crate) signature: Vec<u8>,
+}
+
+/// With the octets of its protected header.
+#[derive(Drop)]
+pub(crate) struct DecodedSignature {
+    pub(crate) octets: Vec<u8>,
+    pub(crate) members: SignatureMembers,
+}

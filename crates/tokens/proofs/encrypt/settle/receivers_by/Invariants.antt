@@ -1,0 +1,16 @@
+use Rattle.std.proofs.Common.{◌≡◌, length, map, drop}
+use Rattle.keys.specs.Views.{key_view}
+use Rattle.objects.specs.Texts.{each}
+use Rattle.objects.proofs.Each.{with_done}
+use Rattle.tokens.specs.Choosing.{recipient_key_by}
+use Rattle.tokens.specs.Views.{recipient_key_view}
+use Rattle.tokens.proofs.encrypt.settle.receivers_by.Given as goal
+
+-- the receivers so far and those of the keys that are left are all of them
+abbrev pub invariant-loop-key : goal.invariant-loop-key
+invariant-loop-key l =
+    let by = recipient_key_by l.asked in
+    record {
+      exact : each by (map key_view l.keys) ≡ with_done by (map recipient_key_view l.receivers.items) (map key_view (drop l.key-index l.keys));
+      as_many : length l.receivers.items ≡ l.key-index;
+    }

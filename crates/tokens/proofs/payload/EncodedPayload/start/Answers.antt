@@ -1,7 +1,0 @@
-use Rattle.std.proofs.Common.{sym, subst}
-use Rattle.octets.specs.Pumps.{encoding_starts}
-use Rattle.tokens.specs.SigningInputs.{HoldEach}
-use Rattle.tokens.proofs.payload.EncodedPayload.start.Goals as goal
-
-pub returns : goal.returns
-returns g c signers h = (subst (HoldEach g.S.SigningInput.has_taken c.args.inputs.items signers) (sym encoding_starts) h, c.start.ensures)

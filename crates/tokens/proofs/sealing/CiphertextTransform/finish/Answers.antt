@@ -1,5 +1,0 @@
-use Rattle.tokens.proofs.Sealed.{octets_end}
-use Rattle.tokens.proofs.sealing.CiphertextTransform.finish.Goals as goal
-
-pub returns-clause-text : goal.returns-clause-text
-returns-clause-text g c s p fed octets = octets_end s p _ fed.short (c.end-len.ensures.ciphertext s p fed.holds)

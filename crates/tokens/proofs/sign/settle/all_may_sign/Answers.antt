@@ -1,0 +1,13 @@
+use Rattle.std.proofs.Common.{rules, tests, sym, ◌∙◌}
+use Rattle.std.proofs.lemmas.Iterator.{YieldsList-from_slice}
+use Rattle.std.proofs.lemmas.Iterator.Search.{all_from_yields_List}
+use Rattle.std.proofs.lemmas.List.Folds.{list_all-map}
+use Rattle.tokens.specs.Signing.{may_sign}
+use Rattle.tokens.specs.Views.{signer_view}
+use Rattle.tokens.proofs.sign.settle.all_may_sign.Goals as goal
+
+pub returns : goal.returns
+returns c =
+    let signers = c.args.signers.now in
+    all_from_yields_List (λ s. may_sign (signer_view s)) _ _ _ c.all.ensures.ran (YieldsList-from_slice signers cc) (λ x b q k. search (rules, tests))
+    ∙ sym (list_all-map may_sign signer_view signers)

@@ -1,0 +1,158 @@
+//! The delivery of a content encryption key to receivers (RFC 7516 section 5.1, steps 4 to 6). It sees no header and no content.
+ghost use Rattle.std.specs.Prelude.{◌≡◌, ◌≤◌, ◌*◌, ◌||◌, true, not, nat_le, length, map, IfOk, IfErr};
+ghost use Rattle.std.specs.List.{AllByRecursion};
+ghost use Rattle.ciphers.specs.Sealing.{cek_len};
+ghost use Rattle.keys.specs.declared.algorithm.Algorithm.TheVariants.{Encryption as EncryptionWith};
+ghost use Rattle.keys.specs.Algorithms.{is_password_based};
+ghost use Rattle.keys.specs.Keys.{fits};
+ghost use Rattle.keys.specs.Limits.{limits};
+ghost use Rattle.keys.specs.Views.{key_view};
+ghost use Rattle.objects.specs.KeyManagementView.{management_view};
+ghost use Rattle.tokens.specs.Algorithms.{content_alg as content_alg_of};
+ghost use Rattle.tokens.specs.Delivering.{drawn_by, drawn_for, drawn_for_all, management_with, delivery_to, deliveries_to};
+ghost use Rattle.tokens.specs.Views.{recipient_key_view, encryption_plan_view, delivery_view};
+
+use crate::algorithms::{NO_PARAMETERS, key_alg};
+use crate::copies::copied;
+use crate::encrypt::plan::EncryptionPlan;
+use crate::encrypt::recipient_key::RecipientKey;
+use ciphers::{Cek, KeyParameters};
+use keys::{KeyManagementAlg, KeyManagementMode};
+use objects::KeyManagement;
+use octets::Refusal;
+use std::alloc::Global;
+
+/// The octets of a salt input (RFC 7518 section 4.8.1.1).
+pub(crate) const SALT_LEN: usize = 16;
+
+/// The octets of the initialization vector of a key wrap by AES in GCM (RFC 7518 section 4.7.1.1).
+const KEY_IV_LEN: usize = 12;
+
+/// An encrypted key, and how it delivers the content encryption key.
+#[derive(Drop)]
+pub(crate) struct Delivery {
+    pub(crate) alg: KeyManagementAlg,
+    pub(crate) management: KeyManagement,
+    pub(crate) encrypted_key: Vec<u8>,
+}
+
+/// How many octets are drawn for all receivers.
+pub(crate) fn drawn_for_all(receivers: &[RecipientKey<'_>]) -> usize
+    requires { length receivers.now ≤ limits.keys }
+    ensures count { result ≡ drawn_for_all (map recipient_key_view receivers.now) }
+    ensures bound { result ≤ 16 * length receivers.now }
+{
+    let mut count = 0;
+    for receiver in receivers {
+        count += drawn_for(receiver);
+    }
+    count
+}
+
+/// How many of them are drawn for a receiver.
+fn drawn_for(receiver: &RecipientKey<'_>) -> usize
+    ensures count { result ≡ drawn_for (recipient_key_view receiver.now) }
+    ensures bound { result ≤ 16 }
+{
+    drawn_by(receiver.management)
+}
+
+/// How many octets are drawn for an algorithm: the salt input of a password, or the initialization vector of a key wrap by AES
+/// in GCM.
+fn drawn_by(alg: KeyManagementAlg) -> usize
+    ensures count { result ≡ drawn_by alg }
+    ensures bound { result ≤ 16 }
+{
+    match alg.mode() {
+        KeyManagementMode::Direct | KeyManagementMode::KeyWrap => 0,
+        KeyManagementMode::Password => SALT_LEN,
+        KeyManagementMode::GcmKeyWrap => KEY_IV_LEN,
+    }
+}
+
+/// Delivers the content encryption key to the receivers, in order, by the octets that were drawn for them.
+pub(crate) fn deliver_to_all(
+    alloc: Global,
+    encryption: &EncryptionPlan<'_>,
+    drawn: &[u8],
+    cek: &Cek,
+) -> Result<Vec<Delivery>, Refusal>
+    requires drawn { length drawn.now ≡ drawn_for_all (encryption_plan_view encryption.now).receivers }
+    requires fits { length cek.now ≡ cek_len (content_alg_of encryption.now.encryption) }
+    requires direct { AllByRecursion (λ r. r.management ≡ KeyManagementAlg.Dir → cek.now ≡ (key_view r.key.now).octets) encryption.now.receivers.items }
+    ensures deliveries { IfOk result (λ list. map delivery_view list.items
+        ≡ deliveries_to (encryption_plan_view encryption.now) cek.now (encryption_plan_view encryption.now).receivers drawn.now) }
+    ensures memory { IfErr result (λ e. e ≡ Refusal.Memory) }
+{
+    let mut list = Vec::new(alloc);
+    let mut left = drawn;
+    for receiver in &encryption.receivers {
+        let (drawn, rest) = left.split_at(drawn_for(receiver));
+        list.push(deliver(alloc, encryption, receiver, drawn, cek)?)?;
+        left = rest;
+    }
+    Ok(list)
+}
+
+/// Delivers it to a receiver, by the octets that were drawn for it.
+#[tactic(auto, using(crate::proofs::AlgorithmCases::is_key_of, crate::proofs::AlgorithmCases::counts_where_password, crate::proofs::AlgorithmCases::iv_of_drawn))]
+fn deliver(
+    alloc: Global,
+    encryption: &EncryptionPlan<'_>,
+    receiver: &RecipientKey<'_>,
+    drawn: &[u8],
+    cek: &Cek,
+) -> Result<Delivery, Refusal>
+    requires drawn { length drawn.now ≡ drawn_for (recipient_key_view receiver.now) }
+    requires fits { length cek.now ≡ cek_len (content_alg_of encryption.now.encryption) }
+    requires key_fits { fits (key_view receiver.now.key.now) (EncryptionWith receiver.now.management encryption.now.encryption) ≡ true }
+    requires counted { (not (is_password_based receiver.now.management) || nat_le 1 encryption.now.p2c) ≡ true }
+    requires direct { receiver.now.management ≡ KeyManagementAlg.Dir → cek.now ≡ (key_view receiver.now.key.now).octets }
+    ensures delivery { IfOk result (λ made. delivery_view made
+        ≡ delivery_to (encryption_plan_view encryption.now) cek.now (recipient_key_view receiver.now) drawn.now) }
+    ensures memory { IfErr result (λ e. e ≡ Refusal.Memory) }
+{
+    let RecipientKey {
+        key,
+        management: alg,
+    } = *receiver;
+    let parameters = KeyParameters {
+        iv: drawn,
+        p2s: drawn,
+        p2c: encryption.p2c,
+        ..NO_PARAMETERS
+    };
+    let mut buf = [0; 72];
+    let mut tag = [0; 16];
+    let (len, tag_len) = key_alg(alg).wrap_cek(key.octets(), parameters, cek, &mut buf, &mut tag);
+    Ok(Delivery {
+        alg,
+        management: management_with(alloc, alg, drawn, encryption.p2c, &tag[..tag_len])?,
+        encrypted_key: copied(alloc, &buf[..len])?,
+    })
+}
+
+/// How a key delivers the content encryption key, by its algorithm, the octets that were drawn, and the tag that was made.
+fn management_with(
+    alloc: Global,
+    alg: KeyManagementAlg,
+    drawn: &[u8],
+    p2c: u32,
+    tag: &[u8],
+) -> Result<KeyManagement, Refusal>
+    ensures management { IfOk result (λ made. management_view made ≡ management_with alg drawn.now p2c tag.now) }
+    ensures memory { IfErr result (λ e. e ≡ Refusal.Memory) }
+{
+    match alg.mode() {
+        KeyManagementMode::Direct => Ok(KeyManagement::Direct),
+        KeyManagementMode::KeyWrap => Ok(KeyManagement::KeyWrap),
+        KeyManagementMode::Password => Ok(KeyManagement::Password {
+            p2s: copied(alloc, drawn)?,
+            p2c: p2c as u64,
+        }),
+        KeyManagementMode::GcmKeyWrap => Ok(KeyManagement::GcmKeyWrap {
+            iv: copied(alloc, drawn)?,
+            tag: copied(alloc, tag)?,
+        }),
+    }
+}

@@ -1,0 +1,351 @@
+//! The choice of algorithms by a template and keys, and all else that they settle before anything is drawn. It sees no
+//! content.
+ghost use Rattle.std.specs.Prelude.{◌≡◌, ◌≤◌, ◌==◌, ◌*◌, Some, true, false, is_some, length, map, option_map, IfOk, IfErr};
+ghost use Rattle.std.specs.List.{list_all, list_any};
+ghost use Rattle.serde_json.specs.Written.{members_have_float};
+ghost use Rattle.octets.specs.Outcomes.{AgreesUnlessMemory};
+ghost use Rattle.keys.specs.Limits.{limits};
+ghost use Rattle.keys.specs.Views.{key_view};
+ghost use Rattle.objects.specs.Texts.{each};
+ghost use Rattle.objects.specs.Views.{part_view};
+ghost use Rattle.tokens.specs.Choosing.{read_encryption, settle_encryption as settle_encryption_with_keys, recipient_key_by as recipient_key_by_key, direct_key_is_alone, is_direct, encryption_for, chosen_management, management_of_key, management_by_name, management_by_length, chosen_encryption, encryption_by_management, encryption_by_wrap, encryption_by_name, encryption_by_length, may_encrypt, compact_has_room, password_count, chosen_p2c, p2c_may_be_written, is_given, with_name};
+ghost use Rattle.tokens.specs.Views.{recipient_key_view, encryption_plan_view, encryption_template_view};
+
+use crate::encrypt::plan::{EncryptionPlan, Given};
+use crate::encrypt::recipient_key::RecipientKey;
+use crate::encrypt::template::{EncryptionTemplate, read_encryption_template};
+use crate::headers::{copy, is_empty, is_shallow, with_name};
+use keys::{
+    Algorithm, ContentEncryptionAlg, GREATEST_P2C, Key, KeyManagementAlg, KeyManagementMode,
+    KeySet, LEAST_P2C, MOST_ITERATIONS, USUAL_P2C, read_json,
+};
+use octets::{Refusal, needs};
+use std::alloc::Global;
+
+/// What the keys and the template's text settle. Refused as docs/SPECIFICATION.md says under "Encrypting", 1 to 5.
+#[tactic(auto, unfolding(crate::specs::Choosing::read_encryption))]
+pub(crate) fn read_encryption<'k>(
+    alloc: Global,
+    keys: &'k KeySet,
+    template: &[u8],
+    compact: bool,
+) -> Result<EncryptionPlan<'k>, Refusal>
+    ensures { AgreesUnlessMemory encryption_plan_view result (read_encryption limits compact keys.now template.now) }
+{
+    let value = read_json(alloc, template)?;
+    let template = read_encryption_template(alloc, &value)?;
+    settle_encryption(alloc, compact, keys.keys(), template)
+}
+
+/// What keys and a template settle. Refused as docs/SPECIFICATION.md says under "Encrypting", 2 to 5.
+#[tactic(auto, unfolding(crate::specs::Choosing::settle_encryption))]
+fn settle_encryption<'k>(
+    alloc: Global,
+    compact: bool,
+    keys: &'k [Key],
+    template: EncryptionTemplate<'_>,
+) -> Result<EncryptionPlan<'k>, Refusal>
+    requires few { length keys.now ≤ limits.keys }
+    requires no_float { members_have_float (part_view template.protected) ≡ false }
+    requires p2c { IfErr template.asked.p2c (λ e. e ≡ Refusal.Header) }
+    ensures { AgreesUnlessMemory encryption_plan_view result (settle_encryption_with_keys limits compact (map key_view keys.now) (encryption_template_view template.entry)) }
+{
+    let asked = template.asked;
+    let receivers = receivers_by(alloc, asked.management, keys)?;
+    needs(direct_key_is_alone(&receivers), Refusal::Header)?;
+    let encryption = encryption_for(asked.encryption, &receivers)?;
+    needs(
+        all_may_encrypt(encryption, &receivers),
+        Refusal::KeyDoesNotFit,
+    )?;
+    let passwords = password_count(&receivers);
+    let p2c = chosen_p2c(passwords, asked.p2c)?;
+    let shallow = is_shallow(template.protected) && is_shallow(template.unprotected);
+    needs(shallow, Refusal::Limit)?;
+    needs(p2c_may_be_written(passwords, p2c), Refusal::Limit)?;
+    needs(
+        compact_has_room(compact, &receivers, &template),
+        Refusal::NotCompact,
+    )?;
+    let given = Given {
+        alg: asked.management.is_some(),
+        p2c: is_given(asked.p2c),
+    };
+    let protected = copy(alloc, template.protected)?;
+    let protected = with_name(
+        alloc,
+        asked.encryption.is_some(),
+        "enc",
+        encryption.name(),
+        protected,
+    )?;
+    let unprotected = copy(alloc, template.unprotected)?;
+    let EncryptionTemplate { aad, .. } = template;
+    Ok(EncryptionPlan {
+        encryption,
+        receivers,
+        given,
+        p2c: p2c as u32,
+        protected,
+        unprotected,
+        aad,
+    })
+}
+
+/// The receivers that the keys are.
+#[tactic(auto, using(objects::proofs::Each::reading))]
+fn receivers_by<'k>(
+    alloc: Global,
+    asked: Option<KeyManagementAlg>,
+    keys: &'k [Key],
+) -> Result<Vec<RecipientKey<'k>>, Refusal>
+    ensures exact { AgreesUnlessMemory (λ receivers. map recipient_key_view receivers.items) result (each (recipient_key_by_key asked) (map key_view keys.now)) }
+    ensures as_many { IfOk result (λ receivers. length receivers.items ≡ length keys.now) }
+{
+    let mut receivers = Vec::new(alloc);
+    for key in keys {
+        receivers.push(recipient_key_by(asked, key)?)?;
+    }
+    Ok(receivers)
+}
+
+/// The receiver that a key is. Refused with `NoAlgorithm` where nothing says the algorithm of key management, and with
+/// `KeyDoesNotFit` where the key's `alg` is none of encryption.
+#[tactic(auto, unfolding(crate::specs::Choosing::recipient_key_by))]
+fn recipient_key_by<'k>(
+    asked: Option<KeyManagementAlg>,
+    key: &'k Key,
+) -> Result<RecipientKey<'k>, Refusal>
+    ensures { AgreesUnlessMemory recipient_key_view result (recipient_key_by_key asked (key_view key.now)) }
+{
+    let management = chosen_management(asked, key)?;
+    Ok(RecipientKey { key, management })
+}
+
+/// The algorithm of key management of the template, or else that of the key.
+fn chosen_management(
+    asked: Option<KeyManagementAlg>,
+    key: &Key,
+) -> Result<KeyManagementAlg, Refusal>
+    ensures { AgreesUnlessMemory (λ alg. alg) result (chosen_management asked (key_view key.now)) }
+{
+    match asked {
+        Some(alg) => Ok(alg),
+        None => management_of_key(key.alg(), key.octets().len()),
+    }
+}
+
+/// The algorithm that the key's `alg` asks for, or the one that its length implies.
+fn management_of_key(name: Option<&str>, len: usize) -> Result<KeyManagementAlg, Refusal>
+    ensures { AgreesUnlessMemory (λ alg. alg) result (management_of_key (option_map (λ n. n.now) name.entry) len) }
+{
+    match name {
+        None => management_by_length(len).ok_or(Refusal::NoAlgorithm),
+        Some(name) => {
+            let management = KeyManagementAlg::named(name);
+            management_by_name(management, ContentEncryptionAlg::named(name)).ok_or(
+                Refusal::KeyDoesNotFit,
+            )
+        }
+    }
+}
+
+/// The algorithm whose keys have so many octets.
+fn management_by_length(len: usize) -> Option<KeyManagementAlg>
+    ensures { result ≡ management_by_length len }
+{
+    match len {
+        16 => Some(KeyManagementAlg::A128Kw),
+        24 => Some(KeyManagementAlg::A192Kw),
+        32 => Some(KeyManagementAlg::A256Kw),
+        _ => None,
+    }
+}
+
+/// The algorithm of a name: that of content encryption asks for direct use.
+fn management_by_name(
+    management: Option<KeyManagementAlg>,
+    encryption: Option<ContentEncryptionAlg>,
+) -> Option<KeyManagementAlg>
+    ensures { result ≡ management_by_name management encryption }
+{
+    match (management, encryption) {
+        (Some(alg), _) => Some(alg),
+        (None, Some(_)) => Some(KeyManagementAlg::Dir),
+        (None, None) => None,
+    }
+}
+
+/// A key that is used directly is the only one.
+fn direct_key_is_alone(receivers: &[RecipientKey<'_>]) -> bool
+    ensures { result ≡ direct_key_is_alone (map recipient_key_view receivers.now) }
+{
+    receivers.len() <= 1 || !any_is_direct(receivers)
+}
+
+/// Some key is used directly.
+fn any_is_direct(receivers: &[RecipientKey<'_>]) -> bool
+    ensures { result ≡ list_any (λ r. is_direct r.management) (map recipient_key_view receivers.now) }
+{
+    receivers
+        .iter()
+        .any(|receiver| is_direct(receiver.management))
+}
+
+/// The key is used directly.
+pub(crate) fn is_direct(alg: KeyManagementAlg) -> bool
+    ensures { result ≡ is_direct alg }
+{
+    match alg.mode() {
+        KeyManagementMode::Direct => true,
+        KeyManagementMode::KeyWrap | KeyManagementMode::Password | KeyManagementMode::GcmKeyWrap =>
+            false,
+    }
+}
+
+/// The algorithm of content encryption of the template, or else the one that goes with the first receiver.
+fn encryption_for(
+    asked: Option<ContentEncryptionAlg>,
+    receivers: &[RecipientKey<'_>],
+) -> Result<ContentEncryptionAlg, Refusal>
+    ensures { AgreesUnlessMemory (λ alg. alg) result (encryption_for asked (map recipient_key_view receivers.now)) }
+{
+    match receivers.first() {
+        None => Err(Refusal::NoAlgorithm),
+        Some(first) => chosen_encryption(asked, first.management, first.key),
+    }
+}
+
+/// The algorithm of content encryption of the template, or else the one that goes with the key.
+fn chosen_encryption(
+    asked: Option<ContentEncryptionAlg>,
+    management: KeyManagementAlg,
+    key: &Key,
+) -> Result<ContentEncryptionAlg, Refusal>
+    ensures { AgreesUnlessMemory (λ alg. alg) result (chosen_encryption asked management (key_view key.now)) }
+{
+    match asked {
+        Some(alg) => Ok(alg),
+        None => encryption_by_management(management, key).ok_or(Refusal::NoAlgorithm),
+    }
+}
+
+/// The algorithm that goes with key management.
+fn encryption_by_management(management: KeyManagementAlg, key: &Key) -> Option<ContentEncryptionAlg>
+    ensures { result ≡ encryption_by_management management (key_view key.now) }
+{
+    match management.mode() {
+        KeyManagementMode::Direct => match encryption_by_name(key.alg()) {
+            Some(alg) => Some(alg),
+            None => encryption_by_length(key.octets().len()),
+        },
+        KeyManagementMode::KeyWrap | KeyManagementMode::Password | KeyManagementMode::GcmKeyWrap =>
+            encryption_by_wrap(management.kek_len()),
+    }
+}
+
+/// The CBC algorithm whose AES key is as long as the key of the wrap, of so many octets.
+fn encryption_by_wrap(len: usize) -> Option<ContentEncryptionAlg>
+    ensures { result ≡ encryption_by_wrap len }
+{
+    match len {
+        16 => Some(ContentEncryptionAlg::A128CbcHs256),
+        24 => Some(ContentEncryptionAlg::A192CbcHs384),
+        32 => Some(ContentEncryptionAlg::A256CbcHs512),
+        _ => None,
+    }
+}
+
+/// The algorithm that the `alg` of a key names.
+fn encryption_by_name(name: Option<&str>) -> Option<ContentEncryptionAlg>
+    ensures { result ≡ encryption_by_name (option_map (λ n. n.now) name.entry) }
+{
+    ContentEncryptionAlg::named(name?)
+}
+
+/// The algorithm whose key has so many octets, where the key is used directly.
+fn encryption_by_length(len: usize) -> Option<ContentEncryptionAlg>
+    ensures { result ≡ encryption_by_length len }
+{
+    match len {
+        32 => Some(ContentEncryptionAlg::A128CbcHs256),
+        48 => Some(ContentEncryptionAlg::A192CbcHs384),
+        64 => Some(ContentEncryptionAlg::A256CbcHs512),
+        _ => None,
+    }
+}
+
+/// Each key may encrypt, and fits.
+fn all_may_encrypt(encryption: ContentEncryptionAlg, receivers: &[RecipientKey<'_>]) -> bool
+    ensures { result ≡ list_all (may_encrypt encryption) (map recipient_key_view receivers.now) }
+{
+    receivers
+        .iter()
+        .all(|receiver| may_encrypt(encryption, receiver))
+}
+
+/// The key may encrypt by the algorithms, and fits.
+fn may_encrypt(encryption: ContentEncryptionAlg, receiver: &RecipientKey<'_>) -> bool
+    ensures { result ≡ may_encrypt encryption (recipient_key_view receiver.now) }
+{
+    let RecipientKey { key, management } = *receiver;
+    key.allows(management.operations().0) && key.fits(Algorithm::Encryption(management, encryption))
+}
+
+/// How many receivers are passwords.
+fn password_count(receivers: &[RecipientKey<'_>]) -> usize
+    ensures count { result ≡ password_count (map recipient_key_view receivers.now) }
+    ensures few { result ≤ length receivers.now }
+{
+    let mut count = 0;
+    for receiver in receivers {
+        if receiver.management.is_password_based() {
+            count += 1;
+        }
+    }
+    count
+}
+
+/// The iterations for so many passwords: those of the template, or else the usual number. There are none for no password.
+fn chosen_p2c(passwords: usize, asked: Result<Option<u64>, Refusal>) -> Result<u64, Refusal>
+    requires { IfErr asked (λ e. e ≡ Refusal.Header) }
+    ensures { AgreesUnlessMemory (λ p2c. p2c) result (chosen_p2c limits passwords asked) }
+{
+    if passwords == 0 {
+        return Ok(0);
+    }
+    match asked? {
+        None => Ok(USUAL_P2C),
+        Some(p2c) => Ok(p2c),
+    }
+}
+
+/// The iterations are as many as may be written, and for so many passwords together not too many.
+fn p2c_may_be_written(passwords: usize, p2c: u64) -> bool
+    requires { passwords ≤ limits.keys }
+    ensures { result ≡ p2c_may_be_written limits passwords p2c }
+{
+    passwords == 0
+        || LEAST_P2C <= p2c && p2c <= GREATEST_P2C && passwords as u64 * p2c <= MOST_ITERATIONS
+}
+
+/// The template gives the iterations.
+fn is_given(asked: Result<Option<u64>, Refusal>) -> bool
+    ensures { result ≡ is_given asked }
+{
+    match asked {
+        Ok(p2c) => p2c.is_some(),
+        Err(_) => true,
+    }
+}
+
+/// The form has room for what the keys and the template give: a compact text holds one recipient, and a protected header alone.
+fn compact_has_room(
+    compact: bool,
+    receivers: &[RecipientKey<'_>],
+    template: &EncryptionTemplate<'_>,
+) -> bool
+    ensures { result ≡ compact_has_room compact (map recipient_key_view receivers.now) (encryption_template_view template.now) }
+{
+    !compact || receivers.len() <= 1 && is_empty(template.unprotected) && template.aad.is_empty()
+}

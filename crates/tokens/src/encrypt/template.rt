@@ -1,0 +1,153 @@
+//! Templates of encrypted objects. It is given a template's value, and sees no key and no content.
+ghost use Rattle.std.specs.Prelude.{◌≡◌, false, option_map, IfOk, IfErr};
+ghost use Rattle.serde_json.specs.View.{view};
+ghost use Rattle.serde_json.specs.Written.{has_float, members_have_float};
+ghost use Rattle.octets.specs.Outcomes.{AgreesUnlessMemory};
+ghost use Rattle.objects.specs.Views.{header_view, part_view};
+ghost use Rattle.tokens.specs.EncryptionTemplate.{template_texts, management_asked, encryption_asked, supported_management, leaves_parameters, algorithms_asked, encryption_template};
+ghost use Rattle.tokens.specs.Views.{template_texts_view, asked_view, encryption_template_view};
+
+use keys::{ContentEncryptionAlg, KeyManagementAlg, has_only, is_object};
+use objects::{Header, header_at, text_at};
+use octets::{Refusal, b64_decode, needs};
+use serde_json::{Map, Value};
+use std::alloc::Global;
+
+/// The algorithms that a template names, if it does, and the count of iterations that it gives, if it does, or its refusal,
+/// which matters to an algorithm that reads the count.
+#[derive(Clone, Copy)]
+pub(crate) struct AlgorithmsAsked {
+    pub(crate) management: Option<KeyManagementAlg>,
+    pub(crate) encryption: Option<ContentEncryptionAlg>,
+    pub(crate) p2c: Result<Option<u64>, Refusal>,
+}
+
+/// A template of an encrypted object.
+#[derive(Drop)]
+pub(crate) struct EncryptionTemplate<'v> {
+    pub(crate) protected: Option<&'v Map<String, Value>>,
+    pub(crate) unprotected: Option<&'v Map<String, Value>>,
+    pub(crate) aad: Vec<u8>,
+    pub(crate) asked: AlgorithmsAsked,
+}
+
+/// The headers of a template, and the text of its additional data.
+#[derive(Clone, Copy)]
+struct TemplateTexts<'v> {
+    protected: Option<&'v Map<String, Value>>,
+    unprotected: Option<&'v Map<String, Value>>,
+    aad: &'v [u8],
+}
+
+/// The template that a JSON value is. Refused as docs/SPECIFICATION.md says under "Encrypting", 1, from `Form` on.
+#[tactic(auto, unfolding(crate::specs::EncryptionTemplate::encryption_template))]
+pub(crate) fn read_encryption_template(
+    alloc: Global,
+    value: &Value,
+) -> Result<EncryptionTemplate<'_>, Refusal>
+    ensures exact { AgreesUnlessMemory encryption_template_view result (encryption_template (view value.now)) }
+    ensures no_float { IfOk result (λ t. has_float (view value.now) ≡ false
+        → (members_have_float (part_view t.protected) ≡ false) × (members_have_float (part_view t.unprotected) ≡ false)) }
+    ensures p2c { IfOk result (λ t. IfErr t.asked.p2c (λ e. e ≡ Refusal.Header)) }
+{
+    let TemplateTexts {
+        protected,
+        unprotected,
+        aad,
+    } = template_texts(value)?;
+    let aad = b64_decode(alloc, aad)?;
+    let asked = algorithms_asked(protected, unprotected)?;
+    Ok(EncryptionTemplate {
+        protected,
+        unprotected,
+        aad,
+        asked,
+    })
+}
+
+#[tactic(auto, unfolding(crate::specs::EncryptionTemplate::template_texts))]
+fn template_texts(value: &Value) -> Result<TemplateTexts<'_>, Refusal>
+    ensures exact { AgreesUnlessMemory template_texts_view result (template_texts (view value.now)) }
+    ensures no_float { IfOk result (λ t. has_float (view value.now) ≡ false
+        → (members_have_float (part_view t.protected) ≡ false) × (members_have_float (part_view t.unprotected) ≡ false)) }
+{
+    needs(is_object(value), Refusal::Form)?;
+    needs(
+        has_only(value, &["protected", "unprotected", "aad"]),
+        Refusal::Form,
+    )?;
+    let protected = header_at(value, "protected")?;
+    let unprotected = header_at(value, "unprotected")?;
+    let aad = text_at(value, "aad")?;
+    Ok(TemplateTexts {
+        protected,
+        unprotected,
+        aad,
+    })
+}
+
+/// The algorithms that both headers name together, where they do.
+#[tactic(auto, unfolding(crate::specs::EncryptionTemplate::algorithms_asked))]
+fn algorithms_asked<'v>(
+    protected: Option<&'v Map<String, Value>>,
+    unprotected: Option<&'v Map<String, Value>>,
+) -> Result<AlgorithmsAsked, Refusal>
+    ensures exact { AgreesUnlessMemory asked_view result (algorithms_asked (part_view protected.entry) (part_view unprotected.entry)) }
+    ensures p2c { IfOk result (λ asked. IfErr asked.p2c (λ e. e ≡ Refusal.Header)) }
+{
+    let header = Header::joint(protected, unprotected, None)?;
+    let alg = header.alg()?;
+    let enc = header.enc()?;
+    needs(leaves_parameters(header), Refusal::Header)?;
+    needs(
+        !header.has("crit") && !header.has("zip"),
+        Refusal::Unsupported,
+    )?;
+    let management = management_asked(alg)?;
+    let encryption = encryption_asked(enc)?;
+    Ok(AlgorithmsAsked {
+        management,
+        encryption,
+        p2c: header.p2c(),
+    })
+}
+
+/// The parameters that are drawn or made for a recipient are left to encryption, whatever the algorithm (RFC 7518 sections 4.7.1
+/// and 4.8.1.1).
+fn leaves_parameters(header: Header<'_>) -> bool
+    ensures { result ≡ leaves_parameters (header_view header.entry) }
+{
+    !header.has("p2s") && !header.has("iv") && !header.has("tag")
+}
+
+/// The algorithm of key management of the name, where one is given: it must be supported.
+fn management_asked(name: Option<&str>) -> Result<Option<KeyManagementAlg>, Refusal>
+    ensures { AgreesUnlessMemory (λ alg. alg) result (management_asked (option_map (λ n. n.now) name.entry)) }
+{
+    match name {
+        None => Ok(None),
+        Some(name) => supported_management(KeyManagementAlg::named(name)),
+    }
+}
+
+fn supported_management(alg: Option<KeyManagementAlg>) -> Result<Option<KeyManagementAlg>, Refusal>
+    ensures { AgreesUnlessMemory (λ alg. alg) result (supported_management alg) }
+{
+    match alg {
+        None => Err(Refusal::Unsupported),
+        Some(alg) => Ok(Some(alg)),
+    }
+}
+
+/// The algorithm of content encryption of the name, where one is given: it must be supported.
+fn encryption_asked(name: Option<&str>) -> Result<Option<ContentEncryptionAlg>, Refusal>
+    ensures { AgreesUnlessMemory (λ alg. alg) result (encryption_asked (option_map (λ n. n.now) name.entry)) }
+{
+    match name {
+        None => Ok(None),
+        Some(name) => match ContentEncryptionAlg::named(name) {
+            None => Err(Refusal::Unsupported),
+            Some(alg) => Ok(Some(alg)),
+        },
+    }
+}

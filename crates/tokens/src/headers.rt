@@ -1,0 +1,80 @@
+//! Headers that are written, as templates of both kinds of object share them. It sees no key and no content.
+ghost use Rattle.std.specs.Prelude.{◌≡◌, false, IfOk, string_bytes};
+ghost use Rattle.serde_json.specs.View.{members_view};
+ghost use Rattle.serde_json.specs.Written.{members_have_float};
+ghost use Rattle.keys.specs.Limits.{limits};
+ghost use Rattle.objects.specs.Views.{part_view};
+ghost use Rattle.tokens.specs.Template.{header_text, is_shallow, is_empty};
+ghost use Rattle.tokens.specs.Choosing.{with_name};
+
+use keys::{MOST_DEPTH, laws, object_nests_at_most};
+use serde_json::{Map, Value};
+use std::alloc::{AllocError, Global};
+
+/// A copy of a header. An absent one has no members.
+#[tactic(auto, using(crate::proofs::HeaderMembers::copied_members))]
+pub(crate) fn copy(
+    alloc: Global,
+    part: Option<&Map<String, Value>>,
+) -> Result<Map<String, Value>, AllocError>
+    ensures { IfOk result (λ copy. members_view copy.entries ≡ part_view part.entry) }
+{
+    match part {
+        None => Ok(Map::new(alloc)),
+        Some(members) => members.clone(),
+    }
+}
+
+/// The header nests at most 64 deep.
+pub(crate) fn is_shallow(part: Option<&Map<String, Value>>) -> bool
+    ensures { result ≡ is_shallow limits (part_view part.entry) }
+{
+    match part {
+        None => true,
+        Some(members) => object_nests_at_most(members, MOST_DEPTH),
+    }
+}
+
+/// The header has no members.
+#[tactic(auto, using(crate::proofs::HeaderMembers::empty_members))]
+pub(crate) fn is_empty(part: Option<&Map<String, Value>>) -> bool
+    ensures { result ≡ is_empty (part_view part.entry) }
+{
+    match part {
+        None => true,
+        Some(members) => members.is_empty(),
+    }
+}
+
+/// The compact JSON text of a header. One without members has the empty text.
+#[tactic(auto, using(crate::proofs::HeaderMembers::text_of_some, crate::proofs::HeaderMembers::text_of_none))]
+pub(crate) fn header_text(alloc: Global, members: Map<String, Value>) -> Result<String, AllocError>
+    requires { members_have_float (members_view members.entries) ≡ false }
+    ensures { IfOk result (λ text. string_bytes text ≡ header_text (members_view members.entries)) }
+{
+    if members.is_empty() {
+        Ok(String::new(alloc))
+    } else {
+        Value::Object(members).to_string(alloc)
+    }
+}
+
+/// The header with a parameter, where the template does not name its algorithm.
+pub(crate) fn with_name(
+    alloc: Global,
+    named: bool,
+    parameter: &str,
+    name: &str,
+    mut header: Map<String, Value>,
+) -> Result<Map<String, Value>, AllocError>
+    ensures members { IfOk result (λ made. members_view made.entries ≡ with_name named parameter.now name.now (members_view header.entries)) }
+    ensures no_float { IfOk result (λ made. members_have_float (members_view header.entries) ≡ false
+        → members_have_float (members_view made.entries) ≡ false) }
+{
+    laws::members_keep_floats_out();
+    if !named {
+        let value = Value::try_from_str(alloc, name)?;
+        serde_json::put(&mut header, alloc, parameter, value)?;
+    }
+    Ok(header)
+}

@@ -1,9 +1,0 @@
-//! A key that receives the content encryption key.
-use keys::{Key, ManagementAlg};
-
-/// A key, and the algorithm by which it receives the content encryption key.
-#[derive(Clone, Copy)]
-pub(crate) struct Receiver<'k> {
-    pub(crate) key: &'k Key,
-    pub(crate) management: ManagementAlg,
-}

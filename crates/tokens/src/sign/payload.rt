@@ -1,0 +1,115 @@
+//! A payload that is signed as it is read (RFC 7515 section 5.1): each signing input takes its base64url text.
+ghost use Rattle.std.specs.Prelude.{List, []};
+ghost use Rattle.octets.specs.Base64url.{base64url};
+ghost use Rattle.tokens.specs.Signing.{Signer};
+ghost use Rattle.tokens.specs.SigningInputs.{HoldEach, HaveTaken};
+
+use crate::signing_input::{SigningInput, take_each};
+use octets::{B64Writer, PIECE_TEXT, Refusal, Transform};
+
+/// A payload that goes out as its base64url text.
+#[derive(Drop)]
+pub(crate) struct EncodedPayload<S: SigningInput> {
+    inputs: Vec<S>,
+    writer: B64Writer,
+}
+
+impl<S: SigningInput> EncodedPayload<S> {
+    /// None of it was read yet.
+    pub(crate) fn start(inputs: Vec<S>) -> EncodedPayload<S>
+        ensures { (signers : List Signer) → HoldEach S.has_taken inputs.items signers []
+            → HaveTaken S.has_taken result.inputs.items result.writer signers [] }
+    {
+        EncodedPayload {
+            inputs,
+            writer: B64Writer::start(),
+        }
+    }
+}
+
+impl<S: SigningInput> Transform for EncodedPayload<S> {
+    type Rest = Vec<S>;
+
+    ghost use Rattle.octets.specs.Encoding.{encoding};
+    ghost use Rattle.octets.specs.Pumps.{encoding_starts};
+
+    ghost Job = { List Signer };
+
+    ghost plan = { λ signers. encoding };
+
+    ghost is_fed = { λ x signers p. HaveTaken S.has_taken x.inputs.items x.writer signers p };
+
+    ghost is_left = { λ inputs signers p. HoldEach S.has_taken inputs.items signers (base64url p) };
+
+    ghost starts_with_nothing = { λ x signers fed. encoding_starts };
+
+    fn feed<'t>(
+        &mut self,
+        piece: &'t [u8],
+        space: &'t mut [u8; PIECE_TEXT],
+    ) -> Result<&'t [u8], Refusal> {
+        let text = Transform::feed(&mut self.writer, piece, space)?;
+        take_each(&mut self.inputs, text);
+        Ok(text)
+    }
+
+    fn finish<'t>(self, space: &'t mut [u8; PIECE_TEXT]) -> Result<(&'t [u8], Vec<S>), Refusal> {
+        let EncodedPayload { mut inputs, writer } = self;
+        let (text, ()) = Transform::finish(writer, space)?;
+        take_each(&mut inputs, text);
+        Ok((text, inputs))
+    }
+}
+
+/// A payload that goes out as it is.
+#[derive(Drop)]
+pub(crate) struct Payload<S: SigningInput> {
+    inputs: Vec<S>,
+    writer: B64Writer,
+}
+
+impl<S: SigningInput> Payload<S> {
+    /// None of it was read yet.
+    pub(crate) fn start(inputs: Vec<S>) -> Payload<S>
+        ensures { (signers : List Signer) → HoldEach S.has_taken inputs.items signers []
+            → HaveTaken S.has_taken result.inputs.items result.writer signers [] }
+    {
+        Payload {
+            inputs,
+            writer: B64Writer::start(),
+        }
+    }
+}
+
+impl<S: SigningInput> Transform for Payload<S> {
+    type Rest = Vec<S>;
+
+    ghost use Rattle.octets.specs.Plan.{as_it_is};
+
+    ghost Job = { List Signer };
+
+    ghost plan = { λ signers. as_it_is };
+
+    ghost is_fed = { λ x signers p. HaveTaken S.has_taken x.inputs.items x.writer signers p };
+
+    ghost is_left = { λ inputs signers p. HoldEach S.has_taken inputs.items signers (base64url p) };
+
+    ghost starts_with_nothing = { λ x signers fed i. [] };
+
+    fn feed<'t>(
+        &mut self,
+        piece: &'t [u8],
+        space: &'t mut [u8; PIECE_TEXT],
+    ) -> Result<&'t [u8], Refusal> {
+        let text = Transform::feed(&mut self.writer, piece, space)?;
+        take_each(&mut self.inputs, text);
+        Ok(piece)
+    }
+
+    fn finish<'t>(self, space: &'t mut [u8; PIECE_TEXT]) -> Result<(&'t [u8], Vec<S>), Refusal> {
+        let Payload { mut inputs, writer } = self;
+        let (text, ()) = Transform::finish(writer, space)?;
+        take_each(&mut inputs, text);
+        Ok((&[], inputs))
+    }
+}
