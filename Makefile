@@ -2,7 +2,7 @@
 
 PREFIX ?= /usr/local
 
-.PHONY: demo test edits build calls ports long faults hostile bench pages tour interop latchset dist dist-try install uninstall clean
+.PHONY: demo test edits build calls library ports long faults hostile bench pages tour interop latchset dist dist-try install uninstall clean
 
 # Signs a document and verifies it, makes a key, encrypts a secret and decrypts it, and shows what changed texts and wrong keys give.
 demo:
@@ -25,6 +25,10 @@ build:
 calls:
 	@scripts/calls
 
+# Proves, builds and runs the two programs of examples/programs, which call the crates as docs/LIBRARY.md says.
+library:
+	@scripts/library
+
 # Runs the built program over files.
 ports:
 	@scripts/ports
@@ -46,20 +50,21 @@ bench:
 	@scripts/bench $(if $(BESIDE),commands $(BESIDE))
 
 # Compares the pages and the completions with the program's table of commands, and tries the refusals that the pages list, the
-# completions, install and uninstall.
+# completions, install and uninstall. A test prints the table: the gate's, or where sources changed since, one that is built unproved.
 pages:
 	@scripts/pages
 	@scripts/refusals
 	@scripts/completions
 	@scripts/installed
 
-# Runs every example of the README and of the pages with the built program.
+# Runs every example of the README and of the pages, and every recipe of examples/, with the built program.
 tour:
 	@scripts/tour
 
-# Sends tokens between the built program and latchset's jose, jwcrypto and go-jose, both ways, where these are installed.
+# Sends tokens between the built program and latchset's jose, jwcrypto and go-jose, both ways, where these are installed; with SEED, random
+# tokens that are drawn from it, in at most five minutes.
 interop:
-	@scripts/interop
+	@scripts/interop $(if $(SEED),--seed $(SEED))
 
 # Runs the built program and latchset's jose over the differences that docs/FROM-LATCHSET.md states.
 latchset:
@@ -73,7 +78,7 @@ dist:
 dist-try:
 	@scripts/dist-try
 
-# Installs the built program, the pages, the completions, the license and the changelog.
+# Installs the built program, the pages, the completions, the recipes, the license and the changelog.
 install:
 	@scripts/install "$(DESTDIR)$(PREFIX)"
 

@@ -20,13 +20,17 @@ def key(k):
     return jwk.JWK(kty='oct', k=k)
 
 
+def members(ask):
+    return ask.get('others', {})
+
+
 def sign(ask):
     token = jws.JWS(octets(ask['payload']))
     for alg, k in zip(ask['algs'], ask['keys']):
         if ask['form'] == 'alg in header':
-            token.add_signature(key(k), header={'alg': alg})
+            token.add_signature(key(k), header={**members(ask), 'alg': alg})
         else:
-            token.add_signature(key(k), protected={'alg': alg})
+            token.add_signature(key(k), protected={**members(ask), 'alg': alg})
     if ask['form'].endswith('detached'):
         token.detach_payload()
     return token.serialize(ask['form'].startswith('compact'))
@@ -41,7 +45,7 @@ def verify(ask):
 
 def encrypt(ask):
     form, algs = ask['form'], ask['algs']
-    header = {'enc': ask['enc']}
+    header = {**members(ask), 'enc': ask['enc']}
     if len(algs) == 1:
         header['alg'] = algs[0]
     if form == 'compact, zip':
