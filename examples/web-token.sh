@@ -1,0 +1,26 @@
+#!/bin/sh
+# A token for a web service: claims that are signed for some minutes. jose verifies the signature; what the claims say is for the
+# service to judge, `exp` among them.
+set -eu
+umask 077
+jose jwk gen -i '{"alg":"HS256"}' -o service.jwk
+
+# Who gives the token. It is one line of text, which is not secret from who has it.
+now=$(date +%s)
+printf '{"iss":"login","sub":"ann","exp":%d}' $((now + 600)) > claims.json
+token=$(jose jws sig -c -s '{"protected":{"typ":"JWT"}}' -k service.jwk -I claims.json)
+
+# The service. The token comes on standard input: -i "$token" would be the name of a file. Claims are read by a parser of JSON, and a token
+# whose claims have no exp is not accepted.
+accepts() {
+    claims=$(printf '%s' "$1" | jose jws ver -k service.jwk -O - 2>/dev/null) || return
+    python3 -c 'import json, sys, time; exit(not json.loads(sys.argv[1])["exp"] > time.time())' "$claims" 2>/dev/null
+}
+accepts "$token"
+
+# A token of another key, and one whose time has passed, are not accepted.
+jose jwk gen -i '{"alg":"HS256"}' -o other.jwk
+! accepts "$(jose jws sig -c -s '{"protected":{"typ":"JWT"}}' -k other.jwk -I claims.json)"
+printf '{"iss":"login","sub":"ann","exp":%d}' $((now - 1)) > late.json
+! accepts "$(jose jws sig -c -s '{"protected":{"typ":"JWT"}}' -k service.jwk -I late.json)"
+! accepts "$(printf '{"sub":"ann","x":{"exp":%d}}' $((now + 600)) | jose jws sig -c -k service.jwk)"
