@@ -1,6 +1,8 @@
 # The commands of this repository. A newcomer needs `make demo` and `make test`, on a machine with the kit.
 
 PREFIX ?= /usr/local
+# What tells the program that `make build` made from another; a trial of what is installed takes any.
+BUILT = scripts/built
 
 .PHONY: demo test edits build calls library ports long faults hostile bench pages tour interop latchset dist dist-try install uninstall clean
 
@@ -78,8 +80,9 @@ dist:
 dist-try:
 	@scripts/dist-try
 
-# Installs the built program, the pages, the completions, the recipes, the license and the changelog.
+# Installs the program that `make build` made, the pages, the completions, the recipes, the license and the changelog.
 install:
+	@$(BUILT)
 	@scripts/install "$(DESTDIR)$(PREFIX)"
 
 # Takes away exactly what install made.

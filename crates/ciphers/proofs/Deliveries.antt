@@ -11,7 +11,7 @@ use Rattle.ciphers.specs.declared.key_alg.KeyAlg.{KeyAlg}
 use Rattle.ciphers.specs.declared.key_alg.KeyAlg.TheVariants.{Dir}
 use Rattle.ciphers.specs.Views.{IsWrap, IsGcmWrap}
 use Rattle.modes.specs.Ctr.{ctr}
-use Rattle.modes.proofs.Protecting.{length-gcm_ciphertext}
+use Rattle.modes.proofs.Lemmas.{length-gcm_ciphertext}
 use Rattle.modes.specs.Gcm.{gcm_ciphertext, gcm_tag, IsGcmOpening}
 use Rattle.octets.specs.Octets.{IsOctets}
 

@@ -18,11 +18,10 @@ use Rattle.ciphers.specs.declared.key_alg.KeyAlg.TheVariants.{Dir, A128Kw, A192K
 use Rattle.modes.specs.Cbc.{cbc}
 use Rattle.modes.specs.Ctr.{counter_block}
 use Rattle.modes.specs.Gcm.{gcm_ciphertext, pre_counter_block}
-use Rattle.modes.proofs.Counting.{length-ctr}
-use Rattle.modes.proofs.Opening.{length-cbc}
+use Rattle.modes.proofs.Lemmas.{length-cbc, length-ctr}
 use Rattle.octets.specs.Octets.{IsOctets}
 use Rattle.octets.specs.Search.{found_within, FindsOctets}
-use Rattle.octets.proofs.Decoded.{IsOctets-drop}
+use Rattle.octets.proofs.Lemmas.{IsOctets-drop}
 
 -- a value is there, or not
 there_or_not : {X : Type 0} (o : Option X) → ((x : X) × (o ≡ Some x)) ⊎ (o ≡ None)

@@ -9,9 +9,7 @@ use Rattle.ciphers.specs.Sealing.{sealing}
 use Rattle.modes.specs.Cbc.{pad, chained, cbc_blocks, cbc}
 use Rattle.modes.specs.Ctr.{stream_octet, ctr}
 use Rattle.modes.specs.Gcm.{gcm_ciphertext}
-use Rattle.modes.proofs.Chaining.{none_alone, blocks_behind}
-use Rattle.modes.proofs.Counting.{ctr-append}
-use Rattle.modes.proofs.Pieces.{whole_of, length-whole, whole_and_rest, waits_short}
+use Rattle.modes.proofs.Lemmas.{none_alone, blocks_behind, whole_of, length-whole, whole_and_rest, waits_short, ctr-append}
 use Rattle.octets.specs.Plan.{Begins}
 
 -- the whole blocks of a beginning come first

@@ -6,7 +6,7 @@ use Rattle.std.proofs.lemmas.Nat.{be_bytes_8, from_be_bytes-to_be_bytes_8, xor_l
 use Rattle.std.proofs.lemmas.Grind.{common_steps}
 use Rattle.aes.specs.Block.{IsBlock}
 use Rattle.octets.specs.Octets.{IsOctets}
-use Rattle.octets.proofs.Chunks.{length-chunk, chunk_octets}
+use Rattle.octets.proofs.Lemmas.{length-chunk, chunk_octets}
 use Rattle.ciphers.specs.KeyWrap.{xor_count, part}
 use borrow.Rule.Slice.PartMut.{put_mid}
 

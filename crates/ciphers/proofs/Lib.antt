@@ -9,3 +9,4 @@ pub mod Found
 pub mod Octets
 pub mod Growing
 pub mod Tags
+pub mod Lemmas

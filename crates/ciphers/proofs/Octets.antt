@@ -14,9 +14,9 @@ use Rattle.ciphers.specs.declared.key_alg.KeyAlg.TheVariants.{Dir, A128Kw, A192K
 use Rattle.ciphers.proofs.Table.{table_is_half}
 use Rattle.modes.specs.Cbc.{cbc}
 use Rattle.modes.specs.Gcm.{gcm_ciphertext, gcm_tag}
-use Rattle.modes.proofs.Octets.{joined_octets, cbc_octets, gcm_ciphertext_octets, gcm_tag_octets}
+use Rattle.modes.proofs.Lemmas.{joined_octets, cbc_octets, gcm_ciphertext_octets, gcm_tag_octets}
 use Rattle.octets.specs.Octets.{IsOctets}
-use Rattle.octets.proofs.Decoded.{IsOctets-nil, IsOctets-take, IsOctets-drop}
+use Rattle.octets.proofs.Lemmas.{IsOctets-nil, IsOctets-take, IsOctets-drop}
 use Rattle.prf.specs.HashFunction.{HashFunction, IsHashFunction}
 use Rattle.prf.specs.Hmac.{hmac}
 use Rattle.prf.specs.Pbkdf2.{pbkdf2}

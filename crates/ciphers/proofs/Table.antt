@@ -7,7 +7,7 @@ use Rattle.aes.specs.Block.{IsBlock, IsCipher}
 use Rattle.octets.specs.Octets.{IsOctets}
 use Rattle.ciphers.specs.KeyWrap.{initial_value, xor_count, part, table, wrapped}
 use Rattle.ciphers.specs.Views.{IsRow}
-use Rattle.octets.proofs.Chunks.{chunk_is, chunk_written, length-written, chunk_kept, chunks_joined, same_chunks, length-joined, chunk-joined}
+use Rattle.octets.proofs.Lemmas.{chunk_is, chunk_written, length-written, chunk_kept, chunks_joined, same_chunks, length-joined, chunk-joined}
 use Rattle.ciphers.proofs.Halves.{IsHalf, block_of_halves, part_is_half, front_half, back_half, count_is_half, count_twice}
 use borrow.Rule.Slice.PartMut.{put_mid}
 

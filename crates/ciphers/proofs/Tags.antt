@@ -6,7 +6,7 @@ use Rattle.ciphers.specs.declared.content_alg.ContentAlg.{ContentAlg}
 use Rattle.ciphers.specs.declared.content_alg.ContentAlg.TheVariants.{A128CbcHs256, A192CbcHs384, A256CbcHs512, A128Gcm, A192Gcm, A256Gcm}
 use Rattle.modes.specs.Gcm.{bit_length, pre_counter_block, gcm_hash, gcm_tag}
 use Rattle.modes.specs.Ghash.{ghash}
-use Rattle.modes.proofs.Sums.{length-xor}
+use Rattle.modes.proofs.Lemmas.{length-xor}
 use Rattle.prf.specs.HashFunction.{HashFunction, IsHashFunction}
 use Rattle.prf.specs.Hmac.{hmac}
 use Rattle.prf.specs.Sha2.{sha256_function, sha384_function, sha512_function, sha256_is_hash_function, sha384_is_hash_function, sha512_is_hash_function}

@@ -1,7 +1,6 @@
 //! The authentication of AES-CBC with HMAC (RFC 7518, section 5.2.2.1).
 ghost use Rattle.std.specs.Prelude.{◌≡◌, ℕ, ◌/◌, ◌≤◌, List, [], ◌++◌, length, take};
 ghost use Rattle.ciphers.specs.Sealing.{cbc_tag};
-ghost use Rattle.modes.specs.Gcm.{bit_length};
 
 use prf::{Hash, Hmac};
 
@@ -24,7 +23,7 @@ impl<H: Hash> Authentication<H> {
         mac.update(iv);
         Authentication {
             mac,
-            aad_bits: bit_length(aad),
+            aad_bits: (aad.len() as u64).wrapping_mul(8).to_be_bytes(),
         }
     }
 
@@ -49,11 +48,4 @@ impl<H: Hash> Authentication<H> {
         tag[..half].copy_from_slice(&code[..half]);
         half
     }
-}
-
-/// The number of bits, in eight octets.
-fn bit_length(octets: &[u8]) -> [u8; 8]
-    ensures { result ≡ bit_length octets.now }
-{
-    (octets.len() as u64).wrapping_mul(8).to_be_bytes()
 }

@@ -1,4 +1,4 @@
-//! AES under a key encryption key, of any of its three lengths.
+//! AES under a key encryption key, of any of its three lengths, and the ways of delivering a key with one or without.
 ghost use Rattle.std.specs.Prelude.{ℕ, List};
 
 use aes::{Aes128, Aes192, Aes256, Block};

@@ -5,7 +5,7 @@ use Rattle.octets.specs.declared.refusal.Refusal.{Refusal}
 use Rattle.octets.specs.declared.refusal.Refusal.TheVariants.{Memory, Random}
 use Rattle.octets.specs.Outcomes.{◌>>=◌, needs, is_memory, is_external, AgreesUnlessExternal}
 use Rattle.octets.specs.Plan.{OutputTexts, nothing, Plan, plan_map, plan_from, placed, planned_beginning, beginning_of, without_content, accepted}
-use Rattle.octets.proofs.Agreement.{AgreesUnlessExternal-map}
+use Rattle.octets.proofs.Lemmas.{AgreesUnlessExternal-map}
 use Rattle.keys.specs.Generating.{MadeKey, made_key, key_text, gen_answer}
 use Rattle.keys.specs.Limits.{limits}
 use Rattle.jose.specs.Ports.{as_text, as_content}

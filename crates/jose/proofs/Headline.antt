@@ -14,16 +14,16 @@ use Rattle.keys.specs.Json.{json_value}
 use Rattle.keys.specs.Keys.{OctetKey, allows}
 use Rattle.keys.specs.KeySets.{items_count, key_objects, octet_keys, value_keys, key_set, KeysHaveOctets}
 use Rattle.keys.specs.Limits.{Limits, limits}
-use Rattle.keys.proofs.Steps.{steps, passed, same_answer}
+use Rattle.octets.proofs.Lemmas.{steps, passed, same_answer}
 use Rattle.objects.specs.Jwe as jwe
 use Rattle.objects.specs.Jws as jws
 use Rattle.objects.specs.Texts.{handed_in, handed_out, AreOctetsHandedIn}
-use Rattle.objects.proofs.EachRead.{all_then}
+use Rattle.objects.proofs.Lemmas.{all_then}
 use Rattle.tokens.specs.Decrypting.{decrypted}
 use Rattle.tokens.specs.Encrypting as encrypting
 use Rattle.tokens.specs.Signing as signing
 use Rattle.tokens.specs.Verifying.{may_verify, verifies, are_verified, verified_payload, verifying_by, SignedVerifies}
-use Rattle.tokens.proofs.Beginnings.{handed_back}
+use Rattle.tokens.proofs.Lemmas.{handed_back}
 use Rattle.jose.specs.Headline.{EncryptedIsDecrypted, SignedIsVerified, FormatsGoBack}
 use Rattle.jose.specs.Jwe.{jwe_fmt_answer}
 use Rattle.jose.specs.Jws.{jws_fmt_answer}

@@ -3,7 +3,7 @@ use Rattle.std.proofs.Common.{◌≡◌, ◌≢◌, ℕ, List, [], ◌∷◌, fa
 use Rattle.octets.specs.declared.refusal.Refusal.{Refusal}
 use Rattle.octets.specs.declared.refusal.Refusal.TheVariants.{Write}
 use Rattle.octets.specs.Faults.{Counts, counts, TellsFaults}
-use Rattle.octets.proofs.Spared.{not_told}
+use Rattle.octets.proofs.Lemmas.{not_told}
 use Rattle.jose.specs.Answer.{AreSpared}
 
 -- where the output of the text is the only one

@@ -20,7 +20,7 @@ use Rattle.tokens.specs.Decrypting.{algorithms_of, Pair, all_pairs, has_pairs, i
 use Rattle.tokens.specs.Encrypting.{random_len, sealing_by, sealed_by, parts_by, encrypted, plan_by, enc_plan}
 use Rattle.tokens.specs.EncryptionTemplate.{EncryptionTemplate, encryption_template}
 use Rattle.tokens.specs.Template.{is_shallow}
-use Rattle.tokens.proofs.Receivers.{all_pass_other}
+use Rattle.tokens.proofs.Lemmas.{all_pass_other}
 use Rattle.jose.specs.Jwe.{enc_answer, jwe_fmt_answer}
 use Rattle.jose.specs.Jws.{jws_fmt_answer}
 use Rattle.jose.proofs.Headline.{ReadsAlike}

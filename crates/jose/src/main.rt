@@ -1,6 +1,6 @@
-//! The command `jose` for octet keys: makes keys (RFC 7517) and writes their thumbprints (RFC 7638), signs
-//! and verifies small documents (RFC 7515), encrypts and decrypts secrets (RFC 7516), and writes and reads base64url
-//! (RFC 4648 section 5).
+//! The command `jose` for octet keys: makes keys (RFC 7517) and writes their thumbprints (RFC 7638), signs and verifies documents
+//! (RFC 7515), encrypts and decrypts secrets (RFC 7516), changes the form of both, and writes and reads base64url (RFC 4648
+//! section 5).
 //!
 //! The words become an invocation (`words`, by the table in `words::table`), the invocation names devices
 //! (`files`), and `run` does what is asked from devices to devices. `report` tells a refusal.

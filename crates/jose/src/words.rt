@@ -16,7 +16,8 @@ use octets::{Refusal, needs};
 use std::alloc::Global;
 
 /// What the words, without the program's name, ask for. `Usage` where they pick no command, where
-/// `clap` refuses the rest, and where two inputs or two outputs would be the same standard stream.
+/// `clap` refuses the rest, where the `-a` of `jwk thp` names none of the four hashes, and where two inputs or two outputs would
+/// be the same standard stream.
 #[tactic(auto, unfolding(crate::specs::Words::invocation_of))]
 pub fn parse(alloc: Global, words: &[String]) -> Result<Invocation, Refusal>
     ensures { AgreesUnlessMemory invocation_view result (invocation_of (map string_bytes words.now)) }

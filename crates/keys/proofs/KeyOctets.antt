@@ -16,7 +16,7 @@ use Rattle.keys.specs.KeySets.{are_objects, items_count, object_list, objects_at
 use Rattle.keys.specs.Limits.{Limits}
 use Rattle.keys.specs.Members.{string_member, optional_string_member, optional_strings_member}
 use Rattle.keys.proofs.JsonParts.{keep_json}
-use Rattle.keys.proofs.Steps.{steps, same_answer, is_there}
+use Rattle.octets.proofs.Lemmas.{steps, same_answer, is_there}
 use Rattle.keys.proofs.TextOctets.{DecodesToOctets, string_octets}
 use Rattle.keys.proofs.ValuesRead.{reads_json}
 

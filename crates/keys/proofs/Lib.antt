@@ -1,4 +1,3 @@
-pub mod Steps
 pub mod TextOctets
 pub mod Readings
 pub mod WholeNumbers
@@ -19,3 +18,4 @@ pub mod MadeFloats
 pub mod KeyLens
 pub mod GenAnswer
 pub mod KeyOctets
+pub mod Lemmas

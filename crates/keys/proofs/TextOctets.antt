@@ -7,7 +7,7 @@ use Rattle.serde_json.specs.Data.{Data, null, boolean, number, string, array, ob
 use Rattle.serde_json.specs.Find.{as_str}
 use Rattle.octets.specs.Base64url.{decoded}
 use Rattle.octets.specs.Octets.{IsOctets}
-use Rattle.octets.proofs.Decoded.{IsOctets-nil, IsOctets-append, first_or}
+use Rattle.octets.proofs.Lemmas.{IsOctets-nil, first_or, IsOctets-append}
 use Rattle.keys.specs.JsonTexts.{IsJson}
 
 -- no character is beyond the last

@@ -37,7 +37,7 @@ limits = record {
   management = management_algs;
 }
 
--- those before 2.0.0
+-- those before 2.0.0, with the algorithms of this profile
 abbrev pub earlier_limits : Limits
 earlier_limits = record {
   keys = 64;

@@ -8,7 +8,7 @@ ghost use Rattle.serde_json.specs.Written.{members_have_float};
 ghost use Rattle.octets.specs.declared.refusal.Refusal.{Refusal};
 ghost use Rattle.octets.specs.Devices.{appended, observed, IsPossibleInput};
 ghost use Rattle.octets.specs.Faults.{TellsFaults, counts};
-ghost use Rattle.octets.specs.Outcomes.{AgreesUnlessMemory, GivesUnlessExternal};
+ghost use Rattle.octets.specs.Outcomes.{Agrees, AgreesUnlessMemory, GivesUnlessExternal};
 ghost use Rattle.keys.specs.Generating.{string_items, key_ops_of, with_operations, completed, key_text, made_key, gen_answer, MadeKey};
 ghost use Rattle.keys.specs.Limits.{limits};
 ghost use Rattle.keys.specs.Views.{plan_view};
@@ -80,7 +80,7 @@ fn plan_key(alloc: Global, template: &[u8]) -> Result<KeyPlan, Refusal>
 
 /// The members of an object.
 fn into_members(value: Value) -> Result<Map<String, Value>, Refusal>
-    ensures { AgreesUnlessMemory (λ members. members_view members.entries) result
+    ensures { Agrees (λ members. members_view members.entries) result
         (ok_or (as_object (view value)) Refusal.Key) }
 {
     match value {

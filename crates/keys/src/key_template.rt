@@ -3,7 +3,7 @@ ghost use Rattle.std.specs.Prelude.{◌≡◌, codes, option_map, None, Err};
 ghost use Rattle.serde_json.specs.Data.{Members, object};
 ghost use Rattle.serde_json.specs.Find.{get, as_object};
 ghost use Rattle.serde_json.specs.View.{view};
-ghost use Rattle.octets.specs.Outcomes.{AgreesUnlessMemory};
+ghost use Rattle.octets.specs.Outcomes.{Agrees, AgreesUnlessMemory};
 ghost use Rattle.keys.specs.Generating.{key_template, is_oct_if_there, len_if_there, is_within_limit, alg_if_there, fitting_len};
 ghost use Rattle.keys.specs.Limits.{limits};
 ghost use Rattle.keys.specs.Views.{asked_view};
@@ -56,7 +56,7 @@ fn is_oct_if_there(kty: Option<&str>) -> bool
 
 /// The member `bytes`, which is a whole number from 1 where it is there.
 fn len_if_there(value: &Value) -> Result<Option<usize>, Refusal>
-    ensures { AgreesUnlessMemory (λ len. len) result
+    ensures { Agrees (λ len. len) result
         (len_if_there (get (codes "bytes") (view value.now))) }
 {
     match value.get("bytes") {
@@ -80,7 +80,7 @@ pub(crate) fn is_within_limit(bytes: Option<usize>) -> bool
 
 /// The algorithm that `alg` names, where it is there. Refused with `Unsupported` where it names none.
 pub(crate) fn alg_if_there(alg: Option<&str>) -> Result<Option<NamedAlg>, Refusal>
-    ensures { AgreesUnlessMemory (λ alg. alg) result (alg_if_there (option_map (λ name. name.now) alg.entry)) }
+    ensures { Agrees (λ alg. alg) result (alg_if_there (option_map (λ name. name.now) alg.entry)) }
 {
     match alg {
         None => Ok(None),
@@ -95,7 +95,7 @@ pub(crate) fn alg_if_there(alg: Option<&str>) -> Result<Option<NamedAlg>, Refusa
 /// is neither, and with `KeyDoesNotFit` where the algorithm takes no such length.
 #[tactic(auto, unfolding(crate::specs::Generating::fitting_len))]
 pub(crate) fn fitting_len(alg: Option<NamedAlg>, asked: Option<usize>) -> Result<usize, Refusal>
-    ensures { AgreesUnlessMemory (λ len. len) result (fitting_len alg asked) }
+    ensures { Agrees (λ len. len) result (fitting_len alg asked) }
 {
     let usual = alg.and_then(|alg| alg.key_len().usual());
     let Some(len) = asked.or(usual) else {

@@ -3,7 +3,7 @@
 ghost use Rattle.std.specs.Prelude.{option_map, map, string_bytes};
 ghost use Rattle.std.specs.Option.{ok_or};
 ghost use Rattle.serde_json.specs.View.{view, items_view};
-ghost use Rattle.octets.specs.Outcomes.{AgreesUnlessMemory};
+ghost use Rattle.octets.specs.Outcomes.{Agrees, AgreesUnlessMemory};
 ghost use Rattle.keys.specs.Members.{string_member, optional_string_member, optional_strings_member, strings_of};
 
 use octets::Refusal;
@@ -13,7 +13,7 @@ use std::alloc::Global;
 /// The text of the member, which must be there and be a string.
 #[tactic(auto, unfolding(crate::specs::Members::string_member))]
 pub(crate) fn string_member<'v>(value: &'v Value, name: &str) -> Result<&'v str, Refusal>
-    ensures { AgreesUnlessMemory (λ text. text.now) result
+    ensures { Agrees (λ text. text.now) result
         (string_member name.now (view value.now)) }
 {
     value.get(name).and_then(Value::as_str).ok_or(Refusal::Key)
@@ -25,7 +25,7 @@ pub(crate) fn optional_string_member<'v>(
     value: &'v Value,
     name: &str,
 ) -> Result<Option<&'v str>, Refusal>
-    ensures { AgreesUnlessMemory (option_map (λ text. text.now)) result
+    ensures { Agrees (option_map (λ text. text.now)) result
         (optional_string_member name.now (view value.now)) }
 {
     match value.get(name) {

@@ -2,7 +2,7 @@
 ghost use Rattle.std.specs.Prelude.{◌≡◌, ◌≤◌, IfOk, length, map};
 ghost use Rattle.serde_json.specs.Find.{as_array};
 ghost use Rattle.serde_json.specs.View.{view, items_view};
-ghost use Rattle.octets.specs.Outcomes.{AgreesUnlessMemory};
+ghost use Rattle.octets.specs.Outcomes.{Agrees, AgreesUnlessMemory};
 ghost use Rattle.keys.specs.KeySets.{key_set, value_keys, key_objects, object_list, octet_keys, are_objects};
 ghost use Rattle.keys.specs.Keys.{AreOctetKeys};
 ghost use Rattle.keys.specs.Limits.{limits};
@@ -78,7 +78,7 @@ fn value_keys(alloc: Global, value: &Value, strict: bool) -> Result<Vec<Key>, Re
 /// The objects of the text: those of its member `keys`, or the value itself where it has none.
 #[tactic(auto, unfolding(crate::specs::KeySets::key_objects))]
 fn key_objects(value: &Value) -> Result<&[Value], Refusal>
-    ensures { AgreesUnlessMemory (λ values. items_view values.now) result (key_objects (view value.now)) }
+    ensures { Agrees (λ values. items_view values.now) result (key_objects (view value.now)) }
 {
     needs(is_object(value), Refusal::Key)?;
     match value.get("keys") {
@@ -89,7 +89,7 @@ fn key_objects(value: &Value) -> Result<&[Value], Refusal>
 
 /// The items of a list of objects.
 fn object_list(values: &Value) -> Result<&[Value], Refusal>
-    ensures { AgreesUnlessMemory (λ values. items_view values.now) result (object_list (as_array (view values.now))) }
+    ensures { Agrees (λ values. items_view values.now) result (object_list (as_array (view values.now))) }
 {
     match values.as_array() {
         None => Err(Refusal::Key),

@@ -13,7 +13,7 @@ use std::alloc::Global;
 
 /// The value of a JSON text (RFC 8259). Refused with `Json` where the octets are not UTF-8 or no
 /// JSON that nests at most 127 deep, and then with `Number` where it holds a number that is no
-/// whole number of 64 bits.
+/// whole number of 64 bits, with a sign or without: `1.0` and `-0` are none.
 #[tactic(auto, unfolding(crate::specs::Json::json_value))]
 pub fn read_json(alloc: Global, octets: &[u8]) -> Result<Value, Refusal>
     ensures exact { AgreesUnlessMemory view result (json_value octets.now) }
@@ -61,7 +61,7 @@ fn items_have_whole_numbers(items: &Vec<Value>) -> bool
     true
 }
 
-/// Each number in an object with these members has one of them.
+/// Each number in an object with these members has an `as_i64` or an `as_u64`.
 #[cycle(numbers)]
 pub fn members_have_whole_numbers(members: &Map<String, Value>) -> bool
     ensures { result ≡ member_numbers_are_whole (members_view members.now.entries) }

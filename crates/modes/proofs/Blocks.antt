@@ -3,7 +3,7 @@ use Rattle.std.proofs.Common.{◌≡◌, ℕ, zero, suc, ◌+◌, ◌*◌, ◌<�
 use Rattle.std.specs.List.{range_with_len, concat}
 use Rattle.aes.specs.Block.{IsBlock}
 use Rattle.octets.specs.Octets.{IsOctets}
-use Rattle.octets.proofs.Chunks.{length-chunk, chunk_octets}
+use Rattle.octets.proofs.Lemmas.{length-chunk, chunk_octets}
 use Rattle.modes.specs.Cbc.{block}
 
 pub block_is_block : (p : List ℕ) (i : ℕ) → IsOctets p → 16 * i + 16 ≤ length p → IsBlock (block p i)

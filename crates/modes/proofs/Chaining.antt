@@ -4,7 +4,7 @@ use Rattle.std.specs.List.{between, range_with_len, concat}
 use Rattle.std.proofs.lemmas.List.{length-take-le}
 use Rattle.octets.specs.Octets.{xor_octets}
 use Rattle.modes.specs.Cbc.{block, chained, cbc_blocks}
-use Rattle.octets.proofs.Chunks.{chunk_is, chunk_front, chunk_back, chunks_joined}
+use Rattle.octets.proofs.Lemmas.{chunk_is, chunk_front, chunk_back, chunks_joined}
 use Rattle.modes.proofs.Blocks.{joined-add, joined-same}
 use Rattle.modes.proofs.Sums.{xor_turned}
 

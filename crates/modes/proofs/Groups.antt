@@ -3,7 +3,7 @@ use Rattle.std.proofs.Common.{◌≡◌, ℕ, ◌+◌, ◌-◌, ◌*◌, ◌<◌
 use Rattle.std.specs.List.{between}
 use Rattle.std.proofs.lemmas.List.{take-take, drop-take, drop-drop, take-append-drop, length-take-le}
 use Rattle.std.proofs.lemmas.Slice.{drop-put_mid}
-use Rattle.octets.proofs.Chunks.{chunk_front, chunk_back, length-chunk}
+use Rattle.octets.proofs.Lemmas.{length-chunk, chunk_front, chunk_back}
 use Rattle.octets.specs.Octets.{xor_octets}
 use Rattle.modes.specs.Cbc.{block}
 use Rattle.modes.proofs.Padding.{at_block}

@@ -16,3 +16,4 @@ pub mod Multiples
 pub mod Numbers
 pub mod Protecting
 pub mod Octets
+pub mod Lemmas

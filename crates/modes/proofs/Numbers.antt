@@ -4,7 +4,7 @@ use Rattle.std.specs.Int.{w128, from_be_bytes}
 use Rattle.std.specs.List.{range_with_len}
 use Rattle.modes.specs.Cbc.{block}
 use Rattle.modes.specs.Ghash.{numbers}
-use Rattle.octets.proofs.Chunks.{chunk_front, chunk_back}
+use Rattle.octets.proofs.Lemmas.{chunk_front, chunk_back}
 use Rattle.modes.proofs.Pieces.{whole_of, length-whole, whole_and_rest, waits_short, longer, left, joined, sixteen, filled_whole, left_short}
 
 -- block i as a number; and the first n of them

@@ -7,7 +7,7 @@ use Rattle.std.proofs.lemmas.List.{get_or_past, length-take-le}
 use Rattle.std.proofs.lemmas.Nat.{xor_lt}
 use Rattle.aes.specs.Block.{IsBlock, IsCipher}
 use Rattle.octets.specs.Octets.{IsOctets}
-use Rattle.octets.proofs.Decoded.{IsOctets-nil, IsOctets-append, IsOctets-take, first_or}
+use Rattle.octets.proofs.Lemmas.{IsOctets-nil, first_or, IsOctets-append, IsOctets-take}
 use Rattle.modes.specs.Cbc.{pad, chained, cbc_blocks, cbc}
 use Rattle.modes.specs.Ctr.{counter_block, ctr}
 use Rattle.modes.specs.Gcm.{pre_counter_block, gcm_hash, gcm_ciphertext, gcm_tag}

@@ -7,14 +7,13 @@ use Rattle.octets.specs.declared.refusal.Refusal.TheVariants.{Form}
 use Rattle.octets.specs.Base64url.{base64url, decoded, is_url_character, DecodesExactly}
 use Rattle.octets.specs.Octets.{IsOctets}
 use Rattle.octets.specs.Outcomes.{needs}
-use Rattle.octets.proofs.Decoded.{IsOctets-nil, decoded-nil}
+use Rattle.octets.proofs.Lemmas.{IsOctets-nil, decoded-nil, steps, passed, same_answer}
 use Rattle.keys.specs.JsonTexts.{IsJson, KeepJson, UrlTextsAreJson}
 use Rattle.objects.specs.Texts.{text_at, has_text, content_by, content_text, handed_in, AreOctetsHandedIn}
 use Rattle.objects.proofs.Characters.{IsUrlText}
 use Rattle.objects.proofs.Members.{Entries, put_all, first_there, IsJsonIfThere}
 use Rattle.objects.proofs.ReadJson.{text_octets, required_octets}
 use Rattle.objects.proofs.Spelling.{name_is_json, text_found, required_found, required_entry}
-use Rattle.objects.proofs.Steps.{steps, passed, same_answer}
 use Rattle.objects.proofs.TextOctets.{TextLaws, text_is}
 
 -- ---- as a member of a JSON text

@@ -10,7 +10,7 @@ use Rattle.octets.specs.Outcomes.{◌>>=◌}
 use Rattle.keys.specs.JsonTexts.{IsJson, AreJsonItems}
 use Rattle.keys.specs.KeySets.{items_count}
 use Rattle.objects.specs.Texts.{each, each_item}
-use Rattle.objects.proofs.Steps.{steps, same_answer}
+use Rattle.octets.proofs.Lemmas.{steps, same_answer}
 
 -- ---- what holds of each
 

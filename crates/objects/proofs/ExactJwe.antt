@@ -6,7 +6,7 @@ use Rattle.octets.specs.Base64url.{base64url, decoded}
 use Rattle.octets.specs.LineEnds.{without_line_end}
 use Rattle.octets.specs.Octets.{IsOctets}
 use Rattle.octets.specs.Outcomes.{◌>>=◌, needs}
-use Rattle.octets.proofs.Decoded.{decoded-nil}
+use Rattle.octets.proofs.Lemmas.{decoded-nil, steps, same_answer}
 use Rattle.keys.specs.Limits.{Limits, are_few}
 use Rattle.serde_json.specs.Data.{no_members}
 use Rattle.objects.specs.Jwe.{recipient_parts_of, parts_of, EncodedRecipient, EncodedJwe, RecipientParts, EncryptedObject, encoded_in_compact, encoded_jwe, decoded_recipient, decoded_members, decoded_object, jwe_of, key_of_first, is_compact, jwe_compact_text, CompactTextsAreExact}
@@ -17,7 +17,6 @@ use Rattle.objects.proofs.Joined.{joined_of_split, joined_of_three, split_octets
 use Rattle.objects.proofs.JweWritten.{compact_is}
 use Rattle.objects.proofs.MadeJwe.{IsRecipient, AreSpelled, compact, compact_are, recipient_spelled, parts_spelled}
 use Rattle.objects.proofs.MadeOf.{object_is}
-use Rattle.objects.proofs.Steps.{steps, same_answer}
 use Rattle.objects.proofs.TextOctets.{TextLaws, text_is}
 
 -- the texts of a compact text stand in it between dots: those of one recipient, no header but the protected one, and a part of which the ciphertext is read

@@ -17,7 +17,7 @@ use Rattle.objects.proofs.Joined.{joined_of_three, three_octets, line_octets}
 use Rattle.objects.proofs.JwsWritten.{compact_is}
 use Rattle.objects.proofs.MadeJws.{IsSignature, compact_are, signature_spelled}
 use Rattle.objects.proofs.MadeOf.{signed_is}
-use Rattle.objects.proofs.Steps.{steps, same_answer}
+use Rattle.octets.proofs.Lemmas.{steps, same_answer}
 use Rattle.objects.proofs.TextOctets.{TextLaws, text_is}
 
 -- the texts of a compact text stand in it between dots: those of one signature without an unprotected header, and a part of which the payload is read

@@ -8,9 +8,8 @@ use Rattle.octets.specs.declared.refusal.Refusal.TheVariants.{Form}
 use Rattle.octets.specs.LineEnds.{without_line_end}
 use Rattle.octets.specs.Octets.{IsOctets}
 use Rattle.octets.specs.Outcomes.{◌>>=◌, needs}
-use Rattle.octets.proofs.Decoded.{IsOctets-front, IsOctets-back, IsOctets-take}
+use Rattle.octets.proofs.Lemmas.{IsOctets-take, IsOctets-front, IsOctets-back, steps, same_answer}
 use Rattle.objects.specs.Texts.{is_dot, parts_at, split_at_dot, three_parts}
-use Rattle.objects.proofs.Steps.{steps, same_answer}
 
 -- ---- one dot
 

@@ -8,7 +8,7 @@ use Rattle.objects.specs.Jwe.{Recipient, RecipientParts, EncryptedObject, parts_
 use Rattle.objects.specs.Writing.{Written, all_texts, nothing_written, inside, with_items, with_place}
 use Rattle.objects.proofs.JweWritten.{jwe_whole}
 use Rattle.objects.proofs.Places.{Fills, is_filled, places_count, fills_nothing, fills_pushed, fills_closed, fills_opened, fills_separated, fills_named, fills_text, fills_header, fills_place, fills_content, fills_part, fills_place_part, fills_content_part, places_are}
-use Rattle.objects.proofs.Steps.{steps, same_answer, passed}
+use Rattle.octets.proofs.Lemmas.{steps, passed, same_answer}
 
 -- ---- the members
 

@@ -10,7 +10,7 @@ use Rattle.octets.specs.declared.refusal.Refusal.TheVariants.{NotCompact}
 use Rattle.octets.specs.Base64url.{base64url, decoded, DecodesExactly}
 use Rattle.octets.specs.Octets.{IsOctets}
 use Rattle.octets.specs.Outcomes.{◌>>=◌}
-use Rattle.octets.proofs.Decoded.{decoded-nil}
+use Rattle.octets.proofs.Lemmas.{decoded-nil, same_answer, refused_alike}
 use Rattle.keys.specs.JsonTexts.{UrlTextsAreJson}
 use Rattle.objects.specs.Jwe as jwe
 use Rattle.objects.specs.Jwe.{JweParts, RecipientParts, EncryptedObject, with_recipient, with_flattened, with_general, with_tag, with_members, key_of_first, with_compact, is_compact, jwe_written, jwe_compact_text, jwe_text, AreMembers}
@@ -21,7 +21,6 @@ use Rattle.objects.proofs.Members.{Entries, put_all}
 use Rattle.objects.proofs.Sorted.{member_if_there, present, put_sorted}
 use Rattle.objects.proofs.Spelling.{Laws, text_there, header_there}
 use Rattle.objects.proofs.SpellingJwe.{recipient_entries, own_entries, entries, recipient_spelled, parts_spelled}
-use Rattle.objects.proofs.Steps.{same_answer, refused_alike}
 use Rattle.objects.proofs.WrittenMembers.{Begins, is_whole, begins_closed, begins_header, begins_text, begins_place, begins_content, WritesOne, begins_list, begins_object}
 
 -- ---- the members, in order

@@ -9,7 +9,7 @@ use Rattle.objects.specs.Jws.{Signature, signature_parts_of, SignedObject, parts
 use Rattle.objects.specs.Writing.{Written, all_texts, nothing_written, inside, with_text, with_items, with_place}
 use Rattle.objects.proofs.JwsWritten.{jws_whole}
 use Rattle.objects.proofs.Places.{Fills, is_filled, places_count, fills_nothing, fills_pushed, fills_closed, fills_opened, fills_separated, fills_named, fills_text, fills_header, fills_place, fills_content, fills_place_part, fills_content_part, places_are, texts_count}
-use Rattle.objects.proofs.Steps.{steps, same_answer, passed}
+use Rattle.octets.proofs.Lemmas.{steps, passed, same_answer}
 
 -- ---- the JSON texts round any payload and signatures
 

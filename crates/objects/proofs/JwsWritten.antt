@@ -9,7 +9,7 @@ use Rattle.octets.specs.declared.refusal.Refusal.TheVariants.{NotCompact}
 use Rattle.octets.specs.Base64url.{base64url}
 use Rattle.octets.specs.Octets.{IsOctets}
 use Rattle.octets.specs.Outcomes.{◌>>=◌}
-use Rattle.octets.proofs.Decoded.{IsOctets-nil}
+use Rattle.octets.proofs.Lemmas.{IsOctets-nil, same_answer, refused_alike}
 use Rattle.keys.specs.JsonTexts.{AreJsonMembers}
 use Rattle.objects.specs.Jws as jws
 use Rattle.objects.specs.Jws.{JwsParts, SignatureParts, SignedObject, with_signature, with_signatures, with_compact, with_general, is_compact, jws_written, jws_compact_text, jws_text, AreMembers}
@@ -20,7 +20,6 @@ use Rattle.objects.proofs.Members.{Entries, put_all}
 use Rattle.objects.proofs.Sorted.{present, put_sorted}
 use Rattle.objects.proofs.Spelling.{Laws, text_there, header_there}
 use Rattle.objects.proofs.SpellingJws.{signature_entries, entries, signature_spelled, parts_spelled}
-use Rattle.objects.proofs.Steps.{same_answer, refused_alike}
 use Rattle.objects.proofs.WrittenMembers.{Begins, is_whole, begins_closed, begins_header, begins_text, begins_place, begins_content, WritesOne, begins_list, begins_object}
 
 -- ---- the JSON text

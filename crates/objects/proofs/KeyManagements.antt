@@ -13,7 +13,7 @@ use Rattle.keys.specs.declared.algorithm.KeyManagementMode.TheVariants as mode
 use Rattle.keys.specs.Algorithms.{mode_of}
 use Rattle.objects.specs.Headers.{string_parameter, number_parameter, salt, salt_if_there, salt_parameter, octets_parameter}
 use Rattle.objects.specs.KeyManagement.{KeyManagement, Unknown, Direct, KeyWrap, Password, GcmKeyWrap, password_management, gcm_management, management_in, management_by, is_password, is_management_in, is_management_of}
-use Rattle.objects.proofs.Steps.{steps, passed, same_answer, is_there}
+use Rattle.octets.proofs.Lemmas.{steps, passed, same_answer, is_there}
 
 -- a salt that is read has at least 8 octets
 salt_is_long : (header : Members) (p2s : List ℕ) → salt_parameter (codes "p2s") header ≡ Ok (Some p2s) → nat_le 8 (length p2s) ≡ true

@@ -36,3 +36,4 @@ pub mod SpellingJweCompact
 pub mod SpellingJwsCompact
 pub mod ExactJwe
 pub mod ExactJws
+pub mod Lemmas

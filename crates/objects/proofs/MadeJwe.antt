@@ -8,7 +8,7 @@ use Rattle.octets.specs.declared.refusal.Refusal.TheVariants.{Limit}
 use Rattle.octets.specs.Base64url.{decoded}
 use Rattle.octets.specs.Octets.{IsOctets}
 use Rattle.octets.specs.Outcomes.{needs}
-use Rattle.octets.proofs.Decoded.{IsOctets-nil}
+use Rattle.octets.proofs.Lemmas.{IsOctets-nil, steps, passed, same_answer}
 use Rattle.keys.specs.JsonTexts.{IsJson, KeepJson}
 use Rattle.keys.specs.Limits.{Limits, are_few}
 use Rattle.objects.specs.Headers.{header_at}
@@ -19,7 +19,6 @@ use Rattle.objects.proofs.Each.{as_many}
 use Rattle.objects.proofs.EachRead.{all_read, all_pass, all_then}
 use Rattle.objects.proofs.Joined.{split_octets, three_octets}
 use Rattle.objects.proofs.ReadJson.{ReadingLaws, text_is_json, IsShallow, IsHeader, AreObjects, no_header, header_whole, text_octets, header_shallow, alone, listed, each_is, of_text}
-use Rattle.objects.proofs.Steps.{steps, passed, same_answer}
 use Rattle.objects.proofs.TextOctets.{TextLaws}
 
 -- ---- the texts are octets, but that of the ciphertext, which decodes to octets, and the headers are as JSON has them

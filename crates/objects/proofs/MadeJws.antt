@@ -19,7 +19,7 @@ use Rattle.objects.proofs.Each.{as_many}
 use Rattle.objects.proofs.EachRead.{all_read, read_again, all_pass, all_then, all_images}
 use Rattle.objects.proofs.Joined.{three_octets}
 use Rattle.objects.proofs.ReadJson.{ReadingLaws, text_is_json, IsShallow, IsHeader, AreObjects, no_header, header_whole, text_octets, required_octets, header_shallow, alone, listed, each_is, of_text}
-use Rattle.objects.proofs.Steps.{steps, passed, same_answer}
+use Rattle.octets.proofs.Lemmas.{steps, passed, same_answer}
 use Rattle.objects.proofs.TextOctets.{TextLaws}
 
 -- ---- the texts are octets, but that of the payload, which decodes to octets, and the headers are as JSON has them

@@ -12,7 +12,7 @@ use Rattle.objects.specs.Jws.{SignatureParts, Signature, DecodedSignature, Heade
 use Rattle.objects.specs.KeyManagement.{key_management}
 use Rattle.objects.specs.Texts.{each}
 use Rattle.objects.proofs.EachRead.{each_keeps}
-use Rattle.objects.proofs.Steps.{steps, same_answer}
+use Rattle.octets.proofs.Lemmas.{steps, same_answer}
 
 -- ---- encrypted objects
 

@@ -12,18 +12,16 @@ use Rattle.octets.specs.Base64url.{base64url, decoded, DecodesExactly, HasUrlCha
 use Rattle.octets.specs.LineEnds.{without_line_end}
 use Rattle.octets.specs.Octets.{IsOctets}
 use Rattle.octets.specs.Outcomes.{◌>>=◌, needs}
-use Rattle.octets.proofs.Decoded.{IsOctets-nil}
+use Rattle.octets.proofs.Lemmas.{IsOctets-nil, steps, passed, same_answer, is_there}
 use Rattle.keys.specs.Json.{json_value, member_numbers_are_whole}
 use Rattle.keys.specs.JsonTexts.{IsJson, AreJsonItems, AreJsonMembers, KeepJson, ReadsJson, UrlTextsAreJson}
 use Rattle.keys.specs.KeySets.{are_objects, items_count}
-use Rattle.keys.proofs.ReadingBack.{numbers_whole}
-use Rattle.keys.proofs.TextOctets.{string_octets}
+use Rattle.keys.proofs.Lemmas.{string_octets, DecodesToOctets, numbers_whole}
 use Rattle.objects.specs.Headers.{header_at, members_if_there, some_members}
 use Rattle.objects.specs.Texts.{each_item, text_if_there, text_at, required_text, has_items, object_list, depth_of_each}
 use Rattle.objects.proofs.EachRead.{all_items_read, as_many_items}
 use Rattle.objects.proofs.Joined.{line_octets}
-use Rattle.objects.proofs.Steps.{steps, passed, same_answer, is_there}
-use Rattle.objects.proofs.TextOctets.{DecodesToOctets, text_is}
+use Rattle.objects.proofs.TextOctets.{text_is}
 
 -- the laws of what is read
 pub record ReadingLaws : Type 0 where

@@ -10,9 +10,7 @@ use Rattle.octets.specs.Encoding.{octets_of_groups, settling}
 use Rattle.octets.specs.LineEnds.{without_line_end}
 use Rattle.octets.specs.Octets.{IsOctets}
 use Rattle.octets.specs.Pumps.{RefusesFrom}
-use Rattle.octets.proofs.Decoded.{IsOctets-front}
-use Rattle.octets.proofs.Decoding.{cut, reading_starts, settling_grows}
-use Rattle.octets.proofs.Prefixes.{AppendsPrefixOf-front}
+use Rattle.octets.proofs.Lemmas.{IsOctets-front, AppendsPrefixOf-front, cut, reading_starts, settling_grows}
 use Rattle.objects.specs.Texts.{meaning}
 use Rattle.objects.proofs.Characters.{joined_characters, no_line_end}
 use Rattle.objects.proofs.TextOctets.{TextLaws, text_is}

@@ -24,8 +24,8 @@ use Rattle.objects.proofs.ListedMembers.{each_entries, in_front, objects_by, Rea
 use Rattle.objects.proofs.MadeOf.{object_is}
 use Rattle.objects.proofs.Members.{Entries, put_all, first_there, get_member-put_all, AreJsonEntries, all_json}
 use Rattle.objects.proofs.Spelling.{Laws, text_there, header_there, text_found, header_found, decoded_characters, name_is_json, spelled_is_json, text_entry, header_entry}
-use Rattle.objects.proofs.Steps.{steps, passed}
-use Rattle.objects.proofs.TextOctets.{octets_of_utf8}
+use Rattle.octets.proofs.Lemmas.{steps, passed}
+use Rattle.keys.proofs.Lemmas.{octets_of_utf8}
 
 -- ---- the members of the JSON text
 
@@ -140,9 +140,9 @@ pub record IsBuilt (limits : Limits) (parts : JweParts) (o : EncryptedObject) : 
   pub decodes : decoded parts.protected ≡ Ok octets
   pub made : encrypted_object limits.management octets parts ≡ Ok o
 
-pub is_built : (limits : Limits) (parts : JweParts) (o : EncryptedObject) → built limits parts ≡ Ok o → IsBuilt limits parts o
+pub jwe_is_built : (limits : Limits) (parts : JweParts) (o : EncryptedObject) → built limits parts ≡ Ok o → IsBuilt limits parts o
 unfolding built
-is_built limits parts o h =
+jwe_is_built limits parts o h =
     let a = steps (needs (is_shallow parts) Json) _ o h in
     let b = steps (needs (have_whole_numbers parts) Number) _ o a.2 in
     let c = steps (needs (nat_le 1 (length parts.recipients)) Form) _ o b.2 in

@@ -17,8 +17,8 @@ use Rattle.objects.proofs.DetachedContent.{kept, kept_read, kept_characters}
 use Rattle.objects.proofs.JweWritten.{compact_is}
 use Rattle.objects.proofs.MadeOf.{object_is}
 use Rattle.objects.proofs.Spelling.{Laws, no_member}
-use Rattle.objects.proofs.SpellingJwe.{spelled, parts_spelled, object_keeps, IsBuilt, is_built, object_read, HasUrlTexts, url_texts}
-use Rattle.objects.proofs.Steps.{steps, same_answer, passed}
+use Rattle.objects.proofs.SpellingJwe.{spelled, parts_spelled, object_keeps, IsBuilt, jwe_is_built, object_read, HasUrlTexts, url_texts}
+use Rattle.octets.proofs.Lemmas.{steps, passed, same_answer}
 
 -- the texts of a compact text with these parts
 abbrev compact : List ℕ → List ℕ → List ℕ → List ℕ → List ℕ → EncodedJwe
@@ -90,13 +90,13 @@ compact_text_spells laws spells limits parts o members is detach text h =
 json_text_spells : BuildingIsReading → (limits : Limits) (parts : JweParts) (o : EncryptedObject) → AreMembers parts → built limits parts ≡ Ok o → (detach : Bool)
     → jwe_of limits (handed_in detach o.ciphertext) (json_text detach o) ≡ Ok o
 json_text_spells reading limits parts o members h detach =
-    let is = is_built limits parts o h in
+    let is = jwe_is_built limits parts o h in
     ap (λ (p : JweParts). jwe_of limits (handed_in detach p.ciphertext) (members_text detach p)) (object_is limits.management is.octets parts o is.made) ∙ sym (reading limits parts members detach) ∙ h
 
 -- an object that is made of its members is what its texts spell
 pub texts_spell_objects : Laws → DeepTextsAreRefused → SpellsSixBits → TextsSpellObjects
 texts_spell_objects laws refused spells limits parts o members h detach =
-    (json_text_spells (building_is_reading laws refused) limits parts o members h detach, compact_text_spells laws spells limits parts o members (is_built limits parts o h) detach)
+    (json_text_spells (building_is_reading laws refused) limits parts o members h detach, compact_text_spells laws spells limits parts o members (jwe_is_built limits parts o h) detach)
 
 -- ---- what is written
 

@@ -22,8 +22,8 @@ use Rattle.objects.proofs.ListedMembers.{each_entries, in_front, objects_by, Rea
 use Rattle.objects.proofs.MadeOf.{signed_is}
 use Rattle.objects.proofs.Members.{Entries, put_all, first_there, get_member-put_all, IsJsonIfThere, AreJsonEntries, all_json}
 use Rattle.objects.proofs.Spelling.{Laws, text_there, header_there, text_found, header_found, required_found, decoded_characters, name_is_json, spelled_is_json, required_entry, text_entry, header_entry}
-use Rattle.objects.proofs.Steps.{steps, same_answer, passed}
-use Rattle.objects.proofs.TextOctets.{octets_of_utf8}
+use Rattle.octets.proofs.Lemmas.{steps, passed, same_answer}
+use Rattle.keys.proofs.Lemmas.{octets_of_utf8}
 
 -- ---- the members of the JSON text
 
@@ -109,9 +109,9 @@ pub record IsBuilt (limits : Limits) (parts : JwsParts) (o : SignedObject) : Typ
   pub decodes : each decoded_part parts.signatures ≡ Ok decoded
   pub made : signed_object limits.management parts.payload decoded ≡ Ok o
 
-pub is_built : (limits : Limits) (parts : JwsParts) (o : SignedObject) → built limits parts ≡ Ok o → IsBuilt limits parts o
+pub jws_is_built : (limits : Limits) (parts : JwsParts) (o : SignedObject) → built limits parts ≡ Ok o → IsBuilt limits parts o
 unfolding built
-is_built limits parts o h =
+jws_is_built limits parts o h =
     let a = steps (needs (nest_at_most (depth_of_each (length parts.signatures)) parts.signatures) Json) _ o h in
     let b = steps (needs (have_whole_numbers parts.signatures) Number) _ o a.2 in
     let c = steps (needs (nat_le 1 (length parts.signatures)) Form) _ o b.2 in

@@ -15,8 +15,8 @@ use Rattle.objects.proofs.CompactTexts.{all_no_dot, three_of_joined}
 use Rattle.objects.proofs.DetachedContent.{kept, kept_read, kept_characters}
 use Rattle.objects.proofs.JwsWritten.{compact_is}
 use Rattle.objects.proofs.Spelling.{Laws, no_member}
-use Rattle.objects.proofs.SpellingJws.{spelled, parts_spelled, parts_are, object_keeps, IsBuilt, is_built, object_read, HasUrlTexts, url_texts}
-use Rattle.objects.proofs.Steps.{steps, same_answer, passed}
+use Rattle.objects.proofs.SpellingJws.{spelled, parts_spelled, parts_are, object_keeps, IsBuilt, jws_is_built, object_read, HasUrlTexts, url_texts}
+use Rattle.octets.proofs.Lemmas.{steps, passed, same_answer}
 
 -- the texts of a compact text with these parts
 abbrev compact : List ℕ → List ℕ → List ℕ → EncodedJws
@@ -77,13 +77,13 @@ compact_text_spells laws limits parts o members is detach text h =
 json_text_spells : BuildingIsReading → (limits : Limits) (parts : JwsParts) (o : SignedObject) → AreMembers parts → built limits parts ≡ Ok o → (detach : Bool)
     → jws_of limits (handed_in detach o.payload) (json_text detach o) ≡ Ok o
 json_text_spells reading limits parts o members h detach =
-    let same = parts_are limits parts o (is_built limits parts o h) in
+    let same = parts_are limits parts o (jws_is_built limits parts o h) in
     ap (λ (p : JwsParts). jws_of limits (handed_in detach p.payload) (members_text detach p)) same ∙ sym (reading limits parts members detach) ∙ h
 
 -- an object that is made of its members is what its texts spell
 pub texts_spell_objects : Laws → DeepTextsAreRefused → TextsSpellObjects
 texts_spell_objects laws refused limits parts o members h detach =
-    (json_text_spells (building_is_reading laws refused) limits parts o members h detach, compact_text_spells laws limits parts o members (is_built limits parts o h) detach)
+    (json_text_spells (building_is_reading laws refused) limits parts o members h detach, compact_text_spells laws limits parts o members (jws_is_built limits parts o h) detach)
 
 -- ---- what is written
 

@@ -2,7 +2,6 @@
 use Rattle.std.proofs.Common.{◌≡◌, Result, Ok, Err, IfOk}
 use Rattle.octets.specs.declared.refusal.Refusal.{Refusal}
 use Rattle.octets.specs.Outcomes.{AgreesUnlessMemory}
-pub use Rattle.keys.proofs.Steps.{steps, passed, same_answer, is_there, refused_alike}
 
 -- what follows of the answer holds of the result that agrees with it
 pub if_ok : {X Y : Type 0} (view : X → Y) (r : Result X Refusal) (answer : Result Y Refusal) (P : Y → Type 0) → ((y : Y) → answer ≡ Ok y → P y) → AgreesUnlessMemory view r answer → IfOk r (λ x. P (view x))

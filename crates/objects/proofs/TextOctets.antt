@@ -2,7 +2,7 @@
 use Rattle.std.proofs.Common.{◌≡◌, ℕ, List, Ok}
 use Rattle.octets.specs.Base64url.{base64url, decoded, DecodesExactly}
 use Rattle.octets.specs.Octets.{IsOctets}
-pub use Rattle.keys.proofs.TextOctets.{DecodesToOctets, octets_of_utf8}
+use Rattle.keys.proofs.Lemmas.{DecodesToOctets}
 
 -- the laws of base64url texts
 pub record TextLaws : Type 0 where

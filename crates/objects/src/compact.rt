@@ -1,6 +1,6 @@
 //! The parts of a compact text between its dots (RFC 7515 section 7.1, RFC 7516 section 7.1). It decodes nothing, and knows no kind
 //! of object.
-ghost use Rattle.octets.specs.Outcomes.{AgreesUnlessMemory};
+ghost use Rattle.octets.specs.Outcomes.{Agrees};
 ghost use Rattle.objects.specs.Texts.{split_at_dot as parts_at_dot, three_parts};
 
 mod dots;
@@ -11,7 +11,7 @@ use octets::{Refusal, needs};
 /// The three parts between dots.
 #[tactic(auto, unfolding(crate::specs::Texts::three_parts))]
 pub(crate) fn three_parts_of(text: &[u8]) -> Result<(&[u8], &[u8], &[u8]), Refusal>
-    ensures { AgreesUnlessMemory (λ parts. (parts.0.now, parts.1.now, parts.2.now)) result
+    ensures { Agrees (λ parts. (parts.0.now, parts.1.now, parts.2.now)) result
         (three_parts text.now) }
 {
     let (first, rest) = split_at_dot(text)?;
@@ -23,7 +23,7 @@ pub(crate) fn three_parts_of(text: &[u8]) -> Result<(&[u8], &[u8], &[u8]), Refus
 /// What stands before and after the first dot.
 #[tactic(auto, unfolding(crate::specs::Texts::split_at_dot))]
 pub(crate) fn split_at_dot(text: &[u8]) -> Result<(&[u8], &[u8]), Refusal>
-    ensures { AgreesUnlessMemory (λ parts. (parts.0.now, parts.1.now)) result
+    ensures { Agrees (λ parts. (parts.0.now, parts.1.now)) result
         (parts_at_dot text.now) }
 {
     match first_dot(text) {

@@ -2,7 +2,7 @@
 ghost use Rattle.std.specs.Prelude.{option_map};
 ghost use Rattle.serde_json.specs.View.{view};
 ghost use Rattle.octets.specs.Base64url.{decoded};
-ghost use Rattle.octets.specs.Outcomes.{AgreesUnlessMemory};
+ghost use Rattle.octets.specs.Outcomes.{Agrees, AgreesUnlessMemory};
 ghost use Rattle.objects.specs.Texts.{AreOctetsHandedIn, content_by, content_text};
 ghost use Rattle.objects.specs.Views.{content_text_view, payload_view};
 
@@ -27,7 +27,7 @@ pub(crate) enum Content<'t> {
 impl<'t> Content<'t> {
     /// The content of an object with this part. Refused with `Form` where one was handed in and the part is not empty.
     pub(crate) fn of_part(part: &'t [u8], detached: Option<Vec<u8>>) -> Result<Content<'t>, Refusal>
-        ensures { AgreesUnlessMemory content_text_view result (content_by (option_map (λ c. c.items) detached) part.now) }
+        ensures { Agrees content_text_view result (content_by (option_map (λ c. c.items) detached) part.now) }
     {
         match detached {
             None => Ok(Content::Text(part)),
@@ -45,7 +45,7 @@ impl<'t> Content<'t> {
         name: &str,
         detached: Option<Vec<u8>>,
     ) -> Result<Content<'t>, Refusal>
-        ensures { AgreesUnlessMemory content_text_view result (content_text (option_map (λ c. c.items) detached) name.now (view value.now)) }
+        ensures { Agrees content_text_view result (content_text (option_map (λ c. c.items) detached) name.now (view value.now)) }
     {
         match detached {
             None => Ok(Content::Text(required_text(value, name)?)),
@@ -69,7 +69,7 @@ impl<'t> Content<'t> {
 
     /// The payload that it is, without memory. Refused with `Base64` where its text is no base64url text.
     pub(crate) fn payload(self) -> Result<Payload<'t>, Refusal>
-        ensures { AgreesUnlessMemory payload_view result (decoded (content_text_view self.entry)) }
+        ensures { Agrees payload_view result (decoded (content_text_view self.entry)) }
     {
         base64url_decodes_exactly();
         match self {

@@ -2,7 +2,7 @@
 ghost use Rattle.std.specs.Prelude.{◌≡◌, true, false, IfErr, Some, codes, is_some, option_map, string_bytes};
 ghost use Rattle.std.specs.Option.{ok_or};
 ghost use Rattle.octets.specs.Base64url.{decoded};
-ghost use Rattle.octets.specs.Outcomes.{AgreesUnlessMemory};
+ghost use Rattle.octets.specs.Outcomes.{Agrees, AgreesUnlessMemory};
 ghost use Rattle.serde_json.specs.Find.{get_member};
 ghost use Rattle.serde_json.specs.View.{view};
 ghost use Rattle.objects.specs.Headers.{overlap as overlap_of, joint_header, string_parameter, number_parameter, salt, salt_parameter, parameter_octets, octets_parameter};
@@ -37,7 +37,7 @@ impl<'m> Header<'m> {
         unprotected: Option<&'m Map<String, Value>>,
         per_recipient: Option<&'m Map<String, Value>>,
     ) -> Result<Header<'m>, Refusal>
-        ensures exact { AgreesUnlessMemory header_view result
+        ensures exact { Agrees header_view result
             (joint_header (part_view protected.entry) (part_view unprotected.entry) (part_view per_recipient.entry)) }
         ensures refusal { IfErr result (λ e. e ≡ Refusal.Header) }
     {
@@ -70,7 +70,7 @@ impl<'m> Header<'m> {
 
     /// `alg`, where it is there (RFC 7515 section 4.1.1). Refused with `Header` where it is no string.
     pub fn alg(&self) -> Result<Option<&'m str>, Refusal>
-        ensures exact { AgreesUnlessMemory (option_map (λ s. s.now)) result
+        ensures exact { Agrees (option_map (λ s. s.now)) result
             (string_parameter (codes "alg") (header_view self.now)) }
         ensures refusal { IfErr result (λ e. e ≡ Refusal.Header) }
     {
@@ -79,7 +79,7 @@ impl<'m> Header<'m> {
 
     /// `enc`, where it is there (RFC 7516 section 4.1.2). Refused with `Header` where it is no string.
     pub fn enc(&self) -> Result<Option<&'m str>, Refusal>
-        ensures exact { AgreesUnlessMemory (option_map (λ s. s.now)) result
+        ensures exact { Agrees (option_map (λ s. s.now)) result
             (string_parameter (codes "enc") (header_view self.now)) }
         ensures refusal { IfErr result (λ e. e ≡ Refusal.Header) }
     {
@@ -103,7 +103,7 @@ impl<'m> Header<'m> {
     /// `Header` where it is no whole number from 0.
     #[tactic(auto, unfolding(crate::specs::Headers::number_parameter))]
     pub fn p2c(&self) -> Result<Option<u64>, Refusal>
-        ensures exact { AgreesUnlessMemory (λ count. count) result
+        ensures exact { Agrees (λ count. count) result
             (number_parameter (codes "p2c") (header_view self.now)) }
         ensures refusal { IfErr result (λ e. e ≡ Refusal.Header) }
     {
@@ -147,7 +147,7 @@ impl<'m> Header<'m> {
     /// The text of this member, where it is there. Refused with `Header` where it is no string.
     #[tactic(auto, unfolding(crate::specs::Headers::string_parameter))]
     fn string(&self, name: &str) -> Result<Option<&'m str>, Refusal>
-        ensures exact { AgreesUnlessMemory (option_map (λ s. s.now)) result
+        ensures exact { Agrees (option_map (λ s. s.now)) result
             (string_parameter name.now (header_view self.now)) }
         ensures refusal { IfErr result (λ e. e ≡ Refusal.Header) }
     {

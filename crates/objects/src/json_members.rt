@@ -3,7 +3,7 @@
 ghost use Rattle.std.specs.Prelude.{◌≡◌, ◌&&◌, false, IfOk, IfErr};
 ghost use Rattle.serde_json.specs.View.{view, items_view};
 ghost use Rattle.serde_json.specs.Written.{has_float, items_have_float};
-ghost use Rattle.octets.specs.Outcomes.{AgreesUnlessMemory};
+ghost use Rattle.octets.specs.Outcomes.{Agrees};
 ghost use Rattle.objects.specs.Texts.{text_at, required_text, object_list};
 
 use keys::are_objects;
@@ -13,7 +13,7 @@ use serde_json::Value;
 /// The text of a member that is a string, and none where it is absent. Refused with `Form` where it is no string.
 #[tactic(auto, unfolding(crate::specs::Texts::text_at))]
 pub fn text_at<'v>(value: &'v Value, name: &str) -> Result<&'v [u8], Refusal>
-    ensures exact { AgreesUnlessMemory (λ text. text.now) result (text_at name.now (view value.now)) }
+    ensures exact { Agrees (λ text. text.now) result (text_at name.now (view value.now)) }
     ensures refusal { IfErr result (λ e. e ≡ Refusal.Form) }
 {
     match value.get(name) {
@@ -28,7 +28,7 @@ pub fn text_at<'v>(value: &'v Value, name: &str) -> Result<&'v [u8], Refusal>
 /// The text of a member that must be there and be a string.
 #[tactic(auto, unfolding(crate::specs::Texts::required_text))]
 pub(crate) fn required_text<'v>(value: &'v Value, name: &str) -> Result<&'v [u8], Refusal>
-    ensures { AgreesUnlessMemory (λ text. text.now) result (required_text name.now (view value.now)) }
+    ensures { Agrees (λ text. text.now) result (required_text name.now (view value.now)) }
 {
     match value.get(name).and_then(Value::as_str) {
         None => Err(Refusal::Form),
@@ -39,7 +39,7 @@ pub(crate) fn required_text<'v>(value: &'v Value, name: &str) -> Result<&'v [u8]
 /// The items of a list of at least one object.
 #[tactic(auto, unfolding(crate::specs::Texts::object_list), using(crate::proofs::Items::some_items))]
 pub(crate) fn object_list(value: &Value) -> Result<&[Value], Refusal>
-    ensures exact { AgreesUnlessMemory (λ items. items_view items.now) result (object_list (view value.now)) }
+    ensures exact { Agrees (λ items. items_view items.now) result (object_list (view value.now)) }
     ensures no_float { IfOk result (λ items. has_float (view value.now) ≡ false → items_have_float (items_view items.now) ≡ false) }
 {
     match value.as_array() {

@@ -49,9 +49,10 @@ impl Jwe {
     /// The object of a text in compact form, with an LF or a CR LF at its end or without, or in JSON form, general or
     /// flattened (RFC 7516 section 7). A detached ciphertext is handed in; then the text's own has to be absent or empty.
     /// Refused, in the order of causes that docs/SPECIFICATION.md has under "Objects", each over the whole text before the next,
-    /// with `Json` or `Number`, `Form`, `Limit` where there are more than 256 recipients, `Base64`, `Header` where a joint header
-    /// is none or lacks what its `alg` reads, or `enc` is not the same for all, and `Unsupported` where a header has a `crit` or
-    /// a `zip`. Whether the algorithms are supported is not asked.
+    /// with `Json` or `Number`, `Form`, `Limit` where there are more than 256 recipients, `Base64`, `Json`, `Number` or `Header`
+    /// where the protected header is no object, `Header` where a joint header is none, its `alg` or `enc` is absent or no string,
+    /// it lacks what its `alg` reads, or `enc` is not the same for all, and `Unsupported` where a header has a `crit` or a `zip`.
+    /// Whether the algorithms are supported is not asked.
     pub fn read(alloc: Global, text: &[u8], detached: Option<Vec<u8>>) -> Result<Jwe, Refusal>
         ensures exact { AgreesUnlessMemory jwe_view result (jwe_of limits (option_map (λ c. c.items) detached) text.now) }
         ensures made { IfOk result (λ jwe. IsMade limits (jwe_view jwe)) }

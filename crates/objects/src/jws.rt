@@ -41,8 +41,9 @@ impl<'t> Jws<'t> {
     /// absent or empty. Nothing is verified, and whether the algorithms are supported is not asked.
     ///
     /// Refused, in the order of causes that docs/SPECIFICATION.md has under "Objects", each over the whole text before the next,
-    /// with `Json` or `Number`, `Form`, `Limit` where there are more than 256 signatures, `Base64`, `Header` where a joint header
-    /// is none or lacks what its `alg` reads, and `Unsupported` where a header has a `crit` (RFC 7515 section 4.1.11).
+    /// with `Json` or `Number`, `Form`, `Limit` where there are more than 256 signatures, `Base64`, `Json`, `Number` or `Header`
+    /// where a protected header is no object, `Header` where a joint header is none, its `alg` is absent or no string or it lacks
+    /// what that reads, and `Unsupported` where a header has a `crit` (RFC 7515 section 4.1.11).
     pub fn read(
         alloc: Global,
         text: &'t [u8],

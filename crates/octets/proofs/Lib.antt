@@ -9,6 +9,7 @@ pub mod Decoded
 pub mod Settling
 pub mod Growing
 pub mod Prefixes
+pub mod Steps
 pub mod Agreement
 pub mod Streaming
 pub mod Decoding
@@ -17,3 +18,4 @@ pub mod Search
 pub mod Sums
 pub mod Differences
 pub mod Pumping
+pub mod Lemmas

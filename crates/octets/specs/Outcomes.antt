@@ -26,7 +26,12 @@ is_external Read = true
 is_external Write = true
 is_external r = false
 
--- A call without devices: its result, seen by view, is the answer, unless memory ran out.
+-- A call without devices that takes no memory: its result, seen by view, is the answer.
+abbrev pub Agrees : {X Y : Type 0} → (X → Y) → Result X Refusal → Result Y Refusal → Type 0
+Agrees view (Ok x) answer = answer ≡ Ok (view x)
+Agrees view (Err r) answer = (answer ≡ Err r) × (is_external r ≡ false)
+
+-- One that takes memory: its result, seen by view, is the answer, unless memory ran out.
 abbrev pub AgreesUnlessMemory : {X Y : Type 0} → (X → Y) → Result X Refusal → Result Y Refusal → Type 0
 AgreesUnlessMemory view (Ok x) answer = answer ≡ Ok (view x)
 AgreesUnlessMemory view (Err r) answer = is_memory r ≡ false → (answer ≡ Err r) × (is_external r ≡ false)

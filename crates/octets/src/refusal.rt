@@ -23,7 +23,7 @@ pub enum Refusal {
     Base64,
     /// A text that must be JSON is not.
     Json,
-    /// A JSON text holds a number with a fraction, an exponent or more than 64 bits.
+    /// A JSON text holds a number with a fraction, an exponent or more than 64 bits, or `-0`.
     Number,
     /// Not a good octet key, no such key in the set, or a bad template for a key.
     Key,

@@ -7,7 +7,7 @@ use Rattle.std.specs.List.{find, list_all}
 use Rattle.std.specs.Prelude.{◌&&◌}
 use Rattle.std.specs.Str.{bytes_eq}
 use Rattle.octets.specs.Octets.{IsOctets}
-use Rattle.octets.proofs.Decoded.{IsOctets-nil}
+use Rattle.octets.proofs.Lemmas.{IsOctets-nil}
 use Rattle.ciphers.specs.Delivery.{IsKeyOf, IsCountOf, IsIvOf, IsTagOf, encrypted_key_of, key_tag_of}
 use Rattle.ciphers.specs.Sealing as ciphers
 use Rattle.ciphers.specs.declared.key_alg.KeyAlg.TheVariants as variants

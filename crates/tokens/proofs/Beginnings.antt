@@ -4,10 +4,9 @@ use Rattle.octets.specs.Base64url.{base64url, whole_groups, part_group}
 use Rattle.octets.specs.Devices.{AppendsPrefixOf}
 use Rattle.octets.specs.Octets.{IsOctets}
 use Rattle.octets.specs.Plan.{OutputTexts, Plan, Begins, Grows, plan_map, BothGrow}
-use Rattle.octets.proofs.Groups.{base64url_whole-append, base64url_whole_part}
+use Rattle.octets.proofs.Lemmas.{base64url_whole-append, base64url_whole_part, steps, same_answer}
 use Rattle.objects.specs.Frames.{filled, in_places, first_text}
 use Rattle.objects.specs.Texts.{handed_in, handed_out}
-use Rattle.objects.proofs.Steps.{steps, same_answer}
 
 -- ---- lists
 

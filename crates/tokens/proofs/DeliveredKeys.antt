@@ -6,7 +6,7 @@ use Rattle.std.specs.List.{AllByRecursion, list_any}
 use Rattle.std.specs.Option.{unwrap_or}
 use Rattle.octets.specs.Octets.{IsOctets}
 use Rattle.ciphers.specs.Delivery.{IsIvOf, IsTagOf, encrypted_key_of, key_tag_of, IsDelivered}
-use Rattle.octets.proofs.Decoded.{IsOctets-nil, IsOctets-take, IsOctets-drop}
+use Rattle.octets.proofs.Lemmas.{IsOctets-nil, IsOctets-take, IsOctets-drop}
 use Rattle.ciphers.specs.Sealing.{cek_len, iv_len}
 use Rattle.ciphers.specs.declared.key_alg.KeyAlg.TheVariants as variants
 use Rattle.keys.specs.declared.algorithm.Algorithm.TheVariants.{Encryption as EncryptionWith}
@@ -14,7 +14,7 @@ use Rattle.keys.specs.declared.algorithm.ContentEncryptionAlg.{ContentEncryption
 use Rattle.keys.specs.declared.algorithm.KeyManagementAlg.{KeyManagementAlg}
 use Rattle.keys.specs.declared.algorithm.KeyManagementAlg.TheVariants.{Dir}
 use Rattle.keys.specs.Keys.{OctetKey, AreOctetKeys, fits}
-use Rattle.objects.proofs.EachRead.{all_then, all_both}
+use Rattle.objects.proofs.Lemmas.{all_then, all_both}
 use Rattle.tokens.specs.Algorithms.{content_alg, key_alg, parameters_by}
 use Rattle.tokens.specs.Choosing.{RecipientKey, is_direct, is_alone, direct_key_is_alone, EncryptionPlan}
 use Rattle.tokens.specs.Delivering.{drawn_by, drawn_for, drawn_for_all, parameters_with, management_with, Delivery, delivery_to, deliveries_to}

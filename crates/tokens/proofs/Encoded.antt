@@ -2,7 +2,7 @@
 use Rattle.std.proofs.Common.{◌≡◌, ℕ, List, [], ◌++◌, length, sym, ap, subst, ◌∙◌, append_assoc, append-nil}
 use Rattle.std.proofs.lemmas.List.{nil_from_length}
 use Rattle.octets.specs.Base64url.{base64url, whole_groups, part_group}
-use Rattle.octets.proofs.Groups.{base64url-nil}
+use Rattle.octets.proofs.Lemmas.{base64url-nil}
 
 -- All but the rest was fed: what takes the text has that of the whole groups, and the octets after them wait.
 pub record IsEncoded {M K : Type 0} (holds : M → K → List ℕ → Type 0) (old new : M) (waiting all rest : List ℕ) : Type 0 where

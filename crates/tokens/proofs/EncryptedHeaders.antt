@@ -14,8 +14,7 @@ use Rattle.keys.specs.Keys.{OctetKey, AreOctetKeys}
 use Rattle.objects.specs.Headers.{are_disjoint}
 use Rattle.objects.specs.Jwe.{RecipientParts, Recipient, recipient_of}
 use Rattle.objects.specs.Texts.{each}
-use Rattle.objects.proofs.EachRead.{all_then, all_both}
-use Rattle.objects.proofs.Members.{Entries}
+use Rattle.objects.proofs.Lemmas.{all_then, all_both, Entries}
 use Rattle.tokens.specs.Algorithms.{content_alg, key_alg, parameters_by}
 use Rattle.tokens.specs.Choosing.{RecipientKey, is_alone, EncryptionPlan}
 use Rattle.tokens.specs.Delivering.{drawn_for, parameters_with, Delivery, deliveries_to}

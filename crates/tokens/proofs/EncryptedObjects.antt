@@ -13,9 +13,7 @@ use Rattle.octets.specs.Base64url.{base64url}
 use Rattle.octets.specs.Octets.{IsOctets}
 use Rattle.octets.specs.Outcomes.{needs}
 use Rattle.octets.specs.Plan.{OutputTexts, Plan, Draft, plan_from}
-use Rattle.octets.proofs.Characters.{has_url_characters}
-use Rattle.octets.proofs.Decoded.{IsOctets-drop}
-use Rattle.octets.proofs.Meanings.{meaning_of_text}
+use Rattle.octets.proofs.Lemmas.{meaning_of_text, has_url_characters, IsOctets-drop, steps, passed, same_answer}
 use Rattle.ciphers.specs.Openings.{is_longer}
 use Rattle.ciphers.specs.Sealing.{Sealed, Sealing, IsTooLong, IsOpening}
 use Rattle.keys.specs.Algorithms.{encryption_name, management_algs}
@@ -23,13 +21,10 @@ use Rattle.keys.specs.Json.{member_numbers_are_whole}
 use Rattle.keys.specs.JsonTexts.{AreJsonMembers}
 use Rattle.keys.specs.Keys.{OctetKey, AreOctetKeys}
 use Rattle.keys.specs.Limits.{Limits, are_few}
-use Rattle.keys.proofs.ReadingBack.{numbers_whole}
-use Rattle.keys.proofs.UrlTexts.{url_texts_are_json}
+use Rattle.keys.proofs.Lemmas.{numbers_whole, url_texts_are_json}
 use Rattle.objects.specs.Jwe.{RecipientParts, EncryptedObject, have_one_enc, has_no_crit_or_zip, encrypted_object, built, AreMembers, recipients_of_one_enc, jwe_text}
 use Rattle.objects.specs.Texts.{header_depth, depth_of_each, handed_out}
-use Rattle.objects.proofs.EachRead.{all_images}
-use Rattle.objects.proofs.SpellingJwe.{is_built}
-use Rattle.objects.proofs.Steps.{steps, passed, same_answer}
+use Rattle.objects.proofs.Lemmas.{all_images, jwe_is_built}
 use Rattle.tokens.specs.Algorithms.{content_alg}
 use Rattle.tokens.specs.Choosing.{RecipientKey, EncryptionPlan, read_encryption}
 use Rattle.tokens.specs.Decrypting.{additional_authenticated_data}
@@ -114,7 +109,7 @@ built_is limits known keys e random s by is few =
 pub few_receivers : (limits : Limits) (e : EncryptionPlan) (random : List ℕ) (s : Sealed) (o : EncryptedObject) → built limits (parts_by e random s) ≡ Ok o → are_few limits (length e.receivers) ≡ true
 few_receivers limits e random s o made =
     let given : length (recipients_by e random) ≡ length e.receivers = rw recipients_are (as_many e random) in
-    ap (λ k. are_few limits k) (sym given) ∙ (is_built limits (parts_by e random s) o made).few
+    ap (λ k. are_few limits k) (sym given) ∙ (jwe_is_built limits (parts_by e random s) o made).few
 
 -- ---- what is sealed
 

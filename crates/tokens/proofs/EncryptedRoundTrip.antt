@@ -4,7 +4,7 @@ use Rattle.std.specs.List.{AllByRecursion}
 use Rattle.octets.specs.Octets.{IsOctets}
 use Rattle.octets.specs.Outcomes.{◌>>=◌}
 use Rattle.octets.specs.Plan.{OutputTexts, Plan, plan_from}
-use Rattle.octets.proofs.Decoded.{IsOctets-take}
+use Rattle.octets.proofs.Lemmas.{IsOctets-take, steps, same_answer}
 use Rattle.ciphers.specs.Openings.{OpensExactly, DeliversExactly}
 use Rattle.ciphers.specs.Sealing.{IsOpening}
 use Rattle.keys.specs.declared.algorithm.Algorithm.TheVariants.{Encryption as EncryptionWith}
@@ -13,8 +13,7 @@ use Rattle.keys.specs.Keys.{OctetKey, AreOctetKeys, allows, fits}
 use Rattle.keys.specs.Limits.{Limits}
 use Rattle.objects.specs.Jwe.{JweParts, EncryptedObject, built, json_text, jwe_of, AreMembers, TextsSpellObjects, jwe_text}
 use Rattle.objects.specs.Texts.{handed_in}
-use Rattle.objects.proofs.EachRead.{all_both}
-use Rattle.objects.proofs.Steps.{steps, same_answer}
+use Rattle.objects.proofs.Lemmas.{all_both}
 use Rattle.tokens.specs.Algorithms.{content_alg, key_alg, parameters_by}
 use Rattle.tokens.specs.Choosing.{RecipientKey, password_count, EncryptionPlan}
 use Rattle.tokens.specs.Decrypting.{all_pairs, is_candidate, SealedContent, sealed_content, cek_of, opened_by, decrypted}

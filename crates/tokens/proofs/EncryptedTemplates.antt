@@ -9,18 +9,16 @@ use Rattle.octets.specs.declared.refusal.Refusal.TheVariants.{Form, Header, Unsu
 use Rattle.octets.specs.Octets.{IsOctets}
 use Rattle.octets.specs.Outcomes.{◌>>=◌, needs}
 use Rattle.octets.specs.Base64url.{decoded}
-use Rattle.octets.proofs.Decoded.{IsOctets-nil, octets_of_meaning}
+use Rattle.octets.proofs.Lemmas.{IsOctets-nil, octets_of_meaning, steps, passed, same_answer}
 use Rattle.keys.specs.declared.algorithm.ContentEncryptionAlg.{ContentEncryptionAlg}
 use Rattle.keys.specs.declared.algorithm.KeyManagementAlg.{KeyManagementAlg}
 use Rattle.keys.specs.Algorithms.{management_name, encryption_name, management_alg_of, encryption_alg_of}
 use Rattle.keys.specs.Json.{is_object, has_only}
 use Rattle.keys.specs.JsonTexts.{IsJson, AreJsonMembers}
-use Rattle.keys.proofs.JsonParts.{keep_json}
+use Rattle.keys.proofs.Lemmas.{octets_of_utf8, keep_json}
 use Rattle.objects.specs.Headers.{header_at, are_disjoint, all_members, joint_header, if_there, string_parameter, number_parameter}
 use Rattle.objects.specs.Jwe.{has_no_crit_or_zip}
 use Rattle.objects.specs.Texts.{text_if_there, text_at}
-use Rattle.objects.proofs.Steps.{steps, passed, same_answer}
-use Rattle.objects.proofs.TextOctets.{octets_of_utf8}
 use Rattle.tokens.specs.EncryptionTemplate.{TemplateTexts, template_texts, AlgorithmsAsked, supported_management, management_asked, supported_encryption, encryption_asked, leaves_parameters, algorithms_asked, EncryptionTemplate, encryption_template}
 use Rattle.tokens.proofs.AlgorithmCases.{management_name_is, encryption_name_is}
 use Rattle.tokens.proofs.HeaderTexts.{members_json}

@@ -6,7 +6,7 @@ use Rattle.serde_json.specs.Data.{Members, no_members, member}
 use Rattle.octets.specs.declared.refusal.Refusal.TheVariants.{Limit}
 use Rattle.octets.specs.Outcomes.{◌>>=◌, needs}
 use Rattle.octets.specs.Plan.{OutputTexts, Plan}
-use Rattle.octets.proofs.Decoded.{IsOctets-take}
+use Rattle.octets.proofs.Lemmas.{IsOctets-take}
 use Rattle.ciphers.specs.Openings.{is_longer}
 use Rattle.ciphers.specs.Sealing.{Sealed}
 use Rattle.keys.specs.Keys.{OctetKey}

@@ -3,13 +3,12 @@ use Rattle.std.proofs.Common.{◌≡◌, ℕ, zero, suc, Bool, true, false, nat_
 use Rattle.octets.specs.Base64url.{base64url, whole_groups}
 use Rattle.octets.specs.Octets.{IsOctets}
 use Rattle.octets.specs.Plan.{OutputTexts, Begins, BothGrow}
-use Rattle.octets.proofs.Decoded.{IsOctets-take}
+use Rattle.octets.proofs.Lemmas.{IsOctets-take, steps, same_answer}
 use Rattle.ciphers.specs.Sealing.{Sealed, IsTooLong}
-use Rattle.ciphers.proofs.Growing.{fixed_grows, ciphertext_grows}
+use Rattle.ciphers.proofs.Lemmas.{fixed_grows, ciphertext_grows}
 use Rattle.keys.specs.Keys.{OctetKey, AreOctetKeys}
 use Rattle.keys.specs.Limits.{limits, are_few}
 use Rattle.objects.specs.Frames.{filled, in_places, first_text}
-use Rattle.objects.proofs.Steps.{steps, same_answer}
 use Rattle.tokens.specs.Algorithms.{content_alg}
 use Rattle.tokens.specs.Choosing.{EncryptionPlan, read_encryption}
 use Rattle.tokens.specs.Decrypting.{additional_authenticated_data}

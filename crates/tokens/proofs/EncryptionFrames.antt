@@ -7,17 +7,16 @@ use Rattle.octets.specs.Base64url.{base64url}
 use Rattle.octets.specs.Octets.{IsOctets}
 use Rattle.octets.specs.Outcomes.{◌>>=◌}
 use Rattle.octets.specs.Plan.{plan_from}
-use Rattle.octets.proofs.Decoded.{IsOctets-drop}
+use Rattle.octets.proofs.Lemmas.{IsOctets-drop}
 use Rattle.ciphers.specs.Sealing.{Sealed, Sealing, IsTooLong, cek_len}
-use Rattle.ciphers.proofs.Tags.{some_tag}
+use Rattle.ciphers.proofs.Lemmas.{some_tag}
 use Rattle.keys.specs.Keys.{OctetKey, AreOctetKeys}
 use Rattle.keys.specs.Limits.{limits, are_few}
 use Rattle.objects.specs.Frames.{filled, in_places, jwe_frame, IsJweFrame}
 use Rattle.objects.specs.Jwe.{EncryptedObject, built, jwe_written, jwe_text}
 use Rattle.objects.specs.Texts.{handed_out}
 use Rattle.objects.specs.Writing.{Written, all_texts}
-use Rattle.objects.proofs.JweFrames.{is_jwe_frame}
-use Rattle.objects.proofs.JweWritten.{jwe_refused}
+use Rattle.objects.proofs.Lemmas.{jwe_refused, is_jwe_frame}
 use Rattle.tokens.specs.Algorithms.{content_alg}
 use Rattle.tokens.specs.Choosing.{EncryptionPlan, read_encryption}
 use Rattle.tokens.specs.Decrypting.{additional_authenticated_data}

@@ -17,8 +17,7 @@ use Rattle.objects.specs.Frames.{filled, in_places, first_text, jws_frame, signe
 use Rattle.objects.specs.Jws.{Signature, signature_parts_of, EncodedSignature, SignedObject, EncodedJws, JwsParts, built, jws_written, jws_text}
 use Rattle.objects.specs.Texts.{handed_out}
 use Rattle.objects.specs.Writing.{Written, all_texts}
-use Rattle.objects.proofs.JwsWritten.{jws_refused}
-use Rattle.objects.proofs.SpellingJws.{signature_spelled, spelled, parts_spelled, is_built, object_keeps}
+use Rattle.objects.proofs.Lemmas.{signature_spelled, parts_spelled, spelled, jws_is_built, object_keeps, jws_refused}
 use Rattle.tokens.specs.Signatures.{signature_hash, signature_of}
 use Rattle.tokens.specs.Signing.{Signer, Signing, protected_by, signature_by, unsigned_part_by, unsigned_by, signed, text_before, written_of, plan_by, read_signing, sig_plan}
 use Rattle.tokens.specs.SigningInputs.{signature_text, unsigned_protected}
@@ -73,7 +72,7 @@ pub unsigned_are : (s : Signing) (o : SignedObject) → unsigned_by limits s ≡
 unfolding unsigned_by
 unsigned_are s o made =
     let parts : JwsParts = record { payload = []; signatures = map (unsigned_part_by s.header) s.signers } in
-    let kept : spelled o ≡ parts_spelled parts = object_keeps limits parts o (is_built limits parts o made) in
+    let kept : spelled o ≡ parts_spelled parts = object_keeps limits parts o (jws_is_built limits parts o made) in
     own_texts o.signatures ∙ ap (λ (t : EncodedJws). map (λ (x : EncodedSignature). x.protected) t.signatures) kept ∙ given_texts s.header s.signers
 
 pub unsigned_count : (s : Signing) (o : SignedObject) → unsigned_by limits s ≡ Ok o → length o.signatures ≡ length s.signers

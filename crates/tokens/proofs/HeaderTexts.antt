@@ -5,17 +5,13 @@ use Rattle.serde_json.specs.Data.{Data, Members, no_members, member, object, dep
 use Rattle.serde_json.specs.Find.{get, as_object}
 use Rattle.serde_json.specs.Written.{compact_text}
 use Rattle.octets.specs.Octets.{IsOctets}
-use Rattle.octets.proofs.Decoded.{IsOctets-nil}
+use Rattle.octets.proofs.Lemmas.{IsOctets-nil, same_answer}
 use Rattle.keys.specs.Json.{json_value}
 use Rattle.keys.specs.JsonTexts.{IsJson, AreJsonMembers}
 use Rattle.keys.specs.Limits.{Limits}
-use Rattle.keys.proofs.CompactTexts.{text_is_utf8}
-use Rattle.keys.proofs.JsonParts.{keep_json}
-use Rattle.keys.proofs.ReadingBack.{reads_back}
+use Rattle.keys.proofs.Lemmas.{octets_of_utf8, text_is_utf8, reads_back, keep_json}
 use Rattle.objects.specs.Headers.{header_at, members_if_there, some_members, protected_members, members_of_json}
 use Rattle.objects.specs.Texts.{header_depth, listed_header_depth, depth_of_each}
-use Rattle.objects.proofs.Steps.{same_answer}
-use Rattle.objects.proofs.TextOctets.{octets_of_utf8}
 use Rattle.tokens.specs.Template.{header_text, is_shallow}
 
 -- ---- the headers of a value

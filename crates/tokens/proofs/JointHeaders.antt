@@ -13,12 +13,11 @@ use Rattle.serde_json.specs.Data.{Data, Members, no_members, member, object, dep
 use Rattle.serde_json.specs.Find.{get_member}
 use Rattle.serde_json.proofs.Views.{get_member-put, get_member-put_other}
 use Rattle.keys.specs.JsonTexts.{AreJsonMembers}
-use Rattle.keys.proofs.JsonParts.{keep_json}
+use Rattle.keys.proofs.Lemmas.{keep_json}
 use Rattle.objects.specs.Headers.{overlap, are_disjoint, all_members, has_no_crit}
 use Rattle.objects.specs.Jwe.{has_no_crit_or_zip}
 use Rattle.objects.specs.Texts.{listed_header_depth}
-use Rattle.objects.proofs.Members.{Entries, put_if_there, first_there, IsJsonIfThere, AreJsonEntries}
-use Rattle.objects.proofs.Names.{get_member-all_members}
+use Rattle.objects.proofs.Lemmas.{get_member-all_members, Entries, put_if_there, first_there, IsJsonIfThere, AreJsonEntries}
 
 -- ---- entries that are put into a header
 

@@ -8,19 +8,17 @@ use Rattle.serde_json.specs.Data.{Data, unsigned, number, string, Members, put}
 use Rattle.serde_json.specs.Find.{get_member, as_str, as_number, as_u64}
 use Rattle.octets.specs.Octets.{IsOctets}
 use Rattle.octets.specs.Base64url.{base64url, is_url_character}
-use Rattle.octets.proofs.Characters.{has_url_characters}
-use Rattle.octets.proofs.Meanings.{decodes_exactly}
+use Rattle.octets.proofs.Lemmas.{decodes_exactly, has_url_characters}
 use Rattle.keys.specs.declared.algorithm.ContentEncryptionAlg.{ContentEncryptionAlg}
 use Rattle.keys.specs.declared.algorithm.KeyManagementAlg.{KeyManagementAlg}
 use Rattle.keys.specs.declared.algorithm.KeyManagementMode.{KeyManagementMode}
 use Rattle.keys.specs.declared.algorithm.KeyManagementMode.TheVariants as mode
 use Rattle.keys.specs.Algorithms.{management_name, encryption_name, mode_of, is_password, is_password_based, management_algs}
-use Rattle.keys.proofs.UrlTexts.{url_texts_are_json}
+use Rattle.keys.proofs.Lemmas.{url_texts_are_json}
 use Rattle.objects.specs.Headers.{all_members, joint_header, required, if_there, string_parameter, string_there, number_parameter, salt_parameter, octets_parameter}
 use Rattle.objects.specs.Jwe.{Recipient, recipient_by, recipient_of}
 use Rattle.objects.specs.KeyManagement.{management_in, KeyManagement, Unknown, Direct, KeyWrap, Password, GcmKeyWrap, password_management, gcm_management, management_by, key_management}
-use Rattle.objects.proofs.Members.{Entries, put_if_there, first_there, IsJsonIfThere, AreJsonEntries}
-use Rattle.objects.proofs.Spelling.{name_is_json}
+use Rattle.objects.proofs.Lemmas.{Entries, put_if_there, first_there, IsJsonIfThere, AreJsonEntries, name_is_json}
 use Rattle.tokens.specs.Choosing.{with_name, with_p2c, Given}
 use Rattle.tokens.specs.Delivering.{drawn_in, delivered_in, salt_len, drawn_by, management_with, Delivery}
 use Rattle.tokens.specs.Encrypting.{with_management, with_parameters}

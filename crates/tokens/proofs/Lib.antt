@@ -37,3 +37,4 @@ pub mod EncryptingGrowth
 pub mod EncryptionFrames
 pub mod StandingCiphertexts
 pub mod MoreAlgorithms
+pub mod Lemmas

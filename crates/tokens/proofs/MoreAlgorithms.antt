@@ -18,8 +18,8 @@ use Rattle.objects.specs.Jws as jws
 use Rattle.objects.specs.Jws.{EncodedJws, DecodedSignature, HeadedSignature, Signature, SignedObject, decoded_signature, headed_signature, signature_by, signatures_of, signed_object, encoded_jws, jws_of}
 use Rattle.objects.specs.KeyManagement.{KeyManagement, management_by, key_management}
 use Rattle.objects.specs.Texts.{each}
-use Rattle.objects.proofs.EachRead.{all_passed}
-use Rattle.objects.proofs.Steps.{steps, passed, same_answer}
+use Rattle.objects.proofs.Lemmas.{all_passed}
+use Rattle.octets.proofs.Lemmas.{steps, passed, same_answer}
 use Rattle.tokens.specs.Decrypting.{algorithms_of, all_pairs, pairs_to_try, decrypted}
 use Rattle.tokens.specs.MoreAlgorithms.{knowing, needs_no_more, OpensAlike}
 

@@ -5,7 +5,7 @@ use Rattle.std.specs.List.{AllByRecursion, list_all, list_any}
 use Rattle.octets.specs.declared.refusal.Refusal.{Refusal}
 use Rattle.octets.specs.Outcomes.{◌>>=◌}
 use Rattle.objects.specs.Texts.{each}
-use Rattle.objects.proofs.Steps.{steps, same_answer}
+use Rattle.octets.proofs.Lemmas.{steps, same_answer}
 
 -- ---- read from others
 

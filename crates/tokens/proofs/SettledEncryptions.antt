@@ -17,12 +17,11 @@ use Rattle.keys.specs.Algorithms.{management_name, encryption_name, is_password_
 use Rattle.keys.specs.Json.{json_value}
 use Rattle.keys.specs.Keys.{OctetKey, allows, fits}
 use Rattle.keys.specs.Limits.{Limits}
-use Rattle.keys.proofs.ValuesRead.{reads_json}
+use Rattle.keys.proofs.Lemmas.{reads_json}
 use Rattle.objects.specs.Headers.{are_disjoint, all_members, if_there}
 use Rattle.objects.specs.Texts.{each}
-use Rattle.objects.proofs.EachRead.{all_passed, all_then, all_both, each_keeps}
-use Rattle.objects.proofs.Members.{Entries}
-use Rattle.objects.proofs.Steps.{steps, passed, same_answer}
+use Rattle.objects.proofs.Lemmas.{all_passed, all_then, all_both, each_keeps, Entries}
+use Rattle.octets.proofs.Lemmas.{steps, passed, same_answer}
 use Rattle.tokens.specs.Choosing.{chosen_management, RecipientKey, recipient_key_by, is_alone, direct_key_is_alone, encryption_for, may_encrypt, password_count, chosen_p2c, p2c_may_be_written, with_name, is_given, EncryptionPlan, compact_has_room, settle_encryption, read_encryption}
 use Rattle.tokens.specs.Encrypting.{AreSound}
 use Rattle.tokens.specs.EncryptionTemplate.{AlgorithmsAsked, EncryptionTemplate, encryption_template}

@@ -7,7 +7,7 @@ use Rattle.serde_json.specs.Data.{Members, object, depth}
 use Rattle.octets.specs.declared.refusal.Refusal.TheVariants.{KeyDoesNotFit, Limit, NotCompact}
 use Rattle.octets.specs.Outcomes.{needs}
 use Rattle.octets.specs.Plan.{OutputTexts}
-use Rattle.octets.proofs.Meanings.{meaning_of_text}
+use Rattle.octets.proofs.Lemmas.{meaning_of_text, steps, passed, same_answer}
 use Rattle.keys.specs.declared.algorithm.SignatureAlg.{SignatureAlg}
 use Rattle.keys.specs.declared.algorithm.SignatureAlg.TheVariants.{Hs256, Hs384, Hs512}
 use Rattle.keys.specs.Algorithms.{signature_name, management_alg_among, management_alg_of}
@@ -15,14 +15,12 @@ use Rattle.keys.specs.Json.{json_value, member_numbers_are_whole}
 use Rattle.keys.specs.JsonTexts.{AreJsonMembers}
 use Rattle.keys.specs.Keys.{OctetKey}
 use Rattle.keys.specs.Limits.{limits, are_few}
-use Rattle.keys.proofs.ReadingBack.{numbers_whole}
-use Rattle.keys.proofs.ValuesRead.{reads_json}
+use Rattle.keys.proofs.Lemmas.{numbers_whole, reads_json}
 use Rattle.objects.specs.Headers.{joint_header, string_there, has_no_crit}
 use Rattle.objects.specs.Jws as jws
 use Rattle.objects.specs.Jws.{SignatureParts, Signature, SignedObject, DecodedSignature, HeadedSignature, decoded_part, headed_signature, headers_have_no_crit, signatures_of, signed_object, built, jws_text}
 use Rattle.objects.specs.Texts.{each, handed_out, depth_of_each}
-use Rattle.objects.proofs.EachRead.{all_passed, all_both}
-use Rattle.objects.proofs.Steps.{steps, same_answer, passed}
+use Rattle.objects.proofs.Lemmas.{all_passed, all_both}
 use Rattle.tokens.specs.Signatures.{signature_of}
 use Rattle.tokens.specs.Signing.{Signer, Signing, signer_by, may_sign, compact_has_room, settle_signing, read_signing, protected_by, signature_by, signed, written_of}
 use Rattle.tokens.specs.Template.{SignatureTemplate, template_of, header_text, is_shallow}

@@ -9,7 +9,7 @@ use Rattle.serde_json.specs.Data.{Members}
 use Rattle.octets.specs.Octets.{IsOctets}
 use Rattle.octets.specs.Outcomes.{◌>>=◌}
 use Rattle.octets.specs.Plan.{OutputTexts, Plan}
-use Rattle.octets.proofs.Characters.{has_url_characters}
+use Rattle.octets.proofs.Lemmas.{has_url_characters, steps, same_answer}
 use Rattle.prf.specs.Hmac.{hmac}
 use Rattle.prf.specs.Sha2Octets.{IsOctets-sha256, IsOctets-sha384, IsOctets-sha512}
 use Rattle.keys.specs.declared.algorithm.SignatureAlg.{SignatureAlg}
@@ -20,12 +20,10 @@ use Rattle.keys.specs.Algorithms.{signature_alg_of}
 use Rattle.keys.specs.JsonTexts.{AreJsonMembers}
 use Rattle.keys.specs.Keys.{OctetKey, allows, fits}
 use Rattle.keys.specs.Limits.{limits, are_few}
-use Rattle.keys.proofs.UrlTexts.{url_texts_are_json}
+use Rattle.keys.proofs.Lemmas.{url_texts_are_json}
 use Rattle.objects.specs.Jws.{SignatureParts, Signature, SignedObject, AreMembers, TextsSpellObjects, json_text, jws_compact_text, jws_of, jws_text}
 use Rattle.objects.specs.Texts.{handed_in}
-use Rattle.objects.proofs.EachRead.{all_images}
-use Rattle.objects.proofs.SpellingJws.{is_built}
-use Rattle.objects.proofs.Steps.{steps, same_answer}
+use Rattle.objects.proofs.Lemmas.{all_images, jws_is_built}
 use Rattle.tokens.specs.Signatures.{signature_of}
 use Rattle.tokens.specs.Signing.{Signer, Signing, signer_by, read_signing, protected_by, signature_by, parts_by, signed, written_of, plan_by, sig_plan}
 use Rattle.tokens.specs.Template.{SignatureTemplate, header_text}
@@ -70,7 +68,7 @@ texts_are_read : TextsSpellObjects → (compact detach : Bool) (keys : List Octe
 unfolding signed
 texts_are_read spells compact detach keys s payload texts octets is h =
     let o = steps (signed limits s payload) (written_of compact detach) texts h in
-    let built = is_built limits (parts_by s payload) o.0 o.1 in
+    let built = jws_is_built limits (parts_by s payload) o.0 o.1 in
     let long : length (map (signature_by s.header payload) s.signers) ≡ length s.signers = length-map s.signers (signature_by s.header payload) in
     let some : nat_le 1 (length s.signers) ≡ true = ap (nat_le 1) (sym long) ∙ built.some in
     let few : are_few limits (length s.signers) ≡ true = ap (λ n. are_few limits n) (sym long) ∙ built.few in

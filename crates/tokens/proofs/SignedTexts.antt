@@ -8,8 +8,8 @@ use Rattle.keys.specs.Limits.{limits, are_few}
 use Rattle.objects.specs.Jws.{SignedObject, parts_of, with_compact, is_compact, json_text, jws_compact_text, jws_text}
 use Rattle.objects.specs.Texts.{handed_out, has_members}
 use Rattle.objects.specs.Writing.{nothing_written, inside}
-use Rattle.objects.proofs.Each.{as_many}
-use Rattle.objects.proofs.Steps.{steps, same_answer}
+use Rattle.objects.proofs.Lemmas.{as_many}
+use Rattle.octets.proofs.Lemmas.{steps, same_answer}
 use Rattle.tokens.specs.Signing.{Signer, Signing, signer_by, compact_has_room, read_signing, signed, written_of, plan_by, sig_plan, SigningMakesTexts}
 use Rattle.tokens.specs.Template.{is_empty}
 use Rattle.tokens.proofs.SignedObjects.{is_signing, made_by, object_by, signed_is, is_written}

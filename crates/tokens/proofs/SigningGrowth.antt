@@ -6,8 +6,8 @@ use Rattle.octets.specs.Outcomes.{◌>>=◌}
 use Rattle.octets.specs.Plan.{OutputTexts, Begins}
 use Rattle.keys.specs.Limits.{limits}
 use Rattle.objects.specs.Frames.{filled, in_places, first_text, jws_frame, IsJwsFrame}
-use Rattle.objects.proofs.JwsFrames.{is_jws_frame}
-use Rattle.objects.proofs.Steps.{same_answer}
+use Rattle.objects.proofs.Lemmas.{is_jws_frame}
+use Rattle.octets.proofs.Lemmas.{same_answer}
 use Rattle.tokens.specs.Signing.{Signing, unsigned_by, text_before, text_fixed, plan_by, SigningGrows}
 use Rattle.tokens.proofs.Beginnings.{begins_behind, empty_begins, groups_grow, frame_begins, handed_out_begins, BothBegin, both_grow_by_beginnings}
 use Rattle.tokens.proofs.FramedSigning.{octets_by, whole_is, has_frame}

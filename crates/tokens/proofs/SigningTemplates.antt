@@ -17,12 +17,10 @@ use Rattle.keys.specs.Algorithms.{signature_name, signature_alg_of}
 use Rattle.keys.specs.Json.{is_object, has_only}
 use Rattle.keys.specs.JsonTexts.{IsJson, AreJsonMembers}
 use Rattle.keys.specs.Keys.{OctetKey}
-use Rattle.keys.proofs.JsonParts.{keep_json}
-use Rattle.keys.proofs.UrlTexts.{url_texts_are_json}
+use Rattle.keys.proofs.Lemmas.{keep_json, url_texts_are_json}
 use Rattle.objects.specs.Headers.{header_at, overlap, all_members, are_disjoint, joint_header, string_parameter, if_there, required, has_no_crit}
-use Rattle.objects.proofs.Names.{get_member-all_members}
-use Rattle.objects.proofs.Spelling.{name_is_json}
-use Rattle.objects.proofs.Steps.{steps, same_answer, passed}
+use Rattle.objects.proofs.Lemmas.{get_member-all_members, name_is_json}
+use Rattle.octets.proofs.Lemmas.{steps, passed, same_answer}
 use Rattle.tokens.specs.Template.{SignatureTemplate, template_headers, template_of, named_alg, supported, supported_if_there, with_alg}
 use Rattle.tokens.specs.Signing.{Signer, chosen_alg, signer_by}
 use Rattle.tokens.proofs.HeaderTexts.{members_json}

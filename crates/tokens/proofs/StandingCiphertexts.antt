@@ -9,13 +9,11 @@ use Rattle.octets.specs.Outcomes.{◌>>=◌}
 use Rattle.octets.specs.Encoding.{encoding}
 use Rattle.octets.specs.Plan.{OutputTexts, Plan, Begins, Grows, as_it_is, beginning_of, begun, fixed_by, planned}
 use Rattle.octets.specs.Pumps.{behind}
-use Rattle.octets.proofs.Agreement.{appended-append, begun_whole}
-use Rattle.octets.proofs.Streaming.{AppendsPrefixOf-Begins}
+use Rattle.octets.proofs.Lemmas.{steps, same_answer, begun_whole, appended-append, AppendsPrefixOf-Begins}
 use Rattle.ciphers.specs.Sealing.{Sealed, Sealing}
 use Rattle.keys.specs.Limits.{limits}
 use Rattle.objects.specs.Frames.{filled, first_text}
 use Rattle.objects.specs.Jwe.{built}
-use Rattle.objects.proofs.Steps.{steps, same_answer}
 use Rattle.tokens.specs.Choosing.{EncryptionPlan}
 use Rattle.tokens.specs.Encrypting.{sealing_by, sealed_by, text_before, parts_by, written_of, encrypted, plan_by, ciphertext_fixed}
 use Rattle.tokens.specs.SealedTexts.{sealed_plan, IsUnsealed}

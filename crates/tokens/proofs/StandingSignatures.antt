@@ -7,9 +7,7 @@ use Rattle.octets.specs.Base64url.{base64url, whole_groups}
 use Rattle.octets.specs.Devices.{appended, IsPossibleInput, AppendsPrefixOf}
 use Rattle.octets.specs.Octets.{IsOctets}
 use Rattle.octets.specs.Plan.{OutputTexts, Plan, Begins, beginning_of, begun, fixed_by, planned}
-use Rattle.octets.proofs.Agreement.{appended-append, begun_whole, both_written}
-use Rattle.octets.proofs.Decoded.{IsOctets-nil}
-use Rattle.octets.proofs.Streaming.{AppendsPrefixOf-Begins}
+use Rattle.octets.proofs.Lemmas.{IsOctets-nil, begun_whole, appended-append, both_written, AppendsPrefixOf-Begins}
 use Rattle.prf.specs.HashFunction.{HashFunction}
 use Rattle.objects.specs.Frames.{filled, IsJwsFrame}
 use Rattle.tokens.specs.Signing.{Signer}

@@ -5,7 +5,7 @@ use Rattle.prf.specs.HashFunction.{HashFunction}
 use Rattle.prf.specs.Hmac.{hmac}
 use Rattle.octets.specs.Base64url.{base64url}
 use Rattle.octets.specs.Devices.{AppendsPrefixOf}
-use Rattle.octets.proofs.Prefixes.{AppendsPrefixOf-front, AppendsPrefixOf-part}
+use Rattle.octets.proofs.Lemmas.{AppendsPrefixOf-front, AppendsPrefixOf-part}
 use Rattle.objects.specs.Frames.{filled}
 use Rattle.tokens.specs.Signatures.{signature_hash}
 use Rattle.tokens.specs.Signing.{Signer, protected_by}

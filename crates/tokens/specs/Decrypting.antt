@@ -91,7 +91,7 @@ pairs_to_try limits keys recipients = do
 
 -- ---- what a pair opens
 
--- the text of the protected header, and after a dot that of the other additional data, where there are some (step 14)
+-- the text of the protected header, and after a dot that of the other additional data, where there are some (step 15)
 abbrev pub additional_authenticated_data : List ℕ → List ℕ → List ℕ
 additional_authenticated_data protected [] = protected
 additional_authenticated_data protected (a ∷ aad) = protected ++ (byte "." ∷ base64url (a ∷ aad))

@@ -2,7 +2,7 @@
 ghost use Rattle.std.specs.Prelude.{◌≡◌, ◌++◌, List};
 ghost use Rattle.keys.specs.declared.algorithm.KeyManagementAlg.{KeyManagementAlg};
 ghost use Rattle.keys.specs.Algorithms.{earlier_management_algs, gcm_management_algs};
-ghost use Rattle.keys.specs.Limits.{Limits, limits};
+ghost use Rattle.keys.specs.Limits.{Limits, limits, earlier_limits};
 ghost use Rattle.tokens.specs.Encrypting.{AreSound, EncryptedDecrypts, EncryptingGrows, EncryptingMakesTexts};
 ghost use Rattle.tokens.specs.MoreAlgorithms.{knowing, OpensAlike};
 ghost use Rattle.tokens.specs.Signing.{SigningGrows, SigningMakesTexts};
@@ -68,4 +68,6 @@ pub fn more_algorithms_open_alike()
     ensures all { (limits : Limits) (known further : List KeyManagementAlg) → OpensAlike limits known further }
     ensures gcm { OpensAlike limits earlier_management_algs gcm_management_algs
         × (knowing limits (earlier_management_algs ++ gcm_management_algs) ≡ limits) }
+    ensures earlier { OpensAlike earlier_limits earlier_management_algs gcm_management_algs
+        × (knowing earlier_limits (earlier_management_algs ++ gcm_management_algs) ≡ earlier_limits) }
 {}

@@ -5,7 +5,7 @@ ghost use Rattle.std.specs.Result.{result_unwrap_or};
 ghost use Rattle.octets.specs.Devices.{AppendsPrefixOf};
 ghost use Rattle.octets.specs.Faults.{TellsFaults};
 ghost use Rattle.octets.specs.Lent.{lent, wrote_on, IfLent, counts_of};
-ghost use Rattle.octets.specs.Outcomes.{AgreesUnlessMemory, AgreesUnlessExternal};
+ghost use Rattle.octets.specs.Outcomes.{Agrees, AgreesUnlessExternal};
 ghost use Rattle.keys.specs.Algorithms.{signature_alg_of};
 ghost use Rattle.keys.specs.Views.{key_view};
 ghost use Rattle.objects.specs.Views.{held_view, jws_view, signature_view};
@@ -52,8 +52,7 @@ pub fn jws_verify<O: Output>(
 /// supported, with `KeyDoesNotFit` where no key may verify and fits, and with `NotOpened` where it does not verify.
 #[tactic(auto, unfolding(crate::specs::Verifying::verified_payload), using(crate::proofs::Tests::views))]
 fn verified(keys: &KeySet, jws: &Jws<'_>, all: bool) -> Result<(), Refusal>
-    ensures exact { AgreesUnlessMemory (λ done. (jws_view jws.now).payload) result (verified_payload all keys.now (jws_view jws.now)) }
-    ensures no_memory { IfErr result (λ refusal. refusal ≢ Refusal.Memory) }
+    ensures exact { Agrees (λ done. (jws_view jws.now).payload) result (verified_payload all keys.now (jws_view jws.now)) }
 {
     needs(has_supported(jws.signatures()), Refusal::Unsupported)?;
     needs(

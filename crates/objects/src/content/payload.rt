@@ -3,7 +3,7 @@
 ghost use Rattle.std.specs.Prelude.{◌≡◌, ◌++◌, Err, IfOk, IfErr, OnOk, OnErr, IsTrue};
 ghost use Rattle.octets.specs.Base64url.{base64url, decoded};
 ghost use Rattle.octets.specs.Devices.{next_count, AppendsPrefixOf};
-ghost use Rattle.octets.specs.Outcomes.{AgreesUnlessMemory};
+ghost use Rattle.octets.specs.Outcomes.{Agrees};
 ghost use Rattle.objects.specs.Texts.{meaning};
 ghost use Rattle.objects.specs.Views.{held_view, payload_view, received_view};
 
@@ -35,7 +35,7 @@ pub enum HeldContent<'c> {
 impl<'t> ReceivedText<'t> {
     /// Refused with `Base64` where the text is no base64url text.
     pub(crate) fn read(text: &'t [u8]) -> Result<ReceivedText<'t>, Refusal>
-        ensures { AgreesUnlessMemory received_view result (decoded text.entry.now) }
+        ensures { Agrees received_view result (decoded text.entry.now) }
     {
         are_octets(text);
         base64url_decodes_exactly();
@@ -93,7 +93,7 @@ impl HeldContent<'_> {
 
 /// Refused with `Base64` where the text is no base64url text.
 fn check(text: &[u8]) -> Result<(), Refusal>
-    ensures { AgreesUnlessMemory (λ done. meaning text.now) result (decoded text.now) }
+    ensures { Agrees (λ done. meaning text.now) result (decoded text.now) }
 {
     are_octets(text);
     base64url_decodes_exactly();

@@ -1,6 +1,6 @@
 //! The parts of a joint header: how each is read, and what members it has (RFC 7515 section 4, RFC 7516 section 4).
 ghost use Rattle.std.specs.Prelude.{◌≡◌, true, false, IfOk, IfErr, Some, option_map};
-ghost use Rattle.octets.specs.Outcomes.{AgreesUnlessMemory};
+ghost use Rattle.octets.specs.Outcomes.{Agrees, AgreesUnlessMemory};
 ghost use Rattle.serde_json.specs.Data.{no_members};
 ghost use Rattle.serde_json.specs.Find.{get_member};
 ghost use Rattle.serde_json.specs.View.{view, members_view};
@@ -24,7 +24,7 @@ pub fn header_at<'v>(
     value: &'v Value,
     name: &str,
 ) -> Result<Option<&'v Map<String, Value>>, Refusal>
-    ensures exact { AgreesUnlessMemory part_view result (header_at name.now (view value.now)) }
+    ensures exact { Agrees part_view result (header_at name.now (view value.now)) }
     ensures no_float { IfOk result (λ part. has_float (view value.now) ≡ false
         → members_have_float (part_view part) ≡ false) }
     ensures refusal { IfErr result (λ e. e ≡ Refusal.Form) }
@@ -106,7 +106,7 @@ pub(crate) fn copy(
     }
 }
 
-/// The members of a protected header's octets (RFC 7515 section 4.1). No octets stand for a header
+/// The members of a protected header's octets (RFC 7515 section 5.2, step 3). No octets stand for a header
 /// with no members. Refused with `Json`, `Number`, and then with `Header` where it is no object.
 #[tactic(auto, unfolding(crate::specs::Headers::protected_members))]
 pub fn read_protected(alloc: Global, octets: &[u8]) -> Result<Map<String, Value>, Refusal>

@@ -4,7 +4,7 @@ ghost use Rattle.std.specs.Prelude.{◌≡◌, false, length, map, option_map, I
 ghost use Rattle.serde_json.specs.View.{view, items_view};
 ghost use Rattle.serde_json.specs.Written.{has_float, items_have_float};
 ghost use Rattle.octets.specs.Base64url.{base64url};
-ghost use Rattle.octets.specs.Outcomes.{AgreesUnlessMemory};
+ghost use Rattle.octets.specs.Outcomes.{Agrees, AgreesUnlessMemory};
 ghost use Rattle.objects.specs.Views.{encoded_shared_view, encoded_recipient_view, encoded_content_view, encoded_jwe_view, jwe_members_view, recipient_members_view};
 ghost use Rattle.objects.specs.Jwe.{encoded_shared, encoded_recipient, encoded_content, no_recipient_at, recipient_objects, encoded_in_json, encoded_in_compact, decoded_recipient, decoded_members};
 ghost use Rattle.objects.specs.Texts.{each, each_item};
@@ -60,7 +60,7 @@ impl<'t> EncodedJwe<'t> {
 }
 
 /// The members of an object in JSON form (RFC 7516 section 7.2). Refused with `Form` where one has a wrong type, `ciphertext`
-/// is there and was handed in too, or is neither, or what is there of recipients is neither one nor a list of at least one.
+/// is there and not empty and was handed in too, or is neither, or what is there of recipients is neither one nor a list of at least one.
 #[tactic(auto, unfolding(crate::specs::Jwe::encoded_in_json))]
 pub(crate) fn encoded_in_json(
     alloc: Global,
@@ -100,7 +100,7 @@ fn encoded_shared(alloc: Global, value: &Value) -> Result<EncodedShared<'_>, Ref
 #[tactic(auto, unfolding(crate::specs::Jwe::recipient_objects))]
 fn recipient_objects(value: &Value) -> Result<&[Value], Refusal>
     requires { has_float (view value.now) ≡ false }
-    ensures exact { AgreesUnlessMemory (λ objects. items_view objects.now) result (recipient_objects (view value.now)) }
+    ensures exact { Agrees (λ objects. items_view objects.now) result (recipient_objects (view value.now)) }
     ensures no_float { IfOk result (λ objects. items_have_float (items_view objects.now) ≡ false) }
 {
     members_keep_floats_out();
@@ -116,7 +116,7 @@ fn recipient_objects(value: &Value) -> Result<&[Value], Refusal>
 /// Refused with `Form` where something of a recipient stands in the object.
 #[tactic(auto, unfolding(crate::specs::Jwe::no_recipient_at, crate::specs::Jwe::encoded_recipient))]
 fn no_recipient_at(value: &Value) -> Result<(), Refusal>
-    ensures { AgreesUnlessMemory (λ done. done) result (no_recipient_at (view value.now)) }
+    ensures { Agrees (λ done. done) result (no_recipient_at (view value.now)) }
 {
     let encrypted_key = text_at(value, "encrypted_key")?;
     let header = header_at(value, "header")?;
@@ -157,7 +157,7 @@ fn encoded_recipient(alloc: Global, value: &Value) -> Result<EncodedRecipient<'_
 
 #[tactic(auto, unfolding(crate::specs::Jwe::encoded_content))]
 fn encoded_content(value: &Value, detached: Option<Vec<u8>>) -> Result<EncodedContent<'_>, Refusal>
-    ensures { AgreesUnlessMemory encoded_content_view result (encoded_content (option_map (λ c. c.items) detached) (view value.now)) }
+    ensures { Agrees encoded_content_view result (encoded_content (option_map (λ c. c.items) detached) (view value.now)) }
 {
     let iv = text_at(value, "iv")?;
     let ciphertext = Content::of_member(value, "ciphertext", detached)?;

@@ -37,7 +37,7 @@ pub(crate) struct JweMembers {
 pub struct RecipientParts {
     /// The per-recipient unprotected header (RFC 7516 section 7.2.1): the member `header`.
     pub header: Map<String, Value>,
-    /// The encrypted key, of no octets where the content encryption key is agreed on.
+    /// The encrypted key, of no octets where the key is the content encryption key.
     pub encrypted_key: Vec<u8>,
 }
 

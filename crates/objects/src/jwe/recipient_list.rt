@@ -4,7 +4,7 @@ ghost use Rattle.keys.specs.Limits.{limits};
 
 use crate::jwe::recipient::Recipient;
 
-/// The recipients of an object: 64 at most.
+/// The recipients of an object: 256 at most.
 #[derive(Drop)]
 pub(crate) struct RecipientList {
     pub(crate) list: Vec<Recipient>,

@@ -3,7 +3,7 @@
 ghost use Rattle.std.specs.Prelude.{◌≡◌, false, length, map, option_map, IfOk};
 ghost use Rattle.serde_json.specs.View.{view, items_view};
 ghost use Rattle.serde_json.specs.Written.{has_float, items_have_float};
-ghost use Rattle.octets.specs.Outcomes.{AgreesUnlessMemory};
+ghost use Rattle.octets.specs.Outcomes.{Agrees, AgreesUnlessMemory};
 ghost use Rattle.objects.specs.Jws.{encoded_signature, no_signature_at, signature_objects, encoded_in_json, encoded_in_compact, decoded_signature, decoded_part};
 ghost use Rattle.objects.specs.Texts.{each, each_item};
 ghost use Rattle.objects.specs.Views.{encoded_jws_view, encoded_signature_view, decoded_signature_view};
@@ -37,7 +37,7 @@ pub(crate) struct EncodedSignature<'t> {
 }
 
 /// The members of an object in JSON form (RFC 7515 section 7.2). Refused with `Form` where one has a wrong type, `payload` is
-/// there and was handed in too, or is neither, or what is there of signatures is neither one nor a list of at least one.
+/// there and not empty and was handed in too, or is neither, or what is there of signatures is neither one nor a list of at least one.
 #[tactic(auto, unfolding(crate::specs::Jws::encoded_in_json))]
 pub(crate) fn encoded_in_json(
     alloc: Global,
@@ -60,7 +60,7 @@ pub(crate) fn encoded_in_json(
 #[tactic(auto, unfolding(crate::specs::Jws::signature_objects))]
 fn signature_objects(value: &Value) -> Result<&[Value], Refusal>
     requires { has_float (view value.now) ≡ false }
-    ensures exact { AgreesUnlessMemory (λ objects. items_view objects.now) result (signature_objects (view value.now)) }
+    ensures exact { Agrees (λ objects. items_view objects.now) result (signature_objects (view value.now)) }
     ensures no_float { IfOk result (λ objects. items_have_float (items_view objects.now) ≡ false) }
 {
     members_keep_floats_out();
@@ -76,7 +76,7 @@ fn signature_objects(value: &Value) -> Result<&[Value], Refusal>
 /// Refused with `Form` where something of a signature stands in the object.
 #[tactic(auto, unfolding(crate::specs::Jws::no_signature_at))]
 fn no_signature_at(value: &Value) -> Result<(), Refusal>
-    ensures { AgreesUnlessMemory (λ done. done) result (no_signature_at (view value.now)) }
+    ensures { Agrees (λ done. done) result (no_signature_at (view value.now)) }
 {
     let protected = text_at(value, "protected")?;
     let header = header_at(value, "header")?;

@@ -3,7 +3,7 @@
 ghost use Rattle.std.specs.Prelude.{◌≡◌, ◌≤◌, ◌==◌, ◌*◌, Some, true, false, is_some, length, map, option_map, IfOk, IfErr};
 ghost use Rattle.std.specs.List.{list_all, list_any};
 ghost use Rattle.serde_json.specs.Written.{members_have_float};
-ghost use Rattle.octets.specs.Outcomes.{AgreesUnlessMemory};
+ghost use Rattle.octets.specs.Outcomes.{Agrees, AgreesUnlessMemory};
 ghost use Rattle.keys.specs.Limits.{limits};
 ghost use Rattle.keys.specs.Views.{key_view};
 ghost use Rattle.objects.specs.Texts.{each};
@@ -93,7 +93,7 @@ fn settle_encryption<'k>(
 }
 
 /// The receivers that the keys are.
-#[tactic(auto, using(objects::proofs::Each::reading))]
+#[tactic(auto, using(objects::proofs::Lemmas::reading))]
 fn receivers_by<'k>(
     alloc: Global,
     asked: Option<KeyManagementAlg>,
@@ -116,7 +116,7 @@ fn recipient_key_by<'k>(
     asked: Option<KeyManagementAlg>,
     key: &'k Key,
 ) -> Result<RecipientKey<'k>, Refusal>
-    ensures { AgreesUnlessMemory recipient_key_view result (recipient_key_by_key asked (key_view key.now)) }
+    ensures { Agrees recipient_key_view result (recipient_key_by_key asked (key_view key.now)) }
 {
     let management = chosen_management(asked, key)?;
     Ok(RecipientKey { key, management })
@@ -127,7 +127,7 @@ fn chosen_management(
     asked: Option<KeyManagementAlg>,
     key: &Key,
 ) -> Result<KeyManagementAlg, Refusal>
-    ensures { AgreesUnlessMemory (λ alg. alg) result (chosen_management asked (key_view key.now)) }
+    ensures { Agrees (λ alg. alg) result (chosen_management asked (key_view key.now)) }
 {
     match asked {
         Some(alg) => Ok(alg),
@@ -137,7 +137,7 @@ fn chosen_management(
 
 /// The algorithm that the key's `alg` asks for, or the one that its length implies.
 fn management_of_key(name: Option<&str>, len: usize) -> Result<KeyManagementAlg, Refusal>
-    ensures { AgreesUnlessMemory (λ alg. alg) result (management_of_key (option_map (λ n. n.now) name.entry) len) }
+    ensures { Agrees (λ alg. alg) result (management_of_key (option_map (λ n. n.now) name.entry) len) }
 {
     match name {
         None => management_by_length(len).ok_or(Refusal::NoAlgorithm),
@@ -208,7 +208,7 @@ fn encryption_for(
     asked: Option<ContentEncryptionAlg>,
     receivers: &[RecipientKey<'_>],
 ) -> Result<ContentEncryptionAlg, Refusal>
-    ensures { AgreesUnlessMemory (λ alg. alg) result (encryption_for asked (map recipient_key_view receivers.now)) }
+    ensures { Agrees (λ alg. alg) result (encryption_for asked (map recipient_key_view receivers.now)) }
 {
     match receivers.first() {
         None => Err(Refusal::NoAlgorithm),
@@ -222,7 +222,7 @@ fn chosen_encryption(
     management: KeyManagementAlg,
     key: &Key,
 ) -> Result<ContentEncryptionAlg, Refusal>
-    ensures { AgreesUnlessMemory (λ alg. alg) result (chosen_encryption asked management (key_view key.now)) }
+    ensures { Agrees (λ alg. alg) result (chosen_encryption asked management (key_view key.now)) }
 {
     match asked {
         Some(alg) => Ok(alg),
@@ -309,7 +309,7 @@ fn password_count(receivers: &[RecipientKey<'_>]) -> usize
 /// The iterations for so many passwords: those of the template, or else the usual number. There are none for no password.
 fn chosen_p2c(passwords: usize, asked: Result<Option<u64>, Refusal>) -> Result<u64, Refusal>
     requires { IfErr asked (λ e. e ≡ Refusal.Header) }
-    ensures { AgreesUnlessMemory (λ p2c. p2c) result (chosen_p2c limits passwords asked) }
+    ensures { Agrees (λ p2c. p2c) result (chosen_p2c limits passwords asked) }
 {
     if passwords == 0 {
         return Ok(0);

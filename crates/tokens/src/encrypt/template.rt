@@ -2,7 +2,7 @@
 ghost use Rattle.std.specs.Prelude.{◌≡◌, false, option_map, IfOk, IfErr};
 ghost use Rattle.serde_json.specs.View.{view};
 ghost use Rattle.serde_json.specs.Written.{has_float, members_have_float};
-ghost use Rattle.octets.specs.Outcomes.{AgreesUnlessMemory};
+ghost use Rattle.octets.specs.Outcomes.{Agrees, AgreesUnlessMemory};
 ghost use Rattle.objects.specs.Views.{header_view, part_view};
 ghost use Rattle.tokens.specs.EncryptionTemplate.{template_texts, management_asked, encryption_asked, supported_management, leaves_parameters, algorithms_asked, encryption_template};
 ghost use Rattle.tokens.specs.Views.{template_texts_view, asked_view, encryption_template_view};
@@ -67,7 +67,7 @@ pub(crate) fn read_encryption_template(
 
 #[tactic(auto, unfolding(crate::specs::EncryptionTemplate::template_texts))]
 fn template_texts(value: &Value) -> Result<TemplateTexts<'_>, Refusal>
-    ensures exact { AgreesUnlessMemory template_texts_view result (template_texts (view value.now)) }
+    ensures exact { Agrees template_texts_view result (template_texts (view value.now)) }
     ensures no_float { IfOk result (λ t. has_float (view value.now) ≡ false
         → (members_have_float (part_view t.protected) ≡ false) × (members_have_float (part_view t.unprotected) ≡ false)) }
 {
@@ -92,7 +92,7 @@ fn algorithms_asked<'v>(
     protected: Option<&'v Map<String, Value>>,
     unprotected: Option<&'v Map<String, Value>>,
 ) -> Result<AlgorithmsAsked, Refusal>
-    ensures exact { AgreesUnlessMemory asked_view result (algorithms_asked (part_view protected.entry) (part_view unprotected.entry)) }
+    ensures exact { Agrees asked_view result (algorithms_asked (part_view protected.entry) (part_view unprotected.entry)) }
     ensures p2c { IfOk result (λ asked. IfErr asked.p2c (λ e. e ≡ Refusal.Header)) }
 {
     let header = Header::joint(protected, unprotected, None)?;
@@ -122,7 +122,7 @@ fn leaves_parameters(header: Header<'_>) -> bool
 
 /// The algorithm of key management of the name, where one is given: it must be supported.
 fn management_asked(name: Option<&str>) -> Result<Option<KeyManagementAlg>, Refusal>
-    ensures { AgreesUnlessMemory (λ alg. alg) result (management_asked (option_map (λ n. n.now) name.entry)) }
+    ensures { Agrees (λ alg. alg) result (management_asked (option_map (λ n. n.now) name.entry)) }
 {
     match name {
         None => Ok(None),
@@ -131,7 +131,7 @@ fn management_asked(name: Option<&str>) -> Result<Option<KeyManagementAlg>, Refu
 }
 
 fn supported_management(alg: Option<KeyManagementAlg>) -> Result<Option<KeyManagementAlg>, Refusal>
-    ensures { AgreesUnlessMemory (λ alg. alg) result (supported_management alg) }
+    ensures { Agrees (λ alg. alg) result (supported_management alg) }
 {
     match alg {
         None => Err(Refusal::Unsupported),
@@ -141,7 +141,7 @@ fn supported_management(alg: Option<KeyManagementAlg>) -> Result<Option<KeyManag
 
 /// The algorithm of content encryption of the name, where one is given: it must be supported.
 fn encryption_asked(name: Option<&str>) -> Result<Option<ContentEncryptionAlg>, Refusal>
-    ensures { AgreesUnlessMemory (λ alg. alg) result (encryption_asked (option_map (λ n. n.now) name.entry)) }
+    ensures { Agrees (λ alg. alg) result (encryption_asked (option_map (λ n. n.now) name.entry)) }
 {
     match name {
         None => Ok(None),

@@ -2,7 +2,7 @@
 ghost use Rattle.std.specs.Prelude.{◌≡◌, false, length, map, option_map};
 ghost use Rattle.std.specs.List.{list_all};
 ghost use Rattle.serde_json.specs.Written.{members_have_float};
-ghost use Rattle.octets.specs.Outcomes.{AgreesUnlessMemory};
+ghost use Rattle.octets.specs.Outcomes.{Agrees, AgreesUnlessMemory};
 ghost use Rattle.octets.specs.declared.refusal.Refusal.{Refusal};
 ghost use Rattle.keys.specs.Limits.{limits};
 ghost use Rattle.keys.specs.Views.{key_view};
@@ -65,7 +65,7 @@ fn settle_signing<'k>(
 }
 
 /// The signers that the keys make by a template.
-#[tactic(auto, using(objects::proofs::Each::reading))]
+#[tactic(auto, using(objects::proofs::Lemmas::reading))]
 fn signers_by<'k>(
     alloc: Global,
     template: Template<'_>,
@@ -119,7 +119,7 @@ fn are_shallow(signers: &[Signer<'_>]) -> bool
 
 /// The algorithm of the template, or else that of the key.
 fn chosen_alg(asked: Option<SignatureAlg>, key: &Key) -> Result<SignatureAlg, Refusal>
-    ensures { AgreesUnlessMemory (λ alg. alg) result (chosen_alg asked (key_view key.now)) }
+    ensures { Agrees (λ alg. alg) result (chosen_alg asked (key_view key.now)) }
 {
     match asked {
         Some(alg) => Ok(alg),
@@ -129,7 +129,7 @@ fn chosen_alg(asked: Option<SignatureAlg>, key: &Key) -> Result<SignatureAlg, Re
 
 /// The algorithm that the key's `alg` names, or the one that its length implies.
 fn alg_of_key(name: Option<&str>, len: usize) -> Result<SignatureAlg, Refusal>
-    ensures { AgreesUnlessMemory (λ alg. alg) result (alg_of_key (option_map (λ n. n.now) name.entry) len) }
+    ensures { Agrees (λ alg. alg) result (alg_of_key (option_map (λ n. n.now) name.entry) len) }
 {
     match name {
         None => alg_by_length(len).ok_or(Refusal::NoAlgorithm),

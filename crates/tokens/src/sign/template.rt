@@ -2,7 +2,7 @@
 ghost use Rattle.std.specs.Prelude.{◌≡◌, false, option_map, IfOk};
 ghost use Rattle.serde_json.specs.View.{view, members_view};
 ghost use Rattle.serde_json.specs.Written.{has_float, members_have_float};
-ghost use Rattle.octets.specs.Outcomes.{AgreesUnlessMemory};
+ghost use Rattle.octets.specs.Outcomes.{Agrees};
 ghost use Rattle.objects.specs.Views.{part_view};
 ghost use Rattle.tokens.specs.Template.{template_of, template_headers, named_alg, supported_if_there, with_alg};
 ghost use Rattle.tokens.specs.Views.{template_view};
@@ -25,7 +25,7 @@ pub(crate) struct Template<'v> {
 /// The template that a JSON value is. Refused as docs/SPECIFICATION.md says under "Signing", 1, from `Form` on.
 #[tactic(auto, unfolding(crate::specs::Template::template_of))]
 pub(crate) fn read_template(value: &Value) -> Result<Template<'_>, Refusal>
-    ensures exact { AgreesUnlessMemory template_view result (template_of (view value.now)) }
+    ensures exact { Agrees template_view result (template_of (view value.now)) }
     ensures no_float { IfOk result (λ template. has_float (view value.now) ≡ false
         → members_have_float (template_view template).protected ≡ false) }
 {
@@ -43,7 +43,7 @@ pub(crate) fn read_template(value: &Value) -> Result<Template<'_>, Refusal>
 fn template_headers(
     value: &Value,
 ) -> Result<(Option<&Map<String, Value>>, Option<&Map<String, Value>>), Refusal>
-    ensures exact { AgreesUnlessMemory (λ parts. (part_view parts.0, part_view parts.1)) result (template_headers (view value.now)) }
+    ensures exact { Agrees (λ parts. (part_view parts.0, part_view parts.1)) result (template_headers (view value.now)) }
     ensures no_float { IfOk result (λ parts. has_float (view value.now) ≡ false
         → members_have_float (part_view parts.0) ≡ false) }
 {
@@ -60,7 +60,7 @@ fn named_alg<'v>(
     protected: Option<&'v Map<String, Value>>,
     per_signature: Option<&'v Map<String, Value>>,
 ) -> Result<Option<SignatureAlg>, Refusal>
-    ensures { AgreesUnlessMemory (λ alg. alg) result (named_alg (part_view protected.entry) (part_view per_signature.entry)) }
+    ensures { Agrees (λ alg. alg) result (named_alg (part_view protected.entry) (part_view per_signature.entry)) }
 {
     let header = Header::joint(protected, None, per_signature)?;
     let name = header.alg()?;
@@ -70,7 +70,7 @@ fn named_alg<'v>(
 
 /// The algorithm of the name, where one is given: it must be supported.
 fn supported_if_there(name: Option<&str>) -> Result<Option<SignatureAlg>, Refusal>
-    ensures { AgreesUnlessMemory (λ alg. alg) result (supported_if_there (option_map (λ n. n.now) name.entry)) }
+    ensures { Agrees (λ alg. alg) result (supported_if_there (option_map (λ n. n.now) name.entry)) }
 {
     match name {
         None => Ok(None),

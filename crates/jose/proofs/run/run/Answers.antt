@@ -6,10 +6,7 @@ use Rattle.octets.specs.Devices.{appended, observed}
 use Rattle.octets.specs.Plan.{nothing}
 use Rattle.octets.specs.Outcomes.{◌>>=◌}
 use Rattle.octets.specs.Encoding.{encoding, decoding}
-use Rattle.octets.proofs.Agreement.{on_refusal, on_success, plan_from-by_plan, plan_of_plan, plan_of_text, planned_without_content}
-use Rattle.octets.proofs.Prefixes.{AppendsPrefixOf-none}
-use Rattle.octets.proofs.Growing.{kept_up_by_none}
-use Rattle.octets.proofs.Unread.{unread_untouched, encoding_fixes_nothing, decoding_fixes_nothing}
+use Rattle.octets.proofs.Lemmas.{encoding_fixes_nothing, decoding_fixes_nothing, unread_untouched, kept_up_by_none, AppendsPrefixOf-none, plan_from-by_plan, plan_of_plan, plan_of_text, planned_without_content, on_success, on_refusal}
 use Rattle.keys.specs.Generating.{gen_answer}
 use Rattle.keys.specs.Limits.{limits}
 use Rattle.jose.specs.Invocations.{invocation_view, hash_asked}

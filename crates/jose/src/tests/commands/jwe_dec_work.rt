@@ -183,7 +183,7 @@ fn a_count_above_a_million_is_tried(rt: HostRuntime) -> Result<(), Fail> {
     };
     let text =
         "{\"ciphertext\":\"\",\"unprotected\":{\"alg\":\"PBES2-HS256+A128KW\",\"enc\":\"A128GCM\",\"p2c\":1000001,\"p2s\":\"AAECAwQFBgc\"}}";
-    expect_work(&rt, text, PASSWORD, work, Err(Refusal::NotOpened))
+    expect_work(&rt, text, RFC7515_KEY, work, Err(Refusal::NotOpened))
 }
 
 /// `LINE` by `PASSWORD` with 1,000,000 iterations, and with 2,000,000, of the same octets by the same program.

@@ -183,7 +183,7 @@ fn a_key_is_made_of_a_long_template(rt: HostRuntime) -> Result<(), Fail> {
     answers(&rt, &["jwk", "thp"], &key, b"", "", name)
 }
 
-/// A template, and the SHA-256 of the JSON text of 70,000 octets, made as those of `sealing_tests`.
+/// A template, and the SHA-256 of the JSON text of 70,000 octets, made as those of `encrypted`.
 const SEALED: &[(&str, &str)] = &[
     (
         "{\"protected\":{\"alg\":\"A128KW\",\"enc\":\"A128CBC-HS256\"}}",

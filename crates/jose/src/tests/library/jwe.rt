@@ -7,7 +7,7 @@ use std::process::Abort;
 use std::test::Fail;
 
 /// Which way the key of a recipient is managed, with the salt input and the count of a password, or the initialization vector of a
-/// key wrap in GCM.
+/// key wrap in GCM and the length of its tag.
 pub(crate) fn expect_management(
     rt: &impl Abort,
     recipient: &Recipient,
@@ -20,14 +20,14 @@ pub(crate) fn expect_management(
         KeyManagement::Direct => ("direct", b"", 0),
         KeyManagement::KeyWrap => ("key wrap", b"", 0),
         KeyManagement::Password { p2s, p2c } => ("password", p2s, *p2c),
-        KeyManagement::GcmKeyWrap { iv, .. } => ("key wrap in GCM", iv, 0),
+        KeyManagement::GcmKeyWrap { iv, tag } => ("key wrap in GCM", iv, tag.len() as u64),
     };
     expect_octets(rt, found.as_bytes(), way.as_bytes(), recipient.alg());
     expect_octets(rt, p2s, salt, recipient.alg());
     expect_same(rt, p2c, count, recipient.alg());
 }
 
-/// Joint headers, and how the key of their recipient is managed (RFC 7518 section 4.1): the way, the salt input and the count.
+/// Joint headers, and how the key of their recipient is managed (RFC 7518 section 4.1): the way, and what it reads.
 const MANAGED: &[(&str, &str, &[u8], u64)] = &[
     ("\"alg\":\"dir\"", "direct", b"", 0),
     ("\"alg\":\"A128KW\"", "key wrap", b"", 0),
@@ -50,6 +50,24 @@ const MANAGED: &[(&str, &str, &[u8], u64)] = &[
         "password",
         b"\0\x01\x02\x03\x04\x05\x06\x07",
         18446744073709551615,
+    ),
+    (
+        "\"alg\":\"A128GCMKW\",\"iv\":\"AAECAwQFBgcICQoL\",\"tag\":\"DA0ODwABAgMEBQYHCAkKCw\"",
+        "key wrap in GCM",
+        b"\0\x01\x02\x03\x04\x05\x06\x07\x08\x09\x0a\x0b",
+        16,
+    ),
+    (
+        "\"alg\":\"A192GCMKW\",\"iv\":\"\",\"tag\":\"_w\"",
+        "key wrap in GCM",
+        b"",
+        1,
+    ),
+    (
+        "\"alg\":\"A256GCMKW\",\"iv\":\"_w\",\"tag\":\"\"",
+        "key wrap in GCM",
+        b"\xff",
+        0,
     ),
     ("\"alg\":\"RSA1_5\",\"p2s\":8", "unknown", b"", 0),
     ("\"alg\":\"a128kw\"", "unknown", b"", 0),

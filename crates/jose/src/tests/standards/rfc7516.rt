@@ -1,6 +1,5 @@
-//! RFC 7516, JSON Web Encryption: appendices A.3, A.4 and A.5, encrypted and decrypted by `jwe enc` and `jwe dec` and read by
-//! `Jwe::read`; and two more objects of A.3's key and octets, whose tags are by
-//! Python's `hmac`.
+//! RFC 7516, JSON Web Encryption: appendix A.3, encrypted by `jwe enc`; A.3, A.4 and A.5, decrypted by `jwe dec`; A.3 and A.5, read
+//! by `Jwe::read`; and two more objects of A.3's key and octets, whose tags are by Python's `hmac`.
 use crate::tests::command_words::{ENCRYPT, ENCRYPT_COMPACT};
 use crate::tests::harness::{Answer, decrypts, encrypts, expect_octets, expect_same};
 use crate::tests::library::jwe::expect_management;

@@ -1,6 +1,6 @@
 use Rattle.std.proofs.Common.{rules, ◌≡◌, suc, ◌+◌, ◌-◌, ◌*◌, ◌/◌, ◌≤◌, length, refl, ap, ◌∙◌, arith}
 use Rattle.modes.specs.Cbc.{chained}
-use Rattle.octets.proofs.Chunks.{chunk_more}
+use Rattle.octets.proofs.Lemmas.{chunk_more}
 use Rattle.modes.proofs.Chaining.{blocks_from, chained_more}
 use Rattle.modes.proofs.cbc.encrypt_blocks.Goals as goal
 

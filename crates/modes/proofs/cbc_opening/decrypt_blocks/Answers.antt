@@ -1,5 +1,5 @@
 use Rattle.std.proofs.Common.{◌≡◌, ℕ, ◌+◌, ◌-◌, ◌*◌, ◌≤◌, length, ap, ◌∙◌, arith}
-use Rattle.octets.proofs.Chunks.{chunk_is, chunk_more}
+use Rattle.octets.proofs.Lemmas.{chunk_is, chunk_more}
 use Rattle.modes.specs.Cbc.{block}
 use Rattle.modes.proofs.cbc_opening.decrypt_blocks.Goals as goal
 

@@ -1,6 +1,6 @@
 use Rattle.std.proofs.Common.{◌-◌, ap, ap₂, ◌∙◌}
 use Rattle.octets.specs.Octets.{xor_octets}
-use Rattle.octets.proofs.Chunks.{chunk_is}
+use Rattle.octets.proofs.Lemmas.{chunk_is}
 use Rattle.modes.proofs.Opening.{opened_first, opened_later}
 use Rattle.modes.proofs.cbc_opening.open_block.Goals as goal
 

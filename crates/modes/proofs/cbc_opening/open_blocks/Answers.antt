@@ -2,7 +2,7 @@ use Rattle.std.proofs.Common.{◌≡◌, ◌+◌, ◌-◌, ◌*◌, ◌/◌, ◌
 use Rattle.std.proofs.lemmas.Bool.{cases_lt, cases_eq}
 use Rattle.std.proofs.lemmas.List.{take_all}
 use Rattle.octets.specs.Octets.{xor_octets}
-use Rattle.octets.proofs.Chunks.{chunks_joined}
+use Rattle.octets.proofs.Lemmas.{chunks_joined}
 use Rattle.modes.specs.Cbc.{block}
 use Rattle.modes.specs.Opening.{opened_block, opened_blocks}
 use Rattle.modes.proofs.Groups.{length-within, block_written, block_behind}

@@ -2,7 +2,7 @@ use Rattle.std.proofs.Common.{[], ◌∷◌, ◌++◌, sym, ap, ◌∙◌, arith
 use Rattle.std.specs.Int.{w128, from_be_bytes}
 use Rattle.std.proofs.lemmas.List.FromFn.{map-range_with_len_more}
 use Rattle.modes.specs.Ghash.{ghash_number}
-use Rattle.octets.proofs.Chunks.{chunk_is}
+use Rattle.octets.proofs.Lemmas.{chunk_is}
 use Rattle.modes.proofs.Numbers.{number, numbers_to, numbers_are}
 use Rattle.modes.proofs.ghash.add_blocks.Goals as goal
 

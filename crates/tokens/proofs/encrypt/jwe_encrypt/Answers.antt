@@ -7,12 +7,7 @@ use Rattle.octets.specs.Faults.{counts}
 use Rattle.octets.specs.Octets.{IsOctets}
 use Rattle.octets.specs.Plan.{as_it_is, plan_from, planned}
 use Rattle.octets.specs.Pumps.{behind}
-use Rattle.octets.proofs.Agreement.{agrees_last, at_refusal, of_refusal, on_refusal, on_success, seen_possible}
-use Rattle.octets.proofs.Decoded.{IsOctets-drop}
-use Rattle.octets.proofs.Growing.{kept_up_by_none}
-use Rattle.octets.proofs.Prefixes.{AppendsPrefixOf-all, AppendsPrefixOf-kept}
-use Rattle.octets.proofs.Pumping.{behind_grows, behind_nothing, behind_refused, beginning_behind_nothing, keeps_up, passed_on}
-use Rattle.octets.proofs.Spared.{not_told, stands_first}
+use Rattle.octets.proofs.Lemmas.{not_told, stands_first, IsOctets-drop, kept_up_by_none, AppendsPrefixOf-all, AppendsPrefixOf-kept, on_success, at_refusal, on_refusal, of_refusal, seen_possible, agrees_last, behind_grows, behind_refused, behind_nothing, beginning_behind_nothing, keeps_up, passed_on}
 use Rattle.ciphers.specs.contracts.sealer.ContentSealerSealer.TheImpl.{is_sealing-value}
 use Rattle.keys.specs.Limits.{limits}
 use Rattle.objects.specs.Frames.{filled}

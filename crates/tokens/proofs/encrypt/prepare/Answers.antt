@@ -4,7 +4,7 @@ use Rattle.std.proofs.lemmas.List.{length-map}
 use Rattle.keys.specs.Limits.{limits, are_few}
 use Rattle.ciphers.specs.contracts.sealer.ContentSealerSealer.TheImpl.{is_sealing-value}
 use Rattle.octets.specs.Devices.{appended}
-use Rattle.octets.proofs.Agreement.{appended-append}
+use Rattle.octets.proofs.Lemmas.{appended-append}
 use Rattle.tokens.specs.Encrypting.{random_len}
 use Rattle.tokens.specs.Views.{encryption_plan_view, recipient_key_view}
 use Rattle.tokens.proofs.EncryptedHeaders.{OctetLaws}

@@ -2,8 +2,7 @@ use Rattle.std.proofs.Common.{◌++◌, ◌∷◌, [], map, take, drop, string_b
 use Rattle.std.proofs.lemmas.List.{length-map}
 use Rattle.octets.specs.Base64url.{base64url}
 use Rattle.octets.specs.Devices.{AppendsPrefixOf}
-use Rattle.octets.proofs.Agreement.{at_refusal}
-use Rattle.octets.proofs.Prefixes.{AppendsPrefixOf-front, AppendsPrefixOf-part}
+use Rattle.octets.proofs.Lemmas.{AppendsPrefixOf-front, AppendsPrefixOf-part, at_refusal}
 use Rattle.objects.specs.Frames.{filled}
 use Rattle.tokens.proofs.Beginnings.{AppendsPrefixOf-behind}
 use Rattle.tokens.proofs.StandingSignatures.{first_and_others}

@@ -7,12 +7,7 @@ use Rattle.octets.specs.Faults.{counts}
 use Rattle.octets.specs.Octets.{IsOctets}
 use Rattle.octets.specs.Plan.{as_it_is}
 use Rattle.octets.specs.Pumps.{behind}
-use Rattle.octets.proofs.Agreement.{agrees_last, at_refusal, of_refusal, on_refusal, on_success, seen_possible}
-use Rattle.octets.proofs.Decoded.{IsOctets-drop}
-use Rattle.octets.proofs.Growing.{encoding_grows, as_it_is_grows, plain_beginning, kept_up_by_none}
-use Rattle.octets.proofs.Prefixes.{AppendsPrefixOf-all, AppendsPrefixOf-kept}
-use Rattle.octets.proofs.Pumping.{behind_grows, beginning_behind_nothing, keeps_up, all_written, passed_on}
-use Rattle.octets.proofs.Spared.{not_told, stands_first}
+use Rattle.octets.proofs.Lemmas.{not_told, stands_first, IsOctets-drop, encoding_grows, as_it_is_grows, plain_beginning, kept_up_by_none, AppendsPrefixOf-all, AppendsPrefixOf-kept, on_success, at_refusal, on_refusal, of_refusal, seen_possible, agrees_last, behind_grows, beginning_behind_nothing, keeps_up, all_written, passed_on}
 use Rattle.objects.specs.Frames.{filled}
 use Rattle.tokens.specs.SigningInputs.{signature_text}
 use Rattle.tokens.specs.contracts.signing_input.HmacInputSigningInput.TheImpl.{has_taken-value}

@@ -1,5 +1,5 @@
 use Rattle.std.proofs.Common.{◌++◌, ◌∷◌, [], length, map, take, string_bytes, arith, sym, ap, ◌∙◌, inl, inr, append_assoc, append-nil}
-use Rattle.octets.proofs.Agreement.{at_refusal, on_refusal, on_success}
+use Rattle.octets.proofs.Lemmas.{on_success, at_refusal, on_refusal}
 use Rattle.tokens.proofs.WrittenSignatures.{text_refused, signature_refused, one_written, last_left, part_left, all_left, is_last, no_more}
 use Rattle.tokens.proofs.sign.write_signatures.Goals as goal
 

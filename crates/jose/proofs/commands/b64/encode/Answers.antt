@@ -1,9 +1,7 @@
 use Rattle.std.proofs.Common.{rules, Ok, refl, sym, ◌∙◌, ap}
 use Rattle.octets.specs.Devices.{appended}
 use Rattle.octets.specs.Encoding.{encoding}
-use Rattle.octets.proofs.Agreement.{at_refusal, seen_possible}
-use Rattle.octets.proofs.Growing.{encoding_grows}
-use Rattle.octets.proofs.Pumping.{keeps_up, passed_on, whole_stands}
+use Rattle.octets.proofs.Lemmas.{encoding_grows, at_refusal, seen_possible, keeps_up, passed_on, whole_stands}
 use Rattle.jose.proofs.commands.b64.encode.Goals as goal
 
 pub returns-in_err-pump-clause-answer : goal.returns-in_err-pump-clause-answer

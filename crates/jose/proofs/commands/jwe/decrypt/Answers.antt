@@ -3,7 +3,7 @@ use Rattle.keys.specs.KeySets.{key_set}
 use Rattle.keys.specs.Limits.{limits}
 use Rattle.objects.specs.Texts.{handed_in}
 use Rattle.octets.specs.Devices.{appended}
-use Rattle.octets.proofs.Agreement.{seen_possible}
+use Rattle.octets.proofs.Lemmas.{seen_possible}
 use Rattle.jose.proofs.Agreement.{not_memory, refused}
 use Rattle.jose.proofs.Objects.{beside_ended}
 use Rattle.jose.proofs.commands.jwe.decrypt.Goals as goal

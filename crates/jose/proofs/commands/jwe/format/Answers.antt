@@ -1,6 +1,6 @@
 use Rattle.std.proofs.Common.{◌≡◌, ◌∙◌, inl, inr, sym}
 use Rattle.octets.specs.Devices.{appended}
-use Rattle.octets.proofs.Agreement.{on_refusal, seen_possible, whole_is}
+use Rattle.octets.proofs.Lemmas.{on_refusal, seen_possible, whole_is}
 use Rattle.jose.proofs.Agreement.{not_memory, refused}
 use Rattle.jose.proofs.Objects.{beside_ended}
 use Rattle.jose.proofs.commands.jwe.format.Goals as goal

@@ -2,7 +2,7 @@ use Rattle.std.proofs.Common.{◌≡◌, ◌∙◌, Ok, ap, sym}
 use Rattle.keys.specs.Generating.{gen_answer}
 use Rattle.keys.specs.Limits.{limits}
 use Rattle.octets.specs.Devices.{appended}
-use Rattle.octets.proofs.Agreement.{agrees_last, appended-append, on_refusal, on_success, seen_possible, whole_is}
+use Rattle.octets.proofs.Lemmas.{on_success, on_refusal, seen_possible, agrees_last, appended-append, whole_is}
 use Rattle.jose.proofs.Agreement.{refused}
 use Rattle.jose.proofs.Draws.{key_drawn, key_drawn_at_most, making_refused}
 use Rattle.jose.proofs.commands.jwk.generate.Goals as goal

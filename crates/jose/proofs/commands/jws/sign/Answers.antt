@@ -5,8 +5,7 @@ use Rattle.keys.specs.Limits.{limits}
 use Rattle.octets.specs.Devices.{appended}
 use Rattle.octets.specs.Outcomes.{AgreesUnlessExternal}
 use Rattle.octets.specs.Plan.{planned}
-use Rattle.octets.proofs.Growing.{kept_up_by_none}
-use Rattle.octets.proofs.Agreement.{on_refusal, seen_possible, unlent}
+use Rattle.octets.proofs.Lemmas.{kept_up_by_none, on_refusal, seen_possible, unlent}
 use Rattle.tokens.specs.Signing.{sig_plan}
 use Rattle.jose.proofs.Agreement.{refused}
 use Rattle.jose.proofs.Fixed.{signed_inside}

@@ -6,8 +6,7 @@ use Rattle.objects.specs.Texts.{handed_in}
 use Rattle.objects.specs.Views.{jws_view}
 use Rattle.octets.specs.Devices.{appended}
 use Rattle.octets.specs.Outcomes.{AgreesUnlessExternal}
-use Rattle.octets.proofs.Agreement.{at_refusal, seen_possible, unlent}
-use Rattle.octets.proofs.Prefixes.{AppendsPrefixOf-kept}
+use Rattle.octets.proofs.Lemmas.{AppendsPrefixOf-kept, at_refusal, seen_possible, unlent}
 use Rattle.tokens.specs.Verifying.{verifying_by}
 use Rattle.jose.proofs.Agreement.{not_memory, refused}
 use Rattle.jose.proofs.Objects.{beside_ended}

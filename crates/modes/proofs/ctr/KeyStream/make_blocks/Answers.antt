@@ -1,5 +1,5 @@
 use Rattle.std.proofs.Common.{rules, ◌≡◌, ℕ, ◌+◌, ◌-◌, ◌*◌, ◌≤◌, length, refl, ap, ◌∙◌, arith}
-use Rattle.octets.proofs.Chunks.{chunk_more}
+use Rattle.octets.proofs.Lemmas.{chunk_more}
 use Rattle.modes.specs.Cbc.{block}
 use Rattle.modes.specs.Ctr.{counter_block}
 use Rattle.modes.proofs.Counting.{counter_block-add}

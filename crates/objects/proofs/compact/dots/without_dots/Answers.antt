@@ -2,7 +2,7 @@ use Rattle.std.proofs.Common.{◌≡◌, ◌*◌, ◌/◌, ◌≤◌, not, [], l
 use Rattle.std.proofs.lemmas.Bool.{ltb-false}
 use Rattle.std.specs.List.{position_or_len}
 use Rattle.std.specs.Simd.Lanes.{chunk}
-use Rattle.octets.proofs.Sums.{chunk_at}
+use Rattle.octets.proofs.Lemmas.{chunk_at}
 use Rattle.objects.specs.Texts.{is_dot}
 use Rattle.objects.proofs.FirstDots.{block_passed}
 use Rattle.objects.proofs.compact.dots.without_dots.Goals as goal

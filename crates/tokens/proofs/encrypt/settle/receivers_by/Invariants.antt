@@ -1,7 +1,7 @@
 use Rattle.std.proofs.Common.{◌≡◌, length, map, drop}
 use Rattle.keys.specs.Views.{key_view}
 use Rattle.objects.specs.Texts.{each}
-use Rattle.objects.proofs.Each.{with_done}
+use Rattle.objects.proofs.Lemmas.{with_done}
 use Rattle.tokens.specs.Choosing.{recipient_key_by}
 use Rattle.tokens.specs.Views.{recipient_key_view}
 use Rattle.tokens.proofs.encrypt.settle.receivers_by.Given as goal

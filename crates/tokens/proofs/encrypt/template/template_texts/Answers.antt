@@ -1,6 +1,6 @@
 use Rattle.std.proofs.Common.{rules, codes}
 use Rattle.serde_json.specs.View.{view}
-use Rattle.octets.specs.Outcomes.{AgreesUnlessMemory}
+use Rattle.octets.specs.Outcomes.{Agrees}
 use Rattle.objects.specs.Headers.{header_at}
 use Rattle.objects.specs.Texts.{text_at}
 use Rattle.objects.specs.Views.{part_view}
@@ -10,14 +10,14 @@ use Rattle.tokens.proofs.encrypt.template.template_texts.Goals as goal
 pub returns-in_err-unprotected-clause-exact : goal.returns-in_err-unprotected-clause-exact
 unfolding template_texts
 returns-in_err-unprotected-clause-exact c =
-    let first : AgreesUnlessMemory part_view c.header_at.result (header_at (codes "protected") (view c.args.value.now)) = c.header_at.ensures.exact in
-    let second : AgreesUnlessMemory part_view c.header_at-2.result (header_at (codes "unprotected") (view c.args.value.now)) = c.header_at-2.ensures.exact in
+    let first : Agrees part_view c.header_at.result (header_at (codes "protected") (view c.args.value.now)) = c.header_at.ensures.exact in
+    let second : Agrees part_view c.header_at-2.result (header_at (codes "unprotected") (view c.args.value.now)) = c.header_at-2.ensures.exact in
     search (rules, first, second)
 
 pub returns-clause-exact : goal.returns-clause-exact
 unfolding template_texts
 returns-clause-exact c =
-    let first : AgreesUnlessMemory part_view c.header_at.result (header_at (codes "protected") (view c.args.value.now)) = c.header_at.ensures.exact in
-    let second : AgreesUnlessMemory part_view c.header_at-2.result (header_at (codes "unprotected") (view c.args.value.now)) = c.header_at-2.ensures.exact in
-    let third : AgreesUnlessMemory (λ t. t.now) c.text_at.result (text_at (codes "aad") (view c.args.value.now)) = c.text_at.ensures.exact in
+    let first : Agrees part_view c.header_at.result (header_at (codes "protected") (view c.args.value.now)) = c.header_at.ensures.exact in
+    let second : Agrees part_view c.header_at-2.result (header_at (codes "unprotected") (view c.args.value.now)) = c.header_at-2.ensures.exact in
+    let third : Agrees (λ t. t.now) c.text_at.result (text_at (codes "aad") (view c.args.value.now)) = c.text_at.ensures.exact in
     search (rules, first, second, third)

@@ -1,7 +1,7 @@
 use Rattle.std.proofs.Common.{◌≡◌, map, drop}
 use Rattle.keys.specs.Views.{key_view}
 use Rattle.objects.specs.Texts.{each}
-use Rattle.objects.proofs.Each.{with_done}
+use Rattle.objects.proofs.Lemmas.{with_done}
 use Rattle.tokens.specs.Signing.{signer_by}
 use Rattle.tokens.specs.Views.{signer_view, template_view}
 use Rattle.tokens.proofs.sign.settle.signers_by.Given as goal

@@ -1,7 +1,7 @@
 use Rattle.std.proofs.Common.{rules, ◌++◌, Err, ap, ◌∙◌, refl}
 use Rattle.octets.specs.Encoding.{encoding}
 use Rattle.octets.specs.Pumps.{RefusesFrom}
-use Rattle.octets.proofs.Agreement.{of_refusal}
+use Rattle.octets.proofs.Lemmas.{of_refusal}
 use Rattle.ciphers.specs.Sealing.{IsTooLong}
 use Rattle.tokens.specs.SealedTexts.{sealed_plan}
 use Rattle.tokens.proofs.Sealed.{refuses_long}

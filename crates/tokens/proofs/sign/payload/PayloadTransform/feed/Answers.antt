@@ -2,7 +2,7 @@ use Rattle.std.proofs.Common.{rules, ◌++◌, length, ap, sym, subst, ◌∙◌
 use Rattle.octets.specs.Base64url.{base64url, whole_groups}
 use Rattle.octets.specs.Plan.{as_it_is}
 use Rattle.octets.specs.Pumps.{RefusesFrom}
-use Rattle.octets.proofs.Agreement.{of_refusal}
+use Rattle.octets.proofs.Lemmas.{of_refusal}
 use Rattle.tokens.specs.SigningInputs.{HoldEach}
 use Rattle.tokens.proofs.StandingSignatures.{written_back}
 use Rattle.tokens.proofs.sign.payload.PayloadTransform.feed.Goals as goal
