@@ -1,5 +1,5 @@
 //! The algorithms of key management (RFC 7518, sections 4.4, 4.5, 4.7 and 4.8).
-ghost use Rattle.std.specs.Prelude.{◌≡◌, ℕ, ◌%◌, ◌≤◌, List, [], ◌++◌, length, take, IfSome, IfNone};
+ghost use Rattle.std.specs.Prelude.{◌≡◌, ℕ, ◌%◌, ◌≤◌, List, [], ◌++◌, length, take, drop, IfSome, IfNone};
 ghost use Rattle.ciphers.specs.Delivery.{IsKeyOf, IsCountOf, IsIvOf, encrypted_key_of, key_tag_of, IsDelivered};
 ghost use Rattle.ciphers.specs.KeyWrap.{IsUnwrapping};
 ghost use Rattle.ciphers.specs.Sealing.{cek_len};
@@ -73,6 +73,7 @@ impl KeyAlg {
         ensures within { (result.0 ≤ 72) × (result.1 ≤ 16) }
         ensures encrypted { take result.0 encrypted_key.new ≡ encrypted_key_of self key.now (parameters_view parameters.entry) cek.now }
         ensures tag { take result.1 tag.new ≡ key_tag_of self key.now (parameters_view parameters.entry) cek.now }
+        ensures rest { (drop result.0 encrypted_key.new ≡ drop result.0 encrypted_key.old) × (drop result.1 tag.new ≡ drop result.1 tag.old) }
     {
         match self.way(key, parameters) {
             Way::Direct => (0, 0),
@@ -158,6 +159,7 @@ fn encrypt_cek<B: Block>(
     requires size { length cek.now ≤ 64 }
     ensures within { result ≤ 72 }
     ensures encrypted { take result encrypted_key.new ≡ gcm_ciphertext (B.encrypted kek) iv.now cek.now }
+    ensures rest { drop result encrypted_key.new ≡ drop result encrypted_key.old }
     ensures tag { tag.new ≡ gcm_tag (B.encrypted kek) iv.now [] (gcm_ciphertext (B.encrypted kek) iv.now cek.now) }
 {
     let mut gcm = Gcm::start(kek, iv, &[]);

@@ -28,6 +28,11 @@ pub use words::table::Command;
 /// Reads the words, and does what they ask over files and the standard streams. Words that are not
 /// UTF-8 are no command.
 fn perform(rt: &HostRuntime) -> Result<(), Refusal> {
+    let _in_place_of_closed_streams = (
+        files::placeholder(rt)?,
+        files::placeholder(rt)?,
+        files::placeholder(rt)?,
+    );
     let args = match std::env::args(rt) {
         Ok(args) => args,
         Err(e) if e.kind() == io::ErrorKind::OutOfMemory => return Err(Refusal::Memory),

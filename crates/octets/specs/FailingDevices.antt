@@ -4,9 +4,13 @@ use Rattle.std.specs.Iterator.{Count}
 use Rattle.octets.specs.declared.failing.FailingInput.{FailingInput}
 use Rattle.octets.specs.declared.failing.FailingOutput.{FailingOutput}
 use Rattle.octets.specs.Failing.{Course}
-use Rattle.octets.specs.Views.{front_of, is_read, rest_of}
+use Rattle.octets.specs.Views.{Contents, Store, front_of, is_read, rest_of}
 
 -- ---- an input
+
+-- the input over memory whose octets it gives
+abbrev pub input_contents : FailingInput → Contents
+input_contents s = s.input
 
 abbrev pub input_consumed : FailingInput → List ℕ
 input_consumed s = front_of s.input
@@ -24,6 +28,10 @@ abbrev pub input_course : FailingInput → Course
 input_course s = record { failing = s.failing; calls = s.calls; passed = s.passed }
 
 -- ---- an output
+
+-- the output over memory that keeps what it takes
+abbrev pub output_store : FailingOutput → Store
+output_store s = s.output
 
 abbrev pub output_written : FailingOutput → List ℕ
 output_written s = s.output.octets

@@ -1,5 +1,5 @@
 //! Where octets come from and where they go. Each device counts its failures, up to 2^64 - 1.
-ghost use Rattle.std.specs.Prelude.{◌≡◌, ℕ, ◌<◌, ◌≤◌, Bool, false, List, ◌++◌, length, take, IfOk, IfErr, OnOk, Ok, MatchResult, IsTrue};
+ghost use Rattle.std.specs.Prelude.{◌≡◌, ℕ, ◌<◌, ◌≤◌, Bool, false, List, ◌++◌, length, take, IfOk, IfErr, OnOk, OnErr, Ok, MatchResult, IsTrue};
 ghost use Rattle.std.specs.Iterator.{Count};
 ghost use Rattle.octets.specs.Devices.{next_count, ComesNearer};
 ghost use Rattle.octets.specs.Octets.{IsOctets};
@@ -71,7 +71,8 @@ pub trait Output {
         ensures works { OnOk result (IsTrue (is_finished self.new)
             × (failures self.new ≡ failures self.old)) }
         ensures fails { IfErr result (λ e. (e ≡ Fault.Writing)
-            × (failures self.new ≡ next_count (failures self.old))) };
+            × (failures self.new ≡ next_count (failures self.old))) }
+        ensures kept { OnErr result (is_finished self.new ≡ is_finished self.old) };
 }
 
 /// Counts one more failure.

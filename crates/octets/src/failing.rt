@@ -1,8 +1,8 @@
 //! Devices over memory that fail, to show what a call leaves behind where one of its devices does.
-ghost use Rattle.std.specs.Prelude.{◌≡◌, ◌↔◌, ◌<◌, ◌≤◌, [], ◌++◌, length, take, true, false, IfOk, IfErr, IsOk, OnOk, Ok, Err, MatchResult, IsTrue};
+ghost use Rattle.std.specs.Prelude.{◌≡◌, ◌↔◌, ◌+◌, ◌<◌, ◌≤◌, [], ◌++◌, length, take, min, true, false, IfOk, IfErr, IsOk, OnOk, OnErr, Ok, Err, MatchResult, IsTrue};
 ghost use Rattle.octets.specs.Devices.{next_count, ComesNearer};
 ghost use Rattle.octets.specs.Failing.{is_due, room_for, begun, fails_next, after_call, after_failure};
-ghost use Rattle.octets.specs.Views.{front_of, is_read, rest_of};
+ghost use Rattle.octets.specs.Views.{front_of, is_read, rest_of, read_count, write_count};
 
 use crate::devices::count_failure;
 use crate::{Fault, Input, MemoryInput, MemoryOutput, Output, Refusal};
@@ -53,10 +53,11 @@ pub struct FailingInput<'a> {
 }
 
 impl<'a> FailingInput<'a> {
-    ghost use Rattle.octets.specs.FailingDevices.{input_consumed, input_failures, input_course};
+    ghost use Rattle.octets.specs.FailingDevices.{input_contents, input_consumed, input_failures, input_course};
 
     /// Gives what the input over memory gives, until it fails.
     pub fn new(input: MemoryInput<'a>, failing: Failing) -> FailingInput<'a>
+        ensures contents { input_contents result ≡ input.entry }
         ensures consumed { input_consumed result ≡ front_of input.entry }
         ensures course { input_course result ≡ begun failing }
         ensures failures { input_failures result ≡ 0 }
@@ -79,7 +80,7 @@ impl<'a> FailingInput<'a> {
 }
 
 impl<'a> Input for FailingInput<'a> {
-    ghost use Rattle.octets.specs.FailingDevices.{input_consumed, input_is_at_end, input_remaining, input_failures, input_course};
+    ghost use Rattle.octets.specs.FailingDevices.{input_contents, input_consumed, input_is_at_end, input_remaining, input_failures, input_course};
 
     ghost consumed = { input_consumed };
 
@@ -93,7 +94,10 @@ impl<'a> Input for FailingInput<'a> {
 
     fn read(&mut self, buf: &mut [u8]) -> Result<usize, Fault>
         ensures due { 0 < length buf.old → (fails_next (input_course self.old) ≡ true) ↔ (result ≡ Err Fault.Reading) }
-        ensures room { IfOk result (λ n. n ≤ room_for (input_course self.old).failing (input_course self.old).passed (length buf.old)) }
+        ensures count { IfOk result (λ n. n ≡ read_count (input_contents self.old)
+            (room_for (input_course self.old).failing (input_course self.old).passed (length buf.old))) }
+        ensures moves { 0 < length buf.old → IfOk result (λ n. input_contents self.new
+            ≡ record (input_contents self.old) { position = (input_contents self.old).position + n }) }
         ensures course { 0 < length buf.old → MatchResult result
             (λ n. input_course self.new ≡ after_call n (input_course self.old))
             (λ _. input_course self.new ≡ after_failure (input_course self.old)) }
@@ -206,7 +210,7 @@ impl FailingOutput {
 }
 
 impl Output for FailingOutput {
-    ghost use Rattle.octets.specs.FailingDevices.{output_written, output_is_finished, output_failures, output_course, output_room, output_step};
+    ghost use Rattle.octets.specs.FailingDevices.{output_store, output_written, output_is_finished, output_failures, output_course, output_room, output_step};
 
     ghost written = { output_written };
 
@@ -217,7 +221,8 @@ impl Output for FailingOutput {
     fn write(&mut self, octets: &[u8]) -> Result<usize, Fault>
         ensures due { 0 < length octets.now → fails_next (output_course self.old) ≡ true → result ≡ Err Fault.Writing }
         ensures succeeds { fails_next (output_course self.old) ≡ false → length (output_written self.old) < output_room self.old → IsOk result }
-        ensures room { IfOk result (λ n. (n ≤ room_for (output_course self.old).failing (output_course self.old).passed (length octets.now)) × (n ≤ output_step self.old)) }
+        ensures count { IfOk result (λ n. n ≡ write_count (output_store self.old)
+            (room_for (output_course self.old).failing (output_course self.old).passed (min (length octets.now) (output_step self.old)))) }
         ensures course { 0 < length octets.now → MatchResult result
             (λ n. output_course self.new ≡ after_call n (output_course self.old))
             (λ _. output_course self.new ≡ after_failure (output_course self.old)) }
@@ -263,6 +268,7 @@ impl Output for FailingOutput {
             × (output_failures self.new ≡ output_failures self.old)) }
         ensures fails { IfErr result (λ e. (e ≡ Fault.Writing)
             × (output_failures self.new ≡ next_count (output_failures self.old))) }
+        ensures kept { OnErr result (output_is_finished self.new ≡ output_is_finished self.old) }
     {
         self.call()?;
         self.output.finish()

@@ -46,6 +46,8 @@ pub use whole::{Partial, draw, emit, read_to_end, write_whole};
 pub use writer::{B64Writer, encode_onto};
 
 #[cfg(test)]
+mod call_tests;
+#[cfg(test)]
 mod device_tests;
 #[cfg(test)]
 mod tests;

@@ -1,5 +1,5 @@
 //! Devices over memory.
-ghost use Rattle.std.specs.Prelude.{◌≡◌, ℕ, ◌↔◌, ◌+◌, ◌<◌, ◌≤◌, [], ◌++◌, length, take, IfOk, IfErr, IsOk, IsErr, IsTrue, OnOk, Ok, MatchResult, true, false};
+ghost use Rattle.std.specs.Prelude.{◌≡◌, ℕ, ◌↔◌, ◌+◌, ◌<◌, ◌≤◌, [], ◌++◌, length, take, drop, IfOk, IfErr, IsOk, IsErr, IsTrue, OnOk, OnErr, Ok, MatchResult, true, false};
 ghost use Rattle.octets.specs.Devices.{next_count, ComesNearer};
 ghost use Rattle.octets.specs.Octets.{IsOctets};
 ghost use Rattle.octets.specs.Views.{front_of, is_read, rest_of, failures_of, read_count, write_count};
@@ -62,6 +62,7 @@ impl<'a> Input for MemoryInput<'a> {
         ensures count { result ≡ Ok (read_count self.old (length buf.old)) }
         ensures moves { self.new ≡ record self.old
             { position = self.old.position + read_count self.old (length buf.old) } }
+        ensures rest { IfOk result (λ n. drop n buf.new ≡ drop n buf.old) }
 
         // What the trait says.
         ensures octets { IfOk result (λ n. (n ≤ length buf.old)
@@ -191,6 +192,7 @@ impl Output for MemoryOutput {
         ensures works { OnOk result (IsTrue self.new.is_finished × (self.new.failures ≡ self.old.failures)) }
         ensures fails { IfErr result (λ e. (e ≡ Fault.Writing)
             × (self.new.failures ≡ next_count self.old.failures)) }
+        ensures kept { OnErr result (self.new.is_finished ≡ self.old.is_finished) }
     {
         self.unfinished = false;
         Ok(())

@@ -1,5 +1,5 @@
 //! Devices over std's readers and writers. What passed through one is kept for clauses alone.
-ghost use Rattle.std.specs.Prelude.{◌≡◌, ◌≢◌, ◌+◌, ◌-◌, ◌^◌, ◌<◌, ◌≤◌, ℕ, List, [], ◌++◌, length, take, true, false, IfOk, IfErr, OnOk, Ok, MatchResult, IsTrue};
+ghost use Rattle.std.specs.Prelude.{◌≡◌, ◌≢◌, ◌+◌, ◌-◌, ◌^◌, ◌<◌, ◌≤◌, ℕ, List, [], ◌++◌, length, take, true, false, IfOk, IfErr, OnOk, OnErr, Ok, MatchResult, IsTrue};
 ghost use Rattle.std.specs.Iterator.{at_most};
 ghost use Rattle.std.specs.Io.KnownBytes.{Consumes, Appends, Keeps, IsAtEnd, ReadConsumes, WriteAppends};
 ghost use Rattle.std.specs.Io.{ReadsAtMost, WritesAtMost};
@@ -200,6 +200,7 @@ impl<W: Write> Output for WriterOutput<W> {
             × (write_failures_of self.new ≡ write_failures_of self.old)) }
         ensures fails { IfErr result (λ e. (e ≡ Fault.Writing)
             × (write_failures_of self.new ≡ next_count (write_failures_of self.old))) }
+        ensures kept { OnErr result (is_finished_of self.new ≡ is_finished_of self.old) }
     {
         if flush_once(&mut self.writer).is_err() {
             count_failure(&mut self.failures);

@@ -1,7 +1,8 @@
-//! Contents of many lengths, in pieces, and long ones: what is told of them does not depend on the reads.
+//! Contents of many lengths, in pieces, and long ones, and lists that are long: what is told of them does not depend on the reads.
 
 mod encrypted;
 mod long;
+mod many;
 mod pieces;
 
 use crate::tests::harness::{Answer, Given, ROOM, expect_done, outcome};

@@ -30,7 +30,7 @@ fn long_text(alloc: Global, front: &str, back: &str) -> Result<String, AllocErro
 }
 
 /// The words answer so, over inputs that give many octets at a read.
-fn answers<R: Abort + AllocGlobal>(
+pub(crate) fn answers<R: Abort + AllocGlobal>(
     rt: &R,
     words: &[&str],
     text: &str,

@@ -79,6 +79,15 @@ fn management_algorithms_have_their_names(rt: HostRuntime) {
     }
 }
 
+/// The lengths of the keys of their wraps, 0 where nothing is wrapped.
+#[test]
+fn management_algorithms_wrap_with_keys_of_their_lengths(rt: HostRuntime) {
+    let lens = [0, 16, 24, 32, 16, 24, 32, 16, 24, 32];
+    for (&(name, alg), len) in MANAGEMENT_ALGS.iter().zip(lens) {
+        expect_same(&rt, alg.kek_len(), len, name);
+    }
+}
+
 #[test]
 fn encryption_algorithms_have_their_names(rt: HostRuntime) {
     for &(name, enc) in ENCRYPTION_ALGS {

@@ -1,5 +1,5 @@
-use Rattle.std.proofs.Common.{sym, ap, ◌∙◌, arith}
-use Rattle.std.proofs.lemmas.List.{take_all}
+use Rattle.std.proofs.Common.{◌≤◌, length, sym, ap, ◌∙◌, arith}
+use Rattle.std.proofs.lemmas.List.{take_all, drop_all}
 use Rattle.ciphers.specs.Delivery.{encrypted_key_of, key_tag_of}
 use Rattle.ciphers.specs.Views.{parameters_view}
 use Rattle.ciphers.proofs.Deliveries.{same_tag}
@@ -19,3 +19,10 @@ returns-in-Encrypt-clause-tag c =
     take_all 16 all.new.tag (omega (arith, all.array_long, all.array_long2, all.array_long3, all.array_long4)) ∙ all.ensures.tag
     ∙ same_tag _ c.array.result c.args.parameters.iv.now c.octets.result.now c.args.cek.now c.array.ensures c.octets.ensures
     ∙ sym (c.in-Encrypt.ensures.tags c.args.cek.now)
+
+pub returns-in-Encrypt-clause-rest : goal.returns-in-Encrypt-clause-rest
+returns-in-Encrypt-clause-rest c =
+    let all = c.encrypt_cek-len in
+    let long : length all.new.tag ≤ 16 = omega (arith, all.array_long, all.array_long2, all.array_long3, all.array_long4) in
+    let long_before : length c.args.tag.now ≤ 16 = omega (arith, c.fits-tag, all.array_long, all.array_long2, all.array_long3, all.array_long4) in
+    (all.ensures.rest, drop_all 16 all.new.tag long ∙ sym (drop_all 16 c.args.tag.now long_before))
