@@ -2,7 +2,7 @@
 //! its first read; an output file is opened, and cut to nothing, just before its first octet is
 //! written, or when it is finished with none; one that is made for a secret is its owner's alone. An
 //! output is not opened where it is the file of the content that is read meanwhile, or of the other output.
-ghost use Rattle.std.specs.Prelude.{◌≡◌, ℕ, ◌<◌, ◌++◌, List, length, take, drop, min, option_map, OnOk, IfErr, Ok};
+ghost use Rattle.std.specs.Prelude.{◌≡◌, ℕ, ◌<◌, ◌++◌, List, length, take, drop, min, option_map, OnOk, Ok};
 ghost use Rattle.std.specs.Result.{result_unwrap_or};
 ghost use Rattle.std.specs.Io.{ReadsAtMost, WritesAtMost};
 ghost use Rattle.std.specs.Io.KnownBytes.{Keeps, ReadConsumes, WriteAppends};
@@ -13,7 +13,7 @@ ghost use Rattle.jose.specs.Files.{nowhere, destination_of, destination_named, s
 use crate::ports::{Inputs, Outputs};
 use crate::words::invocation::Invocation;
 use crate::words::table::Command;
-use octets::{ReaderInput, Refusal, WriterOutput};
+use octets::{ReaderInput, WriterOutput};
 use std::fs::{File, OpenOptions, metadata};
 use std::io;
 use std::io::{Read, Stdin, Stdout, Write};
@@ -27,9 +27,6 @@ pub(crate) const SYSTEM_RANDOM: &str = "/dev/urandom";
 const STANDARD_INPUT: &str = "/dev/stdin";
 
 const STANDARD_OUTPUT: &str = "/dev/stdout";
-
-/// What can be opened, and neither read nor written.
-const FOLDER: &str = "/";
 
 /// The mode of a file that is made: readable and writable for its owner alone, or for all that the process's mask leaves.
 const SECRET_MODE: u32 = 0o600;
@@ -201,19 +198,6 @@ fn are_one_file<R: Files>(files: &R, path: &str, other: &str) -> bool {
             file.is_file() && file.dev() == other.dev() && file.ino() == other.ino()
         }
         _ => false,
-    }
-}
-
-/// Takes the lowest free descriptor for as long as it is held, and can be neither read nor written there. A standard stream that is
-/// closed leaves its number free, and the next file that is opened would be read or written in its place; so three of these are
-/// taken first. `None` where the folder cannot be opened; refused with `Memory` alone.
-pub(crate) fn placeholder<R: Files>(files: &R) -> Result<Option<R::File>, Refusal>
-    ensures { IfErr result (λ refusal. refusal ≡ Refusal.Memory) }
-{
-    match File::open(files, FOLDER) {
-        Ok(folder) => Ok(Some(folder)),
-        Err(e) if e.kind() == io::ErrorKind::OutOfMemory => Err(Refusal::Memory),
-        Err(_) => Ok(None),
     }
 }
 

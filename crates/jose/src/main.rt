@@ -6,6 +6,8 @@
 //! (`files`), and `run` does what is asked from devices to devices. `report` tells a refusal.
 #![tactic(auto)]
 
+ghost use Rattle.std.specs.Prelude.{◌≡◌, IfErr};
+
 mod commands;
 mod files;
 pub mod laws;
@@ -18,21 +20,35 @@ use octets::{Refusal, WriterOutput};
 pub use ports::{Inputs, Outputs};
 pub use report::report;
 pub use run::run;
+use std::fs::File;
 use std::io;
+use std::os::fd::AsRawFd;
 use std::process::ExitCode;
 use std::rt::{Env, Files};
 pub use words::invocation::{Invocation, Setting};
 pub use words::parse;
 pub use words::table::Command;
 
+/// What can be opened, and neither read nor written.
+const FOLDER: &str = "/";
+
+/// Takes the number of a standard stream that is closed for as long as it is held, and can be neither read nor written there. The next
+/// file that is opened would take the number, and be read or written in place of the stream. `None` where the lowest free number is
+/// none of the three, and where the folder cannot be opened.
+fn placeholder(rt: &HostRuntime) -> Result<Option<File>, Refusal>
+    ensures { IfErr result (λ refusal. refusal ≡ Refusal.Memory) }
+{
+    match File::open(rt, FOLDER) {
+        Ok(folder) if folder.as_raw_fd() <= 2 => Ok(Some(folder)),
+        Err(e) if e.kind() == io::ErrorKind::OutOfMemory => Err(Refusal::Memory),
+        _ => Ok(None),
+    }
+}
+
 /// Reads the words, and does what they ask over files and the standard streams. Words that are not
 /// UTF-8 are no command.
 fn perform(rt: &HostRuntime) -> Result<(), Refusal> {
-    let _in_place_of_closed_streams = (
-        files::placeholder(rt)?,
-        files::placeholder(rt)?,
-        files::placeholder(rt)?,
-    );
+    let _in_place_of_closed_streams = (placeholder(rt)?, placeholder(rt)?, placeholder(rt)?);
     let args = match std::env::args(rt) {
         Ok(args) => args,
         Err(e) if e.kind() == io::ErrorKind::OutOfMemory => return Err(Refusal::Memory),
