@@ -18,8 +18,8 @@ use std::alloc::Global;
 
 impl Jwe {
     /// The object with these members. Refused as its JSON text would be, in the order of `Jwe::read`: `Json` where that nests
-    /// more than 127 deep; `Number` where a header holds a number that is no whole number of 64 bits, as `-0`; `Form` where there is no
-    /// recipient; `Limit` where there are more than 256; `Base64` where the text of the protected header is no base64url text;
+    /// more than 127 deep; `Number` where a header holds a number that is no whole number of 64 bits, as `-0`; `Form` where there is
+    /// no recipient; `Limit` where there are more than 256; `Base64` where the text of the protected header is no base64url text;
     /// and then for the headers.
     pub fn build(alloc: Global, parts: JweParts) -> Result<Jwe, Refusal>
         ensures exact { AgreesUnlessMemory jwe_view result (built limits (jwe_parts_view parts)) }

@@ -60,7 +60,8 @@ impl<'t> EncodedJwe<'t> {
 }
 
 /// The members of an object in JSON form (RFC 7516 section 7.2). Refused with `Form` where one has a wrong type, `ciphertext`
-/// is there and not empty and was handed in too, or is neither, or what is there of recipients is neither one nor a list of at least one.
+/// is there and not empty and was handed in too, or is neither, or what is there of recipients is neither one nor a list of at least
+/// one.
 #[tactic(auto, unfolding(crate::specs::Jwe::encoded_in_json))]
 pub(crate) fn encoded_in_json(
     alloc: Global,

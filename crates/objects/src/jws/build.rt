@@ -19,9 +19,9 @@ use std::alloc::Global;
 
 impl<'t> Jws<'t> {
     /// The object with these members. Refused as its JSON text would be, in the order of `Jws::read`: `Json` where that nests
-    /// more than 127 deep; `Number` where a header holds a number that is no whole number of 64 bits, as `-0`; `Form` where there is no
-    /// signature; `Limit` where there are more than 256; `Base64` where the text of a protected header is no base64url text; and
-    /// then for the headers.
+    /// more than 127 deep; `Number` where a header holds a number that is no whole number of 64 bits, as `-0`; `Form` where there is
+    /// no signature; `Limit` where there are more than 256; `Base64` where the text of a protected header is no base64url text;
+    /// and then for the headers.
     pub fn build(alloc: Global, parts: JwsParts) -> Result<Jws<'t>, Refusal>
         ensures exact { AgreesUnlessMemory jws_view result (built limits (jws_parts_view parts)) }
         ensures made { IfOk result (λ jws. AreMembers (jws_parts_view parts) → IsMade limits (jws_view jws)) }

@@ -37,7 +37,8 @@ pub(crate) struct EncodedSignature<'t> {
 }
 
 /// The members of an object in JSON form (RFC 7515 section 7.2). Refused with `Form` where one has a wrong type, `payload` is
-/// there and not empty and was handed in too, or is neither, or what is there of signatures is neither one nor a list of at least one.
+/// there and not empty and was handed in too, or is neither, or what is there of signatures is neither one nor a list of at least
+/// one.
 #[tactic(auto, unfolding(crate::specs::Jws::encoded_in_json))]
 pub(crate) fn encoded_in_json(
     alloc: Global,
