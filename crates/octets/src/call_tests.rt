@@ -12,7 +12,7 @@ fn abc(failing: Failing) -> FailingInput<'static> {
     FailingInput::new(MemoryInput::new(b"abc", 8), failing)
 }
 
-/// Where the first calls of an output fail a write and an end fail, and where a later one does nothing fails.
+/// Which calls of an output fail, and what comes of two calls: the first fails, the second, or one that is not made.
 const CALLS_OF_AN_OUTPUT: &[(Failing, Result<(), Refusal>)] = &[
     (Failing::Once(0), Err(Refusal::Write)),
     (Failing::Once(1), Err(Refusal::Write)),
@@ -31,7 +31,7 @@ fn octets_are_written_and_finished_by_two_calls(rt: HostRuntime) -> Result<(), F
     Ok(())
 }
 
-/// Where the first calls of an input fail, and where a later one does.
+/// Which calls of an input fail, or after how many octets, and what comes of two reads: the second finds the end.
 const CALLS_OF_AN_INPUT: &[(Failing, Result<usize, Refusal>)] = &[
     (Failing::Once(0), Err(Refusal::Read)),
     (Failing::Once(1), Err(Refusal::Read)),
