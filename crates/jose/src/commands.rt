@@ -1,5 +1,5 @@
 //! What each command does, from devices to devices. They are given an option's value where a device does not say it all.
-ghost use Rattle.std.specs.Prelude.{◌≡◌, ◌≢◌, ◌⊎◌, ◌&&◌, ◌++◌, false, ℕ, List, [], ◌∷◌, option_map, None, OnOk, OnErr, IfOk, IfErr, IsTrue};
+ghost use Rattle.std.specs.Prelude.{◌≡◌, ◌≢◌, ◌⊎◌, ◌&&◌, ◌++◌, false, ℕ, List, [], ◌∷◌, option_map, None, Err, OnOk, OnErr, IfOk, IfErr, IsTrue};
 ghost use Rattle.std.specs.Iterator.{IsFinite};
 ghost use Rattle.octets.specs.Devices.{appended, observed, IsPossibleInput, AppendsPrefixOf};
 ghost use Rattle.octets.specs.Faults.{TellsFaults, DidNotFail, counts};
@@ -17,7 +17,7 @@ pub(crate) mod jws;
 
 use keys::KeySet;
 use objects::HeldContent;
-use octets::{Input, Output, Refusal, emit, read_to_end};
+use octets::{Input, Output, PIECE, Refusal, emit, read_to_end};
 use std::alloc::Global;
 
 /// Reads the text to its end, and then the keys. `strict` asks for each key to be good.
@@ -97,6 +97,22 @@ fn read_beside<I: Input>(
         Ok(Some(read_to_end(alloc, content)?))
     } else {
         Ok(None)
+    }
+}
+
+/// Reads the content to its end, and keeps nothing of it. Fails with `Read` if the content fails.
+fn read_past<I: Input>(content: &mut I) -> Result<(), Refusal>
+    requires { IsFinite (I.remaining content.old) }
+    ensures ends { OnOk result (IsTrue (I.is_at_end content.new)) }
+    ensures cause { OnErr result (result ≡ Err Refusal.Read) }
+    ensures faults { TellsFaults (counts I.failures content.old content.new ∷ []) [] result }
+{
+    let mut buf = [0; PIECE];
+    'pieces: loop {
+        let n = content.read(&mut buf)?;
+        if n == 0 {
+            return Ok(());
+        }
     }
 }
 

@@ -37,3 +37,4 @@ pub mod SpellingJwsCompact
 pub mod ExactJwe
 pub mod ExactJws
 pub mod Lemmas
+pub mod HandedIn

@@ -7,3 +7,4 @@ pub mod Jws
 pub mod Jwe
 pub mod Views
 pub mod Frames
+pub mod HandedIn

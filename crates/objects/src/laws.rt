@@ -1,4 +1,5 @@
 //! Laws of the definitions, each the contract of a function that does nothing.
+ghost use Rattle.objects.specs.HandedIn.{PayloadIsHandedIn};
 ghost use Rattle.objects.specs.Headers.{JointHeaderHasAllMembers};
 ghost use Rattle.objects.specs.Jwe as jwe;
 ghost use Rattle.objects.specs.Jws as jws;
@@ -75,6 +76,13 @@ pub fn jws_compact_texts_are_exact()
 {
     base64url_decodes_exactly();
     base64url_decodes_to_octets();
+}
+
+/// A text of a signed object is read beside a payload that is handed in as it is beside an empty one, but for the payload.
+pub fn jws_payload_is_handed_in()
+    ensures { PayloadIsHandedIn }
+{
+    base64url_decodes_exactly();
 }
 
 /// An encrypted object is made of members, or refused, as the JSON text of these is read.

@@ -5,19 +5,16 @@ use Rattle.std.proofs.lemmas.Bool.{lt-leb, not-true, or_parts}
 use Rattle.std.specs.List.{AllByRecursion, list_any}
 use Rattle.std.specs.Option.{unwrap_or}
 use Rattle.octets.specs.Octets.{IsOctets}
-use Rattle.ciphers.specs.Delivery.{IsIvOf, IsTagOf, encrypted_key_of, key_tag_of, IsDelivered}
-use Rattle.octets.proofs.Lemmas.{IsOctets-nil, IsOctets-take, IsOctets-drop}
+use Rattle.ciphers.specs.Delivery.{key_tag_of, IsDelivered}
+use Rattle.octets.proofs.Lemmas.{IsOctets-take, IsOctets-drop}
 use Rattle.ciphers.specs.Sealing.{cek_len, iv_len}
-use Rattle.ciphers.specs.declared.key_alg.KeyAlg.TheVariants as variants
 use Rattle.keys.specs.declared.algorithm.Algorithm.TheVariants.{Encryption as EncryptionWith}
 use Rattle.keys.specs.declared.algorithm.ContentEncryptionAlg.{ContentEncryptionAlg}
-use Rattle.keys.specs.declared.algorithm.KeyManagementAlg.{KeyManagementAlg}
-use Rattle.keys.specs.declared.algorithm.KeyManagementAlg.TheVariants.{Dir}
 use Rattle.keys.specs.Keys.{OctetKey, AreOctetKeys, fits}
 use Rattle.objects.proofs.Lemmas.{all_then, all_both}
 use Rattle.tokens.specs.Algorithms.{content_alg, key_alg, parameters_by}
 use Rattle.tokens.specs.Choosing.{RecipientKey, is_direct, is_alone, direct_key_is_alone, EncryptionPlan}
-use Rattle.tokens.specs.Delivering.{drawn_by, drawn_for, drawn_for_all, parameters_with, management_with, Delivery, delivery_to, deliveries_to}
+use Rattle.tokens.specs.Delivering.{drawn_for, drawn_for_all, parameters_with, Delivery, delivery_to, deliveries_to}
 use Rattle.tokens.specs.Encrypting.{direct_key, drawn_cek, cek_drawn, random_len, for_receivers, after_receivers, cek_by}
 use Rattle.tokens.proofs.AlgorithmCases.{direct_is, direct_alg, encrypted_alike, tag_alike, iv_is_drawn, tag_is_made, direct_key_fits}
 use Rattle.tokens.proofs.SettledEncryptions.{Receives, Settles}

@@ -1,5 +1,5 @@
 -- The texts that stand round the ciphertext and the tag of what is encrypted.
-use Rattle.std.proofs.Common.{◌≡◌, ℕ, ◌≤◌, Bool, true, false, nat_le, List, [], ◌∷◌, ◌++◌, length, Result, Ok, Err, refl, sym, ap, ◌∙◌, subst, arith, length-drop}
+use Rattle.std.proofs.Common.{◌≡◌, ℕ, ◌≤◌, Bool, true, List, [], ◌∷◌, ◌++◌, length, Result, Ok, Err, refl, sym, ap, ◌∙◌, subst, arith, length-drop}
 use Rattle.std.proofs.lemmas.Bool.{le-leb}
 use Rattle.octets.specs.declared.refusal.Refusal.{Refusal}
 use Rattle.octets.specs.declared.refusal.Refusal.TheVariants.{NotCompact}
@@ -13,7 +13,7 @@ use Rattle.ciphers.proofs.Lemmas.{some_tag}
 use Rattle.keys.specs.Keys.{OctetKey, AreOctetKeys}
 use Rattle.keys.specs.Limits.{limits, are_few}
 use Rattle.objects.specs.Frames.{filled, in_places, jwe_frame, IsJweFrame}
-use Rattle.objects.specs.Jwe.{EncryptedObject, built, jwe_written, jwe_text}
+use Rattle.objects.specs.Jwe.{built, jwe_written}
 use Rattle.objects.specs.Texts.{handed_out}
 use Rattle.objects.specs.Writing.{Written, all_texts}
 use Rattle.objects.proofs.Lemmas.{jwe_refused, is_jwe_frame}

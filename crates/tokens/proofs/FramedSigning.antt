@@ -20,7 +20,7 @@ use Rattle.objects.specs.Writing.{Written, all_texts}
 use Rattle.objects.proofs.Lemmas.{signature_spelled, parts_spelled, spelled, jws_is_built, object_keeps, jws_refused}
 use Rattle.tokens.specs.Signatures.{signature_hash, signature_of}
 use Rattle.tokens.specs.Signing.{Signer, Signing, protected_by, signature_by, unsigned_part_by, unsigned_by, signed, text_before, written_of, plan_by, read_signing, sig_plan}
-use Rattle.tokens.specs.SigningInputs.{signature_text, unsigned_protected}
+use Rattle.tokens.specs.SigningInputs.{signature_text, start_of, unsigned_protected}
 use Rattle.octets.specs.Encoding.{encoding}
 use Rattle.octets.specs.Pumps.{behind}
 use Rattle.tokens.proofs.SignedAlike.{with_all, put_part, built_alike, refused_alike}
@@ -36,11 +36,11 @@ all_octets : (payload : List ℕ) (signers : List Signer) → AllByRecursion IsO
 all_octets payload [] = tt
 all_octets payload (s ∷ signers) = (signature_octets s.alg s.key.octets (protected_by s) payload, all_octets payload signers)
 
-text_is : (payload : List ℕ) (s : Signer) → signature_text (base64url payload) s ≡ base64url (octets_by payload s)
+text_is : (payload : List ℕ) (s : Signer) → signature_text (base64url payload) (start_of s) ≡ base64url (octets_by payload s)
 unfolding signature_of
 text_is payload s = ap (λ t. base64url (hmac (signature_hash s.alg) s.key.octets t)) (append_assoc (protected_by s) (codes ".") (base64url payload))
 
-pub texts_are : (payload : List ℕ) (signers : List Signer) → map (signature_text (base64url payload)) signers ≡ map base64url (map (octets_by payload) signers)
+pub texts_are : (payload : List ℕ) (signers : List Signer) → map (signature_text (base64url payload)) (map start_of signers) ≡ map base64url (map (octets_by payload) signers)
 texts_are payload [] = refl
 texts_are payload (s ∷ signers) = ap₂ (λ t ts. t ∷ ts) (text_is payload s) (texts_are payload signers)
 

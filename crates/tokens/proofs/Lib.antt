@@ -1,7 +1,8 @@
 pub mod Tests
 pub mod Encoded
 pub mod HeldInputs
-pub mod UnsignedInputs
+pub mod VerifyingInputs
+pub mod BegunInputs
 pub mod WrittenSignatures
 pub mod SignedAlike
 pub mod FramedSigning
@@ -11,6 +12,7 @@ pub mod HeaderTexts
 pub mod AlgorithmCases
 pub mod Receivers
 pub mod PairLists
+pub mod TriedPairs
 pub mod Iterations
 pub mod Sealed
 pub mod Openings

@@ -1,5 +1,5 @@
 -- Receivers of a content encryption key: what a test of all of them says of each, and what is counted over them.
-use Rattle.std.proofs.Common.{◌≡◌, ℕ, zero, suc, ◌≤◌, Bool, true, false, not, nat_le, List, [], ◌∷◌, length, map, Some, None, Ok, lit≤, refl, sym, ap, ◌∙◌, subst, arith}
+use Rattle.std.proofs.Common.{◌≡◌, ℕ, zero, suc, ◌≤◌, Bool, true, false, not, nat_le, List, [], ◌∷◌, length, map, Some, None, Ok, refl, sym, ap, ◌∙◌, subst, arith}
 use Rattle.std.proofs.lemmas.Bool.{leb-true, le-leb, lt-leb, and_parts, and_from, or_left, or_right}
 use Rattle.std.proofs.lemmas.List.{length-map}
 use Rattle.std.proofs.lemmas.List.Folds.{list_all-map}
@@ -8,21 +8,17 @@ use Rattle.std.specs.Option.{unwrap_or}
 use Rattle.std.specs.Prelude.{◌&&◌, ◌||◌, ◌*◌, if◌then◌else◌}
 use Rattle.octets.specs.declared.refusal.Refusal.{Refusal}
 use Rattle.octets.specs.Outcomes.{needs}
-use Rattle.ciphers.specs.Delivery.{IsCountOf, IsIvOf}
 use Rattle.ciphers.specs.Sealing as ciphers
 use Rattle.keys.specs.declared.algorithm.Algorithm.TheVariants.{Encryption as EncryptionWith}
 use Rattle.keys.specs.declared.algorithm.ContentEncryptionAlg.{ContentEncryptionAlg}
-use Rattle.keys.specs.declared.algorithm.ContentEncryptionAlg.TheVariants.{A128CbcHs256, A192CbcHs384, A256CbcHs512, A128Gcm, A192Gcm, A256Gcm}
-use Rattle.keys.specs.declared.algorithm.KeyManagementAlg.{KeyManagementAlg}
 use Rattle.keys.specs.declared.algorithm.KeyManagementAlg.TheVariants.{Dir}
 use Rattle.keys.specs.Algorithms.{is_password_based, management_operations}
 use Rattle.keys.specs.Keys.{allows, fits}
 use Rattle.keys.specs.Limits.{limits}
 use Rattle.keys.specs.Views.{key_view}
 use Rattle.tokens.specs.declared.encrypt.recipient_key.RecipientKey.{RecipientKey as Code}
-use Rattle.tokens.specs.Algorithms.{key_alg, content_alg}
+use Rattle.tokens.specs.Algorithms.{content_alg}
 use Rattle.tokens.specs.Choosing.{is_direct, direct_key_is_alone, may_encrypt, password_count, p2c_may_be_written}
-use Rattle.tokens.specs.Delivering.{drawn_by}
 use Rattle.tokens.specs.Encrypting.{direct_key}
 use Rattle.tokens.specs.Views.{recipient_key_view}
 use Rattle.tokens.proofs.AlgorithmCases.{direct_is, direct_key_fits}

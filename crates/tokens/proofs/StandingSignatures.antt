@@ -11,7 +11,7 @@ use Rattle.octets.proofs.Lemmas.{IsOctets-nil, begun_whole, appended-append, bot
 use Rattle.prf.specs.HashFunction.{HashFunction}
 use Rattle.objects.specs.Frames.{filled, IsJwsFrame}
 use Rattle.tokens.specs.Signing.{Signer}
-use Rattle.tokens.specs.SigningInputs.{HoldEach, IsFramed, signature_text}
+use Rattle.tokens.specs.SigningInputs.{HoldEach, IsFramed, signature_text, start_of}
 use Rattle.octets.specs.Encoding.{encoding}
 use Rattle.octets.specs.Pumps.{behind}
 use Rattle.tokens.proofs.Beginnings.{AppendsPrefixOf-behind}
@@ -40,7 +40,7 @@ written_back new items n long same = take-append-le n new (drop (length new) ite
 
 module _ {S : Type 0} (has_taken : S → HashFunction → List ℕ → List ℕ → Type 0) where
   -- as many inputs as signers
-  pub hold_count : (inputs : List S) (signers : List Signer) (text : List ℕ) → HoldEach has_taken inputs signers text → length inputs ≡ length signers
+  pub hold_count : (inputs : List S) (signers : List Signer) (text : List ℕ) → HoldEach has_taken inputs (map start_of signers) text → length inputs ≡ length signers
   hold_count [] [] text h = refl
   hold_count [] (s ∷ signers) text h = absurd h
   hold_count (x ∷ inputs) [] text h = absurd h
@@ -51,7 +51,7 @@ module _ {S : Type 0} (has_taken : S → HashFunction → List ℕ → List ℕ 
 
     module _ (texts : List (List ℕ)) (f : IsFramed has_taken compact false plan inputs texts) (first : List ℕ) (rest : List (List ℕ)) (are : texts ≡ first ∷ rest) where
       -- after the first text there is one more than there are inputs
-      pub inside_places : (now : List S) (text : List ℕ) → HoldEach has_taken now f.signing.signers text → length rest ≡ 1 + length now
+      pub inside_places : (now : List S) (text : List ℕ) → HoldEach has_taken now (map start_of f.signing.signers) text → length rest ≡ 1 + length now
       inside_places now text h =
           omega (arith, ap length are, f.frame.places, unsigned_count f.signing f.object f.made, hold_count now f.signing.signers text h)
 
@@ -75,7 +75,7 @@ module _ {S : Type 0} (has_taken : S → HashFunction → List ℕ → List ℕ 
 
       -- all of it
       abbrev all_inside : List ℕ → List ℕ
-      all_inside p = first ++ (base64url p ++ filled rest (map (signature_text (base64url p)) f.signing.signers))
+      all_inside p = first ++ (base64url p ++ filled rest (map (signature_text (base64url p)) (map start_of f.signing.signers)))
 
       inside_whole : (p : List ℕ) → IsOctets p → planned plan p ≡ Ok (record { text = all_inside p; content = [] })
       inside_whole p octets =
@@ -84,9 +84,9 @@ module _ {S : Type 0} (has_taken : S → HashFunction → List ℕ → List ℕ 
 
       -- the signatures were written in part
       pub inside_signatures_part : (p : List ℕ) (ended : Bool) (old out new : List ℕ) → IsOctets p → IsTrue ended → out ≡ old ++ (first ++ base64url p)
-          → AppendsPrefixOf (filled rest (map (signature_text (base64url p)) f.signing.signers)) out new → AppendsPrefixOf (begun plan (record { octets = p; ended = ended })).text old new
+          → AppendsPrefixOf (filled rest (map (signature_text (base64url p)) (map start_of f.signing.signers))) out new → AppendsPrefixOf (begun plan (record { octets = p; ended = ended })).text old new
       inside_signatures_part p ended old out new octets at_end so_far part =
-          let values : List ℕ = filled rest (map (signature_text (base64url p)) f.signing.signers) in
+          let values : List ℕ = filled rest (map (signature_text (base64url p)) (map start_of f.signing.signers)) in
           let all : OutputTexts = record { text = first ++ (base64url p ++ values); content = [] } in
           let is : begun plan (record { octets = p; ended = ended }) ≡ all = begun_whole plan (record { octets = p; ended = ended }) all at_end (inside_whole p octets) in
           subst (λ t. AppendsPrefixOf t old new) (append_assoc first (base64url p) values ∙ sym (ap (λ (t : OutputTexts). t.text) is))
@@ -94,10 +94,10 @@ module _ {S : Type 0} (has_taken : S → HashFunction → List ℕ → List ℕ 
 
       -- all was written
       pub inside_answer : (p payload : List ℕ) (ended : Bool) (old out new : List ℕ) → IsOctets p → IsPossibleInput (record { octets = p; ended = ended }) payload → IsTrue ended
-          → out ≡ old ++ (first ++ base64url p) → new ≡ out ++ filled rest (map (signature_text (base64url p)) f.signing.signers)
+          → out ≡ old ++ (first ++ base64url p) → new ≡ out ++ filled rest (map (signature_text (base64url p)) (map start_of f.signing.signers))
           → planned plan payload ≡ Ok (record { text = appended old new; content = [] })
       inside_answer p payload ended old out new octets may at_end so_far e =
-          let values : List ℕ = filled rest (map (signature_text (base64url p)) f.signing.signers) in
+          let values : List ℕ = filled rest (map (signature_text (base64url p)) (map start_of f.signing.signers)) in
           let whole : new ≡ old ++ (first ++ (base64url p ++ values)) =
           e ∙ ap (λ l. l ++ values) so_far ∙ append_assoc old (first ++ base64url p) values ∙ ap (λ l. old ++ l) (append_assoc first (base64url p) values) in
           ap (planned plan) (all_read p payload ended may at_end) ∙ inside_whole p octets
@@ -106,14 +106,14 @@ module _ {S : Type 0} (has_taken : S → HashFunction → List ℕ → List ℕ 
     -- ---- the payload stands beside
 
     module _ (texts : List (List ℕ)) (f : IsFramed has_taken compact true plan inputs texts) where
-      pub beside_places : (now : List S) (text : List ℕ) → HoldEach has_taken now f.signing.signers text → length texts ≡ 1 + length now
+      pub beside_places : (now : List S) (text : List ℕ) → HoldEach has_taken now (map start_of f.signing.signers) text → length texts ≡ 1 + length now
       beside_places now text h = omega (arith, f.frame.places, unsigned_count f.signing f.object f.made, hold_count now f.signing.signers text h)
 
       -- what so much of it fixes
       pub beside_fixed : (q : List ℕ) → ((fixed_by plan q).text ≡ []) × ((fixed_by plan q).content ≡ q)
       beside_fixed q = (ap (λ r. (fixed_by r q).text) f.is, ap (λ r. (fixed_by r q).content) f.is)
 
-      beside_whole : (p : List ℕ) → IsOctets p → planned plan p ≡ Ok (record { text = filled texts (map (signature_text (base64url p)) f.signing.signers); content = p })
+      beside_whole : (p : List ℕ) → IsOctets p → planned plan p ≡ Ok (record { text = filled texts (map (signature_text (base64url p)) (map start_of f.signing.signers)); content = p })
       beside_whole p octets =
           ap (λ r. planned r p) f.is ∙ whole_is compact true f.signing f.object texts f.made f.frame p octets
           ∙ ap (λ values. Ok (record { text = filled texts values; content = p })) (sym (texts_are p f.signing.signers))
@@ -125,12 +125,12 @@ module _ {S : Type 0} (has_taken : S → HashFunction → List ℕ → List ℕ 
 
       -- what may stand, once all is read
       pub text_is : (p : List ℕ) (ended : Bool) → IsOctets p → IsTrue ended
-          → (begun plan (record { octets = p; ended = ended })).text ≡ filled texts (map (signature_text (base64url p)) f.signing.signers)
+          → (begun plan (record { octets = p; ended = ended })).text ≡ filled texts (map (signature_text (base64url p)) (map start_of f.signing.signers))
       text_is p ended octets at_end = ap (λ (t : OutputTexts). t.text) (begun_whole plan (record { octets = p; ended = ended }) _ at_end (beside_whole p octets))
 
       -- all was written
       pub beside_answer : (p payload : List ℕ) (ended : Bool) (old new old_beside new_beside : List ℕ) → IsOctets p → IsPossibleInput (record { octets = p; ended = ended }) payload → IsTrue ended
-          → new_beside ≡ old_beside ++ p → new ≡ old ++ filled texts (map (signature_text (base64url p)) f.signing.signers)
+          → new_beside ≡ old_beside ++ p → new ≡ old ++ filled texts (map (signature_text (base64url p)) (map start_of f.signing.signers))
           → planned plan payload ≡ Ok (record { text = appended old new; content = appended old_beside new_beside })
       beside_answer p payload ended old new old_beside new_beside octets may at_end beside e =
           ap (planned plan) (all_read p payload ended may at_end) ∙ beside_whole p octets ∙ ap Ok (both_written _ old new old_beside new_beside e beside)

@@ -8,8 +8,7 @@ use Rattle.octets.specs.Devices.{AppendsPrefixOf}
 use Rattle.octets.proofs.Lemmas.{AppendsPrefixOf-front, AppendsPrefixOf-part}
 use Rattle.objects.specs.Frames.{filled}
 use Rattle.tokens.specs.Signatures.{signature_hash}
-use Rattle.tokens.specs.Signing.{Signer, protected_by}
-use Rattle.tokens.specs.SigningInputs.{HoldEach, signature_text}
+use Rattle.tokens.specs.SigningInputs.{InputStart, HoldEach, signature_text}
 
 -- what is still to be written of a text on an output
 pub record IsLeft (left all old written : List ℕ) : Type 0 where
@@ -36,42 +35,42 @@ all_left left all old written new k e = e ∙ k.same
 module _ {S : Type 0} (has_taken : S → HashFunction → List ℕ → List ℕ → Type 0) where
   -- the texts and the signatures of these inputs are still to be written
   pub record AreLeft (inputs : List S) (texts : List (List ℕ)) (text all old written : List ℕ) : Type 0 where
-    pub signers : List Signer
-    pub hold : HoldEach has_taken inputs signers text
-    pub left : IsLeft (filled texts (map (signature_text text) signers)) all old written
+    pub starts : List InputStart
+    pub hold : HoldEach has_taken inputs starts text
+    pub left : IsLeft (filled texts (map (signature_text text) starts)) all old written
 
-  -- the first signer of those that are left
-  record First (x : S) (inputs : List S) (signers : List Signer) (text : List ℕ) : Type 0 where
-    signer : Signer
-    others : List Signer
-    is : signers ≡ signer ∷ others
-    here : has_taken x (signature_hash signer.alg) signer.key.octets ((protected_by signer ++ codes ".") ++ text)
+  -- the first start of those that are left
+  record First (x : S) (inputs : List S) (starts : List InputStart) (text : List ℕ) : Type 0 where
+    start : InputStart
+    others : List InputStart
+    is : starts ≡ start ∷ others
+    here : has_taken x (signature_hash start.alg) start.key ((start.protected ++ codes ".") ++ text)
     later : HoldEach has_taken inputs others text
 
-  first_of_all : (x : S) (inputs : List S) (signers : List Signer) (text : List ℕ) → HoldEach has_taken (x ∷ inputs) signers text → First x inputs signers text
+  first_of_all : (x : S) (inputs : List S) (starts : List InputStart) (text : List ℕ) → HoldEach has_taken (x ∷ inputs) starts text → First x inputs starts text
   first_of_all x inputs [] text h = absurd h
-  first_of_all x inputs (s ∷ signers) text h = record { signer = s; others = signers; is = refl; here = h.0; later = h.1 }
+  first_of_all x inputs (s ∷ starts) text h = record { start = s; others = starts; is = refl; here = h.0; later = h.1 }
 
   module _ (inputs rest : List S) (x : S) (texts others : List (List ℕ)) (next text all old written : List ℕ) (k : AreLeft inputs texts text all old written) (is : inputs ≡ x ∷ rest) (their : texts ≡ next ∷ others) where
-    first : First x rest k.signers text
-    first = first_of_all x rest k.signers text (subst (λ i. HoldEach has_taken i k.signers text) is k.hold)
+    first : First x rest k.starts text
+    first = first_of_all x rest k.starts text (subst (λ i. HoldEach has_taken i k.starts text) is k.hold)
 
     later : List ℕ
     unfolding first
     later = filled others (map (signature_text text) first.others)
 
-    whole : filled texts (map (signature_text text) k.signers) ≡ next ++ (signature_text text first.signer ++ later)
+    whole : filled texts (map (signature_text text) k.starts) ≡ next ++ (signature_text text first.start ++ later)
     unfolding first later
-    whole = ap (λ t. filled t (map (signature_text text) k.signers)) their ∙ ap (λ s. filled (next ∷ others) (map (signature_text text) s)) first.is
+    whole = ap (λ t. filled t (map (signature_text text) k.starts)) their ∙ ap (λ s. filled (next ∷ others) (map (signature_text text) s)) first.is
 
     -- the text before a signature was written in part
     pub text_refused : (new : List ℕ) (n : ℕ) → new ≡ written ++ take n next → AppendsPrefixOf all old new
-    text_refused new n e = part_left next (signature_text text first.signer ++ later) _ all old written new k.left whole (AppendsPrefixOf-part next written new n e)
+    text_refused new n e = part_left next (signature_text text first.start ++ later) _ all old written new k.left whole (AppendsPrefixOf-part next written new n e)
 
     module _ (signature encoded : List ℕ) (signs : (f : HashFunction) (key taken : List ℕ) → has_taken x f key taken → signature ≡ hmac f key taken) (encodes : encoded ≡ base64url signature) (between : List ℕ) (so_far : between ≡ written ++ next) where
-      signature_is : encoded ≡ signature_text text first.signer
+      signature_is : encoded ≡ signature_text text first.start
       unfolding first
-      signature_is = encodes ∙ ap base64url (signs (signature_hash first.signer.alg) first.signer.key.octets ((protected_by first.signer ++ codes ".") ++ text) first.here)
+      signature_is = encodes ∙ ap base64url (signs (signature_hash first.start.alg) first.start.key ((first.start.protected ++ codes ".") ++ text) first.here)
 
       after_text : IsLeft (encoded ++ later) all old between
       after_text = less_left next (encoded ++ later) _ all old written between k.left (whole ∙ ap (λ s. next ++ (s ++ later)) (sym signature_is)) so_far
@@ -84,21 +83,21 @@ module _ {S : Type 0} (has_taken : S → HashFunction → List ℕ → List ℕ 
       pub one_written : (new : List ℕ) → new ≡ between ++ encoded → AreLeft rest others text all old new
       unfolding first later
       one_written new e = record {
-        signers = first.others;
+        starts = first.others;
         hold = first.later;
         left = less_left encoded later _ all old between new after_text refl e;
       }
 
-  none_of_none : (signers : List Signer) (text : List ℕ) → HoldEach has_taken [] signers text → signers ≡ []
+  none_of_none : (starts : List InputStart) (text : List ℕ) → HoldEach has_taken [] starts text → starts ≡ []
   none_of_none [] text h = refl
-  none_of_none (s ∷ signers) text h = absurd h
+  none_of_none (s ∷ starts) text h = absurd h
 
   -- only the last text is left
   pub last_left : (inputs : List S) (texts : List (List ℕ)) (last text all old written : List ℕ) → AreLeft inputs texts text all old written → inputs ≡ [] → texts ≡ last ∷ [] → IsLeft last all old written
   last_left inputs texts last text all old written k none their =
-      let no_signers : k.signers ≡ [] = none_of_none k.signers text (subst (λ i. HoldEach has_taken i k.signers text) none k.hold) in
-      let is : filled texts (map (signature_text text) k.signers) ≡ last =
-      ap (λ t. filled t (map (signature_text text) k.signers)) their ∙ ap (λ s. filled (last ∷ []) (map (signature_text text) s)) no_signers in
+      let no_starts : k.starts ≡ [] = none_of_none k.starts text (subst (λ i. HoldEach has_taken i k.starts text) none k.hold) in
+      let is : filled texts (map (signature_text text) k.starts) ≡ last =
+      ap (λ t. filled t (map (signature_text text) k.starts)) their ∙ ap (λ s. filled (last ∷ []) (map (signature_text text) s)) no_starts in
       subst (λ l. IsLeft l all old written) is k.left
 
 -- one element is the last of a list that ends with it

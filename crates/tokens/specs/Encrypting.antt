@@ -1,5 +1,5 @@
 -- Encrypting to each key of a set (RFC 7516 section 5.1), in compact form (section 7.1) or in JSON form (section 7.2).
-use Rattle.std.specs.Prelude.{◌≡◌, ◌≤◌, ◌<◌, ℕ, ◌+◌, ◌^◌, Bool, true, false, not, nat_le, List, [], ◌∷◌, ◌++◌, length, map, take, drop, codes, if◌then◌else◌, Option, Some, None, Result, Ok, IfErr}
+use Rattle.std.specs.Prelude.{◌≡◌, ◌≤◌, ◌<◌, ℕ, ◌+◌, ◌^◌, Bool, true, false, not, List, [], ◌∷◌, ◌++◌, length, map, take, drop, codes, if◌then◌else◌, Option, Some, None, Result, Ok, IfErr}
 use Rattle.std.specs.List.{AllByRecursion}
 use Rattle.std.specs.Option.{unwrap_or}
 use Rattle.serde_json.specs.Data.{Members, no_members, string, put}
@@ -16,7 +16,7 @@ use Rattle.keys.specs.Keys.{OctetKey, AreOctetKeys, allows}
 use Rattle.keys.specs.Limits.{Limits, limits, are_few}
 use Rattle.objects.specs.Frames.{first_text, jwe_frame}
 use Rattle.objects.specs.KeyManagement.{KeyManagement, Unknown, Direct, KeyWrap, Password, GcmKeyWrap}
-use Rattle.objects.specs.Jwe.{RecipientParts, JweParts, EncryptedObject, built, json_text, jwe_compact_text, jwe_of, jwe_text}
+use Rattle.objects.specs.Jwe.{RecipientParts, JweParts, EncryptedObject, built, jwe_of, jwe_text}
 use Rattle.objects.specs.Texts.{handed_in, handed_out, listed_header_depth}
 use Rattle.tokens.specs.Algorithms.{content_alg}
 use Rattle.tokens.specs.Choosing.{RecipientKey, is_direct, is_alone, with_name, with_p2c, Given, EncryptionPlan, read_encryption}

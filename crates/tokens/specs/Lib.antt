@@ -3,6 +3,7 @@ pub mod Template
 pub mod Signing
 pub mod SigningInputs
 pub mod Verifying
+pub mod VerifyingInputs
 pub mod Algorithms
 pub mod Decrypting
 pub mod EncryptionTemplate

@@ -17,7 +17,7 @@ use Rattle.keys.specs.Json.{json_value}
 use Rattle.keys.specs.Limits.{Limits, limits, are_few}
 use Rattle.keys.specs.Keys.{OctetKey, allows, fits}
 use Rattle.objects.specs.Frames.{first_text, jws_frame}
-use Rattle.objects.specs.Jws.{SignatureParts, JwsParts, SignedObject, built, json_text, jws_compact_text, jws_text}
+use Rattle.objects.specs.Jws.{SignatureParts, JwsParts, SignedObject, built, jws_text}
 use Rattle.objects.specs.Texts.{each, handed_out}
 use Rattle.tokens.specs.Template.{SignatureTemplate, template_of, with_alg, header_text, is_shallow, is_empty}
 use Rattle.tokens.specs.Signatures.{signature_of}

@@ -6,6 +6,7 @@ use Rattle.prf.specs.declared.hmac.Hmac.{Hmac}
 use Rattle.tokens.specs.declared.signing_input.HmacInput.{HmacInput}
 use Rattle.tokens.specs.declared.signing_input.HmacInput.TheVariants.{Hs256, Hs384, Hs512}
 use Rattle.octets.specs.declared.refusal.Refusal.{Refusal}
+use Rattle.keys.specs.declared.algorithm.SignatureAlg.{SignatureAlg}
 use Rattle.octets.specs.Base64url.{base64url, whole_groups, part_group}
 use Rattle.octets.specs.Plan.{OutputTexts, Plan}
 use Rattle.prf.specs.Hmac.{hmac}
@@ -21,21 +22,31 @@ on_hmac_input (Hs256 mac) a b c = a mac
 on_hmac_input (Hs384 mac) a b c = b mac
 on_hmac_input (Hs512 mac) a b c = c mac
 
--- Each was begun for its signer with the text of the protected header and a dot, and has then taken this text.
-abbrev pub HoldEach : {S : Type 0} → (S → HashFunction → List ℕ → List ℕ → Type 0) → List S → List Signer → List ℕ → Type 0
+-- what a signing input starts with: the algorithm and the key of the HMAC, and the text of the protected header
+pub record InputStart : Type 0 where
+  pub alg : SignatureAlg
+  pub key : List ℕ
+  pub protected : List ℕ
+
+-- Each input was begun with its start and a dot, and has then taken this text.
+abbrev pub HoldEach : {S : Type 0} → (S → HashFunction → List ℕ → List ℕ → Type 0) → List S → List InputStart → List ℕ → Type 0
 HoldEach has_taken [] [] text = ⊤
-HoldEach has_taken [] (s ∷ signers) text = ⊥
+HoldEach has_taken [] (s ∷ starts) text = ⊥
 HoldEach has_taken (x ∷ inputs) [] text = ⊥
-HoldEach has_taken (x ∷ inputs) (s ∷ signers) text =
-    has_taken x (signature_hash s.alg) s.key.octets ((protected_by s ++ codes ".") ++ text) × HoldEach has_taken inputs signers text
+HoldEach has_taken (x ∷ inputs) (s ∷ starts) text =
+    has_taken x (signature_hash s.alg) s.key ((s.protected ++ codes ".") ++ text) × HoldEach has_taken inputs starts text
 
 -- They have taken the text of the whole groups of what was read of the payload, and the octets after these wait.
-abbrev pub HaveTaken : {S : Type 0} → (S → HashFunction → List ℕ → List ℕ → Type 0) → List S → List ℕ → List Signer → List ℕ → Type 0
-HaveTaken has_taken inputs waiting signers p = HoldEach has_taken inputs signers (base64url (whole_groups p)) × (waiting ≡ part_group p)
+abbrev pub HaveTaken : {S : Type 0} → (S → HashFunction → List ℕ → List ℕ → Type 0) → List S → List ℕ → List InputStart → List ℕ → Type 0
+HaveTaken has_taken inputs waiting starts p = HoldEach has_taken inputs starts (base64url (whole_groups p)) × (waiting ≡ part_group p)
 
--- the text of the signature that a signer makes of the payload's text
-abbrev pub signature_text : List ℕ → Signer → List ℕ
-signature_text text s = base64url (hmac (signature_hash s.alg) s.key.octets ((protected_by s ++ codes ".") ++ text))
+-- the text of the signature over the payload's text
+abbrev pub signature_text : List ℕ → InputStart → List ℕ
+signature_text text s = base64url (hmac (signature_hash s.alg) s.key ((s.protected ++ codes ".") ++ text))
+
+-- what the signing input of a signer starts with
+abbrev pub start_of : Signer → InputStart
+start_of s = record { alg = s.alg; key = s.key.octets; protected = protected_by s }
 
 -- ---- the object before there is a payload
 
@@ -50,4 +61,4 @@ pub record IsFramed {S : Type 0} (has_taken : S → HashFunction → List ℕ �
   pub made : unsigned_by limits signing ≡ Ok object
   pub texts_are : jws_frame compact detach object ≡ Ok texts
   pub frame : IsJwsFrame compact detach object texts
-  pub begun : HoldEach has_taken inputs signing.signers []
+  pub begun : HoldEach has_taken inputs (map start_of signing.signers) []

@@ -28,21 +28,25 @@ is_candidate alg key = allows key Verify && fits key (SignedWith alg)
 abbrev pub is_signed : SignatureAlg → List ℕ → Signature → OctetKey → Bool
 is_signed alg payload s key = bytes_eq s.signature (signature_of alg key.octets s.protected payload)
 
--- the pair is a candidate: the algorithm is supported, and the key may verify by it
-abbrev pub may_verify_by : Option SignatureAlg → OctetKey → Bool
-may_verify_by None key = false
-may_verify_by (Some alg) key = is_candidate alg key
+-- the algorithm of a candidate pair: that of the signature, where it is supported, and the key may verify by it and fits
+abbrev pub candidate_by : Option SignatureAlg → OctetKey → Option SignatureAlg
+candidate_by None key = None
+candidate_by (Some alg) key = if is_candidate alg key then Some alg else None
 
+abbrev pub candidate_alg : Signature → OctetKey → Option SignatureAlg
+candidate_alg s key = candidate_by (signature_alg_of s.alg) key
+
+-- the pair is a candidate
 abbrev pub may_verify : Signature → OctetKey → Bool
-may_verify s key = may_verify_by (signature_alg_of s.alg) key
+may_verify s key = is_some (candidate_alg s key)
 
 -- the pair is a candidate, and the key signed the object
 abbrev pub verifies_by : Option SignatureAlg → List ℕ → Signature → OctetKey → Bool
 verifies_by None payload s key = false
-verifies_by (Some alg) payload s key = is_candidate alg key && is_signed alg payload s key
+verifies_by (Some alg) payload s key = is_signed alg payload s key
 
 abbrev pub verifies : List ℕ → Signature → OctetKey → Bool
-verifies payload s key = verifies_by (signature_alg_of s.alg) payload s key
+verifies payload s key = verifies_by (candidate_alg s key) payload s key
 
 -- ---- the object
 

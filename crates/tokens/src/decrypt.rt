@@ -1,5 +1,5 @@
 //! Decrypting with any key of a set (RFC 7516 section 5.2).
-ghost use Rattle.std.specs.Prelude.{◌≡◌, ◌≢◌, ◌+◌, ◌≤◌, ◌*◌, [], ◌∷◌, true, length, take, map, option_map, OnOk, OnErr, IfErr, IfNone, IsTrue};
+ghost use Rattle.std.specs.Prelude.{◌≡◌, ◌≢◌, ◌+◌, ◌≤◌, ◌*◌, [], ◌∷◌, true, length, take, map, option_map, None, OnOk, OnErr, IfErr, IfNone, IsTrue};
 ghost use Rattle.std.specs.Result.{result_unwrap_or};
 ghost use Rattle.octets.specs.Devices.{appended, AppendsPrefixOf};
 ghost use Rattle.octets.specs.Faults.{TellsFaults, counts};
@@ -11,11 +11,13 @@ ghost use Rattle.tokens.specs.Views.{pair_view, sealed_view, work_view};
 
 mod pair;
 mod pairs;
+mod tried;
 
 use crate::aad::additional_authenticated_data;
 use crate::algorithms::{Algorithms, content_alg, key_alg, parameters, unwraps};
 use crate::decrypt::pair::Pair;
 use crate::decrypt::pairs::{iterations, pairs_to_try};
+use crate::decrypt::tried::was_tried;
 use ciphers::Cek;
 use ciphers::laws::{delivers_exactly, opens_exactly};
 use keys::KeySet;
@@ -136,24 +138,27 @@ fn open_pairs(
     ensures work { work_view work.new ≡ with_pairs (sealed_view sealed.entry octets.old) no_work (map pair_view pairs.now) }
     ensures bound { IsBounded (work_view work.new) }
 {
-    for pair in pairs {
-        if let Some(len) = open_pair(pair, sealed, octets, work) {
+    for (i, pair) in pairs.iter().enumerate() {
+        if let Some(len) = open_pair(pair, &pairs[..i], sealed, octets, work) {
             return Some(len);
         }
     }
     None
 }
 
-/// Opens the ciphertext by a pair. Where it does not, the octets are as they were.
+/// Opens the ciphertext by a pair, after others that do not open it. If one of those is the same, the content is not gone over once more.
+/// Where the pair does not open it, the octets are as they were.
 #[tactic(auto, unfolding(crate::specs::Decrypting::opened_by))]
 fn open_pair(
     pair: &Pair<'_>,
+    before: &[Pair<'_>],
     sealed: Sealed<'_>,
     octets: &mut [u8],
     work: &mut Work,
 ) -> Option<usize>
     requires bound { IsBounded (work_view work.old) }
     requires counted { iterations_of (pair_view pair.now) ≤ limits.greatest_p2c_read }
+    requires tried { first_opened (sealed_view sealed octets.old) (map pair_view before.now) ≡ None }
     ensures opened { option_map (λ n. take n octets.new) result ≡ opened_by (sealed_view sealed.entry octets.old) (pair_view pair.now) }
     ensures unchanged { IfNone result (octets.new ≡ octets.old) }
     ensures work { work_view work.new ≡ with_pair (work_view work.old) (pair_view pair.now) }
@@ -166,6 +171,9 @@ fn open_pair(
     work.unwraps += unwraps(pair.algorithms.management);
     let cek = deliver(pair)?;
     work.openings += 1;
+    if was_tried(before, pair) {
+        return None;
+    }
     let cek = cek.octets();
     opens_exactly();
     are_octets(cek);

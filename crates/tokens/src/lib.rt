@@ -25,4 +25,4 @@ mod verify;
 pub use decrypt::{Work, jwe_decrypt};
 pub use encrypt::jwe_encrypt;
 pub use sign::jws_sign;
-pub use verify::jws_verify;
+pub use verify::{jws_verify, jws_verify_detached};

@@ -13,8 +13,8 @@ ghost use Rattle.keys.specs.Limits.{limits};
 ghost use Rattle.objects.specs.Frames.{filled};
 ghost use Rattle.objects.specs.Texts.{each};
 ghost use Rattle.objects.specs.Views.{jws_view, signature_parts_view};
-ghost use Rattle.tokens.specs.Signing.{sig_plan, protected_by, unsigned_part_by, unsigned_by, Signer as SignerOfKey};
-ghost use Rattle.tokens.specs.SigningInputs.{HoldEach, IsFramed, signature_text, unsigned_protected};
+ghost use Rattle.tokens.specs.Signing.{sig_plan, protected_by, unsigned_part_by, unsigned_by};
+ghost use Rattle.tokens.specs.SigningInputs.{InputStart, HoldEach, IsFramed, signature_text, start_of, unsigned_protected};
 ghost use Rattle.tokens.specs.Views.{signer_view, signing_view};
 
 mod payload;
@@ -143,10 +143,10 @@ fn write_signatures<O: Output, S: SigningInput>(
     out: &mut O,
 ) -> Result<(), Refusal>
     requires { length texts.now ≡ 1 + length inputs.items }
-    ensures all { (signers : List SignerOfKey) (text : List ℕ) → HoldEach S.has_taken inputs.items signers text
-        → OnOk result (O.written out.new ≡ O.written out.old ++ filled (map string_bytes texts.now) (map (signature_text text) signers)) }
-    ensures beginning { (signers : List SignerOfKey) (text : List ℕ) → HoldEach S.has_taken inputs.items signers text
-        → OnErr result (AppendsPrefixOf (filled (map string_bytes texts.now) (map (signature_text text) signers)) (O.written out.old) (O.written out.new)) }
+    ensures all { (starts : List InputStart) (text : List ℕ) → HoldEach S.has_taken inputs.items starts text
+        → OnOk result (O.written out.new ≡ O.written out.old ++ filled (map string_bytes texts.now) (map (signature_text text) starts)) }
+    ensures beginning { (starts : List InputStart) (text : List ℕ) → HoldEach S.has_taken inputs.items starts text
+        → OnErr result (AppendsPrefixOf (filled (map string_bytes texts.now) (map (signature_text text) starts)) (O.written out.old) (O.written out.new)) }
     ensures finished { OnOk result (IsTrue (O.is_finished out.new)) }
     ensures cause { OnErr result (result ≡ Err Refusal.Write) }
     ensures faults { TellsFaults [] (counts O.failures out.old out.new ∷ []) result }
@@ -200,7 +200,7 @@ fn signing_inputs(
     jws: &Jws<'_>,
 ) -> Result<Vec<HmacInput>, Refusal>
     requires { unsigned_protected (jws_view jws.now).signatures ≡ map protected_by (map signer_view signers.now) }
-    ensures begun { IfOk result (λ inputs. HoldEach ⟦<HmacInput as SigningInput>⟧.has_taken inputs.items (map signer_view signers.now) []) }
+    ensures begun { IfOk result (λ inputs. HoldEach ⟦<HmacInput as SigningInput>⟧.has_taken inputs.items (map start_of (map signer_view signers.now)) []) }
     ensures memory { IfErr result (λ e. e ≡ Refusal.Memory) }
 {
     let mut inputs = Vec::new(alloc);

@@ -1,18 +1,20 @@
 //! The signing input of a payload that comes in pieces, and its signature (RFC 7515 section 5.1).
-ghost use Rattle.std.specs.Prelude.{◌≡◌, ◌++◌, ℕ, List, ◌∷◌, [], length, map, codes};
+ghost use Rattle.std.specs.Prelude.{◌≡◌, ◌++◌, ℕ, List, ◌∷◌, [], length, map, codes, Err, OnOk, OnErr, IsTrue};
+ghost use Rattle.std.specs.Iterator.{IsFinite};
 ghost use Rattle.octets.specs.Base64url.{base64url};
+ghost use Rattle.octets.specs.Devices.{appended};
+ghost use Rattle.octets.specs.Faults.{TellsFaults, counts};
 ghost use Rattle.objects.specs.Views.{held_view};
 ghost use Rattle.prf.specs.HashFunction.{HashFunction};
 ghost use Rattle.prf.specs.Hmac.{hmac};
 ghost use Rattle.prf.specs.Views.{HoldsHmac};
 ghost use Rattle.tokens.specs.Signatures.{signature_hash, signing_input};
-ghost use Rattle.tokens.specs.Signing.{Signer};
-ghost use Rattle.tokens.specs.SigningInputs.{HoldEach};
+ghost use Rattle.tokens.specs.SigningInputs.{InputStart, HoldEach};
 
 use crate::mac::Mac;
 use keys::SignatureAlg;
 use objects::HeldContent;
-use octets::{B64Writer, PIECE, PIECE_TEXT};
+use octets::{B64Writer, Input, PIECE, PIECE_TEXT, Refusal};
 use prf::{Hash, Hmac, Sha256, Sha384, Sha512};
 
 /// A signing input that is taken in pieces.
@@ -130,10 +132,40 @@ pub(crate) fn take_payload<S: SigningInput>(input: &mut S, payload: HeldContent<
 /// Each takes the next piece.
 pub(crate) fn take_each<S: SigningInput>(inputs: &mut [S], piece: &[u8])
     ensures len { length inputs.new ≡ length inputs.old }
-    ensures taken { (signers : List Signer) (text : List ℕ) → HoldEach S.has_taken inputs.old signers text
-        → HoldEach S.has_taken inputs.new signers (text ++ piece.now) }
+    ensures taken { (starts : List InputStart) (text : List ℕ) → HoldEach S.has_taken inputs.old starts text
+        → HoldEach S.has_taken inputs.new starts (text ++ piece.now) }
 {
     for input in inputs.iter_mut() {
         input.take(piece);
     }
+}
+
+/// Each takes the base64url text of all that the content gives, up to its end. Fails with `Read` if the content fails.
+pub(crate) fn take_content<S: SigningInput, I: Input>(
+    inputs: &mut [S],
+    content: &mut I,
+) -> Result<(), Refusal>
+    requires { IsFinite (I.remaining content.old) }
+    ensures len { length inputs.new ≡ length inputs.old }
+    ensures taken { (starts : List InputStart) → HoldEach S.has_taken inputs.old starts []
+        → OnOk result (HoldEach S.has_taken inputs.new starts (base64url (appended (I.consumed content.old) (I.consumed content.new)))) }
+    ensures ends { OnOk result (IsTrue (I.is_at_end content.new)) }
+    ensures cause { OnErr result (result ≡ Err Refusal.Read) }
+    ensures faults { TellsFaults (counts I.failures content.old content.new ∷ []) [] result }
+{
+    let mut buf = [0; PIECE];
+    let mut text = [0; PIECE_TEXT];
+    let mut writer = B64Writer::start();
+    'pieces: loop {
+        let n = content.read(&mut buf)?;
+        if n == 0 {
+            break;
+        }
+        let len = writer.feed(&buf[..n], &mut text);
+        take_each(inputs, &text[..len]);
+    }
+    let mut last = [0; 4];
+    let len = writer.finish(&mut last);
+    take_each(inputs, &last[..len]);
+    Ok(())
 }

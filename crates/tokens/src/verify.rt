@@ -1,5 +1,5 @@
 //! Verifying with the keys of a set (RFC 7515 section 5.2).
-ghost use Rattle.std.specs.Prelude.{◌≡◌, ◌≢◌, [], ◌∷◌, false, is_some, map, OnOk, OnErr, IfErr, IsTrue};
+ghost use Rattle.std.specs.Prelude.{◌≡◌, ◌≢◌, ℕ, Bool, List, [], ◌∷◌, false, is_some, map, OnOk, OnErr, IfErr, IsTrue};
 ghost use Rattle.std.specs.List.{list_any};
 ghost use Rattle.std.specs.Result.{result_unwrap_or};
 ghost use Rattle.octets.specs.Devices.{AppendsPrefixOf};
@@ -9,9 +9,12 @@ ghost use Rattle.octets.specs.Outcomes.{Agrees, AgreesUnlessExternal};
 ghost use Rattle.keys.specs.Algorithms.{signature_alg_of};
 ghost use Rattle.keys.specs.Views.{key_view};
 ghost use Rattle.objects.specs.Views.{held_view, jws_view, signature_view};
-ghost use Rattle.tokens.specs.Verifying.{verifying_by, verified_payload, are_verified as are_verified_by, may_verify as may_verify_pair, verifies as verifies_pair, is_candidate as is_candidate_key, is_signed as is_signed_by};
+ghost use Rattle.tokens.specs.Verifying.{verifying_by, verified_payload, are_verified as are_verified_by, may_verify as may_verify_pair, verifies as verifies_pair, candidate_alg, is_candidate as is_candidate_key, is_signed as is_signed_by};
+
+mod detached;
 
 use crate::signing_input::signature_of;
+pub use detached::jws_verify_detached;
 use keys::{Algorithm, Key, KeySet, Operation, SignatureAlg};
 use objects::{HeldContent, Jws, Signature};
 use octets::{Output, Refusal, needs, same_octets};
@@ -50,16 +53,23 @@ pub fn jws_verify<O: Output>(
 
 /// The object verifies with some of the keys, or with all. Refused with `Unsupported` where no algorithm is
 /// supported, with `KeyDoesNotFit` where no key may verify and fits, and with `NotOpened` where it does not verify.
-#[tactic(auto, unfolding(crate::specs::Verifying::verified_payload), using(crate::proofs::Tests::views))]
 fn verified(keys: &KeySet, jws: &Jws<'_>, all: bool) -> Result<(), Refusal>
     ensures exact { Agrees (λ done. (jws_view jws.now).payload) result (verified_payload all keys.now (jws_view jws.now)) }
 {
-    needs(has_supported(jws.signatures()), Refusal::Unsupported)?;
-    needs(
-        has_candidate(jws.signatures(), keys.keys()),
-        Refusal::KeyDoesNotFit,
-    )?;
-    needs(are_verified(all, keys.keys(), jws), Refusal::NotOpened)
+    let keys = keys.keys();
+    verdict(keys, jws.signatures(), are_verified(all, keys, jws))
+}
+
+/// What verifying answers where the signatures are right, or are not. Refused with `Unsupported` where no algorithm is supported,
+/// with `KeyDoesNotFit` where no key may verify and fits, and with `NotOpened` where they are not right.
+#[tactic(auto, unfolding(crate::specs::Verifying::verified_payload), using(crate::proofs::Tests::views))]
+fn verdict(keys: &[Key], signatures: &[Signature], are_right: bool) -> Result<(), Refusal>
+    ensures { (all : Bool) (payload : List ℕ) → are_right ≡ are_verified_by all (map key_view keys.now) (record { payload = payload; signatures = map signature_view signatures.now })
+        → Agrees (λ done. payload) result (verified_payload all (map key_view keys.now) (record { payload = payload; signatures = map signature_view signatures.now })) }
+{
+    needs(has_supported(signatures), Refusal::Unsupported)?;
+    needs(has_candidate(signatures, keys), Refusal::KeyDoesNotFit)?;
+    needs(are_right, Refusal::NotOpened)
 }
 
 /// The algorithm of some signature is supported.
@@ -120,19 +130,32 @@ fn has_signed(key: &Key, signatures: &[Signature], payload: HeldContent<'_>) -> 
 fn may_verify(signature: &Signature, key: &Key) -> bool
     ensures { result ≡ may_verify_pair (signature_view signature.now) (key_view key.now) }
 {
-    match SignatureAlg::named(signature.alg()) {
-        None => false,
-        Some(alg) => is_candidate(key, alg),
-    }
+    candidate_alg(signature, key).is_some()
 }
 
-/// And made it.
+/// The key may verify the signature by its algorithm, fits, and made it.
 fn verifies(signature: &Signature, payload: HeldContent<'_>, key: &Key) -> bool
     ensures { result ≡ verifies_pair (held_view payload.entry) (signature_view signature.now) (key_view key.now) }
 {
-    match SignatureAlg::named(signature.alg()) {
+    match candidate_alg(signature, key) {
         None => false,
-        Some(alg) => is_candidate(key, alg) && is_signed(signature, payload, key, alg),
+        Some(alg) => is_signed(signature, payload, key, alg),
+    }
+}
+
+/// The algorithm of the signature, where the key may verify by it, and fits.
+fn candidate_alg(signature: &Signature, key: &Key) -> Option<SignatureAlg>
+    ensures { result ≡ candidate_alg (signature_view signature.now) (key_view key.now) }
+{
+    match SignatureAlg::named(signature.alg()) {
+        None => None,
+        Some(alg) => {
+            if is_candidate(key, alg) {
+                Some(alg)
+            } else {
+                None
+            }
+        }
     }
 }
 

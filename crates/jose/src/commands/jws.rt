@@ -1,23 +1,30 @@
 //! The commands `jws sig`, `jws ver` and `jws fmt`, from devices to devices.
-ghost use Rattle.std.specs.Prelude.{◌≡◌, ◌≢◌, ◌⊎◌, ◌++◌, false, not, ◌&&◌, ◌||◌, ℕ, List, [], ◌∷◌, option_map, Err, OnOk, OnErr, IfErr, IsTrue, string_bytes};
+ghost use Rattle.std.specs.Prelude.{◌≡◌, ◌≢◌, ◌⊎◌, ◌++◌, Bool, false, not, ◌&&◌, ◌||◌, ℕ, List, [], ◌∷◌, option_map, Some, Err, OnOk, OnErr, IfOk, IfErr, IsTrue, string_bytes};
 ghost use Rattle.std.specs.Iterator.{IsFinite};
 ghost use Rattle.octets.specs.Devices.{appended, observed, IsPossibleInput, AppendsPrefixOf};
 ghost use Rattle.octets.specs.declared.refusal.Refusal.{Refusal};
 ghost use Rattle.octets.specs.Faults.{TellsFaults, DidNotFail, counts};
-ghost use Rattle.octets.specs.Outcomes.{AgreesUnlessExternal, AgreesUnlessMemory, is_external};
+ghost use Rattle.octets.specs.Octets.{IsOctets};
+ghost use Rattle.octets.specs.Outcomes.{AgreesUnlessExternal, AgreesUnlessMemory, is_external, is_memory};
 ghost use Rattle.octets.specs.Plan.{accepted, fixed_by, planned, planned_beginning};
 ghost use Rattle.octets.specs.Pumps.{KeepsUp};
 ghost use Rattle.keys.specs.Limits.{limits};
+ghost use Rattle.objects.specs.HandedIn.{with_payload};
 ghost use Rattle.objects.specs.Texts.{handed_in};
 ghost use Rattle.objects.specs.Views.{jws_view};
+ghost use Rattle.tokens.specs.Verifying.{verifying_by};
 ghost use Rattle.jose.specs.Jws.{sig_answer, ver_answer, jws_fmt_answer};
 ghost use Rattle.jose.specs.Ports.{formed, object_texts};
 
-use crate::commands::{no_output, read_beside, read_object, read_with_keys, write_object};
+use crate::commands::{
+    no_output, read_beside, read_object, read_past, read_with_keys, write_object,
+};
+use keys::KeySet;
 use objects::Jws;
+use objects::laws::jws_payload_is_handed_in;
 use octets::{Input, Output, Refusal, read_to_end};
 use std::alloc::Global;
-use tokens::{jws_sign, jws_verify};
+use tokens::{jws_sign, jws_verify, jws_verify_detached};
 
 /// Signs the content with the keys, as the template asks, and writes the text of the object. The payload goes out beside it
 /// where it is to be detached.
@@ -138,6 +145,9 @@ pub(crate) fn verify<I: Input, O: Output>(
     ensures faults { TellsFaults (counts I.failures text.old text.new ∷ counts I.failures keys.old keys.new ∷ counts I.failures content.old content.new ∷ [])
         (counts O.failures out.old out.new ∷ []) result }
 {
+    if detached_given && !payload_wanted {
+        return verify_in_one_pass(alloc, text, keys, content, all);
+    }
     let (text, set, beside) = read_object(alloc, text, keys, detached_given, content)?;
     let jws = Jws::read(alloc, &text, beside)?;
     if payload_wanted {
@@ -145,6 +155,58 @@ pub(crate) fn verify<I: Input, O: Output>(
     } else {
         jws_verify(&set, &jws, all, no_output(out))
     }
+}
+
+/// Verifies the text with some of the keys, or with all, where the payload is handed in and is not wanted. The payload is read in
+/// pieces and is not held. What the keys or the object are refused with is told once the payload was read to its end.
+fn verify_in_one_pass<I: Input>(
+    alloc: Global,
+    text: &mut I,
+    keys: &mut I,
+    content: &mut I,
+    all: bool,
+) -> Result<(), Refusal>
+    requires text { IsFinite (I.remaining text.old) }
+    requires keys { IsFinite (I.remaining keys.old) }
+    requires content { IsFinite (I.remaining content.old) }
+    ensures answer { (whole_text whole_keys whole_content : List ℕ)
+        → IsPossibleInput (observed I.consumed I.is_at_end text.old text.new) whole_text
+        → IsPossibleInput (observed I.consumed I.is_at_end keys.old keys.new) whole_keys
+        → IsPossibleInput (observed I.consumed I.is_at_end content.old content.new) whole_content
+        → AgreesUnlessExternal (ver_answer limits all false whole_keys (Some whole_content) whole_text) [] result }
+    ensures in_order { (I.is_at_end text.new ≡ false → keys.new ≡ keys.old)
+        × (I.is_at_end keys.new && I.is_at_end text.new ≡ false → content.new ≡ content.old) }
+    ensures reads_first { IfErr result (λ refusal. is_external refusal ≡ false
+        → IsTrue (I.is_at_end text.new) × IsTrue (I.is_at_end keys.new) × IsTrue (I.is_at_end content.new)) }
+    ensures faults { TellsFaults (counts I.failures text.old text.new ∷ counts I.failures keys.old keys.new ∷ counts I.failures content.old content.new ∷ []) [] result }
+{
+    let object = read_to_end(alloc, text)?;
+    let set = read_to_end(alloc, keys)?;
+    match keys_and_object(alloc, &set, &object) {
+        Ok((set, jws)) => jws_verify_detached(alloc, &set, &jws, content, all),
+        Err(refusal) => {
+            read_past(content)?;
+            Err(refusal)
+        }
+    }
+}
+
+/// The keys, and the object that the text is with an empty payload, in the place of the one that is handed in. Apart from `Memory`, it
+/// is refused as the answer is with every payload.
+fn keys_and_object<'t>(
+    alloc: Global,
+    keys: &[u8],
+    text: &'t [u8],
+) -> Result<(KeySet, Jws<'t>), Refusal>
+    ensures read { IfOk result (λ read. (all : Bool) (payload : List ℕ) → IsOctets payload
+        → ver_answer limits all false keys.now (Some payload) text.now ≡ verifying_by all false read.0 (with_payload payload (jws_view read.1))) }
+    ensures refused { IfErr result (λ e. is_memory e ≡ false → (is_external e ≡ false)
+        × ((all : Bool) (payload : List ℕ) → IsOctets payload → ver_answer limits all false keys.now (Some payload) text.now ≡ Err e)) }
+{
+    jws_payload_is_handed_in();
+    let set = KeySet::read(alloc, keys, false)?;
+    let jws = Jws::read(alloc, text, Some(Vec::new(alloc)))?;
+    Ok((set, jws))
 }
 
 /// Writes the text of the object in compact form, or else in JSON form. The payload is handed in beside the text where it is

@@ -1,8 +1,7 @@
 //! A payload that is signed as it is read (RFC 7515 section 5.1): each signing input takes its base64url text.
 ghost use Rattle.std.specs.Prelude.{List, []};
 ghost use Rattle.octets.specs.Base64url.{base64url};
-ghost use Rattle.tokens.specs.Signing.{Signer};
-ghost use Rattle.tokens.specs.SigningInputs.{HoldEach, HaveTaken};
+ghost use Rattle.tokens.specs.SigningInputs.{InputStart, HoldEach, HaveTaken};
 
 use crate::signing_input::{SigningInput, take_each};
 use octets::{B64Writer, PIECE_TEXT, Refusal, Transform};
@@ -17,8 +16,8 @@ pub(crate) struct EncodedPayload<S: SigningInput> {
 impl<S: SigningInput> EncodedPayload<S> {
     /// None of it was read yet.
     pub(crate) fn start(inputs: Vec<S>) -> EncodedPayload<S>
-        ensures { (signers : List Signer) → HoldEach S.has_taken inputs.items signers []
-            → HaveTaken S.has_taken result.inputs.items result.writer signers [] }
+        ensures { (starts : List InputStart) → HoldEach S.has_taken inputs.items starts []
+            → HaveTaken S.has_taken result.inputs.items result.writer starts [] }
     {
         EncodedPayload {
             inputs,
@@ -33,15 +32,15 @@ impl<S: SigningInput> Transform for EncodedPayload<S> {
     ghost use Rattle.octets.specs.Encoding.{encoding};
     ghost use Rattle.octets.specs.Pumps.{encoding_starts};
 
-    ghost Job = { List Signer };
+    ghost Job = { List InputStart };
 
-    ghost plan = { λ signers. encoding };
+    ghost plan = { λ starts. encoding };
 
-    ghost is_fed = { λ x signers p. HaveTaken S.has_taken x.inputs.items x.writer signers p };
+    ghost is_fed = { λ x starts p. HaveTaken S.has_taken x.inputs.items x.writer starts p };
 
-    ghost is_left = { λ inputs signers p. HoldEach S.has_taken inputs.items signers (base64url p) };
+    ghost is_left = { λ inputs starts p. HoldEach S.has_taken inputs.items starts (base64url p) };
 
-    ghost starts_with_nothing = { λ x signers fed. encoding_starts };
+    ghost starts_with_nothing = { λ x starts fed. encoding_starts };
 
     fn feed<'t>(
         &mut self,
@@ -71,8 +70,8 @@ pub(crate) struct Payload<S: SigningInput> {
 impl<S: SigningInput> Payload<S> {
     /// None of it was read yet.
     pub(crate) fn start(inputs: Vec<S>) -> Payload<S>
-        ensures { (signers : List Signer) → HoldEach S.has_taken inputs.items signers []
-            → HaveTaken S.has_taken result.inputs.items result.writer signers [] }
+        ensures { (starts : List InputStart) → HoldEach S.has_taken inputs.items starts []
+            → HaveTaken S.has_taken result.inputs.items result.writer starts [] }
     {
         Payload {
             inputs,
@@ -86,15 +85,15 @@ impl<S: SigningInput> Transform for Payload<S> {
 
     ghost use Rattle.octets.specs.Plan.{as_it_is};
 
-    ghost Job = { List Signer };
+    ghost Job = { List InputStart };
 
-    ghost plan = { λ signers. as_it_is };
+    ghost plan = { λ starts. as_it_is };
 
-    ghost is_fed = { λ x signers p. HaveTaken S.has_taken x.inputs.items x.writer signers p };
+    ghost is_fed = { λ x starts p. HaveTaken S.has_taken x.inputs.items x.writer starts p };
 
-    ghost is_left = { λ inputs signers p. HoldEach S.has_taken inputs.items signers (base64url p) };
+    ghost is_left = { λ inputs starts p. HoldEach S.has_taken inputs.items starts (base64url p) };
 
-    ghost starts_with_nothing = { λ x signers fed i. [] };
+    ghost starts_with_nothing = { λ x starts fed i. [] };
 
     fn feed<'t>(
         &mut self,

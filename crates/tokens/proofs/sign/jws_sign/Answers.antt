@@ -9,7 +9,7 @@ use Rattle.octets.specs.Plan.{as_it_is}
 use Rattle.octets.specs.Pumps.{behind}
 use Rattle.octets.proofs.Lemmas.{not_told, stands_first, IsOctets-drop, encoding_grows, as_it_is_grows, plain_beginning, kept_up_by_none, AppendsPrefixOf-all, AppendsPrefixOf-kept, on_success, at_refusal, on_refusal, of_refusal, seen_possible, agrees_last, behind_grows, beginning_behind_nothing, keeps_up, all_written, passed_on}
 use Rattle.objects.specs.Frames.{filled}
-use Rattle.tokens.specs.SigningInputs.{signature_text}
+use Rattle.tokens.specs.SigningInputs.{signature_text, start_of}
 use Rattle.tokens.specs.contracts.signing_input.HmacInputSigningInput.TheImpl.{has_taken-value}
 use Rattle.tokens.proofs.StandingSignatures.{first_and_others, others_are, inside_places, inside_part, inside_fixed, inside_signatures_part, inside_answer, beside_places, beside_is, beside_fixed, text_is, beside_answer}
 use Rattle.tokens.proofs.sign.jws_sign.Goals as goal
@@ -18,9 +18,9 @@ pub returns-in_err-inputs-in-None-clause-answer : goal.returns-in_err-inputs-in-
 returns-in_err-inputs-in-None-clause-answer g c payload may =
     let made = c.in_ok-texts-in-None in
     let f = made.ensures.framed in
-    let signers = f.signing.signers in
-    let fed = c.start-payload.ensures signers f.begun in
-    rw (c.in-None.is) (passed_on _ _ _ c.in_err-inputs-in-None.field-0.0 (search rules) (λ inside. let never = c.in_err-inputs-in-None.ensures.answer signers payload fed may inside in cc never))
+    let starts = map start_of f.signing.signers in
+    let fed = c.start-payload.ensures starts f.begun in
+    rw (c.in-None.is) (passed_on _ _ _ c.in_err-inputs-in-None.field-0.0 (search rules) (λ inside. let never = c.in_err-inputs-in-None.ensures.answer starts payload fed may inside in cc never))
 
 pub returns-in_err-inputs-in-None-clause-beginning : goal.returns-in_err-inputs-in-None-clause-beginning
 returns-in_err-inputs-in-None-clause-beginning g c =
@@ -32,15 +32,15 @@ returns-in_err-inputs-in-None-clause-beginning g c =
     let first = c.as_bytes.result.now in
     let rest = map string_bytes (drop 1 items) in
     let are = first_and_others string_bytes items c.index.result.now _ first f.frame.places c.index.ensures c.as_bytes.ensures.value in
-    let signers = f.signing.signers in
-    let fed = c.start-payload.ensures signers f.begun in
+    let starts = map start_of f.signing.signers in
+    let fed = c.start-payload.ensures starts f.begun in
     let before = consumed c.args.content.now in
     let p = appended before (consumed c.pump.new.content) in
     let ended = g.I.Input.is_at_end c.pump.new.content in
     let octets : IsOctets p = IsOctets-drop (length before) _ (g.met.I.Input.gives_octets c.pump.new.content) in
     let old = written c.args.out.now in
     let out = written c.pump.new.out in
-    rw (c.in-None.is) (at_refusal _ (inside_part has_taken-value.it c.args.compact _ made.field-0.inputs.items _ f first rest are p ended old out octets (c.in_err-inputs-in-None.ensures.beginning signers fed encoding_grows)))
+    rw (c.in-None.is) (at_refusal _ (inside_part has_taken-value.it c.args.compact _ made.field-0.inputs.items _ f first rest are p ended old out octets (c.in_err-inputs-in-None.ensures.beginning starts fed encoding_grows)))
 
 pub returns-in_err-inputs-in-None-clause-keeps_up : goal.returns-in_err-inputs-in-None-clause-keeps_up
 returns-in_err-inputs-in-None-clause-keeps_up g c is some =
@@ -52,13 +52,13 @@ returns-in_err-inputs-in-None-clause-keeps_up g c is some =
     let first = c.as_bytes.result.now in
     let rest = map string_bytes (drop 1 items) in
     let are = first_and_others string_bytes items c.index.result.now _ first f.frame.places c.index.ensures c.as_bytes.ensures.value in
-    let signers = f.signing.signers in
-    let fed = c.start-payload.ensures signers f.begun in
+    let starts = map start_of f.signing.signers in
+    let fed = c.start-payload.ensures starts f.begun in
     let before = consumed c.args.content.now in
     let p = appended before (consumed c.pump.new.content) in
     let old = written c.args.out.now in
     let out = written c.pump.new.out in
-    let exact = c.pump.ensures.stands signers fed (search rules) some in
+    let exact = c.pump.ensures.stands starts fed (search rules) some in
     rw (c.in-None.is) (keeps_up (behind first encoding) (behind_grows first encoding encoding_grows) _ (inside_fixed has_taken-value.it c.args.compact _ made.field-0.inputs.items _ f first rest are) p old out exact, tt)
 
 pub write_signatures-requires : goal.write_signatures-requires
@@ -70,12 +70,12 @@ write_signatures-requires g c =
     let first = c.as_bytes.result.now in
     let rest = map string_bytes (drop 1 items) in
     let are = first_and_others string_bytes items c.index.result.now _ first f.frame.places c.index.ensures c.as_bytes.ensures.value in
-    let signers = f.signing.signers in
-    let fed = c.start-payload.ensures signers f.begun in
+    let starts = map start_of f.signing.signers in
+    let fed = c.start-payload.ensures starts f.begun in
     let before = consumed c.args.content.now in
     let p = appended before (consumed c.pump.new.content) in
     let pumped = c.in_ok-inputs-in-None.ensures in
-    let taken = pumped.left signers fed in
+    let taken = pumped.left starts fed in
     let others = others_are c.deref.result.now items c.deref.ensures.value in
     ap length others ∙ sym (length-map (drop 1 items) string_bytes) ∙ inside_places has_taken-value.it c.args.compact _ made.field-0.inputs.items _ f first rest are c.in_ok-inputs-in-None.inputs.items (base64url p) taken
 
@@ -89,8 +89,8 @@ returns-in_ok-inputs-in-None-clause-answer g c payload may =
     let first = c.as_bytes.result.now in
     let rest = map string_bytes (drop 1 items) in
     let are = first_and_others string_bytes items c.index.result.now _ first f.frame.places c.index.ensures c.as_bytes.ensures.value in
-    let signers = f.signing.signers in
-    let fed = c.start-payload.ensures signers f.begun in
+    let starts = map start_of f.signing.signers in
+    let fed = c.start-payload.ensures starts f.begun in
     let before = consumed c.args.content.now in
     let p = appended before (consumed c.pump.new.content) in
     let ended = g.I.Input.is_at_end c.pump.new.content in
@@ -98,12 +98,12 @@ returns-in_ok-inputs-in-None-clause-answer g c payload may =
     let old = written c.args.out.now in
     let out = written c.pump.new.out in
     let pumped = c.in_ok-inputs-in-None.ensures in
-    let whole = pumped.answer signers p fed (seen_possible consumed g.I.Input.is_at_end c.args.content.now c.pump.new.content) in
+    let whole = pumped.answer starts p fed (seen_possible consumed g.I.Input.is_at_end c.args.content.now c.pump.new.content) in
     let stands = all_written _ old out (first ++ base64url p) whole pumped.extends refl in
-    let taken = pumped.left signers fed in
+    let taken = pumped.left starts fed in
     let others = others_are c.deref.result.now items c.deref.ensures.value in
-    let values = map (signature_text (base64url p)) signers in
-    rw (c.in-None.is) (agrees_last _ _ c.write_signatures.result (c.write_signatures.ensures.all signers (base64url p) taken) c.write_signatures.ensures.cause
+    let values = map (signature_text (base64url p)) starts in
+    rw (c.in-None.is) (agrees_last _ _ c.write_signatures.result (c.write_signatures.ensures.all starts (base64url p) taken) c.write_signatures.ensures.cause
     (λ all. inside_answer has_taken-value.it c.args.compact _ made.field-0.inputs.items _ f first rest are
     p payload ended old out (written c.write_signatures.new.out) octets may pumped.ends stands
     (all ∙ ap (λ l. out ++ filled (map string_bytes l) values) others)))
@@ -118,8 +118,8 @@ returns-in_ok-inputs-in-None-clause-beginning g c =
     let first = c.as_bytes.result.now in
     let rest = map string_bytes (drop 1 items) in
     let are = first_and_others string_bytes items c.index.result.now _ first f.frame.places c.index.ensures c.as_bytes.ensures.value in
-    let signers = f.signing.signers in
-    let fed = c.start-payload.ensures signers f.begun in
+    let starts = map start_of f.signing.signers in
+    let fed = c.start-payload.ensures starts f.begun in
     let before = consumed c.args.content.now in
     let p = appended before (consumed c.pump.new.content) in
     let ended = g.I.Input.is_at_end c.pump.new.content in
@@ -127,12 +127,12 @@ returns-in_ok-inputs-in-None-clause-beginning g c =
     let old = written c.args.out.now in
     let out = written c.pump.new.out in
     let pumped = c.in_ok-inputs-in-None.ensures in
-    let whole = pumped.answer signers p fed (seen_possible consumed g.I.Input.is_at_end c.args.content.now c.pump.new.content) in
+    let whole = pumped.answer starts p fed (seen_possible consumed g.I.Input.is_at_end c.args.content.now c.pump.new.content) in
     let stands = all_written _ old out (first ++ base64url p) whole pumped.extends refl in
-    let taken = pumped.left signers fed in
+    let taken = pumped.left starts fed in
     let others = others_are c.deref.result.now items c.deref.ensures.value in
-    let values = map (signature_text (base64url p)) signers in
-    rw (c.in-None.is) (on_refusal c.write_signatures.result (c.write_signatures.ensures.beginning signers (base64url p) taken)
+    let values = map (signature_text (base64url p)) starts in
+    rw (c.in-None.is) (on_refusal c.write_signatures.result (c.write_signatures.ensures.beginning starts (base64url p) taken)
     (λ part. inside_signatures_part has_taken-value.it c.args.compact _ made.field-0.inputs.items _ f first rest are
     p ended old out (written c.write_signatures.new.out) octets pumped.ends stands
     (subst (λ l. AppendsPrefixOf (filled (map string_bytes l) values) out (written c.write_signatures.new.out)) others part)))
@@ -157,9 +157,9 @@ pub returns-in_err-inputs-in-Some-clause-answer : goal.returns-in_err-inputs-in-
 returns-in_err-inputs-in-Some-clause-answer g c payload may =
     let made = c.in_ok-texts-in-Some in
     let f = made.ensures.framed in
-    let signers = f.signing.signers in
-    let fed = c.start.ensures signers f.begun in
-    rw (c.in-Some.is) (passed_on _ _ _ c.in_err-inputs-in-Some.field-0.0 (search rules) (λ inside. let never = c.in_err-inputs-in-Some.ensures.answer signers payload fed may inside in cc never))
+    let starts = map start_of f.signing.signers in
+    let fed = c.start.ensures starts f.begun in
+    rw (c.in-Some.is) (passed_on _ _ _ c.in_err-inputs-in-Some.field-0.0 (search rules) (λ inside. let never = c.in_err-inputs-in-Some.ensures.answer starts payload fed may inside in cc never))
 
 pub returns-in_err-inputs-in-Some-clause-beginning_beside : goal.returns-in_err-inputs-in-Some-clause-beginning_beside
 returns-in_err-inputs-in-Some-clause-beginning_beside g c =
@@ -167,8 +167,8 @@ returns-in_err-inputs-in-Some-clause-beginning_beside g c =
     let written = g.O.Output.written in
     let made = c.in_ok-texts-in-Some in
     let f = made.ensures.framed in
-    let signers = f.signing.signers in
-    let fed = c.start.ensures signers f.begun in
+    let starts = map start_of f.signing.signers in
+    let fed = c.start.ensures starts f.begun in
     let before = consumed c.args.content.now in
     let p = appended before (consumed c.pump-in-Some.new.content) in
     let ended = g.I.Input.is_at_end c.pump-in-Some.new.content in
@@ -176,7 +176,7 @@ returns-in_err-inputs-in-Some-clause-beginning_beside g c =
     let old = written c.in-Some.detached.now in
     let out = written c.pump-in-Some.new.out in
     let is = beside_is has_taken-value.it c.args.compact _ made.field-0.inputs.items _ f p ended octets in
-    rw (c.in-Some.is) (at_refusal _ (subst (λ t. AppendsPrefixOf t old out) (beginning_behind_nothing as_it_is p ended ∙ plain_beginning p ended ∙ sym is) (c.in_err-inputs-in-Some.ensures.beginning signers fed as_it_is_grows)))
+    rw (c.in-Some.is) (at_refusal _ (subst (λ t. AppendsPrefixOf t old out) (beginning_behind_nothing as_it_is p ended ∙ plain_beginning p ended ∙ sym is) (c.in_err-inputs-in-Some.ensures.beginning starts fed as_it_is_grows)))
 
 pub returns-in_err-inputs-in-Some-clause-keeps_up : goal.returns-in_err-inputs-in-Some-clause-keeps_up
 returns-in_err-inputs-in-Some-clause-keeps_up g c is some =
@@ -184,13 +184,13 @@ returns-in_err-inputs-in-Some-clause-keeps_up g c is some =
     let written = g.O.Output.written in
     let made = c.in_ok-texts-in-Some in
     let f = made.ensures.framed in
-    let signers = f.signing.signers in
-    let fed = c.start.ensures signers f.begun in
+    let starts = map start_of f.signing.signers in
+    let fed = c.start.ensures starts f.begun in
     let before = consumed c.args.content.now in
     let p = appended before (consumed c.pump-in-Some.new.content) in
     let old = written c.in-Some.detached.now in
     let out = written c.pump-in-Some.new.out in
-    let exact = c.pump-in-Some.ensures.stands signers fed (search rules) some in
+    let exact = c.pump-in-Some.ensures.stands starts fed (search rules) some in
     let fixed = beside_fixed has_taken-value.it c.args.compact _ made.field-0.inputs.items _ f in
     rw (c.in-Some.is) (
       kept_up_by_none _ (λ q. (fixed q).0) p (written c.args.out.now),
@@ -215,8 +215,8 @@ returns-in_err-finish-in-Some-clause-beginning_beside g c =
     let written = g.O.Output.written in
     let made = c.in_ok-texts-in-Some in
     let f = made.ensures.framed in
-    let signers = f.signing.signers in
-    let fed = c.start.ensures signers f.begun in
+    let starts = map start_of f.signing.signers in
+    let fed = c.start.ensures starts f.begun in
     let before = consumed c.args.content.now in
     let p = appended before (consumed c.pump-in-Some.new.content) in
     let ended = g.I.Input.is_at_end c.pump-in-Some.new.content in
@@ -224,7 +224,7 @@ returns-in_err-finish-in-Some-clause-beginning_beside g c =
     let old = written c.in-Some.detached.now in
     let out = written c.pump-in-Some.new.out in
     let pumped = c.in_ok-inputs-in-Some.ensures in
-    let whole = pumped.answer signers p fed (seen_possible consumed g.I.Input.is_at_end c.args.content.now c.pump-in-Some.new.content) in
+    let whole = pumped.answer starts p fed (seen_possible consumed g.I.Input.is_at_end c.args.content.now c.pump-in-Some.new.content) in
     let stands = all_written _ old out p whole pumped.extends refl in
     let is = beside_is has_taken-value.it c.args.compact _ made.field-0.inputs.items _ f p ended octets in
     let same = c.finish.ensures.same in
@@ -240,12 +240,12 @@ write_signatures-requires-in-Some g c =
     let made = c.in_ok-texts-in-Some in
     let f = made.ensures.framed in
     let items = made.field-0.texts.items in
-    let signers = f.signing.signers in
-    let fed = c.start.ensures signers f.begun in
+    let starts = map start_of f.signing.signers in
+    let fed = c.start.ensures starts f.begun in
     let before = consumed c.args.content.now in
     let p = appended before (consumed c.pump-in-Some.new.content) in
     let pumped = c.in_ok-inputs-in-Some.ensures in
-    let taken = pumped.left signers fed in
+    let taken = pumped.left starts fed in
     ap length c.deref-in-Some.ensures.value ∙ sym (length-map items string_bytes) ∙ beside_places has_taken-value.it c.args.compact _ made.field-0.inputs.items _ f c.in_ok-inputs-in-Some.inputs.items (base64url p) taken
 
 pub returns-in_ok-finish-in-Some-clause-answer : goal.returns-in_ok-finish-in-Some-clause-answer
@@ -254,8 +254,8 @@ returns-in_ok-finish-in-Some-clause-answer g c payload may =
     let written = g.O.Output.written in
     let made = c.in_ok-texts-in-Some in
     let f = made.ensures.framed in
-    let signers = f.signing.signers in
-    let fed = c.start.ensures signers f.begun in
+    let starts = map start_of f.signing.signers in
+    let fed = c.start.ensures starts f.begun in
     let before = consumed c.args.content.now in
     let p = appended before (consumed c.pump-in-Some.new.content) in
     let ended = g.I.Input.is_at_end c.pump-in-Some.new.content in
@@ -263,12 +263,12 @@ returns-in_ok-finish-in-Some-clause-answer g c payload may =
     let old = written c.in-Some.detached.now in
     let out = written c.pump-in-Some.new.out in
     let pumped = c.in_ok-inputs-in-Some.ensures in
-    let whole = pumped.answer signers p fed (seen_possible consumed g.I.Input.is_at_end c.args.content.now c.pump-in-Some.new.content) in
+    let whole = pumped.answer starts p fed (seen_possible consumed g.I.Input.is_at_end c.args.content.now c.pump-in-Some.new.content) in
     let stands = all_written _ old out p whole pumped.extends refl in
-    let taken = pumped.left signers fed in
+    let taken = pumped.left starts fed in
     let same = c.finish.ensures.same in
-    let values = map (signature_text (base64url p)) signers in
-    rw (c.in-Some.is) (agrees_last _ _ c.write_signatures-in-Some.result (c.write_signatures-in-Some.ensures.all signers (base64url p) taken) c.write_signatures-in-Some.ensures.cause
+    let values = map (signature_text (base64url p)) starts in
+    rw (c.in-Some.is) (agrees_last _ _ c.write_signatures-in-Some.result (c.write_signatures-in-Some.ensures.all starts (base64url p) taken) c.write_signatures-in-Some.ensures.cause
     (λ all. beside_answer has_taken-value.it c.args.compact _ made.field-0.inputs.items _ f p payload ended (written c.args.out.now) (written c.write_signatures-in-Some.new.out) old (written c.finish.new.self) octets may pumped.ends (same ∙ stands)
     (all ∙ ap (λ l. written c.args.out.now ++ filled (map string_bytes l) values) c.deref-in-Some.ensures.value)))
 
@@ -278,17 +278,17 @@ returns-in_ok-finish-in-Some-clause-beginning g c =
     let written = g.O.Output.written in
     let made = c.in_ok-texts-in-Some in
     let f = made.ensures.framed in
-    let signers = f.signing.signers in
-    let fed = c.start.ensures signers f.begun in
+    let starts = map start_of f.signing.signers in
+    let fed = c.start.ensures starts f.begun in
     let before = consumed c.args.content.now in
     let p = appended before (consumed c.pump-in-Some.new.content) in
     let ended = g.I.Input.is_at_end c.pump-in-Some.new.content in
     let octets : IsOctets p = IsOctets-drop (length before) _ (g.met.I.Input.gives_octets c.pump-in-Some.new.content) in
     let pumped = c.in_ok-inputs-in-Some.ensures in
-    let taken = pumped.left signers fed in
-    let values = map (signature_text (base64url p)) signers in
+    let taken = pumped.left starts fed in
+    let values = map (signature_text (base64url p)) starts in
     let is = text_is has_taken-value.it c.args.compact _ made.field-0.inputs.items _ f p ended octets pumped.ends in
-    rw (c.in-Some.is) (on_refusal c.write_signatures-in-Some.result (c.write_signatures-in-Some.ensures.beginning signers (base64url p) taken)
+    rw (c.in-Some.is) (on_refusal c.write_signatures-in-Some.result (c.write_signatures-in-Some.ensures.beginning starts (base64url p) taken)
     (λ part. subst (λ t. AppendsPrefixOf t (written c.args.out.now) (written c.write_signatures-in-Some.new.out)) (ap (λ l. filled (map string_bytes l) values) c.deref-in-Some.ensures.value ∙ sym is) part))
 
 pub returns-in_ok-finish-in-Some-clause-beginning_beside : goal.returns-in_ok-finish-in-Some-clause-beginning_beside
@@ -297,8 +297,8 @@ returns-in_ok-finish-in-Some-clause-beginning_beside g c =
     let written = g.O.Output.written in
     let made = c.in_ok-texts-in-Some in
     let f = made.ensures.framed in
-    let signers = f.signing.signers in
-    let fed = c.start.ensures signers f.begun in
+    let starts = map start_of f.signing.signers in
+    let fed = c.start.ensures starts f.begun in
     let before = consumed c.args.content.now in
     let p = appended before (consumed c.pump-in-Some.new.content) in
     let ended = g.I.Input.is_at_end c.pump-in-Some.new.content in
@@ -306,7 +306,7 @@ returns-in_ok-finish-in-Some-clause-beginning_beside g c =
     let old = written c.in-Some.detached.now in
     let out = written c.pump-in-Some.new.out in
     let pumped = c.in_ok-inputs-in-Some.ensures in
-    let whole = pumped.answer signers p fed (seen_possible consumed g.I.Input.is_at_end c.args.content.now c.pump-in-Some.new.content) in
+    let whole = pumped.answer starts p fed (seen_possible consumed g.I.Input.is_at_end c.args.content.now c.pump-in-Some.new.content) in
     let stands = all_written _ old out p whole pumped.extends refl in
     let is = beside_is has_taken-value.it c.args.compact _ made.field-0.inputs.items _ f p ended octets in
     let same = c.finish.ensures.same in
@@ -324,8 +324,8 @@ returns-in_ok-finish-in-Some-clause-content_first g c =
     let written = g.O.Output.written in
     let made = c.in_ok-texts-in-Some in
     let f = made.ensures.framed in
-    let signers = f.signing.signers in
-    let fed = c.start.ensures signers f.begun in
+    let starts = map start_of f.signing.signers in
+    let fed = c.start.ensures starts f.begun in
     let before = consumed c.args.content.now in
     let p = appended before (consumed c.pump-in-Some.new.content) in
     let ended = g.I.Input.is_at_end c.pump-in-Some.new.content in
@@ -333,7 +333,7 @@ returns-in_ok-finish-in-Some-clause-content_first g c =
     let old = written c.in-Some.detached.now in
     let out = written c.pump-in-Some.new.out in
     let pumped = c.in_ok-inputs-in-Some.ensures in
-    let whole = pumped.answer signers p fed (seen_possible consumed g.I.Input.is_at_end c.args.content.now c.pump-in-Some.new.content) in
+    let whole = pumped.answer starts p fed (seen_possible consumed g.I.Input.is_at_end c.args.content.now c.pump-in-Some.new.content) in
     let stands = all_written _ old out p whole pumped.extends refl in
     let is = beside_is has_taken-value.it c.args.compact _ made.field-0.inputs.items _ f p ended octets in
     let same = c.finish.ensures.same in

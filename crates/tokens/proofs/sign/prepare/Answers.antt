@@ -5,7 +5,7 @@ use Rattle.octets.specs.Plan.{planned}
 use Rattle.keys.specs.Limits.{limits}
 use Rattle.objects.specs.Views.{jws_view}
 use Rattle.tokens.specs.Signing.{sig_plan, protected_by}
-use Rattle.tokens.specs.SigningInputs.{HoldEach}
+use Rattle.tokens.specs.SigningInputs.{HoldEach, start_of}
 use Rattle.tokens.specs.Views.{signing_view, signer_view}
 use Rattle.tokens.specs.contracts.signing_input.HmacInputSigningInput.TheImpl.{has_taken-value}
 use Rattle.tokens.proofs.FramedSigning.{by_signing, object_refused, text_refused, unsigned_are, signing_refused, memory_apart}
@@ -54,5 +54,5 @@ returns-clause-framed c =
       made = c.in_ok-jws.ensures;
       texts_are = c.in_ok-texts.ensures.exact;
       frame = c.in_ok-texts.ensures.texts;
-      begun = subst (λ l. HoldEach has_taken-value.it c.in_ok-inputs.inputs.items (map signer_view l) []) c.deref.ensures.value c.in_ok-inputs.ensures.begun;
+      begun = subst (λ l. HoldEach has_taken-value.it c.in_ok-inputs.inputs.items (map start_of (map signer_view l)) []) c.deref.ensures.value c.in_ok-inputs.ensures.begun;
     }

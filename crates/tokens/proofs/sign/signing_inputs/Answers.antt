@@ -3,7 +3,7 @@ use Rattle.objects.specs.Views.{signature_view}
 use Rattle.tokens.specs.SigningInputs.{unsigned_protected}
 use Rattle.tokens.specs.Views.{signer_view}
 use Rattle.tokens.specs.contracts.signing_input.HmacInputSigningInput.TheImpl.{has_taken-value}
-use Rattle.tokens.proofs.UnsignedInputs.{one_begun}
+use Rattle.tokens.proofs.BegunInputs.{one_begun}
 use Rattle.tokens.proofs.sign.signing_inputs.Goals as goal
 
 pub loop-signer-preserved : goal.loop-signer-preserved

@@ -1,7 +1,6 @@
 use Rattle.std.proofs.Common.{List, ℕ, ◌++◌, ◌+◌, ◌≡◌, map, length, string_bytes}
 use Rattle.objects.specs.Frames.{filled}
-use Rattle.tokens.specs.Signing.{Signer}
-use Rattle.tokens.specs.SigningInputs.{HoldEach, signature_text}
+use Rattle.tokens.specs.SigningInputs.{InputStart, HoldEach, signature_text}
 use Rattle.tokens.proofs.WrittenSignatures.{AreLeft}
 use Rattle.tokens.proofs.sign.write_signatures.Given as goal
 
@@ -10,8 +9,8 @@ abbrev pub invariant-loop-input : goal.invariant-loop-input
 invariant-loop-input g l =
     let has_taken = g.S.SigningInput.has_taken in
     let written = g.O.Output.written in record {
-      left : (signers : List Signer) (text : List ℕ) → HoldEach has_taken l.fn.inputs.items signers text
-          → AreLeft has_taken l.input-iterator.a.rest.items (map string_bytes l.input-iterator.b.rest.now) text (filled (map string_bytes l.fn.texts) (map (signature_text text) signers)) (written l.fn.out) (written l.out);
+      left : (starts : List InputStart) (text : List ℕ) → HoldEach has_taken l.fn.inputs.items starts text
+          → AreLeft has_taken l.input-iterator.a.rest.items (map string_bytes l.input-iterator.b.rest.now) text (filled (map string_bytes l.fn.texts) (map (signature_text text) starts)) (written l.fn.out) (written l.out);
       places : length l.input-iterator.b.rest.now ≡ 1 + length l.input-iterator.a.rest.items;
       count : l.input-iterator.a.rest.len ≡ length l.input-iterator.a.rest.items;
       front : (front : List _) × (l.fn.texts ≡ front ++ l.input-iterator.b.rest.now);

@@ -1,6 +1,5 @@
 use Rattle.std.proofs.Common.{ℕ, List}
-use Rattle.tokens.specs.Signing.{Signer}
-use Rattle.tokens.specs.SigningInputs.{HoldEach}
+use Rattle.tokens.specs.SigningInputs.{InputStart, HoldEach}
 use Rattle.tokens.proofs.HeldInputs.{HoldFirst}
 use Rattle.tokens.proofs.signing_input.take_each.Given as goal
 
@@ -8,4 +7,4 @@ use Rattle.tokens.proofs.signing_input.take_each.Given as goal
 abbrev pub invariant-loop-input : goal.invariant-loop-input
 invariant-loop-input g l =
     let has_taken = g.S.SigningInput.has_taken in
-    (signers : List Signer) (text : List ℕ) → HoldEach has_taken l.initial.inputs signers text → HoldFirst has_taken l.input-index l.inputs signers text l.piece
+    (starts : List InputStart) (text : List ℕ) → HoldEach has_taken l.initial.inputs starts text → HoldFirst has_taken l.input-index l.inputs starts text l.piece

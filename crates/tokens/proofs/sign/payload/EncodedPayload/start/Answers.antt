@@ -4,4 +4,4 @@ use Rattle.tokens.specs.SigningInputs.{HoldEach}
 use Rattle.tokens.proofs.sign.payload.EncodedPayload.start.Goals as goal
 
 pub returns : goal.returns
-returns g c signers h = (subst (HoldEach g.S.SigningInput.has_taken c.args.inputs.items signers) (sym encoding_starts) h, c.start.ensures)
+returns g c starts h = (subst (HoldEach g.S.SigningInput.has_taken c.args.inputs.items starts) (sym encoding_starts) h, c.start.ensures)

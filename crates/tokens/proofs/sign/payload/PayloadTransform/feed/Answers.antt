@@ -8,17 +8,17 @@ use Rattle.tokens.proofs.StandingSignatures.{written_back}
 use Rattle.tokens.proofs.sign.payload.PayloadTransform.feed.Goals as goal
 
 pub returns-in_err-text-clause-refused : goal.returns-in_err-text-clause-refused
-returns-in_err-text-clause-refused g c signers p fed =
+returns-in_err-text-clause-refused g c starts p fed =
     of_refusal (RefusesFrom as_it_is (p ++ c.args.piece.now)) c.from_residual.result c.in_err-text.field-0.0 (search rules)
     (λ rest octets. let never = c.in_err-text.ensures.refused tt p fed.1 rest octets in cc never)
 
 pub returns-clause-fed : goal.returns-clause-fed
-returns-clause-fed g c signers p fed octets =
+returns-clause-fed g c starts p fed octets =
     let inputs = c.args.self.now.inputs in
-    let holds = subst (λ i. HoldEach g.S.SigningInput.has_taken i signers (base64url (whole_groups p))) (sym c.deref_mut.ensures.value) fed.0 in
-    let taken = c.take_each.ensures.taken signers (base64url (whole_groups p)) holds in
+    let holds = subst (λ i. HoldEach g.S.SigningInput.has_taken i starts (base64url (whole_groups p))) (sym c.deref_mut.ensures.value) fed.0 in
+    let taken = c.take_each.ensures.taken starts (base64url (whole_groups p)) holds in
     let back = written_back c.take_each.new.inputs inputs.items inputs.len (omega (arith, inputs.ok.0)) (c.take_each.ensures.len ∙ ap length c.deref_mut.ensures.value) in (
-      subst (λ i. HoldEach g.S.SigningInput.has_taken i signers (base64url (whole_groups (p ++ c.args.piece.now)))) (sym back)
-          (subst (HoldEach g.S.SigningInput.has_taken c.take_each.new.inputs signers) (sym (c.in_ok-text.ensures.text tt p fed.1 octets)) taken),
+      subst (λ i. HoldEach g.S.SigningInput.has_taken i starts (base64url (whole_groups (p ++ c.args.piece.now)))) (sym back)
+          (subst (HoldEach g.S.SigningInput.has_taken c.take_each.new.inputs starts) (sym (c.in_ok-text.ensures.text tt p fed.1 octets)) taken),
       c.in_ok-text.ensures.fed tt p fed.1 octets,
     )

@@ -7,16 +7,16 @@ use Rattle.tokens.proofs.StandingSignatures.{written_back}
 use Rattle.tokens.proofs.sign.payload.PayloadTransform.finish.Goals as goal
 
 pub returns-in_err-text-clause-refused : goal.returns-in_err-text-clause-refused
-returns-in_err-text-clause-refused g c signers p fed octets =
+returns-in_err-text-clause-refused g c starts p fed octets =
     of_refusal (λ e. as_it_is.whole p ≡ Err e) c.from_residual.result c.in_err-text.field-0.0 (search rules) (let never = c.in_err-text.ensures.refused tt p fed.1 octets in cc never)
 
 pub returns-clause-left : goal.returns-clause-left
-returns-clause-left g c signers p fed octets =
+returns-clause-left g c starts p fed octets =
     let inputs = c.args.self.inputs in
-    let holds = subst (λ i. HoldEach g.S.SigningInput.has_taken i signers (base64url (whole_groups p))) (sym c.deref_mut.ensures.value) fed.0 in
-    let taken = c.take_each.ensures.taken signers (base64url (whole_groups p)) holds in
+    let holds = subst (λ i. HoldEach g.S.SigningInput.has_taken i starts (base64url (whole_groups p))) (sym c.deref_mut.ensures.value) fed.0 in
+    let taken = c.take_each.ensures.taken starts (base64url (whole_groups p)) holds in
     let back = written_back c.take_each.new.inputs inputs.items inputs.len (omega (arith, inputs.ok.0)) (c.take_each.ensures.len ∙ ap length c.deref_mut.ensures.value) in
     let whole = c.in_ok-text.ensures.text tt p fed.1 octets in
     let all : base64url p ≡ base64url (whole_groups p) ++ c.in_ok-text.text.now = cc whole in
-    subst (λ i. HoldEach g.S.SigningInput.has_taken i signers (base64url p)) (sym back)
-    (subst (HoldEach g.S.SigningInput.has_taken c.take_each.new.inputs signers) (sym all) taken)
+    subst (λ i. HoldEach g.S.SigningInput.has_taken i starts (base64url p)) (sym back)
+    (subst (HoldEach g.S.SigningInput.has_taken c.take_each.new.inputs starts) (sym all) taken)

@@ -1,0 +1,20 @@
+use Rattle.std.proofs.Common.{◌≡◌, ℕ, List, map, drop}
+use Rattle.std.specs.Vec.Iter.{into_iter_items}
+use Rattle.octets.specs.Base64url.{base64url}
+use Rattle.keys.specs.Views.{key_view}
+use Rattle.objects.specs.Views.{signature_view}
+use Rattle.tokens.specs.SigningInputs.{HoldEach}
+use Rattle.tokens.specs.VerifyingInputs.{starts_for_keys}
+use Rattle.tokens.proofs.VerifyingInputs.{have_signed}
+use Rattle.tokens.proofs.verify.detached.are_signed.Given as goal
+
+-- The keys that are left decide, and of these the inputs are left.
+abbrev pub invariant-loop-key : goal.invariant-loop-key
+invariant-loop-key g l =
+    let has_taken = g.S.SigningInput.has_taken in
+    let signatures = map signature_view l.signatures in
+    let left = map key_view (drop l.key-index l.keys) in
+    let all = map key_view l.keys in
+    (payload : List ℕ) → HoldEach has_taken l.fn.inputs.items (starts_for_keys signatures all) (base64url payload)
+    → (have_signed l.all payload signatures left ≡ have_signed l.all payload signatures all)
+    × HoldEach has_taken (into_iter_items l.inputs) (starts_for_keys signatures left) (base64url payload)

@@ -1,0 +1,69 @@
+//! Pairs of a recipient and a key that open the same as one before them. It opens nothing.
+ghost use Rattle.std.specs.Prelude.{◌≡◌, None, map, IsTrue};
+ghost use Rattle.objects.specs.KeyManagementView.{management_view};
+ghost use Rattle.tokens.specs.Decrypting.{SealedContent, opened_by, first_opened};
+ghost use Rattle.tokens.specs.Views.{pair_view};
+
+use crate::decrypt::pair::Pair;
+use objects::KeyManagement;
+use octets::same_octets;
+
+/// One of the pairs is the same as this one, so where they open nothing, this one does not. The last is looked at first, since a
+/// recipient that stands twice is often the one before.
+pub(crate) fn was_tried(pairs: &[Pair<'_>], pair: &Pair<'_>) -> bool
+    ensures { IsTrue result → (s : SealedContent) → first_opened s (map pair_view pairs.now) ≡ None → opened_by s (pair_view pair.now) ≡ None }
+{
+    for i in (0..pairs.len()).rev() {
+        if is_same(&pairs[i], pair) {
+            return true;
+        }
+    }
+    false
+}
+
+/// Both pairs have the same algorithms, parameters, encrypted key and key, and so open the same.
+fn is_same(one: &Pair<'_>, other: &Pair<'_>) -> bool
+    ensures { IsTrue result → (s : SealedContent) → opened_by s (pair_view one.now) ≡ opened_by s (pair_view other.now) }
+{
+    if one.algorithms.management != other.algorithms.management {
+        return false;
+    }
+    if one.algorithms.encryption != other.algorithms.encryption {
+        return false;
+    }
+    if !has_same_parameters(one.recipient.management(), other.recipient.management()) {
+        return false;
+    }
+    if !same_octets(
+        one.recipient.encrypted_key(),
+        other.recipient.encrypted_key(),
+    ) {
+        return false;
+    }
+    same_octets(one.key.octets(), other.key.octets())
+}
+
+/// Both deliver a content encryption key in the same way, with the same parameters.
+fn has_same_parameters(one: &KeyManagement, other: &KeyManagement) -> bool
+    ensures { IsTrue result → management_view one.now ≡ management_view other.now }
+{
+    match (one, other) {
+        (KeyManagement::Direct, KeyManagement::Direct) => true,
+        (KeyManagement::KeyWrap, KeyManagement::KeyWrap) => true,
+        (
+            KeyManagement::Password { p2s, p2c },
+            KeyManagement::Password {
+                p2s: other_p2s,
+                p2c: other_p2c,
+            },
+        ) => p2c == other_p2c && same_octets(p2s, other_p2s),
+        (
+            KeyManagement::GcmKeyWrap { iv, tag },
+            KeyManagement::GcmKeyWrap {
+                iv: other_iv,
+                tag: other_tag,
+            },
+        ) => same_octets(iv, other_iv) && same_octets(tag, other_tag),
+        _ => false,
+    }
+}

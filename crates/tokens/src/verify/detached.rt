@@ -1,0 +1,166 @@
+//! Verifying an object whose payload is read beside it, in one pass (RFC 7515 section 5.2 and appendix F).
+ghost use Rattle.std.specs.Prelude.{◌≡◌, ℕ, false, List, [], ◌∷◌, ◌++◌, map, Err, IfOk, IfErr, OnOk, OnErr, IsTrue};
+ghost use Rattle.std.specs.Iterator.{IsFinite};
+ghost use Rattle.std.specs.List.{list_any};
+ghost use Rattle.std.specs.Vec.Iter.{into_iter_items};
+ghost use Rattle.octets.specs.Base64url.{base64url};
+ghost use Rattle.octets.specs.Devices.{observed, IsPossibleInput};
+ghost use Rattle.octets.specs.Faults.{TellsFaults, counts};
+ghost use Rattle.octets.specs.Outcomes.{AgreesUnlessExternal, is_external};
+ghost use Rattle.keys.specs.Views.{key_view};
+ghost use Rattle.objects.specs.HandedIn.{with_payload};
+ghost use Rattle.objects.specs.Views.{jws_view, signature_view};
+ghost use Rattle.tokens.specs.SigningInputs.{InputStart, HoldEach};
+ghost use Rattle.tokens.specs.Verifying.{verifying_by, are_verified, verifies as verifies_pair};
+ghost use Rattle.tokens.specs.VerifyingInputs.{starts_for_pair, starts_for_key, starts_for_keys};
+
+use crate::signing_input::{HmacInput, SigningInput, take_content};
+use crate::verify::{candidate_alg, verdict};
+use keys::{Key, KeySet};
+use objects::{Jws, Signature};
+use octets::{Input, Refusal, same_octets};
+use std::alloc::Global;
+use std::vec::IntoIter;
+
+/// Verifies the object with the keys (RFC 7515 section 5.2). Its payload is all that the content gives, whatever payload the object
+/// was read with. Some key that may verify by the algorithm of a signature, and fits, must have made this signature; with `all`,
+/// each key must have made one. The content is read once, in pieces of 4,096 octets, and is not held: an HMAC is begun for each pair
+/// of a key and a signature that it may verify, and each of them takes each piece.
+///
+/// Fails with `Memory` before the content is read, or with `Read` if the content fails. Once the content was read to its end, refused,
+/// in this order, with `Unsupported` where no signature's algorithm is supported; `KeyDoesNotFit` where for none of the others a key
+/// may verify and fits; and `NotOpened` where none of those verifies, or with `all` for some key none does.
+pub fn jws_verify_detached<I: Input>(
+    alloc: Global,
+    keys: &KeySet,
+    jws: &Jws<'_>,
+    content: &mut I,
+    all: bool,
+) -> Result<(), Refusal>
+    requires { IsFinite (I.remaining content.old) }
+    ensures answer { (payload : List ℕ)
+        → IsPossibleInput (observed I.consumed I.is_at_end content.old content.new) payload
+        → AgreesUnlessExternal (verifying_by all false keys.now (with_payload payload (jws_view jws.now))) [] result }
+
+    // Nothing is told of the object before the content is at its end.
+    ensures ends { OnOk result (IsTrue (I.is_at_end content.new)) }
+    ensures ends_first { IfErr result (λ refusal. is_external refusal ≡ false → IsTrue (I.is_at_end content.new)) }
+
+    // All memory is taken before the content is touched.
+    ensures memory_first { IfErr result (λ refusal. refusal ≡ Refusal.Memory → content.new ≡ content.old) }
+    ensures faults { TellsFaults (counts I.failures content.old content.new ∷ []) [] result }
+{
+    let keys = keys.keys();
+    let signatures = jws.signatures();
+    let mut inputs = signing_inputs(alloc, keys, signatures)?;
+    take_content(&mut inputs, content)?;
+    let are_right = are_signed(all, keys, signatures, inputs);
+    verdict(keys, signatures, are_right)
+}
+
+/// The signing input of each pair of a key and a signature that it may verify. Each has taken the text before the payload's.
+fn signing_inputs(
+    alloc: Global,
+    keys: &[Key],
+    signatures: &[Signature],
+) -> Result<Vec<HmacInput>, Refusal>
+    ensures begun { IfOk result (λ inputs. HoldEach ⟦<HmacInput as SigningInput>⟧.has_taken inputs.items
+        (starts_for_keys (map signature_view signatures.now) (map key_view keys.now)) []) }
+    ensures memory { IfErr result (λ e. e ≡ Refusal.Memory) }
+{
+    let mut inputs = Vec::new(alloc);
+    for key in keys {
+        push_inputs(&mut inputs, key, signatures)?;
+    }
+    Ok(inputs)
+}
+
+/// Adds those of a key.
+fn push_inputs(
+    inputs: &mut Vec<HmacInput>,
+    key: &Key,
+    signatures: &[Signature],
+) -> Result<(), Refusal>
+    ensures pushed { (starts : List InputStart) → HoldEach ⟦<HmacInput as SigningInput>⟧.has_taken inputs.old.items starts []
+        → OnOk result (HoldEach ⟦<HmacInput as SigningInput>⟧.has_taken inputs.new.items
+        (starts ++ starts_for_key (map signature_view signatures.now) (key_view key.now)) []) }
+    ensures memory { OnErr result (result ≡ Err Refusal.Memory) }
+{
+    for signature in signatures {
+        push_input(inputs, key, signature)?;
+    }
+    Ok(())
+}
+
+/// Adds that of a key and a signature, if the key may verify the signature.
+fn push_input(inputs: &mut Vec<HmacInput>, key: &Key, signature: &Signature) -> Result<(), Refusal>
+    ensures pushed { (starts : List InputStart) → HoldEach ⟦<HmacInput as SigningInput>⟧.has_taken inputs.old.items starts []
+        → OnOk result (HoldEach ⟦<HmacInput as SigningInput>⟧.has_taken inputs.new.items
+        (starts ++ starts_for_pair (signature_view signature.now) (key_view key.now)) []) }
+    ensures memory { OnErr result (result ≡ Err Refusal.Memory) }
+{
+    match candidate_alg(signature, key) {
+        None => Ok(()),
+        Some(alg) => {
+            let protected = signature.protected().as_bytes();
+            inputs.push(HmacInput::begin(alg, key.octets(), protected))?;
+            Ok(())
+        }
+    }
+}
+
+/// Each key made a signature, where that is asked for, or else some key made some. The inputs are those of `signing_inputs`, and have
+/// taken the payload.
+fn are_signed<S: SigningInput>(
+    all: bool,
+    keys: &[Key],
+    signatures: &[Signature],
+    inputs: Vec<S>,
+) -> bool
+    ensures { (payload : List ℕ) → HoldEach S.has_taken inputs.items (starts_for_keys (map signature_view signatures.now) (map key_view keys.now)) (base64url payload)
+        → result ≡ are_verified all (map key_view keys.now) (record { payload = payload; signatures = map signature_view signatures.now }) }
+{
+    let mut inputs = inputs.into_iter();
+    for key in keys {
+        let signed = has_signed(key, signatures, &mut inputs);
+        if signed != all {
+            return signed;
+        }
+    }
+    all
+}
+
+/// The key made one of the signatures. It takes its signing inputs from the front.
+fn has_signed<S: SigningInput>(
+    key: &Key,
+    signatures: &[Signature],
+    inputs: &mut IntoIter<S>,
+) -> bool
+    ensures { (later : List InputStart) (payload : List ℕ)
+        → HoldEach S.has_taken (into_iter_items inputs.old) (starts_for_key (map signature_view signatures.now) (key_view key.now) ++ later) (base64url payload)
+        → (result ≡ list_any (λ s. verifies_pair payload s (key_view key.now)) (map signature_view signatures.now))
+        × HoldEach S.has_taken (into_iter_items inputs.new) later (base64url payload) }
+{
+    let mut signed = false;
+    for signature in signatures {
+        let verifies = verifies(key, signature, inputs);
+        signed = signed || verifies;
+    }
+    signed
+}
+
+/// The key may verify the signature, and made it. It takes their signing input, if there is one, from the front.
+fn verifies<S: SigningInput>(key: &Key, signature: &Signature, inputs: &mut IntoIter<S>) -> bool
+    ensures { (later : List InputStart) (payload : List ℕ)
+        → HoldEach S.has_taken (into_iter_items inputs.old) (starts_for_pair (signature_view signature.now) (key_view key.now) ++ later) (base64url payload)
+        → (result ≡ verifies_pair payload (signature_view signature.now) (key_view key.now))
+        × HoldEach S.has_taken (into_iter_items inputs.new) later (base64url payload) }
+{
+    if candidate_alg(signature, key).is_none() {
+        return false;
+    }
+    match inputs.next() {
+        None => false,
+        Some(input) => same_octets(input.sign().octets(), signature.signature()),
+    }
+}
