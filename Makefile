@@ -23,7 +23,8 @@ edits:
 build:
 	@scripts/build
 
-# Compares docs/CALLS.md, what each public call may refuse and change, with the sources.
+# Compares docs/CALLS.md, what each public call may refuse and change, with the sources, and reads in the code that refusals for memory and
+# devices come only from their errors, and how tags are compared.
 calls:
 	@scripts/calls
 

@@ -1,0 +1,310 @@
+"""Compares the code of the crates with PLACES below, for what no contract can say: that memory was refused, that a device failed, and how octets
+were compared.
+
+A function that answers Memory for every text above some length can be proved, for example. So this script reads the code itself (sources.py), word
+by word. Each of the following needs a row in PLACES, with the code as it is and what it comes from. A place without a row fails, and so does a row
+whose code is not there exactly once.
+- Memory, Read and Write of `Refusal`, the cases of `Fault`, and the errors that these are made from: AllocError, AllocFailed, OutOfMemory,
+  is_memory, Partial, ErrorKind and `Error`. Imports and the types of results are free.
+- Each `impl` for `Refusal` or `Fault`; each device, which is an `impl` of Read, Write, Input or Output; unsafe code, since it can make any value.
+- A growth that is asked for by a number (ROOMS), and each loop that does not go through a list, in a function that may take memory.
+- Each comparison for equality in the crates that compare tags and signatures (COMPARING), unless one side is a number or a length; in all crates
+  a function that takes octets twice and answers a bool, and `same_octets` where it is not called.
+- Each answer that is made or looked into in the files that pass on what std's files and streams answer (PASSING, by the beginnings of their paths).
+No name above may get another name, by `use .. as`, by `type` or by importing the cases of an enum.
+
+What it cannot see:
+- a needless growth that is made from the input's own octets, as by loops through a list inside each other, or by a function that calls itself;
+- a file that is opened, or a device that is called, only in order to fail;
+- a comparison by order, by a pattern, by arithmetic or by a function of another crate, made in addition to the one by `same_octets`;
+- when the kit gives an AllocError or an io::Error, and whether the reason in a row is true.
+"""
+import collections, os
+
+from sources import ROOT, block_end, parts, text_at, tokens_of
+
+COMPARING = ("modes", "ciphers", "tokens")
+PASSING = ("crates/octets/src/streams", "crates/jose/src/files")
+
+# The file, the function ("" outside of functions), the code, and what it comes from or what it is for.
+PLACES = [
+    # Refusals and faults, and what becomes a refusal by `?`.
+    ("octets/src/refusal.rt", "", "#[derive(Clone, Copy, Debug, PartialEq, Eq)] pub enum Refusal { Usage, Read, Write, Memory, Random,", "the declaration"),
+    ("octets/src/refusal.rt", "", "impl fmt::Display for Refusal", "its text"),
+    ("octets/src/refusal.rt", "Refusal::text", 'Refusal::Read => "2 Read", Refusal::Write => "3 Write", Refusal::Memory => "4 Memory",', "its text: matched, and not made"),
+    ("octets/src/refusal.rt", "", "impl Error for Refusal {}", "std's trait of all errors"),
+    ("octets/src/refusal.rt", "", "impl From<AllocError> for Refusal", "an allocation that std refused"),
+    ("octets/src/refusal.rt", "Refusal::from", "fn from(_: AllocError) -> Refusal { Refusal::Memory }", "an allocation that std refused"),
+    ("octets/src/refusal.rt", "", "impl<T: Drop> From<AllocFailed<T>> for Refusal", "an allocation that std refused"),
+    ("octets/src/refusal.rt", "Refusal::from", "fn from(_: AllocFailed<T>) -> Refusal { Refusal::Memory }", "an allocation that std refused"),
+    ("octets/src/refusal.rt", "", '#[derive(Clone, Copy, Debug, PartialEq, Eq, thiserror::Error)] pub enum Fault { #[error("an input failed")] Reading, '
+     '#[error("an output failed")] Writing, }', "the declaration"),
+    ("octets/src/refusal.rt", "", "impl From<Fault> for Refusal", "the fault of a device"),
+    ("octets/src/refusal.rt", "Refusal::from", "match fault { Fault::Reading => Refusal::Read, Fault::Writing => Refusal::Write, }", "the fault of a device"),
+    ("octets/src/whole.rt", "", "#[derive(Clone, Copy, Debug, PartialEq, Eq)] pub struct Partial { pub written: usize, }", "the declaration"),
+    ("octets/src/whole.rt", "", "impl From<Partial> for Refusal", "the fault of an output"),
+    ("octets/src/whole.rt", "Refusal::from", "fn from(_: Partial) -> Refusal { Refusal::Write }", "the fault of an output"),
+    ("octets/src/whole.rt", "write_whole", "match out.write(&octets[written..]) { Ok(n) => written += n, Err(_) => return Err(Partial { written }), }", "the fault of an output"),
+
+    # Memory, from errors that also have other causes.
+    ("octets/src/base64url.rt", "b64_decode", "match BASE64URL.decode(alloc, text) { Ok(octets) => Ok(octets), "
+     "Err(DecodeAllocError::OutOfMemory) => Err(Refusal::Memory),", "base64's error for memory"),
+    ("keys/src/strict_json.rt", "read_value", "match Value::from_slice(alloc, octets) { Ok(value) => Ok(value), "
+     "Err(error) if error.is_memory() => Err(Refusal::Memory),", "serde_json's error for memory"),
+    ("keys/src/set.rt", "read_keys", "match read_key(alloc, value) { Ok(key) => keys.push(key)?, Err(Refusal::Memory) => return Err(Refusal::Memory),", "passed on"),
+    ("jose/src/words/options.rt", "refusal_for", "fn refusal_for(error: &Error) -> Refusal { if error.kind() == ErrorKind::OutOfMemory { Refusal::Memory }",
+     "clap's error for memory"),
+    ("jose/src/main.rt", "placeholder", "match File::open(rt, FOLDER) { Ok(folder) if folder.as_raw_fd() <= 2 => Ok(Some(folder)), "
+     "Err(e) if e.kind() == io::ErrorKind::OutOfMemory => Err(Refusal::Memory),", "std's error for memory"),
+    ("jose/src/main.rt", "perform", "match std::env::args(rt) { Ok(args) => args, Err(e) if e.kind() == io::ErrorKind::OutOfMemory => return Err(Refusal::Memory),",
+     "std's error for memory"),
+
+    # Devices over memory.
+    ("octets/src/memory.rt", "", "Input for MemoryInput", "it never fails"),
+    ("octets/src/memory.rt", "", "Output for MemoryOutput", "it fails when its room is used up"),
+    ("octets/src/memory.rt", "MemoryOutput::write", "if n == 0 { count_failure(&mut self.failures); return Err(Fault::Writing); }", "room that is used up"),
+    ("octets/src/failing.rt", "", "Input for FailingInput", "it fails when it is told to"),
+    ("octets/src/failing.rt", "FailingInput::read", "if is_due { count_failure(&mut self.failures); return Err(Fault::Reading); }", "a failure that was asked for"),
+    ("octets/src/failing.rt", "", "Output for FailingOutput", "it fails when it is told to"),
+    ("octets/src/failing.rt", "FailingOutput::call", "if is_due { count_failure(&mut self.failures); return Err(Fault::Writing); }", "a failure that was asked for"),
+
+    # Devices over readers and writers.
+    ("octets/src/streams.rt", "", "const MOST_OCTETS: u64 = 1 << 62;", "how many octets are read"),
+    ("octets/src/streams.rt", "", "Input for ReaderInput", "it passes on what its reader answers"),
+    ("octets/src/streams.rt", "ReaderInput::read", "if self.is_at_end || buf.is_empty() { return Ok(0); }", "a read without room, or past the end"),
+    ("octets/src/streams.rt", "ReaderInput::read", "let left = (MOST_OCTETS - self.count) as usize; let room = buf.len().min(left); "
+     "let taken = if room == 0 { None } else { read_once(&mut self.reader, &mut buf[..room]).ok() }; "
+     "let Some(n) = taken else { count_failure(&mut self.failures); return Err(Fault::Reading); };", "the reader's error, or that all that may be read was read"),
+    ("octets/src/streams.rt", "ReaderInput::read", "self.is_at_end = n == 0; Ok(n)", "the reader's answer"),
+    ("octets/src/streams.rt", "read_once", "'reads: for _ in 0..u64::MAX { match reader.read(buf) { Err(e) if e.kind() == ErrorKind::Interrupted => continue 'reads, "
+     "result => return result, } } Err(io::Error::from(ErrorKind::Other))", "an interrupted call is made again, up to 2^64 - 1 times"),
+    ("octets/src/streams.rt", "", "Output for WriterOutput", "it passes on what its writer answers"),
+    ("octets/src/streams.rt", "WriterOutput::write", "if octets.is_empty() { return Ok(0); }", "a write of nothing"),
+    ("octets/src/streams.rt", "WriterOutput::write", "match write_once(&mut self.writer, octets) { Ok(n) if n > 0 => { self.transcript.append(&octets[..n]); Ok(n) } "
+     "_ => { count_failure(&mut self.failures); Err(Fault::Writing) } }", "the writer's answer; its error, or that it took no octet"),
+    ("octets/src/streams.rt", "WriterOutput::finish", "if flush_once(&mut self.writer).is_err() { count_failure(&mut self.failures); return Err(Fault::Writing); } "
+     "self.is_finished = true; Ok(())", "the writer's answer"),
+    ("octets/src/streams.rt", "write_once", "'writes: for _ in 0..u64::MAX { match writer.write(octets) { Err(e) if e.kind() == ErrorKind::Interrupted => continue 'writes, "
+     "result => return result, } } Err(io::Error::from(ErrorKind::Other))", "an interrupted call is made again, up to 2^64 - 1 times"),
+    ("octets/src/streams.rt", "flush_once", "'flushes: for _ in 0..u64::MAX { match writer.flush() { Err(e) if e.kind() == ErrorKind::Interrupted => continue 'flushes, "
+     "result => return result, } } Err(io::Error::from(ErrorKind::Other))", "an interrupted call is made again, up to 2^64 - 1 times"),
+
+    # Files and standard streams.
+    ("jose/src/files.rt", "", "Read for Source", "it passes on what its file or stream answers"),
+    ("jose/src/files.rt", "Source::read", "if buf.is_empty() { return Ok(0); } match self { Source::Words(octets) => octets.read(buf), "
+     "Source::Standard(stdin) => stdin.read(buf), Source::File { files, path, opened, } => { if opened.is_none() { *opened = Some(File::open(*files, *path)?); } "
+     "match opened { Some(file) => file.read(buf), None => unreachable!(), } } }", "what the words, the stream or the file answers; a read without room"),
+    ("jose/src/files.rt", "", "Write for Sink", "it passes on what its file or stream answers"),
+    ("jose/src/files.rt", "Sink::write", "if octets.is_empty() { return Ok(0); } match self { Sink::Nowhere => Ok(octets.len()), "
+     "Sink::Standard(stdout) => stdout.write(octets), Sink::File(output) => { if output.opened.is_none() { output.opened = Some(output.create()?); } "
+     "match &mut output.opened { Some(file) => file.write(octets), None => unreachable!(), } } }",
+     "what the stream or the file answers; a write of nothing, and an output that no option names"),
+    ("jose/src/files.rt", "Sink::flush", "match self { Sink::Nowhere => Ok(()), Sink::Standard(stdout) => stdout.flush(), "
+     "Sink::File(output) => { if output.opened.is_none() { output.opened = Some(output.create()?); } "
+     "match &mut output.opened { Some(file) => file.flush(), None => unreachable!(), } } }", "what the stream or the file answers; an output that no option names"),
+    ("jose/src/files.rt", "OutputFile::create", "if other.is_some_and(|other| are_one_file(self.files, self.path, other)) { "
+     "return Err(io::Error::from(io::ErrorKind::ResourceBusy)); }", "an output that is the file of the content or of the other output"),
+    ("jose/src/files.rt", "are_one_file", "match (metadata(files, path), metadata(files, other)) { (Ok(file), Ok(other)) => {", "a file that can't be looked at is not the same"),
+    ("jose/src/files.rt", "inputs", "let text = invocation.value('i').or(invocation.value('s'));", "options of the command"),
+    ("jose/src/files.rt", "inputs", "let random = invocation.value('R').or(Some(SYSTEM_RANDOM));", "options of the command"),
+
+    # Memory that is asked for by a number, or in a loop that does not go through a list.
+    ("octets/src/memory.rt", "MemoryOutput::new", "Vec::with_capacity(alloc, room)?", "the room that the caller asks for"),
+    ("octets/src/failing.rt", "FailingOutput::new", "MemoryOutput::new(alloc, room)?", "the room that the caller asks for"),
+    ("octets/src/whole.rt", "read_to_end", "'reads: loop { let n = input.read(&mut buf)?; if n == 0 { return Ok(octets); } octets.extend_from_slice(&buf[..n])?; }",
+     "all that an input gives"),
+    ("jose/src/main.rt", "perform", "args.skip(1).collect(rt.alloc())?", "the words of the command"),
+
+    # Comparisons, in the crates that compare tags and signatures.
+    ("octets/src/lanes.rt", "same_octets", "fn same_octets(a: &[u8], b: &[u8]) -> bool", "the declaration"),
+    ("modes/src/gcm.rt", "gcm_open", "if !same_octets(&expected, tag) { return None; }", "the tag of GCM"),
+    ("ciphers/src/cbc_hmac.rt", "open", "if !same_octets(&expected[..len], tag) { return None; }", "the tag of AES-CBC with HMAC"),
+    ("tokens/src/verify.rt", "is_signed", "same_octets(mac.octets(), signature.signature())", "the signature"),
+    ("ciphers/src/key_wrap.rt", "unwrap", "if a != INITIAL_VALUE { return None; }", "the constant that AES key wrap puts before the key"),
+    ("modes/src/cbc_opening.rt", "padding_of", "if last[i] != value { return None; }", "an octet of the padding; `ciphers` has compared the tag before"),
+]
+
+CASES = {"Memory", "OutOfMemory", "Reading", "Writing"}
+ERRORS = {"AllocError", "AllocFailed", "Partial", "Error", "ErrorKind"}
+ENUMS = {"Refusal", "Fault", "ErrorKind", "DecodeAllocError"}
+# What must not get another name.
+NAMED = CASES | ERRORS | ENUMS | {"same_octets"}
+ROOMS = set("""with_capacity with_capacity_and_hasher try_with_capacity reserve reserve_exact try_reserve try_reserve_exact resize resize_with
+    try_resize_with repeat repeat_n repeat_with cycle from_elem from_fn from_iter extend extend_from_within unzip partition grow try_grow zeroed
+    collect successors allocate spawn Box Rc Arc""".split())
+LOOPS = {"loop", "while", "for_each", "try_for_each", "fold", "try_fold"}
+ROOM_MACROS = {"vec", "format", "write", "writeln"}
+ROOM_DEVICES = {"MemoryOutput", "FailingOutput"}
+# What the signature of a function has, with a `Result`, that may take memory.
+MEMORY = {"Global", "Vec", "String", "Map", "HostRuntime", "self"}
+EQUALITIES = set("== != eq ne cmp partial_cmp starts_with ends_with contains strip_prefix strip_suffix simd_eq simd_ne".split())
+ANSWERS = set("""Ok Err ok err is_ok is_err is_ok_and is_err_and unwrap unwrap_or unwrap_or_else unwrap_or_default expect map_err map_or
+    map_or_else or or_else and and_then iter into_iter""".split())
+
+# What holds of a place that needs a row, and what to do.
+ADVICE = {
+    "cause": "Memory, Read, Write and faults come only from an error for memory or from a failed device; refuse with another cause, or add a row with that error",
+    "name": "it must have one name only; import it as it is, and write its path",
+    "device": "a device passes failures on as they are; do without it, or add a row, and its file to PASSING",
+    "room": "memory is asked for by what is there to be kept, and not by a number or in a loop without a list; do so, or add a row with what bounds it",
+    "equality": "tags and signatures are compared by same_octets alone; use it, or add a row that says what else is compared",
+    "answer": "what a file or a stream answers is passed on as it is; do so, or add a row that says what this answers",
+}
+
+
+def paths_of(words):
+    """The paths of an import, each with the name that it gets in place of its own, or None."""
+    prefix, at = [], 0
+    while at < len(words):
+        if words[at] == "{":
+            items, depth = [[]], 0
+            for word in words[at + 1:-1]:
+                depth += (word == "{") - (word == "}")
+                items = items + [[]] if word == "," and not depth else items[:-1] + [items[-1] + [word]]
+            return [(prefix + path, name) for item in items if item for path, name in paths_of(item)]
+        if words[at] == "as":
+            return [(prefix, words[at + 1])]
+        prefix += [words[at]] if words[at] != "::" else []
+        at += 1
+    return [(prefix, None)]
+
+
+def renamed(words):
+    """What an import or a `type` gives another name, or brings in without the name of its enum, or None."""
+    if words[0] == "type":
+        named = NAMED & set(words[words.index("="):]) if "=" in words else ()
+        return next(iter(sorted(named)), None)
+    for path, name in paths_of(words[1:]):
+        if name and NAMED & {*path, name} or ENUMS & set(path[:-1]) or path[-1] == "same_octets" and path[-2:-1] not in (["octets"], ["lanes"]):
+            return "::".join(path)
+    return None
+
+
+def before_path(tokens, at):
+    """The word before the path that ends here."""
+    while text_at(tokens, at - 1) == "::":
+        at -= 2
+    return text_at(tokens, at - 1)
+
+
+def is_type(tokens, at):
+    """Whether it is the error of a `Result`."""
+    return text_at(tokens, at + 1) in (">", ">>") and before_path(tokens, at) == ","
+
+
+def is_trait(tokens, at):
+    """Whether this `Read` or `Write` is std's trait."""
+    before = text_at(tokens, at - 1)
+    return before in (":", "+") or text_at(tokens, at + 1) == "for" or before == "::" and text_at(tokens, at - 2) in ("io", "fmt")
+
+
+def is_call(tokens, at):
+    """Whether `same_octets` of `octets` is called here."""
+    before = text_at(tokens, at - 1)
+    return text_at(tokens, at + 1) == "(" and before not in ("fn", ".") and (before != "::" or text_at(tokens, at - 2) == "octets")
+
+
+def is_of_numbers(tokens, at):
+    """Whether this comparison has a number or a length on one side, and no sum of octets on the other."""
+    start = at
+    while start and tokens[start - 1].text not in ("if", "while", "&&", "||", "{", "}", ";", ",", "=", "return"):
+        start -= 1
+    left = [it.text for it in tokens[start:at]]
+    return "^" not in left and (left[-4:] == [".", "len", "(", ")"] or text_at(tokens, at + 1)[:1].isdigit() or left[-1:] and left[-1][:1].isdigit())
+
+
+def advice_at(part, at):
+    """The advice for the word at this place, if no row has it, or None for a word that needs no row."""
+    tokens, crate = part.tokens, part.path.split("/")[1]
+    word, after = tokens[at].text, text_at(tokens, at + 1)
+    if word in CASES or word == "unsafe" or word in ERRORS and not is_type(tokens, at):
+        return "cause"
+    if word in ("kind", "is_memory") and text_at(tokens, at - 1) == "." or word in ("Refusal", "Fault") and before_path(tokens, at) == "for":
+        return "cause"
+    if word in ("Read", "Write", "Input", "Output") and after == "for":
+        return "device"
+    if word in ("Read", "Write") and not is_trait(tokens, at):
+        return "cause"
+    if word in ROOMS or word in ROOM_MACROS and after == "!" or word in ROOM_DEVICES and after == "::":
+        return "room"
+    if word == "same_octets" and not is_call(tokens, at) or word in EQUALITIES and crate in COMPARING and not is_of_numbers(tokens, at):
+        return "equality"
+    return "answer" if word in ANSWERS and part.path.startswith(PASSING) else None
+
+
+def words_to(tokens, at, *ends):
+    """The words from a place to the first that is one of the ends and in no brackets."""
+    start = at
+    while at < len(tokens) and tokens[at].text not in ends:
+        at = block_end(tokens, at)
+    return [it.text for it in tokens[start:at]]
+
+
+def is_loop_without_list(tokens, at):
+    word = tokens[at].text
+    return word in LOOPS or word == "for" and not {"..", "..="}.isdisjoint(words_to(tokens, at, "{"))
+
+
+def needing_rows(part):
+    """The places of a part of the code that need a row: where, what, and the advice for one that has none."""
+    tokens, at = part.tokens, 0
+    signature = words_to(tokens, 0, "{", ";") if part.function else []
+    if "bool" in signature and " ".join(signature).count("[ u8") > 1:
+        yield 0, "octets twice", "equality"
+    while at < len(tokens):
+        if tokens[at].text in ("use", "type"):
+            end = next((it for it in range(at, len(tokens)) if tokens[it].text == ";"), len(tokens))
+            if what := renamed([it.text for it in tokens[at:end]]):
+                yield at, what, "name"
+            at = end
+        elif advice := advice_at(part, at):
+            yield at, tokens[at].text, advice
+        elif "Result" in signature and MEMORY & set(signature) and is_loop_without_list(tokens, at):
+            yield at, tokens[at].text, "room"
+        at += 1
+
+
+def spelled(tokens):
+    return f" {' '.join(it.text for it in tokens)} "
+
+
+def found_in(part, code):
+    """The places of a part of the code that this code takes up, and how often it is there."""
+    words, wanted = [it.text for it in part.tokens], [it.text for it in tokens_of(code)]
+    starts = [at for at in range(len(words) - len(wanted) + 1) if words[at:at + len(wanted)] == wanted]
+    return {start + it for start in starts for it in range(len(wanted))}, len(starts)
+
+
+def line_of(path, number):
+    with open(os.path.join(ROOT, path), encoding="utf-8") as file:
+        return file.read().split("\n")[number - 1].strip()
+
+
+def compare(crates, fault):
+    """Reports each row whose code is not there once, and each place without a row; answers how many rows there are."""
+    rows, without = collections.defaultdict(dict), []
+    for path, function, code, _ in PLACES:
+        rows[f"crates/{path}", function][code] = 0
+    for part in (it for crate in crates for it in parts(crate)):
+        covered, counts, left = set(), rows.get((part.path, part.function), {}), collections.defaultdict(list)
+        for code in counts:
+            places, count = found_in(part, code)
+            covered |= places
+            counts[code] += count
+        for at, what, advice in needing_rows(part):
+            if at not in covered:
+                left[part.tokens[at].line, advice].append(what)
+        without += [(part, line, advice, found) for (line, advice), found in left.items()]
+    lost = {place: [code for code, count in counts.items() if count != 1] for place, counts in rows.items()}
+    for (path, function), codes in lost.items():
+        for code in codes:
+            shown = code if len(code) <= 160 else code[:158] + ".."
+            fault(f"{path}, {function or 'outside of functions'}: the code of a row in scripts/origins.py is there {rows[path, function][code]} times, "
+                  f"and not once: `{shown}`; put it back, or change the row")
+    for part, line, advice, found in without:
+        # What is still there of such a row is no fault of its own.
+        here = spelled(it for it in part.tokens if it.line == line)
+        if not any(here in spelled(tokens_of(code)) for code in lost.get((part.path, part.function), [])):
+            fault(f"{part.path}, line {line}, {part.function or 'outside of functions'}: `{line_of(part.path, line)}` uses {', '.join(dict.fromkeys(found))} "
+                  f"without a row in scripts/origins.py: {ADVICE[advice]}")
+    return len(PLACES)
