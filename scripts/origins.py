@@ -120,6 +120,11 @@ PLACES = [
     ("modes/src/gcm.rt", "gcm_open", "if !same_octets(&expected, tag) { return None; }", "the tag of GCM"),
     ("ciphers/src/cbc_hmac.rt", "open", "if !same_octets(&expected[..len], tag) { return None; }", "the tag of AES-CBC with HMAC"),
     ("tokens/src/verify.rt", "is_signed", "same_octets(mac.octets(), signature.signature())", "the signature"),
+    ("tokens/src/verify/detached.rt", "verifies", "Some(input) => same_octets(input.sign().octets(), signature.signature()),", "the signature"),
+    ("tokens/src/verify/detached.rt", "are_signed", "if signed != all { return signed; }", "whether a key signed, and whether each has to"),
+    ("tokens/src/decrypt/tried.rt", "is_same", "if one.algorithms.management != other.algorithms.management { return false; } "
+     "if one.algorithms.encryption != other.algorithms.encryption { return false; }", "the algorithms of two pairs"),
+    ("tokens/src/decrypt/tried.rt", "has_same_parameters", ") => p2c == other_p2c && same_octets(p2s, other_p2s),", "the counts of two recipients"),
     ("ciphers/src/key_wrap.rt", "unwrap", "if a != INITIAL_VALUE { return None; }", "the constant that AES key wrap puts before the key"),
     ("modes/src/cbc_opening.rt", "padding_of", "if last[i] != value { return None; }", "an octet of the padding; `ciphers` has compared the tag before"),
 ]
