@@ -24,6 +24,15 @@ pub(crate) const VERIFY_BESIDE: [&str; 8] = [
     "jws", "ver", "-I", "beside", "-k", "keys", "-O", "payload",
 ];
 
+pub(crate) const VERIFY_ALL_BESIDE: [&str; 9] = [
+    "jws", "ver", "-a", "-I", "beside", "-k", "keys", "-O", "payload",
+];
+
+/// Without an output the payload is read in one pass.
+pub(crate) const CHECK_BESIDE: [&str; 6] = ["jws", "ver", "-I", "beside", "-k", "keys"];
+
+pub(crate) const CHECK_ALL_BESIDE: [&str; 7] = ["jws", "ver", "-a", "-I", "beside", "-k", "keys"];
+
 pub(crate) const FORMAT_JWS: [&str; 2] = ["jws", "fmt"];
 
 pub(crate) const COMPACT_JWS: [&str; 3] = ["jws", "fmt", "-c"];

@@ -182,8 +182,20 @@ pub(crate) enum Answer<'a> {
     Digest(&'a [u8]),
     /// Write what has the first to `-o`, and what has the second to `-O`.
     Digests(&'a [u8], &'a [u8]),
+    /// Accept, and write nothing.
+    Nothing,
     /// Write nothing, and say this.
     Refusal(Refusal),
+}
+
+impl<'a> Answer<'a> {
+    /// The answer where what is accepted is not written.
+    pub(crate) fn unwritten(self) -> Answer<'a> {
+        match self {
+            Answer::Refusal(refusal) => Answer::Refusal(refusal),
+            _ => Answer::Nothing,
+        }
+    }
 }
 
 /// The words answer so, over inputs that give many octets at a read, and one.
@@ -227,12 +239,16 @@ pub(crate) fn expect_done<R: Abort>(rt: &R, done: &Done, at: &str, answer: Answe
             expect_digest(rt, &done.text, text, at);
             expect_digest(rt, &done.content, content, at);
         }
-        Answer::Refusal(refusal) => {
-            expect_same(rt, done.result, Err(refusal), at);
-            expect_written(rt, &done.text, b"", false, at);
-            expect_written(rt, &done.content, b"", false, at);
-        }
+        Answer::Nothing => expect_nothing(rt, done, Ok(()), at),
+        Answer::Refusal(refusal) => expect_nothing(rt, done, Err(refusal), at),
     }
+}
+
+/// The call ended so, and touched no output.
+fn expect_nothing<R: Abort>(rt: &R, done: &Done, answer: Result<(), Refusal>, at: &str) {
+    expect_same(rt, done.result, answer, at);
+    expect_written(rt, &done.text, b"", false, at);
+    expect_written(rt, &done.content, b"", false, at);
 }
 
 pub(crate) fn expect_written<R: Abort>(

@@ -6,6 +6,7 @@ use crate::tests::peers::python_password::OF_A_THOUSAND;
 use crate::tests::peers::python_several_keys::FOR_THREE;
 use crate::tests::samples::{A256GCMKW_KEY, KEY_TO_15, KEY_TO_31, PASSWORD, with_many};
 use crate::tests::standards::rfc7515::RFC7515_KEY;
+use crate::tests::standards::rfc7516::RFC7516_KEY;
 use octets::Refusal;
 use std::process::Abort;
 use std::test::Fail;
@@ -403,6 +404,74 @@ const WORKS_OF_SEVERAL: &[(&str, &str, Work)] = &[
 fn the_work_of_gcm_key_wrap_is_told_exactly(rt: HostRuntime) -> Result<(), Fail> {
     for (text, keys, work) in WORKS_OF_SEVERAL {
         expect_work(&rt, text, keys, *work, Ok(()))?;
+    }
+    Ok(())
+}
+
+/// Objects whose recipients stand twice, or have the same key: a pair that is the same as an earlier one counts as the others do. The
+/// encrypted keys are A.3's content encryption key, and 32 zero octets (Python's `cryptography`).
+const WORKS_OF_REPEATED: &[(&str, &str, Work, Result<(), Refusal>)] = &[
+    // The second encrypted key is the one that opens.
+    (
+        "{\"ciphertext\":\"KDlTtXchhZTGufMYmOYGS4HffxPSUrfmqCHXaI9wOGY\",\"iv\":\"AxY8DCtDaGlsbGljb3RoZQ\",\"protected\":\"eyJlbmMiOiJBMTI4Q0JDLUhTMjU2In0\",\"recipients\":[{\"encrypted_key\":\"BAzT9UVYzHMWop2dlZwgzEXcWtxEYB2XkUcqwR_h8pNcbxp_q8s5rA\"},{\"encrypted_key\":\"6KB707dM9YTIgHtLvtgWQ8mKwboJW3of9locizkDTHzBC2IlrT1oOQ\"}],\"tag\":\"Mz-VPPyU4RlcuYv1IwIvzw\",\"unprotected\":{\"alg\":\"A128KW\"}}",
+        RFC7516_KEY,
+        Work {
+            iterations: 0,
+            unwraps: 2,
+            openings: 2,
+        },
+        Ok(()),
+    ),
+    // The third, after two that are the same.
+    (
+        "{\"ciphertext\":\"KDlTtXchhZTGufMYmOYGS4HffxPSUrfmqCHXaI9wOGY\",\"iv\":\"AxY8DCtDaGlsbGljb3RoZQ\",\"protected\":\"eyJlbmMiOiJBMTI4Q0JDLUhTMjU2In0\",\"recipients\":[{\"encrypted_key\":\"BAzT9UVYzHMWop2dlZwgzEXcWtxEYB2XkUcqwR_h8pNcbxp_q8s5rA\"},{\"encrypted_key\":\"BAzT9UVYzHMWop2dlZwgzEXcWtxEYB2XkUcqwR_h8pNcbxp_q8s5rA\"},{\"encrypted_key\":\"6KB707dM9YTIgHtLvtgWQ8mKwboJW3of9locizkDTHzBC2IlrT1oOQ\"}],\"tag\":\"Mz-VPPyU4RlcuYv1IwIvzw\",\"unprotected\":{\"alg\":\"A128KW\"}}",
+        RFC7516_KEY,
+        Work {
+            iterations: 0,
+            unwraps: 3,
+            openings: 3,
+        },
+        Ok(()),
+    ),
+    // None, since the tag is another.
+    (
+        "{\"ciphertext\":\"KDlTtXchhZTGufMYmOYGS4HffxPSUrfmqCHXaI9wOGY\",\"iv\":\"AxY8DCtDaGlsbGljb3RoZQ\",\"protected\":\"eyJlbmMiOiJBMTI4Q0JDLUhTMjU2In0\",\"recipients\":[{\"encrypted_key\":\"6KB707dM9YTIgHtLvtgWQ8mKwboJW3of9locizkDTHzBC2IlrT1oOQ\"},{\"encrypted_key\":\"6KB707dM9YTIgHtLvtgWQ8mKwboJW3of9locizkDTHzBC2IlrT1oOQ\"},{\"encrypted_key\":\"BAzT9UVYzHMWop2dlZwgzEXcWtxEYB2XkUcqwR_h8pNcbxp_q8s5rA\"},{\"encrypted_key\":\"6KB707dM9YTIgHtLvtgWQ8mKwboJW3of9locizkDTHzBC2IlrT1oOQ\"}],\"tag\":\"AAAAAAAAAAAAAAAAAAAAAA\",\"unprotected\":{\"alg\":\"A128KW\"}}",
+        RFC7516_KEY,
+        Work {
+            iterations: 0,
+            unwraps: 4,
+            openings: 4,
+        },
+        Err(Refusal::NotOpened),
+    ),
+    // A key that is used directly by three recipients.
+    (
+        "{\"ciphertext\":\"A4jazmC2o5LzKMK5cbL-eA\",\"iv\":\"AAAAAAAAAAAAAAAA\",\"recipients\":[{\"header\":{\"kid\":\"a\"}},{\"header\":{\"kid\":\"b\"}},{\"header\":{\"kid\":\"a\"}}],\"tag\":\"AAAAAAAAAAAAAAAAAAAAAA\",\"unprotected\":{\"alg\":\"dir\",\"enc\":\"A128GCM\"}}",
+        "{\"kty\":\"oct\",\"k\":\"AAAAAAAAAAAAAAAAAAAAAA\"}",
+        Work {
+            iterations: 0,
+            unwraps: 0,
+            openings: 3,
+        },
+        Err(Refusal::NotOpened),
+    ),
+    // And two of them.
+    (
+        "{\"ciphertext\":\"A4jazmC2o5LzKMK5cbL-eA\",\"iv\":\"AAAAAAAAAAAAAAAA\",\"recipients\":[{\"header\":{\"kid\":\"a\"}},{\"header\":{\"kid\":\"b\"}},{\"header\":{\"kid\":\"a\"}}],\"tag\":\"AAAAAAAAAAAAAAAAAAAAAA\",\"unprotected\":{\"alg\":\"dir\",\"enc\":\"A128GCM\"}}",
+        "{\"keys\":[{\"kty\":\"oct\",\"k\":\"AAAAAAAAAAAAAAAAAAAAAA\"},{\"kty\":\"oct\",\"k\":\"GawgguFyGrWKav7AX4VKUg\"}]}",
+        Work {
+            iterations: 0,
+            unwraps: 0,
+            openings: 6,
+        },
+        Err(Refusal::NotOpened),
+    ),
+];
+
+#[test]
+fn the_work_of_repeated_recipients_is_told_exactly(rt: HostRuntime) -> Result<(), Fail> {
+    for (text, keys, work, result) in WORKS_OF_REPEATED {
+        expect_work(&rt, text, keys, *work, *result)?;
     }
     Ok(())
 }

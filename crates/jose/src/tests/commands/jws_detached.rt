@@ -1,5 +1,8 @@
 //! `jws sig -O` and `jws ver -I`: the payload beside the text. The signatures are by Python's `hmac`.
-use crate::tests::command_words::{SIGN_BESIDE, SIGN_COMPACT_BESIDE, VERIFY, VERIFY_BESIDE};
+use crate::tests::command_words::{
+    CHECK_ALL_BESIDE, CHECK_BESIDE, SIGN_BESIDE, SIGN_COMPACT_BESIDE, VERIFY, VERIFY_ALL_BESIDE,
+    VERIFY_BESIDE,
+};
 use crate::tests::harness::{Answer, Given, expect, expect_rows};
 use crate::tests::samples::{
     ABC, ABC_BESIDE, ABC_FLATTENED, ABC_FLATTENED_BESIDE, ABC_GENERAL_BESIDE, EMPTY_SIGNED,
@@ -8,10 +11,6 @@ use crate::tests::samples::{
 use crate::tests::standards::rfc7515::RFC7515_KEY;
 use octets::Refusal;
 use std::test::Fail;
-
-const VERIFY_ALL_BESIDE: [&str; 9] = [
-    "jws", "ver", "-a", "-I", "beside", "-k", "keys", "-O", "payload",
-];
 
 /// Signed objects and payloads beside them.
 const VERIFIED: &[(&[&str], &str, &[u8], Answer<'_>)] = &[
@@ -97,6 +96,22 @@ fn a_payload_beside_the_text_is_verified(rt: HostRuntime) -> Result<(), Fail> {
 }
 
 #[test]
+fn a_payload_that_is_not_written_is_verified_alike(rt: HostRuntime) -> Result<(), Fail> {
+    for (words, text, content, answer) in VERIFIED {
+        if words.len() == VERIFY_BESIDE.len() {
+            let given = Given {
+                text,
+                content,
+                keys: RFC7515_KEY,
+                random: b"",
+            };
+            expect(&rt, &CHECK_BESIDE, &given, answer.unwritten())?;
+        }
+    }
+    Ok(())
+}
+
+#[test]
 fn each_key_signed_a_payload_beside_the_text(rt: HostRuntime) -> Result<(), Fail> {
     let given = Given {
         text: ABC_GENERAL_BESIDE,
@@ -104,7 +119,8 @@ fn each_key_signed_a_payload_beside_the_text(rt: HostRuntime) -> Result<(), Fail
         keys: TWO_KEYS,
         random: b"",
     };
-    expect(&rt, &VERIFY_ALL_BESIDE, &given, Answer::Content(b"abc"))
+    expect(&rt, &VERIFY_ALL_BESIDE, &given, Answer::Content(b"abc"))?;
+    expect(&rt, &CHECK_ALL_BESIDE, &given, Answer::Nothing)
 }
 
 /// Templates and payloads, and what becomes of them with the payload beside the text.

@@ -1,12 +1,16 @@
 //! `jws ver` of objects with several signatures and of sets of keys, with `-a` and without. The signatures are by Python's `hmac`.
-use crate::tests::command_words::{VERIFY, VERIFY_ALL};
-use crate::tests::harness::{Answer, expect_text, verifies};
+use crate::tests::command_words::{
+    CHECK_ALL_BESIDE, CHECK_BESIDE, VERIFY_ALL, VERIFY_ALL_BESIDE, VERIFY_BESIDE,
+};
+use crate::tests::contents::expect_in_steps;
+use crate::tests::harness::{Answer, Given, expect_text, verifies};
 use crate::tests::samples::{
     ABC, ABC_FLATTENED, ABC_FLATTENED_BESIDE, ABC_GENERAL, ABC_WITH_HEADER, KEY_AND_SMALL_KEY,
     KEY_TO_31, KEY_TO_47, TWO_KEYS, TWO_LONG_KEYS, with_many,
 };
 use crate::tests::standards::rfc7515::RFC7515_KEY;
 use octets::Refusal;
+use std::alloc::{AllocError, Global};
 use std::process::Abort;
 use std::test::Fail;
 
@@ -87,6 +91,19 @@ const VERIFIED: &[(&str, &str, Answer<'_>, Answer<'_>)] = &[
         Answer::Refusal(Refusal::Unsupported),
         Answer::Refusal(Refusal::Unsupported),
     ),
+    // Of three algorithms the first is not supported, and each key made one of the others; or one key made none.
+    (
+        "{\"payload\":\"YWJj\",\"signatures\":[{\"protected\":\"eyJhbGciOiJSUzI1NiJ9\",\"signature\":\"AA\"},{\"protected\":\"eyJhbGciOiJIUzUxMiJ9\",\"signature\":\"ScK1f_2owqwH0tMhgpVtvopDQ1GhlP2zxdgv400w_wSEXHxwOM2XkeStAhVFb6moKzeC1Z0H00YC8-EWsv84Wg\"},{\"protected\":\"eyJhbGciOiJIUzI1NiJ9\",\"signature\":\"8-sUlaJJTTOyeAYgv-kHNN9tT55A-tUCHOYatGHTJa0\"}]}",
+        TWO_KEYS,
+        Answer::Content(b"abc"),
+        Answer::Content(b"abc"),
+    ),
+    (
+        "{\"payload\":\"YWJj\",\"signatures\":[{\"protected\":\"eyJhbGciOiJIUzUxMiJ9\",\"signature\":\"AA\"},{\"protected\":\"eyJhbGciOiJIUzI1NiJ9\",\"signature\":\"8-sUlaJJTTOyeAYgv-kHNN9tT55A-tUCHOYatGHTJa0\"},{\"protected\":\"eyJhbGciOiJSUzI1NiJ9\",\"signature\":\"AA\"}]}",
+        TWO_KEYS,
+        Answer::Content(b"abc"),
+        Answer::Refusal(Refusal::NotOpened),
+    ),
     // A `crit` of the second signature.
     (
         "{\"payload\":\"YWJj\",\"signatures\":[{\"protected\":\"eyJhbGciOiJIUzI1NiJ9\",\"signature\":\"8-sUlaJJTTOyeAYgv-kHNN9tT55A-tUCHOYatGHTJa0\"},{\"protected\":\"eyJhbGciOiJIUzI1NiIsImNyaXQiOlsieCJdfQ\",\"signature\":\"AA\"}]}",
@@ -163,6 +180,46 @@ fn some_keys_verify_or_all(rt: HostRuntime) -> Result<(), Fail> {
     for (text, keys, some, all) in VERIFIED {
         verifies(&rt, text, keys, *some)?;
         expect_text(&rt, &VERIFY_ALL, text, keys, *all)?;
+    }
+    Ok(())
+}
+
+/// The text without its payload, `abc`.
+fn without_payload(alloc: Global, text: &str) -> Result<String, AllocError> {
+    let (front, back) = match text.split_once("\"payload\":\"YWJj\",") {
+        Some(parts) => parts,
+        None => text.split_once("YWJj").unwrap_or((text, "")),
+    };
+    let mut beside = String::from_str(alloc, front)?;
+    beside.push_str(back)?;
+    Ok(beside)
+}
+
+/// With the payload beside the text the answers are these, whether it is written or not, and whatever the inputs give at a read.
+fn expect_beside<R: Abort + AllocGlobal>(
+    rt: &R,
+    text: &str,
+    keys: &str,
+    some: Answer<'_>,
+    all: Answer<'_>,
+) -> Result<(), Fail> {
+    let given = Given {
+        text,
+        content: b"abc",
+        keys,
+        random: b"",
+    };
+    expect_in_steps(rt, &VERIFY_BESIDE, &given, some)?;
+    expect_in_steps(rt, &VERIFY_ALL_BESIDE, &given, all)?;
+    expect_in_steps(rt, &CHECK_BESIDE, &given, some.unwritten())?;
+    expect_in_steps(rt, &CHECK_ALL_BESIDE, &given, all.unwritten())
+}
+
+#[test]
+fn some_keys_verify_a_payload_beside_the_text_or_all(rt: HostRuntime) -> Result<(), Fail> {
+    for (text, keys, some, all) in VERIFIED {
+        let text = without_payload(rt.alloc(), text)?;
+        expect_beside(&rt, &text, keys, *some, *all)?;
     }
     Ok(())
 }

@@ -1,8 +1,8 @@
 //! Keys, objects, templates, contents and ciphertexts of more than 2 MiB, which are treated like any other. Signatures are by Python's
 //! `hmac`, and digests of what is encrypted as those of `encrypted`.
 use crate::tests::command_words::{
-    DECRYPT, DECRYPT_BESIDE, ENCRYPT, ENCRYPT_COMPACT_BESIDE, SIGN_COMPACT, SIGN_COMPACT_BESIDE,
-    VERIFY, VERIFY_BESIDE,
+    CHECK_BESIDE, DECRYPT, DECRYPT_BESIDE, ENCRYPT, ENCRYPT_COMPACT_BESIDE, SIGN_COMPACT,
+    SIGN_COMPACT_BESIDE, VERIFY, VERIFY_BESIDE,
 };
 use crate::tests::contents::with_aad;
 use crate::tests::harness::{
@@ -336,7 +336,9 @@ fn a_long_payload_is_signed_and_verified_beside_the_text(rt: HostRuntime) -> Res
         signed,
     )?;
     let verified = Answer::Content(payload);
-    answers(&rt, &VERIFY_BESIDE, &text, payload, RFC7515_KEY, verified)
+    answers(&rt, &VERIFY_BESIDE, &text, payload, RFC7515_KEY, verified)?;
+    let accepted = Answer::Nothing;
+    answers(&rt, &CHECK_BESIDE, &text, payload, RFC7515_KEY, accepted)
 }
 
 #[test]

@@ -1,9 +1,13 @@
-//! Contents of 0 to 12,289 octets in reads of 1 to 4,096: `b64 enc`, `b64 dec` and `jws sig`. The signatures are by Python's `hmac`.
-use crate::tests::command_words::{SIGN_COMPACT, SIGN_COMPACT_BESIDE};
+//! Contents of 0 to 12,289 octets in reads of 1 to 4,096: `b64 enc`, `b64 dec`, `jws sig` and `jws ver -I`. The signatures are by
+//! Python's `hmac`.
+use crate::tests::command_words::{
+    CHECK_ALL_BESIDE, CHECK_BESIDE, SIGN_COMPACT, SIGN_COMPACT_BESIDE,
+};
 use crate::tests::contents::{LENGTHS, PIECE, expect_in_steps};
 use crate::tests::harness::{Answer, Given};
 use crate::tests::samples::{TEMPLATE, repeated};
 use crate::tests::standards::rfc7515::RFC7515_KEY;
+use octets::Refusal;
 use std::alloc::{AllocError, Global};
 use std::process::Abort;
 use std::test::Fail;
@@ -167,11 +171,23 @@ fn compact_beside(alloc: Global, row: &Row) -> Result<String, AllocError> {
 
 /// The JSON text of three signatures by `KEYS`.
 fn general(alloc: Global, row: &Row) -> Result<String, AllocError> {
-    let mut text = signed(
+    let mut text = signed(alloc, row, "{\"payload\":\"", "\",")?;
+    text.push_str(&signatures(alloc, row)?)?;
+    Ok(text)
+}
+
+/// The JSON text beside the payload.
+fn general_beside(alloc: Global, row: &Row) -> Result<String, AllocError> {
+    let mut text = String::from_str(alloc, "{")?;
+    text.push_str(&signatures(alloc, row)?)?;
+    Ok(text)
+}
+
+/// What stands after the payload in the JSON text.
+fn signatures(alloc: Global, row: &Row) -> Result<String, AllocError> {
+    let mut text = String::from_str(
         alloc,
-        row,
-        "{\"payload\":\"",
-        "\",\"signatures\":[{\"protected\":\"eyJhbGciOiJIUzI1NiJ9\",\"signature\":\"",
+        "\"signatures\":[{\"protected\":\"eyJhbGciOiJIUzI1NiJ9\",\"signature\":\"",
     )?;
     text.push_str(row.first)?;
     text.push_str("\"},{\"protected\":\"eyJhbGciOiJIUzM4NCJ9\",\"signature\":\"")?;
@@ -246,6 +262,50 @@ fn a_payload_is_signed_beside_the_text_in_pieces_of_any_length(
             content.as_bytes(),
             answer,
         )?;
+    }
+    Ok(())
+}
+
+/// Verifying the payload beside the text accepts it, and no payload that is longer by an octet, whatever the input gives at a read.
+fn verifies_in_steps<R: Abort + AllocGlobal>(
+    rt: &R,
+    words: &[&str],
+    text: &str,
+    keys: &str,
+    row: &Row,
+) -> Result<(), Fail> {
+    let content = repeated(rt.alloc(), "", PIECE.0, row.count, row.last)?;
+    let longer = repeated(rt.alloc(), content.as_str(), "a", 1, "")?;
+    let given = Given {
+        text,
+        content: content.as_bytes(),
+        keys,
+        random: b"",
+    };
+    expect_in_steps(rt, words, &given, Answer::Nothing)?;
+    let changed = Given {
+        content: longer.as_bytes(),
+        ..given
+    };
+    expect_in_steps(rt, words, &changed, Answer::Refusal(Refusal::NotOpened))
+}
+
+#[test]
+fn a_payload_is_verified_beside_the_text_in_pieces_of_any_length(
+    rt: HostRuntime,
+) -> Result<(), Fail> {
+    for row in rows() {
+        let text = compact_beside(rt.alloc(), row)?;
+        verifies_in_steps(&rt, &CHECK_BESIDE, text.as_str(), RFC7515_KEY, row)?;
+    }
+    Ok(())
+}
+
+#[test]
+fn three_keys_verify_in_pieces_of_any_length(rt: HostRuntime) -> Result<(), Fail> {
+    for row in rows() {
+        let text = general_beside(rt.alloc(), row)?;
+        verifies_in_steps(&rt, &CHECK_ALL_BESIDE, text.as_str(), KEYS, row)?;
     }
     Ok(())
 }

@@ -2,9 +2,13 @@
 //! examples, RFC 7515 appendix A.1's key and RFC 7516 appendix A.3.
 ghost use Rattle.std.specs.Prelude.{◌<◌};
 
-use crate::tests::command_words::{DECRYPT, ENCRYPT_COMPACT, SIGN_COMPACT, VERIFY};
+use crate::tests::command_words::{
+    CHECK_ALL_BESIDE, CHECK_BESIDE, DECRYPT, ENCRYPT_COMPACT, SIGN_COMPACT, VERIFY, VERIFY_BESIDE,
+};
 use crate::tests::harness::{expect_octets, expect_same, owned};
-use crate::tests::samples::{ABC, ABC_BESIDE, ABC_FLATTENED_BESIDE, TEMPLATE};
+use crate::tests::samples::{
+    ABC, ABC_BESIDE, ABC_FLATTENED_BESIDE, ABC_GENERAL_BESIDE, TEMPLATE, TWO_KEYS,
+};
 use crate::tests::standards::rfc7515::RFC7515_KEY;
 use crate::tests::standards::rfc7516::{
     LINE, RFC7516_A3, RFC7516_A3_BESIDE, RFC7516_CIPHERTEXT, RFC7516_KEY, RFC7516_RANDOM,
@@ -99,6 +103,20 @@ const SIGNED: &[Row<'_>] = &[
         NONE,
         "",
         b"abc",
+    ),
+    (
+        &CHECK_BESIDE,
+        (ABC_BESIDE, b"abc", RFC7515_KEY, b""),
+        NONE,
+        "",
+        b"",
+    ),
+    (
+        &CHECK_ALL_BESIDE,
+        (ABC_GENERAL_BESIDE, b"abc", TWO_KEYS, b""),
+        NONE,
+        "",
+        b"",
     ),
     (
         &["jws", "fmt", "-O", "b"],
@@ -226,10 +244,10 @@ fn performed(
     })
 }
 
-/// The run met no failure, and wrote all.
-fn expect_whole<R: Abort>(rt: &R, row: &Row<'_>, run: &Run) {
+/// The run met no failure, and answered so; it wrote all.
+fn expect_whole<R: Abort>(rt: &R, row: &Row<'_>, answer: Result<(), Refusal>, run: &Run) {
     let (_, (at, ..), _, text, content) = *row;
-    expect_same(rt, run.result, Ok(()), at);
+    expect_same(rt, run.result, answer, at);
     expect_octets(rt, run.text.octets(), text.as_bytes(), at);
     expect_octets(rt, run.content.octets(), content, at);
     expect_same(rt, run.text.is_finished(), !text.is_empty(), at);
@@ -265,10 +283,11 @@ fn expect_told<R: Abort>(rt: &R, row: &Row<'_>, run: &Run, device: usize) {
     }
 }
 
-/// Each call of the device fails in turn, alone or with all after it, until a run meets no failure.
+/// Each call of the device fails in turn, alone or with all after it, until a run meets no failure, and answers so.
 fn fails_in_turn<R: Abort + AllocGlobal>(
     rt: &R,
     row: &Row<'_>,
+    answer: Result<(), Refusal>,
     device: usize,
     step: usize,
     is_alone: bool,
@@ -283,7 +302,7 @@ fn fails_in_turn<R: Abort + AllocGlobal>(
         };
         let run = performed(rt.alloc(), row, device, failing, step)?;
         if run.failures == [0; DEVICES] {
-            expect_whole(rt, row, &run);
+            expect_whole(rt, row, answer, &run);
             return Ok(());
         }
         expect_told(rt, row, &run, device);
@@ -291,14 +310,24 @@ fn fails_in_turn<R: Abort + AllocGlobal>(
     panic!(rt; "no run without a failure");
 }
 
+/// Each call of each device does.
+fn all_fail_in_turn<R: Abort + AllocGlobal>(
+    rt: &R,
+    row: &Row<'_>,
+    answer: Result<(), Refusal>,
+) -> Result<(), Fail> {
+    for device in 0..DEVICES {
+        fails_in_turn(rt, row, answer, device, 4096, true)?;
+        fails_in_turn(rt, row, answer, device, 4096, false)?;
+        fails_in_turn(rt, row, answer, device, 1, true)?;
+        fails_in_turn(rt, row, answer, device, 1, false)?;
+    }
+    Ok(())
+}
+
 fn each_fails_in_turn<R: Abort + AllocGlobal>(rt: &R, rows: &[Row<'_>]) -> Result<(), Fail> {
     for row in rows {
-        for device in 0..DEVICES {
-            fails_in_turn(rt, row, device, 4096, true)?;
-            fails_in_turn(rt, row, device, 4096, false)?;
-            fails_in_turn(rt, row, device, 1, true)?;
-            fails_in_turn(rt, row, device, 1, false)?;
-        }
+        all_fail_in_turn(rt, row, Ok(()))?;
     }
     Ok(())
 }
@@ -316,6 +345,30 @@ fn each_failure_is_told_of_signed_objects(rt: HostRuntime) -> Result<(), Fail> {
 #[test]
 fn each_failure_is_told_of_encrypted_objects(rt: HostRuntime) -> Result<(), Fail> {
     each_fails_in_turn(&rt, ENCRYPTED)
+}
+
+/// Objects and keys that are refused, whatever the payload beside them.
+const REFUSED: &[(&str, &str, Refusal)] = &[
+    (ABC_BESIDE, "{", Refusal::Json),
+    (ABC_BESIDE, "{\"kty\":\"EC\"}", Refusal::Key),
+    ("eyJhbGciOiJIUzI1NiJ9.", RFC7515_KEY, Refusal::Form),
+    (ABC, RFC7515_KEY, Refusal::Form),
+    ("eyJhbGciOiJub25lIn0..", RFC7515_KEY, Refusal::Unsupported),
+    (ABC_BESIDE, RFC7516_KEY, Refusal::KeyDoesNotFit),
+    ("eyJhbGciOiJIUzI1NiJ9..AA", RFC7515_KEY, Refusal::NotOpened),
+];
+
+/// A payload that fails is told before what its keys and its object are refused with, whether it is written or not.
+#[test]
+fn a_failing_payload_is_told_before_a_refusal(rt: HostRuntime) -> Result<(), Fail> {
+    for (text, keys, refusal) in REFUSED {
+        let words: [&[&str]; 2] = [&CHECK_BESIDE, &VERIFY_BESIDE];
+        for words in words {
+            let row: Row<'_> = (words, (text, b"abc", keys, b""), NONE, "", b"");
+            all_fail_in_turn(&rt, &row, Err(*refusal))?;
+        }
+    }
+    Ok(())
 }
 
 /// Of 10,000 zero octets the input fails after so many.

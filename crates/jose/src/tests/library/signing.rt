@@ -1,13 +1,13 @@
-//! What `jws_sign` signs `jws_verify` verifies, with its key alone. The signature is by Python's `hmac`.
+//! What `jws_sign` signs `jws_verify` and `jws_verify_detached` verify, with its key alone. The signature is by Python's `hmac`.
 use crate::tests::harness::{expect_octets, expect_same, expect_written};
-use crate::tests::samples::KEY_TO_31;
+use crate::tests::samples::{KEY_TO_15, KEY_TO_31};
 use crate::tests::standards::rfc7515::RFC7515_KEY;
 use keys::KeySet;
 use objects::Jws;
-use octets::{MemoryInput, MemoryOutput, Refusal};
+use octets::{Failing, FailingInput, MemoryInput, MemoryOutput, Refusal};
 use std::process::Abort;
 use std::test::Fail;
-use tokens::{jws_sign, jws_verify};
+use tokens::{jws_sign, jws_verify, jws_verify_detached};
 
 /// `abc` signed with `KEY_TO_31`.
 const ABC: &[u8] = b"eyJhbGciOiJIUzI1NiJ9.YWJj.8-sUlaJJTTOyeAYgv-kHNN9tT55A-tUCHOYatGHTJa0";
@@ -22,6 +22,9 @@ fn a_payload_is_signed_with_its_key(rt: HostRuntime) -> Result<(), Fail> {
     expect_octets(&rt, text.octets(), ABC, "the token");
     Ok(())
 }
+
+/// The same without its payload.
+const ABC_BESIDE: &[u8] = b"eyJhbGciOiJIUzI1NiJ9..8-sUlaJJTTOyeAYgv-kHNN9tT55A-tUCHOYatGHTJa0";
 
 /// Verifying `ABC` with the keys answers so, and this is written.
 fn expect_verified<R: Abort + AllocGlobal>(
@@ -54,4 +57,42 @@ fn a_signed_payload_verifies_with_its_key_alone(rt: HostRuntime) -> Result<(), F
     expect_verified(&rt, KEY_TO_31, false, Ok(()), b"")?;
     expect_verified(&rt, RFC7515_KEY, true, refused, b"")?;
     expect_verified(&rt, RFC7515_KEY, false, refused, b"")
+}
+
+/// Verifying `ABC_BESIDE` with the keys and this payload, which fails as said, answers so.
+fn expect_verified_beside<R: Abort + AllocGlobal>(
+    rt: &R,
+    keys: &str,
+    payload: &[u8],
+    failing: Failing,
+    answer: Result<(), Refusal>,
+) -> Result<(), Fail> {
+    let keys = KeySet::read(rt.alloc(), keys.as_bytes(), false)?;
+    let jws = Jws::read(rt.alloc(), ABC_BESIDE, Some(Vec::new(rt.alloc())))?;
+    let mut content = FailingInput::new(MemoryInput::new(payload, 2), failing);
+    let verified = jws_verify_detached(rt.alloc(), &keys, &jws, &mut content, true);
+    expect_same(rt, verified, answer, "verifying");
+    Ok(())
+}
+
+#[test]
+fn a_payload_beside_its_text_verifies_with_its_key_alone(rt: HostRuntime) -> Result<(), Fail> {
+    let never = Failing::Once(u64::MAX);
+    let refused = Err(Refusal::NotOpened);
+    expect_verified_beside(&rt, KEY_TO_31, b"abc", never, Ok(()))?;
+    expect_verified_beside(&rt, KEY_TO_31, b"abd", never, refused)?;
+    expect_verified_beside(&rt, RFC7515_KEY, b"abc", never, refused)?;
+    let unfit = Err(Refusal::KeyDoesNotFit);
+    expect_verified_beside(&rt, KEY_TO_15, b"abc", never, unfit)
+}
+
+#[test]
+fn a_payload_that_fails_is_told_first(rt: HostRuntime) -> Result<(), Fail> {
+    let told = Err(Refusal::Read);
+    for key in [KEY_TO_31, RFC7515_KEY, KEY_TO_15] {
+        for call in 0..3 {
+            expect_verified_beside(&rt, key, b"abc", Failing::Once(call), told)?;
+        }
+    }
+    Ok(())
 }
