@@ -6,7 +6,8 @@
 //! - `standards` has the examples and the tables of the RFCs, a file a standard.
 //! - `commands` has rows of each command, a file a command, and `causes` which of several causes is told.
 //! - `peers` has objects of other programs: latchset's `jose`, jwcrypto, go-jose, and texts composed with Python's `cryptography`.
-//! - `contents` has contents of many lengths and long ones, and `devices` reads and writes that fail.
+//! - `contents` has contents of many lengths and long ones, and keys, headers and texts of rare shapes; `devices` has reads and writes that
+//!   fail.
 //! - `hostile` has texts that nobody wrote in good faith.
 //! - `library` has calls of the crates below: keys, headers and objects that are read, built and written.
 //! - `table` prints the table of commands for the scripts.

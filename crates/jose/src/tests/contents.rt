@@ -1,12 +1,18 @@
-//! Contents of many lengths, in pieces, and long ones, and lists that are long: what is told of them does not depend on the reads.
+//! Contents of many lengths, in pieces, and long ones, and lists that are long: what is told of them does not depend on the reads. Keys,
+//! headers and texts of rare shapes, which are treated like any other.
 
+mod algorithms;
+mod base64url;
+mod beside;
 mod encrypted;
+mod headers;
 mod long;
 mod many;
 mod pieces;
+mod shapes;
 
-use crate::tests::harness::{Answer, Given, ROOM, expect_done, outcome};
-use crate::tests::samples::repeated;
+use crate::tests::harness::{Answer, Given, ROOM, expect, expect_done, outcome};
+use crate::tests::samples::{OCTETS_FROM_1, repeated};
 use std::alloc::{AllocError, Global};
 use std::process::Abort;
 use std::test::Fail;
@@ -44,4 +50,21 @@ pub(crate) fn with_aad(alloc: Global, count: usize, template: &str) -> Result<St
     let mut text = repeated(alloc, "{\"aad\":\"", PIECE.1, count, "\",")?;
     text.push_str(template.strip_prefix('{').unwrap_or(""))?;
     Ok(text)
+}
+
+/// Words, a text, a content beside it, keys, and what the words do.
+pub(crate) type Row<'a> = (&'a [&'a str], &'a str, &'a [u8], &'a str, Answer<'a>);
+
+/// In each row the words do so. What is encrypted draws the octets 1 to 80.
+pub(crate) fn answers_each<R: Abort + AllocGlobal>(rt: &R, rows: &[Row<'_>]) -> Result<(), Fail> {
+    for (words, text, content, keys, answer) in rows {
+        let given = Given {
+            text,
+            content,
+            keys,
+            random: OCTETS_FROM_1,
+        };
+        expect(rt, words, &given, *answer)?;
+    }
+    Ok(())
 }
