@@ -1,8 +1,8 @@
 //! Devices that fail when they are told to, and by how many calls a whole content is read, written and passed on.
 use crate::tests::expect_same;
 use crate::{
-    B64Writer, Failing, FailingInput, FailingOutput, MemoryInput, Output, Refusal, emit, pump,
-    read_to_end,
+    B64Writer, Failing, FailingInput, FailingOutput, MemoryInput, Output, Refusal, draw, emit,
+    pump, read_to_end,
 };
 use std::process::Abort;
 use std::test::Fail;
@@ -47,6 +47,28 @@ fn octets_are_read_to_their_end_by_two_calls(rt: HostRuntime) {
     for &(failing, answer) in CALLS_OF_AN_INPUT {
         let read = read_to_end(rt.alloc(), &mut abc(failing)).map(|octets| octets.len());
         expect_same(&rt, read, answer, failing);
+    }
+}
+
+/// Which calls of an input fail, or after how many octets, and what comes of drawing three octets and of drawing four.
+const CALLS_OF_A_DRAW: &[(Failing, Result<(), Refusal>, Result<(), Refusal>)] = &[
+    (Failing::Once(0), Err(Refusal::Read), Err(Refusal::Read)),
+    (Failing::Once(1), Ok(()), Err(Refusal::Read)),
+    (Failing::Once(2), Ok(()), Err(Refusal::Random)),
+    (Failing::From(1), Ok(()), Err(Refusal::Read)),
+    (Failing::From(2), Ok(()), Err(Refusal::Random)),
+    (Failing::After(2), Err(Refusal::Read), Err(Refusal::Read)),
+    (Failing::After(3), Ok(()), Err(Refusal::Read)),
+];
+
+/// All octets that there are are drawn by one call, and a second one finds that there are no more.
+#[test]
+fn octets_are_drawn_by_one_call(rt: HostRuntime) {
+    for &(failing, three, four) in CALLS_OF_A_DRAW {
+        let drawn = draw(&mut abc(failing), &mut [0; 3]);
+        expect_same(&rt, drawn, three, failing);
+        let drawn = draw(&mut abc(failing), &mut [0; 4]);
+        expect_same(&rt, drawn, four, failing);
     }
 }
 

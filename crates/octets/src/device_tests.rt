@@ -120,50 +120,65 @@ fn expect_reading<R: Read>(
     }
 }
 
-/// Of a reader that fails so once, the first read is a fault, and no more than it. The next gives the octets from their front.
-fn fails_to_read_once<R: Abort + AllocGlobal>(rt: &R, kind: ErrorKind) {
-    let mut reader = Failing::new(rt.alloc(), kind, 1, b"abc");
+/// Each of so many reads that fail so is a fault, and no more than it. The next gives the octets from their front.
+fn fails_to_read<R: Abort + AllocGlobal>(rt: &R, kind: ErrorKind, times: usize) {
+    let mut reader = Failing::new(rt.alloc(), kind, times, b"abc");
     let mut input = ReaderInput::new(&mut reader);
-    expect_reading(rt, &mut input, Err(Fault::Reading), kind);
+    for _ in 0..times {
+        expect_reading(rt, &mut input, Err(Fault::Reading), kind);
+    }
     expect_reading(rt, &mut input, Ok(3), kind);
     drop(input);
-    expect_same(rt, reader.calls, 2, kind);
+    expect_same(rt, reader.calls, times.saturating_add(1), kind);
 }
 
-/// Of a writer that fails so once, the first write is a fault, and no more than it. The next takes the octets.
-fn fails_to_write_once<R: Abort + AllocGlobal>(rt: &R, kind: ErrorKind) {
-    let mut writer = Failing::new(rt.alloc(), kind, 1, b"");
+/// Each of so many writes that fail so is a fault, and no more than it. The next takes the octets.
+fn fails_to_write<R: Abort + AllocGlobal>(rt: &R, kind: ErrorKind, times: usize) {
+    let mut writer = Failing::new(rt.alloc(), kind, times, b"");
     let mut out = WriterOutput::new(&mut writer);
-    expect_same(rt, out.write(b"abc"), Err(Fault::Writing), kind);
+    for _ in 0..times {
+        expect_same(rt, out.write(b"abc"), Err(Fault::Writing), kind);
+    }
     expect_same(rt, out.write(b"def"), Ok(3), kind);
     expect_same(rt, out.finish(), Ok(()), kind);
     drop(out);
-    expect_same(rt, (writer.calls, writer.flushes), (3, 1), kind);
+    let calls = (writer.calls, writer.flushes);
+    expect_same(rt, calls, (times.saturating_add(2), 1), kind);
     expect_octets(rt, &writer.taken, b"def");
 }
 
-/// Of a writer whose flush fails so once, the end is a fault, and no more than it. The next end is none.
-fn fails_to_finish_once<R: Abort + AllocGlobal>(rt: &R, kind: ErrorKind) {
-    let mut writer = Failing::new(rt.alloc(), kind, 1, b"");
+/// Each of so many ends whose flush fails so is a fault, and no more than it. The next end is none.
+fn fails_to_finish<R: Abort + AllocGlobal>(rt: &R, kind: ErrorKind, times: usize) {
+    let mut writer = Failing::new(rt.alloc(), kind, times, b"");
     let mut out = WriterOutput::new(&mut writer);
-    expect_same(rt, out.finish(), Err(Fault::Writing), kind);
+    for _ in 0..times {
+        expect_same(rt, out.finish(), Err(Fault::Writing), kind);
+    }
     expect_same(rt, out.finish(), Ok(()), kind);
     drop(out);
-    expect_same(rt, (writer.calls, writer.flushes), (2, 1), kind);
+    let calls = (writer.calls, writer.flushes);
+    expect_same(rt, calls, (times.saturating_add(1), 1), kind);
 }
 
+/// How often a call fails in a row, before it works.
+const TIMES: &[usize] = &[1, 2, 3];
+
 #[test]
-fn each_kind_of_failure_is_told_once(rt: HostRuntime) {
+fn each_kind_of_failure_is_told_as_often_as_it_comes(rt: HostRuntime) {
     for kind in KINDS {
-        fails_to_read_once(&rt, *kind);
-        fails_to_write_once(&rt, *kind);
-        fails_to_finish_once(&rt, *kind);
+        for times in TIMES {
+            fails_to_read(&rt, *kind, *times);
+            fails_to_write(&rt, *kind, *times);
+            fails_to_finish(&rt, *kind, *times);
+        }
     }
 }
 
-/// A writer whose writes work, and whose flush fails once.
+/// A writer whose writes work, and of whose flushes so many fail with one kind.
 #[derive(Drop)]
 struct FailingAtItsEnd {
+    kind: ErrorKind,
+    failures: usize,
     taken: Vec<u8>,
     flushes: usize,
 }
@@ -176,27 +191,40 @@ impl Write for FailingAtItsEnd {
 
     fn flush(&mut self) -> io::Result<()> {
         self.flushes = self.flushes.saturating_add(1);
-        if self.flushes == 1 {
-            Err(io::Error::from(ErrorKind::StorageFull))
+        if self.flushes <= self.failures {
+            Err(io::Error::from(self.kind))
         } else {
             Ok(())
         }
     }
 }
 
-#[test]
-fn an_end_that_fails_is_told_though_all_was_taken(rt: HostRuntime) {
+/// What was written stands once, and each end that fails so is told.
+fn ends_after_failures<R: Abort + AllocGlobal>(rt: &R, kind: ErrorKind, failures: usize) {
     let mut writer = FailingAtItsEnd {
+        kind,
+        failures,
         taken: Vec::new(rt.alloc()),
         flushes: 0,
     };
     let mut out = WriterOutput::new(&mut writer);
-    expect_same(&rt, write_whole(&mut out, b"abc"), Ok(()), "writing");
-    expect_same(&rt, out.finish(), Err(Fault::Writing), "the first end");
-    expect_same(&rt, out.finish(), Ok(()), "the second end");
+    expect_same(rt, write_whole(&mut out, b"abc"), Ok(()), kind);
+    for _ in 0..failures {
+        expect_same(rt, out.finish(), Err(Fault::Writing), kind);
+    }
+    expect_same(rt, out.finish(), Ok(()), kind);
     drop(out);
-    expect_same(&rt, writer.flushes, 2, "flushes");
-    expect_octets(&rt, &writer.taken, b"abc");
+    expect_same(rt, writer.flushes, failures.saturating_add(1), kind);
+    expect_octets(rt, &writer.taken, b"abc");
+}
+
+#[test]
+fn an_end_that_fails_is_told_though_all_was_taken(rt: HostRuntime) {
+    for kind in KINDS {
+        for failures in TIMES {
+            ends_after_failures(&rt, *kind, *failures);
+        }
+    }
 }
 
 /// The end after a write that failed is asked of the writer, and is that of what it took.
@@ -212,7 +240,7 @@ fn an_output_is_finished_after_a_write_that_failed(rt: HostRuntime) {
 }
 
 /// How many signals interrupt a call, one after another.
-const MANY: usize = 1000;
+const MANY: usize = 100_000;
 
 #[test]
 fn a_read_is_made_again_after_many_interruptions(rt: HostRuntime) {
