@@ -1,4 +1,6 @@
 //! GCM: test cases of its specification (McGrew and Viega), texts that are cut, and what does not open.
+ghost use Rattle.std.specs.Prelude.{◌<◌};
+
 use crate::tests::{expect_octets, expect_same};
 use crate::{Gcm, gcm_open};
 use aes::{Aes128, Aes192, Aes256, Block};
@@ -166,6 +168,32 @@ fn a_cut_changes_nothing(rt: HostRuntime) -> Result<(), Fail> {
     for step in 1..50_usize {
         let sealed = gcm(&rt, rt.alloc(), Aes128::new(&key), IV, AAD, text, step)?;
         expect_same(&rt, &sealed, &whole, step);
+    }
+    Ok(())
+}
+
+// The GCM ciphertext and the tag of 50 octets that are cut into two pieces after so many.
+fn gcm_in_two(rt: &impl Abort, alloc: Global, cut: usize) -> Result<(Vec<u8>, [u8; 16]), AllocError>
+    requires { cut < 51 }
+{
+    let mut all = Vec::new(alloc);
+    let mut out = [0; 4112];
+    let mut gcm = Gcm::start(Aes128::new(&[0; 16]), IV, AAD);
+    let (front, back) = PLAINTEXT[..50].split_at(cut);
+    let n = gcm.feed(front, &mut out).expect(rt, "no limit");
+    all.extend_from_slice(&out[..n])?;
+    let n = gcm.feed(back, &mut out).expect(rt, "no limit");
+    all.extend_from_slice(&out[..n])?;
+    Ok((all, gcm.finish()))
+}
+
+#[test]
+fn a_cut_into_two_pieces_changes_nothing(rt: HostRuntime) -> Result<(), Fail> {
+    let text = &PLAINTEXT[..50];
+    let whole = gcm(&rt, rt.alloc(), Aes128::new(&[0; 16]), IV, AAD, text, 50)?;
+    for cut in 0..51_usize {
+        let sealed = gcm_in_two(&rt, rt.alloc(), cut)?;
+        expect_same(&rt, &sealed, &whole, cut);
     }
     Ok(())
 }

@@ -326,3 +326,58 @@ fn sp800_38a_appendix_f5_1(rt: HostRuntime) -> Result<(), Fail> {
     }
     Ok(())
 }
+
+// The CBC ciphertext of 50 octets that are cut into two pieces after so many.
+fn cbc_in_two(alloc: Global, cut: usize) -> Result<Vec<u8>, AllocError>
+    requires { cut < 51 }
+{
+    let mut all = Vec::new(alloc);
+    let mut out = [0; 4112];
+    let mut cbc = Cbc::start(Toy::new(), &IV);
+    let n = cbc.feed(&TEXT[..cut], &mut out);
+    all.extend_from_slice(&out[..n])?;
+    let n = cbc.feed(&TEXT[cut..50], &mut out);
+    all.extend_from_slice(&out[..n])?;
+    let mut last = [0; 16];
+    cbc.finish(&mut last);
+    all.extend_from_slice(&last)?;
+    Ok(all)
+}
+
+// These octets in counter mode, cut so.
+fn ctr_in_two(alloc: Global, cut: usize) -> Result<Vec<u8>, AllocError>
+    requires { cut < 51 }
+{
+    let mut all = Vec::new(alloc);
+    let mut out = [0; 4112];
+    let mut ctr = Ctr32::start(Toy::new(), &IV);
+    let n = ctr.feed(&TEXT[..cut], &mut out);
+    all.extend_from_slice(&out[..n])?;
+    let n = ctr.feed(&TEXT[cut..50], &mut out);
+    all.extend_from_slice(&out[..n])?;
+    ctr.finish();
+    Ok(all)
+}
+
+// Their sum, cut so.
+fn ghash_in_two(cut: usize) -> [u8; 16]
+    requires { cut < 51 }
+{
+    let mut ghash = Ghash::start(&IV);
+    ghash.feed(&TEXT[..cut]);
+    ghash.feed(&TEXT[cut..50]);
+    ghash.finish()
+}
+
+#[test]
+fn a_cut_into_two_pieces_changes_nothing(rt: HostRuntime) -> Result<(), Fail> {
+    let ciphertext = cbc(&rt, rt.alloc(), Toy::new(), &IV, &TEXT[..50], 50)?;
+    let counted = ctr(&rt, rt.alloc(), Toy::new(), &IV, &TEXT[..50], 50)?;
+    let sum = ghash(&rt, &IV, &TEXT[..50], 50);
+    for cut in 0..51_usize {
+        expect_octets(&rt, &cbc_in_two(rt.alloc(), cut)?, &ciphertext);
+        expect_octets(&rt, &ctr_in_two(rt.alloc(), cut)?, &counted);
+        expect_same(&rt, ghash_in_two(cut), sum, cut);
+    }
+    Ok(())
+}
