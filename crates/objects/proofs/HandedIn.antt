@@ -1,4 +1,4 @@
--- A signed object whose payload is handed in, by this payload: its text is read alike beside each.
+-- The text of a signed object whose payload is detached is read alike with every payload.
 use Rattle.std.proofs.Common.{◌≡◌, ℕ, List, [], ◌∷◌, Bool, true, false, not, if◌then◌else◌, codes, length, Some, Result, Ok, Err, refl, sym, ap, ◌∙◌}
 use Rattle.serde_json.specs.Data.{Data, Items, no_members}
 use Rattle.octets.specs.declared.refusal.Refusal.{Refusal}

@@ -78,7 +78,7 @@ pub fn jws_compact_texts_are_exact()
     base64url_decodes_to_octets();
 }
 
-/// A text of a signed object is read beside a payload that is handed in as it is beside an empty one, but for the payload.
+/// A text of a signed object is read with a detached payload as it is with an empty one, except for the payload.
 pub fn jws_payload_is_handed_in()
     ensures { PayloadIsHandedIn }
 {

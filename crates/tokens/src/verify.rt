@@ -60,8 +60,8 @@ fn verified(keys: &KeySet, jws: &Jws<'_>, all: bool) -> Result<(), Refusal>
     verdict(keys, jws.signatures(), are_verified(all, keys, jws))
 }
 
-/// What verifying answers where the signatures are right, or are not. Refused with `Unsupported` where no algorithm is supported,
-/// with `KeyDoesNotFit` where no key may verify and fits, and with `NotOpened` where they are not right.
+/// What verifying answers if the signatures are right, or if they are not. Refused with `Unsupported` if no algorithm is supported,
+/// with `KeyDoesNotFit` if no key may verify and fits, and with `NotOpened` if they are not right.
 #[tactic(auto, unfolding(crate::specs::Verifying::verified_payload), using(crate::proofs::Tests::views))]
 fn verdict(keys: &[Key], signatures: &[Signature], are_right: bool) -> Result<(), Refusal>
     ensures { (all : Bool) (payload : List ℕ) → are_right ≡ are_verified_by all (map key_view keys.now) (record { payload = payload; signatures = map signature_view signatures.now })
