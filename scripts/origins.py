@@ -54,8 +54,8 @@ PLACES = [
     ("keys/src/set.rt", "read_keys", "match read_key(alloc, value) { Ok(key) => keys.push(key)?, Err(Refusal::Memory) => return Err(Refusal::Memory),", "passed on"),
     ("jose/src/words/options.rt", "refusal_for", "fn refusal_for(error: &Error) -> Refusal { if error.kind() == ErrorKind::OutOfMemory { Refusal::Memory }",
      "clap's error for memory"),
-    ("jose/src/main.rt", "placeholder", "match File::open(rt, FOLDER) { Ok(folder) if folder.as_raw_fd() <= 2 => Ok(Some(folder)), "
-     "Err(e) if e.kind() == io::ErrorKind::OutOfMemory => Err(Refusal::Memory),", "std's error for memory"),
+    ("jose/src/main.rt", "placeholder", "match File::open(rt, folder) { Ok(folder) if folder.as_raw_fd() <= 2 => return Ok(Some(folder)), Ok(_) => return Ok(None), "
+     "Err(e) if e.kind() == io::ErrorKind::OutOfMemory => return Err(Refusal::Memory),", "std's error for memory"),
     ("jose/src/main.rt", "perform", "match std::env::args(rt) { Ok(args) => args, Err(e) if e.kind() == io::ErrorKind::OutOfMemory => return Err(Refusal::Memory),",
      "std's error for memory"),
 

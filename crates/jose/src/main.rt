@@ -29,20 +29,24 @@ pub use words::invocation::{Invocation, Setting};
 pub use words::parse;
 pub use words::table::Command;
 
-/// What can be opened, and neither read nor written.
-const FOLDER: &str = "/";
+/// What can be opened, and neither read nor written. Where the root may not be opened, another folder mostly may.
+const FOLDERS: &[&str] = &["/", ".", "/dev", "/proc", "/etc", "/tmp"];
 
 /// Takes the number of a standard stream that is closed for as long as it is held, and can be neither read nor written there. The next
-/// file that is opened would take the number, and be read or written in place of the stream. `None` where the lowest free number is
-/// none of the three, and where the folder cannot be opened.
+/// file that is opened would take the number, and be read or written in place of the stream. `None` if the lowest free number is
+/// none of the three, or if no folder can be opened.
 fn placeholder(rt: &HostRuntime) -> Result<Option<File>, Refusal>
     ensures { IfErr result (λ refusal. refusal ≡ Refusal.Memory) }
 {
-    match File::open(rt, FOLDER) {
-        Ok(folder) if folder.as_raw_fd() <= 2 => Ok(Some(folder)),
-        Err(e) if e.kind() == io::ErrorKind::OutOfMemory => Err(Refusal::Memory),
-        _ => Ok(None),
+    for folder in FOLDERS {
+        match File::open(rt, folder) {
+            Ok(folder) if folder.as_raw_fd() <= 2 => return Ok(Some(folder)),
+            Ok(_) => return Ok(None),
+            Err(e) if e.kind() == io::ErrorKind::OutOfMemory => return Err(Refusal::Memory),
+            Err(_) => {}
+        }
     }
+    Ok(None)
 }
 
 /// Reads the words, and does what they ask over files and the standard streams. Words that are not
