@@ -1,7 +1,7 @@
 -- Lists that are read or written piece by piece.
 use Rattle.std.proofs.Common.{◌≡◌, ℕ, ◌+◌, ◌-◌, ◌≤◌, List, ◌++◌, length, take, drop, refl, sym, ◌∙◌, ap, arith, append_assoc, length-append, length-drop}
 use Rattle.std.proofs.Math.Seq.{take-add, take-append-add, take-append_seam, take-length}
-use Rattle.std.proofs.lemmas.List.{take-append-le, length-take-le}
+use Rattle.std.proofs.lemmas.List.{take-append-le, take-append-drop, drop-append-le, length-take-le}
 use Rattle.std.proofs.lemmas.Slice.{put_mid-paste}
 use borrow.Rule.Slice.PartMut.{put_mid}
 
@@ -33,3 +33,9 @@ length-filled f k xs ys in_range rest len =
     ap length (put_mid-paste f k xs ys ys k refl refl (sym len))
     ∙ length-append (take f xs ++ take k ys) (drop (f + k) xs)
     ∙ omega (arith, length-append (take f xs) (take k ys), length-take-le f xs in_range, length-take-le k ys (omega arith), length-drop (f + k) xs)
+
+-- what lies behind octets that were put into the front of a part is as it was in the whole
+pub drop-part : (n k : ℕ) (put whole : List ℕ) → n ≤ length put → n ≤ length (take k whole) → drop n put ≡ drop n (take k whole) → drop n (put ++ drop k whole) ≡ drop n whole
+drop-part n k put whole within fits same =
+    drop-append-le n put (drop k whole) within ∙ ap (λ l. l ++ drop k whole) same ∙ sym (drop-append-le n (take k whole) (drop k whole) fits)
+    ∙ ap (drop n) (take-append-drop k whole)

@@ -8,7 +8,7 @@ use Rattle.octets.proofs.Agreement.{at_refusal}
 -- where it is the only output that may be told, none is told
 pub not_told : (e : Refusal) (c : Counts) → (e ≡ Write → SomeFailed (c ∷ [])) → DidNotFail e c → e ≢ Write
 not_told e c told spared is = elim (told is) [
-  | inl rose ↦ let more : c.old < c.new = rose (spared is).0 in absurd (omega (arith, more, (spared is).1))
+  | inl failed ↦ absurd (omega (arith, failed, (spared is).0, (spared is).1))
   | inr none ↦ none
 ]
 

@@ -1,20 +1,20 @@
 -- What a call does to a device, which is seen as the octets that have passed through it and the count of its failures.
-use Rattle.std.specs.Prelude.{◌≡◌, ℕ, ◌+◌, ◌-◌, ◌<◌, ◌≤◌, ◌^◌, min, Bool, List, [], ◌++◌, length, take, drop, IsTrue}
+use Rattle.std.specs.Prelude.{◌≡◌, ℕ, ◌+◌, ◌-◌, ◌≤◌, ◌^◌, min, Bool, List, [], ◌++◌, length, take, drop, IsTrue}
 use Rattle.std.specs.Iterator.{Count, IsFinite, size}
 use Rattle.octets.specs.Octets.{IsOctets}
 
--- ---- the count of failures
+-- ---- the counts of failures, and of the ends of an output
 
 abbrev pub greatest_count : ℕ
 greatest_count = 2 ^ 64 - 1
 
--- the count after one more failure; it stays at its greatest value
+-- the count after one more; it stays at its greatest value
 abbrev pub next_count : ℕ → ℕ
 next_count n = min (n + 1) greatest_count
 
--- the count has risen, unless it stood at its greatest value
-abbrev pub Rose : ℕ → ℕ → Type 0
-Rose old new = old < greatest_count → old < new
+-- an output was finished once more, and is
+abbrev pub IsFinishedOnce : {D : Type 0} → (D → Bool) → (D → ℕ) → D → D → Type 0
+IsFinishedOnce is_finished endings old new = IsTrue (is_finished new) × (endings new ≡ next_count (endings old))
 
 -- ---- how far it is to the end
 

@@ -39,6 +39,9 @@ output_written s = s.output.octets
 abbrev pub output_is_finished : FailingOutput → Bool
 output_is_finished s = s.output.is_finished
 
+abbrev pub output_endings : FailingOutput → ℕ
+output_endings s = s.output.endings
+
 -- how much it takes in all
 abbrev pub output_room : FailingOutput → ℕ
 output_room s = s.output.room

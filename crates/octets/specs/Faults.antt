@@ -2,7 +2,7 @@
 use Rattle.std.specs.Prelude.{◌≡◌, ◌≢◌, ◌<◌, ◌⊎◌, ℕ, List, [], ◌∷◌, ⊤, Result, OnOk, IfErr, IsErrOf}
 use Rattle.octets.specs.declared.refusal.Refusal.{Refusal}
 use Rattle.octets.specs.declared.refusal.Refusal.TheVariants.{Read, Write}
-use Rattle.octets.specs.Devices.{greatest_count, Rose}
+use Rattle.octets.specs.Devices.{greatest_count, next_count}
 
 -- how often a device had failed before the call, and after it
 pub record Counts : Type 0 where
@@ -17,12 +17,13 @@ abbrev pub NoneFailed : List Counts → Type 0
 NoneFailed [] = ⊤
 NoneFailed (c ∷ cs) = (c.new ≡ c.old) × NoneFailed cs
 
--- some device did
+-- some device did, once
 abbrev pub SomeFailed : List Counts → Type 0
 SomeFailed [] = ⊥
-SomeFailed (c ∷ cs) = Rose c.old c.new ⊎ SomeFailed cs
+SomeFailed (c ∷ cs) = (c.new ≡ next_count c.old) ⊎ SomeFailed cs
 
--- A device that failed in the call is told, and no other is: no success and no other refusal, as Memory, hides a failure.
+-- A device that failed in the call is told, and no other is: no success and no other refusal, as Memory, hides a failure. No device
+-- is called again once it failed.
 pub record TellsFaults {X : Type 0} (inputs outputs : List Counts) (result : Result X Refusal) : Type 0 where
   pub works : OnOk result (NoneFailed inputs × NoneFailed outputs)
   pub read : IsErrOf result Read → SomeFailed inputs

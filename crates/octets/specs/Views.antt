@@ -42,6 +42,7 @@ pub record Store : Type 0 where
   pub octets : List ℕ
   pub room : ℕ
   pub is_finished : Bool
+  pub endings : ℕ
   pub failures : ℕ
 
 -- how many of n octets it still takes
@@ -77,6 +78,9 @@ written_of s = s.transcript.octets
 
 abbrev pub is_finished_of : {W : Type 0} → WriterOutput W → Bool
 is_finished_of s = s.is_finished
+
+abbrev pub endings_of : {W : Type 0} → WriterOutput W → ℕ
+endings_of s = s.endings
 
 abbrev pub write_failures_of : {W : Type 0} → WriterOutput W → ℕ
 write_failures_of s = s.failures

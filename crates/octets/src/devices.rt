@@ -1,7 +1,8 @@
-//! Where octets come from and where they go. Each device counts its failures, up to 2^64 - 1.
+//! Where octets come from and where they go. Each device counts its failures, and each output how often it was finished, up to
+//! 2^64 - 1.
 ghost use Rattle.std.specs.Prelude.{◌≡◌, ℕ, ◌<◌, ◌≤◌, Bool, false, List, ◌++◌, length, take, IfOk, IfErr, OnOk, OnErr, Ok, MatchResult, IsTrue};
 ghost use Rattle.std.specs.Iterator.{Count};
-ghost use Rattle.octets.specs.Devices.{next_count, ComesNearer};
+ghost use Rattle.octets.specs.Devices.{next_count, ComesNearer, IsFinishedOnce};
 ghost use Rattle.octets.specs.Octets.{IsOctets};
 
 use crate::Fault;
@@ -21,7 +22,7 @@ pub trait Input {
     ghost failures: { Self → ℕ };
 
     /// Reads octets into the front of `buf`, and answers how many: 0 for a `buf` with room only at
-    /// the end. After a failure nothing is said of what `buf` holds. A read without room does nothing.
+    /// the end. A read that fails finds no end, and may leave anything in `buf`. A read without room does nothing.
     fn read(&mut self, buf: &mut [u8]) -> Result<usize, Fault>
         ensures octets { IfOk result (λ n. (n ≤ length buf.old)
             × (consumed self.new ≡ consumed self.old ++ take n buf.new)) }
@@ -35,6 +36,7 @@ pub trait Input {
         ensures works { OnOk result (failures self.new ≡ failures self.old) }
         ensures fails { IfErr result (λ e. (e ≡ Fault.Reading)
             × (consumed self.new ≡ consumed self.old)
+            × (is_at_end self.new ≡ is_at_end self.old)
             × (failures self.new ≡ next_count (failures self.old))) };
 
     /// What its reads have given is octets.
@@ -49,6 +51,9 @@ pub trait Output {
     /// All that it has taken was brought to where it belongs.
     ghost is_finished: { Self → Bool };
 
+    /// How often it was finished.
+    ghost endings: { Self → ℕ };
+
     /// How often it has failed.
     ghost failures: { Self → ℕ };
 
@@ -60,6 +65,7 @@ pub trait Output {
         ensures some { result ≡ Ok 0 → length octets.now ≡ 0 }
         ensures nothing { length octets.now ≡ 0 → (result ≡ Ok 0) × (self.new ≡ self.old) }
         ensures unfinished { 0 < length octets.now → is_finished self.new ≡ false }
+        ensures endings { endings self.new ≡ endings self.old }
         ensures works { OnOk result (failures self.new ≡ failures self.old) }
         ensures fails { IfErr result (λ e. (e ≡ Fault.Writing)
             × (written self.new ≡ written self.old)
@@ -68,16 +74,16 @@ pub trait Output {
     /// Brings all that was taken to where it belongs.
     fn finish(&mut self) -> Result<(), Fault>
         ensures same { written self.new ≡ written self.old }
-        ensures works { OnOk result (IsTrue (is_finished self.new)
-            × (failures self.new ≡ failures self.old)) }
+        ensures works { OnOk result (failures self.new ≡ failures self.old) }
         ensures fails { IfErr result (λ e. (e ≡ Fault.Writing)
             × (failures self.new ≡ next_count (failures self.old))) }
-        ensures kept { OnErr result (is_finished self.new ≡ is_finished self.old) };
+        ensures finished { OnOk result (IsFinishedOnce is_finished endings self.old self.new) }
+        ensures kept { OnErr result ((is_finished self.new ≡ is_finished self.old) × (endings self.new ≡ endings self.old)) };
 }
 
-/// Counts one more failure.
-pub(crate) fn count_failure(failures: &mut u64)
-    ensures { failures.new ≡ next_count failures.old }
+/// Counts one more.
+pub(crate) fn count_one(count: &mut u64)
+    ensures { count.new ≡ next_count count.old }
 {
-    *failures = failures.saturating_add(1);
+    *count = count.saturating_add(1);
 }

@@ -1,10 +1,10 @@
 //! Devices over memory that fail, to show what a call leaves behind where one of its devices does.
-ghost use Rattle.std.specs.Prelude.{◌≡◌, ◌↔◌, ◌+◌, ◌<◌, ◌≤◌, [], ◌++◌, length, take, min, true, false, IfOk, IfErr, IsOk, OnOk, OnErr, Ok, Err, MatchResult, IsTrue};
-ghost use Rattle.octets.specs.Devices.{next_count, ComesNearer};
+ghost use Rattle.std.specs.Prelude.{◌≡◌, ◌↔◌, ◌+◌, ◌<◌, ◌≤◌, [], ◌++◌, length, take, drop, min, true, false, IfOk, IfErr, IsOk, OnOk, OnErr, Ok, Err, MatchResult, IsTrue};
+ghost use Rattle.octets.specs.Devices.{next_count, ComesNearer, IsFinishedOnce};
 ghost use Rattle.octets.specs.Failing.{is_due, room_for, begun, fails_next, after_call, after_failure};
 ghost use Rattle.octets.specs.Views.{front_of, is_read, rest_of, read_count, write_count};
 
-use crate::devices::count_failure;
+use crate::devices::count_one;
 use crate::{Fault, Input, MemoryInput, MemoryOutput, Output, Refusal};
 use std::alloc::Global;
 
@@ -98,6 +98,8 @@ impl<'a> Input for FailingInput<'a> {
             (room_for (input_course self.old).failing (input_course self.old).passed (length buf.old))) }
         ensures moves { 0 < length buf.old → IfOk result (λ n. input_contents self.new
             ≡ record (input_contents self.old) { position = (input_contents self.old).position + n }) }
+        ensures rest { MatchResult result (λ n. drop n buf.new ≡ drop n buf.old)
+            (λ _. (buf.new ≡ buf.old) × (input_contents self.new ≡ input_contents self.old)) }
         ensures course { 0 < length buf.old → MatchResult result
             (λ n. input_course self.new ≡ after_call n (input_course self.old))
             (λ _. input_course self.new ≡ after_failure (input_course self.old)) }
@@ -115,6 +117,7 @@ impl<'a> Input for FailingInput<'a> {
         ensures works { OnOk result (input_failures self.new ≡ input_failures self.old) }
         ensures fails { IfErr result (λ e. (e ≡ Fault.Reading)
             × (input_consumed self.new ≡ input_consumed self.old)
+            × (input_is_at_end self.new ≡ input_is_at_end self.old)
             × (input_failures self.new ≡ next_count (input_failures self.old))) }
     {
         if buf.is_empty() {
@@ -123,7 +126,7 @@ impl<'a> Input for FailingInput<'a> {
         let is_due = self.failing.is_due(self.calls, self.passed);
         self.calls = self.calls.saturating_add(1);
         if is_due {
-            count_failure(&mut self.failures);
+            count_one(&mut self.failures);
             return Err(Fault::Reading);
         }
         let room = self.failing.room(self.passed, buf.len());
@@ -146,7 +149,7 @@ pub struct FailingOutput {
 }
 
 impl FailingOutput {
-    ghost use Rattle.octets.specs.FailingDevices.{output_written, output_is_finished, output_failures, output_course, output_room, output_step};
+    ghost use Rattle.octets.specs.FailingDevices.{output_written, output_is_finished, output_endings, output_failures, output_course, output_room, output_step};
 
     /// An empty output with room for so many octets, that takes at most `step` of them at a write.
     pub fn new(
@@ -156,7 +159,7 @@ impl FailingOutput {
         failing: Failing,
     ) -> Result<FailingOutput, Refusal>
         requires { 0 < step }
-        ensures empty { IfOk result (λ out. (output_written out ≡ []) × (output_is_finished out ≡ false) × (output_failures out ≡ 0)) }
+        ensures empty { IfOk result (λ out. (output_written out ≡ []) × (output_is_finished out ≡ false) × (output_endings out ≡ 0) × (output_failures out ≡ 0)) }
         ensures course { IfOk result (λ out. (output_course out ≡ begun failing) × (output_room out ≡ room) × (output_step out ≡ step)) }
         ensures memory { IfErr result (λ e. e ≡ Refusal.Memory) }
     {
@@ -202,7 +205,7 @@ impl FailingOutput {
         let is_due = self.failing.is_due(self.calls, self.passed);
         self.calls = self.calls.saturating_add(1);
         if is_due {
-            count_failure(&mut self.failures);
+            count_one(&mut self.failures);
             return Err(Fault::Writing);
         }
         Ok(())
@@ -210,11 +213,13 @@ impl FailingOutput {
 }
 
 impl Output for FailingOutput {
-    ghost use Rattle.octets.specs.FailingDevices.{output_store, output_written, output_is_finished, output_failures, output_course, output_room, output_step};
+    ghost use Rattle.octets.specs.FailingDevices.{output_store, output_written, output_is_finished, output_endings, output_failures, output_course, output_room, output_step};
 
     ghost written = { output_written };
 
     ghost is_finished = { output_is_finished };
+
+    ghost endings = { output_endings };
 
     ghost failures = { output_failures };
 
@@ -234,6 +239,7 @@ impl Output for FailingOutput {
         ensures some { result ≡ Ok 0 → length octets.now ≡ 0 }
         ensures nothing { length octets.now ≡ 0 → (result ≡ Ok 0) × (self.new ≡ self.old) }
         ensures unfinished { 0 < length octets.now → output_is_finished self.new ≡ false }
+        ensures endings { output_endings self.new ≡ output_endings self.old }
         ensures works { OnOk result (output_failures self.new ≡ output_failures self.old) }
         ensures fails { IfErr result (λ e. (e ≡ Fault.Writing)
             × (output_written self.new ≡ output_written self.old)
@@ -251,7 +257,7 @@ impl Output for FailingOutput {
                 Ok(n)
             }
             Err(fault) => {
-                count_failure(&mut self.failures);
+                count_one(&mut self.failures);
                 Err(fault)
             }
         }
@@ -264,11 +270,11 @@ impl Output for FailingOutput {
 
         // What the trait says.
         ensures same { output_written self.new ≡ output_written self.old }
-        ensures works { OnOk result (IsTrue (output_is_finished self.new)
-            × (output_failures self.new ≡ output_failures self.old)) }
+        ensures works { OnOk result (output_failures self.new ≡ output_failures self.old) }
         ensures fails { IfErr result (λ e. (e ≡ Fault.Writing)
             × (output_failures self.new ≡ next_count (output_failures self.old))) }
-        ensures kept { OnErr result (output_is_finished self.new ≡ output_is_finished self.old) }
+        ensures finished { OnOk result (IsFinishedOnce output_is_finished output_endings self.old self.new) }
+        ensures kept { OnErr result ((output_is_finished self.new ≡ output_is_finished self.old) × (output_endings self.new ≡ output_endings self.old)) }
     {
         self.call()?;
         self.output.finish()

@@ -1,10 +1,10 @@
 //! Devices over memory.
 ghost use Rattle.std.specs.Prelude.{◌≡◌, ℕ, ◌↔◌, ◌+◌, ◌<◌, ◌≤◌, [], ◌++◌, length, take, drop, IfOk, IfErr, IsOk, IsErr, IsTrue, OnOk, OnErr, Ok, MatchResult, true, false};
-ghost use Rattle.octets.specs.Devices.{next_count, ComesNearer};
+ghost use Rattle.octets.specs.Devices.{next_count, ComesNearer, IsFinishedOnce};
 ghost use Rattle.octets.specs.Octets.{IsOctets};
 ghost use Rattle.octets.specs.Views.{front_of, is_read, rest_of, failures_of, read_count, write_count};
 
-use crate::devices::count_failure;
+use crate::devices::count_one;
 use crate::laws::are_octets;
 use crate::{Fault, Input, Output, Refusal};
 use std::alloc::Global;
@@ -77,6 +77,7 @@ impl<'a> Input for MemoryInput<'a> {
         ensures works { OnOk result (failures_of self.new ≡ failures_of self.old) }
         ensures fails { IfErr result (λ e. (e ≡ Fault.Reading)
             × (front_of self.new ≡ front_of self.old)
+            × (is_read self.new ≡ is_read self.old)
             × (failures_of self.new ≡ next_count (failures_of self.old))) }
     {
         let rest = &self.octets[self.position..];
@@ -94,6 +95,7 @@ pub struct MemoryOutput {
     octets: Vec<u8>,
     room: usize,
     unfinished: bool,
+    endings: u64,
     failures: u64,
 }
 
@@ -104,7 +106,7 @@ impl Model for MemoryOutput {
 
     ghost Value = { Store };
 
-    ghost view = { λ s. record { octets = s.octets.items; room = s.room; is_finished = not s.unfinished; failures = s.failures } };
+    ghost view = { λ s. record { octets = s.octets.items; room = s.room; is_finished = not s.unfinished; endings = s.endings; failures = s.failures } };
 
     ghost invariant = { λ s. (length s.octets.items ≤ s.room) × (s.room ≤ vec_capacity s.octets) };
 }
@@ -112,13 +114,14 @@ impl Model for MemoryOutput {
 impl MemoryOutput {
     /// An empty output with room for so many octets.
     pub fn new(alloc: Global, room: usize) -> Result<MemoryOutput, Refusal>
-        ensures empty { IfOk result (λ out. out ≡ record { octets = []; room = room; is_finished = false; failures = 0 }) }
+        ensures empty { IfOk result (λ out. out ≡ record { octets = []; room = room; is_finished = false; endings = 0; failures = 0 }) }
         ensures memory { IfErr result (λ e. e ≡ Refusal.Memory) }
     {
         Ok(MemoryOutput {
             octets: Vec::with_capacity(alloc, room)?,
             room,
             unfinished: true,
+            endings: 0,
             failures: 0,
         })
     }
@@ -150,6 +153,8 @@ impl Output for MemoryOutput {
 
     ghost is_finished = { λ s. s.is_finished };
 
+    ghost endings = { λ s. s.endings };
+
     ghost failures = { λ s. s.failures };
 
     fn write(&mut self, octets: &[u8]) -> Result<usize, Fault>
@@ -163,6 +168,7 @@ impl Output for MemoryOutput {
         ensures some { result ≡ Ok 0 → length octets.now ≡ 0 }
         ensures nothing { length octets.now ≡ 0 → (result ≡ Ok 0) × (self.new ≡ self.old) }
         ensures unfinished { 0 < length octets.now → self.new.is_finished ≡ false }
+        ensures endings { self.new.endings ≡ self.old.endings }
         ensures works { OnOk result (self.new.failures ≡ self.old.failures) }
         ensures fails { IfErr result (λ e. (e ≡ Fault.Writing)
             × (self.new.octets ≡ self.old.octets)
@@ -174,7 +180,7 @@ impl Output for MemoryOutput {
         self.reopen();
         let n = octets.len().min(self.room - self.octets.len());
         if n == 0 {
-            count_failure(&mut self.failures);
+            count_one(&mut self.failures);
             return Err(Fault::Writing);
         }
         if self.octets.extend_from_slice(&octets[..n]).is_err() {
@@ -184,17 +190,19 @@ impl Output for MemoryOutput {
     }
 
     fn finish(&mut self) -> Result<(), Fault>
-        ensures finished { self.new ≡ record self.old { is_finished = true } }
+        ensures moves { self.new ≡ record self.old { is_finished = true; endings = next_count self.old.endings } }
         ensures never_fails { IsOk result }
 
         // What the trait says.
         ensures same { self.new.octets ≡ self.old.octets }
-        ensures works { OnOk result (IsTrue self.new.is_finished × (self.new.failures ≡ self.old.failures)) }
+        ensures works { OnOk result (self.new.failures ≡ self.old.failures) }
         ensures fails { IfErr result (λ e. (e ≡ Fault.Writing)
             × (self.new.failures ≡ next_count self.old.failures)) }
-        ensures kept { OnErr result (self.new.is_finished ≡ self.old.is_finished) }
+        ensures finished { OnOk result (IsFinishedOnce (λ s. s.is_finished) (λ s. s.endings) self.old self.new) }
+        ensures kept { OnErr result ((self.new.is_finished ≡ self.old.is_finished) × (self.new.endings ≡ self.old.endings)) }
     {
         self.unfinished = false;
+        count_one(&mut self.endings);
         Ok(())
     }
 }

@@ -4,10 +4,10 @@ ghost use Rattle.std.specs.Iterator.{at_most};
 ghost use Rattle.std.specs.Io.KnownBytes.{Consumes, Appends, Keeps, IsAtEnd, ReadConsumes, WriteAppends};
 ghost use Rattle.std.specs.Io.{ReadsAtMost, WritesAtMost};
 ghost use Rattle.std.specs.IoError.{error_kind};
-ghost use Rattle.octets.specs.Devices.{most_octets, next_count, ComesNearer};
+ghost use Rattle.octets.specs.Devices.{most_octets, next_count, ComesNearer, IsFinishedOnce};
 ghost use Rattle.octets.specs.Octets.{IsOctets};
 
-use crate::devices::count_failure;
+use crate::devices::count_one;
 use crate::laws::are_octets;
 use crate::transcript::Transcript;
 use crate::{Fault, Input, Output};
@@ -84,6 +84,7 @@ impl<R: Read> Input for ReaderInput<R> {
         ensures works { OnOk result (read_failures_of self.new ≡ read_failures_of self.old) }
         ensures fails { IfErr result (λ e. (e ≡ Fault.Reading)
             × (consumed_of self.new ≡ consumed_of self.old)
+            × (is_at_end_of self.new ≡ is_at_end_of self.old)
             × (read_failures_of self.new ≡ next_count (read_failures_of self.old))) }
     {
         if self.is_at_end || buf.is_empty() {
@@ -97,7 +98,7 @@ impl<R: Read> Input for ReaderInput<R> {
             read_once(&mut self.reader, &mut buf[..room]).ok()
         };
         let Some(n) = taken else {
-            count_failure(&mut self.failures);
+            count_one(&mut self.failures);
             return Err(Fault::Reading);
         };
         are_octets(&buf[..n]);
@@ -128,23 +129,26 @@ fn read_once<R: Read>(reader: &mut R, buf: &mut [u8]) -> io::Result<usize>
 pub struct WriterOutput<W> {
     writer: W,
     is_finished: bool,
+    endings: u64,
     failures: u64,
     transcript: Transcript,
 }
 
 impl<W: Write> WriterOutput<W> {
-    ghost use Rattle.octets.specs.Views.{writer_of, written_of, is_finished_of, write_failures_of};
+    ghost use Rattle.octets.specs.Views.{writer_of, written_of, is_finished_of, endings_of, write_failures_of};
 
     /// Hands on to the writer what it takes.
     pub fn new(writer: W) -> WriterOutput<W>
         ensures writer { writer_of result ≡ writer }
         ensures written { written_of result ≡ [] }
         ensures unfinished { is_finished_of result ≡ false }
+        ensures endings { endings_of result ≡ 0 }
         ensures failures { write_failures_of result ≡ 0 }
     {
         WriterOutput {
             writer,
             is_finished: false,
+            endings: 0,
             failures: 0,
             transcript: Transcript::new(),
         }
@@ -152,11 +156,13 @@ impl<W: Write> WriterOutput<W> {
 }
 
 impl<W: Write> Output for WriterOutput<W> {
-    ghost use Rattle.octets.specs.Views.{writer_of, written_of, is_finished_of, write_failures_of};
+    ghost use Rattle.octets.specs.Views.{writer_of, written_of, is_finished_of, endings_of, write_failures_of};
 
     ghost written = { written_of };
 
     ghost is_finished = { is_finished_of };
+
+    ghost endings = { endings_of };
 
     ghost failures = { write_failures_of };
 
@@ -170,6 +176,7 @@ impl<W: Write> Output for WriterOutput<W> {
         ensures some { result ≡ Ok 0 → length octets.now ≡ 0 }
         ensures nothing { length octets.now ≡ 0 → (result ≡ Ok 0) × (self.new ≡ self.old) }
         ensures unfinished { 0 < length octets.now → is_finished_of self.new ≡ false }
+        ensures endings { endings_of self.new ≡ endings_of self.old }
         ensures works { OnOk result (write_failures_of self.new ≡ write_failures_of self.old) }
         ensures fails { IfErr result (λ e. (e ≡ Fault.Writing)
             × (written_of self.new ≡ written_of self.old)
@@ -185,7 +192,7 @@ impl<W: Write> Output for WriterOutput<W> {
                 Ok(n)
             }
             _ => {
-                count_failure(&mut self.failures);
+                count_one(&mut self.failures);
                 Err(Fault::Writing)
             }
         }
@@ -196,17 +203,18 @@ impl<W: Write> Output for WriterOutput<W> {
 
         // What the trait says.
         ensures same { written_of self.new ≡ written_of self.old }
-        ensures works { OnOk result (IsTrue (is_finished_of self.new)
-            × (write_failures_of self.new ≡ write_failures_of self.old)) }
+        ensures works { OnOk result (write_failures_of self.new ≡ write_failures_of self.old) }
         ensures fails { IfErr result (λ e. (e ≡ Fault.Writing)
             × (write_failures_of self.new ≡ next_count (write_failures_of self.old))) }
-        ensures kept { OnErr result (is_finished_of self.new ≡ is_finished_of self.old) }
+        ensures finished { OnOk result (IsFinishedOnce is_finished_of endings_of self.old self.new) }
+        ensures kept { OnErr result ((is_finished_of self.new ≡ is_finished_of self.old) × (endings_of self.new ≡ endings_of self.old)) }
     {
         if flush_once(&mut self.writer).is_err() {
-            count_failure(&mut self.failures);
+            count_one(&mut self.failures);
             return Err(Fault::Writing);
         }
         self.is_finished = true;
+        count_one(&mut self.endings);
         Ok(())
     }
 }

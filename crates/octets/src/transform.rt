@@ -87,6 +87,7 @@ pub fn pump<I: Input, T: Transform, O: Output>(
         → O.written out.new ≡ O.written out.old ++ (behind before.now (T.plan job)).fixed (appended (I.consumed content.old) (I.consumed content.new)) }
     ensures unread { IfErr result (λ refusal. refusal ≢ Refusal.Write → appended (I.consumed content.old) (I.consumed content.new) ≡ [] → out.new ≡ out.old) }
     ensures uncut { IfErr result (λ refusal. refusal ≢ Refusal.Write → O.written out.new ≡ O.written out.old → out.new ≡ out.old) }
+    ensures endings { O.endings out.new ≡ O.endings out.old }
     ensures faults { TellsFaults (counts I.failures content.old content.new ∷ []) (counts O.failures out.old out.new ∷ []) result }
 {
     let mut buf = [0; PIECE];

@@ -1,7 +1,7 @@
 //! All of an input, piece by piece or whole, or exactly so many octets of it, and all of a text to an output.
-ghost use Rattle.std.specs.Prelude.{◌≡◌, ◌<◌, ◌≤◌, ◌++◌, length, take, drop, Ok, IfOk, OnOk, OnErr, IfErr, IsTrue};
+ghost use Rattle.std.specs.Prelude.{◌≡◌, ◌<◌, ◌≤◌, ◌++◌, length, take, drop, Ok, IfOk, OnOk, OnErr, IfErr, IsTrue, MatchResult};
 ghost use Rattle.std.specs.Iterator.{IsFinite, size};
-ghost use Rattle.octets.specs.Devices.{next_count, appended, observed, AppendsPrefixOf, Extends};
+ghost use Rattle.octets.specs.Devices.{next_count, appended, observed, AppendsPrefixOf, Extends, IsFinishedOnce};
 ghost use Rattle.octets.specs.Octets.{IsOctets};
 ghost use Rattle.octets.specs.Outcomes.{IsReadingFailure, IsDrawingFailure};
 
@@ -104,6 +104,7 @@ pub fn write_whole<O: Output>(out: &mut O, octets: &[u8]) -> Result<(), Partial>
     ensures works { OnOk result (O.failures out.new ≡ O.failures out.old) }
     ensures fails { OnErr result (O.failures out.new ≡ next_count (O.failures out.old)) }
     ensures nothing { length octets.now ≡ 0 → out.new ≡ out.old }
+    ensures endings { O.endings out.new ≡ O.endings out.old }
 {
     let mut written = 0;
     'writes: while written < octets.len() {
@@ -115,10 +116,11 @@ pub fn write_whole<O: Output>(out: &mut O, octets: &[u8]) -> Result<(), Partial>
     Ok(())
 }
 
-/// Writes all of the octets and finishes. Where the output fails a beginning of them stands.
+/// Writes all of the octets, and then finishes, once. If the output fails, a beginning of the octets is written, and the output is not
+/// finished.
 pub fn emit<O: Output>(out: &mut O, octets: &[u8]) -> Result<(), Refusal>
     ensures all { OnOk result (O.written out.new ≡ O.written out.old ++ octets.now) }
-    ensures finished { OnOk result (IsTrue (O.is_finished out.new)) }
+    ensures finished { MatchResult result (λ _. IsFinishedOnce O.is_finished O.endings out.old out.new) (λ _. O.endings out.new ≡ O.endings out.old) }
     ensures works { OnOk result (O.failures out.new ≡ O.failures out.old) }
     ensures part { OnErr result (AppendsPrefixOf octets.now (O.written out.old) (O.written out.new)) }
     ensures cause { OnErr result (result ≡ Err Refusal.Write) }

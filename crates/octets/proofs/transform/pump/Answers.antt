@@ -154,6 +154,7 @@ pieces-preserved g c =
           wrote_text c.write_whole-in-pieces.ensures.nothing;
       read = c.in_ok-n.ensures.works ∙ i.read;
       wrote = c.in_ok-write_whole-2.ensures.works ∙ c.in_ok-write_whole.ensures.works ∙ i.wrote;
+      endings = c.write_whole-in-pieces.ensures.endings ∙ c.write_whole.ensures.endings ∙ i.endings;
       finite = c.read_piece.ensures.nearer.0;
     }
 
@@ -238,5 +239,6 @@ pieces-init g c =
       untouched = λ same. refl;
       read = refl;
       wrote = refl;
+      endings = refl;
       finite = c.requires;
     }

@@ -24,6 +24,7 @@ invariant-pieces g l =
       untouched : output.written l.out ≡ output.written l.fn.out → l.out ≡ l.fn.out;
       read : input.failures l.content ≡ input.failures l.fn.content;
       wrote : output.failures l.out ≡ output.failures l.fn.out;
+      endings : output.endings l.out ≡ output.endings l.fn.out;
       finite : IsFinite (input.remaining l.content);
     }
 

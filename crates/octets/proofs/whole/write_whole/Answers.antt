@@ -9,5 +9,6 @@ writes-preserved g c = record {
   written = taken_more (g.O.Output.written c.args.out.now) (g.O.Output.written c.writes.out) _ c.args.octets.now c.writes.written c.in-Ok.n
       c.writes.invariant.written (grind (arith, common_steps, c.in-Ok.ensures.octets));
   works = c.in-Ok.ensures.works ∙ c.writes.invariant.works;
+  endings = c.write.ensures.endings ∙ c.writes.invariant.endings;
   untouched = λ none. absurd (omega (arith, none));
 }

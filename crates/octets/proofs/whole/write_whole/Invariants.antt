@@ -7,6 +7,7 @@ invariant-writes g l =
       in_range : l.written ≤ length l.octets;
       written : out.written l.out ≡ out.written l.fn.out ++ take l.written l.octets;
       works : out.failures l.out ≡ out.failures l.fn.out;
+      endings : out.endings l.out ≡ out.endings l.fn.out;
       untouched : length l.octets ≡ 0 → l.out ≡ l.fn.out;
     }
 
