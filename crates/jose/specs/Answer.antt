@@ -2,7 +2,7 @@
 use Rattle.std.specs.Prelude.{◌≡◌, ◌≢◌, ◌⊎◌, ◌<◌, ◌≤◌, ℕ, Bool, true, false, not, ◌&&◌, ◌||◌, IsTrue, List, [], ◌++◌, length, is_some, Option, Some, None, Result, Err}
 use Rattle.octets.specs.declared.refusal.Refusal.{Refusal}
 use Rattle.octets.specs.declared.refusal.Refusal.TheVariants.{Usage, Write, Memory}
-use Rattle.octets.specs.Devices.{Observed}
+use Rattle.octets.specs.Devices.{Observed, IsFinishedOnce}
 use Rattle.octets.specs.Faults.{counts, DidNotFail}
 use Rattle.octets.specs.Outcomes.{AgreesUnlessExternal, is_external}
 use Rattle.octets.specs.Plan.{OutputTexts, Draft, drawn_of, plan_from, fixed_by, planned, planned_beginning}
@@ -143,10 +143,12 @@ AreKeptUp written invocation seen old new =
     → KeepsUp (λ front. (fixed_of invocation seen front).text) (content_seen invocation seen).octets (written old.text) (written new.text)
     × KeepsUp (λ front. (fixed_of invocation seen front).content) (content_seen invocation seen).octets (written old.content) (written new.content)
 
--- The text is not begun before the content stands whole beside it, where it goes out there.
-abbrev pub IsContentFirst : {D : Type 0} → (D → List ℕ) → (D → Bool) → InvocationView → ObservedInputs → Outputs D → Outputs D → Type 0
-IsContentFirst written is_finished invocation seen old new = (new.text ≡ old.text) ⊎ (IsTrue (has_content_output invocation)
-    → IsTrue (content_seen invocation seen).ended × IsTrue (is_finished new.content)
+-- If the content goes out too, the text is begun only after all of the content was written and its output was finished, once.
+abbrev pub IsContentFirst : {D : Type 0} → (D → List ℕ) → (D → Bool) → (D → ℕ) → InvocationView → ObservedInputs → Outputs D → Outputs D → Type 0
+IsContentFirst written is_finished endings invocation seen old new =
+    ((new.text ≡ old.text) × (endings new.content ≡ endings old.content))
+    ⊎ (IsTrue (has_content_output invocation)
+    → IsTrue (content_seen invocation seen).ended × IsFinishedOnce is_finished endings old.content new.content
     × (written new.content ≡ written old.content ++ (beginning invocation seen).content))
 
 -- ---- the order of reading
@@ -181,11 +183,16 @@ RefusesFirst invocation seen old new =
 
 -- ---- the end
 
--- each output that the command has was finished
-abbrev pub AreFinished : {D : Type 0} → (D → Bool) → InvocationView → Outputs D → Type 0
-AreFinished is_finished invocation outputs =
-    (IsTrue (has_text_output invocation) → IsTrue (is_finished outputs.text))
-    × (IsTrue (has_content_output invocation) → IsTrue (is_finished outputs.content))
+-- each output that the command has was finished once
+abbrev pub AreFinished : {D : Type 0} → (D → Bool) → (D → ℕ) → InvocationView → Outputs D → Outputs D → Type 0
+AreFinished is_finished endings invocation old new =
+    (IsTrue (has_text_output invocation) → IsFinishedOnce is_finished endings old.text new.text)
+    × (IsTrue (has_content_output invocation) → IsFinishedOnce is_finished endings old.content new.content)
+
+-- The output of a text was not finished, and that of a content was not, if it is the only one.
+abbrev pub AreUnfinished : {D : Type 0} → (D → ℕ) → InvocationView → Outputs D → Outputs D → Type 0
+AreUnfinished endings invocation old new =
+    (endings new.text ≡ endings old.text) × (has_text_output invocation ≡ false → endings new.content ≡ endings old.content)
 
 -- the devices that it has no option for are as they were
 pub record AreUntouched {D E : Type 0} (invocation : InvocationView) (old_inputs new_inputs : Inputs D) (old_outputs new_outputs : Outputs E) : Type 0 where

@@ -7,7 +7,7 @@ use Rattle.clap.specs.Words.{Text}
 use Rattle.octets.specs.declared.streams.ReaderInput.{ReaderInput}
 use Rattle.octets.specs.declared.streams.WriterOutput.{WriterOutput}
 use Rattle.octets.specs.Devices.{most_octets}
-use Rattle.octets.specs.Views.{reader_of, consumed_of, is_at_end_of, remaining_of, read_failures_of, writer_of, written_of, is_finished_of, write_failures_of}
+use Rattle.octets.specs.Views.{reader_of, consumed_of, is_at_end_of, remaining_of, read_failures_of, writer_of, written_of, is_finished_of, endings_of, write_failures_of}
 use Rattle.jose.specs.declared.words.table.Command.{Command}
 use Rattle.jose.specs.declared.words.table.Command.TheVariants.{JwkGen, B64Enc, B64Dec, JwsSig, JweEnc, JweDec}
 use Rattle.jose.specs.declared.files.Apart.{Apart as CodeApart}
@@ -167,6 +167,7 @@ pub record IsNewOutput {R F D : Type 0} (destination : Destination) (device : Wr
   pub unopened : IsUnopenedSink (writer_of device)
   pub written : written_of device ≡ []
   pub unfinished : is_finished_of device ≡ false
+  pub endings : endings_of device ≡ 0
   pub failures : write_failures_of device ≡ 0
 
 -- each input is the one that its option names, the text that of `-i` or else `-s`, and the random one that of `-R` or else `/dev/urandom`

@@ -1,7 +1,7 @@
 //! What each command does, from devices to devices. They are given an option's value where a device does not say it all.
 ghost use Rattle.std.specs.Prelude.{◌≡◌, ◌≢◌, ◌⊎◌, ◌&&◌, ◌++◌, false, ℕ, List, [], ◌∷◌, option_map, None, Err, OnOk, OnErr, IfOk, IfErr, IsTrue};
 ghost use Rattle.std.specs.Iterator.{IsFinite};
-ghost use Rattle.octets.specs.Devices.{appended, observed, IsPossibleInput, AppendsPrefixOf};
+ghost use Rattle.octets.specs.Devices.{appended, observed, IsPossibleInput, AppendsPrefixOf, IsFinishedOnce};
 ghost use Rattle.octets.specs.Faults.{TellsFaults, DidNotFail, counts};
 ghost use Rattle.octets.specs.Outcomes.{AgreesUnlessExternal, IsReadingFailure, GivesUnlessExternal, is_external};
 ghost use Rattle.keys.specs.KeySets.{key_set};
@@ -128,10 +128,11 @@ fn write_object<O: Output>(
         (record { text = appended (O.written out.old) (O.written out.new); content = appended (O.written detached.old) (O.written detached.new) }) result }
     ensures beginning { OnErr result ((AppendsPrefixOf text.now (O.written out.old) (O.written out.new))
         × (AppendsPrefixOf (handed_out detach (held_view content.entry)) (O.written detached.old) (O.written detached.new))) }
-    ensures content_first { OnErr result ((out.new ≡ out.old) ⊎ (IsTrue detach → IsTrue (O.is_finished detached.new)
+    ensures content_first { OnErr result (((out.new ≡ out.old) × (O.endings detached.new ≡ O.endings detached.old)) ⊎ (IsTrue detach → IsFinishedOnce O.is_finished O.endings detached.old detached.new
         × (O.written detached.new ≡ O.written detached.old ++ handed_out detach (held_view content.entry)))) }
     ensures held_back { IfErr result (λ refusal. DidNotFail refusal (counts O.failures out.old out.new) → out.new ≡ out.old) }
-    ensures finished { OnOk result (IsTrue (O.is_finished out.new) × (IsTrue detach → IsTrue (O.is_finished detached.new))) }
+    ensures finished { OnOk result (IsFinishedOnce O.is_finished O.endings out.old out.new × (IsTrue detach → IsFinishedOnce O.is_finished O.endings detached.old detached.new)) }
+    ensures unfinished { OnErr result (O.endings out.new ≡ O.endings out.old) }
     ensures untouched { detach ≡ false → detached.new ≡ detached.old }
     ensures cause { OnErr result (result ≡ Err Refusal.Write) }
     ensures faults { TellsFaults [] (counts O.failures out.old out.new ∷ counts O.failures detached.old detached.new ∷ []) result }

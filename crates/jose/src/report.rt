@@ -1,6 +1,6 @@
 //! The program's last word: a status, and for a refusal one line.
-ghost use Rattle.std.specs.Prelude.{◌≡◌, ◌<◌, ◌++◌, OnOk, OnErr, IfErr, IsTrue};
-ghost use Rattle.octets.specs.Devices.{greatest_count, next_count, AppendsPrefixOf};
+ghost use Rattle.std.specs.Prelude.{◌≡◌, ◌<◌, ◌++◌, OnOk, OnErr, IfErr};
+ghost use Rattle.octets.specs.Devices.{greatest_count, next_count, AppendsPrefixOf, IsFinishedOnce};
 ghost use Rattle.jose.specs.Reports.{status_of, report_line};
 
 use octets::{Output, Refusal, write_whole};
@@ -15,7 +15,7 @@ pub fn report<O: Output>(outcome: Result<(), Refusal>, out: &mut O) -> u8
     ensures whole { IfErr outcome (λ refusal. O.failures out.old < greatest_count
         → O.failures out.new ≡ O.failures out.old
         → (O.written out.new ≡ O.written out.old ++ report_line refusal)
-        × IsTrue (O.is_finished out.new)) }
+        × IsFinishedOnce O.is_finished O.endings out.old out.new) }
 {
     match outcome {
         Ok(()) => 0,
@@ -30,7 +30,7 @@ pub fn report<O: Output>(outcome: Result<(), Refusal>, out: &mut O) -> u8
 fn write_line<O: Output>(out: &mut O, refusal: Refusal) -> Result<(), Refusal>
     ensures part { AppendsPrefixOf (report_line refusal) (O.written out.old) (O.written out.new) }
     ensures whole { OnOk result ((O.written out.new ≡ O.written out.old ++ report_line refusal)
-        × IsTrue (O.is_finished out.new)) }
+        × IsFinishedOnce O.is_finished O.endings out.old out.new) }
     ensures refusal { IfErr result (λ e. e ≡ Refusal.Write) }
     ensures fails { OnErr result (O.failures out.new ≡ next_count (O.failures out.old)) }
 {

@@ -3,7 +3,7 @@ ghost use Rattle.std.specs.Prelude.{◌≡◌, Err, OnOk, OnErr, IfErr};
 ghost use Rattle.jose.specs.Invocations.{invocation_view};
 ghost use Rattle.octets.specs.Faults.{TellsFaults};
 ghost use Rattle.jose.specs.Ports.{observed_inputs, written_texts, AreFinite, AppendPrefixesOf, input_counts, output_counts};
-ghost use Rattle.jose.specs.Answer.{Answers, DrawsAll, DrawsNoMore, AreFinished, AreUntouched, AreUncut, AreUnread, AreKeptUp, IsContentFirst, AreInOrder, ReadsFirst, DrawsFirst, TakesMemoryFirst, RefusesFirst, HoldsBack, beginning};
+ghost use Rattle.jose.specs.Answer.{Answers, DrawsAll, DrawsNoMore, AreFinished, AreUnfinished, AreUntouched, AreUncut, AreUnread, AreKeptUp, IsContentFirst, AreInOrder, ReadsFirst, DrawsFirst, TakesMemoryFirst, RefusesFirst, HoldsBack, beginning};
 
 use crate::commands::{b64, jwe, jwk, jws};
 use crate::ports::{Inputs, Outputs};
@@ -34,7 +34,7 @@ pub fn run<I: Input, O: Output>(
     ensures uncut { IfErr result (AreUncut O.failures O.written outputs.old outputs.new) }
     ensures unread { IfErr result (AreUnread O.failures (invocation_view invocation.now) (observed_inputs I.consumed I.is_at_end inputs.old inputs.new) outputs.old outputs.new) }
     ensures keeps_up { result ≡ Err Refusal.Read → AreKeptUp O.written (invocation_view invocation.now) (observed_inputs I.consumed I.is_at_end inputs.old inputs.new) outputs.old outputs.new }
-    ensures content_first { OnErr result (IsContentFirst O.written O.is_finished (invocation_view invocation.now) (observed_inputs I.consumed I.is_at_end inputs.old inputs.new) outputs.old outputs.new) }
+    ensures content_first { OnErr result (IsContentFirst O.written O.is_finished O.endings (invocation_view invocation.now) (observed_inputs I.consumed I.is_at_end inputs.old inputs.new) outputs.old outputs.new) }
 
     // Inputs are read one after another, and what comes last only where all before it is accepted.
     ensures in_order { AreInOrder (invocation_view invocation.now) (observed_inputs I.consumed I.is_at_end inputs.old inputs.new) inputs.old inputs.new }
@@ -43,8 +43,10 @@ pub fn run<I: Input, O: Output>(
     ensures memory_first { IfErr result (TakesMemoryFirst (invocation_view invocation.now) inputs.old inputs.new) }
     ensures content_last { RefusesFirst (invocation_view invocation.now) (observed_inputs I.consumed I.is_at_end inputs.old inputs.new) inputs.old inputs.new }
 
-    // At the end all that was written is where it belongs.
-    ensures finished { OnOk result (AreFinished O.is_finished (invocation_view invocation.now) outputs.new) }
+    // At the end all that was written is where it belongs. Each output was finished once, and after a refusal none was, except for a
+    // content that was written before the text.
+    ensures finished { OnOk result (AreFinished O.is_finished O.endings (invocation_view invocation.now) outputs.old outputs.new) }
+    ensures unfinished { OnErr result (AreUnfinished O.endings (invocation_view invocation.now) outputs.old outputs.new) }
     ensures untouched { AreUntouched (invocation_view invocation.now) inputs.old inputs.new outputs.old outputs.new }
 
     // A device that failed in the call is told, and no other is.

@@ -1,7 +1,7 @@
 -- What values of the code hold, as contracts see it.
 use Rattle.std.specs.Borrow.{Bor}
 use Rattle.std.specs.BTreeMap.{BTreeMap}
-use Rattle.std.specs.Prelude.{ℕ, List, Option, Some, None, String, map, string_bytes}
+use Rattle.std.specs.Prelude.{ℕ, Bool, true, false, List, Option, Some, None, String, map, string_bytes}
 use Rattle.std.specs.declared.alloc.Global.{Global}
 use Rattle.serde_json.specs.Data.{Members, no_members}
 use Rattle.serde_json.specs.View.{members_view}
@@ -60,6 +60,11 @@ abbrev pub content_text_view : Content → List ℕ
 content_text_view (Text text) = text.now
 content_text_view (Octets octets) = base64url octets.items
 
+-- a content is held as its text, and not as octets
+abbrev pub content_is_text : Content → Bool
+content_is_text (Text text) = true
+content_is_text (Octets octets) = false
+
 -- the octets that a text means
 abbrev pub received_view : received.ReceivedText → List ℕ
 received_view t = meaning t.text.now
@@ -69,7 +74,15 @@ abbrev pub held_view : held.HeldContent → List ℕ
 held_view (HeldText text) = received_view text
 held_view (HeldOctets octets) = octets.now
 
+abbrev pub is_text : held.HeldContent → Bool
+is_text (HeldText text) = true
+is_text (HeldOctets octets) = false
+
 -- ---- signed objects
+
+abbrev pub payload_is_text : payload.Payload → Bool
+payload_is_text (PayloadText text) = true
+payload_is_text (PayloadOctets octets) = false
 
 abbrev pub payload_view : payload.Payload → List ℕ
 payload_view (PayloadText text) = received_view text
@@ -107,6 +120,10 @@ signature_view s = record {
 
 abbrev pub jws_view : jws.Jws → SignedObject
 jws_view j = record { payload = payload_view j.payload; signatures = map signature_view j.signatures.list.items }
+
+-- its payload is held as its text
+abbrev pub holds_text : jws.Jws → Bool
+holds_text j = payload_is_text j.payload
 
 -- ---- encrypted objects
 

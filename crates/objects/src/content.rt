@@ -1,10 +1,10 @@
 //! The content of an object, which stands in its text or is handed in beside it (RFC 7515 appendix F).
-ghost use Rattle.std.specs.Prelude.{option_map};
+ghost use Rattle.std.specs.Prelude.{◌≡◌, is_none, option_map, IfOk};
 ghost use Rattle.serde_json.specs.View.{view};
 ghost use Rattle.octets.specs.Base64url.{decoded};
 ghost use Rattle.octets.specs.Outcomes.{Agrees, AgreesUnlessMemory};
 ghost use Rattle.objects.specs.Texts.{AreOctetsHandedIn, content_by, content_text};
-ghost use Rattle.objects.specs.Views.{content_text_view, payload_view};
+ghost use Rattle.objects.specs.Views.{content_text_view, payload_view, content_is_text, payload_is_text};
 
 pub(crate) mod payload;
 pub(crate) mod received_text;
@@ -27,7 +27,8 @@ pub(crate) enum Content<'t> {
 impl<'t> Content<'t> {
     /// The content of an object with this part. Refused with `Form` where one was handed in and the part is not empty.
     pub(crate) fn of_part(part: &'t [u8], detached: Option<Vec<u8>>) -> Result<Content<'t>, Refusal>
-        ensures { Agrees content_text_view result (content_by (option_map (λ c. c.items) detached) part.now) }
+        ensures exact { Agrees content_text_view result (content_by (option_map (λ c. c.items) detached) part.now) }
+        ensures form { IfOk result (λ content. content_is_text content ≡ is_none detached) }
     {
         match detached {
             None => Ok(Content::Text(part)),
@@ -69,7 +70,8 @@ impl<'t> Content<'t> {
 
     /// The payload that it is, without memory. Refused with `Base64` where its text is no base64url text.
     pub(crate) fn payload(self) -> Result<Payload<'t>, Refusal>
-        ensures { Agrees payload_view result (decoded (content_text_view self.entry)) }
+        ensures exact { Agrees payload_view result (decoded (content_text_view self.entry)) }
+        ensures form { IfOk result (λ payload. payload_is_text payload ≡ content_is_text self.entry) }
     {
         base64url_decodes_exactly();
         match self {

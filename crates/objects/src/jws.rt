@@ -1,11 +1,11 @@
 //! Signed objects (RFC 7515). It is given an object's text or its members, and sees no key.
-ghost use Rattle.std.specs.Prelude.{◌≡◌, ◌≤◌, ◌++◌, length, map, option_map, Err, IfOk, IfErr, OnOk, OnErr, IsTrue};
-ghost use Rattle.octets.specs.Devices.{next_count, AppendsPrefixOf};
+ghost use Rattle.std.specs.Prelude.{◌≡◌, ◌≤◌, ◌&&◌, ◌++◌, false, is_none, length, map, not, option_map, Err, IfOk, IfErr, OnOk, OnErr};
+ghost use Rattle.octets.specs.Devices.{next_count, AppendsPrefixOf, IsFinishedOnce};
 ghost use Rattle.octets.specs.Outcomes.{AgreesUnlessMemory};
 ghost use Rattle.keys.specs.Limits.{limits};
 ghost use Rattle.objects.specs.Jws.{IsMade, jws_of, decoded_object as decoded_jws, signed_object as signed_object_of};
-ghost use Rattle.objects.specs.Texts.{each};
-ghost use Rattle.objects.specs.Views.{held_view, jws_view, encoded_jws_view, payload_view, signature_view, decoded_signature_view};
+ghost use Rattle.objects.specs.Texts.{each, is_json_form as has_json_form};
+ghost use Rattle.objects.specs.Views.{held_view, jws_view, encoded_jws_view, payload_view, signature_view, decoded_signature_view, content_is_text, holds_text, is_text, payload_is_text};
 
 mod build;
 mod encoded;
@@ -51,6 +51,7 @@ impl<'t> Jws<'t> {
     ) -> Result<Jws<'t>, Refusal>
         ensures exact { AgreesUnlessMemory jws_view result (jws_of limits (option_map (λ c. c.items) detached) text.now) }
         ensures made { IfOk result (λ jws. IsMade limits (jws_view jws)) }
+        ensures form { IfOk result (λ jws. holds_text jws ≡ not (has_json_form text.now) && is_none detached) }
     {
         jws_objects_are_made();
         are_octets(text);
@@ -66,9 +67,10 @@ impl<'t> Jws<'t> {
         self.payload.octets(alloc)
     }
 
-    /// The payload as it is held: the text that stands in a compact text, and else octets.
+    /// The payload as it is held: as its base64url text if the object was read from a compact text that has it, and otherwise as octets.
     pub fn held_payload(&self) -> HeldContent<'_>
-        ensures { held_view result ≡ (jws_view self.now).payload }
+        ensures octets { held_view result ≡ (jws_view self.now).payload }
+        ensures form { is_text result ≡ holds_text self.now }
     {
         self.payload.held()
     }
@@ -77,7 +79,8 @@ impl<'t> Jws<'t> {
     /// stands.
     pub fn write_payload<O: Output>(&self, out: &mut O) -> Result<(), Refusal>
         ensures all { OnOk result (O.written out.new ≡ O.written out.old ++ (jws_view self.now).payload) }
-        ensures finished { OnOk result (IsTrue (O.is_finished out.new)) }
+        ensures finished { OnOk result (IsFinishedOnce O.is_finished O.endings out.old out.new) }
+        ensures unfinished { OnErr result (O.endings out.new ≡ O.endings out.old) }
         ensures works { OnOk result (O.failures out.new ≡ O.failures out.old) }
         ensures part { OnErr result (AppendsPrefixOf (jws_view self.now).payload (O.written out.old) (O.written out.new)) }
         ensures cause { OnErr result (result ≡ Err Refusal.Write) }
@@ -102,7 +105,8 @@ fn object_of_text<'t>(
     text: &'t [u8],
     detached: Option<Vec<u8>>,
 ) -> Result<Jws<'t>, Refusal>
-    ensures { AgreesUnlessMemory jws_view result (jws_of limits (option_map (λ c. c.items) detached) text.now) }
+    ensures exact { AgreesUnlessMemory jws_view result (jws_of limits (option_map (λ c. c.items) detached) text.now) }
+    ensures form { IfOk result (λ jws. holds_text jws ≡ not (has_json_form text.now) && is_none detached) }
 {
     if is_json_form(text) {
         let value = read_json(alloc, text)?;
@@ -117,7 +121,8 @@ fn object_of_text<'t>(
 /// The object whose members have these texts, which it does not keep.
 #[tactic(auto, unfolding(crate::specs::Jws::decoded_object))]
 fn decoded_object<'t>(alloc: Global, texts: EncodedJws<'_>) -> Result<Jws<'t>, Refusal>
-    ensures { AgreesUnlessMemory jws_view result (decoded_jws limits (encoded_jws_view texts.entry)) }
+    ensures exact { AgreesUnlessMemory jws_view result (decoded_jws limits (encoded_jws_view texts.entry)) }
+    ensures form { IfOk result (λ jws. holds_text jws ≡ false) }
 {
     needs(texts.signatures.len() <= MOST_RECIPIENTS, Refusal::Limit)?;
     let EncodedJws {
@@ -132,7 +137,8 @@ fn decoded_object<'t>(alloc: Global, texts: EncodedJws<'_>) -> Result<Jws<'t>, R
 /// The same, whose payload stands in its text.
 #[tactic(auto, unfolding(crate::specs::Jws::decoded_object))]
 fn object_of_received_texts<'t>(alloc: Global, texts: EncodedJws<'t>) -> Result<Jws<'t>, Refusal>
-    ensures { AgreesUnlessMemory jws_view result (decoded_jws limits (encoded_jws_view texts.entry)) }
+    ensures exact { AgreesUnlessMemory jws_view result (decoded_jws limits (encoded_jws_view texts.entry)) }
+    ensures form { IfOk result (λ jws. holds_text jws ≡ content_is_text texts.entry.payload) }
 {
     let EncodedJws {
         payload,
@@ -152,7 +158,8 @@ pub(crate) fn signed_object<'t>(
     signatures: Vec<DecodedSignature>,
 ) -> Result<Jws<'t>, Refusal>
     requires few { length signatures.items ≤ limits.recipients }
-    ensures { AgreesUnlessMemory jws_view result (signed_object_of limits.management (payload_view payload.entry) (map decoded_signature_view signatures.items)) }
+    ensures exact { AgreesUnlessMemory jws_view result (signed_object_of limits.management (payload_view payload.entry) (map decoded_signature_view signatures.items)) }
+    ensures form { IfOk result (λ jws. holds_text jws ≡ payload_is_text payload.entry) }
 {
     let signatures = read_signatures(alloc, signatures)?;
     Ok(Jws {

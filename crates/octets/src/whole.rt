@@ -1,5 +1,5 @@
 //! All of an input, piece by piece or whole, or exactly so many octets of it, and all of a text to an output.
-ghost use Rattle.std.specs.Prelude.{◌≡◌, ◌<◌, ◌≤◌, ◌++◌, length, take, drop, Ok, IfOk, OnOk, OnErr, IfErr, IsTrue, MatchResult};
+ghost use Rattle.std.specs.Prelude.{◌≡◌, ◌<◌, ◌≤◌, ◌++◌, length, take, drop, Ok, IfOk, OnOk, OnErr, IfErr, IsTrue};
 ghost use Rattle.std.specs.Iterator.{IsFinite, size};
 ghost use Rattle.octets.specs.Devices.{next_count, appended, observed, AppendsPrefixOf, Extends, IsFinishedOnce};
 ghost use Rattle.octets.specs.Octets.{IsOctets};
@@ -120,7 +120,8 @@ pub fn write_whole<O: Output>(out: &mut O, octets: &[u8]) -> Result<(), Partial>
 /// finished.
 pub fn emit<O: Output>(out: &mut O, octets: &[u8]) -> Result<(), Refusal>
     ensures all { OnOk result (O.written out.new ≡ O.written out.old ++ octets.now) }
-    ensures finished { MatchResult result (λ _. IsFinishedOnce O.is_finished O.endings out.old out.new) (λ _. O.endings out.new ≡ O.endings out.old) }
+    ensures finished { OnOk result (IsFinishedOnce O.is_finished O.endings out.old out.new) }
+    ensures unfinished { OnErr result (O.endings out.new ≡ O.endings out.old) }
     ensures works { OnOk result (O.failures out.new ≡ O.failures out.old) }
     ensures part { OnErr result (AppendsPrefixOf octets.now (O.written out.old) (O.written out.new)) }
     ensures cause { OnErr result (result ≡ Err Refusal.Write) }

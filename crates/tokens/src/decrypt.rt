@@ -1,7 +1,7 @@
 //! Decrypting with any key of a set (RFC 7516 section 5.2).
-ghost use Rattle.std.specs.Prelude.{◌≡◌, ◌≢◌, ◌+◌, ◌≤◌, ◌*◌, [], ◌∷◌, true, length, take, map, option_map, None, OnOk, OnErr, IfErr, IfNone, IsTrue};
+ghost use Rattle.std.specs.Prelude.{◌≡◌, ◌≢◌, ◌+◌, ◌≤◌, ◌*◌, [], ◌∷◌, true, length, take, map, option_map, None, OnOk, OnErr, IfErr, IfNone};
 ghost use Rattle.std.specs.Result.{result_unwrap_or};
-ghost use Rattle.octets.specs.Devices.{appended, AppendsPrefixOf};
+ghost use Rattle.octets.specs.Devices.{appended, AppendsPrefixOf, IsFinishedOnce};
 ghost use Rattle.octets.specs.Faults.{TellsFaults, counts};
 ghost use Rattle.octets.specs.Outcomes.{AgreesUnlessMemory, AgreesUnlessExternal};
 ghost use Rattle.keys.specs.Limits.{limits};
@@ -65,7 +65,8 @@ pub fn jwe_decrypt<O: Output>(
     ensures held_back { IfErr result.1 (λ refusal. refusal ≢ Refusal.Write → out.new ≡ out.old) }
     ensures beginning { OnErr result.1 (AppendsPrefixOf (result_unwrap_or (decrypted limits keys.now (jwe_view jwe)) [])
         (O.written out.old) (O.written out.new)) }
-    ensures finished { OnOk result.1 (IsTrue (O.is_finished out.new)) }
+    ensures finished { OnOk result.1 (IsFinishedOnce O.is_finished O.endings out.old out.new) }
+    ensures unfinished { OnErr result.1 (O.endings out.new ≡ O.endings out.old) }
     ensures faults { TellsFaults [] (counts O.failures out.old out.new ∷ []) result.1 }
 
     // The work is that of the pairs up to and with the first that opens.
@@ -93,7 +94,8 @@ fn decrypt<O: Output>(
     ensures held_back { IfErr result (λ refusal. refusal ≢ Refusal.Write → out.new ≡ out.old) }
     ensures beginning { OnErr result (AppendsPrefixOf (result_unwrap_or (decrypted limits keys.now (jwe_view jwe)) [])
         (O.written out.old) (O.written out.new)) }
-    ensures finished { OnOk result (IsTrue (O.is_finished out.new)) }
+    ensures finished { OnOk result (IsFinishedOnce O.is_finished O.endings out.old out.new) }
+    ensures unfinished { OnErr result (O.endings out.new ≡ O.endings out.old) }
     ensures faults { TellsFaults [] (counts O.failures out.old out.new ∷ []) result }
     ensures work { work_view work.new ≡ work_told (jwe_view jwe) (pairs_to_try limits keys.now (jwe_view jwe).recipients) result }
     ensures bound { IsBounded (work_view work.new) }

@@ -3,7 +3,7 @@ ghost use Rattle.std.specs.Prelude.{◌≡◌, ◌≢◌, ◌⊎◌, ◌≤◌, 
 ghost use Rattle.std.specs.Iterator.{IsFinite};
 ghost use Rattle.std.specs.Option.{unwrap_or};
 ghost use Rattle.octets.specs.Base64url.{base64url};
-ghost use Rattle.octets.specs.Devices.{appended, observed, IsPossibleInput, AppendsPrefixOf};
+ghost use Rattle.octets.specs.Devices.{appended, observed, IsPossibleInput, AppendsPrefixOf, IsFinishedOnce};
 ghost use Rattle.octets.specs.Faults.{TellsFaults, DidNotFail, counts};
 ghost use Rattle.octets.specs.Lent.{lent, wrote_on, IfLent, counts_of};
 ghost use Rattle.octets.specs.Octets.{IsOctets};
@@ -104,7 +104,8 @@ pub fn jwe_encrypt<I: Input, O: Output>(
     ensures beginning_beside { OnErr result (IfLent (lent detached.entry detached.exit) (λ old new. AppendsPrefixOf
         (begun (plan_from (enc_plan limits compact (is_some detached.entry) keys.now template.now) (appended (I.consumed random.old) (I.consumed random.new)))
         (observed I.consumed I.is_at_end content.old content.new)).content (O.written old) (O.written new))) }
-    ensures finished { OnOk result (IsTrue (O.is_finished out.new) × IfLent (lent detached.entry detached.exit) (λ old new. IsTrue (O.is_finished new))) }
+    ensures finished { OnOk result (IsFinishedOnce O.is_finished O.endings out.old out.new × IfLent (lent detached.entry detached.exit) (IsFinishedOnce O.is_finished O.endings)) }
+    ensures unfinished { OnErr result (O.endings out.new ≡ O.endings out.old) }
 
     // Where the content fails, what stands is at most 4,160 octets behind what was read of it.
     ensures keeps_up { result ≡ Err Refusal.Read → appended (I.consumed content.old) (I.consumed content.new) ≢ []
@@ -121,9 +122,9 @@ pub fn jwe_encrypt<I: Input, O: Output>(
         (DidNotFail refusal (counts O.failures out.old out.new) → O.written out.new ≡ O.written out.old → out.new ≡ out.old)
         × IfLent (lent detached.entry detached.exit) (λ old new. refusal ≢ Refusal.Write → O.written new ≡ O.written old → new ≡ old)) }
 
-    // The text is not begun before the ciphertext stands whole beside it, where it is detached.
-    ensures content_first { OnErr result ((out.new ≡ out.old) ⊎ IfLent (lent detached.entry detached.exit) (λ old new.
-        IsTrue (I.is_at_end content.new) × IsTrue (O.is_finished new)
+    // If the ciphertext is detached, the text is begun only after all of the ciphertext was written and its output was finished, once.
+    ensures content_first { OnErr result (IfLent (lent detached.entry detached.exit) (λ old new.
+        ((out.new ≡ out.old) × (O.endings new ≡ O.endings old)) ⊎ (IsTrue (I.is_at_end content.new) × IsFinishedOnce O.is_finished O.endings old new
         × (O.written new ≡ O.written old ++ (begun (plan_from (enc_plan limits compact (is_some detached.entry) keys.now template.now) (appended (I.consumed random.old) (I.consumed random.new)))
         (observed I.consumed I.is_at_end content.old content.new)).content))) }
 
@@ -258,7 +259,8 @@ fn write_tag<O: Output>(tag: &Tag, texts: &[String], out: &mut O) -> Result<(), 
     requires { length texts.now ≡ 2 }
     ensures all { OnOk result (O.written out.new ≡ O.written out.old ++ filled (map string_bytes texts.now) (base64url tag.now ∷ [])) }
     ensures beginning { OnErr result (AppendsPrefixOf (filled (map string_bytes texts.now) (base64url tag.now ∷ [])) (O.written out.old) (O.written out.new)) }
-    ensures finished { OnOk result (IsTrue (O.is_finished out.new)) }
+    ensures finished { OnOk result (IsFinishedOnce O.is_finished O.endings out.old out.new) }
+    ensures unfinished { OnErr result (O.endings out.new ≡ O.endings out.old) }
     ensures cause { OnErr result (result ≡ Err Refusal.Write) }
     ensures faults { TellsFaults [] (counts O.failures out.old out.new ∷ []) result }
 {

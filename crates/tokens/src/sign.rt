@@ -2,7 +2,7 @@
 ghost use Rattle.std.specs.Prelude.{◌≡◌, ◌≢◌, ◌⊎◌, ◌+◌, ◌++◌, ℕ, List, [], ◌∷◌, true, false, length, is_some, Err, IfOk, IfErr, IsTrue, OnOk, OnErr, map, string_bytes};
 ghost use Rattle.std.specs.Iterator.{IsFinite};
 ghost use Rattle.serde_json.specs.View.{members_view};
-ghost use Rattle.octets.specs.Devices.{appended, observed, IsPossibleInput, AppendsPrefixOf};
+ghost use Rattle.octets.specs.Devices.{appended, observed, IsPossibleInput, AppendsPrefixOf, IsFinishedOnce};
 ghost use Rattle.octets.specs.Faults.{TellsFaults, DidNotFail, counts};
 ghost use Rattle.octets.specs.Lent.{lent, wrote_on, IfLent, counts_of};
 ghost use Rattle.octets.specs.Outcomes.{AgreesUnlessMemory, AgreesUnlessExternal, is_memory, is_external};
@@ -63,7 +63,8 @@ pub fn jws_sign<I: Input, O: Output>(
     ensures beginning { OnErr result (AppendsPrefixOf (begun (sig_plan limits compact (is_some detached.entry) keys.now template.now) (observed I.consumed I.is_at_end content.old content.new)).text (O.written out.old) (O.written out.new)) }
     ensures beginning_beside { OnErr result (IfLent (lent detached.entry detached.exit) (λ old new.
         AppendsPrefixOf (begun (sig_plan limits compact (is_some detached.entry) keys.now template.now) (observed I.consumed I.is_at_end content.old content.new)).content (O.written old) (O.written new))) }
-    ensures finished { OnOk result (IsTrue (O.is_finished out.new) × IfLent (lent detached.entry detached.exit) (λ old new. IsTrue (O.is_finished new))) }
+    ensures finished { OnOk result (IsFinishedOnce O.is_finished O.endings out.old out.new × IfLent (lent detached.entry detached.exit) (IsFinishedOnce O.is_finished O.endings)) }
+    ensures unfinished { OnErr result (O.endings out.new ≡ O.endings out.old) }
 
     // Where the content fails, what stands is at most 4,160 octets behind what was read of it.
     ensures keeps_up { result ≡ Err Refusal.Read → appended (I.consumed content.old) (I.consumed content.new) ≢ []
@@ -79,9 +80,9 @@ pub fn jws_sign<I: Input, O: Output>(
         (DidNotFail refusal (counts O.failures out.old out.new) → O.written out.new ≡ O.written out.old → out.new ≡ out.old)
         × IfLent (lent detached.entry detached.exit) (λ old new. refusal ≢ Refusal.Write → O.written new ≡ O.written old → new ≡ old)) }
 
-    // The text is not begun before the payload stands whole beside it, where it is detached.
-    ensures content_first { OnErr result ((out.new ≡ out.old) ⊎ IfLent (lent detached.entry detached.exit) (λ old new.
-        IsTrue (I.is_at_end content.new) × IsTrue (O.is_finished new)
+    // If the payload is detached, the text is begun only after all of the payload was written and its output was finished, once.
+    ensures content_first { OnErr result (IfLent (lent detached.entry detached.exit) (λ old new.
+        ((out.new ≡ out.old) × (O.endings new ≡ O.endings old)) ⊎ (IsTrue (I.is_at_end content.new) × IsFinishedOnce O.is_finished O.endings old new
         × (O.written new ≡ O.written old ++ (begun (sig_plan limits compact (is_some detached.entry) keys.now template.now) (observed I.consumed I.is_at_end content.old content.new)).content))) }
 
     // All memory is taken before the content is touched, and an output that did not fail is as it was where nothing of it could be
@@ -147,7 +148,8 @@ fn write_signatures<O: Output, S: SigningInput>(
         → OnOk result (O.written out.new ≡ O.written out.old ++ filled (map string_bytes texts.now) (map (signature_text text) starts)) }
     ensures beginning { (starts : List InputStart) (text : List ℕ) → HoldEach S.has_taken inputs.items starts text
         → OnErr result (AppendsPrefixOf (filled (map string_bytes texts.now) (map (signature_text text) starts)) (O.written out.old) (O.written out.new)) }
-    ensures finished { OnOk result (IsTrue (O.is_finished out.new)) }
+    ensures finished { OnOk result (IsFinishedOnce O.is_finished O.endings out.old out.new) }
+    ensures unfinished { OnErr result (O.endings out.new ≡ O.endings out.old) }
     ensures cause { OnErr result (result ≡ Err Refusal.Write) }
     ensures faults { TellsFaults [] (counts O.failures out.old out.new ∷ []) result }
 {

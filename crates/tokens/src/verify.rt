@@ -1,8 +1,8 @@
 //! Verifying with the keys of a set (RFC 7515 section 5.2).
-ghost use Rattle.std.specs.Prelude.{◌≡◌, ◌≢◌, ℕ, Bool, List, [], ◌∷◌, false, is_some, map, OnOk, OnErr, IfErr, IsTrue};
+ghost use Rattle.std.specs.Prelude.{◌≡◌, ◌≢◌, ℕ, Bool, List, [], ◌∷◌, false, is_some, map, OnOk, OnErr, IfErr};
 ghost use Rattle.std.specs.List.{list_any};
 ghost use Rattle.std.specs.Result.{result_unwrap_or};
-ghost use Rattle.octets.specs.Devices.{AppendsPrefixOf};
+ghost use Rattle.octets.specs.Devices.{AppendsPrefixOf, IsFinishedOnce};
 ghost use Rattle.octets.specs.Faults.{TellsFaults};
 ghost use Rattle.octets.specs.Lent.{lent, wrote_on, IfLent, counts_of};
 ghost use Rattle.octets.specs.Outcomes.{Agrees, AgreesUnlessExternal};
@@ -38,7 +38,8 @@ pub fn jws_verify<O: Output>(
     ensures held_back { IfErr result (λ refusal. refusal ≢ Refusal.Write → IfLent (lent out.entry out.exit) (λ old new. new ≡ old)) }
     ensures beginning { OnErr result (IfLent (lent out.entry out.exit) (λ old new. AppendsPrefixOf
         (result_unwrap_or (verifying_by all (is_some out.entry) keys.now (jws_view jws.now)) []) (O.written old) (O.written new))) }
-    ensures finished { OnOk result (IfLent (lent out.entry out.exit) (λ old new. IsTrue (O.is_finished new))) }
+    ensures finished { OnOk result (IfLent (lent out.entry out.exit) (IsFinishedOnce O.is_finished O.endings)) }
+    ensures unfinished { OnErr result (IfLent (lent out.entry out.exit) (λ old new. O.endings new ≡ O.endings old)) }
     ensures no_memory { IfErr result (λ refusal. refusal ≢ Refusal.Memory) }
     ensures faults { TellsFaults [] (counts_of O.failures (lent out.entry out.exit)) result }
 {

@@ -1,7 +1,7 @@
 //! The commands `b64 enc` and `b64 dec`, from devices to devices.
-ghost use Rattle.std.specs.Prelude.{◌≡◌, ◌≢◌, ℕ, List, [], ◌∷◌, Err, OnOk, OnErr, IfErr, IsTrue};
+ghost use Rattle.std.specs.Prelude.{◌≡◌, ◌≢◌, ℕ, List, [], ◌∷◌, Err, OnOk, OnErr, IfErr};
 ghost use Rattle.std.specs.Iterator.{IsFinite};
-ghost use Rattle.octets.specs.Devices.{appended, observed, IsPossibleInput, AppendsPrefixOf};
+ghost use Rattle.octets.specs.Devices.{appended, observed, IsPossibleInput, AppendsPrefixOf, IsFinishedOnce};
 ghost use Rattle.octets.specs.Encoding.{encoding, decoding};
 ghost use Rattle.octets.specs.Faults.{TellsFaults, counts};
 ghost use Rattle.octets.specs.Outcomes.{AgreesUnlessExternal};
@@ -16,7 +16,8 @@ pub(crate) fn encode<I: Input, O: Output>(content: &mut I, out: &mut O) -> Resul
     ensures answer { (whole : List ℕ) → IsPossibleInput (observed I.consumed I.is_at_end content.old content.new) whole
         → AgreesUnlessExternal (encoding.whole whole) (appended (O.written out.old) (O.written out.new)) result }
     ensures beginning { OnErr result (AppendsPrefixOf (beginning_of encoding (observed I.consumed I.is_at_end content.old content.new)) (O.written out.old) (O.written out.new)) }
-    ensures finished { OnOk result (IsTrue (O.is_finished out.new)) }
+    ensures finished { OnOk result (IsFinishedOnce O.is_finished O.endings out.old out.new) }
+    ensures unfinished { OnErr result (O.endings out.new ≡ O.endings out.old) }
     ensures uncut { IfErr result (λ refusal. refusal ≢ Refusal.Write
         → O.written out.new ≡ O.written out.old → out.new ≡ out.old) }
     ensures keeps_up { result ≡ Err Refusal.Read → appended (I.consumed content.old) (I.consumed content.new) ≢ []
@@ -34,7 +35,8 @@ pub(crate) fn decode<I: Input, O: Output>(text: &mut I, out: &mut O) -> Result<(
     ensures answer { (whole : List ℕ) → IsPossibleInput (observed I.consumed I.is_at_end text.old text.new) whole
         → AgreesUnlessExternal (decoding.whole whole) (appended (O.written out.old) (O.written out.new)) result }
     ensures beginning { OnErr result (AppendsPrefixOf (beginning_of decoding (observed I.consumed I.is_at_end text.old text.new)) (O.written out.old) (O.written out.new)) }
-    ensures finished { OnOk result (IsTrue (O.is_finished out.new)) }
+    ensures finished { OnOk result (IsFinishedOnce O.is_finished O.endings out.old out.new) }
+    ensures unfinished { OnErr result (O.endings out.new ≡ O.endings out.old) }
     ensures uncut { IfErr result (λ refusal. refusal ≢ Refusal.Write
         → O.written out.new ≡ O.written out.old → out.new ≡ out.old) }
     ensures keeps_up { result ≡ Err Refusal.Read → appended (I.consumed text.old) (I.consumed text.new) ≢ []

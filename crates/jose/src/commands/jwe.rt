@@ -1,7 +1,7 @@
 //! The commands `jwe enc`, `jwe dec` and `jwe fmt`, from devices to devices.
 ghost use Rattle.std.specs.Prelude.{◌≡◌, ◌≢◌, ◌⊎◌, ◌<◌, ◌≤◌, ◌++◌, false, not, ◌&&◌, ◌||◌, ℕ, List, [], ◌∷◌, length, option_map, Err, OnOk, OnErr, IfErr, IsTrue, string_bytes};
 ghost use Rattle.std.specs.Iterator.{IsFinite};
-ghost use Rattle.octets.specs.Devices.{appended, observed, IsPossibleInput, AppendsPrefixOf};
+ghost use Rattle.octets.specs.Devices.{appended, observed, IsPossibleInput, AppendsPrefixOf, IsFinishedOnce};
 ghost use Rattle.octets.specs.declared.refusal.Refusal.{Refusal};
 ghost use Rattle.octets.specs.Faults.{TellsFaults, DidNotFail, counts};
 ghost use Rattle.octets.specs.Outcomes.{AgreesUnlessExternal, AgreesUnlessMemory, is_external};
@@ -62,7 +62,8 @@ pub(crate) fn encrypt<I: Input, O: Output>(
         (plan_from (enc_answer limits compact detach (appended (I.consumed keys.old) (I.consumed keys.new)) (appended (I.consumed template.old) (I.consumed template.new)))
         (appended (I.consumed random.old) (I.consumed random.new)))
         (observed I.consumed I.is_at_end content.old content.new)).content (O.written detached.old) (O.written detached.new)) }
-    ensures finished { OnOk result (IsTrue (O.is_finished out.new) × (IsTrue detach → IsTrue (O.is_finished detached.new))) }
+    ensures finished { OnOk result (IsFinishedOnce O.is_finished O.endings out.old out.new × (IsTrue detach → IsFinishedOnce O.is_finished O.endings detached.old detached.new)) }
+    ensures unfinished { OnErr result (O.endings out.new ≡ O.endings out.old) }
     ensures untouched { detach ≡ false → detached.new ≡ detached.old }
 
     // No input is touched before the one ahead of it was read to its end, and what is drawn and the content not before the
@@ -92,7 +93,7 @@ pub(crate) fn encrypt<I: Input, O: Output>(
         × KeepsUp (λ front. (fixed_by (plan_from (enc_answer limits compact detach (appended (I.consumed keys.old) (I.consumed keys.new)) (appended (I.consumed template.old) (I.consumed template.new)))
         (appended (I.consumed random.old) (I.consumed random.new))) front).content)
         (appended (I.consumed content.old) (I.consumed content.new)) (O.written detached.old) (O.written detached.new) }
-    ensures content_first { OnErr result ((out.new ≡ out.old) ⊎ (IsTrue detach → IsTrue (I.is_at_end content.new) × IsTrue (O.is_finished detached.new)
+    ensures content_first { OnErr result (((out.new ≡ out.old) × (O.endings detached.new ≡ O.endings detached.old)) ⊎ (IsTrue detach → IsTrue (I.is_at_end content.new) × IsFinishedOnce O.is_finished O.endings detached.old detached.new
         × (O.written detached.new ≡ O.written detached.old ++ (planned_beginning (I.is_at_end keys.new && I.is_at_end template.new)
         (plan_from (enc_answer limits compact detach (appended (I.consumed keys.old) (I.consumed keys.new)) (appended (I.consumed template.old) (I.consumed template.new)))
         (appended (I.consumed random.old) (I.consumed random.new)))
@@ -150,7 +151,8 @@ pub(crate) fn decrypt<I: Input, O: Output>(
     ensures beginning { OnErr result (AppendsPrefixOf
         (accepted (dec_answer limits (appended (I.consumed keys.old) (I.consumed keys.new)) (handed_in detached_given (appended (I.consumed content.old) (I.consumed content.new))) (appended (I.consumed text.old) (I.consumed text.new)))
         (I.is_at_end keys.new && I.is_at_end text.new && (not detached_given || I.is_at_end content.new))) (O.written out.old) (O.written out.new)) }
-    ensures finished { OnOk result (IsTrue (O.is_finished out.new)) }
+    ensures finished { OnOk result (IsFinishedOnce O.is_finished O.endings out.old out.new) }
+    ensures unfinished { OnErr result (O.endings out.new ≡ O.endings out.old) }
     ensures in_order { (I.is_at_end text.new ≡ false → keys.new ≡ keys.old)
         × (I.is_at_end keys.new && I.is_at_end text.new ≡ false → content.new ≡ content.old) }
     ensures reads_first { IfErr result (λ refusal. is_external refusal ≡ false
@@ -188,7 +190,7 @@ pub(crate) fn format<I: Input, O: Output>(
     // goes out there.
     ensures held_back { IfErr result (λ refusal. (DidNotFail refusal (counts O.failures out.old out.new) → out.new ≡ out.old)
         × (refusal ≢ Refusal.Write → detached.new ≡ detached.old)) }
-    ensures content_first { OnErr result ((out.new ≡ out.old) ⊎ (IsTrue detach → (IsTrue detached_given → IsTrue (I.is_at_end content.new)) × IsTrue (O.is_finished detached.new)
+    ensures content_first { OnErr result (((out.new ≡ out.old) × (O.endings detached.new ≡ O.endings detached.old)) ⊎ (IsTrue detach → (IsTrue detached_given → IsTrue (I.is_at_end content.new)) × IsFinishedOnce O.is_finished O.endings detached.old detached.new
         × (O.written detached.new ≡ O.written detached.old ++ (formed (jwe_fmt_answer limits compact detach (handed_in detached_given (appended (I.consumed content.old) (I.consumed content.new))) (appended (I.consumed text.old) (I.consumed text.new)))
         (I.is_at_end text.new && (not detached_given || I.is_at_end content.new))).content))) }
     ensures beginning { OnErr result (
@@ -196,7 +198,8 @@ pub(crate) fn format<I: Input, O: Output>(
         (I.is_at_end text.new && (not detached_given || I.is_at_end content.new))).text (O.written out.old) (O.written out.new))
         × (AppendsPrefixOf (formed (jwe_fmt_answer limits compact detach (handed_in detached_given (appended (I.consumed content.old) (I.consumed content.new))) (appended (I.consumed text.old) (I.consumed text.new)))
         (I.is_at_end text.new && (not detached_given || I.is_at_end content.new))).content (O.written detached.old) (O.written detached.new))) }
-    ensures finished { OnOk result (IsTrue (O.is_finished out.new) × (IsTrue detach → IsTrue (O.is_finished detached.new))) }
+    ensures finished { OnOk result (IsFinishedOnce O.is_finished O.endings out.old out.new × (IsTrue detach → IsFinishedOnce O.is_finished O.endings detached.old detached.new)) }
+    ensures unfinished { OnErr result (O.endings out.new ≡ O.endings out.old) }
 
     // No content is read before the text was read to its end, and none where it is not given.
     ensures in_order { I.is_at_end text.new ≡ false → content.new ≡ content.old }

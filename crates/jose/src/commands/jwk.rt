@@ -1,7 +1,7 @@
 //! The commands `jwk gen` and `jwk thp`, from devices to devices.
 ghost use Rattle.std.specs.Prelude.{◌≡◌, ◌≢◌, ◌≤◌, ℕ, List, [], ◌∷◌, false, Err, length, map, string_bytes, OnOk, OnErr, IfOk, IfErr, IsTrue};
 ghost use Rattle.std.specs.Iterator.{IsFinite};
-ghost use Rattle.octets.specs.Devices.{appended, observed, IsPossibleInput, AppendsPrefixOf};
+ghost use Rattle.octets.specs.Devices.{appended, observed, IsPossibleInput, AppendsPrefixOf, IsFinishedOnce};
 ghost use Rattle.octets.specs.declared.refusal.Refusal.{Refusal};
 ghost use Rattle.octets.specs.Faults.{TellsFaults, counts};
 ghost use Rattle.octets.specs.Outcomes.{AgreesUnlessExternal, AgreesUnlessMemory, is_external};
@@ -42,7 +42,8 @@ pub(crate) fn generate<I: Input, O: Output>(
     ensures beginning { OnErr result (AppendsPrefixOf
         (accepted (gen_answer limits (appended (I.consumed template.old) (I.consumed template.new)) (appended (I.consumed random.old) (I.consumed random.new)))
         (I.is_at_end template.new)) (O.written out.old) (O.written out.new)) }
-    ensures finished { OnOk result (IsTrue (O.is_finished out.new)) }
+    ensures finished { OnOk result (IsFinishedOnce O.is_finished O.endings out.old out.new) }
+    ensures unfinished { OnErr result (O.endings out.new ≡ O.endings out.old) }
 
     // The random input is touched once the template was read and accepted.
     ensures in_order { I.is_at_end template.new ≡ false → random.new ≡ random.old }
@@ -73,7 +74,8 @@ pub(crate) fn thumbprints<I: Input, O: Output>(
     ensures beginning { OnErr result (AppendsPrefixOf
         (accepted (thp_answer hash (appended (I.consumed text.old) (I.consumed text.new))) (I.is_at_end text.new))
         (O.written out.old) (O.written out.new)) }
-    ensures finished { OnOk result (IsTrue (O.is_finished out.new)) }
+    ensures finished { OnOk result (IsFinishedOnce O.is_finished O.endings out.old out.new) }
+    ensures unfinished { OnErr result (O.endings out.new ≡ O.endings out.old) }
     ensures reads_first { IfErr result (λ refusal. is_external refusal ≡ false → IsTrue (I.is_at_end text.new)) }
     ensures faults { TellsFaults (counts I.failures text.old text.new ∷ []) (counts O.failures out.old out.new ∷ []) result }
 {

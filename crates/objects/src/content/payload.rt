@@ -1,11 +1,11 @@
 //! The payload of a signed object, as the base64url text that was received or as octets. A text is checked and written in
 //! pieces, without memory.
-ghost use Rattle.std.specs.Prelude.{◌≡◌, ◌++◌, Err, IfOk, IfErr, OnOk, OnErr, IsTrue};
+ghost use Rattle.std.specs.Prelude.{◌≡◌, ◌++◌, Err, IfOk, IfErr, OnOk, OnErr};
 ghost use Rattle.octets.specs.Base64url.{base64url, decoded};
-ghost use Rattle.octets.specs.Devices.{next_count, AppendsPrefixOf};
+ghost use Rattle.octets.specs.Devices.{next_count, AppendsPrefixOf, IsFinishedOnce};
 ghost use Rattle.octets.specs.Outcomes.{Agrees};
 ghost use Rattle.objects.specs.Texts.{meaning};
-ghost use Rattle.objects.specs.Views.{held_view, payload_view, received_view};
+ghost use Rattle.objects.specs.Views.{held_view, payload_view, received_view, is_text, payload_is_text};
 
 use crate::content::received_text::ReceivedText;
 use octets::laws::{
@@ -54,7 +54,8 @@ impl<'t> ReceivedText<'t> {
 
 impl<'t> Payload<'t> {
     pub(crate) fn held(&self) -> HeldContent<'_>
-        ensures { held_view result ≡ payload_view self.now }
+        ensures octets { held_view result ≡ payload_view self.now }
+        ensures form { is_text result ≡ payload_is_text self.now }
     {
         match self {
             Payload::Text(text) => HeldContent::Text(*text),
@@ -78,7 +79,8 @@ impl HeldContent<'_> {
     /// Writes the octets, and finishes. It asks for no memory. Where the output fails a beginning of them stands.
     pub fn write<O: Output>(&self, out: &mut O) -> Result<(), Refusal>
         ensures all { OnOk result (O.written out.new ≡ O.written out.old ++ held_view self.now) }
-        ensures finished { OnOk result (IsTrue (O.is_finished out.new)) }
+        ensures finished { OnOk result (IsFinishedOnce O.is_finished O.endings out.old out.new) }
+        ensures unfinished { OnErr result (O.endings out.new ≡ O.endings out.old) }
         ensures works { OnOk result (O.failures out.new ≡ O.failures out.old) }
         ensures part { OnErr result (AppendsPrefixOf (held_view self.now) (O.written out.old) (O.written out.new)) }
         ensures cause { OnErr result (result ≡ Err Refusal.Write) }
@@ -112,7 +114,8 @@ fn check(text: &[u8]) -> Result<(), Refusal>
 /// Writes the octets that the text means, and finishes.
 fn write_meaning<O: Output>(text: &ReceivedText<'_>, out: &mut O) -> Result<(), Refusal>
     ensures all { OnOk result (O.written out.new ≡ O.written out.old ++ received_view text.now) }
-    ensures finished { OnOk result (IsTrue (O.is_finished out.new)) }
+    ensures finished { OnOk result (IsFinishedOnce O.is_finished O.endings out.old out.new) }
+    ensures unfinished { OnErr result (O.endings out.new ≡ O.endings out.old) }
     ensures works { OnOk result (O.failures out.new ≡ O.failures out.old) }
     ensures part { OnErr result (AppendsPrefixOf (received_view text.now) (O.written out.old) (O.written out.new)) }
     ensures cause { OnErr result (result ≡ Err Refusal.Write) }

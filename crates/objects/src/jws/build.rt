@@ -1,12 +1,12 @@
 //! Signed objects that are made of their members. It sees no text of an object.
-ghost use Rattle.std.specs.Prelude.{◌≡◌, true, length, map, IfOk};
+ghost use Rattle.std.specs.Prelude.{◌≡◌, true, false, length, map, IfOk};
 ghost use Rattle.std.specs.List.{list_all};
 ghost use Rattle.octets.specs.Outcomes.{AgreesUnlessMemory};
 ghost use Rattle.keys.specs.Json.{member_numbers_are_whole};
 ghost use Rattle.keys.specs.Limits.{limits};
 ghost use Rattle.objects.specs.Jws.{AreMembers, IsMade, built, decoded_part, nest_at_most as nest_at_most_parts, have_whole_numbers as have_whole_numbers_parts};
 ghost use Rattle.objects.specs.Texts.{each};
-ghost use Rattle.objects.specs.Views.{jws_view, jws_parts_view, signature_parts_view, decoded_signature_view};
+ghost use Rattle.objects.specs.Views.{jws_view, holds_text, jws_parts_view, signature_parts_view, decoded_signature_view};
 
 use crate::content::payload::Payload;
 use crate::header::depth::depth_of_each;
@@ -25,6 +25,7 @@ impl<'t> Jws<'t> {
     pub fn build(alloc: Global, parts: JwsParts) -> Result<Jws<'t>, Refusal>
         ensures exact { AgreesUnlessMemory jws_view result (built limits (jws_parts_view parts)) }
         ensures made { IfOk result (λ jws. AreMembers (jws_parts_view parts) → IsMade limits (jws_view jws)) }
+        ensures form { IfOk result (λ jws. holds_text jws ≡ false) }
     {
         object_of_parts(alloc, parts)
     }
@@ -33,7 +34,8 @@ impl<'t> Jws<'t> {
 /// The object with these members.
 #[tactic(auto, unfolding(crate::specs::Jws::built))]
 fn object_of_parts<'t>(alloc: Global, parts: JwsParts) -> Result<Jws<'t>, Refusal>
-    ensures { AgreesUnlessMemory jws_view result (built limits (jws_parts_view parts)) }
+    ensures exact { AgreesUnlessMemory jws_view result (built limits (jws_parts_view parts)) }
+    ensures form { IfOk result (λ jws. holds_text jws ≡ false) }
 {
     let JwsParts {
         payload,

@@ -1,12 +1,12 @@
 //! The members of a signed object as texts, by its compact or its JSON serialization (RFC 7515 section 7). It decodes them, and
 //! reads no header.
-ghost use Rattle.std.specs.Prelude.{◌≡◌, false, length, map, option_map, IfOk};
+ghost use Rattle.std.specs.Prelude.{◌≡◌, false, is_none, length, map, option_map, IfOk};
 ghost use Rattle.serde_json.specs.View.{view, items_view};
 ghost use Rattle.serde_json.specs.Written.{has_float, items_have_float};
 ghost use Rattle.octets.specs.Outcomes.{Agrees, AgreesUnlessMemory};
 ghost use Rattle.objects.specs.Jws.{encoded_signature, no_signature_at, signature_objects, encoded_in_json, encoded_in_compact, decoded_signature, decoded_part};
 ghost use Rattle.objects.specs.Texts.{each, each_item};
-ghost use Rattle.objects.specs.Views.{encoded_jws_view, encoded_signature_view, decoded_signature_view};
+ghost use Rattle.objects.specs.Views.{content_is_text, encoded_jws_view, encoded_signature_view, decoded_signature_view};
 
 use crate::compact::three_parts_of;
 use crate::content::Content;
@@ -126,7 +126,8 @@ pub(crate) fn encoded_in_compact(
     text: &[u8],
     detached: Option<Vec<u8>>,
 ) -> Result<EncodedJws<'_>, Refusal>
-    ensures { AgreesUnlessMemory encoded_jws_view result (encoded_in_compact (option_map (λ c. c.items) detached) text.now) }
+    ensures exact { AgreesUnlessMemory encoded_jws_view result (encoded_in_compact (option_map (λ c. c.items) detached) text.now) }
+    ensures form { IfOk result (λ texts. content_is_text texts.payload ≡ is_none detached) }
 {
     let (protected, payload, signature) = three_parts_of(text)?;
     let payload = Content::of_part(payload, detached)?;

@@ -1,7 +1,7 @@
 use Rattle.std.proofs.Common.{rules, ◌≡◌, ◌++◌, ◌∷◌, [], length, map, drop, string_bytes, true, false, Ok, Err, refl, sym, ap, subst, ◌∙◌, IsTrue}
 use Rattle.std.proofs.lemmas.List.{length-map}
 use Rattle.octets.specs.Base64url.{base64url}
-use Rattle.octets.specs.Devices.{appended, AppendsPrefixOf}
+use Rattle.octets.specs.Devices.{appended, AppendsPrefixOf, next_count, IsFinishedOnce}
 use Rattle.octets.specs.Encoding.{encoding}
 use Rattle.octets.specs.Faults.{counts}
 use Rattle.octets.specs.Octets.{IsOctets}
@@ -343,9 +343,11 @@ returns-in_ok-finish-in-Some-clause-beginning_beside g c =
 
 pub returns-in_ok-finish-in-Some-clause-finished : goal.returns-in_ok-finish-in-Some-clause-finished
 returns-in_ok-finish-in-Some-clause-finished g c =
-    let finished = g.O.Output.is_finished in
-    rw (c.in-Some.is) (on_success {Q = IsTrue (finished c.write_tag-in-Some.new.out) × IsTrue (finished c.finish.new.self)} c.write_tag-in-Some.result c.write_tag-in-Some.ensures.finished
-    (λ text. (text, c.in_ok-finish-in-Some.ensures.works.0)))
+    let out = g.O.Output in
+    let once : IsFinishedOnce out.is_finished out.endings c.in-Some.detached.now c.finish.new.self
+    = (c.in_ok-finish-in-Some.ensures.finished.0, c.in_ok-finish-in-Some.ensures.finished.1 ∙ ap next_count c.pump-in-Some.ensures.endings) in
+    rw (c.in-Some.is) (on_success {Q = IsFinishedOnce out.is_finished out.endings c.args.out.now c.write_tag-in-Some.new.out × IsFinishedOnce out.is_finished out.endings c.in-Some.detached.now c.finish.new.self}
+    c.write_tag-in-Some.result c.write_tag-in-Some.ensures.finished (λ text. (text, once)))
 
 pub returns-in_ok-finish-in-Some-clause-faults : goal.returns-in_ok-finish-in-Some-clause-faults
 returns-in_ok-finish-in-Some-clause-faults g c =
@@ -371,4 +373,4 @@ returns-in_ok-finish-in-Some-clause-content_first g c =
     let whole = sym (behind_nothing (sealed_plan as_it_is s) p) ∙ pumped.answer s p fed (seen_possible consumed at_end c.args.content.now c.pump-in-Some.new.content) in
     let tag = c.in_ok-tag-in-Some.tag in
     let is = beside_texts is_sealing-value.it c.args.compact _ made.field-0.sealer _ u p ended old out tag is_octets pumped.ends whole (pumped.left s fed) in
-    rw (c.in-Some.is) (stands_first _ _ pumped.ends c.in_ok-finish-in-Some.ensures.works.0 (c.finish.ensures.same ∙ pumped.extends ∙ ap (λ t. old ++ t.content) (sym is)))
+    rw (c.in-Some.is) (stands_first _ _ pumped.ends (c.in_ok-finish-in-Some.ensures.finished.0, c.in_ok-finish-in-Some.ensures.finished.1 ∙ ap next_count c.pump-in-Some.ensures.endings) (c.finish.ensures.same ∙ pumped.extends ∙ ap (λ t. old ++ t.content) (sym is)))

@@ -1,7 +1,7 @@
 use Rattle.std.proofs.Common.{rules, ◌++◌, length, map, drop, string_bytes, sym, ap, subst, refl, ◌∙◌, IsTrue, Err}
 use Rattle.std.proofs.lemmas.List.{length-map}
 use Rattle.octets.specs.Base64url.{base64url}
-use Rattle.octets.specs.Devices.{appended, AppendsPrefixOf}
+use Rattle.octets.specs.Devices.{appended, AppendsPrefixOf, next_count, IsFinishedOnce}
 use Rattle.octets.specs.Encoding.{encoding}
 use Rattle.octets.specs.Faults.{counts}
 use Rattle.octets.specs.Octets.{IsOctets}
@@ -314,9 +314,11 @@ returns-in_ok-finish-in-Some-clause-beginning_beside g c =
 
 pub returns-in_ok-finish-in-Some-clause-finished : goal.returns-in_ok-finish-in-Some-clause-finished
 returns-in_ok-finish-in-Some-clause-finished g c =
-    let finished = g.O.Output.is_finished in
-    rw (c.in-Some.is) (on_success {Q = IsTrue (finished c.write_signatures-in-Some.new.out) × IsTrue (finished c.finish.new.self)} c.write_signatures-in-Some.result c.write_signatures-in-Some.ensures.finished
-    (λ text. (text, c.in_ok-finish-in-Some.ensures.works.0)))
+    let out = g.O.Output in
+    let once : IsFinishedOnce out.is_finished out.endings c.in-Some.detached.now c.finish.new.self
+    = (c.in_ok-finish-in-Some.ensures.finished.0, c.in_ok-finish-in-Some.ensures.finished.1 ∙ ap next_count c.pump-in-Some.ensures.endings) in
+    rw (c.in-Some.is) (on_success {Q = IsFinishedOnce out.is_finished out.endings c.args.out.now c.write_signatures-in-Some.new.out × IsFinishedOnce out.is_finished out.endings c.in-Some.detached.now c.finish.new.self}
+    c.write_signatures-in-Some.result c.write_signatures-in-Some.ensures.finished (λ text. (text, once)))
 
 pub returns-in_ok-finish-in-Some-clause-content_first : goal.returns-in_ok-finish-in-Some-clause-content_first
 returns-in_ok-finish-in-Some-clause-content_first g c =
@@ -337,7 +339,7 @@ returns-in_ok-finish-in-Some-clause-content_first g c =
     let stands = all_written _ old out p whole pumped.extends refl in
     let is = beside_is has_taken-value.it c.args.compact _ made.field-0.inputs.items _ f p ended octets in
     let same = c.finish.ensures.same in
-    rw (c.in-Some.is) (stands_first _ _ pumped.ends c.in_ok-finish-in-Some.ensures.works.0 (same ∙ stands ∙ ap (λ t. old ++ t) (sym is)))
+    rw (c.in-Some.is) (stands_first _ _ pumped.ends (c.in_ok-finish-in-Some.ensures.finished.0, c.in_ok-finish-in-Some.ensures.finished.1 ∙ ap next_count c.pump-in-Some.ensures.endings) (same ∙ stands ∙ ap (λ t. old ++ t) (sym is)))
 
 pub returns-in_ok-finish-in-Some-clause-faults : goal.returns-in_ok-finish-in-Some-clause-faults
 returns-in_ok-finish-in-Some-clause-faults g c =

@@ -1,6 +1,6 @@
 use Rattle.std.proofs.Common.{rules, ◌≡◌, ◌++◌, refl, sym, ap, subst, ◌∙◌, append_assoc, append-nil}
 use Rattle.octets.specs.Base64url.{decoded, settled}
-use Rattle.octets.specs.Devices.{AppendsPrefixOf}
+use Rattle.octets.specs.Devices.{next_count, AppendsPrefixOf}
 use Rattle.octets.specs.Encoding.{octets_of_groups, settling_starts}
 use Rattle.octets.specs.LineEnds.{without_line_end}
 use Rattle.octets.specs.Octets.{IsOctets}
@@ -10,7 +10,7 @@ use Rattle.objects.proofs.ReceivedTexts.{means, nothing_read, octets_read, piece
 use Rattle.objects.proofs.content.payload.write_meaning.Goals as goal
 
 pub loop-piece-init : goal.loop-piece-init
-loop-piece-init g c = (search rules, (nothing_read (search rules) c.start-reader.ensures, (sym (ap (λ t. g.O.Output.written c.args.out.now ++ t) settling_starts ∙ append-nil _), refl)))
+loop-piece-init g c = (search rules, (nothing_read (search rules) c.start-reader.ensures, (sym (ap (λ t. g.O.Output.written c.args.out.now ++ t) settling_starts ∙ append-nil _), (refl, refl))))
 
 pub unreachable-requires : goal.unreachable-requires
 unreachable-requires g c =
@@ -30,7 +30,7 @@ loop-piece-preserved g c =
     let is = octets_read k _ piece parts c.are_octets.ensures in
     let adds = c.in-Ok.ensures.text tt k.front k.fed is in
     let wrote = c.in_ok-write_whole.ensures.all ∙ ap (λ t. t ++ c.in-Ok.octets.now) i.1.1.0 ∙ append_assoc old (octets_of_groups (settled k.front)) c.in-Ok.octets.now ∙ ap (λ t. old ++ t) (sym adds) in
-    (search rules, (piece_read k c.feed.new.self _ piece parts (c.in-Ok.ensures.fed tt k.front k.fed is), (wrote, c.in_ok-write_whole.ensures.works ∙ i.1.1.1)))
+    (search rules, (piece_read k c.feed.new.self _ piece parts (c.in-Ok.ensures.fed tt k.front k.fed is), (wrote, (c.in_ok-write_whole.ensures.works ∙ i.1.1.1.0, c.write_whole.ensures.endings ∙ i.1.1.1.1))))
 
 pub returns-in_err-write_whole-clause-part : goal.returns-in_err-write_whole-clause-part
 returns-in_err-write_whole-clause-part g c =
@@ -48,8 +48,11 @@ returns-in_err-write_whole-clause-part g c =
 
 pub returns-in_err-write_whole-clause-fails : goal.returns-in_err-write_whole-clause-fails
 returns-in_err-write_whole-clause-fails g c =
-    let same = c.loop-piece.invariant.1.1.1 in
+    let same = c.loop-piece.invariant.1.1.1.0 in
     search (rules, same)
+
+pub returns-in_err-write_whole-clause-unfinished : goal.returns-in_err-write_whole-clause-unfinished
+returns-in_err-write_whole-clause-unfinished g c = at_refusal _ (c.write_whole.ensures.endings ∙ c.loop-piece.invariant.1.1.1.1)
 
 pub unreachable-requires-in_default-finish : goal.unreachable-requires-in_default-finish
 unreachable-requires-in_default-finish g c =
@@ -71,7 +74,7 @@ returns-clause-all g c =
     on_success c.emit.result c.emit.ensures.all (λ wrote. wrote ∙ ap (λ t. t ++ last) i.1.1.0 ∙ append_assoc old (octets_of_groups (settled k.front)) last ∙ ap (λ t. old ++ t) (sym all))
 
 pub returns-clause-works : goal.returns-clause-works
-returns-clause-works g c = on_success c.emit.result c.emit.ensures.works (λ same. same ∙ c.loop-piece.invariant.1.1.1)
+returns-clause-works g c = on_success c.emit.result c.emit.ensures.works (λ same. same ∙ c.loop-piece.invariant.1.1.1.0)
 
 pub returns-clause-part : goal.returns-clause-part
 returns-clause-part g c =
@@ -86,5 +89,11 @@ returns-clause-part g c =
 
 pub returns-clause-fails : goal.returns-clause-fails
 returns-clause-fails g c =
-    let same = c.loop-piece.invariant.1.1.1 in
+    let same = c.loop-piece.invariant.1.1.1.0 in
     search (rules, same)
+
+pub returns-clause-finished : goal.returns-clause-finished
+returns-clause-finished g c = on_success c.emit.result c.emit.ensures.finished (λ once. (once.0, once.1 ∙ ap next_count c.loop-piece.invariant.1.1.1.1))
+
+pub returns-clause-unfinished : goal.returns-clause-unfinished
+returns-clause-unfinished g c = on_refusal c.emit.result c.emit.ensures.unfinished (λ same. same ∙ c.loop-piece.invariant.1.1.1.1)
