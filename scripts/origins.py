@@ -62,11 +62,11 @@ PLACES = [
     # Devices over memory.
     ("octets/src/memory.rt", "", "Input for MemoryInput", "it never fails"),
     ("octets/src/memory.rt", "", "Output for MemoryOutput", "it fails when its room is used up"),
-    ("octets/src/memory.rt", "MemoryOutput::write", "if n == 0 { count_failure(&mut self.failures); return Err(Fault::Writing); }", "room that is used up"),
+    ("octets/src/memory.rt", "MemoryOutput::write", "if n == 0 { count_one(&mut self.failures); return Err(Fault::Writing); }", "room that is used up"),
     ("octets/src/failing.rt", "", "Input for FailingInput", "it fails when it is told to"),
-    ("octets/src/failing.rt", "FailingInput::read", "if is_due { count_failure(&mut self.failures); return Err(Fault::Reading); }", "a failure that was asked for"),
+    ("octets/src/failing.rt", "FailingInput::read", "if is_due { count_one(&mut self.failures); return Err(Fault::Reading); }", "a failure that was asked for"),
     ("octets/src/failing.rt", "", "Output for FailingOutput", "it fails when it is told to"),
-    ("octets/src/failing.rt", "FailingOutput::call", "if is_due { count_failure(&mut self.failures); return Err(Fault::Writing); }", "a failure that was asked for"),
+    ("octets/src/failing.rt", "FailingOutput::call", "if is_due { count_one(&mut self.failures); return Err(Fault::Writing); }", "a failure that was asked for"),
 
     # Devices over readers and writers.
     ("octets/src/streams.rt", "", "const MOST_OCTETS: u64 = 1 << 62;", "how many octets are read"),
@@ -74,16 +74,16 @@ PLACES = [
     ("octets/src/streams.rt", "ReaderInput::read", "if self.is_at_end || buf.is_empty() { return Ok(0); }", "a read without room, or past the end"),
     ("octets/src/streams.rt", "ReaderInput::read", "let left = (MOST_OCTETS - self.count) as usize; let room = buf.len().min(left); "
      "let taken = if room == 0 { None } else { read_once(&mut self.reader, &mut buf[..room]).ok() }; "
-     "let Some(n) = taken else { count_failure(&mut self.failures); return Err(Fault::Reading); };", "the reader's error, or that all that may be read was read"),
+     "let Some(n) = taken else { count_one(&mut self.failures); return Err(Fault::Reading); };", "the reader's error, or that all that may be read was read"),
     ("octets/src/streams.rt", "ReaderInput::read", "self.is_at_end = n == 0; Ok(n)", "the reader's answer"),
     ("octets/src/streams.rt", "read_once", "'reads: for _ in 0..u64::MAX { match reader.read(buf) { Err(e) if e.kind() == ErrorKind::Interrupted => continue 'reads, "
      "result => return result, } } Err(io::Error::from(ErrorKind::Other))", "an interrupted call is made again, up to 2^64 - 1 times"),
     ("octets/src/streams.rt", "", "Output for WriterOutput", "it passes on what its writer answers"),
     ("octets/src/streams.rt", "WriterOutput::write", "if octets.is_empty() { return Ok(0); }", "a write of nothing"),
     ("octets/src/streams.rt", "WriterOutput::write", "match write_once(&mut self.writer, octets) { Ok(n) if n > 0 => { self.transcript.append(&octets[..n]); Ok(n) } "
-     "_ => { count_failure(&mut self.failures); Err(Fault::Writing) } }", "the writer's answer; its error, or that it took no octet"),
-    ("octets/src/streams.rt", "WriterOutput::finish", "if flush_once(&mut self.writer).is_err() { count_failure(&mut self.failures); return Err(Fault::Writing); } "
-     "self.is_finished = true; Ok(())", "the writer's answer"),
+     "_ => { count_one(&mut self.failures); Err(Fault::Writing) } }", "the writer's answer; its error, or that it took no octet"),
+    ("octets/src/streams.rt", "WriterOutput::finish", "if flush_once(&mut self.writer).is_err() { count_one(&mut self.failures); return Err(Fault::Writing); } "
+     "self.is_finished = true; count_one(&mut self.endings); Ok(())", "the writer's answer"),
     ("octets/src/streams.rt", "write_once", "'writes: for _ in 0..u64::MAX { match writer.write(octets) { Err(e) if e.kind() == ErrorKind::Interrupted => continue 'writes, "
      "result => return result, } } Err(io::Error::from(ErrorKind::Other))", "an interrupted call is made again, up to 2^64 - 1 times"),
     ("octets/src/streams.rt", "flush_once", "'flushes: for _ in 0..u64::MAX { match writer.flush() { Err(e) if e.kind() == ErrorKind::Interrupted => continue 'flushes, "

@@ -1,5 +1,5 @@
 -- An output that did not fail, whatever the other did.
-use Rattle.std.proofs.Common.{◌≡◌, ◌≢◌, ◌<◌, ◌⊎◌, [], ◌∷◌, Result, OnErr, inl, inr, arith}
+use Rattle.std.proofs.Common.{◌≡◌, ◌≢◌, ◌⊎◌, ℕ, refl, [], ◌∷◌, Result, Ok, Err, OnErr, IfErr, ap, inl, inr, arith}
 use Rattle.octets.specs.declared.refusal.Refusal.{Refusal}
 use Rattle.octets.specs.declared.refusal.Refusal.TheVariants.{Write}
 use Rattle.octets.specs.Faults.{Counts, SomeFailed, DidNotFail}
@@ -12,6 +12,17 @@ not_told e c told spared is = elim (told is) [
   | inr none ↦ none
 ]
 
+-- If it is the only one, and Write the only refusal, it failed: so nothing is asked of outputs that did not fail.
+pub told_alone : (P Q : Type 0) (r : Result (Unit {0}) Refusal) (c : Counts) → OnErr r (r ≡ Err Write) → (r ≡ Err Write → SomeFailed (c ∷ [])) → IfErr r (λ e. (DidNotFail e c → P) × (e ≢ Write → Q))
+told_alone P Q (Ok done) c cause told = tt
+told_alone P Q (Err e) c cause told =
+    let is : e ≡ Write = cc cause in
+    (λ spared. absurd (not_told e c (λ w. told (ap Err w)) spared is), λ other. absurd (other is))
+
 -- what stands whole beside a text, in place of a text that is not begun
 pub stands_first : {E F W : Type 0} (P : Type 0) (r : Result (Unit {0}) Refusal) → E → F → W → OnErr r (P ⊎ (E × F × W))
 stands_first P r ended finished whole = at_refusal r (inr (ended, finished, whole))
+
+-- a text that is not begun, where what stands beside it was not finished
+pub not_begun : {D : Type 0} (endings : D → ℕ) (Q : Type 0) (r : Result (Unit {0}) Refusal) (out old new : D) → endings new ≡ endings old → OnErr r (((out ≡ out) × (endings new ≡ endings old)) ⊎ Q)
+not_begun endings Q r out old new same = at_refusal {P = ((out ≡ out) × (endings new ≡ endings old)) ⊎ Q} r (inl (refl, same))

@@ -22,8 +22,7 @@ abbrev pub SomeFailed : List Counts → Type 0
 SomeFailed [] = ⊥
 SomeFailed (c ∷ cs) = (c.new ≡ next_count c.old) ⊎ SomeFailed cs
 
--- A device that failed in the call is told, and no other is: no success and no other refusal, as Memory, hides a failure. No device
--- is called again once it failed.
+-- A device that failed in the call is told, and no other is: no success and no other refusal, as Memory, hides a failure.
 pub record TellsFaults {X : Type 0} (inputs outputs : List Counts) (result : Result X Refusal) : Type 0 where
   pub works : OnOk result (NoneFailed inputs × NoneFailed outputs)
   pub read : IsErrOf result Read → SomeFailed inputs

@@ -126,7 +126,7 @@ pub fn jwe_encrypt<I: Input, O: Output>(
     ensures content_first { OnErr result (IfLent (lent detached.entry detached.exit) (λ old new.
         ((out.new ≡ out.old) × (O.endings new ≡ O.endings old)) ⊎ (IsTrue (I.is_at_end content.new) × IsFinishedOnce O.is_finished O.endings old new
         × (O.written new ≡ O.written old ++ (begun (plan_from (enc_plan limits compact (is_some detached.entry) keys.now template.now) (appended (I.consumed random.old) (I.consumed random.new)))
-        (observed I.consumed I.is_at_end content.old content.new)).content))) }
+        (observed I.consumed I.is_at_end content.old content.new)).content)))) }
 
     // All memory is taken before the content is touched, and an output that did not fail is as it was where nothing of it could be
     // read.

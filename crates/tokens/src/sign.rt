@@ -83,7 +83,7 @@ pub fn jws_sign<I: Input, O: Output>(
     // If the payload is detached, the text is begun only after all of the payload was written and its output was finished, once.
     ensures content_first { OnErr result (IfLent (lent detached.entry detached.exit) (λ old new.
         ((out.new ≡ out.old) × (O.endings new ≡ O.endings old)) ⊎ (IsTrue (I.is_at_end content.new) × IsFinishedOnce O.is_finished O.endings old new
-        × (O.written new ≡ O.written old ++ (begun (sig_plan limits compact (is_some detached.entry) keys.now template.now) (observed I.consumed I.is_at_end content.old content.new)).content))) }
+        × (O.written new ≡ O.written old ++ (begun (sig_plan limits compact (is_some detached.entry) keys.now template.now) (observed I.consumed I.is_at_end content.old content.new)).content)))) }
 
     // All memory is taken before the content is touched, and an output that did not fail is as it was where nothing of it could be
     // read.

@@ -7,7 +7,7 @@ use Rattle.octets.specs.Faults.{counts}
 use Rattle.octets.specs.Octets.{IsOctets}
 use Rattle.octets.specs.Plan.{as_it_is, plan_from, planned}
 use Rattle.octets.specs.Pumps.{behind}
-use Rattle.octets.proofs.Lemmas.{not_told, stands_first, IsOctets-drop, kept_up_by_none, AppendsPrefixOf-all, AppendsPrefixOf-kept, on_success, at_refusal, on_refusal, of_refusal, seen_possible, agrees_last, behind_grows, behind_refused, behind_nothing, beginning_behind_nothing, keeps_up, passed_on}
+use Rattle.octets.proofs.Lemmas.{not_told, told_alone, stands_first, not_begun, IsOctets-drop, kept_up_by_none, AppendsPrefixOf-all, AppendsPrefixOf-kept, on_success, at_refusal, on_refusal, of_refusal, seen_possible, agrees_last, behind_grows, behind_refused, behind_nothing, beginning_behind_nothing, keeps_up, passed_on}
 use Rattle.ciphers.specs.contracts.sealer.ContentSealerSealer.TheImpl.{is_sealing-value}
 use Rattle.keys.specs.Limits.{limits}
 use Rattle.objects.specs.Frames.{filled}
@@ -374,3 +374,17 @@ returns-in_ok-finish-in-Some-clause-content_first g c =
     let tag = c.in_ok-tag-in-Some.tag in
     let is = beside_texts is_sealing-value.it c.args.compact _ made.field-0.sealer _ u p ended old out tag is_octets pumped.ends whole (pumped.left s fed) in
     rw (c.in-Some.is) (stands_first _ _ pumped.ends (c.in_ok-finish-in-Some.ensures.finished.0, c.in_ok-finish-in-Some.ensures.finished.1 ∙ ap next_count c.pump-in-Some.ensures.endings) (c.finish.ensures.same ∙ pumped.extends ∙ ap (λ t. old ++ t.content) (sym is)))
+
+pub returns-in_err-texts-in-Some-clause-content_first : goal.returns-in_err-texts-in-Some-clause-content_first
+returns-in_err-texts-in-Some-clause-content_first g c = rw (c.in-Some.is) (not_begun g.O.Output.endings _ _ c.args.out.now _ _ refl)
+
+pub returns-in_err-tag-in-Some-clause-content_first : goal.returns-in_err-tag-in-Some-clause-content_first
+returns-in_err-tag-in-Some-clause-content_first g c = rw (c.in-Some.is) (not_begun g.O.Output.endings _ _ c.args.out.now _ _ c.pump-in-Some.ensures.endings)
+
+pub returns-in_err-finish-in-Some-clause-content_first : goal.returns-in_err-finish-in-Some-clause-content_first
+returns-in_err-finish-in-Some-clause-content_first g c =
+    rw (c.in-Some.is) (not_begun g.O.Output.endings _ _ c.args.out.now _ _ (c.in_err-finish-in-Some.ensures.kept.1 ∙ c.pump-in-Some.ensures.endings))
+
+pub returns-in_ok-finish-in-Some-clause-uncut : goal.returns-in_ok-finish-in-Some-clause-uncut
+returns-in_ok-finish-in-Some-clause-uncut g c =
+    rw (c.in-Some.is) (told_alone _ _ c.write_tag-in-Some.result (counts g.O.Output.failures c.args.out.now c.write_tag-in-Some.new.out) c.write_tag-in-Some.ensures.cause c.write_tag-in-Some.ensures.faults.write)

@@ -7,7 +7,7 @@ use Rattle.octets.specs.Faults.{counts}
 use Rattle.octets.specs.Octets.{IsOctets}
 use Rattle.octets.specs.Plan.{as_it_is}
 use Rattle.octets.specs.Pumps.{behind}
-use Rattle.octets.proofs.Lemmas.{not_told, stands_first, IsOctets-drop, encoding_grows, as_it_is_grows, plain_beginning, kept_up_by_none, AppendsPrefixOf-all, AppendsPrefixOf-kept, on_success, at_refusal, on_refusal, of_refusal, seen_possible, agrees_last, behind_grows, beginning_behind_nothing, keeps_up, all_written, passed_on}
+use Rattle.octets.proofs.Lemmas.{not_told, stands_first, not_begun, IsOctets-drop, encoding_grows, as_it_is_grows, plain_beginning, kept_up_by_none, AppendsPrefixOf-all, AppendsPrefixOf-kept, on_success, at_refusal, on_refusal, of_refusal, seen_possible, agrees_last, behind_grows, beginning_behind_nothing, keeps_up, all_written, passed_on}
 use Rattle.objects.specs.Frames.{filled}
 use Rattle.tokens.specs.SigningInputs.{signature_text, start_of}
 use Rattle.tokens.specs.contracts.signing_input.HmacInputSigningInput.TheImpl.{has_taken-value}
@@ -355,3 +355,13 @@ returns-in_err-inputs-in-None-clause-unread g c =
     let refused = c.in_err-inputs-in-None.ensures in
     let counted = counts g.O.Output.failures c.args.out.now c.pump.new.out in
     rw (c.in-None.is) (of_refusal _ c.from_residual-in_err-inputs-in-None.result e (search rules) (λ nothing. (λ spared. refused.unread (not_told e counted (λ is. refused.faults.write (ap Err is)) spared) nothing, tt)))
+
+pub returns-in_err-texts-in-Some-clause-content_first : goal.returns-in_err-texts-in-Some-clause-content_first
+returns-in_err-texts-in-Some-clause-content_first g c = rw (c.in-Some.is) (not_begun g.O.Output.endings _ _ c.args.out.now _ _ refl)
+
+pub returns-in_err-inputs-in-Some-clause-content_first : goal.returns-in_err-inputs-in-Some-clause-content_first
+returns-in_err-inputs-in-Some-clause-content_first g c = rw (c.in-Some.is) (not_begun g.O.Output.endings _ _ c.args.out.now _ _ c.pump-in-Some.ensures.endings)
+
+pub returns-in_err-finish-in-Some-clause-content_first : goal.returns-in_err-finish-in-Some-clause-content_first
+returns-in_err-finish-in-Some-clause-content_first g c =
+    rw (c.in-Some.is) (not_begun g.O.Output.endings _ _ c.args.out.now _ _ (c.in_err-finish-in-Some.ensures.kept.1 ∙ c.pump-in-Some.ensures.endings))

@@ -36,6 +36,7 @@ loop-input-preserved g c =
       count = omega (arith, i.count, ap length steps.0.0, steps.0.1);
       front = (i.front.0 ++ (c.in-Some.text.now ∷ []), i.front.1 ∙ ap (λ l. i.front.0 ++ l) steps.1 ∙ sym (append_assoc i.front.0 (c.in-Some.text.now ∷ []) c.next.new.self.b.rest.now));
       wrote = c.in_ok-write_whole-2.ensures.works ∙ c.in_ok-write_whole.ensures.works ∙ i.wrote;
+      endings = c.write_whole-in-loop-input.ensures.endings ∙ c.write_whole.ensures.endings ∙ i.endings;
     }
 
 pub returns-clause-all : goal.returns-clause-all

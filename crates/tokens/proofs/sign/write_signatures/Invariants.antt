@@ -15,4 +15,5 @@ invariant-loop-input g l =
       count : l.input-iterator.a.rest.len ≡ length l.input-iterator.a.rest.items;
       front : (front : List _) × (l.fn.texts ≡ front ++ l.input-iterator.b.rest.now);
       wrote : g.O.Output.failures l.out ≡ g.O.Output.failures l.fn.out;
+      endings : g.O.Output.endings l.out ≡ g.O.Output.endings l.fn.out;
     }

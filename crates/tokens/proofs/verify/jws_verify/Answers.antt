@@ -31,3 +31,9 @@ returns-in_ok-verified-in-Some-clause-finished g c = rw (c.in-Some.is) c.write_p
 
 pub returns-in_ok-verified-in-Some-clause-faults : goal.returns-in_ok-verified-in-Some-clause-faults
 returns-in_ok-verified-in-Some-clause-faults g c = rw (c.in-Some.is) (search rules)
+
+pub returns-in_err-verified-in-Some-clause-unfinished : goal.returns-in_err-verified-in-Some-clause-unfinished
+returns-in_err-verified-in-Some-clause-unfinished g c = rw (c.in-Some.is) (at_refusal c.from_residual.result refl)
+
+pub returns-in_ok-verified-in-Some-clause-unfinished : goal.returns-in_ok-verified-in-Some-clause-unfinished
+returns-in_ok-verified-in-Some-clause-unfinished g c = rw (c.in-Some.is) c.write_payload.ensures.unfinished

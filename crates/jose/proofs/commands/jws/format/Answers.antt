@@ -14,7 +14,7 @@ returns-in_err-object-clause-answer g c whole whole_content may content_may =
 pub returns-clause-answer : goal.returns-clause-answer
 returns-clause-answer g c whole whole_content may content_may =
     let t : whole ≡ c.deref.result.now = whole_is g.I.Input.consumed g.I.Input.is_at_end _ _ _ whole c.in_ok-text.ensures.whole.0 c.in_ok-text.ensures.whole.1 may ∙ sym c.deref.ensures.value in
-    rw (t, c.in_ok-beside.ensures.content whole_content content_may, c.in_ok-object.ensures) (rw (c.held_payload.ensures, c.deref-2.ensures) at c.write_object.ensures.answer)
+    rw (t, c.in_ok-beside.ensures.content whole_content content_may, c.in_ok-object.ensures) (rw (c.held_payload.ensures.octets, c.deref-2.ensures) at c.write_object.ensures.answer)
 
 pub returns-clause-beginning : goal.returns-clause-beginning
 returns-clause-beginning g c =
@@ -23,7 +23,7 @@ returns-clause-beginning g c =
     let t : appended (consumed c.args.text.now) (consumed c.read_to_end.new.input) ≡ c.deref.result.now
     = whole_is consumed at_end _ _ _ _ c.in_ok-text.ensures.whole.0 c.in_ok-text.ensures.whole.1 (seen_possible consumed at_end c.args.text.now c.read_to_end.new.input) ∙ sym c.deref.ensures.value in
     let d = c.in_ok-beside.ensures.content _ (seen_possible consumed at_end c.args.content.now c.read_beside.new.content) in
-    rw (c.in_ok-text.ensures.whole.1, beside_ended _ _ c.in_ok-beside.ensures.ends, t, d, c.in_ok-object.ensures) (rw (c.held_payload.ensures, c.deref-2.ensures) at c.write_object.ensures.beginning)
+    rw (c.in_ok-text.ensures.whole.1, beside_ended _ _ c.in_ok-beside.ensures.ends, t, d, c.in_ok-object.ensures) (rw (c.held_payload.ensures.octets, c.deref-2.ensures) at c.write_object.ensures.beginning)
 
 pub returns-clause-content_first : goal.returns-clause-content_first
 returns-clause-content_first g c =
@@ -32,5 +32,5 @@ returns-clause-content_first g c =
     let t : appended (consumed c.args.text.now) (consumed c.read_to_end.new.input) ≡ c.deref.result.now
     = whole_is consumed at_end _ _ _ _ c.in_ok-text.ensures.whole.0 c.in_ok-text.ensures.whole.1 (seen_possible consumed at_end c.args.text.now c.read_to_end.new.input) ∙ sym c.deref.ensures.value in
     let d = c.in_ok-beside.ensures.content _ (seen_possible consumed at_end c.args.content.now c.read_beside.new.content) in
-    on_refusal c.write_object.result (rw c.held_payload.ensures at c.write_object.ensures.content_first)
+    on_refusal c.write_object.result (rw c.held_payload.ensures.octets at c.write_object.ensures.content_first)
     (λ first. rw (c.in_ok-text.ensures.whole.1, beside_ended _ _ c.in_ok-beside.ensures.ends, t, d, c.in_ok-object.ensures) (elim first [ inl same ↦ inl same | inr wrote ↦ inr (λ is. (c.in_ok-beside.ensures.ends, (wrote is).0, (wrote is).1)) ]))
