@@ -1,5 +1,5 @@
 //! The digests of whole messages, by the kit's `sha2`.
-ghost use Rattle.std.specs.Prelude.{◌≡◌, take};
+ghost use Rattle.std.specs.Prelude.{◌≡◌, take, drop};
 ghost use Rattle.prf.specs.Digests.{digest_of, digest_len};
 
 use crate::hash::put_front;
@@ -18,10 +18,11 @@ pub enum HashAlg {
     S512,
 }
 
-/// Writes the digest of the octets to the front of `out`, and answers its length.
+/// Writes the digest of the octets to the front of `out`, answers its length, and leaves the rest of `out` as it was.
 pub fn digest(hash: HashAlg, octets: &[u8], out: &mut [u8; 64]) -> usize
     ensures digest { take result out.new ≡ digest_of hash octets.now }
     ensures len { result ≡ digest_len hash }
+    ensures rest { drop result out.new ≡ drop result out.old }
 {
     match hash {
         HashAlg::S224 => put_front(&Sha224::digest(octets), out),

@@ -1,5 +1,5 @@
 //! Hash functions that take their message in pieces.
-ghost use Rattle.std.specs.Prelude.{◌≡◌, ◌≤◌, ℕ, List, [], ◌++◌, length, take};
+ghost use Rattle.std.specs.Prelude.{◌≡◌, ◌≤◌, ℕ, List, [], ◌++◌, length, take, drop};
 ghost use Rattle.prf.specs.HashFunction.{HashFunction, IsHashFunction};
 
 /// A hash function, as the state that has taken a message so far.
@@ -31,21 +31,23 @@ pub trait Hash: Drop {
     fn fork(&self) -> Self
         ensures { (message : List ℕ) → holds self.now message → holds result message };
 
-    /// Writes the digest of the message to the front of `out`, and answers its length.
+    /// Writes the digest of the message to the front of `out`, answers its length, and leaves the rest of `out` as it was.
     fn finish(self, out: &mut [u8; 64]) -> usize
         ensures digest { (message : List ℕ) → holds self message
             → take result out.new ≡ function.digest message }
-        ensures len { result ≡ function.output_len };
+        ensures len { result ≡ function.output_len }
+        ensures rest { drop result out.new ≡ drop result out.old };
 
     /// Each digest is octets and has its length. It fits a block, and both fit their buffers.
     ghost is_hash_function: { IsHashFunction function };
 }
 
-/// Writes the digest to the front of `out`, and answers its length.
+/// Writes the digest to the front of `out`, answers its length, and leaves the rest of `out` as it was.
 pub(crate) fn put_front(digest: &[u8], out: &mut [u8; 64]) -> usize
     requires { length digest.now ≤ 64 }
     ensures digest { take result out.new ≡ digest.now }
     ensures len { result ≡ length digest.now }
+    ensures rest { drop result out.new ≡ drop result out.old }
 {
     out[..digest.len()].copy_from_slice(digest);
     digest.len()

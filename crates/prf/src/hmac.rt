@@ -51,12 +51,13 @@ impl<H: Hash> Hmac<H> {
         }
     }
 
-    /// Writes the code of the text to the front of `out`, and answers its length, which is the
-    /// hash's.
+    /// Writes the code of the text to the front of `out`, answers its length, which is the hash's,
+    /// and leaves the rest of `out` as it was.
     pub fn finish(self, out: &mut [u8; 64]) -> usize
         ensures code { (key text : List ℕ) → HoldsHmac H.function H.holds self key text
             → take result out.new ≡ hmac H.function key text }
         ensures len { result ≡ H.function.output_len }
+        ensures rest { drop result out.new ≡ drop result out.old }
     {
         let Hmac { inner, mut outer } = self;
         let len = inner.finish(out);
