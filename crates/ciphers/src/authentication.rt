@@ -1,5 +1,5 @@
 //! The authentication of AES-CBC with HMAC (RFC 7518, section 5.2.2.1).
-ghost use Rattle.std.specs.Prelude.{◌≡◌, ℕ, ◌/◌, ◌≤◌, List, [], ◌++◌, length, take};
+ghost use Rattle.std.specs.Prelude.{◌≡◌, ℕ, ◌/◌, ◌≤◌, List, [], ◌++◌, length, take, drop};
 ghost use Rattle.ciphers.specs.Sealing.{cbc_tag};
 
 use prf::{Hash, Hmac};
@@ -35,11 +35,12 @@ impl<H: Hash> Authentication<H> {
         self.mac.update(piece);
     }
 
-    /// Writes the tag to the front of `tag`, and answers its length.
+    /// Writes the tag to the front of `tag`, answers its length, and leaves the rest of `tag` as it was.
     pub(crate) fn finish(self, tag: &mut [u8; 32]) -> usize
         ensures within { result ≤ 32 }
         ensures tag { (mac_key iv aad c : List ℕ) → HoldsAuthentication H.function H.holds self mac_key iv aad c
             → take result tag.new ≡ cbc_tag H.function mac_key iv aad c }
+        ensures rest { drop result tag.new ≡ drop result tag.old }
     {
         let Authentication { mut mac, aad_bits } = self;
         mac.update(&aad_bits);

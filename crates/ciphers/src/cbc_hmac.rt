@@ -1,5 +1,5 @@
 //! AES-CBC with HMAC (RFC 7518, section 5.2), over any block cipher and hash function.
-ghost use Rattle.std.specs.Prelude.{◌≡◌, ◌≢◌, ℕ, ◌≤◌, List, [], ◌++◌, length, take, IfSome, IfNone};
+ghost use Rattle.std.specs.Prelude.{◌≡◌, ◌≢◌, ℕ, ◌≤◌, List, [], ◌++◌, length, take, drop, IfSome, IfNone};
 ghost use Rattle.ciphers.specs.Sealing.{Sealing, cbc_hmac, cbc_tag};
 ghost use Rattle.modes.specs.Cbc.{cbc};
 ghost use Rattle.octets.specs.Octets.{IsOctets};
@@ -44,13 +44,15 @@ impl<B: Block, H: Hash> CbcHmac<B, H> {
         written
     }
 
-    /// Writes the last block of the ciphertext, and the tag, whose length it answers.
+    /// Writes the last block of the ciphertext, and the tag to the front of `tag`. Answers the tag's length, and leaves the
+    /// rest of `tag` as it was.
     pub(crate) fn finish(self, last: &mut [u8; 16], tag: &mut [u8; 32]) -> usize
         ensures within { result ≤ 32 }
         ensures ciphertext { (s : Sealing) (p : List ℕ) → HoldsCbcHmac B.encrypted H.function H.holds self s p
             → (s.sealed p).ciphertext ≡ s.fixed p ++ last.new }
         ensures tag { (s : Sealing) (p : List ℕ) → HoldsCbcHmac B.encrypted H.function H.holds self s p
             → (s.sealed p).tag ≡ take result tag.new }
+        ensures rest { drop result tag.new ≡ drop result tag.old }
     {
         let CbcHmac {
             cbc,

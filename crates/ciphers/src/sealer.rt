@@ -1,5 +1,5 @@
 //! Running sealings of content (RFC 7516, section 5.1, step 15).
-ghost use Rattle.std.specs.Prelude.{◌≡◌, ◌↔◌, ℕ, ◌≤◌, List, ◌++◌, length, take, IfOk, IfErr, IsErr, OnOk, OnErr};
+ghost use Rattle.std.specs.Prelude.{◌≡◌, ◌↔◌, ℕ, ◌≤◌, List, ◌++◌, length, take, drop, IfOk, IfErr, IsErr, OnOk, OnErr};
 ghost use Rattle.ciphers.specs.Views.{HoldsGcmSealing};
 ghost use Rattle.ciphers.specs.Sealing.{Sealing, IsTooLong, KeepsPace};
 
@@ -29,14 +29,15 @@ pub trait Sealer: Drop {
         ensures unchanged { OnErr result (self.new ≡ self.old) }
         ensures place { OnErr result (out.new ≡ out.old) };
 
-    /// Writes what is left of the ciphertext to the front of `last`, and the tag to that of `tag`, and answers both
-    /// lengths.
+    /// Writes what is left of the ciphertext to the front of `last`, and the tag to that of `tag`. Answers both lengths, and
+    /// leaves the rest of both places as it was.
     fn finish(self, last: &mut [u8; 16], tag: &mut [u8; 32]) -> (usize, usize)
         ensures within { (result.0 ≤ 16) × (result.1 ≤ 32) }
         ensures ciphertext { (s : Sealing) (p : List ℕ) → is_sealing self s p
             → (s.sealed p).ciphertext ≡ s.fixed p ++ take result.0 last.new }
         ensures tag { (s : Sealing) (p : List ℕ) → is_sealing self s p
-            → (s.sealed p).tag ≡ take result.1 tag.new };
+            → (s.sealed p).tag ≡ take result.1 tag.new }
+        ensures rest { (drop result.0 last.new ≡ drop result.0 last.old) × (drop result.1 tag.new ≡ drop result.1 tag.old) };
 
     /// What was written is as long as what was taken, but for at most sixteen octets.
     ghost keeps_pace: { (x : Self) (s : Sealing) (p : List ℕ) → is_sealing x s p → KeepsPace s p };
@@ -89,13 +90,14 @@ impl Sealer for ContentSealer {
     ghost keeps_pace = { λ x s p. on_each_sealer x (λ y r. r.pace) (λ y r. r.pace) (λ y r. r.pace) (λ y r. r.pace) (λ y r. r.pace) (λ y r. r.pace) };
 }
 
-/// Writes the tag to the front of `tag`, and answers its length.
+/// Writes the tag to the front of `tag`, answers its length, and leaves the rest of `tag` as it was.
 fn finish_gcm<B: Block>(sealer: Gcm<B>, tag: &mut [u8; 32]) -> usize
     ensures within { result ≤ 32 }
     ensures ciphertext { (s : Sealing) (p : List ℕ) → HoldsGcmSealing B.encrypted sealer s p
         → (s.sealed p).ciphertext ≡ s.fixed p }
     ensures tag { (s : Sealing) (p : List ℕ) → HoldsGcmSealing B.encrypted sealer s p
         → (s.sealed p).tag ≡ take result tag.new }
+    ensures rest { drop result tag.new ≡ drop result tag.old }
 {
     tag[..16].copy_from_slice(&sealer.finish());
     16
