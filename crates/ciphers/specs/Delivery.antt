@@ -77,6 +77,19 @@ IsTagOf Pbes2Hs512A256Kw made given = ⊤
 unfoldable pub derived_key : HashFunction → List ℕ → ℕ → List ℕ → List ℕ → ℕ → List ℕ
 derived_key f name len password p2s p2c = pbkdf2 f password (name ++ 0 ∷ p2s) p2c len
 
+-- and in how many iterations: p2c (section 4.8.1.2), and none where no key is derived
+abbrev pub iteration_count : KeyAlg → ℕ → ℕ
+iteration_count Dir p2c = 0
+iteration_count A128Kw p2c = 0
+iteration_count A192Kw p2c = 0
+iteration_count A256Kw p2c = 0
+iteration_count A128GcmKw p2c = 0
+iteration_count A192GcmKw p2c = 0
+iteration_count A256GcmKw p2c = 0
+iteration_count Pbes2Hs256A128Kw p2c = p2c
+iteration_count Pbes2Hs384A192Kw p2c = p2c
+iteration_count Pbes2Hs512A256Kw p2c = p2c
+
 -- The encrypted key: none where the key is used directly (section 4.5); the content encryption key, encrypted by AES in GCM, without
 -- additional data (section 4.7); and else its key wrap by AES, whose nk is the number of the key's words (section 4.4).
 unfoldable pub encrypted_key_of : KeyAlg → List ℕ → Parameters → List ℕ → List ℕ

@@ -72,8 +72,14 @@ pub record IsGcmWrap (alg : KeyAlg) (key : List ℕ) (p : Parameters) (e : List 
 -- how a content encryption key is delivered
 abbrev pub IsWayOf : KeyAlg → List ℕ → Parameters → (Kek → List ℕ → List ℕ) → Way → Type 0
 IsWayOf alg key p encrypted Direct = alg ≡ Dir
-IsWayOf alg key p encrypted (Wrap kek) = IsWrap alg key p (encrypted kek)
+IsWayOf alg key p encrypted (Wrap kek calls) = IsWrap alg key p (encrypted kek)
 IsWayOf alg key p encrypted (Encrypt kek) = IsGcmWrap alg key p (encrypted kek)
+
+-- how many calls of HMAC were made to derive the key of its cipher
+abbrev pub calls_made : Way → ℕ
+calls_made Direct = 0
+calls_made (Wrap kek calls) = calls
+calls_made (Encrypt kek) = 0
 
 -- ---- a running sealing: what it was started with, and what it was fed
 

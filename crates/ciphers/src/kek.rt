@@ -11,11 +11,12 @@ pub(crate) enum Kek {
     A256(Aes256),
 }
 
-/// How a content encryption key is delivered: the key is it, or the cipher wraps it, or encrypts it in GCM.
+/// How a content encryption key is delivered: the key is it, or the cipher wraps it, or encrypts it in GCM. The number with a
+/// key wrap is that of the HMAC calls that derived the cipher's key, which is 0 where no key was derived.
 #[derive(Drop)]
 pub(crate) enum Way {
     Direct,
-    Wrap(Kek),
+    Wrap(Kek, u64),
     Encrypt(Kek),
 }
 

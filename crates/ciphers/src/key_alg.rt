@@ -1,11 +1,11 @@
 //! The algorithms of key management (RFC 7518, sections 4.4, 4.5, 4.7 and 4.8).
-ghost use Rattle.std.specs.Prelude.{◌≡◌, ℕ, ◌%◌, ◌≤◌, List, [], ◌++◌, length, take, drop, IfSome, IfNone};
-ghost use Rattle.ciphers.specs.Delivery.{IsKeyOf, IsCountOf, IsIvOf, encrypted_key_of, key_tag_of, IsDelivered};
+ghost use Rattle.std.specs.Prelude.{◌≡◌, ℕ, ◌*◌, ◌%◌, ◌≤◌, List, [], ◌++◌, length, take, drop, IfSome, IfNone};
+ghost use Rattle.ciphers.specs.Delivery.{IsKeyOf, IsCountOf, IsIvOf, iteration_count, encrypted_key_of, key_tag_of, IsDelivered};
 ghost use Rattle.ciphers.specs.KeyWrap.{IsUnwrapping};
 ghost use Rattle.ciphers.specs.Sealing.{cek_len};
-ghost use Rattle.ciphers.specs.Views.{parameters_view, IsWayOf};
+ghost use Rattle.ciphers.specs.Views.{parameters_view, IsWayOf, calls_made};
 ghost use Rattle.modes.specs.Gcm.{gcm_ciphertext, gcm_tag, IsGcmOpening};
-ghost use Rattle.prf.specs.Pbkdf2.{pbkdf2};
+ghost use Rattle.prf.specs.Pbkdf2.{block_count, pbkdf2};
 
 use crate::cek::Cek;
 use crate::content_alg::{ContentAlg, array};
@@ -77,7 +77,7 @@ impl KeyAlg {
     {
         match self.way(key, parameters) {
             Way::Direct => (0, 0),
-            Way::Wrap(kek) => {
+            Way::Wrap(kek, _) => {
                 let octets = cek.octets();
                 let len = octets.len() + 8;
                 wrap(&kek, octets, &mut encrypted_key[..len]);
@@ -90,58 +90,70 @@ impl KeyAlg {
         }
     }
 
-    /// The content encryption key for `enc` that the encrypted key delivers, or `None` where it delivers none.
+    /// The content encryption key for `enc` that the encrypted key delivers, or `None` where it delivers none. The number is that
+    /// of the iterations of PBKDF2 that were made, and it is 0 unless the key is a password.
     pub fn unwrap_cek(
         self,
         enc: ContentAlg,
         key: &[u8],
         parameters: KeyParameters<'_>,
         encrypted_key: &[u8],
-    ) -> Option<Cek>
+    ) -> (Option<Cek>, u64)
         requires key_fits { IsKeyOf self key.now }
         requires count_fits { IsCountOf self parameters.p2c }
-        ensures delivers { IfSome result (IsDelivered self enc key.now (parameters_view parameters.entry) encrypted_key.now) }
-        ensures nothing { IfNone result ((cek : List ℕ)
+        ensures delivers { IfSome result.0 (IsDelivered self enc key.now (parameters_view parameters.entry) encrypted_key.now) }
+        ensures nothing { IfNone result.0 ((cek : List ℕ)
             → IsDelivered self enc key.now (parameters_view parameters.entry) encrypted_key.now cek → ⊥) }
+        ensures iterations { result.1 ≡ iteration_count self parameters.entry.p2c }
     {
         match self.way(key, parameters) {
-            Way::Direct => direct_cek(enc, key, encrypted_key),
-            Way::Wrap(kek) => unwrapped_cek(enc, &kek, encrypted_key),
-            Way::Encrypt(kek) => opened_cek(
-                enc,
-                &kek,
-                parameters.iv,
-                encrypted_key,
-                parameters.tag,
-            ),
+            Way::Direct => (direct_cek(enc, key, encrypted_key), 0),
+            Way::Wrap(kek, calls) => (unwrapped_cek(enc, &kek, encrypted_key), calls),
+            Way::Encrypt(kek) => {
+                let cek = opened_cek(enc, &kek, parameters.iv, encrypted_key, parameters.tag);
+                (cek, 0)
+            }
         }
     }
 
-    /// How a content encryption key is delivered, with the cipher of the key wrap or of GCM.
+    /// How a content encryption key is delivered, with the cipher of the key wrap or of GCM, and the work of deriving its key.
     fn way(self, key: &[u8], parameters: KeyParameters<'_>) -> Way
         requires key_fits { IsKeyOf self key.now }
         requires count_fits { IsCountOf self parameters.p2c }
-        ensures { IsWayOf self key.now (parameters_view parameters.entry) ⟦<Kek as Block>⟧.encrypted result }
+        ensures way { IsWayOf self key.now (parameters_view parameters.entry) ⟦<Kek as Block>⟧.encrypted result }
+        ensures calls { calls_made result ≡ iteration_count self parameters.entry.p2c }
     {
         match self {
             KeyAlg::Dir => Way::Direct,
-            KeyAlg::A128Kw => Way::Wrap(Kek::A128(Aes128::new(&array(key)))),
-            KeyAlg::A192Kw => Way::Wrap(Kek::A192(Aes192::new(&array(key)))),
-            KeyAlg::A256Kw => Way::Wrap(Kek::A256(Aes256::new(&array(key)))),
+            KeyAlg::A128Kw => Way::Wrap(Kek::A128(Aes128::new(&array(key))), 0),
+            KeyAlg::A192Kw => Way::Wrap(Kek::A192(Aes192::new(&array(key))), 0),
+            KeyAlg::A256Kw => Way::Wrap(Kek::A256(Aes256::new(&array(key))), 0),
             KeyAlg::A128GcmKw => Way::Encrypt(Kek::A128(Aes128::new(&array(key)))),
             KeyAlg::A192GcmKw => Way::Encrypt(Kek::A192(Aes192::new(&array(key)))),
             KeyAlg::A256GcmKw => Way::Encrypt(Kek::A256(Aes256::new(&array(key)))),
             KeyAlg::Pbes2Hs256A128Kw => {
-                let derived = derive_key::<Sha256, 16>(b"PBES2-HS256+A128KW\0", key, parameters);
-                Way::Wrap(Kek::A128(Aes128::new(&derived)))
+                let (derived, calls) = derive_key::<Sha256, 16>(
+                    b"PBES2-HS256+A128KW\0",
+                    key,
+                    parameters,
+                );
+                Way::Wrap(Kek::A128(Aes128::new(&derived)), calls)
             }
             KeyAlg::Pbes2Hs384A192Kw => {
-                let derived = derive_key::<Sha384, 24>(b"PBES2-HS384+A192KW\0", key, parameters);
-                Way::Wrap(Kek::A192(Aes192::new(&derived)))
+                let (derived, calls) = derive_key::<Sha384, 24>(
+                    b"PBES2-HS384+A192KW\0",
+                    key,
+                    parameters,
+                );
+                Way::Wrap(Kek::A192(Aes192::new(&derived)), calls)
             }
             KeyAlg::Pbes2Hs512A256Kw => {
-                let derived = derive_key::<Sha512, 32>(b"PBES2-HS512+A256KW\0", key, parameters);
-                Way::Wrap(Kek::A256(Aes256::new(&derived)))
+                let (derived, calls) = derive_key::<Sha512, 32>(
+                    b"PBES2-HS512+A256KW\0",
+                    key,
+                    parameters,
+                );
+                Way::Wrap(Kek::A256(Aes256::new(&derived)), calls)
             }
         }
     }
@@ -200,19 +212,20 @@ fn opened_cek<B: Block>(
     Some(Cek::new(&octets[..n]))
 }
 
-/// The key that PBES2 derives from a password, for a salt with this prefix (section 4.8.1.1).
+/// The key that PBES2 derives from a password, for a salt with this prefix (section 4.8.1.1), and the number of HMAC calls.
 fn derive_key<H: Hash, const N: usize>(
     prefix: &[u8],
     password: &[u8],
     parameters: KeyParameters<'_>,
-) -> [u8; N]
+) -> ([u8; N], u64)
     requires size { N ≤ 64 }
     requires iterated { 1 ≤ parameters.p2c }
-    ensures { result ≡ pbkdf2 H.function password.now (prefix.now ++ parameters.entry.p2s.now) parameters.entry.p2c N }
+    ensures key { result.0 ≡ pbkdf2 H.function password.now (prefix.now ++ parameters.entry.p2s.now) parameters.entry.p2c N }
+    ensures calls { result.1 ≡ parameters.entry.p2c * block_count H.function N }
 {
     let mut key = [0; N];
-    pbkdf2::<H>(password, [prefix, parameters.p2s], parameters.p2c, &mut key);
-    key
+    let calls = pbkdf2::<H>(password, [prefix, parameters.p2s], parameters.p2c, &mut key);
+    (key, calls)
 }
 
 /// The key itself, where it fits and there is no encrypted key (section 4.5).

@@ -17,7 +17,7 @@ pub(crate) fn expect_no_cek(rt: &impl Abort, delivered: Option<Cek>) {
     assert!(rt; delivered.is_none());
 }
 
-// The encrypted key, and only that, delivers the content encryption key.
+// The encrypted key, and only that, delivers the content encryption key. Where no key is derived, `p2c` is 0 here.
 fn expect_delivery(
     rt: &impl Abort,
     alg: KeyAlg,
@@ -39,8 +39,9 @@ fn expect_delivery(
     let (len, tag_len) = alg.wrap_cek(key, parameters, &Cek::new(cek), &mut out, &mut tag);
     expect_octets(rt, &out[..len], encrypted_key);
     expect_octets(rt, &tag[..tag_len], parameters.tag);
-    let delivered = alg.unwrap_cek(enc, key, parameters, encrypted_key);
+    let (delivered, iterations) = alg.unwrap_cek(enc, key, parameters, encrypted_key);
     expect_cek(rt, delivered, cek);
+    assert!(rt; iterations == u64::from(parameters.p2c));
     expect_exact(rt, alg, enc, key, parameters, encrypted_key);
 }
 
@@ -79,7 +80,7 @@ fn expect_nothing(
     requires key_fits { IsKeyOf alg key.now }
     requires count_fits { IsCountOf alg parameters.p2c }
 {
-    expect_no_cek(rt, alg.unwrap_cek(enc, key, parameters, encrypted_key));
+    expect_no_cek(rt, alg.unwrap_cek(enc, key, parameters, encrypted_key).0);
 }
 
 const PASSWORD: &[u8] = b"Thus from my lips, by yours, my sin is purged.";

@@ -16,7 +16,8 @@
 //!
 //! ```rust
 //! // The content again, in the place of its ciphertext.
-//! let cek = alg.unwrap_cek(enc, &key, parameters, encrypted_key)?;
+//! let (cek, iterations) = alg.unwrap_cek(enc, &key, parameters, encrypted_key);
+//! let cek = cek?;
 //! let n = enc.open(cek.octets(), &iv, aad, &mut buf, tag)?; // &buf[..n]
 //! ```
 #![tactic(auto)]

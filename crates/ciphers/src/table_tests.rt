@@ -70,7 +70,7 @@ fn expect_key(
         tag: &tag[..tag_len],
         ..parameters
     };
-    let delivered = alg.unwrap_cek(enc, key, parameters, &out[..n]);
+    let (delivered, _) = alg.unwrap_cek(enc, key, parameters, &out[..n]);
     expect_cek(rt, delivered, cek);
 }
 
@@ -137,7 +137,7 @@ fn direct(enc: ContentAlg, key: &[u8], encrypted_key: &[u8]) -> Option<Cek> {
         p2s: b"",
         p2c: 0,
     };
-    KeyAlg::Dir.unwrap_cek(enc, key, none, encrypted_key)
+    KeyAlg::Dir.unwrap_cek(enc, key, none, encrypted_key).0
 }
 
 fn expect_no_encrypted_key(rt: &impl Abort, len: usize) {

@@ -8,7 +8,7 @@ use Rattle.std.specs.Prelude.{◌&&◌}
 use Rattle.std.specs.Str.{bytes_eq}
 use Rattle.octets.specs.Octets.{IsOctets}
 use Rattle.octets.proofs.Lemmas.{IsOctets-nil}
-use Rattle.ciphers.specs.Delivery.{IsKeyOf, IsCountOf, IsIvOf, IsTagOf, encrypted_key_of, key_tag_of}
+use Rattle.ciphers.specs.Delivery.{IsKeyOf, IsCountOf, IsIvOf, IsTagOf, iteration_count, encrypted_key_of, key_tag_of}
 use Rattle.ciphers.specs.Sealing as ciphers
 use Rattle.ciphers.specs.declared.key_alg.KeyAlg.TheVariants as variants
 use Rattle.keys.specs.declared.algorithm.Algorithm.TheVariants.{Encryption}
@@ -18,9 +18,10 @@ use Rattle.keys.specs.declared.algorithm.KeyManagementAlg.{KeyManagementAlg}
 use Rattle.keys.specs.declared.algorithm.KeyManagementAlg.TheVariants.{Dir, A128Kw, A192Kw, A256Kw, Pbes2Hs256A128Kw, Pbes2Hs384A192Kw, Pbes2Hs512A256Kw, A128GcmKw, A192GcmKw, A256GcmKw}
 use Rattle.keys.specs.Algorithms.{management_name, encryption_name, management_algs, encryption_algs, management_alg_among, management_alg_of, encryption_alg_of, is_password_based, key_len, has_len, cek_len}
 use Rattle.keys.specs.Keys.{OctetKey, fits}
-use Rattle.objects.specs.KeyManagement.{KeyManagement, Password, is_management_of}
+use Rattle.objects.specs.KeyManagement.{KeyManagement, Direct, KeyWrap, Password, GcmKeyWrap, is_management_of}
 use Rattle.tokens.specs.Algorithms.{key_alg, content_alg, parameters_by}
 use Rattle.tokens.specs.Choosing.{is_direct}
+use Rattle.tokens.specs.Decrypting.{iterations_by}
 use Rattle.tokens.specs.Delivering.{drawn_by, parameters_with, management_with}
 
 -- ---- names
@@ -192,6 +193,29 @@ counts Pbes2Hs512A256Kw m h = cc h
 counts A128GcmKw m h = tt
 counts A192GcmKw m h = tt
 counts A256GcmKw m h = tt
+
+-- and takes as many iterations as the header says
+pub iterations_made : (alg : KeyManagementAlg) (m : KeyManagement) → is_management_of (Some alg) m ≡ true → iteration_count (key_alg alg) (parameters_by m).p2c ≡ iterations_by m
+iterations_made Dir Direct h = refl
+iterations_made Dir m h = cc
+iterations_made A128Kw KeyWrap h = refl
+iterations_made A128Kw m h = cc
+iterations_made A192Kw KeyWrap h = refl
+iterations_made A192Kw m h = cc
+iterations_made A256Kw KeyWrap h = refl
+iterations_made A256Kw m h = cc
+iterations_made Pbes2Hs256A128Kw (Password p2s p2c) h = refl
+iterations_made Pbes2Hs256A128Kw m h = cc
+iterations_made Pbes2Hs384A192Kw (Password p2s p2c) h = refl
+iterations_made Pbes2Hs384A192Kw m h = cc
+iterations_made Pbes2Hs512A256Kw (Password p2s p2c) h = refl
+iterations_made Pbes2Hs512A256Kw m h = cc
+iterations_made A128GcmKw (GcmKeyWrap iv tag) h = refl
+iterations_made A128GcmKw m h = cc
+iterations_made A192GcmKw (GcmKeyWrap iv tag) h = refl
+iterations_made A192GcmKw m h = cc
+iterations_made A256GcmKw (GcmKeyWrap iv tag) h = refl
+iterations_made A256GcmKw m h = cc
 
 -- where a password is counted at least once, the algorithm takes the count
 pub counts_where_password : (alg : KeyManagementAlg) (p2c : ℕ) → (not (is_password_based alg) || nat_le 1 p2c) ≡ true → IsCountOf (key_alg alg) p2c

@@ -16,7 +16,7 @@ mod tried;
 use crate::aad::additional_authenticated_data;
 use crate::algorithms::{Algorithms, content_alg, key_alg, parameters, unwraps};
 use crate::decrypt::pair::Pair;
-use crate::decrypt::pairs::{iterations, pairs_to_try};
+use crate::decrypt::pairs::pairs_to_try;
 use crate::decrypt::tried::was_tried;
 use ciphers::Cek;
 use ciphers::laws::{delivers_exactly, opens_exactly};
@@ -169,9 +169,10 @@ fn open_pair(
     ensures openings { work.new.openings ≤ work.old.openings + 1 }
 {
     let enc = content_alg(pair.algorithms.encryption);
-    work.iterations += iterations(pair);
     work.unwraps += unwraps(pair.algorithms.management);
-    let cek = deliver(pair)?;
+    let (cek, iterations) = deliver(pair);
+    work.iterations += iterations;
+    let cek = cek?;
     work.openings += 1;
     if was_tried(before, pair) {
         return None;
@@ -183,11 +184,12 @@ fn open_pair(
     enc.open(cek, sealed.iv, sealed.aad, octets, sealed.tag)
 }
 
-/// The content encryption key that a pair delivers.
-#[tactic(auto, unfolding(crate::specs::Decrypting::cek_of), using(crate::proofs::AlgorithmCases::is_key_of, crate::proofs::AlgorithmCases::counts))]
-fn deliver(pair: &Pair<'_>) -> Option<Cek>
+/// The content encryption key that a pair delivers, and the number of iterations of PBKDF2 that were made for it.
+#[tactic(auto, unfolding(crate::specs::Decrypting::cek_of), using(crate::proofs::AlgorithmCases::is_key_of, crate::proofs::AlgorithmCases::counts, crate::proofs::AlgorithmCases::iterations_made))]
+fn deliver(pair: &Pair<'_>) -> (Option<Cek>, u64)
     requires { iterations_of (pair_view pair.now) ≤ limits.greatest_p2c_read }
-    ensures { result ≡ cek_of (pair_view pair.now) }
+    ensures cek { result.0 ≡ cek_of (pair_view pair.now) }
+    ensures iterations { result.1 ≡ iterations_of (pair_view pair.now) }
 {
     let Algorithms {
         management,

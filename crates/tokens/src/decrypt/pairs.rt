@@ -61,7 +61,7 @@ fn are_within(pairs: &[Pair<'_>]) -> bool
 }
 
 /// How many iterations of PBKDF2 a pair takes.
-pub(crate) fn iterations(pair: &Pair<'_>) -> u64
+fn iterations(pair: &Pair<'_>) -> u64
     ensures { result ≡ iterations_of (pair_view pair.now) }
 {
     iterations_by(pair.recipient.management())

@@ -3,9 +3,9 @@ use Rattle.tokens.specs.Decrypting.{cek_of}
 use Rattle.tokens.proofs.Openings.{delivers}
 use Rattle.tokens.proofs.decrypt.deliver.Goals as goal
 
-pub returns : goal.returns
+pub returns-clause-cek : goal.returns-clause-cek
 unfolding cek_of
-returns c =
+returns-clause-cek c =
     rw (← c.key_alg.ensures, ← c.content_alg.ensures, ← c.octets-key.ensures, ← c.management.ensures.management, ← c.parameters-parameters.ensures, ← c.encrypted_key.ensures)
     (delivers c.delivers_exactly.ensures c.key_alg.result c.content_alg.result c.octets-key.result.now (parameters_view c.parameters-parameters.result) c.encrypted_key.result.now
-    c.unwrap_cek.result c.are_octets.ensures c.unwrap_cek.ensures.delivers c.unwrap_cek.ensures.nothing)
+    c.unwrap_cek.result.0 c.are_octets.ensures c.unwrap_cek.ensures.delivers c.unwrap_cek.ensures.nothing)

@@ -10,4 +10,4 @@ returns-clause-opened c =
     let cek = c.octets-cek.result.now in
     opens c.opens_exactly.ensures c.content_alg-enc.result cek s.iv s.aad s.ciphertext s.tag _ c.open.result c.are_octets.ensures c.are_octets-2.ensures c.open.ensures.opened c.open.ensures.nothing
     ∙ ap (λ alg. opening alg cek s.iv s.aad s.ciphertext s.tag) c.content_alg-enc.ensures
-    ∙ opened_with s (pair_view c.args.pair.now) cek (sym c.deliver.ensures ∙ c.in_ok-cek.was ∙ ap Some (sym c.octets-cek.ensures))
+    ∙ opened_with s (pair_view c.args.pair.now) cek (sym c.deliver-cek.ensures.cek ∙ c.in_ok-cek.was ∙ ap Some (sym c.octets-cek.ensures))

@@ -5,24 +5,24 @@ use Rattle.ciphers.proofs.key_alg.KeyAlg.unwrap_cek.Goals as goal
 
 pub returns-in-Direct-clause-delivers : goal.returns-in-Direct-clause-delivers
 returns-in-Direct-clause-delivers c =
-    direct_delivers c.args.self c.args.enc c.args.key.now (parameters_view c.args.parameters) c.args.encrypted_key.now c.direct_cek.result c.in-Direct.ensures (λ i. search rules) c.direct_cek.ensures.delivers
+    direct_delivers c.args.self c.args.enc c.args.key.now (parameters_view c.args.parameters) c.args.encrypted_key.now c.direct_cek.result c.in-Direct.ensures.way (λ i. search rules) c.direct_cek.ensures.delivers
 
 pub returns-in-Direct-clause-nothing : goal.returns-in-Direct-clause-nothing
 returns-in-Direct-clause-nothing c =
-    direct_nothing c.args.self c.args.enc c.args.key.now (parameters_view c.args.parameters) c.args.encrypted_key.now c.direct_cek.result c.in-Direct.ensures c.direct_cek.ensures.nothing
+    direct_nothing c.args.self c.args.enc c.args.key.now (parameters_view c.args.parameters) c.args.encrypted_key.now c.direct_cek.result c.in-Direct.ensures.way c.direct_cek.ensures.nothing
 
 pub returns-in-Wrap-clause-delivers : goal.returns-in-Wrap-clause-delivers
 returns-in-Wrap-clause-delivers c =
-    unwrapped_delivers c.args.self c.args.enc c.args.key.now (parameters_view c.args.parameters) c.args.encrypted_key.now _ c.in-Wrap.ensures c.unwrapped_cek.result c.unwrapped_cek.ensures.delivers
+    unwrapped_delivers c.args.self c.args.enc c.args.key.now (parameters_view c.args.parameters) c.args.encrypted_key.now _ c.in-Wrap.ensures.way c.unwrapped_cek.result c.unwrapped_cek.ensures.delivers
 
 pub returns-in-Wrap-clause-nothing : goal.returns-in-Wrap-clause-nothing
 returns-in-Wrap-clause-nothing c =
-    unwrapped_nothing c.args.self c.args.enc c.args.key.now (parameters_view c.args.parameters) c.args.encrypted_key.now _ c.in-Wrap.ensures c.unwrapped_cek.result c.unwrapped_cek.ensures.nothing
+    unwrapped_nothing c.args.self c.args.enc c.args.key.now (parameters_view c.args.parameters) c.args.encrypted_key.now _ c.in-Wrap.ensures.way c.unwrapped_cek.result c.unwrapped_cek.ensures.nothing
 
 pub returns-in-Encrypt-clause-delivers : goal.returns-in-Encrypt-clause-delivers
 returns-in-Encrypt-clause-delivers c =
-    opened_delivers c.args.self c.args.enc c.args.key.now (parameters_view c.args.parameters) c.args.encrypted_key.now _ c.in-Encrypt.ensures c.opened_cek.result c.opened_cek.ensures.delivers
+    opened_delivers c.args.self c.args.enc c.args.key.now (parameters_view c.args.parameters) c.args.encrypted_key.now _ c.in-Encrypt.ensures.way c.opened_cek-cek.result c.opened_cek-cek.ensures.delivers
 
 pub returns-in-Encrypt-clause-nothing : goal.returns-in-Encrypt-clause-nothing
 returns-in-Encrypt-clause-nothing c =
-    opened_nothing c.args.self c.args.enc c.args.key.now (parameters_view c.args.parameters) c.args.encrypted_key.now _ c.in-Encrypt.ensures c.opened_cek.result c.opened_cek.ensures.nothing
+    opened_nothing c.args.self c.args.enc c.args.key.now (parameters_view c.args.parameters) c.args.encrypted_key.now _ c.in-Encrypt.ensures.way c.opened_cek-cek.result c.opened_cek-cek.ensures.nothing

@@ -7,9 +7,9 @@ use Rattle.modes.specs.Gcm.{gcm_ciphertext, gcm_tag}
 use Rattle.ciphers.proofs.Deliveries.{cipher_under, wrap_is, gcm_is}
 use Rattle.ciphers.proofs.key_alg.KeyAlg.way.Goals as goal
 
-pub returns-in-A128Kw : goal.returns-in-A128Kw
+pub returns-in-A128Kw-clause-way : goal.returns-in-A128Kw-clause-way
 unfolding encrypted_key_of key_tag_of
-returns-in-A128Kw c =
+returns-in-A128Kw-clause-way c =
     wrap_is _ A128Kw c.args.key.now (parameters_view c.args.parameters) _ c.in-A128Kw.is (record {
       other = λ is. cc is;
       wraps = λ cek. ap (λ e. wrapped e cek) (cipher_under 4 _ c.array.result _ c.new.ensures.encrypts c.array.ensures);
@@ -18,9 +18,9 @@ returns-in-A128Kw c =
       any_tag = λ made given. tt;
     })
 
-pub returns-in-A192Kw : goal.returns-in-A192Kw
+pub returns-in-A192Kw-clause-way : goal.returns-in-A192Kw-clause-way
 unfolding encrypted_key_of key_tag_of
-returns-in-A192Kw c =
+returns-in-A192Kw-clause-way c =
     wrap_is _ A192Kw c.args.key.now (parameters_view c.args.parameters) _ c.in-A192Kw.is (record {
       other = λ is. cc is;
       wraps = λ cek. ap (λ e. wrapped e cek) (cipher_under 6 _ c.array-in-A192Kw.result _ c.new-in-A192Kw.ensures.encrypts c.array-in-A192Kw.ensures);
@@ -29,9 +29,9 @@ returns-in-A192Kw c =
       any_tag = λ made given. tt;
     })
 
-pub returns-in-A256Kw : goal.returns-in-A256Kw
+pub returns-in-A256Kw-clause-way : goal.returns-in-A256Kw-clause-way
 unfolding encrypted_key_of key_tag_of
-returns-in-A256Kw c =
+returns-in-A256Kw-clause-way c =
     wrap_is _ A256Kw c.args.key.now (parameters_view c.args.parameters) _ c.in-A256Kw.is (record {
       other = λ is. cc is;
       wraps = λ cek. ap (λ e. wrapped e cek) (cipher_under 8 _ c.array-in-A256Kw.result _ c.new-in-A256Kw.ensures.encrypts c.array-in-A256Kw.ensures);
@@ -40,9 +40,9 @@ returns-in-A256Kw c =
       any_tag = λ made given. tt;
     })
 
-pub returns-in-A128GcmKw : goal.returns-in-A128GcmKw
+pub returns-in-A128GcmKw-clause-way : goal.returns-in-A128GcmKw-clause-way
 unfolding encrypted_key_of key_tag_of
-returns-in-A128GcmKw c =
+returns-in-A128GcmKw-clause-way c =
     gcm_is _ A128GcmKw c.args.key.now (parameters_view c.args.parameters) _ c.in-A128GcmKw.is (record {
       other = λ is. cc is;
       encrypts = λ cek. ap (λ e. gcm_ciphertext e c.args.parameters.iv.now cek) (cipher_under 4 _ c.array-in-A128GcmKw.result _ c.new-in-A128GcmKw.ensures.encrypts c.array-in-A128GcmKw.ensures);
@@ -51,9 +51,9 @@ returns-in-A128GcmKw c =
       tag = λ made given. (λ h. h, λ h. h);
     })
 
-pub returns-in-A192GcmKw : goal.returns-in-A192GcmKw
+pub returns-in-A192GcmKw-clause-way : goal.returns-in-A192GcmKw-clause-way
 unfolding encrypted_key_of key_tag_of
-returns-in-A192GcmKw c =
+returns-in-A192GcmKw-clause-way c =
     gcm_is _ A192GcmKw c.args.key.now (parameters_view c.args.parameters) _ c.in-A192GcmKw.is (record {
       other = λ is. cc is;
       encrypts = λ cek. ap (λ e. gcm_ciphertext e c.args.parameters.iv.now cek) (cipher_under 6 _ c.array-in-A192GcmKw.result _ c.new-in-A192GcmKw.ensures.encrypts c.array-in-A192GcmKw.ensures);
@@ -62,9 +62,9 @@ returns-in-A192GcmKw c =
       tag = λ made given. (λ h. h, λ h. h);
     })
 
-pub returns-in-A256GcmKw : goal.returns-in-A256GcmKw
+pub returns-in-A256GcmKw-clause-way : goal.returns-in-A256GcmKw-clause-way
 unfolding encrypted_key_of key_tag_of
-returns-in-A256GcmKw c =
+returns-in-A256GcmKw-clause-way c =
     gcm_is _ A256GcmKw c.args.key.now (parameters_view c.args.parameters) _ c.in-A256GcmKw.is (record {
       other = λ is. cc is;
       encrypts = λ cek. ap (λ e. gcm_ciphertext e c.args.parameters.iv.now cek) (cipher_under 8 _ c.array-in-A256GcmKw.result _ c.new-in-A256GcmKw.ensures.encrypts c.array-in-A256GcmKw.ensures);
@@ -73,34 +73,34 @@ returns-in-A256GcmKw c =
       tag = λ made given. (λ h. h, λ h. h);
     })
 
-pub returns-in-Pbes2Hs256A128Kw : goal.returns-in-Pbes2Hs256A128Kw
+pub returns-in-Pbes2Hs256A128Kw-clause-way : goal.returns-in-Pbes2Hs256A128Kw-clause-way
 unfolding encrypted_key_of key_tag_of derived_key
-returns-in-Pbes2Hs256A128Kw c =
+returns-in-Pbes2Hs256A128Kw-clause-way c =
     wrap_is _ Pbes2Hs256A128Kw c.args.key.now (parameters_view c.args.parameters) _ c.in-Pbes2Hs256A128Kw.is (record {
       other = λ is. cc is;
-      wraps = λ cek. ap (λ e. wrapped e cek) (cipher_under 4 _ c.derive_key-derived.result _ c.new-in-Pbes2Hs256A128Kw.ensures.encrypts c.derive_key-derived.ensures);
+      wraps = λ cek. ap (λ e. wrapped e cek) (cipher_under 4 _ c.derive_key-calls.result.0 _ c.new-in-Pbes2Hs256A128Kw.ensures.encrypts c.derive_key-calls.ensures.key);
       iv = tt;
       no_tag = λ cek. refl;
       any_tag = λ made given. tt;
     })
 
-pub returns-in-Pbes2Hs384A192Kw : goal.returns-in-Pbes2Hs384A192Kw
+pub returns-in-Pbes2Hs384A192Kw-clause-way : goal.returns-in-Pbes2Hs384A192Kw-clause-way
 unfolding encrypted_key_of key_tag_of derived_key
-returns-in-Pbes2Hs384A192Kw c =
+returns-in-Pbes2Hs384A192Kw-clause-way c =
     wrap_is _ Pbes2Hs384A192Kw c.args.key.now (parameters_view c.args.parameters) _ c.in-Pbes2Hs384A192Kw.is (record {
       other = λ is. cc is;
-      wraps = λ cek. ap (λ e. wrapped e cek) (cipher_under 6 _ c.derive_key-derived-in-Pbes2Hs384A192Kw.result _ c.new-in-Pbes2Hs384A192Kw.ensures.encrypts c.derive_key-derived-in-Pbes2Hs384A192Kw.ensures);
+      wraps = λ cek. ap (λ e. wrapped e cek) (cipher_under 6 _ c.derive_key-calls-in-Pbes2Hs384A192Kw.result.0 _ c.new-in-Pbes2Hs384A192Kw.ensures.encrypts c.derive_key-calls-in-Pbes2Hs384A192Kw.ensures.key);
       iv = tt;
       no_tag = λ cek. refl;
       any_tag = λ made given. tt;
     })
 
-pub returns-in-Pbes2Hs512A256Kw : goal.returns-in-Pbes2Hs512A256Kw
+pub returns-in-Pbes2Hs512A256Kw-clause-way : goal.returns-in-Pbes2Hs512A256Kw-clause-way
 unfolding encrypted_key_of key_tag_of derived_key
-returns-in-Pbes2Hs512A256Kw c =
+returns-in-Pbes2Hs512A256Kw-clause-way c =
     wrap_is _ Pbes2Hs512A256Kw c.args.key.now (parameters_view c.args.parameters) _ c.in-Pbes2Hs512A256Kw.is (record {
       other = λ is. cc is;
-      wraps = λ cek. ap (λ e. wrapped e cek) (cipher_under 8 _ c.derive_key-derived-in-Pbes2Hs512A256Kw.result _ c.new-in-Pbes2Hs512A256Kw.ensures.encrypts c.derive_key-derived-in-Pbes2Hs512A256Kw.ensures);
+      wraps = λ cek. ap (λ e. wrapped e cek) (cipher_under 8 _ c.derive_key-calls-in-Pbes2Hs512A256Kw.result.0 _ c.new-in-Pbes2Hs512A256Kw.ensures.encrypts c.derive_key-calls-in-Pbes2Hs512A256Kw.ensures.key);
       iv = tt;
       no_tag = λ cek. refl;
       any_tag = λ made given. tt;

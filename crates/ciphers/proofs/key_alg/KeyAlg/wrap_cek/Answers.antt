@@ -7,18 +7,18 @@ use Rattle.ciphers.proofs.key_alg.KeyAlg.wrap_cek.Goals as goal
 
 pub returns-in-Direct-clause-encrypted : goal.returns-in-Direct-clause-encrypted
 unfolding encrypted_key_of
-returns-in-Direct-clause-encrypted c = sym (ap (λ a. encrypted_key_of a c.args.key.now (parameters_view c.args.parameters) c.args.cek.now) c.in-Direct.ensures)
+returns-in-Direct-clause-encrypted c = sym (ap (λ a. encrypted_key_of a c.args.key.now (parameters_view c.args.parameters) c.args.cek.now) c.in-Direct.ensures.way)
 
 pub returns-in-Direct-clause-tag : goal.returns-in-Direct-clause-tag
 unfolding key_tag_of
-returns-in-Direct-clause-tag c = sym (ap (λ a. key_tag_of a c.args.key.now (parameters_view c.args.parameters) c.args.cek.now) c.in-Direct.ensures)
+returns-in-Direct-clause-tag c = sym (ap (λ a. key_tag_of a c.args.key.now (parameters_view c.args.parameters) c.args.cek.now) c.in-Direct.ensures.way)
 
 pub returns-in-Encrypt-clause-tag : goal.returns-in-Encrypt-clause-tag
 returns-in-Encrypt-clause-tag c =
     let all = c.encrypt_cek-len in
     take_all 16 all.new.tag (omega (arith, all.array_long, all.array_long2, all.array_long3, all.array_long4)) ∙ all.ensures.tag
     ∙ same_tag _ c.array.result c.args.parameters.iv.now c.octets.result.now c.args.cek.now c.array.ensures c.octets.ensures
-    ∙ sym (c.in-Encrypt.ensures.tags c.args.cek.now)
+    ∙ sym (c.in-Encrypt.ensures.way.tags c.args.cek.now)
 
 pub returns-in-Encrypt-clause-rest : goal.returns-in-Encrypt-clause-rest
 returns-in-Encrypt-clause-rest c =
