@@ -12,7 +12,7 @@ use Rattle.keys.specs.Json.{json_value}
 use Rattle.keys.specs.JsonTexts.{DeepTextsAreRefused}
 use Rattle.keys.specs.Limits.{Limits}
 use Rattle.keys.proofs.Lemmas.{numbers_whole}
-use Rattle.objects.specs.Jwe.{JweParts, RecipientParts, EncodedJwe, encoded_in_json, encoded_jwe, decoded_object, jwe_of, nest_at_most, is_shallow, have_whole_numbers, built, members_text, AreMembers, BuildingIsReading, JsonTextsAreCompact}
+use Rattle.objects.specs.Jwe.{JweParts, RecipientParts, EncodedJwe, encoded_in_json, encoded_jwe, decoded_object, jwe_of, nest_at_most, is_shallow, have_whole_numbers, built, AreMembers, BuildingIsReading, JsonTextsAreCompact}
 use Rattle.objects.specs.Texts.{handed_in, header_depth, depth_of_each}
 use Rattle.objects.proofs.DetachedContent.{handed_octets}
 use Rattle.objects.proofs.EachRead.{all_pass, images_pass}

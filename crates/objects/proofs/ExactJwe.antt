@@ -1,5 +1,5 @@
 -- A compact text of an encrypted object that is read is the compact text of the object, but for a line end.
-use Rattle.std.proofs.Common.{◌≡◌, ℕ, List, [], ◌∷◌, ◌++◌, length, Bool, true, nat_le, map, Option, Ok, is_some, refl, sym, ap, ◌∙◌, subst}
+use Rattle.std.proofs.Common.{◌≡◌, ℕ, List, [], ◌∷◌, ◌++◌, length, Bool, true, map, Option, Ok, is_some, refl, sym, ap, ◌∙◌, subst}
 use Rattle.std.specs.List.{AllByRecursion}
 use Rattle.octets.specs.declared.refusal.Refusal.TheVariants.{Limit}
 use Rattle.octets.specs.Base64url.{base64url, decoded}
@@ -76,7 +76,7 @@ object_spelled limits t o h =
     parts_spelled t (parts_of o) (c.1 ∙ ap Ok (sym (object_is limits.management b.0 c.0 o c.2)))
 
 -- one recipient without a header stands in a compact text, where nothing is shared that is not protected
-compact_text_is : (detach : Bool) (o : EncryptedObject) (r : RecipientParts) → map recipient_parts_of o.recipients ≡ r ∷ [] → o.unprotected ≡ no_members → r.header ≡ no_members → o.aad ≡ []
+pub compact_text_is : (detach : Bool) (o : EncryptedObject) (r : RecipientParts) → map recipient_parts_of o.recipients ≡ r ∷ [] → o.unprotected ≡ no_members → r.header ≡ no_members → o.aad ≡ []
     → jwe_compact_text detach o ≡ Ok (o.protected ++ 46 ∷ (base64url r.encrypted_key ++ 46 ∷ (base64url o.iv ++ 46 ∷ (kept detach (base64url o.ciphertext) ++ 46 ∷ base64url o.tag))))
 unfolding jwe_compact_text
 compact_text_is detach o r alone unprotected header aad =

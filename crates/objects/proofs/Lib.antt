@@ -36,5 +36,6 @@ pub mod SpellingJweCompact
 pub mod SpellingJwsCompact
 pub mod ExactJwe
 pub mod ExactJws
+pub mod CompactForm
 pub mod Lemmas
 pub mod HandedIn

@@ -8,3 +8,4 @@ pub mod Jwe
 pub mod Views
 pub mod Frames
 pub mod HandedIn
+pub mod CompactForm

@@ -1,4 +1,5 @@
 //! Laws of the definitions, each the contract of a function that does nothing.
+ghost use Rattle.objects.specs.CompactForm.{JweCompactFormIsExact, JwsCompactFormIsExact};
 ghost use Rattle.objects.specs.HandedIn.{PayloadIsHandedIn};
 ghost use Rattle.objects.specs.Headers.{JointHeaderHasAllMembers};
 ghost use Rattle.objects.specs.Jwe as jwe;
@@ -78,6 +79,12 @@ pub fn jws_compact_texts_are_exact()
     base64url_decodes_to_octets();
 }
 
+/// A signed object has a compact text exactly where it has one signature and no unprotected header. The text is then its
+/// three parts, joined by dots. Every other object is refused with `NotCompact`.
+pub fn jws_compact_form_is_exact()
+    ensures { JwsCompactFormIsExact }
+{}
+
 /// A text of a signed object is read with a detached payload as it is with an empty one, except for the payload.
 pub fn jws_payload_is_handed_in()
     ensures { PayloadIsHandedIn }
@@ -145,3 +152,9 @@ pub fn jwe_compact_texts_are_exact()
     base64url_decodes_exactly();
     base64url_decodes_to_octets();
 }
+
+/// An encrypted object has a compact text exactly where it has one recipient, no header but the protected one and no additional
+/// data. The text is then its five parts, joined by dots. Every other object is refused with `NotCompact`.
+pub fn jwe_compact_form_is_exact()
+    ensures { JweCompactFormIsExact }
+{}
