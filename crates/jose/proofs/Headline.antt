@@ -1,10 +1,10 @@
 -- What the commands promise together, from the laws of the crates below.
-use Rattle.std.proofs.Common.{◌≡◌, ℕ, suc, nat_le, Bool, true, false, not, ◌==◌, ◌||◌, if◌then◌else◌, List, [], ◌∷◌, ◌++◌, length, take, drop, is_some, Option, Result, Ok, Err, refl, sym, ap, ◌∙◌, subst, drop-cons}
+use Rattle.std.proofs.Common.{◌≡◌, ◌↔◌, ℕ, suc, nat_le, Bool, true, false, not, ◌==◌, ◌||◌, if◌then◌else◌, List, [], ◌∷◌, ◌++◌, length, take, drop, is_some, Option, Result, Ok, Err, refl, sym, ap, ◌∙◌, subst, drop-cons}
 use Rattle.std.proofs.lemmas.Bool.{and_parts, and_from, or_right}
 use Rattle.std.proofs.lemmas.List.{take-append-drop}
 use Rattle.std.specs.List.{AllByRecursion, Contains, list_any, list_all}
 use Rattle.octets.specs.declared.refusal.Refusal.{Refusal}
-use Rattle.octets.specs.declared.refusal.Refusal.TheVariants.{Key, Limit, Unsupported, KeyDoesNotFit, NotOpened}
+use Rattle.octets.specs.declared.refusal.Refusal.TheVariants.{Key, Limit, Unsupported, KeyDoesNotFit, NotOpened, NotCompact}
 use Rattle.octets.specs.Octets.{IsOctets}
 use Rattle.octets.specs.Outcomes.{◌>>=◌, needs}
 use Rattle.octets.specs.Plan.{OutputTexts, plan_from, planned}
@@ -15,6 +15,7 @@ use Rattle.keys.specs.Keys.{OctetKey, allows}
 use Rattle.keys.specs.KeySets.{items_count, key_objects, octet_keys, value_keys, key_set, KeysHaveOctets}
 use Rattle.keys.specs.Limits.{Limits, limits}
 use Rattle.octets.proofs.Lemmas.{steps, passed, same_answer}
+use Rattle.objects.specs.CompactForm.{HasText, HasOnlySignature, JwsCompactFormIsExact, HasOnlyRecipient, JweCompactFormIsExact}
 use Rattle.objects.specs.Jwe as jwe
 use Rattle.objects.specs.Jws as jws
 use Rattle.objects.specs.Texts.{handed_in, handed_out, AreOctetsHandedIn}
@@ -24,7 +25,7 @@ use Rattle.tokens.specs.Encrypting as encrypting
 use Rattle.tokens.specs.Signing as signing
 use Rattle.tokens.specs.Verifying.{may_verify, verifies, are_verified, verified_payload, verifying_by, SignedVerifies}
 use Rattle.tokens.proofs.Lemmas.{handed_back}
-use Rattle.jose.specs.Headline.{EncryptedIsDecrypted, SignedIsVerified, FormatsGoBack}
+use Rattle.jose.specs.Headline.{EncryptedIsDecrypted, SignedIsVerified, GoesToCompactForm, FormatsGoBack}
 use Rattle.jose.specs.Jwe.{jwe_fmt_answer}
 use Rattle.jose.specs.Jws.{jws_fmt_answer}
 
@@ -174,6 +175,35 @@ signed_is_verified verifies compact detach keys template payload texts octets h 
             ∙ verified,
       ),
     )
+
+-- ---- what goes to compact form
+
+-- Where what is written is the compact text, where there is one, it is written exactly where there is one.
+goes_there : {O : Type 0} (read : Option (List ℕ) → List ℕ → Result O Refusal) (compact_text : Bool → O → Result (List ℕ) Refusal) (content : O → List ℕ) (Fits : O → Type 0)
+    → ((beside : Bool) (o : O) → HasText (compact_text beside o) ↔ Fits o) → ((beside : Bool) (o : O) → ¬ Fits o → compact_text beside o ≡ Err NotCompact)
+    → (fmt : Bool → Bool → Option (List ℕ) → List ℕ → Result OutputTexts Refusal)
+    → ((beside : Bool) (detached : Option (List ℕ)) (text : List ℕ)
+    → fmt true beside detached text ≡ (read detached text >>= λ o. compact_text beside o >>= λ text. Ok (record { text = text; content = handed_out beside (content o) })))
+    → GoesToCompactForm read Fits fmt
+goes_there {O} read compact_text content Fits exists refused fmt is beside detached text o h =
+    let with_content : List ℕ → Result OutputTexts Refusal = λ text. Ok (record { text = text; content = handed_out beside (content o) }) in
+    let written : fmt true beside detached text ≡ (compact_text beside o >>= with_content) =
+    is beside detached text ∙ ap (λ r. r >>= λ o. compact_text beside o >>= λ text. Ok (record { text = text; content = handed_out beside (content o) })) h in
+    (
+      (
+        λ compact. let found = steps (compact_text beside o) with_content compact.0 (sym written ∙ compact.1) in (exists beside o).0 (found.0, found.1),
+        λ fits. let found = (exists beside o).1 fits in (record { text = found.0; content = handed_out beside (content o) }, written ∙ ap (λ r. r >>= with_content) found.1),
+      ),
+      λ none. written ∙ ap (λ r. r >>= with_content) (refused beside o none),
+    )
+
+pub signed_objects_go_there : JwsCompactFormIsExact → GoesToCompactForm (jws.jws_of limits) HasOnlySignature (jws_fmt_answer limits)
+unfolding jws_fmt_answer
+signed_objects_go_there exact = goes_there (jws.jws_of limits) jws.jws_compact_text (λ o. o.payload) HasOnlySignature exact.exists exact.refused (jws_fmt_answer limits) (λ beside detached text. refl)
+
+pub encrypted_objects_go_there : JweCompactFormIsExact → GoesToCompactForm (jwe.jwe_of limits) HasOnlyRecipient (jwe_fmt_answer limits)
+unfolding jwe_fmt_answer
+encrypted_objects_go_there exact = goes_there (jwe.jwe_of limits) jwe.jwe_compact_text (λ o. o.ciphertext) HasOnlyRecipient exact.exists exact.refused (jwe_fmt_answer limits) (λ beside detached text. refl)
 
 -- ---- what goes to compact form comes back
 

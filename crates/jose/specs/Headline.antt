@@ -1,7 +1,8 @@
 -- What the commands promise together: what is encrypted is decrypted, what is signed is verified, and what goes to compact form comes back.
-use Rattle.std.specs.Prelude.{◌≡◌, ℕ, Bool, true, false, List, [], ◌∷◌, ◌++◌, length, if◌then◌else◌, Contains, Option, Result, Ok}
+use Rattle.std.specs.Prelude.{◌≡◌, ◌↔◌, ℕ, Bool, true, false, List, [], ◌∷◌, ◌++◌, length, if◌then◌else◌, Contains, Option, Result, Ok, Err}
 use Rattle.std.specs.List.{AllByRecursion}
 use Rattle.octets.specs.declared.refusal.Refusal.{Refusal}
+use Rattle.octets.specs.declared.refusal.Refusal.TheVariants.{NotCompact}
 use Rattle.octets.specs.Octets.{IsOctets}
 use Rattle.octets.specs.Plan.{OutputTexts, plan_from, planned}
 use Rattle.keys.specs.declared.operation.Operation.TheVariants.{Verify}
@@ -54,6 +55,13 @@ SignedIsVerified = (compact detach : Bool) (keys template payload : List ℕ) (t
     → ver_answer limits all wanted key_text detached text ≡ Ok (if wanted then payload else [])))
 
 -- ---- `jws fmt` and `jwe fmt`
+
+-- What is read as an object is written in compact form exactly where the object fits, with the content in the text or beside it. Where it
+-- does not fit, the refusal is NotCompact.
+abbrev pub GoesToCompactForm : {O : Type 0} → (Option (List ℕ) → List ℕ → Result O Refusal) → (O → Type 0) → (Bool → Bool → Option (List ℕ) → List ℕ → Result OutputTexts Refusal) → Type 0
+GoesToCompactForm {O} read Fits fmt = (beside : Bool) (detached : Option (List ℕ)) (text : List ℕ) (o : O) → read detached text ≡ Ok o
+    → (((compact : OutputTexts) × (fmt true beside detached text ≡ Ok compact)) ↔ Fits o)
+    × (¬ Fits o → fmt true beside detached text ≡ Err NotCompact)
 
 -- What is written in JSON form, then from this in compact form, and from this in JSON form again is the same as at first, with the content
 -- in each text or beside it.

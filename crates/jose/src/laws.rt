@@ -1,15 +1,19 @@
 //! What the commands promise together, and what wider limits keep, as laws of their answers, each the contract of a function that
 //! does nothing.
 ghost use Rattle.keys.specs.Limits.{Limits, limits, earlier_limits};
+ghost use Rattle.objects.specs.CompactForm.{HasOnlyRecipient, HasOnlySignature};
+ghost use Rattle.objects.specs.Jwe.{jwe_of};
+ghost use Rattle.objects.specs.Jws.{jws_of};
 ghost use Rattle.tokens.specs.Encrypting.{AreSound};
-ghost use Rattle.jose.specs.Headline.{EncryptedIsDecrypted, FormatsGoBack, SignedIsVerified};
+ghost use Rattle.jose.specs.Headline.{EncryptedIsDecrypted, FormatsGoBack, GoesToCompactForm, SignedIsVerified};
 ghost use Rattle.jose.specs.Jwe.{jwe_fmt_answer};
 ghost use Rattle.jose.specs.Jws.{jws_fmt_answer};
 ghost use Rattle.jose.specs.WiderLimits.{AreWider, EncryptsAsBefore, ReadsAsBefore};
 
 use keys::laws::keys_have_octets;
 use objects::laws::{
-    jwe_objects_are_made, jwe_texts_spell_objects, jws_objects_are_made, jws_texts_spell_objects,
+    jwe_compact_form_is_exact, jwe_objects_are_made, jwe_texts_spell_objects,
+    jws_compact_form_is_exact, jws_objects_are_made, jws_texts_spell_objects,
 };
 use tokens::laws::{what_is_encrypted_decrypts, what_is_signed_verifies};
 
@@ -29,18 +33,25 @@ pub fn what_is_signed_is_verified()
     what_is_signed_verifies();
 }
 
-/// What `jws fmt` writes in JSON form is the same again after it went to compact form and back.
+/// `jws fmt -c` writes each object that it reads with one signature and no unprotected header, and refuses every other one with
+/// `NotCompact`. What `jws fmt` writes in JSON form is the same again after it went to compact form and back.
 pub fn signed_objects_go_to_compact_form_and_back()
-    ensures { FormatsGoBack (jws_fmt_answer limits) }
+    ensures there { GoesToCompactForm (jws_of limits) HasOnlySignature (jws_fmt_answer limits) }
+    ensures back { FormatsGoBack (jws_fmt_answer limits) }
 {
+    jws_compact_form_is_exact();
     jws_objects_are_made();
     jws_texts_spell_objects();
 }
 
-/// What `jwe fmt` writes in JSON form is the same again after it went to compact form and back.
+/// `jwe fmt -c` writes each object that it reads with one recipient, no header but the protected one and no additional data, and
+/// refuses every other one with `NotCompact`. What `jwe fmt` writes in JSON form is the same again after it went to compact form
+/// and back.
 pub fn encrypted_objects_go_to_compact_form_and_back()
-    ensures { FormatsGoBack (jwe_fmt_answer limits) }
+    ensures there { GoesToCompactForm (jwe_of limits) HasOnlyRecipient (jwe_fmt_answer limits) }
+    ensures back { FormatsGoBack (jwe_fmt_answer limits) }
 {
+    jwe_compact_form_is_exact();
     jwe_objects_are_made();
     jwe_texts_spell_objects();
 }
