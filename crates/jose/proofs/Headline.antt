@@ -188,8 +188,7 @@ goes_there : {O : Type 0} (read : Option (List ℕ) → List ℕ → Result O Re
 goes_there {O} read compact_text content Fits exists refused fmt is beside detached text o h =
     let with_content : List ℕ → Result OutputTexts Refusal = λ text. Ok (record { text = text; content = handed_out beside (content o) }) in
     let written : fmt true beside detached text ≡ (compact_text beside o >>= with_content) =
-    is beside detached text ∙ ap (λ r. r >>= λ o. compact_text beside o >>= λ text. Ok (record { text = text; content = handed_out beside (content o) })) h in
-    (
+    is beside detached text ∙ ap (λ r. r >>= λ o. compact_text beside o >>= λ text. Ok (record { text = text; content = handed_out beside (content o) })) h in (
       (
         λ compact. let found = steps (compact_text beside o) with_content compact.0 (sym written ∙ compact.1) in (exists beside o).0 (found.0, found.1),
         λ fits. let found = (exists beside o).1 fits in (record { text = found.0; content = handed_out beside (content o) }, written ∙ ap (λ r. r >>= with_content) found.1),

@@ -3,6 +3,7 @@
 pub(crate) mod building;
 mod frames;
 mod headers;
+mod held_contents;
 pub(crate) mod jwe;
 mod jws;
 mod key_templates;
