@@ -32,15 +32,27 @@ const CONTENT_OUT: usize = 5;
 
 const DEVICES: usize = 6;
 
-/// The words; what `-i`, `-I`, `-k` and `-R` give; the input that is read while its text is written, if there is one; and what is
-/// written to `-o` and `-O`.
+/// How many calls each device has where a call takes as many octets as there are. An input that is read to its end has one that gives
+/// all of it and one that finds the end, and the random input one for all that is drawn. An output has one for each text that is written
+/// to it and one that finishes it.
+type Calls = [u64; DEVICES];
+
+/// The words; what `-i`, `-I`, `-k` and `-R` give; the input that is read while its text is written, if there is one; what is
+/// written to `-o` and `-O`; and the calls.
 type Row<'a> = (
     &'a [&'a str],
     (&'a str, &'a [u8], &'a str, &'a [u8]),
     usize,
     &'a str,
     &'a [u8],
+    Calls,
 );
+
+/// Where a text, a payload beside it and keys are read, and nothing is written.
+const CHECKED: Calls = [2, 2, 2, 0, 0, 0];
+
+/// Where the calls are not compared.
+const UNCOUNTED: Calls = [0; DEVICES];
 
 /// `jwk` and `b64`.
 const KEYS_AND_OCTETS: &[Row<'_>] = &[
@@ -50,6 +62,7 @@ const KEYS_AND_OCTETS: &[Row<'_>] = &[
         NONE,
         "{\"k\":\"MDEyMzQ1Njc4OWFiY2RlZg\",\"kty\":\"oct\"}",
         b"",
+        [2, 0, 0, 1, 2, 0],
     ),
     (
         &["jwk", "thp"],
@@ -62,31 +75,39 @@ const KEYS_AND_OCTETS: &[Row<'_>] = &[
         NONE,
         "v1ILoKSndMgSbgGCnD1FaJtavl1L3pU4wgD_Xg_R6QQ",
         b"",
+        [2, 0, 0, 0, 2, 0],
     ),
+    // The text of two whole groups, and that of the two octets behind them.
     (
         &["b64", "enc"],
         ("", b"foobarfo", "", b""),
         CONTENT,
         "Zm9vYmFyZm8",
         b"",
+        [0, 2, 0, 0, 3, 0],
     ),
+    // The octets of two whole groups, and those of the characters that waited for the end.
     (
         &["b64", "dec"],
         ("Zm9vYmFyZm8\r\n", b"", "", b""),
         TEXT,
         "",
         b"foobarfo",
+        [2, 0, 0, 0, 0, 3],
     ),
 ];
 
 const SIGNED: &[Row<'_>] = &[
+    // The protected header with its dot, the payload, a dot, and the signature.
     (
         &SIGN_COMPACT,
         (TEMPLATE, b"abc", RFC7515_KEY, b""),
         CONTENT,
         ABC,
         b"",
+        [2, 2, 2, 0, 5, 0],
     ),
+    // The protected header with both dots, and the signature.
     (
         &[
             "jws", "sig", "-c", "-s", "t", "-I", "p", "-k", "k", "-O", "b",
@@ -95,14 +116,24 @@ const SIGNED: &[Row<'_>] = &[
         CONTENT,
         ABC_BESIDE,
         b"abc",
+        [2, 2, 2, 0, 3, 2],
     ),
-    (&VERIFY, (ABC, b"", RFC7515_KEY, b""), NONE, "", b"abc"),
+    // A payload of at most five characters waits for the end of its text.
+    (
+        &VERIFY,
+        (ABC, b"", RFC7515_KEY, b""),
+        NONE,
+        "",
+        b"abc",
+        [2, 0, 2, 0, 0, 2],
+    ),
     (
         &["jws", "ver", "-I", "b", "-k", "k", "-O", "p"],
         (ABC_BESIDE, b"abc", RFC7515_KEY, b""),
         NONE,
         "",
         b"abc",
+        [2, 2, 2, 0, 0, 2],
     ),
     (
         &CHECK_BESIDE,
@@ -110,6 +141,7 @@ const SIGNED: &[Row<'_>] = &[
         NONE,
         "",
         b"",
+        CHECKED,
     ),
     (
         &CHECK_ALL_BESIDE,
@@ -117,6 +149,7 @@ const SIGNED: &[Row<'_>] = &[
         NONE,
         "",
         b"",
+        CHECKED,
     ),
     (
         &["jws", "fmt", "-O", "b"],
@@ -124,6 +157,7 @@ const SIGNED: &[Row<'_>] = &[
         NONE,
         ABC_FLATTENED_BESIDE,
         b"abc",
+        [2, 0, 0, 0, 2, 2],
     ),
     (
         &["jws", "fmt", "-c", "-I", "b"],
@@ -131,23 +165,28 @@ const SIGNED: &[Row<'_>] = &[
         NONE,
         ABC,
         b"",
+        [2, 2, 0, 0, 2, 0],
     ),
 ];
 
 const ENCRYPTED: &[Row<'_>] = &[
+    // The texts before the ciphertext, its first block, its last one, a dot, and the tag.
     (
         &ENCRYPT_COMPACT,
         ("{}", LINE, RFC7516_KEY, RFC7516_RANDOM),
         CONTENT,
         RFC7516_A3,
         b"",
+        [2, 2, 2, 1, 6, 0],
     ),
+    // The texts before the tag, and the tag; and both blocks of the ciphertext.
     (
         &["jwe", "enc", "-c", "-I", "p", "-k", "k", "-O", "b"],
         ("{}", LINE, RFC7516_KEY, RFC7516_RANDOM),
         CONTENT,
         RFC7516_A3_BESIDE,
         RFC7516_CIPHERTEXT,
+        [2, 2, 2, 1, 3, 3],
     ),
     (
         &DECRYPT,
@@ -155,6 +194,7 @@ const ENCRYPTED: &[Row<'_>] = &[
         NONE,
         "",
         LINE,
+        [2, 0, 2, 0, 0, 2],
     ),
     (
         &["jwe", "dec", "-I", "b", "-k", "k", "-O", "p"],
@@ -162,6 +202,7 @@ const ENCRYPTED: &[Row<'_>] = &[
         NONE,
         "",
         LINE,
+        [2, 2, 2, 0, 0, 2],
     ),
     (
         &["jwe", "fmt", "-c", "-O", "b"],
@@ -169,6 +210,7 @@ const ENCRYPTED: &[Row<'_>] = &[
         NONE,
         RFC7516_A3_BESIDE,
         RFC7516_CIPHERTEXT,
+        [2, 0, 0, 0, 2, 2],
     ),
     (
         &["jwe", "fmt", "-c", "-I", "b"],
@@ -176,6 +218,7 @@ const ENCRYPTED: &[Row<'_>] = &[
         NONE,
         RFC7516_A3,
         b"",
+        [2, 2, 0, 0, 2, 0],
     ),
 ];
 
@@ -246,7 +289,7 @@ fn performed(
 
 /// The run met no failure, and answered so; it wrote all.
 fn expect_whole<R: Abort>(rt: &R, row: &Row<'_>, answer: Result<(), Refusal>, run: &Run) {
-    let (_, (at, ..), _, text, content) = *row;
+    let (_, (at, ..), _, text, content, _) = *row;
     expect_same(rt, run.result, answer, at);
     expect_octets(rt, run.text.octets(), text.as_bytes(), at);
     expect_octets(rt, run.content.octets(), content, at);
@@ -262,7 +305,7 @@ fn expect_untouched<R: Abort>(rt: &R, output: &FailingOutput, at: &str) {
 
 /// The failure of this device is told, and each output holds a stated beginning.
 fn expect_told<R: Abort>(rt: &R, row: &Row<'_>, run: &Run, device: usize) {
-    let (_, (at, ..), streams, text, content) = *row;
+    let (_, (at, ..), streams, text, content, _) = *row;
     let mut wanted = [0; DEVICES];
     wanted[device.min(CONTENT_OUT)] = 1;
     expect_same(rt, run.failures, wanted, at);
@@ -283,7 +326,28 @@ fn expect_told<R: Abort>(rt: &R, row: &Row<'_>, run: &Run, device: usize) {
     }
 }
 
-/// Each call of the device fails in turn, alone or with all after it, until a run meets no failure, and answers so.
+/// How many calls the device has where a call takes one octet: one for each octet that is read or written, one that finds the end of an
+/// input that is read to its end, and one that finishes an output. A device that has none with more octets at a call has none.
+fn octet_calls(row: &Row<'_>, device: usize) -> u64
+    requires { device < 6 }
+{
+    let (_, (given, beside, keys, random), _, text, content, calls) = *row;
+    let lens = [
+        given.len() + 1,
+        beside.len() + 1,
+        keys.len() + 1,
+        random.len(),
+        text.len() + 1,
+        content.len() + 1,
+    ];
+    if calls[device] == 0 {
+        0
+    } else {
+        lens[device] as u64
+    }
+}
+
+/// Each call of the device fails in turn, alone or with all after it, until a run meets no failure, and answers so. These are so many.
 fn fails_in_turn<R: Abort + AllocGlobal>(
     rt: &R,
     row: &Row<'_>,
@@ -291,6 +355,7 @@ fn fails_in_turn<R: Abort + AllocGlobal>(
     device: usize,
     step: usize,
     is_alone: bool,
+    calls: u64,
 ) -> Result<(), Fail>
     requires { 0 < step }
 {
@@ -303,6 +368,7 @@ fn fails_in_turn<R: Abort + AllocGlobal>(
         let run = performed(rt.alloc(), row, device, failing, step)?;
         if run.failures == [0; DEVICES] {
             expect_whole(rt, row, answer, &run);
+            expect_same(rt, call, calls, device);
             return Ok(());
         }
         expect_told(rt, row, &run, device);
@@ -317,10 +383,13 @@ fn all_fail_in_turn<R: Abort + AllocGlobal>(
     answer: Result<(), Refusal>,
 ) -> Result<(), Fail> {
     for device in 0..DEVICES {
-        fails_in_turn(rt, row, answer, device, 4096, true)?;
-        fails_in_turn(rt, row, answer, device, 4096, false)?;
-        fails_in_turn(rt, row, answer, device, 1, true)?;
-        fails_in_turn(rt, row, answer, device, 1, false)?;
+        let (.., calls) = *row;
+        let calls = calls[device];
+        fails_in_turn(rt, row, answer, device, 4096, true, calls)?;
+        fails_in_turn(rt, row, answer, device, 4096, false, calls)?;
+        let calls = octet_calls(row, device);
+        fails_in_turn(rt, row, answer, device, 1, true, calls)?;
+        fails_in_turn(rt, row, answer, device, 1, false, calls)?;
     }
     Ok(())
 }
@@ -364,7 +433,7 @@ fn a_failing_payload_is_told_before_a_refusal(rt: HostRuntime) -> Result<(), Fai
     for (text, keys, refusal) in REFUSED {
         let words: [&[&str]; 2] = [&CHECK_BESIDE, &VERIFY_BESIDE];
         for words in words {
-            let row: Row<'_> = (words, (text, b"abc", keys, b""), NONE, "", b"");
+            let row: Row<'_> = (words, (text, b"abc", keys, b""), NONE, "", b"", CHECKED);
             all_fail_in_turn(&rt, &row, Err(*refusal))?;
         }
     }
@@ -380,7 +449,14 @@ fn broken<R: Abort + AllocGlobal>(
     most: usize,
 ) -> Result<Run, Fail> {
     let zeros = [0; 10_000];
-    let row: Row<'_> = (words, ("{}", &zeros, keys, random), CONTENT, "", b"");
+    let row: Row<'_> = (
+        words,
+        ("{}", &zeros, keys, random),
+        CONTENT,
+        "",
+        b"",
+        UNCOUNTED,
+    );
     Ok(performed(rt.alloc(), &row, CONTENT, Failing::After(most), 4096)?)
 }
 
@@ -419,10 +495,24 @@ fn what_does_not_open_calls_no_output(rt: HostRuntime) -> Result<(), Fail> {
     let forged = "eyJhbGciOiJIUzI1NiJ9.YWJk.sxvqVTS8XjHJPVB24OsGa2pZqgR8ZX_Ab4pTTtgI47Y";
     calls_no_output(
         &rt,
-        &(&DECRYPT, (changed, b"", RFC7516_KEY, b""), NONE, "", b""),
+        &(
+            &DECRYPT,
+            (changed, b"", RFC7516_KEY, b""),
+            NONE,
+            "",
+            b"",
+            UNCOUNTED,
+        ),
     )?;
     calls_no_output(
         &rt,
-        &(&VERIFY, (forged, b"", RFC7515_KEY, b""), NONE, "", b""),
+        &(
+            &VERIFY,
+            (forged, b"", RFC7515_KEY, b""),
+            NONE,
+            "",
+            b"",
+            UNCOUNTED,
+        ),
     )
 }
