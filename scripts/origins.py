@@ -24,7 +24,7 @@ import collections, os
 from sources import ROOT, block_end, parts, text_at, tokens_of
 
 COMPARING = ("modes", "ciphers", "tokens")
-PASSING = ("crates/octets/src/streams", "crates/jose/src/files")
+PASSING = ("crates/octets/src/streams", "crates/jose/src/files", "crates/jose/src/system")
 
 # The file, the function ("" outside of functions), the code, and what it comes from or what it is for.
 PLACES = [
@@ -54,10 +54,11 @@ PLACES = [
     ("keys/src/set.rt", "read_keys", "match read_key(alloc, value) { Ok(key) => keys.push(key)?, Err(Refusal::Memory) => return Err(Refusal::Memory),", "passed on"),
     ("jose/src/words/options.rt", "refusal_for", "fn refusal_for(error: &Error) -> Refusal { if error.kind() == ErrorKind::OutOfMemory { Refusal::Memory }",
      "clap's error for memory"),
-    ("jose/src/main.rt", "placeholder", "match File::open(rt, folder) { Ok(folder) if folder.as_raw_fd() <= 2 => return Ok(Some(folder)), Ok(_) => return Ok(None), "
+    ("jose/src/main.rt", "placeholder", "match system.open(folder) { Ok(folder) => return Ok(if_standard(folder)), "
      "Err(e) if e.kind() == io::ErrorKind::OutOfMemory => return Err(Refusal::Memory),", "std's error for memory"),
-    ("jose/src/main.rt", "perform", "match std::env::args(rt) { Ok(args) => args, Err(e) if e.kind() == io::ErrorKind::OutOfMemory => return Err(Refusal::Memory),",
-     "std's error for memory"),
+    ("jose/src/system.rt", "HostRuntime::args", "match std::env::args(self) { Ok(args) => Ok(args.collect(self.alloc())?), "
+     "Err(e) if e.kind() == io::ErrorKind::OutOfMemory => Err(Refusal::Memory), Err(_) => Err(Refusal::Usage),",
+     "std's error for memory; an argument that is not UTF-8"),
 
     # Devices over memory.
     ("octets/src/memory.rt", "", "Input for MemoryInput", "it never fails"),
@@ -102,9 +103,9 @@ PLACES = [
     ("jose/src/files.rt", "Sink::flush", "match self { Sink::Nowhere => Ok(()), Sink::Standard(stdout) => stdout.flush(), "
      "Sink::File(output) => { if output.opened.is_none() { output.opened = Some(output.create()?); } "
      "match &mut output.opened { Some(file) => file.flush(), None => unreachable!(), } } }", "what the stream or the file answers; an output that no option names"),
-    ("jose/src/files.rt", "OutputFile::create", "if other.is_some_and(|other| are_one_file(self.files, self.path, other)) { "
+    ("jose/src/files.rt", "OutputFile::create", "if are_one_file(self.files, self.path, self.apart.content) || are_one_file(self.files, self.path, self.apart.beside) { "
      "return Err(io::Error::from(io::ErrorKind::ResourceBusy)); }", "an output that is the file of the content or of the other output"),
-    ("jose/src/files.rt", "are_one_file", "match (metadata(files, path), metadata(files, other)) { (Ok(file), Ok(other)) => {", "a file that can't be looked at is not the same"),
+    ("jose/src/system.rt", "HostRuntime::id", "match metadata(self, path) { Ok(found) => file_id(&found), Err(_) => None,", "a file that can't be looked at is not the same"),
     ("jose/src/files.rt", "inputs", "let text = invocation.value('i').or(invocation.value('s'));", "options of the command"),
     ("jose/src/files.rt", "inputs", "let random = invocation.value('R').or(Some(SYSTEM_RANDOM));", "options of the command"),
 
@@ -113,7 +114,7 @@ PLACES = [
     ("octets/src/failing.rt", "FailingOutput::new", "MemoryOutput::new(alloc, room)?", "the room that the caller asks for"),
     ("octets/src/whole.rt", "read_to_end", "'reads: loop { let n = input.read(&mut buf)?; if n == 0 { return Ok(octets); } octets.extend_from_slice(&buf[..n])?; }",
      "all that an input gives"),
-    ("jose/src/main.rt", "perform", "args.skip(1).collect(rt.alloc())?", "the words of the command"),
+    ("jose/src/system.rt", "HostRuntime::args", "args.collect(self.alloc())?", "the program's arguments"),
 
     # Comparisons, in the crates that compare tags and signatures.
     ("octets/src/lanes.rt", "same_octets", "fn same_octets(a: &[u8], b: &[u8]) -> bool", "the declaration"),

@@ -11,5 +11,7 @@ pub mod Jwk
 pub mod Meanings
 pub mod Answer
 pub mod Files
+pub mod System
+pub mod Runs
 pub mod Headline
 pub mod WiderLimits

@@ -2,22 +2,23 @@
 //! its first read; an output file is opened, and cut to nothing, just before its first octet is
 //! written, or when it is finished with none; one that is made for a secret is its owner's alone. An
 //! output is not opened where it is the file of the content that is read meanwhile, or of the other output.
-ghost use Rattle.std.specs.Prelude.{◌≡◌, ℕ, ◌<◌, ◌++◌, List, length, take, drop, min, option_map, OnOk, Ok};
+ghost use Rattle.std.specs.Prelude.{◌≡◌, ℕ, ◌<◌, ◌++◌, ◌⊎◌, List, length, take, drop, min, option_map, OnOk, IfOk, IfErr, Ok, Err};
 ghost use Rattle.std.specs.Result.{result_unwrap_or};
 ghost use Rattle.std.specs.Io.{ReadsAtMost, WritesAtMost};
 ghost use Rattle.std.specs.Io.KnownBytes.{Keeps, ReadConsumes, WriteAppends};
 ghost use Rattle.jose.specs.Invocations.{invocation_view};
 ghost use Rattle.jose.specs.Files.{words, origin_of, origin_named, after_read, source_remaining, IsOpenSource, IsUnopenedSource, AreNewInputs};
+ghost use Rattle.jose.specs.System.{MayBeOne, IsApart, IsNotApart, mode_of};
 ghost use Rattle.jose.specs.Files.{nowhere, destination_of, destination_named, sink_contents, IsOpenSink, IsUnopenedSink, apart_view, file_named, streamed_file, AreNewOutputs};
 
 use crate::ports::{Inputs, Outputs};
+use crate::system::System;
 use crate::words::invocation::Invocation;
 use crate::words::table::Command;
 use octets::{ReaderInput, WriterOutput};
-use std::fs::{File, OpenOptions, metadata};
+use std::fs::File;
 use std::io;
 use std::io::{Read, Stdin, Stdout, Write};
-use std::os::unix::fs::{MetadataExt, OpenOptionsExt};
 use std::rt::Files;
 
 /// The file of random octets where `-R` names none.
@@ -115,7 +116,7 @@ pub(crate) struct Apart<'a> {
     beside: Option<&'a str>,
 }
 
-impl<'a, R: Files> Write for Sink<'a, R> {
+impl<'a, R: System> Write for Sink<'a, R> {
     ghost contents = { sink_contents R.File.contents };
 
     fn write(&mut self, octets: &[u8]) -> io::Result<usize>
@@ -172,31 +173,36 @@ impl<'a, R: Files> Write for Sink<'a, R> {
     }
 }
 
-impl<'a, R: Files> OutputFile<'a, R> {
+impl<'a, R: System> OutputFile<'a, R> {
     /// Opens the file for writing, and cuts it to nothing. Where it is not there it is made, for its owner alone where it is
     /// for a secret, and else with the mode that the process's mask leaves. One that it must not be is left as it is.
-    fn create(&self) -> io::Result<R::File> {
-        for other in [self.apart.content, self.apart.beside] {
-            if other.is_some_and(|other| are_one_file(self.files, self.path, other)) {
-                return Err(io::Error::from(io::ErrorKind::ResourceBusy));
-            }
+    fn create(&self) -> io::Result<R::File>
+        ensures apart { OnOk result (IsApart (R.id_gives self.now.files.now) self.now.path.now (apart_view self.now.apart)) }
+        ensures created { IfOk result (λ file.
+            R.create_gives self.now.files.now self.now.path.now (mode_of self.now.is_secret) (Ok file)) }
+        ensures refused { IfErr result (λ e.
+            IsNotApart (R.id_gives self.now.files.now) self.now.path.now (apart_view self.now.apart)
+            ⊎ R.create_gives self.now.files.now self.now.path.now (mode_of self.now.is_secret) (Err e)) }
+    {
+        if are_one_file(self.files, self.path, self.apart.content)
+            || are_one_file(self.files, self.path, self.apart.beside)
+        {
+            return Err(io::Error::from(io::ErrorKind::ResourceBusy));
         }
         let mode = if self.is_secret { SECRET_MODE } else { MODE };
-        OpenOptions::new()
-            .write(true)
-            .create(true)
-            .truncate(true)
-            .mode(mode)
-            .open(self.files, self.path)
+        self.files.create(self.path, mode)
     }
 }
 
 /// Both names are those of one regular file, by whatever links. Where either can't be looked at they are not.
-fn are_one_file<R: Files>(files: &R, path: &str, other: &str) -> bool {
-    match (metadata(files, path), metadata(files, other)) {
-        (Ok(file), Ok(other)) => {
-            file.is_file() && file.dev() == other.dev() && file.ino() == other.ino()
-        }
+fn are_one_file<R: System>(files: &R, path: &str, other: Option<&str>) -> bool
+    ensures { MayBeOne (R.id_gives files.now) path.now (option_map (λ text. text.now) other.entry) result }
+{
+    let Some(other) = other else {
+        return false;
+    };
+    match (files.id(path), files.id(other)) {
+        (Some(file), Some(other)) => file == other,
         _ => false,
     }
 }
@@ -245,7 +251,7 @@ fn source_of<'a, R: Files>(
 
 /// The outputs that the options name. A made key and what is decrypted are secrets. Both are kept apart from the content that
 /// is read while they are written, and the text from the content beside it, which is written before.
-pub(crate) fn outputs<'a, R: Files>(
+pub(crate) fn outputs<'a, R: System>(
     files: &'a R,
     standard: Stdout,
     invocation: &'a Invocation,

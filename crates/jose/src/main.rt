@@ -6,7 +6,11 @@
 //! (`files`), and `run` does what is asked from devices to devices. `report` tells a refusal.
 #![tactic(auto)]
 
-ghost use Rattle.std.specs.Prelude.{◌≡◌, IfErr};
+ghost use Rattle.std.specs.Prelude.{◌≡◌, ◌⊎◌, List, map, string_bytes, IfOk, IfErr, Result as Answer, Err};
+ghost use Rattle.clap.specs.Words.{Text};
+ghost use Rattle.octets.specs.declared.refusal.Refusal.{Refusal as Cause};
+ghost use Rattle.jose.specs.Runs.{Performs, Serves};
+ghost use Rattle.jose.specs.System.{HoldsFirst, IsHeld};
 
 mod commands;
 mod files;
@@ -14,17 +18,20 @@ pub mod laws;
 mod ports;
 mod report;
 mod run;
+mod system;
 mod words;
 
+use crate::system::System;
 use octets::{Refusal, WriterOutput};
 pub use ports::{Inputs, Outputs};
 pub use report::report;
 pub use run::run;
-use std::fs::File;
+use std::alloc::Global;
 use std::io;
+use std::io::{Stdin, Stdout};
 use std::os::fd::AsRawFd;
 use std::process::ExitCode;
-use std::rt::{Env, Files};
+use std::rt::Files;
 pub use words::invocation::{Invocation, Setting};
 pub use words::parse;
 pub use words::table::Command;
@@ -35,13 +42,15 @@ const FOLDERS: &[&str] = &["/", ".", "/dev", "/proc", "/etc", "/tmp"];
 /// Takes the number of a standard stream that is closed for as long as it is held, and can be neither read nor written there. The next
 /// file that is opened would take the number, and be read or written in place of the stream. `None` if the lowest free number is
 /// none of the three, or if no folder can be opened.
-fn placeholder(rt: &HostRuntime) -> Result<Option<File>, Refusal>
-    ensures { IfErr result (λ refusal. refusal ≡ Refusal.Memory) }
+fn placeholder<S: System>(system: &S, folders: &[&str]) -> Result<Option<S::File>, Refusal>
+where
+    S::File: AsRawFd,
+    ensures held { IfOk result (HoldsFirst (S.open_gives system.now) S.File.raw_fd (map (λ text. text.now) folders.now)) }
+    ensures memory { IfErr result (λ refusal. refusal ≡ Refusal.Memory) }
 {
-    for folder in FOLDERS {
-        match File::open(rt, folder) {
-            Ok(folder) if folder.as_raw_fd() <= 2 => return Ok(Some(folder)),
-            Ok(_) => return Ok(None),
+    for folder in folders {
+        match system.open(folder) {
+            Ok(folder) => return Ok(if_standard(folder)),
             Err(e) if e.kind() == io::ErrorKind::OutOfMemory => return Err(Refusal::Memory),
             Err(_) => {}
         }
@@ -49,24 +58,55 @@ fn placeholder(rt: &HostRuntime) -> Result<Option<File>, Refusal>
     Ok(None)
 }
 
+/// The file, if its number is that of a standard stream.
+fn if_standard<F: AsRawFd + Drop>(file: F) -> Option<F>
+    ensures { IsHeld F.raw_fd file result }
+{
+    matches!(file.as_raw_fd(), 0..=2).then_some(file)
+}
+
 /// Reads the words, and does what they ask over files and the standard streams. Words that are not
 /// UTF-8 are no command.
-fn perform(rt: &HostRuntime) -> Result<(), Refusal> {
-    let _in_place_of_closed_streams = (placeholder(rt)?, placeholder(rt)?, placeholder(rt)?);
-    let args = match std::env::args(rt) {
-        Ok(args) => args,
-        Err(e) if e.kind() == io::ErrorKind::OutOfMemory => return Err(Refusal::Memory),
-        Err(_) => return Err(Refusal::Usage),
+fn perform<S: System>(
+    alloc: Global,
+    system: &S,
+    stdin: Stdin,
+    stdout: Stdout,
+) -> Result<(), Refusal>
+where
+    S::File: AsRawFd,
+    ensures { result ≡ Err Refusal.Memory ⊎ ((args : Answer (List Text) Cause) × (S.args_gives system.now args × Performs S S.File S.Dir args result)) }
+{
+    let _in_place_of_closed_streams = (
+        placeholder(system, FOLDERS)?,
+        placeholder(system, FOLDERS)?,
+        placeholder(system, FOLDERS)?,
+    );
+    let args = system.args()?;
+    let [_name, words @ ..] = args.as_slice() else {
+        return Err(Refusal::Usage);
     };
-    let words: Vec<String> = args.skip(1).collect(rt.alloc())?;
-    let invocation = parse(rt.alloc(), &words)?;
-    let mut inputs = files::inputs(rt, rt.stdin(), &invocation);
-    let mut outputs = files::outputs(rt, rt.stdout(), &invocation);
-    run(rt.alloc(), &invocation, &mut inputs, &mut outputs)
+    serve(alloc, system, stdin, stdout, words)
+}
+
+/// Does what the words ask over files and the standard streams.
+fn serve<S: System>(
+    alloc: Global,
+    files: &S,
+    stdin: Stdin,
+    stdout: Stdout,
+    words: &[String],
+) -> Result<(), Refusal>
+    ensures { result ≡ Err Refusal.Memory ⊎ Serves S S.File S.Dir (map string_bytes words.now) result }
+{
+    let invocation = parse(alloc, words)?;
+    let mut inputs = files::inputs(files, stdin, &invocation);
+    let mut outputs = files::outputs(files, stdout, &invocation);
+    run(alloc, &invocation, &mut inputs, &mut outputs)
 }
 
 fn main(rt: HostRuntime) -> ExitCode {
-    let result = perform(&rt);
+    let result = perform(rt.alloc(), &rt, rt.stdin(), rt.stdout());
     let mut errors = WriterOutput::new(rt.stderr());
     ExitCode::from(report(result, &mut errors))
 }

@@ -1,0 +1,32 @@
+use Rattle.std.proofs.Common.{◌≡◌, ◌⊎◌, false, refl, List, map, Result, Err, string_bytes, inl, inr, rules}
+use Rattle.clap.specs.Words.{Text}
+use Rattle.octets.specs.declared.refusal.Refusal.{Refusal}
+use Rattle.octets.specs.declared.refusal.Refusal.TheVariants.{Memory}
+use Rattle.octets.specs.Outcomes.{is_memory, is_external}
+use Rattle.jose.specs.Words.{invocation_of}
+use Rattle.jose.specs.Runs.{Serves}
+use Rattle.jose.proofs.serve.Goals as goal
+
+-- what `parse` refuses with is memory's refusal, or that of the words
+refused : (R F D : Type 0) (words : List Text) (refusal : Refusal) (result : Result (Unit {0}) Refusal) → result ≡ Err refusal
+    → (is_memory refusal ≡ false → (invocation_of words ≡ Err refusal) × (is_external refusal ≡ false))
+    → (result ≡ Err Memory) ⊎ Serves R F D words result
+refused R F D words Memory result is agrees = inl is
+refused R F D words refusal result is agrees = inr (rw (agrees refl).0 is)
+
+pub returns-in_err-invocation : goal.returns-in_err-invocation
+returns-in_err-invocation g c =
+    refused _ _ _ (map string_bytes c.args.words.now) c.in_err-invocation.field-0.0 c.from_residual.result (search rules) c.in_err-invocation.ensures
+
+pub returns : goal.returns
+returns g c =
+    inr (rw c.in_ok-invocation.ensures (record {
+      inputs = c.inputs-inputs.result;
+      outputs = c.outputs-outputs.result;
+      inputs_after = c.run.new.inputs;
+      outputs_after = c.run.new.outputs;
+      new_inputs = c.inputs-inputs.ensures;
+      new_outputs = c.outputs-outputs.ensures;
+      answer = c.run.ensures.answer;
+      faults = c.run.ensures.faults;
+    }))

@@ -1,0 +1,37 @@
+-- What the program does with its words.
+use Rattle.std.specs.Prelude.{◌≡◌, List, drop, Result, Ok, Err, MatchResult}
+use Rattle.clap.specs.Words.{Text}
+use Rattle.octets.specs.declared.refusal.Refusal.{Refusal}
+use Rattle.octets.specs.declared.streams.ReaderInput.{ReaderInput}
+use Rattle.octets.specs.declared.streams.WriterOutput.{WriterOutput}
+use Rattle.octets.specs.Faults.{TellsFaults}
+use Rattle.octets.specs.Views.{consumed_of, is_at_end_of, read_failures_of, written_of, write_failures_of}
+use Rattle.jose.specs.declared.files.Source.{Source}
+use Rattle.jose.specs.declared.files.Sink.{Sink}
+use Rattle.jose.specs.declared.ports.Inputs.{Inputs}
+use Rattle.jose.specs.declared.ports.Outputs.{Outputs}
+use Rattle.jose.specs.Invocations.{InvocationView}
+use Rattle.jose.specs.Words.{invocation_of}
+use Rattle.jose.specs.Ports.{observed_inputs, written_texts, input_counts, output_counts}
+use Rattle.jose.specs.Answer.{Answers}
+use Rattle.jose.specs.Files.{AreNewInputs, AreNewOutputs}
+
+-- a run of the invocation over the devices that it names, of which nothing was read or written before
+pub record IsRun (R F D : Type 0) (invocation : InvocationView) (result : Result (Unit {0}) Refusal) : Type 0 where
+  pub inputs : Inputs (ReaderInput (Source R F D))
+  pub outputs : Outputs (WriterOutput (Sink R F D))
+  pub inputs_after : Inputs (ReaderInput (Source R F D))
+  pub outputs_after : Outputs (WriterOutput (Sink R F D))
+  pub new_inputs : AreNewInputs invocation inputs
+  pub new_outputs : AreNewOutputs invocation outputs
+  pub answer : Answers invocation (observed_inputs consumed_of is_at_end_of inputs inputs_after) (written_texts written_of outputs outputs_after) result
+  pub faults : TellsFaults (input_counts read_failures_of inputs inputs_after) (output_counts write_failures_of outputs outputs_after) result
+
+-- Words that are no command are refused as `parse` refuses them. A command is run.
+abbrev pub Serves : (R F D : Type 0) → List Text → Result (Unit {0}) Refusal → Type 0
+Serves R F D words result = MatchResult (invocation_of words) (λ invocation. IsRun R F D invocation result) (λ refusal. result ≡ Err refusal)
+
+-- Arguments that are not there are refused as the system refuses them. The words are those after the program's name.
+abbrev pub Performs : (R F D : Type 0) → Result (List Text) Refusal → Result (Unit {0}) Refusal → Type 0
+Performs R F D (Err refusal) result = result ≡ Err refusal
+Performs R F D (Ok arguments) result = Serves R F D (drop 1 arguments) result

@@ -1,0 +1,107 @@
+//! What the program asks of the operating system. std's clauses say nothing of what the system answers, so each call of `System` has a
+//! relation that its answer meets, and of which no more is known. A function over any `System` whose clauses speak of an answer
+//! in such a relation can have it only from the call.
+ghost use Rattle.std.specs.Prelude.{◌≡◌, ◌↔◌, ◌⊎◌, ℕ, ⊤, List, map, string_bytes, IfOk, IfErr, IsSome, IsTrue, Option, Result, Ok, Err};
+ghost use Rattle.std.specs.declared.io.Error.{Error};
+ghost use Rattle.std.specs.Fs.{asks_create, asks_truncate, asks_write, file_type, IsFile};
+ghost use Rattle.clap.specs.Words.{Text};
+ghost use Rattle.octets.specs.declared.refusal.Refusal.{Refusal as Cause};
+ghost use Rattle.jose.specs.declared.system.FileId.{FileId as Id};
+
+use octets::Refusal;
+use std::fs::{File, Metadata, OpenOptions, metadata};
+use std::io;
+use std::os::unix::fs::{MetadataExt, OpenOptionsExt};
+use std::rt::Files;
+
+/// A regular file, whatever its names are: its device, and its number there.
+#[derive(Clone, Copy, PartialEq, Eq)]
+pub(crate) struct FileId {
+    pub(crate) device: u64,
+    pub(crate) inode: u64,
+}
+
+pub(crate) trait System: Files {
+    ghost args_gives: { Self → Result (List Text) Cause → Type 0 };
+
+    ghost id_gives: { Self → Text → Option Id → Type 0 };
+
+    ghost open_gives: { Self → Text → Result Self.File Error → Type 0 };
+
+    ghost create_gives: { Self → Text → ℕ → Result Self.File Error → Type 0 };
+
+    /// The program's arguments, its name first. `Usage` if one of them is not UTF-8.
+    fn args(&self) -> Result<Vec<String>, Refusal>
+        ensures given { IfOk result (λ args. args_gives self.now (Ok (map string_bytes args.items))) }
+        ensures refused { IfErr result (λ refusal. args_gives self.now (Err refusal)) }
+        ensures refusal { IfErr result (λ refusal. refusal ≡ Refusal.Memory ⊎ refusal ≡ Refusal.Usage) };
+
+    /// The regular file of this name. `None` if it is no regular file, or if it can't be looked at.
+    fn id(&self, path: &str) -> Option<FileId>
+        ensures { id_gives self.now path.now result };
+
+    /// Opens the file for reading.
+    fn open(&self, path: &str) -> io::Result<Self::File>
+        ensures { open_gives self.now path.now result };
+
+    /// Opens the file for writing, and cuts it to nothing. Where it is not there it is made, with this mode.
+    fn create(&self, path: &str, mode: u32) -> io::Result<Self::File>
+        ensures { create_gives self.now path.now mode result };
+}
+
+impl System for HostRuntime {
+    ghost args_gives = { λ _ _. ⊤ };
+
+    ghost id_gives = { λ _ _ _. ⊤ };
+
+    ghost open_gives = { λ _ _ _. ⊤ };
+
+    ghost create_gives = { λ _ _ _ _. ⊤ };
+
+    fn args(&self) -> Result<Vec<String>, Refusal> {
+        match std::env::args(self) {
+            Ok(args) => Ok(args.collect(self.alloc())?),
+            Err(e) if e.kind() == io::ErrorKind::OutOfMemory => Err(Refusal::Memory),
+            Err(_) => Err(Refusal::Usage),
+        }
+    }
+
+    fn id(&self, path: &str) -> Option<FileId> {
+        match metadata(self, path) {
+            Ok(found) => file_id(&found),
+            Err(_) => None,
+        }
+    }
+
+    fn open(&self, path: &str) -> io::Result<File> {
+        File::open(self, path)
+    }
+
+    fn create(&self, path: &str, mode: u32) -> io::Result<File> {
+        new_file(mode).open(self, path)
+    }
+}
+
+fn file_id(found: &Metadata) -> Option<FileId>
+    ensures { IsSome result ↔ IsFile (file_type found.now) }
+{
+    if !found.is_file() {
+        return None;
+    }
+    Some(FileId {
+        device: found.dev(),
+        inode: found.ino(),
+    })
+}
+
+/// How an output file is opened. std says nothing of the options after `mode`, so it comes first.
+fn new_file(mode: u32) -> OpenOptions
+    ensures written { IsTrue (asks_write result) }
+    ensures created { IsTrue (asks_create result) }
+    ensures cut { IsTrue (asks_truncate result) }
+{
+    let mut options = OpenOptions::new();
+    options.mode(mode);
+    options.write(true).create(true).truncate(true);
+    options
+}
