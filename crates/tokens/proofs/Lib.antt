@@ -6,6 +6,7 @@ pub mod BegunInputs
 pub mod WrittenSignatures
 pub mod SignedAlike
 pub mod FramedSigning
+pub mod Framing
 pub mod StandingSignatures
 pub mod HeaderMembers
 pub mod HeaderTexts

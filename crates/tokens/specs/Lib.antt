@@ -11,5 +11,6 @@ pub mod Choosing
 pub mod Delivering
 pub mod Encrypting
 pub mod SealedTexts
+pub mod Framing
 pub mod Views
 pub mod MoreAlgorithms

@@ -42,6 +42,10 @@ pub record IsFed {X : Type 0} (is_sealing : X → Sealing → List ℕ → Type 
 abbrev pub IsSealingText : {X : Type 0} → (X → Sealing → List ℕ → Type 0) → X → List ℕ → Sealing → List ℕ → Type 0
 IsSealingText is_sealing x waiting s p = IsFed is_sealing x s p × (waiting ≡ part_group (s.fixed p))
 
+-- one value is one
+pub one_value : {values : List (List ℕ)} {value : List ℕ} → values ≡ value ∷ [] → length values ≡ 1
+one_value is = ap length is
+
 -- ---- the object
 
 -- The sealing of what the plan is of was started, and the texts are those of its frame. Round the ciphertext and the tag of every

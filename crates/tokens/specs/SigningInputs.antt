@@ -1,5 +1,7 @@
 -- Signing inputs that are taken in pieces (RFC 7515 section 5.1).
-use Rattle.std.specs.Prelude.{◌≡◌, ℕ, Bool, List, [], ◌∷◌, ◌++◌, map, codes, ⊤, Result, Ok}
+use Rattle.std.specs.Prelude.{◌≡◌, ℕ, Bool, List, [], ◌∷◌, ◌++◌, length, map, codes, ⊤, Result, Ok}
+use Rattle.std.proofs.Common.{refl, ap, ◌∙◌, arith}
+use Rattle.std.proofs.lemmas.List.{length-map}
 use Rattle.prf.specs.HashFunction.{HashFunction}
 use Rattle.prf.specs.Sha2.{Sha256, Sha384, Sha512}
 use Rattle.prf.specs.declared.hmac.Hmac.{Hmac}
@@ -43,6 +45,24 @@ HaveTaken has_taken inputs waiting starts p = HoldEach has_taken inputs starts (
 -- the text of the signature over the payload's text
 abbrev pub signature_text : List ℕ → InputStart → List ℕ
 signature_text text s = base64url (hmac (signature_hash s.alg) s.key ((s.protected ++ codes ".") ++ text))
+
+-- The inputs give the texts of the signatures over a text that they have taken.
+pub record GiveSignatures {S : Type 0} (has_taken : S → HashFunction → List ℕ → List ℕ → Type 0) (inputs : List S) (values : List (List ℕ)) : Type 0 where
+  pub starts : List InputStart
+  pub text : List ℕ
+  pub hold : HoldEach has_taken inputs starts text
+  pub are : values ≡ map (signature_text text) starts
+
+-- as many as there are inputs
+hold_count : {S : Type 0} (has_taken : S → HashFunction → List ℕ → List ℕ → Type 0) (inputs : List S) (starts : List InputStart) (text : List ℕ) → HoldEach has_taken inputs starts text → length starts ≡ length inputs
+hold_count has_taken [] [] text h = refl
+hold_count has_taken [] (s ∷ starts) text h = absurd h
+hold_count has_taken (x ∷ inputs) [] text h = absurd h
+hold_count has_taken (x ∷ inputs) (s ∷ starts) text h = omega (arith, hold_count has_taken inputs starts text h.1)
+
+pub count_signatures : {S : Type 0} {has_taken : S → HashFunction → List ℕ → List ℕ → Type 0} {inputs : List S} {values : List (List ℕ)} → GiveSignatures has_taken inputs values → length values ≡ length inputs
+count_signatures {has_taken = has_taken} {inputs = inputs} given =
+    ap length given.are ∙ length-map given.starts (signature_text given.text) ∙ hold_count has_taken inputs given.starts given.text given.hold
 
 -- what the signing input of a signer starts with
 abbrev pub start_of : Signer → InputStart

@@ -31,12 +31,13 @@ mod template;
 use crate::aad::additional_authenticated_data;
 use crate::algorithms::content_alg;
 use crate::copies::copied;
-use crate::encrypt::ciphertext::{Ciphertext, EncodedCiphertext, Tag};
+use crate::encrypt::ciphertext::{Ciphertext, EncodedCiphertext};
 use crate::encrypt::deliver::{SALT_LEN, deliver_to_all, drawn_for_all};
 use crate::encrypt::plan::EncryptionPlan;
 use crate::encrypt::recipient_key::RecipientKey;
 use crate::encrypt::recipients::{protected_header, recipients};
 use crate::encrypt::settle::{is_direct, read_encryption};
+use crate::framed::{write_beside, write_inside};
 use crate::headers::header_text;
 use ciphers::laws::{what_delivers_is_octets, what_is_opened_is_octets};
 use ciphers::{Cek, ContentSealer, Sealer};
@@ -44,7 +45,7 @@ use keys::laws::are_octet_keys;
 use keys::{KeySet, MOST_KEYS};
 use objects::{Jwe, JweParts};
 use octets::laws::are_octets;
-use octets::{Input, Output, Refusal, b64_encode, draw, emit, encode_onto, pump, write_whole};
+use octets::{Input, Output, Refusal, b64_encode, draw};
 use std::alloc::Global;
 
 /// The most octets that are drawn: for each key a salt input, a content encryption key of 64, and an initialization vector of 16.
@@ -142,17 +143,13 @@ pub fn jwe_encrypt<I: Input, O: Output>(
             let PreparedEncryption { texts, sealer } = prepare(
                 alloc, keys, template, compact, false, random,
             )?;
-            let ciphertext = EncodedCiphertext::start(sealer);
-            let tag = pump(content, ciphertext, texts[0].as_bytes(), out)?;
-            write_tag(&tag, &texts[1..], out)
+            write_inside(content, EncodedCiphertext::start(sealer), &texts, out)
         }
         Some(detached) => {
             let PreparedEncryption { texts, sealer } = prepare(
                 alloc, keys, template, compact, true, random,
             )?;
-            let tag = pump(content, Ciphertext::start(sealer), &[], detached)?;
-            detached.finish()?;
-            write_tag(&tag, &texts, out)
+            write_beside(content, Ciphertext::start(sealer), &texts, out, detached)
         }
     }
 }
@@ -252,23 +249,6 @@ fn begin_sealing(
     )?;
     let texts = jwe.frame(alloc, compact, detach)?;
     Ok(PreparedEncryption { texts, sealer })
-}
-
-/// Writes the first text, the tag, and the text after it, and finishes.
-fn write_tag<O: Output>(tag: &Tag, texts: &[String], out: &mut O) -> Result<(), Refusal>
-    requires { length texts.now ≡ 2 }
-    ensures all { OnOk result (O.written out.new ≡ O.written out.old ++ filled (map string_bytes texts.now) (base64url tag.now ∷ [])) }
-    ensures beginning { OnErr result (AppendsPrefixOf (filled (map string_bytes texts.now) (base64url tag.now ∷ [])) (O.written out.old) (O.written out.new)) }
-    ensures finished { OnOk result (IsFinishedOnce O.is_finished O.endings out.old out.new) }
-    ensures unfinished { OnErr result (O.endings out.new ≡ O.endings out.old) }
-    ensures cause { OnErr result (result ≡ Err Refusal.Write) }
-    ensures faults { TellsFaults [] (counts O.failures out.old out.new ∷ []) result }
-{
-    let mut text = [0; 43];
-    let len = encode_onto(tag.octets(), &mut text);
-    write_whole(out, texts[0].as_bytes())?;
-    write_whole(out, &text[..len])?;
-    emit(out, texts[1].as_bytes())
 }
 
 /// How many octets are drawn.

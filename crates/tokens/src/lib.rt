@@ -15,6 +15,7 @@ mod algorithms;
 mod copies;
 mod decrypt;
 mod encrypt;
+mod framed;
 mod headers;
 pub mod laws;
 mod mac;

@@ -22,6 +22,7 @@ mod settle;
 mod signer;
 mod template;
 
+use crate::framed::{write_beside, write_inside};
 use crate::headers::{copy, header_text};
 use crate::sign::payload::{EncodedPayload, Payload};
 use crate::sign::settle::{Signing, read_signing};
@@ -29,7 +30,7 @@ use crate::sign::signer::Signer;
 use crate::signing_input::{HmacInput, SigningInput};
 use keys::KeySet;
 use objects::{Jws, JwsParts, SignatureParts};
-use octets::{Input, Output, Refusal, b64_encode, emit, encode_onto, pump, write_whole};
+use octets::{Input, Output, Refusal, b64_encode};
 use std::alloc::Global;
 
 /// Signs all that the content gives with each key in order (RFC 7515 section 5.1), as the template asks, and writes the
@@ -97,15 +98,11 @@ pub fn jws_sign<I: Input, O: Output>(
     match detached {
         None => {
             let PreparedSigning { texts, inputs } = prepare(alloc, keys, template, compact, false)?;
-            let payload = EncodedPayload::start(inputs);
-            let inputs = pump(content, payload, texts[0].as_bytes(), out)?;
-            write_signatures(inputs, &texts[1..], out)
+            write_inside(content, EncodedPayload::start(inputs), &texts, out)
         }
         Some(detached) => {
             let PreparedSigning { texts, inputs } = prepare(alloc, keys, template, compact, true)?;
-            let inputs = pump(content, Payload::start(inputs), &[], detached)?;
-            detached.finish()?;
-            write_signatures(inputs, &texts, out)
+            write_beside(content, Payload::start(inputs), &texts, out, detached)
         }
     }
 }
@@ -135,32 +132,6 @@ fn prepare(
     let texts = jws.frame(alloc, compact, detach)?;
     let inputs = signing_inputs(alloc, &signing.signers, &jws)?;
     Ok(PreparedSigning { texts, inputs })
-}
-
-/// Writes the first text, and then each signature and the text after it, and finishes.
-fn write_signatures<O: Output, S: SigningInput>(
-    inputs: Vec<S>,
-    texts: &[String],
-    out: &mut O,
-) -> Result<(), Refusal>
-    requires { length texts.now ≡ 1 + length inputs.items }
-    ensures all { (starts : List InputStart) (text : List ℕ) → HoldEach S.has_taken inputs.items starts text
-        → OnOk result (O.written out.new ≡ O.written out.old ++ filled (map string_bytes texts.now) (map (signature_text text) starts)) }
-    ensures beginning { (starts : List InputStart) (text : List ℕ) → HoldEach S.has_taken inputs.items starts text
-        → OnErr result (AppendsPrefixOf (filled (map string_bytes texts.now) (map (signature_text text) starts)) (O.written out.old) (O.written out.new)) }
-    ensures finished { OnOk result (IsFinishedOnce O.is_finished O.endings out.old out.new) }
-    ensures unfinished { OnErr result (O.endings out.new ≡ O.endings out.old) }
-    ensures cause { OnErr result (result ≡ Err Refusal.Write) }
-    ensures faults { TellsFaults [] (counts O.failures out.old out.new ∷ []) result }
-{
-    let mut octets = [0; 86];
-    for (input, text) in inputs.into_iter().zip(texts) {
-        write_whole(out, text.as_bytes())?;
-        let signature = input.sign();
-        let len = encode_onto(signature.octets(), &mut octets);
-        write_whole(out, &octets[..len])?;
-    }
-    emit(out, texts[texts.len() - 1].as_bytes())
 }
 
 /// The object of what is signed, without a payload and with empty signatures.

@@ -1,10 +1,13 @@
 //! A content that is sealed as it is read (RFC 7516 section 5.1, steps 15 and 16). It sees no object.
-ghost use Rattle.std.specs.Prelude.{◌≡◌, ◌≤◌, ◌++◌, ℕ, length, take, List, []};
+ghost use Rattle.std.specs.Prelude.{◌≡◌, ◌≤◌, ◌++◌, ◌∷◌, ℕ, length, take, List, []};
 ghost use Rattle.ciphers.specs.Sealing.{Sealing};
 ghost use Rattle.tokens.specs.SealedTexts.{sealed_plan, IsFed, IsSealingText};
 
+use crate::framed::Values;
 use ciphers::Sealer;
-use octets::{B64Writer, PIECE_TEXT, Refusal, SEALED_PIECE, Transform};
+use octets::{
+    B64Writer, Output, PIECE_TEXT, Refusal, SEALED_PIECE, Transform, emit, encode_onto, write_whole,
+};
 use std::marker::Model;
 
 /// The authentication tag. It is seen as its octets.
@@ -155,4 +158,24 @@ impl<S: Sealer> Transform for Ciphertext<S> {
         let (len, tag) = end(sealer, last);
         Ok((&last[..len], tag))
     }
+}
+
+/// The tag, between two texts.
+impl Values for Tag {
+    ghost use Rattle.octets.specs.Base64url.{base64url};
+    ghost use Rattle.tokens.specs.SealedTexts.{one_value};
+
+    ghost gives = { λ tag values. values ≡ base64url tag ∷ [] };
+
+    ghost count = { λ tag. 1 };
+
+    fn write<O: Output>(self, texts: &[String], out: &mut O) -> Result<(), Refusal> {
+        let mut text = [0; 43];
+        let len = encode_onto(self.octets(), &mut text);
+        write_whole(out, texts[0].as_bytes())?;
+        write_whole(out, &text[..len])?;
+        emit(out, texts[1].as_bytes())
+    }
+
+    ghost as_many = { λ tag values is. one_value is };
 }

@@ -1,10 +1,12 @@
-//! A payload that is signed as it is read (RFC 7515 section 5.1): each signing input takes its base64url text.
-ghost use Rattle.std.specs.Prelude.{List, []};
+//! A payload that is signed as it is read (RFC 7515 section 5.1): each signing input takes its base64url text, and gives its signature at the
+//! end.
+ghost use Rattle.std.specs.Prelude.{List, [], length};
 ghost use Rattle.octets.specs.Base64url.{base64url};
 ghost use Rattle.tokens.specs.SigningInputs.{InputStart, HoldEach, HaveTaken};
 
+use crate::framed::Values;
 use crate::signing_input::{SigningInput, take_each};
-use octets::{B64Writer, PIECE_TEXT, Refusal, Transform};
+use octets::{B64Writer, Output, PIECE_TEXT, Refusal, Transform, emit, encode_onto, write_whole};
 
 /// A payload that goes out as its base64url text.
 #[derive(Drop)]
@@ -111,4 +113,26 @@ impl<S: SigningInput> Transform for Payload<S> {
         take_each(&mut inputs, text);
         Ok((&[], inputs))
     }
+}
+
+/// The signatures of what signing inputs took.
+impl<S: SigningInput> Values for Vec<S> {
+    ghost use Rattle.tokens.specs.SigningInputs.{GiveSignatures, count_signatures};
+
+    ghost gives = { λ inputs values. GiveSignatures S.has_taken inputs.items values };
+
+    ghost count = { λ inputs. length inputs.items };
+
+    fn write<O: Output>(self, texts: &[String], out: &mut O) -> Result<(), Refusal> {
+        let mut octets = [0; 86];
+        for (input, text) in self.into_iter().zip(texts) {
+            write_whole(out, text.as_bytes())?;
+            let signature = input.sign();
+            let len = encode_onto(signature.octets(), &mut octets);
+            write_whole(out, &octets[..len])?;
+        }
+        emit(out, texts[texts.len() - 1].as_bytes())
+    }
+
+    ghost as_many = { λ inputs values given. count_signatures given };
 }

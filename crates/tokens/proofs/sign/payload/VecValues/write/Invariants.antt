@@ -2,14 +2,14 @@ use Rattle.std.proofs.Common.{List, ℕ, ◌++◌, ◌+◌, ◌≡◌, map, leng
 use Rattle.objects.specs.Frames.{filled}
 use Rattle.tokens.specs.SigningInputs.{InputStart, HoldEach, signature_text}
 use Rattle.tokens.proofs.WrittenSignatures.{AreLeft}
-use Rattle.tokens.proofs.sign.write_signatures.Given as goal
+use Rattle.tokens.proofs.sign.payload.VecValues.write.Given as goal
 
 -- What was written, and the texts and signatures that are left, are all of them.
 abbrev pub invariant-loop-input : goal.invariant-loop-input
 invariant-loop-input g l =
     let has_taken = g.S.SigningInput.has_taken in
     let written = g.O.Output.written in record {
-      left : (starts : List InputStart) (text : List ℕ) → HoldEach has_taken l.fn.inputs.items starts text
+      left : (starts : List InputStart) (text : List ℕ) → HoldEach has_taken l.fn.self.items starts text
           → AreLeft has_taken l.input-iterator.a.rest.items (map string_bytes l.input-iterator.b.rest.now) text (filled (map string_bytes l.fn.texts) (map (signature_text text) starts)) (written l.fn.out) (written l.out);
       places : length l.input-iterator.b.rest.now ≡ 1 + length l.input-iterator.a.rest.items;
       count : l.input-iterator.a.rest.len ≡ length l.input-iterator.a.rest.items;
