@@ -4,10 +4,10 @@ use Rattle.std.proofs.Math.Seq.{drop-append_seam}
 use lib.Dec.{leb-zero}
 use Rattle.octets.specs.declared.refusal.Refusal.{Refusal}
 use Rattle.octets.specs.declared.refusal.Refusal.TheVariants.{Write, Random}
-use Rattle.octets.specs.Devices.{Observed, observed, appended, IsPossibleInput}
+use Rattle.octets.specs.Devices.{observed, appended, IsPossibleInput}
 use Rattle.octets.specs.Lent.{lent, wrote_on}
 use Rattle.octets.specs.Outcomes.{◌>>=◌, needs, is_external, AgreesUnlessExternal}
-use Rattle.octets.specs.Plan.{OutputTexts, Plan, Draft, plan_map, plan_from, placed, by_plan, by_text, without_random, planned, without_content, begun}
+use Rattle.octets.specs.Plan.{OutputTexts, Plan, Draft, plan_map, plan_from, placed, by_plan, by_text, without_random, planned, without_content}
 
 pub AgreesUnlessExternal-map : {W V : Type 0} (f : W → V) (a : Result W Refusal) (w : W) (v : V) (r : Result (Unit {0}) Refusal) → f w ≡ v
     → AgreesUnlessExternal a w r → AgreesUnlessExternal (a >>= λ x. Ok (f x)) v r
@@ -88,11 +88,6 @@ of_refusal P r e is fact = subst (λ r. IfErr r P) (sym is) fact
 -- what was seen of an input may be all of it
 pub seen_possible : {D : Type 0} (consumed : D → List ℕ) (is_at_end : D → Bool) (old new : D) → IsPossibleInput (observed consumed is_at_end old new) (appended (consumed old) (consumed new))
 seen_possible consumed is_at_end old new = record { rest = []; continues = sym (append-nil (appended (consumed old) (consumed new))); ends = λ _. refl; octets = search rules }
-
--- where the content has ended and is accepted, its whole texts may stand
-pub begun_whole : (plan : Result (Plan OutputTexts) Refusal) (seen : Observed) (texts : OutputTexts) → IsTrue seen.ended → planned plan seen.octets ≡ Ok texts → begun plan seen ≡ texts
-begun_whole (Ok p) seen texts ended is = let yes : seen.ended ≡ true = ended in rw (yes, is) refl
-begun_whole (Err r) seen texts ended is = cc is
 
 -- ---- the last call decides: it worked, or an output failed
 

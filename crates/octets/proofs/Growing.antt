@@ -9,7 +9,7 @@ use Rattle.octets.specs.Octets.{IsOctets}
 use Rattle.octets.specs.Base64url.{base64url, decoded, is_url_character, whole_groups, part_group}
 use Rattle.octets.specs.LineEnds.{without_line_end}
 use Rattle.octets.specs.Pumps.{most_behind, KeepsUp}
-use Rattle.octets.specs.Plan.{Begins, Grows, beginning_of, as_it_is}
+use Rattle.octets.specs.Plan.{Begins, Grows, as_it_is}
 use Rattle.octets.specs.Encoding.{encoding, and_octets, octets_of_groups, decoding, IsLongestDecoded, FixesLongest}
 use Rattle.octets.proofs.Decoded.{IsOctets-nil, IsOctets-append, IsOctets-take, IsOctets-drop, IsOctets-front, octets_of_meaning, parts_of_meaning, same_front}
 use Rattle.octets.proofs.Groups.{base64url-append, length-base64url, base64url_whole-append, base64url_whole_part}
@@ -199,11 +199,6 @@ as_it_is_grows = record {
   more = λ p q. record { rest = q; continues = refl };
   whole = λ p q w octets e. record { rest = q; continues = cc e };
 }
-
--- all that was read may stand of it
-pub plain_beginning : (p : List ℕ) (ended : Bool) → beginning_of as_it_is (record { octets = p; ended = ended }) ≡ p
-plain_beginning p true = refl
-plain_beginning p false = refl
 
 -- ---- what is written once all is read
 

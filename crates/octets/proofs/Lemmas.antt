@@ -1,16 +1,16 @@
 -- What the crates above cite of these proofs, and nothing else.
 pub use Rattle.octets.proofs.Meanings.{meaning_of_text, decodes_exactly}
-pub use Rattle.octets.proofs.Spared.{not_told, told_alone, stands_first, not_begun}
+pub use Rattle.octets.proofs.Spared.{not_told, stands_first, not_begun}
 pub use Rattle.octets.proofs.Unread.{encoding_fixes_nothing, decoding_fixes_nothing, unread_untouched}
 pub use Rattle.octets.proofs.Groups.{base64url_whole-append, base64url_whole_part, base64url-nil}
 pub use Rattle.octets.proofs.Characters.{has_url_characters}
 pub use Rattle.octets.proofs.Decoded.{IsOctets-nil, first_or, IsOctets-append, IsOctets-take, IsOctets-drop, IsOctets-front, IsOctets-back, octets_of_meaning, decoded-nil}
-pub use Rattle.octets.proofs.Growing.{encoding_grows, as_it_is_grows, plain_beginning, kept_up_by_none}
+pub use Rattle.octets.proofs.Growing.{encoding_grows, as_it_is_grows, kept_up_by_none}
 pub use Rattle.octets.proofs.Prefixes.{AppendsPrefixOf-all, AppendsPrefixOf-none, AppendsPrefixOf-front, AppendsPrefixOf-part, AppendsPrefixOf-kept}
 pub use Rattle.octets.proofs.Steps.{steps, passed, same_answer, is_there, refused_alike}
-pub use Rattle.octets.proofs.Agreement.{AgreesUnlessExternal-map, plan_from-by_plan, plan_of_plan, plan_of_text, planned_without_content, on_success, at_refusal, on_refusal, of_refusal, seen_possible, begun_whole, agrees_last, appended-append, whole_is, both_written, unlent}
+pub use Rattle.octets.proofs.Agreement.{AgreesUnlessExternal-map, plan_from-by_plan, plan_of_plan, plan_of_text, planned_without_content, on_success, at_refusal, on_refusal, of_refusal, seen_possible, agrees_last, appended-append, whole_is, both_written, unlent}
 pub use Rattle.octets.proofs.Streaming.{AppendsPrefixOf-Begins}
 pub use Rattle.octets.proofs.Decoding.{cut, reading_starts, settling_grows, settling_begins, settling_keeps_up}
 pub use Rattle.octets.proofs.Chunks.{chunk_is, length-chunk, chunk_octets, chunk_front, chunk_back, chunk_written, length-written, chunk_kept, chunk_more, chunks_joined, same_chunks, length-joined, chunk-joined}
 pub use Rattle.octets.proofs.Sums.{chunk_at}
-pub use Rattle.octets.proofs.Pumping.{behind_grows, behind_refused, behind_nothing, beginning_behind_nothing, keeps_up, all_written, passed_on, whole_stands}
+pub use Rattle.octets.proofs.Pumping.{behind_grows, behind_refused, behind_nothing, beginning_behind_nothing, keeps_up, passed_on, whole_stands}

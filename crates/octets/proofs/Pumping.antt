@@ -171,10 +171,6 @@ keeps_up plan grows fixed same p old written e =
 
 -- ---- the end of the content, from without
 
--- what was written is the answer
-pub all_written : (answer : Result (List ℕ) Refusal) (old out w : List ℕ) → answer ≡ Ok (appended old out) → Extends old out → answer ≡ Ok w → out ≡ old ++ w
-all_written answer old out w e extends is = let same : Ok (appended old out) ≡ Ok w = sym e ∙ is in extends ∙ ap (λ l. old ++ l) (cc same)
-
 -- a refusal is passed on
 pub passed_on : {W : Type 0} (answer : Result W Refusal) (wrote : W) (r : Result (Unit {0}) Refusal) (e : Refusal) → r ≡ Err e → (is_external e ≡ false → answer ≡ Err e) → AgreesUnlessExternal answer wrote r
 passed_on answer wrote r e is refused = subst (AgreesUnlessExternal answer wrote) (sym is) refused

@@ -1,5 +1,5 @@
 -- An output that did not fail, whatever the other did.
-use Rattle.std.proofs.Common.{◌≡◌, ◌≢◌, ◌⊎◌, ℕ, refl, [], ◌∷◌, Result, Ok, Err, OnErr, IfErr, ap, inl, inr, arith}
+use Rattle.std.proofs.Common.{◌≡◌, ◌≢◌, ◌⊎◌, ℕ, refl, [], ◌∷◌, Result, OnErr, inl, inr, arith}
 use Rattle.octets.specs.declared.refusal.Refusal.{Refusal}
 use Rattle.octets.specs.declared.refusal.Refusal.TheVariants.{Write}
 use Rattle.octets.specs.Faults.{Counts, SomeFailed, DidNotFail}
@@ -11,13 +11,6 @@ not_told e c told spared is = elim (told is) [
   | inl failed ↦ absurd (omega (arith, failed, (spared is).0, (spared is).1))
   | inr none ↦ none
 ]
-
--- If it is the only one, and Write the only refusal, it failed: so nothing is asked of outputs that did not fail.
-pub told_alone : (P Q : Type 0) (r : Result (Unit {0}) Refusal) (c : Counts) → OnErr r (r ≡ Err Write) → (r ≡ Err Write → SomeFailed (c ∷ [])) → IfErr r (λ e. (DidNotFail e c → P) × (e ≢ Write → Q))
-told_alone P Q (Ok done) c cause told = tt
-told_alone P Q (Err e) c cause told =
-    let is : e ≡ Write = cc cause in
-    (λ spared. absurd (not_told e c (λ w. told (ap Err w)) spared is), λ other. absurd (other is))
 
 -- what stands whole beside a text, in place of a text that is not begun
 pub stands_first : {E F W : Type 0} (P : Type 0) (r : Result (Unit {0}) Refusal) → E → F → W → OnErr r (P ⊎ (E × F × W))

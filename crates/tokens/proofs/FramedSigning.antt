@@ -1,28 +1,25 @@
 -- The texts that stand round the payload and the signatures of what is signed, and what may stand of them.
-use Rattle.std.proofs.Common.{◌≡◌, ℕ, Bool, true, false, List, [], ◌∷◌, ◌++◌, length, map, codes, Result, Ok, Err, refl, sym, ap, ap₂, ◌∙◌, append_assoc, append-nil}
+use Rattle.std.proofs.Common.{◌≡◌, ℕ, Bool, true, false, List, [], ◌∷◌, length, map, codes, Result, Ok, Err, refl, sym, ap, ap₂, ◌∙◌, append_assoc}
 use Rattle.std.proofs.lemmas.List.{length-map}
 use Rattle.std.specs.List.{AllByRecursion}
-use Rattle.std.specs.Result.{result_unwrap_or}
 use Rattle.serde_json.specs.Data.{Members}
 use Rattle.octets.specs.declared.refusal.Refusal.{Refusal}
 use Rattle.octets.specs.declared.refusal.Refusal.TheVariants.{Memory, NotCompact}
-use Rattle.octets.specs.Base64url.{base64url, whole_groups}
+use Rattle.octets.specs.Base64url.{base64url}
 use Rattle.octets.specs.Octets.{IsOctets}
 use Rattle.octets.specs.Outcomes.{◌>>=◌, is_memory}
-use Rattle.octets.specs.Plan.{OutputTexts, Begins, beginning_of, planned}
+use Rattle.octets.specs.Plan.{OutputTexts, planned}
 use Rattle.prf.specs.Hmac.{hmac}
 use Rattle.keys.specs.Keys.{OctetKey}
 use Rattle.keys.specs.Limits.{limits}
-use Rattle.objects.specs.Frames.{filled, in_places, first_text, jws_frame, signed_with, IsJwsFrame}
+use Rattle.objects.specs.Frames.{filled, in_places, jws_frame, signed_with, IsJwsFrame}
 use Rattle.objects.specs.Jws.{Signature, signature_parts_of, EncodedSignature, SignedObject, EncodedJws, JwsParts, built, jws_written, jws_text}
 use Rattle.objects.specs.Texts.{handed_out}
 use Rattle.objects.specs.Writing.{Written, all_texts}
 use Rattle.objects.proofs.Lemmas.{signature_spelled, parts_spelled, spelled, jws_is_built, object_keeps, jws_refused}
 use Rattle.tokens.specs.Signatures.{signature_hash, signature_of}
-use Rattle.tokens.specs.Signing.{Signer, Signing, protected_by, signature_by, unsigned_part_by, unsigned_by, signed, text_before, written_of, plan_by, read_signing, sig_plan}
+use Rattle.tokens.specs.Signing.{Signer, Signing, protected_by, signature_by, unsigned_part_by, unsigned_by, signed, written_of, plan_by, read_signing, sig_plan}
 use Rattle.tokens.specs.SigningInputs.{signature_text, start_of, unsigned_protected}
-use Rattle.octets.specs.Encoding.{encoding}
-use Rattle.octets.specs.Pumps.{behind}
 use Rattle.tokens.proofs.SignedAlike.{with_all, put_part, built_alike, refused_alike}
 use Rattle.tokens.proofs.SignedObjects.{is_written}
 use Rattle.tokens.proofs.SignedRoundTrip.{signature_octets}
@@ -123,23 +120,6 @@ has_frame compact detach s payload written h = by_object (unsigned_by limits s) 
     by_object : (r : Result SignedObject Refusal) → unsigned_by limits s ≡ r → (o : SignedObject) × (texts : List (List ℕ)) × (unsigned_by limits s ≡ Ok o) × (jws_frame compact detach o ≡ Ok texts)
     by_object (Ok o) made = by_texts o (jws_written true compact detach o) made refl
     by_object (Err e) made = cc (sym h ∙ object_refused compact detach s payload e made)
-
--- ---- the first text of one that holds its payload
-
-module _ (compact : Bool) (s : Signing) (o : SignedObject) (first : List ℕ) (rest : List (List ℕ)) (made : unsigned_by limits s ≡ Ok o) (framed : jws_frame compact false o ≡ Ok (first ∷ rest))
-    (frame : IsJwsFrame compact false o (first ∷ rest)) where
-  pub first_is : first ≡ text_before limits compact s
-  first_is = ap first_text (sym (ap (λ r. r >>= jws_frame compact false) made ∙ framed))
-
-  -- with the text of what was read of the payload it begins what may stand
-  pub inside_begins : (payload : List ℕ) (ended : Bool) → IsOctets payload
-      → Begins (beginning_of (behind first encoding) (record { octets = payload; ended = ended })) (beginning_of (plan_by limits compact false s) (record { octets = payload; ended = ended })).text
-  inside_begins payload false octets = record { rest = []; continues = ap (λ t. t ++ base64url (whole_groups payload)) (sym first_is) ∙ sym (append-nil (first ++ base64url (whole_groups payload))) }
-  inside_begins payload true octets = record {
-    rest = filled rest (map base64url (map (octets_by payload) s.signers));
-    continues = ap (λ r. (result_unwrap_or r ((plan_by limits compact false s).fixed payload)).text) (whole_is compact false s o (first ∷ rest) made frame payload octets)
-        ∙ sym (append_assoc first (base64url payload) (filled rest (map base64url (map (octets_by payload) s.signers))));
-  }
 
 -- ---- what may stand
 

@@ -1,5 +1,5 @@
 -- What stands written of a content inside the texts of a frame or beside them, and of the values that follow it.
-use Rattle.std.proofs.Common.{◌≡◌, ℕ, Bool, true, false, List, [], ◌∷◌, ◌++◌, length, Result, Ok, Err, IsTrue, refl, sym, ap, ◌∙◌, subst, append_assoc, append-nil}
+use Rattle.std.proofs.Common.{◌≡◌, ℕ, Bool, true, false, List, [], ◌∷◌, ◌++◌, Result, Ok, Err, IsTrue, refl, sym, ap, ◌∙◌, subst, append_assoc, append-nil}
 use Rattle.std.specs.Result.{result_unwrap_or}
 use Rattle.octets.specs.declared.refusal.Refusal.{Refusal}
 use Rattle.octets.specs.Devices.{appended, Extends, IsPossibleInput, AppendsPrefixOf}
@@ -7,9 +7,9 @@ use Rattle.octets.specs.Octets.{IsOctets}
 use Rattle.octets.specs.Outcomes.{◌>>=◌}
 use Rattle.octets.specs.Plan.{OutputTexts, Plan, Begins, beginning_of}
 use Rattle.octets.specs.Pumps.{behind}
-use Rattle.octets.proofs.Lemmas.{steps, same_answer, appended-append, both_written, AppendsPrefixOf-Begins, behind_nothing}
+use Rattle.octets.proofs.Lemmas.{steps, same_answer, appended-append, both_written, AppendsPrefixOf-Begins}
 use Rattle.objects.specs.Frames.{filled}
-use Rattle.tokens.specs.Framing.{IsFraming, all_in, fixed_in}
+use Rattle.tokens.specs.Framing.{IsFraming}
 use Rattle.tokens.proofs.Beginnings.{AppendsPrefixOf-behind}
 
 -- an input that was read to its end was this

@@ -175,7 +175,6 @@ fn prepare<I: Input>(
     ensures unsealed { (octets : List ℕ) → IsPossibleInput (observed I.consumed I.is_at_end random.old random.new) octets
         → IfOk result (λ made. IsUnsealed ⟦<ContentSealer as Sealer>⟧.is_sealing compact detach
         (plan_from (enc_plan limits compact detach keys.now template.now) octets) made.sealer (map string_bytes made.texts.items)) }
-    ensures places { IfOk result (λ made. length made.texts.items ≡ (if detach then 2 else 3)) }
     ensures refused { (octets plaintext : List ℕ) → IsPossibleInput (observed I.consumed I.is_at_end random.old random.new) octets
         → IfErr result (λ e. is_external e ≡ false → planned (plan_from (enc_plan limits compact detach keys.now template.now) octets) plaintext ≡ Err e) }
     ensures drawn { OnOk result (length (appended (I.consumed random.old) (I.consumed random.new))

@@ -1,4 +1,4 @@
-use Rattle.std.proofs.Common.{◌≡◌, ◌++◌, true, length, map, string_bytes, refl, sym, ap, ◌∙◌, arith, rules}
+use Rattle.std.proofs.Common.{◌≡◌, ◌++◌, true, length, map, string_bytes, refl, ap, ◌∙◌, arith, rules}
 use Rattle.std.proofs.lemmas.Bool.{le-leb}
 use Rattle.std.proofs.lemmas.List.{length-map}
 use Rattle.keys.specs.Limits.{limits, are_few}
@@ -8,8 +8,8 @@ use Rattle.octets.proofs.Lemmas.{appended-append}
 use Rattle.tokens.specs.Encrypting.{random_len}
 use Rattle.tokens.specs.Views.{encryption_plan_view, recipient_key_view}
 use Rattle.tokens.proofs.EncryptedHeaders.{OctetLaws}
-use Rattle.tokens.proofs.EncryptionFrames.{has_frame, frame, is_unsealed}
-use Rattle.tokens.proofs.Sealed.{if_ok_all, map_ok}
+use Rattle.tokens.proofs.EncryptionFrames.{has_frame, is_unsealed}
+use Rattle.tokens.proofs.Sealed.{if_ok_all}
 use Rattle.tokens.proofs.encrypt.prepare.Goals as goal
 
 pub begin_sealing-requires-clause-made : goal.begin_sealing-requires-clause-made
@@ -35,14 +35,3 @@ returns-clause-unsealed g c octets may =
     if_ok_all c.begin_sealing.result c.begin_sealing.ensures.sealing c.begin_sealing.ensures.framed c.begin_sealing.ensures.cek
     (λ made begun framed cek. is_unsealed is_sealing-value.it c.args.compact c.args.detach c.args.keys.now c.args.template.now e c.draw.new.out octets may.rest made.sealer (map string_bytes made.texts.items)
     c.in_ok-encryption.ensures few laws c.are_octet_keys.ensures c.are_octets.ensures long (may.continues ∙ ap (λ l. l ++ may.rest) drawn) begun framed cek)
-
-pub returns-clause-places : goal.returns-clause-places
-returns-clause-places g c =
-    let e = encryption_plan_view c.in_ok-encryption.encryption in
-    let items = c.in_ok-encryption.encryption.receivers.items in
-    let few : are_few limits (length e.receivers) ≡ true = le-leb (length e.receivers) limits.recipients (omega (arith, length-map items recipient_key_view, c.in_ok-encryption.encryption.few)) in
-    let long : length c.draw.new.out ≡ random_len e = search rules in
-    let laws : OctetLaws = record { opened = c.what_is_opened_is_octets.ensures; delivering = c.what_delivers_is_octets.ensures } in
-    map_ok c.begin_sealing.result c.begin_sealing.ensures.framed
-    (λ made framed. sym (length-map made.texts.items string_bytes)
-    ∙ (frame c.args.compact c.args.keys.now c.args.template.now e c.draw.new.out c.in_ok-encryption.ensures few laws c.are_octet_keys.ensures c.are_octets.ensures long c.args.detach (map string_bytes made.texts.items) framed).places)

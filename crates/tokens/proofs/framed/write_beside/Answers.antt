@@ -1,4 +1,4 @@
-use Rattle.std.proofs.Common.{rules, ◌≡◌, ◌∙◌, List, String, Global, [], true, arith, length, map, string_bytes, sym, ap, subst}
+use Rattle.std.proofs.Common.{rules, ◌∙◌, List, String, Global, [], true, arith, length, map, string_bytes, sym, ap, subst}
 use Rattle.std.proofs.lemmas.List.{length-map}
 use Rattle.octets.specs.Devices.{appended, next_count, AppendsPrefixOf}
 use Rattle.octets.specs.Octets.{IsOctets}

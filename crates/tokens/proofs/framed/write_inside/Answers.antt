@@ -1,4 +1,4 @@
-use Rattle.std.proofs.Common.{rules, ◌≡◌, List, String, Global, [], ◌∷◌, ◌∙◌, false, length, map, string_bytes, Err, sym, ap, subst, arith}
+use Rattle.std.proofs.Common.{rules, List, String, Global, [], ◌∷◌, ◌∙◌, false, length, map, string_bytes, Err, sym, ap, subst, arith}
 use Rattle.std.proofs.lemmas.List.{length-map}
 use Rattle.octets.specs.Devices.{appended}
 use Rattle.octets.specs.Faults.{counts}

@@ -1,5 +1,4 @@
-use Rattle.std.proofs.Common.{rules, map, string_bytes, sym, ap, subst, refl, ◌∙◌}
-use Rattle.octets.specs.Devices.{next_count}
+use Rattle.std.proofs.Common.{rules, map, string_bytes, ap, refl}
 use Rattle.octets.proofs.Lemmas.{not_begun, AppendsPrefixOf-kept, at_refusal}
 use Rattle.tokens.specs.contracts.signing_input.HmacInputSigningInput.TheImpl.{has_taken-value}
 use Rattle.tokens.proofs.StandingSignatures.{fills_inside, fills_beside}
