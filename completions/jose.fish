@@ -53,7 +53,7 @@ complete -c jose -n '__jose_lacks jws sig c' -s c -d 'compact form'
 complete -c jose -n '__jose_lacks jws ver i value' -s i -r -F -d object
 complete -c jose -n '__jose_lacks jws ver I value' -s I -r -F -d 'detached payload'
 complete -c jose -n '__jose_lacks jws ver k value' -s k -r -F -d 'key or set'
-complete -c jose -n '__jose_lacks jws ver a' -s a -d 'each key must verify'
+complete -c jose -n '__jose_lacks jws ver a' -s a -d 'each good key must verify'
 complete -c jose -n '__jose_lacks jws ver O value' -s O -r -F -d payload
 complete -c jose -n '__jose_lacks jws fmt i value' -s i -r -F -d object
 complete -c jose -n '__jose_lacks jws fmt I value' -s I -r -F -d 'detached payload'

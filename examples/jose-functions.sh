@@ -1,16 +1,49 @@
-# Two functions for scripts that use jose; read them in by `. jose-functions.sh`.
+# Three functions for scripts that use jose; read them in by `. jose-functions.sh`.
 
-# jose_set FILE..: a set of the keys in these files, on standard output.
-jose_set() {
-    printf '{"keys":['
-    jose_comma=
+# jose_set FILE..: one set of all keys in these files, on standard output. A file holds a key or a set. A file that holds anything but
+# good keys is refused, with its name and the refusal, and nothing is written. To add a key to a set write a new file, as in
+# `jose_set all.jwks new.jwk > all.new`, and rename it on the next line.
+jose_set() (
+    jose_list=
+    jose_names=
     for jose_file; do
-        printf '%s' "$jose_comma"
-        cat -- "$jose_file" || return
-        jose_comma=,
+        jose_text=$(cat -- "$jose_file") || exit
+        # There is no algorithm "none". The keys are judged before it, so the refusal is Unsupported only if each of them is good.
+        jose_why=$(printf '%s' "$jose_text" | jose jws sig -s '{"protected":{"alg":"none"}}' -k - -I /dev/null 2>&1) || :
+        if [ "$jose_why" != 'jose: 12 Unsupported' ]; then
+            printf '%s: %s\n' "$jose_file" "$jose_why" >&2
+            exit 1
+        fi
+        jose_names="$jose_names$(printf '%s' "$jose_text" | jose jwk thp)
+"
+        jose_text=$(printf '%s' "$jose_text" | tr '\n\r\t' '   ' | sed 's/^ *{ *"keys" *: *\[\(.*\)\] *} *$/\1/')
+        jose_list=${jose_list:+$jose_list,}$jose_text
     done
-    printf ']}'
-}
+    jose_list="{\"keys\":[$jose_list]}"
+    # The set has to have exactly the thumbprints of the files, so no key was lost.
+    jose_all=$(printf '%s' "$jose_list" | jose jwk thp) || exit
+    if [ "$jose_all
+" != "$jose_names" ]; then
+        echo 'jose_set: a set has other members than "keys"' >&2
+        exit 1
+    fi
+    printf '%s' "$jose_list"
+)
+
+# jose_ver_all NUMBER KEYS WORD..: runs `jose jws ver -a -k KEYS WORD..`, if the file KEYS holds exactly NUMBER different good keys.
+# By itself -a passes over bad keys, and takes one signature for two keys that are the same.
+jose_ver_all() (
+    jose_number=$1
+    jose_keys=$2
+    shift 2
+    # sort ends the last line too, so that wc counts it.
+    jose_good=$(jose jwk thp -i "$jose_keys" | sort -u | wc -l)
+    [ "$jose_good" -eq "$jose_number" ] || {
+        printf '%s: %s different good keys, and not %s\n' "$jose_keys" "$jose_good" "$jose_number" >&2
+        exit 1
+    }
+    jose jws ver -a -k "$jose_keys" "$@"
+)
 
 # jose_password [PROMPT]: a password that is typed, as a key for PBES2-HS256+A128KW, on standard output. It stands in no words that
 # others can see, and is not shown.
