@@ -9,7 +9,8 @@ for host in a b c; do
 done
 jose jwk gen -i '{"alg":"A256KW","kid":"admin"}' -o admin.jwk
 
-# encrypt NAME: standard input becomes the secret of this name, for the administrator and for each host.
+# encrypt NAME: standard input becomes the secret of this name, for the administrator and for each host. A set has at most 64 keys:
+# jose-jwe-enc(1) shows what to do for more hosts.
 encrypt() {
     jose_set admin.jwk hosts/*.jwk > to.jwks
     jose jwe enc -k to.jwks -o "secrets/$1.new"

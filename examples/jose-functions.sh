@@ -31,7 +31,7 @@ jose_set() (
 )
 
 # jose_ver_all NUMBER KEYS WORD..: runs `jose jws ver -a -k KEYS WORD..`, if the file KEYS holds exactly NUMBER different good keys.
-# By itself -a passes over bad keys, and takes one signature for two keys that are the same.
+# By itself -a passes over bad keys, and takes one signature for two keys that are the same. KEYS is read twice, so it is no pipe.
 jose_ver_all() (
     jose_number=$1
     jose_keys=$2
