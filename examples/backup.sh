@@ -1,24 +1,29 @@
 #!/bin/sh
-# A backup is encrypted as it is made, in parts that fit into memory when they are decrypted. Encrypting holds 4,096 octets of it;
-# decrypting holds a whole part, with its ciphertext beside the object a little more than twice.
+# A backup is encrypted as it is made, in parts that fit into memory when they are decrypted. Encrypting holds 4,096 octets of a part;
+# decrypting holds the whole part once. It needs split of GNU coreutils, which has --filter.
 set -eu
 umask 077
+# The clear texts are deleted when the script ends, also by a signal.
+trap 'rm -f parts/part-*.tar list list.back' EXIT
+trap 'exit 1' HUP INT TERM
 mkdir -p files
 head -c 300000 /dev/urandom > files/image
 echo 'correct horse' > files/secret.txt
 jose jwk gen -i '{"alg":"A256KW","kid":"backup"}' -o backup.jwk
 
-# Make it. Each part is a ciphertext of its own, with its object beside it; 100000 octets here, as much as half of the memory in earnest.
-# A writer that fails leaves a part that is well-formed and too short: so the archive's own status is asked for as well.
+# Make it. Each part is a ciphertext of its own, with its object beside it. Parts have 100,000 octets here; make them as large as the
+# memory of the machine that decrypts them allows. A writer that fails leaves a part that is well-formed and too short, so the status
+# of tar is asked for as well.
 mkdir -p parts
 rm -f failed
-{ tar -cf - files || touch failed; } | split -b 100000 --filter='jose jwe enc -c -k backup.jwk -o "parts/$FILE.jwe" -O "parts/$FILE.enc"' - part-
+{ tar -cf - files || touch failed; } |
+    split -b 100000 --filter='jose jwe enc -c -k backup.jwk -o "parts/$FILE.jwe" -O "parts/$FILE.enc"' - part-
 [ ! -e failed ]
-# Nothing else binds the parts together: a list of their objects, each of which has the tag of its ciphertext, is encrypted too.
+# Nothing else binds the parts together, so a list with the sums of their objects is encrypted too. Each object has the tag of its part.
 (cd parts && sha256sum part-*.jwe) > list
 jose jwe enc -c -k backup.jwk -I list -o parts/list.jwe
 
-# Have it back: the list is decrypted and compared, and then all parts, before the archive is unpacked.
+# Restore it. The list is decrypted and compared, and then all parts are decrypted, before the archive is unpacked.
 jose jwe dec -i parts/list.jwe -k backup.jwk -O list.back
 (cd parts && sha256sum -c --quiet ../list.back && [ "$(ls part-*.jwe | wc -l)" -eq "$(wc -l < ../list.back)" ])
 mkdir -p restored
@@ -37,9 +42,9 @@ if jose jwe dec -i parts/part-ab.jwe -I parts/part-ab.enc -k backup.jwk -O parts
 fi
 grep -q '17 NotOpened' why
 
-# And one that is missing is told by the list.
+# The list shows that a part is missing.
 mv parts/part-ab.jwe gone.jwe
-if (cd parts && sha256sum -c --quiet --status ../list.back); then
-    echo 'a missing part was not told' >&2
+if (cd parts && sha256sum -c --quiet ../list.back) >why 2>&1; then
+    echo 'a missing part was not noticed' >&2
     exit 1
 fi

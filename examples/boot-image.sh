@@ -1,6 +1,6 @@
 #!/bin/sh
-# An initramfs verifies the image of a system before it mounts it, and takes an older one if the new one does not verify. The images
-# are larger than the memory of the machine. Beside jose it needs nothing but busybox.
+# An initramfs verifies the image of a system before it mounts it, and uses an older image if the new one does not verify. The images can
+# be larger than the memory of the machine. The script needs only jose and busybox.
 set -eu
 
 # Where images are made: a key, which the initramfs gets too. The key can sign as well, so nobody else may read the initramfs.
@@ -11,8 +11,8 @@ for name in old new; do
     jose jws sig -c -k boot.jwk -I "$name.img" -o "$name.sig" -O /dev/null
 done
 
-# In the initramfs: 4,096 octets of an image are held at a time, whatever its size. What is mounted is what was verified only if nobody
-# can write to the disk meanwhile. An old image verifies as long as its signature lies beside it: delete both to be rid of it.
+# In the initramfs. jose holds 4,096 octets of an image at a time, whatever its size. The image that is mounted is the one that was
+# verified only if nobody can write to the disk meanwhile. An old image verifies as long as its signature is there: delete both.
 boot() {
     for name in new old; do
         if jose jws ver -i "$name.sig" -I "$name.img" -k boot.jwk 2>why; then

@@ -1,8 +1,11 @@
 #!/bin/sh
-# Secrets that some hosts may read, where a host comes and another goes: each secret is encrypted anew, to the hosts of the day.
+# Several hosts can read some secrets. When a host joins or leaves, each secret is encrypted again, to the hosts that are there now.
 set -eu
-. ./jose-functions.sh
+. "$(dirname -- "$0")/jose-functions.sh"
 umask 077
+# The clear texts are deleted when the script ends, also by a signal.
+trap 'rm -f secret.plain to.jwks' EXIT
+trap 'exit 1' HUP INT TERM
 mkdir -p hosts secrets
 for host in a b c; do
     jose jwk gen -i "{\"alg\":\"A256KW\",\"kid\":\"$host\"}" -o "hosts/$host.jwk"
@@ -20,10 +23,10 @@ encrypt() {
 echo 'correct horse' | encrypt database
 echo 'battery staple' | encrypt mail
 
-# A host reads one with its own key.
+# A host reads a secret with its own key.
 [ "$(jose jwe dec -i secrets/database -k hosts/b.jwk)" = 'correct horse' ]
 
-# Host b goes and host d comes: all secrets are encrypted anew. What b has read it has read: so the secrets themselves are changed next.
+# Host b leaves and host d joins: all secrets are encrypted again. Host b may have kept what it read, so change the secrets next.
 rm hosts/b.jwk
 jose jwk gen -i '{"alg":"A256KW","kid":"d"}' -o hosts/d.jwk
 for secret in secrets/*; do

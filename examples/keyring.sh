@@ -1,6 +1,6 @@
 #!/bin/sh
-# A folder of keys by their names: the key that made an object is found by the `kid` of its header. A kid selects nothing by itself, and
-# anyone can write one: what verifies is decided by the key.
+# A folder has keys by their names. The script finds the key for an object by the `kid` in its header. jose does not look at a kid, and
+# anyone can write one: the key alone decides whether the object verifies.
 set -eu
 umask 077
 mkdir -p ring
@@ -8,11 +8,11 @@ for name in host-7 host-8; do
     jose jwk gen -i "{\"alg\":\"HS256\",\"kid\":\"$name\"}" -o "ring/$name.jwk"
 done
 
-# Who signs writes the name of the key.
+# The signer writes the name of the key into the header.
 echo 'load: 0.25' > report
 jose jws sig -c -s '{"protected":{"kid":"host-8"}}' -k ring/host-8.jwk -I report -o report.jws
 
-# Who verifies reads it from the protected header, and takes it for a name only where it is one.
+# The verifier reads it from the protected header, and uses it only if it has letters, digits and hyphens alone.
 kid=$(cut -d. -f1 report.jws | jose b64 dec | sed -n 's/.*"kid":"\([A-Za-z0-9-]*\)".*/\1/p')
 [ -e "ring/$kid.jwk" ]
 jose jws ver -i report.jws -k "ring/$kid.jwk" -O verified

@@ -1,17 +1,17 @@
 #!/bin/sh
 # A manifest is signed where it is built, and verified where it is installed, while the key is changed for a new one.
 set -eu
-. ./jose-functions.sh
+. "$(dirname -- "$0")/jose-functions.sh"
 
-# Once: a key, which the builder and the hosts have.
+# Once: make a key for the builder and the hosts.
 umask 077
 jose jwk gen -i '{"alg":"HS256","kid":"2026"}' -o 2026.jwk
 
-# The builder: a line of text beside each release.
+# The builder writes a signature beside each release: one line of text.
 echo 'replicas: 3' > manifest.yaml
 jose jws sig -c -k 2026.jwk -I manifest.yaml -o manifest.sig -O /dev/null
 
-# A host: nothing is installed that does not verify. What is installed is what was verified, so it is written by jose.
+# A host installs only what verifies. jose writes the file itself, so what is installed is what was verified.
 jose jws ver -i manifest.sig -I manifest.yaml -k 2026.jwk -O installed.yaml.new
 mv installed.yaml.new installed.yaml
 
@@ -24,7 +24,7 @@ jose jws ver -i manifest.sig -I manifest.yaml -k trusted.jwks
 cp 2027.jwk trusted.jwks
 jose jws ver -i manifest.sig -I manifest.yaml -k trusted.jwks
 
-# A changed manifest is refused, and what is installed stays.
+# A changed manifest is refused, and the installed one stays.
 echo 'replicas: 9' > manifest.yaml
 if jose jws ver -i manifest.sig -I manifest.yaml -k trusted.jwks -O installed.yaml 2>why; then
     echo 'a changed manifest was installed' >&2

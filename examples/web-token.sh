@@ -1,11 +1,11 @@
 #!/bin/sh
-# A token for a web service: claims that are signed for some minutes. jose verifies the signature; what the claims say is for the
-# service to judge, `exp` among them.
+# A token for a web service: signed claims that are valid for some minutes. jose verifies the signature. The service itself judges the
+# claims, `exp` among them.
 set -eu
 umask 077
 jose jwk gen -i '{"alg":"HS256"}' -o service.jwk
 
-# Who gives the token. It is one line of text, which is not secret from who has it.
+# The login service issues the token. It is one line of text, and anyone who has it can read the claims.
 now=$(date +%s)
 printf '{"iss":"login","sub":"ann","exp":%d}' $((now + 600)) > claims.json
 token=$(jose jws sig -c -s '{"protected":{"typ":"JWT"}}' -k service.jwk -I claims.json)
@@ -20,7 +20,7 @@ accepts "$token"
 
 # A token of another key, and one whose time has passed, are not accepted.
 jose jwk gen -i '{"alg":"HS256"}' -o other.jwk
-! accepts "$(jose jws sig -c -s '{"protected":{"typ":"JWT"}}' -k other.jwk -I claims.json)"
+! accepts "$(jose jws sig -c -s '{"protected":{"typ":"JWT"}}' -k other.jwk -I claims.json)" || exit 1
 printf '{"iss":"login","sub":"ann","exp":%d}' $((now - 1)) > late.json
-! accepts "$(jose jws sig -c -s '{"protected":{"typ":"JWT"}}' -k service.jwk -I late.json)"
-! accepts "$(printf '{"sub":"ann","x":{"exp":%d}}' $((now + 600)) | jose jws sig -c -k service.jwk)"
+! accepts "$(jose jws sig -c -s '{"protected":{"typ":"JWT"}}' -k service.jwk -I late.json)" || exit 1
+! accepts "$(printf '{"sub":"ann","x":{"exp":%d}}' $((now + 600)) | jose jws sig -c -k service.jwk)" || exit 1

@@ -1,0 +1,51 @@
+#!/bin/sh
+# Many manifests are verified, and a report has one line for each: the cause of the refusal and the name, with a tab between them.
+# `jose: 17 NotOpened` on standard error has the number of the cause. The number is for people; only status 0 says that a file is good.
+set -eu
+umask 077
+mkdir -p manifests
+jose jwk gen -i '{"alg":"HS256","kid":"deploy"}' -o deploy.jwk
+for name in shop mail 'two words' db web log; do
+    echo "image: $name" > "manifests/$name.yaml"
+    jose jws sig -c -k deploy.jwk -I "manifests/$name.yaml" -o "manifests/$name.sig" -O /dev/null
+done
+
+# cause OBJECT PAYLOAD: `0`, or the number and the name of the refusal, or the status of a command that ended otherwise.
+cause() {
+    if why=$(jose jws ver -i "$1" -I "$2" -k deploy.jwk 2>&1); then
+        echo 0
+    else
+        status=$?
+        case $why in
+            'jose: '[0-9]*) echo "${why#jose: }" ;;
+            *) echo "status $status" ;;
+        esac
+    fi
+}
+# report: all manifests. Its status is 0 if all of them are good.
+report() {
+    bad=0
+    for manifest in manifests/*.yaml; do
+        found=$(cause "${manifest%.yaml}.sig" "$manifest")
+        [ "$found" = 0 ] || bad=1
+        printf '%s\t%s\n' "$found" "$manifest"
+    done
+    return $bad
+}
+report > report.txt
+
+# Four of them are no longer good: one was changed, one has no signature, one has an empty one, and one is signed with a key for HS512.
+echo 'image: evil' > manifests/mail.yaml
+rm manifests/db.sig
+: > manifests/web.sig
+jose jwk gen -i '{"alg":"HS512"}' -o other.jwk
+jose jws sig -c -k other.jwk -I manifests/log.yaml -o manifests/log.sig -O /dev/null
+if report > report.txt; then
+    echo 'bad manifests were called good' >&2
+    exit 1
+fi
+
+# How many there are of each cause, and the names of those that were changed.
+cut -f 1 report.txt | sort -n | uniq -c | sed 's/^ *//' > counts
+printf '2 0\n1 2 Read\n1 10 Form\n1 14 KeyDoesNotFit\n1 17 NotOpened\n' | cmp - counts
+[ "$(sed -n 's/^17 NotOpened	//p' report.txt)" = manifests/mail.yaml ]

@@ -1,0 +1,55 @@
+#!/bin/sh
+# A secret for a service of systemd. It is encrypted to the key of the host. One unit decrypts it into /run, and the unit of the service
+# loads it from there as a credential.
+set -eu
+umask 077
+etc=$PWD/etc run=$PWD/run # in a real unit: /etc/shop and /run/shop-secret
+# The clear texts are deleted when the script ends, also by a signal.
+trap 'rm -f -r "$run" credentials' EXIT
+trap 'exit 1' HUP INT TERM
+mkdir -p "$etc"
+
+# Once: the key of the host, and the secret. The object can be kept with other settings. The key stays on the host, for root alone.
+jose jwk gen -i '{"alg":"A256KW","kid":"host-7"}' -o "$etc/host.jwk"
+printf 'correct horse' | jose jwe enc -c -k "$etc/host.jwk" -o "$etc/db.jwe"
+
+# The unit that decrypts. It has the full path of jose. RuntimeDirectory= makes /run/shop-secret, and /run is in memory.
+cat > shop-secret.service <<END
+[Service]
+Type=oneshot
+RemainAfterExit=yes
+RuntimeDirectory=shop-secret
+RuntimeDirectoryMode=0700
+ExecStart="$(command -v jose)" jwe dec -i "$etc/db.jwe" -k "$etc/host.jwk" -O "$run/db"
+END
+
+# The service. Requires= together with After= starts it only if the first unit succeeded: see systemd.unit(5).
+cat > shop.service <<END
+[Unit]
+Requires=shop-secret.service
+After=shop-secret.service
+
+[Service]
+DynamicUser=yes
+LoadCredential=db:$run/db
+ExecStart=/bin/sh -c 'wc -c < "\$CREDENTIALS_DIRECTORY/db"'
+END
+
+# The same without systemd: the command lines of both units, and between them a copy in place of the credential.
+start() {
+    mkdir -p "$run" credentials
+    sh -c "$(sed -n 's/^ExecStart=//p' shop-secret.service)" || return
+    cp "$run/db" credentials/db
+    CREDENTIALS_DIRECTORY=$PWD/credentials sh -c "$(sed -n 's/^ExecStart=//p' shop.service)"
+}
+[ "$(start)" -eq 13 ]
+
+# With the key of another host nothing is decrypted, and the service does not start.
+rm -f -r "$run"
+jose jwk gen -i '{"alg":"A256KW","kid":"host-8"}' -o "$etc/host.jwk"
+if start 2>why; then
+    echo 'the service started without its secret' >&2
+    exit 1
+fi
+grep -q '^jose: 17 NotOpened$' why
+[ ! -e "$run/db" ]

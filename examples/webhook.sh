@@ -1,0 +1,51 @@
+#!/bin/sh
+# A webhook: the body of a request is plain JSON, and a header of the request has its signature. A service, here in Python and in bash,
+# verifies the octets that it received before it parses them. It writes neither of them to the disk.
+set -eu
+umask 077
+jose jwk gen -i '{"alg":"HS256","kid":"hook"}' -o hook.jwk
+
+# The sender: a compact object without its payload, for a header such as `X-Signature: eyJ..`. The body has a number, because a request
+# verifies again if somebody sends it again. The service has to remember the numbers.
+printf '{"number":41,"event":"paid"}' > body
+signature=$(jose jws sig -c -k hook.jwk -I body -O /dev/null)
+
+# A service in Python. The body is standard input. The signature is a pipe, which jose opens as /dev/fd/N; it has to fit into the pipe,
+# so its length is limited.
+cat > service.py <<'END'
+import os, subprocess, sys
+
+def verified(signature, body):
+    if len(signature) > 1000:
+        return False
+    reader, writer = os.pipe()
+    os.write(writer, signature)
+    os.close(writer)
+    words = ["jose", "jws", "ver", "-i", f"/dev/fd/{reader}", "-I", "-", "-k", "hook.jwk"]
+    done = subprocess.run(words, input=body, pass_fds=[reader], stderr=subprocess.DEVNULL)
+    os.close(reader)
+    return done.returncode == 0
+
+sys.exit(not verified(sys.argv[1].encode(), sys.stdin.buffer.read()))
+END
+
+# A service in bash. The body is standard input, and the signature is a pipe.
+cat > service.bash <<'END'
+jose jws ver -i <(printf %s "$1") -I - -k hook.jwk 2>/dev/null
+END
+
+# Both accept the request. They refuse it if the body was changed or is empty, if the signature is empty or malformed, and if the
+# signature has a payload of its own.
+own=$(printf '{"number":42,"event":"paid"}' | jose jws sig -c -k hook.jwk)
+for service in 'python3 service.py' 'bash service.bash'; do
+    if ! command -v "${service%% *}" >/dev/null; then
+        continue
+    fi
+    $service "$signature" < body
+    for other in '{"number":41,"event":"free"}' ''; do
+        ! printf '%s' "$other" | $service "$signature" || exit 1
+    done
+    for other in '' x.y.z "$own"; do
+        ! $service "$other" < body || exit 1
+    done
+done
