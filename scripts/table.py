@@ -1,4 +1,5 @@
-"""The program's table of commands and its refusals, as a test of crate `jose` prints them (crates/jose/src/tests/table.rt)."""
+"""The program's table of commands and its refusals, as a test of crate `jose` prints them (crates/jose/src/tests/table.rt): a test can read no
+file of the repository, so it cannot compare one."""
 import collections, re, subprocess, sys
 
 from trial import TOP
