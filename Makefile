@@ -1,21 +1,21 @@
-# The commands of this repository. A newcomer needs `make demo` and `make test`, on a machine with the kit.
+# The commands of this repository. Start with `make demo` and `make test`, on a machine with the kit. CONTRIBUTING.md says when to run which.
 
 PREFIX ?= /usr/local
-# What tells the program that `make build` made from another; a trial of what is installed takes any.
+# Checks that the program is the one that `make build` made. A trial of installing sets this to `:` and takes any program.
 BUILT = scripts/built
 
-.PHONY: demo test edits build calls library ports long faults hostile bench pages tour interop latchset dist dist-try install uninstall clean
+.PHONY: demo test edits build calls library ports long faults hostile bench pictures pages tour interop latchset dist dist-try install uninstall clean
 
-# Signs a document and verifies it, makes a key, encrypts a secret and decrypts it, and shows what changed texts and wrong keys give.
+# Signs and verifies a document, makes a key, encrypts and decrypts a secret, and shows what happens to changed texts and wrong keys.
 demo:
 	@scripts/demo
 
-# The gate: proves every crate from nothing, tries the must-fail edits, runs the tests and the program. Up to three checks run side
-# by side, one a processor.
+# The gate: proves every crate from nothing, tries the must-fail edits, and runs the tests and the program. Up to three checks run side
+# by side, one per processor.
 test:
 	RT_JOBS=$$(nproc | awk '{ print ($$1 < 3) ? $$1 : 3 }') rt ci
 
-# Tries the wrong bodies that stand outside the gate, of the crates in CRATES or of all: the prover must refuse each.
+# Tries the wrong bodies in crates/*/edits, which the gate does not try: the prover must refuse each. CRATES names the crates, else all.
 edits:
 	@scripts/edits $(CRATES)
 
@@ -23,70 +23,76 @@ edits:
 build:
 	@scripts/build
 
-# Compares docs/CALLS.md, what each public call may refuse and change, with the sources, and reads in the code that refusals for memory and
-# devices come only from their errors, and how tags are compared.
+# Compares docs/CALLS.md (what each public call may refuse and change) with the sources. It also reads in the code that refusals for memory
+# and devices come only from their errors, and how tags are compared.
 calls:
 	@scripts/calls
 
-# Proves, builds and runs the two programs of examples/programs, which call the crates as docs/LIBRARY.md says.
+# Proves, builds and runs the two programs of examples/programs, which use the crates as docs/LIBRARY.md describes.
 library:
 	@scripts/library
 
-# Runs the built program over files.
+# Runs the built program over files and streams, including ones that fail.
 ports:
 	@scripts/ports
 
-# Runs 1 GiB through the commands that hold only a part of their content.
+# Sends 1 GiB through the commands that stream their content.
 long:
 	@scripts/long
 
-# Refuses each growth of memory that the built program asks for in turn, for each command.
+# Refuses each allocation of the built program in turn, for each command.
 faults:
 	@scripts/faults
 
-# Runs the built program over some thousands of inputs that were changed by chance: another seed each time, or the one in SEED.
+# Runs the built program over thousands of randomly damaged inputs, with a new seed each time or with SEED.
 hostile:
 	@scripts/hostile $(SEED)
 
-# Measures the built program beside what the machine has; where BESIDE names another build of it, its commands alone, in turns with that.
+# Measures the built program next to other programs of the machine. With BESIDE=PROGRAM it measures only the commands, in turns with that
+# other build. Its output goes into docs/pictures/bench.txt at a release.
 bench:
 	@scripts/bench $(if $(BESIDE),commands $(BESIDE))
 
-# Compares the pages and the completions with the program's table of commands, and tries the refusals that the pages list, the
-# completions, install and uninstall. A test prints the table: the gate's, or where sources changed since, one that is built unproved.
+# Draws the pictures of the pages, from crates.txt and docs/pictures/bench.txt.
+pictures:
+	@scripts/pictures
+
+# Compares the pages and the completions with the program's table of commands, and the pictures with their figures. It tries the refusals
+# that the pages list, the completions, install and uninstall. A test prints the table: the gate's, or a new unproved one if sources changed.
 pages:
 	@scripts/pages
+	@scripts/pictures --check
 	@scripts/refusals
 	@scripts/completions
 	@scripts/installed
 
-# Runs every example of the README and of the pages, and every recipe of examples/, with the built program.
+# Runs every example of the README, the docs and the man pages, and every recipe of examples/, with the built program.
 tour:
 	@scripts/tour
 
-# Sends tokens between the built program and latchset's jose, jwcrypto and go-jose, both ways, where these are installed; with SEED, random
-# tokens that are drawn from it, in at most five minutes.
+# Sends tokens both ways between the built program and latchset's jose, jwcrypto and go-jose, if they are installed. With SEED the tokens are
+# random, and it takes at most five minutes.
 interop:
 	@scripts/interop $(if $(SEED),--seed $(SEED))
 
-# Runs the built program and latchset's jose over the differences that docs/FROM-LATCHSET.md states.
+# Runs the built program and latchset's jose, and checks the differences that docs/FROM-LATCHSET.md states.
 latchset:
 	@scripts/latchset
 
-# Makes a release of the built program in out/: a tarball and a Debian package.
+# Makes a release in out/: a tarball and a Debian package.
 dist:
 	@scripts/dist
 
-# Tries the release where no kit is: installed and removed, in a bare folder, in a small Debian.
+# Tries the release without the kit: installs and removes it, and runs it in a bare folder and in a small Debian.
 dist-try:
 	@scripts/dist-try
 
-# Installs the program that `make build` made, the pages, the completions, the recipes, the license and the changelog.
+# Installs the program that `make build` made, with the man pages, completions, recipes and documents for users.
 install:
 	@$(BUILT)
 	@scripts/install "$(DESTDIR)$(PREFIX)"
 
-# Takes away exactly what install made.
+# Removes exactly what install made.
 uninstall:
 	@scripts/install --away "$(DESTDIR)$(PREFIX)"
 
