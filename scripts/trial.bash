@@ -9,7 +9,7 @@ failed=0
 
 # needs PROGRAM: ends the script where the program is not built.
 needs() {
-    [ -x "$1" ] || { echo "make build first" >&2; exit 1; }
+    [ -x "$1" ] || { echo "run make build first" >&2; exit 1; }
 }
 
 # told WHAT yes|no [WHY]: counts what passed or not, and says so.

@@ -11,7 +11,7 @@ passed = failed = 0
 def needs(program):
     """Ends the script where the program is not built."""
     if not os.access(program, os.X_OK):
-        sys.exit("make build first")
+        sys.exit("run make build first")
 
 
 def tell(line):
