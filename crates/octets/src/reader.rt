@@ -2,7 +2,7 @@
 ghost use Rattle.std.specs.Prelude.{◌≡◌, ℕ, ◌+◌, ◌*◌, ◌/◌, ◌≤◌, List, [], ◌++◌, length, take, drop, IfOk, OnOk, OnErr, IfErr, Ok, Err};
 ghost use Rattle.octets.specs.Base64url.{decoded, settled, unsettled};
 
-use crate::sizes::PIECE_TEXT;
+use crate::sizes::{JOINED_PIECE, PIECE_TEXT};
 use crate::transform::Transform;
 use crate::writer::join;
 use crate::{Refusal, without_line_end};
@@ -37,36 +37,6 @@ impl B64Reader {
             count: 0,
         }
     }
-
-    /// Takes the next piece, of at most 4,096 characters. Writes the octets of the groups that are
-    /// settled now to the front of `out`, and answers how many. Refused with `Base64` where they have none;
-    /// then it holds what it held, and nothing is said of `out`.
-    pub(crate) fn feed(&mut self, piece: &[u8], out: &mut [u8; 3072]) -> Result<usize, Refusal>
-        requires { length piece.now ≤ 4096 }
-        ensures within { IfOk result (λ n. n ≤ 3072) }
-        ensures waits { OnOk result (self.new ≡ unsettled (self.old ++ piece.now)) }
-        ensures octets { IfOk result (λ n. decoded (settled (self.old ++ piece.now)) ≡ Ok (take n out.new)) }
-        ensures refused { IfErr result (λ e. (e ≡ Refusal.Base64) × (decoded (settled (self.old ++ piece.now)) ≡ Err Refusal.Base64)) }
-        ensures unchanged { OnErr result (self.new ≡ self.old) }
-    {
-        let mut text = [0u8; 4114];
-        let held = self.count;
-        join(&mut text, &self.waiting[..held], piece);
-        let all = held + piece.len();
-        let whole = all.saturating_sub(2) / 4 * 4;
-        let written = decode_onto(&text[..whole], out)?;
-        self.count = all - whole;
-        self.waiting[..all - whole].copy_from_slice(&text[whole..all]);
-        Ok(written)
-    }
-
-    /// The characters that wait.
-    pub(crate) fn waiting(&self) -> &[u8]
-        ensures within { length result.now ≤ 5 }
-        ensures all { result.now ≡ self.now }
-    {
-        &self.waiting[..self.count]
-    }
 }
 
 impl Transform for B64Reader {
@@ -90,15 +60,20 @@ impl Transform for B64Reader {
         piece: &'t [u8],
         space: &'t mut [u8; PIECE_TEXT],
     ) -> Result<&'t [u8], Refusal> {
-        let Some(octets) = space.first_chunk_mut::<3072>() else {
-            unreachable!()
-        };
-        let len = B64Reader::feed(self, piece, octets)?;
-        Ok(&octets[..len])
+        let mut text = [0u8; JOINED_PIECE];
+        let held = self.count;
+        join(&mut text, &self.waiting[..held], piece);
+        let all = held + piece.len();
+        let whole = all.saturating_sub(2) / 4 * 4;
+        let len = decode_onto(&text[..whole], space)?;
+        self.count = all - whole;
+        self.waiting[..all - whole].copy_from_slice(&text[whole..all]);
+        Ok(&space[..len])
     }
 
     fn finish<'t>(self, space: &'t mut [u8; PIECE_TEXT]) -> Result<(&'t [u8], ()), Refusal> {
-        let len = decode_onto(without_line_end(self.waiting()), space)?;
+        let waiting = &self.waiting[..self.count];
+        let len = decode_onto(without_line_end(waiting), space)?;
         Ok((&space[..len], ()))
     }
 }

@@ -8,3 +8,6 @@ pub const SEALED_PIECE: usize = PIECE + 16;
 
 /// How many characters of base64url text these fix at most.
 pub const PIECE_TEXT: usize = 5488;
+
+/// A piece of a ciphertext, behind the octets that waited for a whole group.
+pub(crate) const JOINED_PIECE: usize = SEALED_PIECE + 2;

@@ -36,7 +36,7 @@ pub trait Transform: Drop {
         piece: &'t [u8],
         space: &'t mut [u8; PIECE_TEXT],
     ) -> Result<&'t [u8], Refusal>
-        requires { length piece.now ≤ 4096 }
+        requires { length piece.now ≤ PIECE }
         ensures fed { (job : Job) (p : List ℕ) → is_fed self.old job p → IsOctets (p ++ piece.now)
             → OnOk result (is_fed self.new job (p ++ piece.now)) }
         ensures text { (job : Job) (p : List ℕ) → is_fed self.old job p → IsOctets (p ++ piece.now)

@@ -35,7 +35,7 @@ pub fn read_to_end<I: Input>(alloc: Global, input: &mut I) -> Result<Vec<u8>, Re
 /// where the input fails.
 pub(crate) fn read_piece<I: Input>(content: &mut I, buf: &mut [u8; PIECE]) -> Result<usize, Refusal>
     requires { IsFinite (I.remaining content.old) }
-    ensures within { IfOk result (λ n. n ≤ 4096) }
+    ensures within { IfOk result (λ n. n ≤ PIECE) }
     ensures piece { IfOk result (λ n. I.consumed content.new ≡ I.consumed content.old ++ take n buf.new) }
     ensures octets { OnOk result (IsOctets buf.new) }
     ensures end { result ≡ Ok 0 → IsTrue (I.is_at_end content.new) }

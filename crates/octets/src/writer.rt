@@ -3,7 +3,7 @@ ghost use Rattle.std.specs.Prelude.{◌≡◌, ℕ, ◌+◌, ◌*◌, ◌/◌, �
 ghost use Rattle.octets.specs.Base64url.{base64url, whole_groups, part_group};
 
 use crate::Refusal;
-use crate::sizes::PIECE_TEXT;
+use crate::sizes::{JOINED_PIECE, PIECE_TEXT, SEALED_PIECE};
 use crate::transform::Transform;
 use base64::engine::general_purpose::URL_SAFE_NO_PAD as BASE64URL;
 use std::marker::Model;
@@ -40,14 +40,14 @@ impl B64Writer {
     /// Takes the next piece, of at most 4,112 octets. Writes the text of the groups that are whole now
     /// to the front of `out`, and answers its length.
     pub fn feed(&mut self, piece: &[u8], out: &mut [u8; PIECE_TEXT]) -> usize
-        requires { length piece.now ≤ 4112 }
-        ensures within { result ≤ 5488 }
+        requires { length piece.now ≤ SEALED_PIECE }
+        ensures within { result ≤ PIECE_TEXT }
         ensures len { result ≡ (length self.old + length piece.now) / 3 * 4 }
         ensures waits { (fed : List ℕ) → self.old ≡ part_group fed → self.new ≡ part_group (fed ++ piece.now) }
         ensures text { (fed : List ℕ) → self.old ≡ part_group fed
             → base64url (whole_groups (fed ++ piece.now)) ≡ base64url (whole_groups fed) ++ take result out.new }
     {
-        let mut octets = [0u8; 4114];
+        let mut octets = [0u8; JOINED_PIECE];
         let held = self.count;
         join(&mut octets, &self.waiting[..held], piece);
         let all = held + piece.len();
@@ -56,14 +56,6 @@ impl B64Writer {
         self.count = all - whole;
         self.waiting[..all - whole].copy_from_slice(&octets[whole..all]);
         written
-    }
-
-    /// The octets that wait.
-    pub(crate) fn waiting(&self) -> &[u8]
-        ensures within { length result.now ≤ 2 }
-        ensures all { result.now ≡ self.now }
-    {
-        &self.waiting[..self.count]
     }
 
     /// Writes the text of the octets that wait to the front of `out`, and answers its length.
@@ -104,14 +96,17 @@ impl Transform for B64Writer {
     }
 
     fn finish<'t>(self, space: &'t mut [u8; PIECE_TEXT]) -> Result<(&'t [u8], ()), Refusal> {
-        let len = encode_onto(self.waiting(), space);
-        Ok((&space[..len], ()))
+        let Some(text) = space.first_chunk_mut::<4>() else {
+            unreachable!()
+        };
+        let len = B64Writer::finish(self, text);
+        Ok((&text[..len], ()))
     }
 }
 
 /// Copies both to the front, one after the other.
-pub(crate) fn join(octets: &mut [u8; 4114], front: &[u8], back: &[u8])
-    requires { length front.now + length back.now ≤ 4114 }
+pub(crate) fn join(octets: &mut [u8; JOINED_PIECE], front: &[u8], back: &[u8])
+    requires { length front.now + length back.now ≤ JOINED_PIECE }
     ensures { take (length front.now + length back.now) octets.new ≡ front.now ++ back.now }
 {
     let n = front.len();
