@@ -7,7 +7,7 @@ ghost use Rattle.octets.specs.Octets.{IsOctets};
 use crate::authentication::Authentication;
 use aes::Block;
 use modes::{Cbc, cbc_open};
-use octets::{SEALED_PIECE, same_octets};
+use octets::{PIECE, SEALED_PIECE, same_octets};
 use prf::Hash;
 
 /// A sealing whose plaintext comes in pieces.
@@ -32,8 +32,8 @@ impl<B: Block, H: Hash> CbcHmac<B, H> {
 
     /// Takes the next piece, of at most 4,096 octets, and writes what of the ciphertext is fixed now.
     pub(crate) fn feed(&mut self, piece: &[u8], out: &mut [u8; SEALED_PIECE]) -> usize
-        requires { length piece.now ≤ 4096 }
-        ensures within { result ≤ 4112 }
+        requires { length piece.now ≤ PIECE }
+        ensures within { result ≤ SEALED_PIECE }
         ensures fed { (s : Sealing) (p : List ℕ) → HoldsCbcHmac B.encrypted H.function H.holds self.old s p
             → HoldsCbcHmac B.encrypted H.function H.holds self.new s (p ++ piece.now) }
         ensures text { (s : Sealing) (p : List ℕ) → HoldsCbcHmac B.encrypted H.function H.holds self.old s p

@@ -6,7 +6,7 @@ ghost use Rattle.ciphers.specs.Sealing.{Sealing, IsTooLong, KeepsPace};
 use crate::cbc_hmac::CbcHmac;
 use aes::{Aes128, Aes192, Aes256, Block};
 use modes::Gcm;
-use octets::{Refusal, SEALED_PIECE};
+use octets::{PIECE, Refusal, SEALED_PIECE};
 use prf::{Hash, Sha256, Sha384, Sha512};
 
 /// A sealing whose plaintext comes in pieces.
@@ -17,8 +17,8 @@ pub trait Sealer: Drop {
     /// Takes the next piece, of at most 4,096 octets. Writes what of the ciphertext is fixed now to the front of `out`,
     /// and answers its length; `Limit`, and nothing is taken, where the plaintext would be too long.
     fn feed(&mut self, piece: &[u8], out: &mut [u8; SEALED_PIECE]) -> Result<usize, Refusal>
-        requires { length piece.now ≤ 4096 }
-        ensures within { IfOk result (λ n. n ≤ 4112) }
+        requires { length piece.now ≤ PIECE }
+        ensures within { IfOk result (λ n. n ≤ SEALED_PIECE) }
         ensures fed { (s : Sealing) (p : List ℕ) → is_sealing self.old s p
             → OnOk result (is_sealing self.new s (p ++ piece.now)) }
         ensures text { (s : Sealing) (p : List ℕ) → is_sealing self.old s p
