@@ -22,8 +22,9 @@ pub record Course : Type 0 where
   pub calls : ℕ
   pub passed : ℕ
 
-abbrev pub begun : Failing → Course
-begun failing = record { failing = failing; calls = 0; passed = 0 }
+-- not called yet
+abbrev pub uncalled : Failing → Course
+uncalled failing = record { failing = failing; calls = 0; passed = 0 }
 
 -- its next call fails
 abbrev pub fails_next : Course → Bool

@@ -1,7 +1,7 @@
 //! Devices over memory that fail, to show what a call leaves behind where one of its devices does.
 ghost use Rattle.std.specs.Prelude.{◌≡◌, ◌↔◌, ◌+◌, ◌<◌, ◌≤◌, [], ◌++◌, length, take, drop, min, true, false, IfOk, IfErr, IsOk, OnOk, OnErr, Ok, Err, MatchResult, IsTrue};
 ghost use Rattle.octets.specs.Devices.{next_count, ComesNearer, IsFinishedOnce};
-ghost use Rattle.octets.specs.Failing.{is_due, room_for, begun, fails_next, after_call, after_failure};
+ghost use Rattle.octets.specs.Failing.{is_due, room_for, uncalled, fails_next, after_call, after_failure};
 ghost use Rattle.octets.specs.Views.{front_of, is_read, rest_of, read_count, write_count};
 
 use crate::devices::count_one;
@@ -59,7 +59,7 @@ impl<'a> FailingInput<'a> {
     pub fn new(input: MemoryInput<'a>, failing: Failing) -> FailingInput<'a>
         ensures contents { input_contents result ≡ input.entry }
         ensures consumed { input_consumed result ≡ front_of input.entry }
-        ensures course { input_course result ≡ begun failing }
+        ensures course { input_course result ≡ uncalled failing }
         ensures failures { input_failures result ≡ 0 }
     {
         FailingInput {
@@ -160,7 +160,7 @@ impl FailingOutput {
     ) -> Result<FailingOutput, Refusal>
         requires { 0 < step }
         ensures empty { IfOk result (λ out. (output_written out ≡ []) × (output_is_finished out ≡ false) × (output_endings out ≡ 0) × (output_failures out ≡ 0)) }
-        ensures course { IfOk result (λ out. (output_course out ≡ begun failing) × (output_room out ≡ room) × (output_step out ≡ step)) }
+        ensures course { IfOk result (λ out. (output_course out ≡ uncalled failing) × (output_room out ≡ room) × (output_step out ≡ step)) }
         ensures memory { IfErr result (λ e. e ≡ Refusal.Memory) }
     {
         Ok(FailingOutput {

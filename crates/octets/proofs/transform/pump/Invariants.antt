@@ -17,7 +17,7 @@ invariant-pieces g l =
       due : (job : t.Job) → t.is_fed l.fn.transform job []
           → Due (behind l.fn.before (t.plan job)) (input.consumed l.fn.content) (input.consumed l.content) (output.written l.fn.out) (output.written l.out) l.front;
       fed : (job : t.Job) → t.is_fed l.fn.transform job [] → t.is_fed l.transform job (appended (input.consumed l.fn.content) (input.consumed l.content));
-      begun : (appended (input.consumed l.fn.content) (input.consumed l.content) ≡ [] → ⊥) → l.front ≡ [];
+      front_written : (appended (input.consumed l.fn.content) (input.consumed l.content) ≡ [] → ⊥) → l.front ≡ [];
       unread : appended (input.consumed l.fn.content) (input.consumed l.content) ≡ [] → l.out ≡ l.fn.out;
       longer : Extends (output.written l.fn.out) (output.written l.out);
       grown : length (output.written l.fn.out) ≤ length (output.written l.out);
