@@ -12,7 +12,7 @@ use Rattle.octets.specs.Outcomes.{◌>>=◌, needs}
 use Rattle.keys.specs.Json.{json_value, is_object}
 use Rattle.keys.specs.JsonTexts.{IsJson, AreJsonItems}
 use Rattle.keys.specs.Keys.{OctetKey, AreOctetKeys, or_key, key_octets, constrained_key, octet_key}
-use Rattle.keys.specs.KeySets.{are_objects, items_count, object_list, objects_at, key_objects, before, unless_bad, octet_keys, value_keys, key_set, KeysHaveOctets}
+use Rattle.keys.specs.KeySets.{are_objects, items_count, objects_at, key_objects, before, unless_bad, octet_keys, value_keys, key_set, KeysHaveOctets}
 use Rattle.keys.specs.Limits.{Limits}
 use Rattle.keys.specs.Members.{string_member, optional_string_member, optional_strings_member}
 use Rattle.keys.proofs.JsonParts.{keep_json}
@@ -80,17 +80,13 @@ octets_of_keys to_octets limits strict (item value values) keys json h = by_key 
 
 -- ---- the objects of a text
 
-json_list : (o : Option Items) (value : Data) (objects : Items) → IsJson value → as_array value ≡ o → object_list o ≡ Ok objects → AreJsonItems objects
-json_list None value objects json is h = cc h
-json_list (Some values) value objects json is h = by_test (are_objects values) h
-  where
-    by_test : (test : Bool) → (if test then Ok values else Err Key) ≡ Ok objects → AreJsonItems objects
-    by_test true h = subst AreJsonItems (same_answer values objects h) (keep_json.items_of value values json is).0
-    by_test false h = cc h
-
 json_at : (value : Data) (o : Option Data) (objects : Items) → IsJson value → get (codes "keys") value ≡ o → objects_at value o ≡ Ok objects → AreJsonItems objects
 json_at value None objects json is h = subst AreJsonItems (same_answer (item value no_items) objects h) (json, tt)
-json_at value (Some values) objects json is h = json_list (as_array values) values objects (keep_json.found (codes "keys") value values json is).0 refl h
+json_at value (Some list) objects json is h =
+    let values = steps (ok_or (as_array list) Key) (λ values. needs (are_objects values) Key >>= λ _. Ok values) objects h in
+    let good = steps (needs (are_objects values.0) Key) (λ _. Ok values.0) objects values.2 in
+    subst AreJsonItems (same_answer values.0 objects good.2)
+    (keep_json.items_of list values.0 (keep_json.found (codes "keys") value list json is).0 (is_there (as_array list) Key values.0 values.1)).0
 
 json_objects : (value : Data) (objects : Items) → IsJson value → key_objects value ≡ Ok objects → AreJsonItems objects
 unfolding key_objects

@@ -183,7 +183,7 @@ key_names (Signature alg) = signature_name alg ∷ []
 key_names (Encryption Dir enc) = management_name Dir ∷ encryption_name enc ∷ []
 key_names (Encryption alg enc) = management_name alg ∷ []
 
--- ---- operations: of a sender, and of a receiver
+-- ---- operations: of a sender, and of a recipient
 
 abbrev pub operations_in : KeyManagementMode → Operation × Operation
 operations_in Direct = (Encrypt, Decrypt)

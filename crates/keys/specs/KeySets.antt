@@ -1,5 +1,6 @@
 -- Keys and sets of keys (RFC 7517 section 5).
 use Rattle.std.specs.Prelude.{◌≡◌, ℕ, suc, ◌&&◌, ◌==◌, not, Bool, true, false, List, [], ◌∷◌, length, codes, nat_le, if◌then◌else◌, Option, Some, None, Result, Ok, Err}
+use Rattle.std.specs.Option.{ok_or}
 use Rattle.serde_json.specs.Data.{Data, Items, no_items, item}
 use Rattle.serde_json.specs.Find.{get, as_array}
 use Rattle.octets.specs.declared.refusal.Refusal.{Refusal}
@@ -19,14 +20,13 @@ abbrev pub items_count : Items → ℕ
 items_count no_items = 0
 items_count (item value values) = suc (items_count values)
 
-abbrev pub object_list : Option Items → Result Items Refusal
-object_list None = Err Key
-object_list (Some values) = if are_objects values then Ok values else Err Key
-
 -- those of the member `keys`, or the value itself where it has no such member
 abbrev pub objects_at : Data → Option Data → Result Items Refusal
 objects_at value None = Ok (item value no_items)
-objects_at value (Some values) = object_list (as_array values)
+objects_at value (Some list) = do
+  values ← ok_or (as_array list) Key
+  objects ← needs (are_objects values) Key
+  Ok values
 
 unfoldable pub key_objects : Data → Result Items Refusal
 key_objects value = if is_object value then objects_at value (get (codes "keys") value) else Err Key

@@ -233,7 +233,7 @@ impl KeyManagementAlg {
         }
     }
 
-    /// The operations of a sender and a receiver.
+    /// The operations of a sender and a recipient.
     pub fn operations(self) -> (Operation, Operation)
         ensures { result ≡ management_operations self }
     {
@@ -338,7 +338,7 @@ impl NamedAlg {
         }
     }
 
-    /// The operations of a sender and a receiver.
+    /// The operations of a sender and a recipient.
     pub(crate) fn operations(self) -> (Operation, Operation)
         ensures { result ≡ operations self }
     {

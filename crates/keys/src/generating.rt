@@ -74,7 +74,7 @@ fn plan_key(alloc: Global, template: &[u8]) -> Result<KeyPlan, Refusal>
     let alg = alg_if_there(asked.alg)?;
     let len = fitting_len(alg, asked.bytes)?;
     let members = completed(alloc, into_members(value)?, alg)?;
-    needs(is_shallow(&members), Refusal::Limit)?;
+    needs(object_nests_at_most(&members, MOST_DEPTH), Refusal::Limit)?;
     Ok(KeyPlan { len, members })
 }
 
@@ -150,13 +150,6 @@ fn string_list(alloc: Global, texts: &[&str]) -> Result<Vec<Value>, AllocError>
         values.push(Value::try_from_str(alloc, text)?)?;
     }
     Ok(values)
-}
-
-/// An object of these members nests no deeper than a key may.
-fn is_shallow(members: &Map<String, Value>) -> bool
-    ensures { result ≡ nat_le (depth (object (members_view members.now.entries))) limits.depth }
-{
-    object_nests_at_most(members, MOST_DEPTH)
 }
 
 /// The JSON text of the key with these octets.

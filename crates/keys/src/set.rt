@@ -1,9 +1,8 @@
 //! Keys and sets of keys (RFC 7517 section 5). It is given a key text.
 ghost use Rattle.std.specs.Prelude.{◌≡◌, ◌≤◌, IfOk, length, map};
-ghost use Rattle.serde_json.specs.Find.{as_array};
 ghost use Rattle.serde_json.specs.View.{view, items_view};
 ghost use Rattle.octets.specs.Outcomes.{Agrees, AgreesUnlessMemory};
-ghost use Rattle.keys.specs.KeySets.{key_set, value_keys, key_objects, object_list, octet_keys, are_objects};
+ghost use Rattle.keys.specs.KeySets.{key_set, value_keys, key_objects, octet_keys, are_objects};
 ghost use Rattle.keys.specs.Keys.{AreOctetKeys};
 ghost use Rattle.keys.specs.Limits.{limits};
 ghost use Rattle.keys.specs.Views.{key_view};
@@ -83,17 +82,8 @@ fn key_objects(value: &Value) -> Result<&[Value], Refusal>
     needs(is_object(value), Refusal::Key)?;
     match value.get("keys") {
         None => Ok(slice::from_ref(value)),
-        Some(values) => object_list(values),
-    }
-}
-
-/// The items of a list of objects.
-fn object_list(values: &Value) -> Result<&[Value], Refusal>
-    ensures { Agrees (λ values. items_view values.now) result (object_list (as_array (view values.now))) }
-{
-    match values.as_array() {
-        None => Err(Refusal::Key),
-        Some(values) => {
+        Some(list) => {
+            let values = list.as_array().ok_or(Refusal::Key)?;
             needs(are_objects(values), Refusal::Key)?;
             Ok(values)
         }
