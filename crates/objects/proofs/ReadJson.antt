@@ -12,11 +12,11 @@ use Rattle.octets.specs.Base64url.{base64url, decoded, DecodesExactly, HasUrlCha
 use Rattle.octets.specs.LineEnds.{without_line_end}
 use Rattle.octets.specs.Octets.{IsOctets}
 use Rattle.octets.specs.Outcomes.{◌>>=◌, needs}
-use Rattle.octets.proofs.Lemmas.{IsOctets-nil, steps, passed, same_answer, is_there}
+use Rattle.octets.proofs.Lemmas.{IsOctets-nil, steps, passed, same_answer, is_there, decodes_exactly, has_url_characters, octets_of_meaning}
 use Rattle.keys.specs.Json.{json_value, member_numbers_are_whole}
 use Rattle.keys.specs.JsonTexts.{IsJson, AreJsonItems, AreJsonMembers, KeepJson, ReadsJson, UrlTextsAreJson}
 use Rattle.keys.specs.KeySets.{are_objects, items_count}
-use Rattle.keys.proofs.Lemmas.{string_octets, DecodesToOctets, numbers_whole}
+use Rattle.keys.proofs.Lemmas.{string_octets, DecodesToOctets, numbers_whole, keep_json, reads_json, url_texts_are_json}
 use Rattle.objects.specs.Headers.{header_at, members_if_there, some_members}
 use Rattle.objects.specs.Texts.{each_item, text_if_there, text_at, required_text, has_items, object_list, depth_of_each}
 use Rattle.objects.proofs.EachRead.{all_items_read, as_many_items}
@@ -31,6 +31,9 @@ pub record ReadingLaws : Type 0 where
   pub exact : DecodesExactly
   pub octets : DecodesToOctets
   pub characters : HasUrlCharacters
+
+pub reading_laws : ReadingLaws
+reading_laws = record { reads = reads_json; keep = keep_json; url = url_texts_are_json; exact = decodes_exactly; octets = octets_of_meaning; characters = has_url_characters }
 
 -- a text that decodes is UTF-8
 pub text_is_json : ReadingLaws → (text octets : List ℕ) → IsOctets text → decoded text ≡ Ok octets → IsUtf8 text

@@ -10,8 +10,10 @@ use Rattle.serde_json.specs.Written.{compact_text}
 use Rattle.octets.specs.declared.refusal.Refusal.TheVariants.{Form}
 use Rattle.octets.specs.Base64url.{base64url, decoded, is_url_character, DecodesExactly, HasUrlCharacters}
 use Rattle.octets.specs.Octets.{IsOctets}
+use Rattle.octets.proofs.Lemmas.{decodes_exactly, has_url_characters, octets_of_meaning}
 use Rattle.keys.specs.Json.{json_value}
 use Rattle.keys.specs.JsonTexts.{AreJsonMembers, CompactTextReadsBack, KeepJson, UrlTextsAreJson}
+use Rattle.keys.proofs.Lemmas.{keep_json, reads_back, url_texts_are_json}
 use Rattle.objects.specs.Headers.{header_at, members_if_there}
 use Rattle.objects.specs.Texts.{is_json_form, text_if_there, text_at, required_text, has_members, header_depth}
 use Rattle.objects.proofs.Characters.{IsUrlText}
@@ -26,6 +28,9 @@ pub record Laws : Type 0 where
   pub exact : DecodesExactly
   pub characters : HasUrlCharacters
   pub octets : (text octets : List ℕ) → IsOctets text → decoded text ≡ Ok octets → IsOctets octets
+
+pub laws : Laws
+laws = record { reads_back = reads_back; keep = keep_json; url = url_texts_are_json; exact = decodes_exactly; characters = has_url_characters; octets = octets_of_meaning }
 
 -- ---- texts and headers that are put in
 

@@ -1,13 +1,7 @@
+use Rattle.keys.proofs.Lemmas.{deep_texts}
+use Rattle.objects.proofs.Spelling.{laws}
 use Rattle.objects.proofs.BuildingJwe.{building_is_reading}
 use Rattle.objects.proofs.laws.jwe_building_is_reading.Goals as goal
 
 pub returns : goal.returns
-returns c =
-    building_is_reading (record {
-      reads_back = c.compact_text_reads_back.ensures;
-      keep = c.members_keep_json.ensures;
-      url = c.url_texts_are_json.ensures;
-      exact = c.base64url_decodes_exactly.ensures;
-      octets = c.base64url_decodes_to_octets.ensures;
-      characters = c.base64url_has_url_characters.ensures;
-    }) c.deep_texts_are_refused.ensures
+returns c = building_is_reading laws deep_texts

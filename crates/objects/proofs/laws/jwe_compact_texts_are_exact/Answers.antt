@@ -1,5 +1,6 @@
+use Rattle.objects.proofs.TextOctets.{text_laws}
 use Rattle.objects.proofs.ExactJwe.{compact_texts_are_exact}
 use Rattle.objects.proofs.laws.jwe_compact_texts_are_exact.Goals as goal
 
 pub returns : goal.returns
-returns c = compact_texts_are_exact (record { exact = c.base64url_decodes_exactly.ensures; octets = c.base64url_decodes_to_octets.ensures })
+returns c = compact_texts_are_exact text_laws
