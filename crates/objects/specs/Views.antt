@@ -115,7 +115,7 @@ signature_view s = record {
   protected_members = members_view s.protected_members.entries;
   header = members_view s.header.map.entries;
   signature = s.signature.items;
-  alg = string_bytes s.alg;
+  alg = string_bytes s.alg.name;
 }
 
 abbrev pub jws_view : jws.Jws → SignedObject

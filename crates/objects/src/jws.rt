@@ -9,6 +9,7 @@ ghost use Rattle.objects.specs.Views.{held_view, jws_view, encoded_jws_view, pay
 
 mod build;
 mod encoded;
+mod named_alg;
 pub(crate) mod parts;
 pub(crate) mod signature;
 mod signature_list;

@@ -79,7 +79,7 @@ fn has_supported(signatures: &[Signature]) -> bool
 {
     signatures
         .iter()
-        .any(|signature| SignatureAlg::named(signature.alg()).is_some())
+        .any(|signature| signature.supported_alg().is_some())
 }
 
 /// For some signature a key may verify, and fits.
@@ -148,15 +148,11 @@ fn verifies(signature: &Signature, payload: HeldContent<'_>, key: &Key) -> bool
 fn candidate_alg(signature: &Signature, key: &Key) -> Option<SignatureAlg>
     ensures { result ≡ candidate_alg (signature_view signature.now) (key_view key.now) }
 {
-    match SignatureAlg::named(signature.alg()) {
-        None => None,
-        Some(alg) => {
-            if is_candidate(key, alg) {
-                Some(alg)
-            } else {
-                None
-            }
-        }
+    let alg = signature.supported_alg()?;
+    if is_candidate(key, alg) {
+        Some(alg)
+    } else {
+        None
     }
 }
 

@@ -4,6 +4,7 @@ ghost use Rattle.std.specs.List.{list_all};
 ghost use Rattle.serde_json.specs.Data.{no_members};
 ghost use Rattle.serde_json.specs.View.{members_view};
 ghost use Rattle.octets.specs.Outcomes.{AgreesUnlessMemory};
+ghost use Rattle.keys.specs.Algorithms.{signature_alg_of};
 ghost use Rattle.keys.specs.Limits.{limits};
 ghost use Rattle.objects.specs.Headers.{all_members};
 ghost use Rattle.objects.specs.Jws.{signatures_of, headed_signature, signature_by, headers_have_no_crit};
@@ -13,9 +14,11 @@ ghost use Rattle.objects.specs.Views.{header_view, signature_view, decoded_signa
 use crate::header::members::HeaderMembers;
 use crate::header::parts::has_no_crit;
 use crate::header::string_there;
+use crate::jws::named_alg::NamedSignatureAlg;
 use crate::jws::parts::{DecodedSignature, SignatureMembers};
 use crate::key_management::read_key_management;
 use crate::{Header, read_protected};
+use keys::SignatureAlg;
 use octets::{Refusal, needs};
 use serde_json::{Map, Value};
 use std::alloc::Global;
@@ -34,7 +37,7 @@ pub struct Signature {
     protected_members: Map<String, Value>,
     pub(crate) header: HeaderMembers,
     signature: Vec<u8>,
-    alg: String,
+    alg: NamedSignatureAlg,
 }
 
 impl Signature {
@@ -74,7 +77,14 @@ impl Signature {
     pub fn alg(&self) -> &str
         ensures { result.now ≡ (signature_view self.now).alg }
     {
-        &self.alg
+        &self.alg.name
+    }
+
+    /// The algorithm, if it is supported.
+    pub fn supported_alg(&self) -> Option<SignatureAlg>
+        ensures { result ≡ signature_alg_of (signature_view self.now).alg }
+    {
+        self.alg.alg
     }
 }
 
@@ -158,8 +168,9 @@ fn by_header(alloc: Global, headed: HeadedSignature) -> Result<Signature, Refusa
         None,
         Some(&headed.members.header.map),
     )?;
-    let alg = string_there(alloc, header.alg()?)?;
-    read_key_management(alloc, &alg, header)?;
+    let name = string_there(alloc, header.alg()?)?;
+    read_key_management(alloc, &name, header)?;
+    let alg = SignatureAlg::named(&name);
     let HeadedSignature {
         protected: protected_members,
         members,
@@ -174,6 +185,6 @@ fn by_header(alloc: Global, headed: HeadedSignature) -> Result<Signature, Refusa
         protected_members,
         header,
         signature,
-        alg,
+        alg: NamedSignatureAlg { name, alg },
     })
 }
