@@ -250,7 +250,7 @@ module _ (narrower wider : Limits) (wide : AreWider narrower wider) where
       (then_stays (sealed_by (sealing_by e random) plaintext) _ _ _ (same_stays _ _ refl)
       (λ s sealed.
       let parts : jwe.JweParts = parts_by e random s in
-      then_stays (needs (jwe.is_shallow parts) Json) _ _ _ (same_stays _ _ refl)
+      then_stays (needs (jwe.headers_are_shallow parts) Json) _ _ _ (same_stays _ _ refl)
       (λ shallow passed.
       then_stays (needs (jwe.have_whole_numbers parts) Number) _ _ _ (same_stays _ _ refl)
       (λ whole passed.

@@ -12,7 +12,7 @@ use Rattle.keys.specs.Json.{json_value}
 use Rattle.keys.specs.JsonTexts.{DeepTextsAreRefused}
 use Rattle.keys.specs.Limits.{Limits}
 use Rattle.keys.proofs.Lemmas.{numbers_whole}
-use Rattle.objects.specs.Jwe.{JweParts, RecipientParts, EncodedJwe, encoded_in_json, encoded_jwe, decoded_object, jwe_of, nest_at_most, is_shallow, have_whole_numbers, built, AreMembers, BuildingIsReading, JsonTextsAreCompact}
+use Rattle.objects.specs.Jwe.{JweParts, RecipientParts, EncodedJwe, encoded_in_json, encoded_jwe, decoded_object, jwe_of, nest_at_most, headers_are_shallow, have_whole_numbers, built, AreMembers, BuildingIsReading, JsonTextsAreCompact}
 use Rattle.objects.specs.Texts.{handed_in, header_depth, depth_of_each}
 use Rattle.objects.proofs.DetachedContent.{handed_octets}
 use Rattle.objects.proofs.EachRead.{all_pass, images_pass}
@@ -43,14 +43,14 @@ some_texts parts some = ap (nat_le 1) (length-map parts.recipients recipient_spe
 
 -- ---- where no header is too deep
 
-built_shallow : (limits : Limits) (parts : JweParts) → AreMembers parts → is_shallow parts ≡ true → built limits parts ≡ (needs (nat_le 1 (length parts.recipients)) Form >>= λ some. decoding limits parts)
+built_shallow : (limits : Limits) (parts : JweParts) → AreMembers parts → headers_are_shallow parts ≡ true → built limits parts ≡ (needs (nat_le 1 (length parts.recipients)) Form >>= λ some. decoding limits parts)
 unfolding built
 built_shallow limits parts members shallow =
     let whole : have_whole_numbers parts ≡ true =
     and_from _ _ (numbers_whole (object parts.unprotected) members.unprotected) (all_pass _ _ (λ r is. numbers_whole (object r.header) is.0) parts.recipients members.recipients) in
     rw (shallow, whole) refl
 
-read_shallow : Laws → (limits : Limits) (parts : JweParts) → AreMembers parts → is_shallow parts ≡ true → (detach b : Bool) → nat_le 1 (length parts.recipients) ≡ b
+read_shallow : Laws → (limits : Limits) (parts : JweParts) → AreMembers parts → headers_are_shallow parts ≡ true → (detach b : Bool) → nat_le 1 (length parts.recipients) ≡ b
     → jwe_of limits (handed_in detach parts.ciphertext) (compact_text (object (members_of detach parts))) ≡ (needs b Form >>= λ some. decoding limits parts)
 read_shallow laws limits parts members shallow detach b some =
     let t : EncodedJwe = parts_spelled parts in
@@ -83,13 +83,13 @@ recipients_nest laws parts members detach value (r ∷ rs) is =
     subst (λ k. AllByRecursion (IsRecipient (depth_of_each k)) t.recipients) (length-map parts.recipients recipient_spelled) are.recipients in
     images_pass (IsRecipient n) recipient_spelled _ (λ p is. le-leb _ n is.header.shallow) parts.recipients all
 
-shallow_nest : Laws → (parts : JweParts) → AreMembers parts → (detach : Bool) → depth (object (members_of detach parts)) ≤ 127 → is_shallow parts ≡ true
+shallow_nest : Laws → (parts : JweParts) → AreMembers parts → (detach : Bool) → depth (object (members_of detach parts)) ≤ 127 → headers_are_shallow parts ≡ true
 shallow_nest laws parts members detach h =
     let value : IsShallow 127 (object (members_of detach parts)) = record { json = object_json laws parts members detach; shallow = h } in
     let unprotected = header_shallow laws.keep header_depth (codes "unprotected") _ parts.unprotected (omega arith) value (unprotected_found detach (parts_spelled parts)) in
     and_from _ _ (le-leb _ header_depth unprotected.shallow) (recipients_nest laws parts members detach value parts.recipients refl)
 
-read_deep : Laws → DeepTextsAreRefused → (limits : Limits) (parts : JweParts) → AreMembers parts → is_shallow parts ≡ false → (detach : Bool)
+read_deep : Laws → DeepTextsAreRefused → (limits : Limits) (parts : JweParts) → AreMembers parts → headers_are_shallow parts ≡ false → (detach : Bool)
     → jwe_of limits (handed_in detach parts.ciphertext) (compact_text (object (members_of detach parts))) ≡ Err Json
 read_deep laws refused limits parts members deep detach =
     let ms = members_of detach parts in
@@ -100,11 +100,11 @@ read_deep laws refused limits parts members deep detach =
 
 -- ---- in either case
 
-built_deep : (limits : Limits) (parts : JweParts) → is_shallow parts ≡ false → built limits parts ≡ Err Json
+built_deep : (limits : Limits) (parts : JweParts) → headers_are_shallow parts ≡ false → built limits parts ≡ Err Json
 unfolding built
 built_deep limits parts deep = rw deep refl
 
-by_depth : Laws → DeepTextsAreRefused → (limits : Limits) (parts : JweParts) → AreMembers parts → (detach b : Bool) → is_shallow parts ≡ b
+by_depth : Laws → DeepTextsAreRefused → (limits : Limits) (parts : JweParts) → AreMembers parts → (detach b : Bool) → headers_are_shallow parts ≡ b
     → built limits parts ≡ jwe_of limits (handed_in detach parts.ciphertext) (compact_text (object (members_of detach parts)))
 by_depth laws refused limits parts members detach true shallow = built_shallow limits parts members shallow ∙ sym (read_shallow laws limits parts members shallow detach _ refl)
 by_depth laws refused limits parts members detach false deep = built_deep limits parts deep ∙ sym (read_deep laws refused limits parts members deep detach)

@@ -12,7 +12,7 @@ use Rattle.keys.specs.declared.algorithm.KeyManagementMode.{KeyManagementMode}
 use Rattle.keys.specs.declared.algorithm.KeyManagementMode.TheVariants as mode
 use Rattle.keys.specs.Algorithms.{mode_of}
 use Rattle.objects.specs.Headers.{string_parameter, number_parameter, salt, salt_if_there, salt_parameter, octets_parameter}
-use Rattle.objects.specs.KeyManagement.{KeyManagement, Unknown, Direct, KeyWrap, Password, GcmKeyWrap, password_management, gcm_management, management_in, management_by, is_password, is_management_in, is_management_of}
+use Rattle.objects.specs.KeyManagement.{KeyManagement, Unknown, Direct, KeyWrap, Password, GcmKeyWrap, password_management, gcm_management, management_in, management_by, are_password_parameters, is_management_in, is_management_of}
 use Rattle.octets.proofs.Lemmas.{steps, passed, same_answer, is_there}
 
 -- a salt that is read has at least 8 octets
@@ -37,7 +37,7 @@ salt_is_long header p2s h =
     by_text (Some text) h = by_octets (decoded text) h
 
 -- so what is read of a password is as it has to be
-password_is : (header : Members) (m : KeyManagement) → password_management header ≡ Ok m → (p2s : List ℕ) × (p2c : ℕ) × (is_password p2s p2c ≡ true) × (Password p2s p2c ≡ m)
+password_is : (header : Members) (m : KeyManagement) → password_management header ≡ Ok m → (p2s : List ℕ) × (p2c : ℕ) × (are_password_parameters p2s p2c ≡ true) × (Password p2s p2c ≡ m)
 unfolding password_management
 password_is header m h =
     let salt = steps (salt_parameter (codes "p2s") header) _ m h in

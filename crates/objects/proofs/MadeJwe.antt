@@ -12,7 +12,7 @@ use Rattle.octets.proofs.Lemmas.{IsOctets-nil, steps, passed, same_answer}
 use Rattle.keys.specs.JsonTexts.{IsJson, KeepJson}
 use Rattle.keys.specs.Limits.{Limits, are_few}
 use Rattle.objects.specs.Headers.{header_at}
-use Rattle.objects.specs.Jwe.{EncodedRecipient, RecipientParts, EncodedShared, EncodedContent, EncodedJwe, JweParts, EncryptedObject, encoded_shared, encoded_recipient, encoded_content, no_recipient_at, recipients_by, recipient_objects, encoded_in_json, encoded_in_compact, encoded_jwe, decoded_recipient, decoded_members, decoded_object, jwe_of, is_shallow, have_whole_numbers, built, AreMembers, ObjectsAreMade}
+use Rattle.objects.specs.Jwe.{EncodedRecipient, RecipientParts, EncodedShared, EncodedContent, EncodedJwe, JweParts, EncryptedObject, encoded_shared, encoded_recipient, encoded_content, no_recipient_at, recipients_by, recipient_objects, encoded_in_json, encoded_in_compact, encoded_jwe, decoded_recipient, decoded_members, decoded_object, jwe_of, headers_are_shallow, have_whole_numbers, built, AreMembers, ObjectsAreMade}
 use Rattle.objects.specs.Texts.{each, each_item, is_json_form, split_at_dot, three_parts, text_at, content_by, content_text, AreOctetsHandedIn, header_depth, depth_of_each}
 use Rattle.objects.proofs.DetachedContent.{MeansOctets, part_octets, member_octets}
 use Rattle.objects.proofs.Each.{as_many}
@@ -208,7 +208,7 @@ object_made laws limits t o are h =
       tag = laws.octets t.content.tag parts.tag are.content.tag spelled.tag;
       recipients = all_then (IsMade n) _ (λ r is. (is.0.json, is.1)) parts.recipients all;
     } in
-    let shallow : is_shallow parts ≡ true = and_from _ _ (le-leb _ header_depth unprotected.shallow) (all_pass (IsMade n) _ (λ r is. le-leb _ n is.0.shallow) parts.recipients all) in
+    let shallow : headers_are_shallow parts ≡ true = and_from _ _ (le-leb _ header_depth unprotected.shallow) (all_pass (IsMade n) _ (λ r is. le-leb _ n is.0.shallow) parts.recipients all) in
     let whole : have_whole_numbers parts ≡ true =
     and_from _ _ (header_whole header_depth parts.unprotected unprotected) (all_pass (IsMade n) _ (λ r is. header_whole n r.header is.0) parts.recipients all) in
     let some : nat_le 1 (length parts.recipients) ≡ true = le-leb 1 _ (omega (arith, are.some, many)) in

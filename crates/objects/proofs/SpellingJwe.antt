@@ -15,7 +15,7 @@ use Rattle.keys.specs.JsonTexts.{IsJson, AreJsonMembers}
 use Rattle.keys.specs.declared.algorithm.KeyManagementAlg.{KeyManagementAlg}
 use Rattle.keys.specs.Limits.{Limits, are_few}
 use Rattle.objects.specs.Headers.{header_at}
-use Rattle.objects.specs.Jwe.{JweParts, RecipientParts, EncryptedObject, EncodedJwe, EncodedRecipient, encoded_shared, encoded_recipient, encoded_content, no_recipient_at, recipients_by, recipient_objects, encoded_in_json, decoded_recipient, decoded_members, encrypted_object, decoded_object, nest_at_most, is_shallow, have_whole_numbers, built, parts_of, AreMembers}
+use Rattle.objects.specs.Jwe.{JweParts, RecipientParts, EncryptedObject, EncodedJwe, EncodedRecipient, encoded_shared, encoded_recipient, encoded_content, no_recipient_at, recipients_by, recipient_objects, encoded_in_json, decoded_recipient, decoded_members, encrypted_object, decoded_object, nest_at_most, headers_are_shallow, have_whole_numbers, built, parts_of, AreMembers}
 use Rattle.objects.specs.Texts.{handed_in, header_depth, depth_of_each}
 use Rattle.objects.proofs.Characters.{IsUrlText}
 use Rattle.objects.proofs.DetachedContent.{content_there, content_entry, content_found}
@@ -133,7 +133,7 @@ object_keeps algs octets parts o h = ap parts_spelled (object_is algs octets par
 
 -- what holds of an object that is made of these parts
 pub record IsBuilt (limits : Limits) (parts : JweParts) (o : EncryptedObject) : Type 0 where
-  pub shallow : is_shallow parts ≡ true
+  pub shallow : headers_are_shallow parts ≡ true
   pub some : nat_le 1 (length parts.recipients) ≡ true
   pub few : are_few limits (length parts.recipients) ≡ true
   pub octets : List ℕ
@@ -143,7 +143,7 @@ pub record IsBuilt (limits : Limits) (parts : JweParts) (o : EncryptedObject) : 
 pub jwe_is_built : (limits : Limits) (parts : JweParts) (o : EncryptedObject) → built limits parts ≡ Ok o → IsBuilt limits parts o
 unfolding built
 jwe_is_built limits parts o h =
-    let a = steps (needs (is_shallow parts) Json) _ o h in
+    let a = steps (needs (headers_are_shallow parts) Json) _ o h in
     let b = steps (needs (have_whole_numbers parts) Number) _ o a.2 in
     let c = steps (needs (nat_le 1 (length parts.recipients)) Form) _ o b.2 in
     let d = steps (needs (are_few limits (length parts.recipients)) Limit) _ o c.2 in
@@ -231,7 +231,7 @@ own_json laws n parts members shallow detach later are =
     (unprotected, (tag, (protected, (iv, (ciphertext, (aad, are))))))
 
 -- so are all members, where no header is too deep
-pub members_json : Laws → (parts : JweParts) → AreMembers parts → is_shallow parts ≡ true → (detach : Bool) → AreJsonEntries header_depth (entries detach (parts_spelled parts))
+pub members_json : Laws → (parts : JweParts) → AreMembers parts → headers_are_shallow parts ≡ true → (detach : Bool) → AreJsonEntries header_depth (entries detach (parts_spelled parts))
 members_json laws parts members shallow detach =
     let n : ℕ = depth_of_each (length parts.recipients) in
     let both = and_parts (nat_le (depth (object parts.unprotected)) header_depth) (nest_at_most n parts.recipients) shallow in

@@ -249,8 +249,8 @@ abbrev pub nest_at_most : ℕ → List RecipientParts → Bool
 nest_at_most n recipients = list_all (λ r. nat_le (depth (object r.header)) n) recipients
 
 -- no header is too deep
-abbrev pub is_shallow : JweParts → Bool
-is_shallow parts = nat_le (depth (object parts.unprotected)) header_depth && nest_at_most (depth_of_each (length parts.recipients)) parts.recipients
+abbrev pub headers_are_shallow : JweParts → Bool
+headers_are_shallow parts = nat_le (depth (object parts.unprotected)) header_depth && nest_at_most (depth_of_each (length parts.recipients)) parts.recipients
 
 abbrev pub have_whole_numbers : JweParts → Bool
 have_whole_numbers parts = member_numbers_are_whole parts.unprotected && list_all (λ r. member_numbers_are_whole r.header) parts.recipients
@@ -258,7 +258,7 @@ have_whole_numbers parts = member_numbers_are_whole parts.unprotected && list_al
 -- the object with these members, or what their JSON text is refused with
 unfoldable pub built : Limits → JweParts → Result EncryptedObject Refusal
 built limits parts = do
-  shallow ← needs (is_shallow parts) Json
+  shallow ← needs (headers_are_shallow parts) Json
   whole ← needs (have_whole_numbers parts) Number
   some ← needs (nat_le 1 (length parts.recipients)) Form
   few ← needs (are_few limits (length parts.recipients)) Limit

@@ -61,14 +61,14 @@ abbrev pub key_management : List KeyManagementAlg → List ℕ → Members → R
 key_management algs alg header = management_by (management_alg_among algs alg) header
 
 -- the salt input and the count are as they have to be
-abbrev pub is_password : List ℕ → ℕ → Bool
-is_password p2s p2c = nat_le 8 (length p2s) && nat_le 1 p2c
+abbrev pub are_password_parameters : List ℕ → ℕ → Bool
+are_password_parameters p2s p2c = nat_le 8 (length p2s) && nat_le 1 p2c
 
 -- it is one of an algorithm that delivers so
 abbrev pub is_management_in : KeyManagementMode → KeyManagement → Bool
 is_management_in mode.Direct Direct = true
 is_management_in mode.KeyWrap KeyWrap = true
-is_management_in mode.Password (Password p2s p2c) = is_password p2s p2c
+is_management_in mode.Password (Password p2s p2c) = are_password_parameters p2s p2c
 is_management_in mode.GcmKeyWrap (GcmKeyWrap iv tag) = true
 is_management_in m management = false
 

@@ -5,7 +5,7 @@ ghost use Rattle.serde_json.specs.Data.{members_depth};
 ghost use Rattle.octets.specs.Outcomes.{AgreesUnlessMemory};
 ghost use Rattle.keys.specs.Json.{member_numbers_are_whole};
 ghost use Rattle.keys.specs.Limits.{limits};
-ghost use Rattle.objects.specs.Jwe.{AreMembers, IsMade, built, is_shallow as is_shallow_object, have_whole_numbers as have_whole_numbers_parts};
+ghost use Rattle.objects.specs.Jwe.{AreMembers, IsMade, built, headers_are_shallow as headers_are_shallow_of, have_whole_numbers as have_whole_numbers_parts};
 ghost use Rattle.objects.specs.Views.{jwe_view, jwe_members_view, jwe_parts_view, recipient_members_view, recipient_parts_view};
 
 use crate::header::depth::{HEADER_DEPTH, depth_of_each};
@@ -34,7 +34,7 @@ impl Jwe {
 fn object_of_parts(alloc: Global, parts: JweParts) -> Result<Jwe, Refusal>
     ensures { AgreesUnlessMemory jwe_view result (built limits (jwe_parts_view parts)) }
 {
-    needs(is_shallow(&parts), Refusal::Json)?;
+    needs(headers_are_shallow(&parts), Refusal::Json)?;
     needs(have_whole_numbers(&parts), Refusal::Number)?;
     needs(!parts.recipients.is_empty(), Refusal::Form)?;
     needs(parts.recipients.len() <= MOST_RECIPIENTS, Refusal::Limit)?;
@@ -45,8 +45,8 @@ fn object_of_parts(alloc: Global, parts: JweParts) -> Result<Jwe, Refusal>
 
 /// No header is too deep for the JSON text.
 #[tactic(auto, using(crate::proofs::Each::views))]
-fn is_shallow(parts: &JweParts) -> bool
-    ensures { result ≡ is_shallow_object (jwe_parts_view parts.now) }
+fn headers_are_shallow(parts: &JweParts) -> bool
+    ensures { result ≡ headers_are_shallow_of (jwe_parts_view parts.now) }
 {
     object_nests_at_most(&parts.unprotected, HEADER_DEPTH)
         && headers_nest_at_most(&parts.recipients, depth_of_each(parts.recipients.len()))
