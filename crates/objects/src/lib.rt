@@ -29,7 +29,7 @@ mod writer;
 pub use content::payload::HeldContent;
 pub use content::received_text::ReceivedText;
 pub use header::Header;
-pub use header::parts::{header_at, read_protected};
+pub use header::parts::{copy_header, header_at, read_protected};
 pub use json_members::text_at;
 pub use jwe::Jwe;
 pub use jwe::parts::{JweParts, RecipientParts};

@@ -11,7 +11,7 @@ ghost use Rattle.octets.specs.Base64url.{base64url};
 use crate::content::payload::HeldContent;
 use crate::content::received_text::ReceivedText;
 use crate::header::members::HeaderMembers;
-use crate::header::parts::{copy, has_members};
+use crate::header::parts::{copy_header, has_members};
 use keys::laws;
 use octets::laws::base64url_has_url_characters;
 use octets::{Refusal, b64_append, b64_encode};
@@ -328,5 +328,5 @@ fn header_value(alloc: Global, header: &HeaderMembers) -> Result<Value, Refusal>
     ensures value { IfOk result (λ value. view value ≡ object (members_view header.now.map.entries)) }
     ensures memory { IfErr result (λ e. e ≡ Refusal.Memory) }
 {
-    Ok(Value::Object(copy(alloc, Some(&header.map))?))
+    Ok(Value::Object(copy_header(alloc, Some(&header.map))?))
 }

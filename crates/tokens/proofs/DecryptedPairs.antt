@@ -22,7 +22,7 @@ use Rattle.tokens.proofs.EncryptedHeaders.{made_by}
 
 -- ---- the pairs
 
--- the algorithms by which a receiver is delivered the content encryption key
+-- the algorithms by which a recipient is delivered the content encryption key
 abbrev pub algorithms_by : EncryptionPlan → RecipientKey → Algorithms
 algorithms_by e r = record { management = r.management; encryption = e.encryption }
 
@@ -62,16 +62,16 @@ iterations_in mode.GcmKeyWrap drawn p2c tag = refl
 iterations_are : (alg : KeyManagementAlg) (drawn : List ℕ) (p2c : ℕ) (tag : List ℕ) → iterations_by (management_with alg drawn p2c tag) ≡ (if is_password_based alg then p2c else 0)
 iterations_are alg drawn p2c tag = iterations_in (mode_of alg) drawn p2c tag
 
--- one more receiver counts for the iterations of its pair
+-- one more recipient counts for the iterations of its pair
 one_more : (most : ℕ) (password : Bool) (n p2c : ℕ) → (password ≡ true → p2c ≤ most)
     → (let i : ℕ = if password then p2c else 0 in (i ≤ most) × (i + n * p2c ≤ (if password then suc n else n) * p2c))
 one_more most true n p2c few = (few refl, omega arith)
 one_more most false n p2c few = (omega arith, omega arith)
 
 -- so the pairs of all recipients take as many for each password
-pub take_at_most : (most : ℕ) (e : EncryptionPlan) (cek : List ℕ) (key : OctetKey) (receivers : List RecipientKey) (drawn : List ℕ)
-    → AllByRecursion (λ r. is_password_based r.management ≡ true → e.p2c ≤ most) receivers
-    → TakeAtMost most (password_count receivers * e.p2c) (all_pairs management_algs (key ∷ []) (map (made_by e cek) (with_drawn receivers drawn)))
+pub take_at_most : (most : ℕ) (e : EncryptionPlan) (cek : List ℕ) (key : OctetKey) (recipient_keys : List RecipientKey) (drawn : List ℕ)
+    → AllByRecursion (λ r. is_password_based r.management ≡ true → e.p2c ≤ most) recipient_keys
+    → TakeAtMost most (password_count recipient_keys * e.p2c) (all_pairs management_algs (key ∷ []) (map (made_by e cek) (with_drawn recipient_keys drawn)))
 take_at_most most e cek key [] drawn few = record { each_few = refl; all_few = omega arith }
 take_at_most most e cek key (r ∷ rest) drawn few =
     rw (pairs_are e cek key (r, take (drawn_for r) drawn))
@@ -110,7 +110,7 @@ opened_later s plaintext (pair ∷ pairs) later only h = by_opened (opened_by s 
     by_opened None is rest = rest
     by_opened (Some other) is rest = ap Some (only.0 other is)
 
--- what a receiver with this key opens, by which it is a candidate
+-- what a recipient with this key opens, by which it is a candidate
 abbrev pub Opens : EncryptionPlan → List ℕ → OctetKey → SealedContent → List ℕ → RecipientKey × List ℕ → Type 0
 Opens e cek key s plaintext x = x.0.key ≡ key → (is_candidate (algorithms_by e x.0) key ≡ true) × (opened_by s (pair_by e cek key x) ≡ Some plaintext)
 

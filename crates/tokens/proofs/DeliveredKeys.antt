@@ -1,4 +1,4 @@
--- The content encryption key, which is delivered to each receiver with the octets that are drawn for it.
+-- The content encryption key, which is delivered to each recipient with the octets that are drawn for it.
 use Rattle.std.proofs.Common.{◌≡◌, ℕ, suc, ◌+◌, ◌≤◌, ◌||◌, Bool, true, false, not, List, [], ◌∷◌, length, take, drop, map, if◌then◌else◌, Some, None, refl, sym, ap, ◌∙◌, subst, arith, length-drop}
 use Rattle.std.proofs.lemmas.List.{length-take-le}
 use Rattle.std.proofs.lemmas.Bool.{lt-leb, not-true, or_parts}
@@ -15,26 +15,26 @@ use Rattle.objects.proofs.Lemmas.{all_then, all_both}
 use Rattle.tokens.specs.Algorithms.{content_alg, key_alg, parameters_by}
 use Rattle.tokens.specs.Choosing.{RecipientKey, is_direct, is_alone, direct_key_is_alone, EncryptionPlan}
 use Rattle.tokens.specs.Delivering.{drawn_for, drawn_for_all, parameters_with, Delivery, delivery_to, deliveries_to}
-use Rattle.tokens.specs.Encrypting.{direct_key, drawn_cek, cek_drawn, random_len, for_receivers, after_receivers, cek_by}
+use Rattle.tokens.specs.Encrypting.{direct_key, drawn_cek, cek_drawn, random_len, for_recipients, after_recipients, cek_by}
 use Rattle.tokens.proofs.AlgorithmCases.{direct_is, direct_alg, encrypted_alike, tag_alike, iv_is_drawn, tag_is_made, direct_key_fits}
 use Rattle.tokens.proofs.SettledEncryptions.{Receives, Settles}
 
--- ---- the receivers with the octets that are drawn for them
+-- ---- the recipients with the octets that are drawn for them
 
 -- these follow one another
 abbrev pub with_drawn : List RecipientKey → List ℕ → List (RecipientKey × List ℕ)
 with_drawn [] drawn = []
 with_drawn (r ∷ rest) drawn = (r, take (drawn_for r) drawn) ∷ with_drawn rest (drop (drawn_for r) drawn)
 
--- a receiver that is so, with just as many octets as are drawn for it
+-- a recipient that is so, with just as many octets as are drawn for it
 pub record IsDrawn (P : RecipientKey → Type 0) (x : RecipientKey × List ℕ) : Type 0 where
   pub holds : P x.0
   pub octets : IsOctets x.1
   pub long : length x.1 ≡ drawn_for x.0
 
--- where each receiver is so, each has its octets
-pub all_drawn : (P : RecipientKey → Type 0) (receivers : List RecipientKey) (drawn : List ℕ) → AllByRecursion P receivers → IsOctets drawn → length drawn ≡ drawn_for_all receivers
-    → AllByRecursion (IsDrawn P) (with_drawn receivers drawn)
+-- where each recipient is so, each has its octets
+pub all_drawn : (P : RecipientKey → Type 0) (recipient_keys : List RecipientKey) (drawn : List ℕ) → AllByRecursion P recipient_keys → IsOctets drawn → length drawn ≡ drawn_for_all recipient_keys
+    → AllByRecursion (IsDrawn P) (with_drawn recipient_keys drawn)
 all_drawn P [] drawn all octets long = tt
 all_drawn P (r ∷ rest) drawn all octets long =
     let n : ℕ = drawn_for r in
@@ -45,28 +45,28 @@ all_drawn P (r ∷ rest) drawn all octets long =
     )
 
 -- and there are as many
-pub as_many_drawn : (receivers : List RecipientKey) (drawn : List ℕ) → length (with_drawn receivers drawn) ≡ length receivers
+pub as_many_drawn : (recipient_keys : List RecipientKey) (drawn : List ℕ) → length (with_drawn recipient_keys drawn) ≡ length recipient_keys
 as_many_drawn [] drawn = refl
 as_many_drawn (r ∷ rest) drawn = ap suc (as_many_drawn rest (drop (drawn_for r) drawn))
 
--- the delivery to a receiver
+-- the delivery to a recipient
 abbrev pub delivery : EncryptionPlan → List ℕ → RecipientKey × List ℕ → Delivery
 delivery e cek x = delivery_to e cek x.0 x.1
 
--- the deliveries are those to the receivers with their octets
-pub deliveries_are : (e : EncryptionPlan) (cek : List ℕ) (receivers : List RecipientKey) (drawn : List ℕ) → deliveries_to e cek receivers drawn ≡ map (delivery e cek) (with_drawn receivers drawn)
+-- the deliveries are those to the recipients with their octets
+pub deliveries_are : (e : EncryptionPlan) (cek : List ℕ) (recipient_keys : List RecipientKey) (drawn : List ℕ) → deliveries_to e cek recipient_keys drawn ≡ map (delivery e cek) (with_drawn recipient_keys drawn)
 deliveries_are e cek [] drawn = refl
 deliveries_are e cek (r ∷ rest) drawn = ap (λ others. delivery_to e cek r (take (drawn_for r) drawn) ∷ others) (deliveries_are e cek rest (drop (drawn_for r) drawn))
 
 -- ---- what is chosen or drawn
 
 -- It has its length, and is the key that is used directly, where one is.
-pub record IsCek (enc : ContentEncryptionAlg) (receivers : List RecipientKey) (cek : List ℕ) : Type 0 where
+pub record IsCek (enc : ContentEncryptionAlg) (recipient_keys : List RecipientKey) (cek : List ℕ) : Type 0 where
   pub octets : IsOctets cek
   pub fits : length cek ≡ cek_len (content_alg enc)
-  pub direct : AllByRecursion (λ r. is_direct r.management ≡ true → cek ≡ r.key.octets) receivers
+  pub direct : AllByRecursion (λ r. is_direct r.management ≡ true → cek ≡ r.key.octets) recipient_keys
 
--- so it is for one receiver
+-- so it is for one recipient
 cek_of_one : (enc : ContentEncryptionAlg) (r : RecipientKey) (drawn : List ℕ) (direct : Bool) → is_direct r.management ≡ direct → fits r.key (EncryptionWith r.management enc) ≡ true
     → IsOctets r.key.octets → IsOctets drawn → length drawn ≡ drawn_cek (if direct then Some r.key.octets else None) (cek_len (content_alg enc))
     → IsCek enc (r ∷ []) (unwrap_or (if direct then Some r.key.octets else None) drawn)
@@ -77,15 +77,15 @@ cek_of_one enc r drawn true is fit octets random long = record {
 }
 cek_of_one enc r drawn false is fit octets random long = record { octets = random; fits = long; direct = (λ e. cc (is, e), tt) }
 
--- several receivers use no key directly
-none_direct : (receivers : List RecipientKey) → list_any (λ r. is_direct r.management) receivers ≡ false → AllByRecursion (λ r. is_direct r.management ≡ false) receivers
+-- several recipients use no key directly
+none_direct : (recipient_keys : List RecipientKey) → list_any (λ r. is_direct r.management) recipient_keys ≡ false → AllByRecursion (λ r. is_direct r.management ≡ false) recipient_keys
 none_direct [] h = tt
 none_direct (r ∷ rest) h = let both = or_parts (is_direct r.management) (list_any (λ r. is_direct r.management) rest) h in (both.0, none_direct rest both.1)
 
 -- so the key, or what is drawn, is the content encryption key
-pub cek_is : (enc : ContentEncryptionAlg) (receivers : List RecipientKey) (drawn : List ℕ) → direct_key_is_alone receivers ≡ true → 1 ≤ length receivers
-    → AllByRecursion (λ r. fits r.key (EncryptionWith r.management enc) ≡ true) receivers → AllByRecursion (λ r. IsOctets r.key.octets) receivers → IsOctets drawn
-    → length drawn ≡ drawn_cek (direct_key receivers) (cek_len (content_alg enc)) → IsCek enc receivers (unwrap_or (direct_key receivers) drawn)
+pub cek_is : (enc : ContentEncryptionAlg) (recipient_keys : List RecipientKey) (drawn : List ℕ) → direct_key_is_alone recipient_keys ≡ true → 1 ≤ length recipient_keys
+    → AllByRecursion (λ r. fits r.key (EncryptionWith r.management enc) ≡ true) recipient_keys → AllByRecursion (λ r. IsOctets r.key.octets) recipient_keys → IsOctets drawn
+    → length drawn ≡ drawn_cek (direct_key recipient_keys) (cek_len (content_alg enc)) → IsCek enc recipient_keys (unwrap_or (direct_key recipient_keys) drawn)
 cek_is enc [] drawn together some fit octets random long = absurd (omega arith)
 cek_is enc (r ∷ []) drawn together some fit octets random long = cek_of_one enc r drawn (is_direct r.management) refl fit.0 octets.0 random long
 cek_is enc (r ∷ (other ∷ rest)) drawn together some fit octets random long =
@@ -102,13 +102,13 @@ cek_is enc (r ∷ (other ∷ rest)) drawn together some fit octets random long =
 
 -- ---- how it is delivered
 
--- The receiver is delivered the content encryption key, by a key of octets and an initialization vector of octets.
+-- The recipient is delivered the content encryption key, by a key of octets and an initialization vector of octets.
 pub record Delivers (e : EncryptionPlan) (cek : List ℕ) (x : RecipientKey × List ℕ) : Type 0 where
   pub key : IsOctets x.0.key.octets
   pub iv : IsOctets (parameters_by (delivery e cek x).management).iv
   pub delivers : IsDelivered (key_alg x.0.management) (content_alg e.encryption) x.0.key.octets (parameters_by (delivery e cek x).management) (delivery e cek x).encrypted_key cek
 
--- so it is where it is the content encryption key of the receivers
+-- so it is where it is the content encryption key of the recipients
 delivered_to : (e : EncryptionPlan) (cek : List ℕ) (x : RecipientKey × List ℕ) → IsOctets cek → length cek ≡ cek_len (content_alg e.encryption) → IsOctets x.0.key.octets
     → (is_direct x.0.management ≡ true → cek ≡ x.0.key.octets) → IsOctets x.1 → length x.1 ≡ drawn_for x.0 → Delivers e cek x
 delivered_to e cek x octets fits key direct drawn long =
@@ -130,45 +130,45 @@ delivered_to e cek x octets fits key direct drawn long =
 
 -- ---- by the octets that are drawn
 
--- where the keys are octets, so are those of the receivers
-octet_keys : (receivers : List RecipientKey) (keys : List OctetKey) → map (λ r. r.key) receivers ≡ keys → AreOctetKeys keys → AllByRecursion (λ r. IsOctets r.key.octets) receivers
-octet_keys receivers keys same octets = of_images receivers (subst AreOctetKeys (sym same) octets)
+-- where the keys are octets, so are those of the recipients
+octet_keys : (recipient_keys : List RecipientKey) (keys : List OctetKey) → map (λ r. r.key) recipient_keys ≡ keys → AreOctetKeys keys → AllByRecursion (λ r. IsOctets r.key.octets) recipient_keys
+octet_keys recipient_keys keys same octets = of_images recipient_keys (subst AreOctetKeys (sym same) octets)
   where
-    of_images : (receivers : List RecipientKey) → AreOctetKeys (map (λ r. r.key) receivers) → AllByRecursion (λ r. IsOctets r.key.octets) receivers
+    of_images : (recipient_keys : List RecipientKey) → AreOctetKeys (map (λ r. r.key) recipient_keys) → AllByRecursion (λ r. IsOctets r.key.octets) recipient_keys
     of_images [] all = tt
     of_images (r ∷ rest) all = (all.0, of_images rest all.1)
 
--- the octets after those of the receivers
-pub after_long : (e : EncryptionPlan) (random : List ℕ) → length random ≡ random_len e → length (after_receivers e random) ≡ cek_drawn e + iv_len (content_alg e.encryption)
-after_long e random long = length-drop (drawn_for_all e.receivers) random ∙ omega (arith, long)
+-- the octets after those of the recipients
+pub after_long : (e : EncryptionPlan) (random : List ℕ) → length random ≡ random_len e → length (after_recipients e random) ≡ cek_drawn e + iv_len (content_alg e.encryption)
+after_long e random long = length-drop (drawn_for_all e.recipient_keys) random ∙ omega (arith, long)
 
--- the content encryption key of the receivers
+-- the content encryption key of the recipients
 pub cek_by_is : (keys : List OctetKey) (e : EncryptionPlan) (random : List ℕ) → Settles keys e → AreOctetKeys keys → IsOctets random → length random ≡ random_len e
-    → IsCek e.encryption e.receivers (cek_by e random)
+    → IsCek e.encryption e.recipient_keys (cek_by e random)
 cek_by_is keys e random by key_octets octets long =
-    let later : List ℕ = after_receivers e random in
-    cek_is e.encryption e.receivers (take (cek_drawn e) later) by.together by.some (all_then (Receives e) _ (λ r is. is.fit) e.receivers by.receive)
-    (octet_keys e.receivers keys by.keys_are key_octets) (IsOctets-take (cek_drawn e) later (IsOctets-drop (drawn_for_all e.receivers) random octets))
+    let later : List ℕ = after_recipients e random in
+    cek_is e.encryption e.recipient_keys (take (cek_drawn e) later) by.together by.some (all_then (Receives e) _ (λ r is. is.fit) e.recipient_keys by.receive)
+    (octet_keys e.recipient_keys keys by.keys_are key_octets) (IsOctets-take (cek_drawn e) later (IsOctets-drop (drawn_for_all e.recipient_keys) random octets))
     (length-take-le (cek_drawn e) later (omega (arith, after_long e random long)))
 
--- the receivers with the octets that are drawn
+-- the recipients with the octets that are drawn
 abbrev pub drawn_by_each : EncryptionPlan → List ℕ → List (RecipientKey × List ℕ)
-drawn_by_each e random = with_drawn e.receivers (for_receivers e random)
+drawn_by_each e random = with_drawn e.recipient_keys (for_recipients e random)
 
 -- each has its octets, ..
-pub each_drawn : (P : RecipientKey → Type 0) (e : EncryptionPlan) (random : List ℕ) → AllByRecursion P e.receivers → IsOctets random → length random ≡ random_len e
+pub each_drawn : (P : RecipientKey → Type 0) (e : EncryptionPlan) (random : List ℕ) → AllByRecursion P e.recipient_keys → IsOctets random → length random ≡ random_len e
     → AllByRecursion (IsDrawn P) (drawn_by_each e random)
 each_drawn P e random all octets long =
-    let n : ℕ = drawn_for_all e.receivers in
-    all_drawn P e.receivers (for_receivers e random) all (IsOctets-take n random octets) (length-take-le n random (omega (arith, long)))
+    let n : ℕ = drawn_for_all e.recipient_keys in
+    all_drawn P e.recipient_keys (for_recipients e random) all (IsOctets-take n random octets) (length-take-le n random (omega (arith, long)))
 
 -- .. and is delivered the content encryption key
 pub each_delivered : (keys : List OctetKey) (e : EncryptionPlan) (random : List ℕ) → Settles keys e → AreOctetKeys keys → IsOctets random → length random ≡ random_len e
     → AllByRecursion (Delivers e (cek_by e random)) (drawn_by_each e random)
 each_delivered keys e random by key_octets octets long =
     let cek : List ℕ = cek_by e random in
-    let is : IsCek e.encryption e.receivers cek = cek_by_is keys e random by key_octets octets long in
+    let is : IsCek e.encryption e.recipient_keys cek = cek_by_is keys e random by key_octets octets long in
     let P : RecipientKey → Type 0 = λ r. IsOctets r.key.octets × (is_direct r.management ≡ true → cek ≡ r.key.octets) in
-    let each_key : AllByRecursion P e.receivers = all_both (λ r key direct. (key, direct)) e.receivers (octet_keys e.receivers keys by.keys_are key_octets) is.direct in
+    let each_key : AllByRecursion P e.recipient_keys = all_both (λ r key direct. (key, direct)) e.recipient_keys (octet_keys e.recipient_keys keys by.keys_are key_octets) is.direct in
     all_then (IsDrawn P) (Delivers e cek) (λ x d. delivered_to e cek x is.octets is.fits d.holds.0 d.holds.1 d.octets d.long) (drawn_by_each e random)
     (each_drawn P e random each_key octets long)

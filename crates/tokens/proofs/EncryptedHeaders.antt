@@ -1,4 +1,4 @@
--- The headers that are written of the deliveries to receivers, and the recipients that are read from them.
+-- The headers that are written of the deliveries to recipients, and the recipients that are read from them.
 use Rattle.std.proofs.Common.{◌≡◌, ℕ, suc, ◌≤◌, true, false, List, [], ◌∷◌, length, take, map, Ok, sym, ◌∙◌, ap, subst, arith}
 use Rattle.std.proofs.lemmas.Bool.{lt-leb}
 use Rattle.std.proofs.lemmas.Simd.{map-map}
@@ -18,7 +18,7 @@ use Rattle.objects.proofs.Lemmas.{all_then, all_both, Entries}
 use Rattle.tokens.specs.Algorithms.{content_alg, key_alg, parameters_by}
 use Rattle.tokens.specs.Choosing.{RecipientKey, is_alone, EncryptionPlan}
 use Rattle.tokens.specs.Delivering.{drawn_for, parameters_with, Delivery, deliveries_to}
-use Rattle.tokens.specs.Encrypting.{random_len, for_receivers, cek_by, with_parameters, protected_header, per_recipient_header, header_of, recipient_by, recipients_by}
+use Rattle.tokens.specs.Encrypting.{random_len, for_recipients, cek_by, with_parameters, protected_header, per_recipient_header, header_of, recipient_parts_by, recipients_by}
 use Rattle.tokens.proofs.AlgorithmCases.{tag_alike}
 use Rattle.tokens.proofs.DeliveredKeys.{with_drawn, IsDrawn, delivery, deliveries_are, Delivers, drawn_by_each, each_drawn, each_delivered}
 use Rattle.tokens.proofs.HeaderTexts.{ReadsBack, read_back}
@@ -35,11 +35,11 @@ pub record OctetLaws : Type 0 where
 
 -- ---- the parameters
 
--- those of the delivery to a receiver
+-- those of the delivery to a recipient
 abbrev pub parameters_for : EncryptionPlan → List ℕ → RecipientKey × List ℕ → Entries
 parameters_for e cek x = parameters_of e.given (delivery e cek x)
 
--- A receiver is delivered the content encryption key with the octets that are drawn for it, and the encrypted key and the parameters are
+-- A recipient is delivered the content encryption key with the octets that are drawn for it, and the encrypted key and the parameters are
 -- octets.
 pub record IsReady (e : EncryptionPlan) (cek : List ℕ) (x : RecipientKey × List ℕ) : Type 0 where
   pub receives : Receives e x.0
@@ -75,7 +75,7 @@ free e cek x is =
     let awaits = is.receives.awaits in
     free_names e.given.alg e.given.p2c _ (delivery e cek x).management (joint_of e) awaits.alg_there (awaits_management e.given.alg e.given.p2c x.0.management x.1 e.p2c _ (joint_of e) awaits)
 
--- the protected header has those of one receiver, ..
+-- the protected header has those of one recipient, ..
 headed_one : (e : EncryptionPlan) (cek : List ℕ) (x : RecipientKey × List ℕ) → IsReady e cek x → are_disjoint e.protected e.unprotected no_members ≡ true
     → IsHeaded e cek (with_parameters e.given (delivery e cek x) e.protected) no_members x
 headed_one e cek x is disjoint = record {
@@ -91,11 +91,11 @@ headed_among e cek x disjoint is = record {
   written = header_with e.given (delivery e cek x) no_members empty_header is.parameters;
 }
 
--- so the headers of receivers may be written, and the joint headers have their parameters
-headed : (e : EncryptionPlan) (cek : List ℕ) (receivers : List RecipientKey) (drawn : List ℕ) → IsHeader e.protected → are_disjoint e.protected e.unprotected no_members ≡ true → 1 ≤ length receivers
-    → AllByRecursion (IsReady e cek) (with_drawn receivers drawn)
-    → (let header = protected_header e.given (deliveries_to e cek receivers drawn) e.protected in
-    IsHeader header × AllByRecursion (λ x. IsHeaded e cek header (per_recipient_header e.given (is_alone receivers) (delivery e cek x)) x) (with_drawn receivers drawn))
+-- so the headers of recipients may be written, and the joint headers have their parameters
+headed : (e : EncryptionPlan) (cek : List ℕ) (recipient_keys : List RecipientKey) (drawn : List ℕ) → IsHeader e.protected → are_disjoint e.protected e.unprotected no_members ≡ true → 1 ≤ length recipient_keys
+    → AllByRecursion (IsReady e cek) (with_drawn recipient_keys drawn)
+    → (let header = protected_header e.given (is_alone recipient_keys) (deliveries_to e cek recipient_keys drawn) e.protected in
+    IsHeader header × AllByRecursion (λ x. IsHeaded e cek header (per_recipient_header e.given (is_alone recipient_keys) (delivery e cek x)) x) (with_drawn recipient_keys drawn))
 headed e cek [] drawn may disjoint some all = absurd (omega arith)
 headed e cek (r ∷ []) drawn may disjoint some all =
     let x : RecipientKey × List ℕ = (r, take (drawn_for r) drawn) in
@@ -105,14 +105,15 @@ headed e cek (r ∷ (other ∷ rest)) drawn may disjoint some all =
     let xs : List (RecipientKey × List ℕ) = with_drawn (r ∷ (other ∷ rest)) drawn in
     let each_headed : AllByRecursion (λ x. IsHeaded e cek e.protected (per_recipient_header e.given false (delivery e cek x)) x) xs =
     all_then (IsReady e cek) _ (λ x is. headed_among e cek x disjoint is) xs all in
-    (may, subst (λ alone. AllByRecursion (λ x. IsHeaded e cek e.protected (per_recipient_header e.given alone (delivery e cek x)) x) xs) (sym several) each_headed)
+    subst (λ alone. let header = protected_header e.given alone (deliveries_to e cek (r ∷ (other ∷ rest)) drawn) e.protected in
+    IsHeader header × AllByRecursion (λ x. IsHeaded e cek header (per_recipient_header e.given alone (delivery e cek x)) x) xs) (sym several) (may, each_headed)
 
 -- ---- what is written by random octets
 
--- each receiver is delivered the content encryption key, and has its headers
+-- each recipient is delivered the content encryption key, and has its headers
 pub record IsWritten (e : EncryptionPlan) (random : List ℕ) (x : RecipientKey × List ℕ) : Type 0 where
   pub ready : IsReady e (cek_by e random) x
-  pub headed : IsHeaded e (cek_by e random) (header_of e random) (per_recipient_header e.given (is_alone e.receivers) (delivery e (cek_by e random) x)) x
+  pub headed : IsHeaded e (cek_by e random) (header_of e random) (per_recipient_header e.given (is_alone e.recipient_keys) (delivery e (cek_by e random) x)) x
 
 -- the protected header may be written, and reads back
 pub record Writes (e : EncryptionPlan) (random : List ℕ) : Type 0 where
@@ -127,7 +128,7 @@ writes laws keys e random by key_octets octets long =
     let all : AllByRecursion (IsReady e cek) (drawn_by_each e random) =
     all_both (λ x drawn delivers. ready laws e cek x drawn delivers) (drawn_by_each e random) (each_drawn (Receives e) e random by.receive octets long)
     (each_delivered keys e random by key_octets octets long) in
-    let headers = headed e cek e.receivers (for_receivers e random) by.protected by.disjoint by.some all in
+    let headers = headed e cek e.recipient_keys (for_recipients e random) by.protected by.disjoint by.some all in
     record {
       header = headers.0;
       back = read_back (header_of e random) headers.0.json headers.0.shallow;
@@ -138,18 +139,18 @@ writes laws keys e random by key_octets octets long =
 
 -- what is given of a recipient
 abbrev pub given_by : EncryptionPlan → List ℕ → RecipientKey × List ℕ → RecipientParts
-given_by e cek x = recipient_by e.given (is_alone e.receivers) (delivery e cek x)
+given_by e cek x = recipient_parts_by e.given (is_alone e.recipient_keys) (delivery e cek x)
 
 -- the recipient that is made of it
 abbrev pub made_by : EncryptionPlan → List ℕ → RecipientKey × List ℕ → Recipient
-made_by e cek x = recipient (per_recipient_header e.given (is_alone e.receivers) (delivery e cek x)) (delivery e cek x) e.encryption
+made_by e cek x = recipient (per_recipient_header e.given (is_alone e.recipient_keys) (delivery e cek x)) (delivery e cek x) e.encryption
 
--- the recipients are given by the receivers with their octets
+-- the recipients are given by the recipient keys with their octets
 pub recipients_are : (e : EncryptionPlan) (random : List ℕ) → recipients_by e random ≡ map (given_by e (cek_by e random)) (drawn_by_each e random)
 recipients_are e random =
     let cek : List ℕ = cek_by e random in
-    let by : Delivery → RecipientParts = recipient_by e.given (is_alone e.receivers) in
-    ap (map by) (deliveries_are e cek e.receivers (for_receivers e random)) ∙ map-map by (delivery e cek) (drawn_by_each e random)
+    let by : Delivery → RecipientParts = recipient_parts_by e.given (is_alone e.recipient_keys) in
+    ap (map by) (deliveries_are e cek e.recipient_keys (for_recipients e random)) ∙ map-map by (delivery e cek) (drawn_by_each e random)
 
 -- so they are read
 pub recipients_are_read : (keys : List OctetKey) (e : EncryptionPlan) (random : List ℕ) → Settles keys e → Writes e random
@@ -159,6 +160,6 @@ recipients_are_read keys e random by is =
     let cek : List ℕ = cek_by e random in
     each_made {P = IsWritten e random} (recipient_of management_algs (header_of e random) e.unprotected) (given_by e cek) (made_by e cek)
     (λ x written.
-    recipient_is_read e.given x.0.management x.1 e.p2c _ _ e.encryption (header_of e random) e.unprotected (per_recipient_header e.given (is_alone e.receivers) (delivery e cek x)) (joint_of e)
+    recipient_is_read e.given x.0.management x.1 e.p2c _ _ e.encryption (header_of e random) e.unprotected (per_recipient_header e.given (is_alone e.recipient_keys) (delivery e cek x)) (joint_of e)
     written.headed.joint written.ready.receives.awaits by.enc written.ready.parameters)
     (drawn_by_each e random) is.each_written

@@ -29,7 +29,7 @@ use Rattle.tokens.specs.Algorithms.{content_alg}
 use Rattle.tokens.specs.Choosing.{RecipientKey, EncryptionPlan, read_encryption}
 use Rattle.tokens.specs.Decrypting.{additional_authenticated_data}
 use Rattle.tokens.specs.Delivering.{drawn_for_all}
-use Rattle.tokens.specs.Encrypting.{cek_drawn, random_len, for_receivers, after_receivers, cek_by, iv_by, header_of, header_by, recipients_by, sealing_by, sealed_by, parts_by, encrypted, written_of, plan_by, enc_plan}
+use Rattle.tokens.specs.Encrypting.{cek_drawn, random_len, for_recipients, after_recipients, cek_by, iv_by, header_of, header_by, recipients_by, sealing_by, sealed_by, parts_by, encrypted, written_of, plan_by, enc_plan}
 use Rattle.tokens.proofs.DeliveredKeys.{as_many_drawn, IsCek, Delivers, after_long, cek_by_is, drawn_by_each, each_delivered}
 use Rattle.tokens.proofs.HeaderTexts.{shallow_enough}
 use Rattle.tokens.proofs.EncryptedHeaders.{IsWritten, Writes, writes, given_by, made_by, recipients_are, recipients_are_read}
@@ -62,12 +62,12 @@ one_enc : (e : EncryptionPlan) (cek : List ℕ) (xs : List (RecipientKey × List
 one_enc e cek [] = refl
 one_enc e cek (x ∷ rest) = all_have_enc e cek (x ∷ rest)
 
--- as many recipients are given as there are receivers
-as_many : (e : EncryptionPlan) (random : List ℕ) → length (map (given_by e (cek_by e random)) (drawn_by_each e random)) ≡ length e.receivers
-as_many e random = length-map (drawn_by_each e random) (given_by e (cek_by e random)) ∙ as_many_drawn e.receivers (for_receivers e random)
+-- as many recipients are given as there are recipient keys
+as_many : (e : EncryptionPlan) (random : List ℕ) → length (map (given_by e (cek_by e random)) (drawn_by_each e random)) ≡ length e.recipient_keys
+as_many e random = length-map (drawn_by_each e random) (given_by e (cek_by e random)) ∙ as_many_drawn e.recipient_keys (for_recipients e random)
 
 -- so the object is built of its members
-pub built_is : (limits : Limits) → limits.management ≡ management_algs → (keys : List OctetKey) (e : EncryptionPlan) (random : List ℕ) (s : Sealed) → Settles keys e → Writes e random → are_few limits (length e.receivers) ≡ true
+pub built_is : (limits : Limits) → limits.management ≡ management_algs → (keys : List OctetKey) (e : EncryptionPlan) (random : List ℕ) (s : Sealed) → Settles keys e → Writes e random → are_few limits (length e.recipient_keys) ≡ true
     → built limits (parts_by e random s) ≡ Ok (object_by e random s)
 unfolding built encrypted_object recipients_of_one_enc
 built_is limits known keys e random s by is few =
@@ -85,7 +85,7 @@ built_is limits known keys e random s by is few =
     all_pass {P = IsWritten e random} (λ r. member_numbers_are_whole r.header) given (λ x w. numbers_whole (object (given x).header) w.headed.written.json) xs is.each_written in
     let plain : list_all (λ r. has_no_crit_or_zip r.header) (map given xs) ≡ true =
     all_pass {P = IsWritten e random} (λ r. has_no_crit_or_zip r.header) given (λ x w. w.headed.written.plain) xs is.each_written in
-    let some : nat_le 1 (length (map given xs)) ≡ true = ap (nat_le 1) (as_many e random) ∙ le-leb 1 (length e.receivers) by.some in
+    let some : nat_le 1 (length (map given xs)) ≡ true = ap (nat_le 1) (as_many e random) ∙ le-leb 1 (length e.recipient_keys) by.some in
     let few_given : are_few limits (length (map given xs)) ≡ true = ap (λ k. are_few limits k) (as_many e random) ∙ few in
     rw (
       known,
@@ -105,10 +105,10 @@ built_is limits known keys e random s by is few =
       plain,
     ) refl
 
--- what is built has no more receivers than an object may have
-pub few_receivers : (limits : Limits) (e : EncryptionPlan) (random : List ℕ) (s : Sealed) (o : EncryptedObject) → built limits (parts_by e random s) ≡ Ok o → are_few limits (length e.receivers) ≡ true
-few_receivers limits e random s o made =
-    let given : length (recipients_by e random) ≡ length e.receivers = rw recipients_are (as_many e random) in
+-- what is built has no more recipient keys than an object may have recipients
+pub few_recipient_keys : (limits : Limits) (e : EncryptionPlan) (random : List ℕ) (s : Sealed) (o : EncryptedObject) → built limits (parts_by e random s) ≡ Ok o → are_few limits (length e.recipient_keys) ≡ true
+few_recipient_keys limits e random s o made =
+    let given : length (recipients_by e random) ≡ length e.recipient_keys = rw recipients_are (as_many e random) in
     ap (λ k. are_few limits k) (sym given) ∙ (jwe_is_built limits (parts_by e random s) o made).few
 
 -- ---- what is sealed
@@ -128,7 +128,7 @@ sealed_is s p made h =
 -- ---- what is encrypted
 
 -- What is encrypted by just as many random octets as are drawn: what the plaintext is sealed to, and the object that is made of it. The
--- content encryption key is delivered to each receiver, the plaintext opens what is sealed, and the members are as JSON has them, or
+-- content encryption key is delivered to each recipient, the plaintext opens what is sealed, and the members are as JSON has them, or
 -- octets.
 pub record IsEncrypted (limits : Limits) (e : EncryptionPlan) (random plaintext : List ℕ) (o : EncryptedObject) : Type 0 where
   pub sealed : Sealed
@@ -142,12 +142,12 @@ pub record IsEncrypted (limits : Limits) (e : EncryptionPlan) (random plaintext 
 are_members : (keys : List OctetKey) (e : EncryptionPlan) (random : List ℕ) (s : Sealed) → Settles keys e → Writes e random → IsOctets random
     → IsOctets s.ciphertext → IsOctets s.tag → AreMembers (parts_by e random s)
 are_members keys e random s by w random_octets ciphertext tag =
-    let later : List ℕ = after_receivers e random in
+    let later : List ℕ = after_recipients e random in
     let P : RecipientParts → Type 0 = λ r. AreJsonMembers r.header × IsOctets r.encrypted_key in
     record {
       protected = (url_texts_are_json (base64url (header_by e random)) (has_url_characters (header_by e random) w.back.octets)).0;
       unprotected = by.unprotected.json;
-      iv = IsOctets-drop (cek_drawn e) later (IsOctets-drop (drawn_for_all e.receivers) random random_octets);
+      iv = IsOctets-drop (cek_drawn e) later (IsOctets-drop (drawn_for_all e.recipient_keys) random random_octets);
       aad = by.aad;
       ciphertext = ciphertext;
       tag = tag;
@@ -172,10 +172,10 @@ is_encrypted laws limits known keys e random plaintext o key_octets random_octet
     let s : Sealed = made.0 in
     let sealed = sealed_is (sealing_by e random) plaintext s made.1 in
     let w : Writes e random = writes laws keys e random by key_octets random_octets long in
-    let is_cek : IsCek e.encryption e.receivers cek = cek_by_is keys e random by key_octets random_octets long in
+    let is_cek : IsCek e.encryption e.recipient_keys cek = cek_by_is keys e random by key_octets random_octets long in
     let delivers = each_delivered keys e random by key_octets random_octets long in
-    let later : List ℕ = after_receivers e random in
-    let start : IsOctets iv = IsOctets-drop (cek_drawn e) later (IsOctets-drop (drawn_for_all e.receivers) random random_octets) in
+    let later : List ℕ = after_recipients e random in
+    let start : IsOctets iv = IsOctets-drop (cek_drawn e) later (IsOctets-drop (drawn_for_all e.recipient_keys) random random_octets) in
     let opens : IsOpening enc cek iv authentic s.ciphertext s.tag plaintext = record {
       cek_fits = is_cek.fits;
       iv_fits = length-drop (cek_drawn e) later ∙ omega (arith, after_long e random long);
@@ -191,7 +191,7 @@ is_encrypted laws limits known keys e random plaintext o key_octets random_octet
       opens = opens;
       members = are_members keys e random s by w random_octets both.0 both.1;
       made = made.2;
-      is = same_answer (object_by e random s) o (sym (built_is limits known keys e random s by w (few_receivers limits e random s o made.2)) ∙ made.2);
+      is = same_answer (object_by e random s) o (sym (built_is limits known keys e random s by w (few_recipient_keys limits e random s o made.2)) ∙ made.2);
     }
 
 -- what is written of an object is its text, and its ciphertext beside it where this is detached

@@ -18,7 +18,7 @@ use Rattle.tokens.specs.Algorithms.{content_alg, key_alg, parameters_by}
 use Rattle.tokens.specs.Choosing.{RecipientKey, password_count, EncryptionPlan}
 use Rattle.tokens.specs.Decrypting.{all_pairs, is_candidate, SealedContent, sealed_content, cek_of, opened_by, decrypted}
 use Rattle.tokens.specs.Delivering.{drawn_for}
-use Rattle.tokens.specs.Encrypting.{random_len, for_receivers, cek_by, encrypted, written_of, parts_by, enc_plan, AreSound, OpensNoOther, EncryptedDecrypts}
+use Rattle.tokens.specs.Encrypting.{random_len, for_recipients, cek_by, encrypted, written_of, parts_by, enc_plan, AreSound, OpensNoOther, EncryptedDecrypts}
 use Rattle.tokens.proofs.Beginnings.{handed_back}
 use Rattle.tokens.proofs.DecryptedPairs.{algorithms_by, pair_by, TakeAtMost, take_at_most, Opens, first_opens, supported, opened_is_decrypted}
 use Rattle.tokens.proofs.DeliveredKeys.{with_drawn, IsDrawn, as_many_drawn, Delivers, drawn_by_each, each_drawn}
@@ -63,7 +63,7 @@ opened_is laws e cek x s plaintext start is opens =
     rw ((laws.delivers (key_alg x.0.management) (content_alg e.encryption) x.0.key.octets (parameters_by r.management) r.encrypted_key cek is.key).1 is.delivers)
     ((laws.opens (content_alg e.encryption) cek s.iv s.aad s.ciphertext s.tag plaintext is.delivers.octets start).1 opens)
 
--- so a receiver's key that may decrypt opens the plaintext
+-- so a recipient's key that may decrypt opens the plaintext
 key_opens : Laws → (e : EncryptionPlan) (cek : List ℕ) (key : OctetKey) (x : RecipientKey × List ℕ) (s : SealedContent) (plaintext : List ℕ) → IsOctets s.iv → Receives e x.0
     → (x.0.key ≡ key → allows key (management_operations x.0.management).1 ≡ true) → Delivers e cek x
     → IsOpening (content_alg e.encryption) cek s.iv s.aad s.ciphertext s.tag plaintext → Opens e cek key s plaintext x
@@ -72,14 +72,14 @@ key_opens laws e cek key x s plaintext start receives may delivers opens same =
     subst (λ k. (is_candidate (algorithms_by e x.0) k ≡ true) × (opened_by s (pair_by e cek k x) ≡ Some plaintext)) same
     (candidate_is e x.0 may_own receives.fit, opened_is laws e cek x s plaintext start delivers opens)
 
--- the keys of receivers with their octets
-keys_of_drawn : (receivers : List RecipientKey) (drawn : List ℕ) → map (λ x. x.0.key) (with_drawn receivers drawn) ≡ map (λ r. r.key) receivers
+-- the keys of recipients with their octets
+keys_of_drawn : (recipient_keys : List RecipientKey) (drawn : List ℕ) → map (λ x. x.0.key) (with_drawn recipient_keys drawn) ≡ map (λ r. r.key) recipient_keys
 keys_of_drawn [] drawn = refl
 keys_of_drawn (r ∷ rest) drawn = ap (λ keys. r.key ∷ keys) (keys_of_drawn rest (drop (drawn_for r) drawn))
 
 -- the object is decrypted with each key alone that may decrypt
 decrypts : Laws → (limits : Limits) → limits.management ≡ management_algs → (before after : List OctetKey) (key : OctetKey) (e : EncryptionPlan) (random plaintext : List ℕ) (o : EncryptedObject) → Settles (before ++ key ∷ after) e → TakesFew limits e → IsOctets random
-    → length random ≡ random_len e → AllByRecursion (λ r. r.key ≡ key → allows key (management_operations r.management).1 ≡ true) e.receivers
+    → length random ≡ random_len e → AllByRecursion (λ r. r.key ≡ key → allows key (management_operations r.management).1 ≡ true) e.recipient_keys
     → (is : IsEncrypted limits e random plaintext o) → OpensNoOther (length before) key (object_by e random is.sealed) plaintext
     → decrypted limits (key ∷ []) (object_by e random is.sealed) ≡ Ok plaintext
 decrypts laws limits known before after key e random plaintext o by few random_octets long may is only =
@@ -89,21 +89,21 @@ decrypts laws limits known before after key e random plaintext o by few random_o
     let xs : List (RecipientKey × List ℕ) = drawn_by_each e random in
     let P : RecipientKey → Type 0 = λ r. Receives e r × (r.key ≡ key → allows key (management_operations r.management).1 ≡ true) in
     let each_may : AllByRecursion (IsDrawn P) xs =
-    each_drawn P e random (all_both (λ r receives may. (receives, may)) e.receivers by.receive may) random_octets long in
+    each_drawn P e random (all_both (λ r receives may. (receives, may)) e.recipient_keys by.receive may) random_octets long in
     let each_opens : AllByRecursion (Opens e cek key s plaintext) xs =
     all_both (λ x may delivers. key_opens laws e cek key x s plaintext is.members.iv may.holds.0 may.holds.1 delivers is.opens) xs each_may is.delivers in
-    let most : TakeAtMost limits.greatest_p2c_read (password_count e.receivers * e.p2c) (all_pairs management_algs (key ∷ []) all.recipients) =
-    take_at_most limits.greatest_p2c_read e cek key e.receivers (for_receivers e random) few.each_few in
-    opened_is_decrypted limits known key all plaintext (supported e cek xs (omega (arith, as_many_drawn e.receivers (for_receivers e random), by.some)))
+    let most : TakeAtMost limits.greatest_p2c_read (password_count e.recipient_keys * e.p2c) (all_pairs management_algs (key ∷ []) all.recipients) =
+    take_at_most limits.greatest_p2c_read e cek key e.recipient_keys (for_recipients e random) few.each_few in
+    opened_is_decrypted limits known key all plaintext (supported e cek xs (omega (arith, as_many_drawn e.recipient_keys (for_recipients e random), by.some)))
     (record { each_few = most.each_few; all_few = omega (arith, most.all_few, few.all_few) })
-    (first_opens e cek key s plaintext before after xs (keys_of_drawn e.receivers (for_receivers e random) ∙ by.keys_are) each_opens only)
+    (first_opens e cek key s plaintext before after xs (keys_of_drawn e.recipient_keys (for_recipients e random) ∙ by.keys_are) each_opens only)
 
 -- so what is written of it is that of an object which is decrypted
 read_and_decrypted : Laws → (limits : Limits) → limits.management ≡ management_algs → (compact detach : Bool) (keys : List OctetKey) (e : EncryptionPlan) (random plaintext : List ℕ) (texts : OutputTexts)
     → AreOctetKeys keys → IsOctets random → IsOctets plaintext → length random ≡ random_len e → Settles keys e → TakesFew limits e
     → (encrypted limits e random plaintext >>= written_of compact detach) ≡ Ok texts
     → (o : EncryptedObject) × ((jwe_of limits (handed_in detach texts.content) texts.text ≡ Ok o)
-    × ((before after : List OctetKey) (key : OctetKey) → keys ≡ before ++ key ∷ after → AllByRecursion (λ r. r.key ≡ key → allows key (management_operations r.management).1 ≡ true) e.receivers
+    × ((before after : List OctetKey) (key : OctetKey) → keys ≡ before ++ key ∷ after → AllByRecursion (λ r. r.key ≡ key → allows key (management_operations r.management).1 ≡ true) e.recipient_keys
     → OpensNoOther (length before) key o plaintext → decrypted limits (key ∷ []) o ≡ Ok plaintext))
 read_and_decrypted laws limits known compact detach keys e random plaintext texts key_octets random_octets octets long by few h =
     let o = steps (encrypted limits e random plaintext) (written_of compact detach) texts h in

@@ -15,7 +15,7 @@ use Rattle.objects.specs.Jwe.{EncryptedObject, built, parts_of, with_compact, is
 use Rattle.objects.specs.Texts.{has_members}
 use Rattle.objects.specs.Writing.{nothing_written, inside}
 use Rattle.tokens.specs.Choosing.{RecipientKey, is_alone, EncryptionPlan}
-use Rattle.tokens.specs.Encrypting.{random_len, for_receivers, cek_by, sealing_by, sealed_by, parts_by, encrypted, written_of, plan_by, EncryptingMakesTexts}
+use Rattle.tokens.specs.Encrypting.{random_len, for_recipients, cek_by, sealing_by, sealed_by, parts_by, encrypted, written_of, plan_by, EncryptingMakesTexts}
 use Rattle.tokens.specs.Template.{is_empty}
 use Rattle.tokens.proofs.DeliveredKeys.{drawn_by_each, as_many_drawn}
 use Rattle.tokens.proofs.EncryptedHeaders.{OctetLaws, Writes, writes, made_by}
@@ -29,27 +29,27 @@ no_members_there no_members h = refl
 no_members_there (member k d rest) h = cc h
 
 -- where nothing more is to be held, compact form can hold an object with one recipient
-fits : (e : EncryptionPlan) (cek : List ℕ) (o : EncryptedObject) (xs : List (RecipientKey × List ℕ)) → is_alone e.receivers ≡ true → length xs ≡ length e.receivers → 1 ≤ length e.receivers
+fits : (e : EncryptionPlan) (cek : List ℕ) (o : EncryptedObject) (xs : List (RecipientKey × List ℕ)) → is_alone e.recipient_keys ≡ true → length xs ≡ length e.recipient_keys → 1 ≤ length e.recipient_keys
     → not (has_members o.unprotected) ≡ true → (length o.aad == 0) ≡ true → is_compact o (map (made_by e cek) xs) ≡ true
 fits e cek o [] alone long some unprotected aad = absurd (omega (arith, long))
 fits e cek o (x ∷ []) alone long some unprotected aad = rw (unprotected, alone, aad) refl
-fits e cek o (x ∷ (other ∷ rest)) alone long some unprotected aad = absurd (omega (arith, long, leb-true (length e.receivers) 1 alone))
+fits e cek o (x ∷ (other ∷ rest)) alone long some unprotected aad = absurd (omega (arith, long, leb-true (length e.recipient_keys) 1 alone))
 
 -- so the object has a text
-pub has_text : (compact detach : Bool) (e : EncryptionPlan) (random : List ℕ) (s : Sealed) → holds_no_more compact e ≡ true → 1 ≤ length e.receivers
+pub has_text : (compact detach : Bool) (e : EncryptionPlan) (random : List ℕ) (s : Sealed) → holds_no_more compact e ≡ true → 1 ≤ length e.recipient_keys
     → (text : List ℕ) × (jwe_text compact detach (object_by e random s) ≡ Ok text)
 unfolding jwe_compact_text
 has_text true detach e random s alone some =
     let o : EncryptedObject = object_by e random s in
-    let first = and_parts (is_alone e.receivers) (is_empty e.unprotected && (length e.aad == 0)) alone in
+    let first = and_parts (is_alone e.recipient_keys) (is_empty e.unprotected && (length e.aad == 0)) alone in
     let second = and_parts (is_empty e.unprotected) (length e.aad == 0) first.1 in
     let held : is_compact o o.recipients ≡ true =
-    fits e (cek_by e random) o (drawn_by_each e random) first.0 (as_many_drawn e.receivers (for_receivers e random)) some (no_members_there e.unprotected second.0) second.1 in
+    fits e (cek_by e random) o (drawn_by_each e random) first.0 (as_many_drawn e.recipient_keys (for_recipients e random)) some (no_members_there e.unprotected second.0) second.1 in
     ((with_compact (inside detach o.ciphertext) (parts_of o) (nothing_written false)).text, rw held refl)
 has_text false detach e random s alone some = (json_text detach (object_by e random s), refl)
 
 -- and every plaintext that is not too long
-whole_text : (compact detach : Bool) (keys : List OctetKey) (e : EncryptionPlan) (random plaintext : List ℕ) → Settles keys e → Writes e random → are_few limits (length e.receivers) ≡ true
+whole_text : (compact detach : Bool) (keys : List OctetKey) (e : EncryptionPlan) (random plaintext : List ℕ) → Settles keys e → Writes e random → are_few limits (length e.recipient_keys) ≡ true
     → holds_no_more compact e ≡ true → IfErr ((plan_by limits compact detach e random).whole plaintext) (λ refusal. refusal ≡ Limit)
 unfolding encrypted sealed_by
 whole_text compact detach keys e random plaintext by w few alone = by_test (not (is_longer (length plaintext) (sealing_by e random).longest))
@@ -67,7 +67,7 @@ encrypting_makes_texts laws compact detach keys template random plaintext plan f
     let is = plan_is limits compact detach keys template random plan h in
     let e : EncryptionPlan = is.0 in
     let by = settles limits these_are_sound compact keys template e is.1 in
-    let long : length e.receivers ≡ length keys = sym (length-map e.receivers (λ r. r.key)) ∙ ap length by.keys_are in
+    let long : length e.recipient_keys ≡ length keys = sym (length-map e.recipient_keys (λ r. r.key)) ∙ ap length by.keys_are in
     let w = writes laws keys e (take (random_len e) random) by key_octets (IsOctets-take (random_len e) random octets) is.2 in
     subst (λ (p : Plan OutputTexts). IfErr (p.whole plaintext) (λ refusal. refusal ≡ Limit)) is.3
     (whole_text compact detach keys e (take (random_len e) random) plaintext by w (ap (λ n. are_few limits n) long ∙ few) (stands_alone limits these_are_sound compact keys template e is.1))

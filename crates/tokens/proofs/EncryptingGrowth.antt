@@ -15,8 +15,8 @@ use Rattle.tokens.specs.Decrypting.{additional_authenticated_data}
 use Rattle.tokens.specs.Encrypting.{random_len, cek_by, iv_by, header_by, sealing_by, encrypted, frame_by, text_before, within_longest, written_of, ciphertext_fixed, text_fixed, plan_by, EncryptingGrows}
 use Rattle.tokens.proofs.Beginnings.{begins_behind, empty_begins, groups_grow, frame_begins, handed_out_begins, BothBegin, both_grow_by_beginnings}
 use Rattle.tokens.proofs.DeliveredKeys.{cek_by_is}
-use Rattle.tokens.proofs.Sealed.{all_within}
-use Rattle.tokens.proofs.EncryptedObjects.{OctetLaws, few_receivers, encrypting_steps, sealed_is, plan_is, settles}
+use Rattle.tokens.proofs.SealedPlans.{all_within}
+use Rattle.tokens.proofs.EncryptedObjects.{OctetLaws, few_recipient_keys, encrypting_steps, sealed_is, plan_is, settles}
 use Rattle.tokens.proofs.SoundLimits.{these_are_sound}
 use Rattle.tokens.proofs.EncryptionFrames.{has_frame, frame, whole_is}
 
@@ -76,7 +76,7 @@ written_begins laws compact detach keys template e random p q texts key_octets r
     let made = encrypting_steps limits e random (p ++ q) o.0 o.1 in
     let s : Sealed = made.0 in
     let sealed = sealed_is (sealing_by e random) (p ++ q) s made.1 in
-    let few : are_few limits (length e.receivers) ≡ true = few_receivers limits e random s o.0 made.2 in
+    let few : are_few limits (length e.recipient_keys) ≡ true = few_recipient_keys limits e random s o.0 made.2 in
     let cek = cek_by_is keys e random (settles limits these_are_sound compact keys template e is) key_octets random_octets long in
     let framed = has_frame compact keys template e random is few laws key_octets random_octets long detach in
     let begins : Begins front s.ciphertext = subst (λ (x : Sealed). Begins front x.ciphertext) sealed.1 (fixed_begins e random p q sealed.0) in

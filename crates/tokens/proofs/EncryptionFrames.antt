@@ -21,7 +21,7 @@ use Rattle.tokens.specs.Algorithms.{content_alg}
 use Rattle.tokens.specs.Choosing.{EncryptionPlan, read_encryption}
 use Rattle.tokens.specs.Decrypting.{additional_authenticated_data}
 use Rattle.tokens.specs.Delivering.{drawn_for_all}
-use Rattle.tokens.specs.Encrypting.{cek_drawn, random_len, after_receivers, cek_by, iv_by, header_by, sealing_by, sealed_by, parts_by, encrypted, unsealed, frame_by, written_of, plan_by, enc_plan}
+use Rattle.tokens.specs.Encrypting.{cek_drawn, random_len, after_recipients, cek_by, iv_by, header_by, sealing_by, sealed_by, parts_by, encrypted, unsealed, frame_by, written_of, plan_by, enc_plan}
 use Rattle.tokens.specs.SealedTexts.{IsUnsealed}
 use Rattle.tokens.proofs.DeliveredKeys.{after_long}
 use Rattle.tokens.proofs.EncryptedHeaders.{OctetLaws, Writes, writes}
@@ -33,7 +33,7 @@ use Rattle.tokens.proofs.SettledEncryptions.{Settles, settles, stands_alone}
 
 -- keys and a template settle an encryption, and so many octets are drawn as it takes
 module _ (compact : Bool) (keys : List OctetKey) (template : List ℕ) (e : EncryptionPlan) (random : List ℕ)
-    (is : read_encryption limits compact keys template ≡ Ok e) (few : are_few limits (length e.receivers) ≡ true) (laws : OctetLaws) (key_octets : AreOctetKeys keys)
+    (is : read_encryption limits compact keys template ≡ Ok e) (few : are_few limits (length e.recipient_keys) ≡ true) (laws : OctetLaws) (key_octets : AreOctetKeys keys)
     (random_octets : IsOctets random) (long : length random ≡ random_len e) where
   by : Settles keys e
   by = settles limits these_are_sound compact keys template e is
@@ -75,8 +75,8 @@ module _ (compact : Bool) (keys : List OctetKey) (template : List ℕ) (e : Encr
   module _ (cek : IsOctets (cek_by e random)) (cek_fits : length (cek_by e random) ≡ cek_len (content_alg e.encryption)) where
     sealed_octets : (p : List ℕ) → IsOctets p → (IsTooLong (sealing_by e random) p → ⊥) → IsOctets ((sealing_by e random).sealed p).ciphertext × IsOctets ((sealing_by e random).sealed p).tag
     sealed_octets p octets short =
-        let later : List ℕ = after_receivers e random in
-        let iv : IsOctets (iv_by e random) = IsOctets-drop (cek_drawn e) later (IsOctets-drop (drawn_for_all e.receivers) random random_octets) in
+        let later : List ℕ = after_recipients e random in
+        let iv : IsOctets (iv_by e random) = IsOctets-drop (cek_drawn e) later (IsOctets-drop (drawn_for_all e.recipient_keys) random random_octets) in
         laws.opened (content_alg e.encryption) (cek_by e random) (iv_by e random) (additional_authenticated_data (base64url (header_by e random)) e.aad) _ _ p cek iv (record {
           cek_fits = cek_fits;
           iv_fits = length-drop (cek_drawn e) later ∙ omega (arith, after_long e random long);
@@ -101,15 +101,15 @@ module _ (compact : Bool) (keys : List OctetKey) (template : List ℕ) (e : Encr
 -- ---- what is settled before there is a plaintext
 
 pub is_unsealed : {S : Type 0} (is_sealing : S → Sealing → List ℕ → Type 0) (compact detach : Bool) (keys : List OctetKey) (template : List ℕ) (e : EncryptionPlan) (random octets rest : List ℕ) (sealer : S) (texts : List (List ℕ))
-    → read_encryption limits compact keys template ≡ Ok e → are_few limits (length e.receivers) ≡ true → OctetLaws → AreOctetKeys keys → IsOctets random
+    → read_encryption limits compact keys template ≡ Ok e → are_few limits (length e.recipient_keys) ≡ true → OctetLaws → AreOctetKeys keys → IsOctets random
     → length random ≡ random_len e → octets ≡ random ++ rest
     → is_sealing sealer (sealing_by e random) [] → frame_by limits compact detach e random ≡ Ok texts → IsOctets (cek_by e random) × (length (cek_by e random) ≡ cek_len (content_alg e.encryption))
     → IsUnsealed is_sealing compact detach (plan_from (enc_plan limits compact detach keys template) octets) sealer texts
-is_unsealed is_sealing compact detach keys template e random octets rest sealer texts is few laws key_octets random_octets long continues begun framed cek = record {
+is_unsealed is_sealing compact detach keys template e random octets rest sealer texts is few laws key_octets random_octets long continues started framed cek = record {
   encryption = e;
   random = random;
   is = plan_of_drawn limits compact detach keys template e random octets rest is long continues;
-  begun = begun;
+  started = started;
   framed = framed;
   places = (frame compact keys template e random is few laws key_octets random_octets long detach texts framed).places;
   whole = whole_is compact keys template e random is few laws key_octets random_octets long cek.0 cek.1 detach texts framed;

@@ -2,7 +2,6 @@
 use Rattle.std.proofs.Common.{◌≡◌, List, [], ◌∷◌, length, ◌==◌, String, string_bytes, Global, true, false, Result, Ok, Err, IfOk, sym, ap, ◌∙◌, refl}
 use Rattle.std.proofs.Math.Dec.{eqb-suc-zero}
 use Rattle.std.specs.BTreeMap.{BTreeMap}
-use Rattle.std.specs.List.{AllZip}
 use Rattle.serde_json.specs.Data.{object}
 use Rattle.serde_json.specs.View.{view, members_view}
 use Rattle.serde_json.specs.Written.{compact_text, has_float, members_have_float}
@@ -13,13 +12,6 @@ use Rattle.tokens.specs.Template.{is_empty, header_text}
 pub empty_members : (entries : List Entry) → is_empty (members_view entries) ≡ (length entries == 0)
 empty_members [] = refl
 empty_members (entry ∷ entries) = sym (eqb-suc-zero (length entries))
-
--- a copy stands for the same members
-pub copied_members : (entries copies : List Entry) → AllZip (λ (p q : Entry). (string_bytes q.0 ≡ string_bytes p.0) × (view q.1 ≡ view p.1)) entries copies → members_view copies ≡ members_view entries
-copied_members [] [] h = refl
-copied_members [] (copy ∷ copies) h = absurd h
-copied_members (entry ∷ entries) [] h = absurd h
-copied_members (entry ∷ entries) (copy ∷ copies) h = rw (h.0.0, h.0.1, copied_members entries copies h.1) refl
 
 -- the members of a header that has some are its text
 pub text_of_some : (entries : List Entry) → (length entries == 0) ≡ false → header_text (members_view entries) ≡ compact_text (object (members_view entries))

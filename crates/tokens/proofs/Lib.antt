@@ -2,7 +2,7 @@ pub mod Tests
 pub mod Encoded
 pub mod HeldInputs
 pub mod VerifyingInputs
-pub mod BegunInputs
+pub mod StartedInputs
 pub mod WrittenSignatures
 pub mod SignedAlike
 pub mod FramedSigning
@@ -11,11 +11,11 @@ pub mod StandingSignatures
 pub mod HeaderMembers
 pub mod HeaderTexts
 pub mod AlgorithmCases
-pub mod Receivers
+pub mod RecipientKeys
 pub mod PairLists
 pub mod TriedPairs
 pub mod Iterations
-pub mod Sealed
+pub mod SealedPlans
 pub mod Openings
 pub mod ReadLists
 pub mod Beginnings

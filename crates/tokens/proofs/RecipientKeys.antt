@@ -1,4 +1,4 @@
--- Receivers of a content encryption key: what a test of all of them says of each, and what is counted over them.
+-- Keys that receive a content encryption key: what a test of all of them says of each, and what is counted over them.
 use Rattle.std.proofs.Common.{◌≡◌, ℕ, zero, suc, ◌≤◌, Bool, true, false, not, nat_le, List, [], ◌∷◌, length, map, Some, None, Ok, refl, sym, ap, ◌∙◌, subst, arith}
 use Rattle.std.proofs.lemmas.Bool.{leb-true, le-leb, lt-leb, and_parts, and_from, or_left, or_right}
 use Rattle.std.proofs.lemmas.List.{length-map}
@@ -55,30 +55,30 @@ list_any-map p h [] = refl
 list_any-map p h (y ∷ ys) = ap (λ others. p (h y) || others) (list_any-map p h ys)
 
 -- all that may encrypt fit
-pub all_fit : (enc : ContentEncryptionAlg) (receivers : List Code) → list_all (may_encrypt enc) (map recipient_key_view receivers) ≡ true
-    → list_all (λ r. fits (key_view r.key.now) (EncryptionWith r.management enc)) receivers ≡ true
-all_fit enc receivers all =
-    all_pass_other (λ r. may_encrypt enc (recipient_key_view r)) (λ r. fits (key_view r.key.now) (EncryptionWith r.management enc)) receivers
+pub all_fit : (enc : ContentEncryptionAlg) (recipient_keys : List Code) → list_all (may_encrypt enc) (map recipient_key_view recipient_keys) ≡ true
+    → list_all (λ r. fits (key_view r.key.now) (EncryptionWith r.management enc)) recipient_keys ≡ true
+all_fit enc recipient_keys all =
+    all_pass_other (λ r. may_encrypt enc (recipient_key_view r)) (λ r. fits (key_view r.key.now) (EncryptionWith r.management enc)) recipient_keys
     (λ r may. (and_parts (allows (key_view r.key.now) (management_operations r.management).0) (fits (key_view r.key.now) (EncryptionWith r.management enc)) may).1)
-    (sym (list_all-map (may_encrypt enc) recipient_key_view receivers) ∙ all)
+    (sym (list_all-map (may_encrypt enc) recipient_key_view recipient_keys) ∙ all)
 
 -- where there are several that stand together, none is used directly
-pub all_stand_together : (receivers : List Code) → direct_key_is_alone (map recipient_key_view receivers) ≡ true
-    → list_all (λ r. not (is_direct r.management) || nat_le (length receivers) 1) receivers ≡ true
-all_stand_together receivers together =
-    by_count (nat_le (length receivers) 1) (rw (sym (ap (λ n. nat_le n 1) (length-map receivers recipient_key_view))) together)
+pub all_stand_together : (recipient_keys : List Code) → direct_key_is_alone (map recipient_key_view recipient_keys) ≡ true
+    → list_all (λ r. not (is_direct r.management) || nat_le (length recipient_keys) 1) recipient_keys ≡ true
+all_stand_together recipient_keys together =
+    by_count (nat_le (length recipient_keys) 1) (rw (sym (ap (λ n. nat_le n 1) (length-map recipient_keys recipient_key_view))) together)
   where
-    by_count : (few : Bool) → (few || not (list_any (λ r. is_direct r.management) (map recipient_key_view receivers))) ≡ true
-        → list_all (λ r. not (is_direct r.management) || few) receivers ≡ true
-    by_count true together = all_pass (λ r. not (is_direct r.management) || true) receivers (λ r. or_right (not (is_direct r.management)) true refl)
+    by_count : (few : Bool) → (few || not (list_any (λ r. is_direct r.management) (map recipient_key_view recipient_keys))) ≡ true
+        → list_all (λ r. not (is_direct r.management) || few) recipient_keys ≡ true
+    by_count true together = all_pass (λ r. not (is_direct r.management) || true) recipient_keys (λ r. or_right (not (is_direct r.management)) true refl)
     by_count false together =
-        all_pass_other (λ r. not (is_direct r.management)) (λ r. not (is_direct r.management) || false) receivers (λ r is. or_left (not (is_direct r.management)) false is)
-        (sym (list_all-map (λ r. not (is_direct r.management)) recipient_key_view receivers) ∙ none_passes (λ r. is_direct r.management) (map recipient_key_view receivers) together)
+        all_pass_other (λ r. not (is_direct r.management)) (λ r. not (is_direct r.management) || false) recipient_keys (λ r is. or_left (not (is_direct r.management)) false is)
+        (sym (list_all-map (λ r. not (is_direct r.management)) recipient_key_view recipient_keys) ∙ none_passes (λ r. is_direct r.management) (map recipient_key_view recipient_keys) together)
 
 -- where the number of iterations may be written, a password takes one at least
-pub all_counted : (p2c : ℕ) (receivers : List Code) → p2c_may_be_written limits (password_count (map recipient_key_view receivers)) p2c ≡ true
-    → list_all (λ r. not (is_password_based r.management) || nat_le 1 p2c) receivers ≡ true
-all_counted p2c receivers written = by_count (password_count (map recipient_key_view receivers)) refl written
+pub all_counted : (p2c : ℕ) (recipient_keys : List Code) → p2c_may_be_written limits (password_count (map recipient_key_view recipient_keys)) p2c ≡ true
+    → list_all (λ r. not (is_password_based r.management) || nat_le 1 p2c) recipient_keys ≡ true
+all_counted p2c recipient_keys written = by_count (password_count (map recipient_key_view recipient_keys)) refl written
   where
     by_first : (password some : Bool) (n : ℕ) (others : Bool) → (n ≡ 0 → others ≡ true) → (if password then suc n else n) ≡ 0 → ((not password || some) && others) ≡ true
     by_first true some n others rest none = absurd (omega (arith, none))
@@ -89,17 +89,17 @@ all_counted p2c receivers written = by_count (password_count (map recipient_key_
     none_counted (r ∷ list) none =
         by_first (is_password_based r.management) (nat_le 1 p2c) (password_count (map recipient_key_view list)) (list_all (λ q. not (is_password_based q.management) || nat_le 1 p2c) list) (none_counted list) none
 
-    by_count : (n : ℕ) → password_count (map recipient_key_view receivers) ≡ n → p2c_may_be_written limits n p2c ≡ true → list_all (λ r. not (is_password_based r.management) || nat_le 1 p2c) receivers ≡ true
-    by_count zero is written = none_counted receivers is
+    by_count : (n : ℕ) → password_count (map recipient_key_view recipient_keys) ≡ n → p2c_may_be_written limits n p2c ≡ true → list_all (λ r. not (is_password_based r.management) || nat_le 1 p2c) recipient_keys ≡ true
+    by_count zero is written = none_counted recipient_keys is
     by_count (suc n) is written =
         let least = and_parts (nat_le limits.least_p2c p2c) (nat_le p2c limits.greatest_p2c && nat_le (suc n * p2c) limits.p2c_sum) written in
         let enough : limits.least_p2c ≤ p2c = leb-true limits.least_p2c p2c least.0 in
         let some : nat_le 1 p2c ≡ true = le-leb 1 p2c (omega (arith, enough)) in
-        all_pass (λ r. not (is_password_based r.management) || nat_le 1 p2c) receivers (λ r. or_right (not (is_password_based r.management)) (nat_le 1 p2c) some)
+        all_pass (λ r. not (is_password_based r.management) || nat_le 1 p2c) recipient_keys (λ r. or_right (not (is_password_based r.management)) (nat_le 1 p2c) some)
 
 -- the key that is used directly has the length of a content encryption key
-pub direct_fits : (enc : ContentEncryptionAlg) (receivers : List Code) (key : List ℕ) → list_all (λ r. fits (key_view r.key.now) (EncryptionWith r.management enc)) receivers ≡ true
-    → direct_key (map recipient_key_view receivers) ≡ Some key → length key ≡ ciphers.cek_len (content_alg enc)
+pub direct_fits : (enc : ContentEncryptionAlg) (recipient_keys : List Code) (key : List ℕ) → list_all (λ r. fits (key_view r.key.now) (EncryptionWith r.management enc)) recipient_keys ≡ true
+    → direct_key (map recipient_key_view recipient_keys) ≡ Some key → length key ≡ ciphers.cek_len (content_alg enc)
 direct_fits enc [] key fit is = cc is
 direct_fits enc (r ∷ rest) key fit is =
     by_use (is_direct r.management) refl
@@ -113,8 +113,8 @@ direct_fits enc (r ∷ rest) key fit is =
     by_use false direct fit is = cc is
 
 -- a key that is used directly is the content encryption key, since it is alone
-pub direct_is_cek : (receivers : List Code) (drawn cek : List ℕ) → list_all (λ r. not (is_direct r.management) || nat_le (length receivers) 1) receivers ≡ true
-    → cek ≡ unwrap_or (direct_key (map recipient_key_view receivers)) drawn → AllByRecursion (λ r. r.management ≡ Dir → cek ≡ (key_view r.key.now).octets) receivers
+pub direct_is_cek : (recipient_keys : List Code) (drawn cek : List ℕ) → list_all (λ r. not (is_direct r.management) || nat_le (length recipient_keys) 1) recipient_keys ≡ true
+    → cek ≡ unwrap_or (direct_key (map recipient_key_view recipient_keys)) drawn → AllByRecursion (λ r. r.management ≡ Dir → cek ≡ (key_view r.key.now).octets) recipient_keys
 direct_is_cek [] drawn cek alone is = tt
 direct_is_cek (r ∷ []) drawn cek alone is = (λ direct. is ∙ rw direct refl, tt)
 direct_is_cek (r ∷ (other ∷ rest)) drawn cek alone is = none_direct (nat_le (length (r ∷ (other ∷ rest))) 1) (lt-leb (length (r ∷ (other ∷ rest))) 1 (omega arith)) (r ∷ (other ∷ rest)) alone

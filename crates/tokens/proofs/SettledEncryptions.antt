@@ -1,4 +1,4 @@
--- What a template and keys settle: headers that may be written, and for each key in order a receiver, whose parameters the joint
+-- What a template and keys settle: headers that may be written, and for each key in order a recipient key, whose parameters the joint
 -- header awaits.
 use Rattle.std.proofs.Common.{◌≡◌, ℕ, zero, suc, ◌*◌, ◌≤◌, ◌&&◌, ◌==◌, Bool, true, false, nat_le, List, [], ◌∷◌, length, map, codes, if◌then◌else◌, Option, Some, None, is_some, Result, Ok, Err, refl, sym, ◌∙◌, ap, subst, arith}
 use Rattle.std.proofs.lemmas.Bool.{and_parts, leb-true}
@@ -32,26 +32,26 @@ use Rattle.tokens.proofs.JointHeaders.{put_onto, IsJoint, into_protected, IsHead
 use Rattle.tokens.proofs.JointParameters.{unless, free_unless, IsGiven, not_given, nothing_there, given_if_asked, there_with, as_count, with_name_is, Counted, Awaits, still_awaits, header_with_enc}
 use Rattle.tokens.proofs.ReadLists.{each_gives}
 
--- the joint header, where nothing is written for a receiver
+-- the joint header, where nothing is written for a recipient
 abbrev pub joint_of : EncryptionPlan → Members
 joint_of e = all_members e.protected e.unprotected no_members
 
--- it awaits the parameters of a receiver
-abbrev pub AwaitsReceiver : EncryptionPlan → RecipientKey → Type 0
-AwaitsReceiver e r = Awaits e.given.alg e.given.p2c (is_password_based r.management) (management_name r.management) e.p2c (joint_of e)
+-- it awaits the parameters of a recipient
+abbrev pub AwaitsRecipient : EncryptionPlan → RecipientKey → Type 0
+AwaitsRecipient e r = Awaits e.given.alg e.given.p2c (is_password_based r.management) (management_name r.management) e.p2c (joint_of e)
 
 -- so it does, and the key fits
 pub record Receives (e : EncryptionPlan) (r : RecipientKey) : Type 0 where
   pub fit : fits r.key (EncryptionWith r.management e.encryption) ≡ true
-  pub awaits : AwaitsReceiver e r
+  pub awaits : AwaitsRecipient e r
 
--- The receivers are those of the keys in order, at least one, and a key that is used directly is the only one. The headers may be written and have no name in common, the joint header names the content encryption,
+-- The recipient keys are those of the keys in order, at least one, and a key that is used directly is the only one. The headers may be written and have no name in common, the joint header names the content encryption,
 -- and the additional data are octets.
 pub record Settles (keys : List OctetKey) (e : EncryptionPlan) : Type 0 where
-  pub keys_are : map (λ r. r.key) e.receivers ≡ keys
-  pub some : 1 ≤ length e.receivers
-  pub together : direct_key_is_alone e.receivers ≡ true
-  pub receive : AllByRecursion (Receives e) e.receivers
+  pub keys_are : map (λ r. r.key) e.recipient_keys ≡ keys
+  pub some : 1 ≤ length e.recipient_keys
+  pub together : direct_key_is_alone e.recipient_keys ≡ true
+  pub receive : AllByRecursion (Receives e) e.recipient_keys
   pub enc : if_there as_str (get_member (codes "enc") (joint_of e)) ≡ Ok (Some (encryption_name e.encryption))
   pub disjoint : are_disjoint e.protected e.unprotected no_members ≡ true
   pub protected : IsHeader e.protected
@@ -60,12 +60,12 @@ pub record Settles (keys : List OctetKey) (e : EncryptionPlan) : Type 0 where
 
 -- the iterations of each password, and of all together, are no more than are read
 pub record TakesFew (limits : Limits) (e : EncryptionPlan) : Type 0 where
-  pub each_few : AllByRecursion (λ r. is_password_based r.management ≡ true → e.p2c ≤ limits.greatest_p2c_read) e.receivers
-  pub all_few : password_count e.receivers * e.p2c ≤ limits.p2c_sum
+  pub each_few : AllByRecursion (λ r. is_password_based r.management ≡ true → e.p2c ≤ limits.greatest_p2c_read) e.recipient_keys
+  pub all_few : password_count e.recipient_keys * e.p2c ≤ limits.p2c_sum
 
 -- ---- the algorithms
 
--- a receiver has the key
+-- a recipient key has the key
 key_is : (asked : Option KeyManagementAlg) (key : OctetKey) (r : RecipientKey) → recipient_key_by asked key ≡ Ok r → r.key ≡ key
 unfolding recipient_key_by
 key_is asked key r h =
@@ -81,17 +81,17 @@ management_kept (Some b) key r h a e =
     let asks : b ≡ a = cc e in
     sym asks ∙ ap (λ (r : RecipientKey). r.management) same
 
--- so is its content encryption, and there is a receiver
-encryption_kept : (asked : Option ContentEncryptionAlg) (receivers : List RecipientKey) (enc : ContentEncryptionAlg) → encryption_for asked receivers ≡ Ok enc
-    → (1 ≤ length receivers) × ((a : ContentEncryptionAlg) → asked ≡ Some a → a ≡ enc)
+-- so is its content encryption, and there is a recipient key
+encryption_kept : (asked : Option ContentEncryptionAlg) (recipient_keys : List RecipientKey) (enc : ContentEncryptionAlg) → encryption_for asked recipient_keys ≡ Ok enc
+    → (1 ≤ length recipient_keys) × ((a : ContentEncryptionAlg) → asked ≡ Some a → a ≡ enc)
 encryption_kept asked [] enc h = cc h
 encryption_kept None (r ∷ rest) enc h = (omega arith, λ a e. cc e)
 encryption_kept (Some b) (r ∷ rest) enc h = (omega arith, λ a e. cc (e, h))
 
 -- ---- the iterations
 
--- where a receiver is a password, there are passwords
-password_counts : (receivers : List RecipientKey) (n : ℕ) → password_count receivers ≤ n → AllByRecursion (λ r. is_password_based r.management ≡ true → 1 ≤ n) receivers
+-- where a recipient key is a password, there are passwords
+password_counts : (recipient_keys : List RecipientKey) (n : ℕ) → password_count recipient_keys ≤ n → AllByRecursion (λ r. is_password_based r.management ≡ true → 1 ≤ n) recipient_keys
 password_counts [] n few = tt
 password_counts (r ∷ rest) n few = by_test (is_password_based r.management) refl (password_counts rest n) few
   where
@@ -102,11 +102,11 @@ password_counts (r ∷ rest) n few = by_test (is_password_based r.management) re
 
 -- ---- all that is settled
 
--- what is settled by these receivers, algorithms and headers
+-- what is settled by these recipient keys, algorithms and headers
 abbrev encryption_by : EncryptionTemplate → List RecipientKey → ContentEncryptionAlg → ℕ → Members → EncryptionPlan
-encryption_by t receivers encryption p2c protected = record {
+encryption_by t recipient_keys encryption p2c protected = record {
   encryption = encryption;
-  receivers = receivers;
+  recipient_keys = recipient_keys;
   given = record { alg = is_some t.asked.management; p2c = is_given t.asked.p2c };
   p2c = p2c;
   protected = protected;
@@ -116,14 +116,14 @@ encryption_by t receivers encryption p2c protected = record {
 
 -- where compact form is asked for, it can hold what is settled
 abbrev pub holds_no_more : Bool → EncryptionPlan → Bool
-holds_no_more compact e = if compact then is_alone e.receivers && (is_empty e.unprotected && (length e.aad == 0)) else true
+holds_no_more compact e = if compact then is_alone e.recipient_keys && (is_empty e.unprotected && (length e.aad == 0)) else true
 
 -- the protected header with the name of the content encryption
 abbrev with_enc : EncryptionTemplate → ContentEncryptionAlg → Members
 with_enc t enc = with_name (is_some t.asked.encryption) (codes "enc") (encryption_name enc) t.protected
 
--- a receiver that may encrypt, and whose parameters are awaited, receives
-receives : (e : EncryptionPlan) (r : RecipientKey) → may_encrypt e.encryption r ≡ true → AwaitsReceiver e r → Receives e r
+-- a recipient key that may encrypt, and whose parameters are awaited, receives
+receives : (e : EncryptionPlan) (r : RecipientKey) → may_encrypt e.encryption r ≡ true → AwaitsRecipient e r → Receives e r
 receives e r may awaits = record {
   fit = (and_parts (allows r.key (management_operations r.management).0) (fits r.key (EncryptionWith r.management e.encryption)) may).1;
   awaits = awaits;
@@ -145,10 +145,10 @@ module _ (limits : Limits) (sound : AreSound limits) where
   few_iterations (suc n) p2c h = (within n p2c h).2
 
   -- and each no more than are read
-  each_few : (receivers : List RecipientKey) (n p2c : ℕ) → p2c_may_be_written limits n p2c ≡ true → AllByRecursion (λ r. is_password_based r.management ≡ true → 1 ≤ n) receivers
-      → AllByRecursion (λ r. is_password_based r.management ≡ true → p2c ≤ limits.greatest_p2c_read) receivers
-  each_few receivers zero p2c h some = all_then _ _ (λ r none password. absurd (omega (arith, none password))) receivers some
-  each_few receivers (suc n) p2c h some = all_then _ _ (λ r _ password. omega (arith, (within n p2c h).1, sound.read)) receivers some
+  each_few : (recipient_keys : List RecipientKey) (n p2c : ℕ) → p2c_may_be_written limits n p2c ≡ true → AllByRecursion (λ r. is_password_based r.management ≡ true → 1 ≤ n) recipient_keys
+      → AllByRecursion (λ r. is_password_based r.management ≡ true → p2c ≤ limits.greatest_p2c_read) recipient_keys
+  each_few recipient_keys zero p2c h some = all_then _ _ (λ r none password. absurd (omega (arith, none password))) recipient_keys some
+  each_few recipient_keys (suc n) p2c h some = all_then _ _ (λ r _ password. omega (arith, (within n p2c h).1, sound.read)) recipient_keys some
 
   -- where there are passwords, the header gives their count, or it is free
   counted : (n : ℕ) (asked : Result (Option ℕ) Refusal) (p2c : ℕ) (header : Members) → if_there as_count (get_member (codes "p2c") header) ≡ asked → chosen_p2c limits n asked ≡ Ok p2c
@@ -162,47 +162,47 @@ module _ (limits : Limits) (sound : AreSound limits) where
       let count = within n p2c written in
       record { there = is ∙ ap (λ k. Ok (Some k)) (same_answer m p2c chosen); some = count.0; whole = omega (arith, count.1, sound.whole) }
 
-  -- the joint header of a template awaits the parameters of each receiver
-  awaits : (p u : Members) (asked : AlgorithmsAsked) (receivers : List RecipientKey) (p2c : ℕ) → Asks p u asked → chosen_p2c limits (password_count receivers) asked.p2c ≡ Ok p2c
-      → p2c_may_be_written limits (password_count receivers) p2c ≡ true → (r : RecipientKey) → ((a : KeyManagementAlg) → asked.management ≡ Some a → a ≡ r.management)
-      → (is_password_based r.management ≡ true → 1 ≤ password_count receivers)
+  -- the joint header of a template awaits the parameters of each recipient
+  awaits : (p u : Members) (asked : AlgorithmsAsked) (recipient_keys : List RecipientKey) (p2c : ℕ) → Asks p u asked → chosen_p2c limits (password_count recipient_keys) asked.p2c ≡ Ok p2c
+      → p2c_may_be_written limits (password_count recipient_keys) p2c ≡ true → (r : RecipientKey) → ((a : KeyManagementAlg) → asked.management ≡ Some a → a ≡ r.management)
+      → (is_password_based r.management ≡ true → 1 ≤ password_count recipient_keys)
       → Awaits (is_some asked.management) (is_given asked.p2c) (is_password_based r.management) (management_name r.management) p2c (all_members p u no_members)
-  awaits p u asked receivers p2c is chosen written r named some =
+  awaits p u asked recipient_keys p2c is chosen written r named some =
       let header = all_members p u no_members in
       record {
         alg_there = given_if_asked as_str management_name (get_member (codes "alg") header) asked.management r.management is.management named;
-        count = λ password. counted (password_count receivers) asked.p2c p2c header is.count chosen written (some password);
+        count = λ password. counted (password_count recipient_keys) asked.p2c p2c header is.count chosen written (some password);
         no_salt = is.no_salt;
         no_iv = is.no_iv;
         no_tag = is.no_tag;
       }
 
   -- what is chosen for a template and keys, one step after another
-  record IsChosen (compact : Bool) (keys : List OctetKey) (t : EncryptionTemplate) (receivers : List RecipientKey) (enc : ContentEncryptionAlg) (p2c : ℕ) : Type 0 where
-    by_keys : each (recipient_key_by t.asked.management) keys ≡ Ok receivers
-    together : direct_key_is_alone receivers ≡ true
-    encryption : encryption_for t.asked.encryption receivers ≡ Ok enc
-    fit : list_all (may_encrypt enc) receivers ≡ true
-    count : chosen_p2c limits (password_count receivers) t.asked.p2c ≡ Ok p2c
+  record IsChosen (compact : Bool) (keys : List OctetKey) (t : EncryptionTemplate) (recipient_keys : List RecipientKey) (enc : ContentEncryptionAlg) (p2c : ℕ) : Type 0 where
+    by_keys : each (recipient_key_by t.asked.management) keys ≡ Ok recipient_keys
+    together : direct_key_is_alone recipient_keys ≡ true
+    encryption : encryption_for t.asked.encryption recipient_keys ≡ Ok enc
+    fit : list_all (may_encrypt enc) recipient_keys ≡ true
+    count : chosen_p2c limits (password_count recipient_keys) t.asked.p2c ≡ Ok p2c
     shallow : (is_shallow limits t.protected && is_shallow limits t.unprotected) ≡ true
-    written : p2c_may_be_written limits (password_count receivers) p2c ≡ true
-    alone : compact_has_room compact receivers t ≡ true
+    written : p2c_may_be_written limits (password_count recipient_keys) p2c ≡ true
+    alone : compact_has_room compact recipient_keys t ≡ true
 
   -- the steps of settling
   chosen : (compact : Bool) (keys : List OctetKey) (t : EncryptionTemplate) (e : EncryptionPlan) → settle_encryption limits compact keys t ≡ Ok e
-      → (receivers : List RecipientKey) × (enc : ContentEncryptionAlg) × (p2c : ℕ) × IsChosen compact keys t receivers enc p2c × (encryption_by t receivers enc p2c (with_enc t enc) ≡ e)
+      → (recipient_keys : List RecipientKey) × (enc : ContentEncryptionAlg) × (p2c : ℕ) × IsChosen compact keys t recipient_keys enc p2c × (encryption_by t recipient_keys enc p2c (with_enc t enc) ≡ e)
   unfolding settle_encryption
   chosen compact keys t e h =
-      let receivers = steps (each (recipient_key_by t.asked.management) keys) _ e h in
-      let together = steps (needs (direct_key_is_alone receivers.0) Header) _ e receivers.2 in
-      let encryption = steps (encryption_for t.asked.encryption receivers.0) _ e together.2 in
-      let fit = steps (needs (list_all (may_encrypt encryption.0) receivers.0) KeyDoesNotFit) _ e encryption.2 in
-      let p2c = steps (chosen_p2c limits (password_count receivers.0) t.asked.p2c) _ e fit.2 in
+      let recipient_keys = steps (each (recipient_key_by t.asked.management) keys) _ e h in
+      let together = steps (needs (direct_key_is_alone recipient_keys.0) Header) _ e recipient_keys.2 in
+      let encryption = steps (encryption_for t.asked.encryption recipient_keys.0) _ e together.2 in
+      let fit = steps (needs (list_all (may_encrypt encryption.0) recipient_keys.0) KeyDoesNotFit) _ e encryption.2 in
+      let p2c = steps (chosen_p2c limits (password_count recipient_keys.0) t.asked.p2c) _ e fit.2 in
       let shallow = steps (needs (is_shallow limits t.protected && is_shallow limits t.unprotected) Limit) _ e p2c.2 in
-      let written = steps (needs (p2c_may_be_written limits (password_count receivers.0) p2c.0) Limit) _ e shallow.2 in
-      let alone = steps (needs (compact_has_room compact receivers.0 t) NotCompact) _ e written.2 in
-      let all : IsChosen compact keys t receivers.0 encryption.0 p2c.0 = record {
-        by_keys = receivers.1;
+      let written = steps (needs (p2c_may_be_written limits (password_count recipient_keys.0) p2c.0) Limit) _ e shallow.2 in
+      let alone = steps (needs (compact_has_room compact recipient_keys.0 t) NotCompact) _ e written.2 in
+      let all : IsChosen compact keys t recipient_keys.0 encryption.0 p2c.0 = record {
+        by_keys = recipient_keys.1;
         together = passed _ Header together.0 together.1;
         encryption = encryption.1;
         fit = passed _ KeyDoesNotFit fit.0 fit.1;
@@ -211,7 +211,7 @@ module _ (limits : Limits) (sound : AreSound limits) where
         written = passed _ Limit written.0 written.1;
         alone = passed _ NotCompact alone.0 alone.1;
       } in
-      (receivers.0, encryption.0, p2c.0, all, same_answer _ e alone.2)
+      (recipient_keys.0, encryption.0, p2c.0, all, same_answer _ e alone.2)
 
   -- so it is settled
   settled_by : (compact : Bool) (keys : List OctetKey) (t : EncryptionTemplate) (rs : List RecipientKey) (enc : ContentEncryptionAlg) (p2c : ℕ) → IsTemplate t → IsChosen compact keys t rs enc p2c
@@ -232,7 +232,7 @@ module _ (limits : Limits) (sound : AreSound limits) where
       let named_each : AllByRecursion (λ r. (a : KeyManagementAlg) → t.asked.management ≡ Some a → a ≡ r.management) rs =
       each_gives (recipient_key_by t.asked.management) (management_kept t.asked.management) keys rs by.by_keys in
       let counts = password_counts rs (password_count rs) (omega arith) in
-      let awaits_each : AllByRecursion (AwaitsReceiver e) rs =
+      let awaits_each : AllByRecursion (AwaitsRecipient e) rs =
       all_both (λ r named some.
       still_awaits e.given.alg e.given.p2c (is_password_based r.management) (management_name r.management) p2c header (joint_of e)
       (joint.members (codes "alg")) (joint.members (codes "p2c")) (joint.members (codes "p2s")) (joint.members (codes "iv")) (joint.members (codes "tag"))

@@ -1,4 +1,4 @@
--- What a template and keys settle before anything is drawn: the receivers of the content encryption key, the algorithms, and the
+-- What a template and keys settle before anything is drawn: the keys that receive the content encryption key, the algorithms, and the
 -- headers but for what is drawn.
 use Rattle.std.specs.Prelude.{ℕ, zero, suc, ◌*◌, ◌==◌, ◌&&◌, ◌||◌, Bool, true, false, not, nat_le, List, [], ◌∷◌, length, codes, is_some, if◌then◌else◌, Option, Some, None, Result, Ok, Err}
 use Rattle.std.specs.List.{list_all, list_any}
@@ -83,7 +83,7 @@ abbrev pub chosen_encryption : Option ContentEncryptionAlg → KeyManagementAlg 
 chosen_encryption (Some enc) alg key = Ok enc
 chosen_encryption None alg key = ok_or (encryption_by_management alg key) NoAlgorithm
 
--- ---- the receivers
+-- ---- the recipient keys
 
 -- a key, and the algorithm by which it receives the content encryption key
 pub record RecipientKey : Type 0 where
@@ -106,13 +106,13 @@ abbrev pub is_direct : KeyManagementAlg → Bool
 is_direct alg = is_direct_in (mode_of alg)
 
 abbrev pub is_alone : List RecipientKey → Bool
-is_alone receivers = nat_le (length receivers) 1
+is_alone recipient_keys = nat_le (length recipient_keys) 1
 
 -- a key that is used directly is the only one
 abbrev pub direct_key_is_alone : List RecipientKey → Bool
-direct_key_is_alone receivers = is_alone receivers || not (list_any (λ r. is_direct r.management) receivers)
+direct_key_is_alone recipient_keys = is_alone recipient_keys || not (list_any (λ r. is_direct r.management) recipient_keys)
 
--- the content encryption of the template, or the one that goes with the first receiver
+-- the content encryption of the template, or the one that goes with the first recipient key
 abbrev pub encryption_for : Option ContentEncryptionAlg → List RecipientKey → Result ContentEncryptionAlg Refusal
 encryption_for asked [] = Err NoAlgorithm
 encryption_for asked (r ∷ rest) = chosen_encryption asked r.management r.key
@@ -123,7 +123,7 @@ may_encrypt encryption r = allows r.key (management_operations r.management).0 &
 
 -- ---- the iterations of PBKDF2
 
--- how many receivers are passwords
+-- how many recipient keys are passwords
 abbrev pub password_count : List RecipientKey → ℕ
 password_count [] = 0
 password_count (r ∷ rest) = if is_password_based r.management then suc (password_count rest) else password_count rest
@@ -158,16 +158,16 @@ is_given (Err refusal) = true
 
 -- ---- what a template and keys settle
 
--- What the template gives of key management, and so is written for no receiver: the name of its algorithm, and the iterations.
+-- What the template gives of key management, and so is written for no recipient: the name of its algorithm, and the iterations.
 pub record Given : Type 0 where
   pub alg : Bool
   pub p2c : Bool
 
--- The content encryption, the receivers in order, and the iterations, which are 0 where no key is a password; the headers, but for
--- what is written for the receivers; and the additional data.
+-- The content encryption, the recipient keys in order, and the iterations, which are 0 where no key is a password; the headers, but for
+-- what is written for the recipients; and the additional data.
 pub record EncryptionPlan : Type 0 where
   pub encryption : ContentEncryptionAlg
-  pub receivers : List RecipientKey
+  pub recipient_keys : List RecipientKey
   pub given : Given
   pub p2c : ℕ
   pub protected : Members
@@ -176,22 +176,22 @@ pub record EncryptionPlan : Type 0 where
 
 -- a compact text has one recipient, and no member but those that are protected
 abbrev pub compact_has_room : Bool → List RecipientKey → EncryptionTemplate → Bool
-compact_has_room compact receivers t = if compact then is_alone receivers && (is_empty t.unprotected && (length t.aad == 0)) else true
+compact_has_room compact recipient_keys t = if compact then is_alone recipient_keys && (is_empty t.unprotected && (length t.aad == 0)) else true
 
 -- Each step is taken for every key before the next.
 unfoldable pub settle_encryption : Limits → Bool → List OctetKey → EncryptionTemplate → Result EncryptionPlan Refusal
 settle_encryption limits compact keys t = do
-  receivers ← each (recipient_key_by t.asked.management) keys
-  together ← needs (direct_key_is_alone receivers) Header
-  encryption ← encryption_for t.asked.encryption receivers
-  fit ← needs (list_all (may_encrypt encryption) receivers) KeyDoesNotFit
-  p2c ← chosen_p2c limits (password_count receivers) t.asked.p2c
+  recipient_keys ← each (recipient_key_by t.asked.management) keys
+  together ← needs (direct_key_is_alone recipient_keys) Header
+  encryption ← encryption_for t.asked.encryption recipient_keys
+  fit ← needs (list_all (may_encrypt encryption) recipient_keys) KeyDoesNotFit
+  p2c ← chosen_p2c limits (password_count recipient_keys) t.asked.p2c
   shallow ← needs (is_shallow limits t.protected && is_shallow limits t.unprotected) Limit
-  written ← needs (p2c_may_be_written limits (password_count receivers) p2c) Limit
-  alone ← needs (compact_has_room compact receivers t) NotCompact
+  written ← needs (p2c_may_be_written limits (password_count recipient_keys) p2c) Limit
+  alone ← needs (compact_has_room compact recipient_keys t) NotCompact
   Ok (record {
     encryption = encryption;
-    receivers = receivers;
+    recipient_keys = recipient_keys;
     given = record { alg = is_some t.asked.management; p2c = is_given t.asked.p2c };
     p2c = p2c;
     protected = with_name (is_some t.asked.encryption) (codes "enc") (encryption_name encryption) t.protected;

@@ -31,7 +31,7 @@ algorithms_by (Some alg) (Some enc) = Some (record { management = alg; encryptio
 unfoldable pub algorithms_of : List KeyManagementAlg → Recipient → Option Algorithms
 algorithms_of algs r = algorithms_by (management_alg_among algs r.alg) (encryption_alg_of r.enc)
 
--- the key allows what the receiver does, and fits
+-- the key allows what the recipient does, and fits
 unfoldable pub is_candidate : Algorithms → OctetKey → Bool
 is_candidate a key = allows key (management_operations a.management).1 && fits key (Encryption a.management a.encryption)
 

@@ -1,4 +1,4 @@
--- The delivery of a content encryption key to receivers (RFC 7516 section 5.1, steps 4 to 6).
+-- The delivery of a content encryption key to recipients (RFC 7516 section 5.1, steps 4 to 6).
 use Rattle.std.specs.Prelude.{ℕ, ◌+◌, List, [], ◌∷◌, take, drop}
 use Rattle.ciphers.specs.Delivery.{Parameters, encrypted_key_of, key_tag_of}
 use Rattle.keys.specs.declared.algorithm.KeyManagementAlg.{KeyManagementAlg}
@@ -9,7 +9,7 @@ use Rattle.objects.specs.KeyManagement.{KeyManagement, Direct, KeyWrap, Password
 use Rattle.tokens.specs.Algorithms.{key_alg}
 use Rattle.tokens.specs.Choosing.{RecipientKey, EncryptionPlan}
 
--- ---- what is drawn for the receivers
+-- ---- what is drawn for the recipients
 
 -- the octets of a salt input (RFC 7518 section 4.8.1.1)
 abbrev pub salt_len : ℕ
@@ -29,7 +29,7 @@ drawn_in mode.GcmKeyWrap = key_iv_len
 abbrev pub drawn_by : KeyManagementAlg → ℕ
 drawn_by alg = drawn_in (mode_of alg)
 
--- for a receiver
+-- for a recipient
 abbrev pub drawn_for : RecipientKey → ℕ
 drawn_for r = drawn_by r.management
 
@@ -40,11 +40,11 @@ drawn_for_all (r ∷ rest) = drawn_for r + drawn_for_all rest
 
 -- ---- the deliveries
 
--- the parameters by which a receiver's key encrypts the content encryption key
+-- the parameters by which a recipient's key encrypts the content encryption key
 abbrev pub parameters_with : List ℕ → ℕ → Parameters
 parameters_with drawn p2c = record { iv = drawn; tag = []; p2s = drawn; p2c = p2c }
 
--- how the receiver's key then delivers it, with the tag that was made
+-- how the recipient's key then delivers it, with the tag that was made
 abbrev pub delivered_in : KeyManagementMode → List ℕ → ℕ → List ℕ → KeyManagement
 delivered_in mode.Direct drawn p2c tag = Direct
 delivered_in mode.KeyWrap drawn p2c tag = KeyWrap
@@ -60,7 +60,7 @@ pub record Delivery : Type 0 where
   pub management : KeyManagement
   pub encrypted_key : List ℕ
 
--- to a receiver, with the octets that are drawn for it
+-- to a recipient, with the octets that are drawn for it
 abbrev pub delivery_to : EncryptionPlan → List ℕ → RecipientKey → List ℕ → Delivery
 delivery_to e cek r drawn = record {
   alg = r.management;
@@ -68,7 +68,7 @@ delivery_to e cek r drawn = record {
   encrypted_key = encrypted_key_of (key_alg r.management) r.key.octets (parameters_with drawn e.p2c) cek;
 }
 
--- to receivers in order, whose octets follow one another
+-- to recipients in order, whose octets follow one another
 abbrev pub deliveries_to : EncryptionPlan → List ℕ → List RecipientKey → List ℕ → List Delivery
 deliveries_to e cek [] drawn = []
 deliveries_to e cek (r ∷ rest) drawn = delivery_to e cek r (take (drawn_for r) drawn) ∷ deliveries_to e cek rest (drop (drawn_for r) drawn)

@@ -24,7 +24,7 @@ use Rattle.tokens.specs.Decrypting.{additional_authenticated_data, all_pairs, se
 use Rattle.tokens.specs.Delivering.{drawn_for_all, Delivery, deliveries_to}
 use Rattle.tokens.specs.Template.{header_text}
 
--- ---- what is drawn: what the receivers take in order, the content encryption key, unless a key is it, and the initialization vector
+-- ---- what is drawn: what the recipients take in order, the content encryption key, unless a key is it, and the initialization vector
 -- of the content
 
 -- the key that is used directly, if one is: it is the only one
@@ -38,25 +38,25 @@ drawn_cek None n = n
 drawn_cek (Some key) n = 0
 
 abbrev pub cek_drawn : EncryptionPlan → ℕ
-cek_drawn e = drawn_cek (direct_key e.receivers) (cek_len (content_alg e.encryption))
+cek_drawn e = drawn_cek (direct_key e.recipient_keys) (cek_len (content_alg e.encryption))
 
 abbrev pub random_len : EncryptionPlan → ℕ
-random_len e = drawn_for_all e.receivers + cek_drawn e + iv_len (content_alg e.encryption)
+random_len e = drawn_for_all e.recipient_keys + cek_drawn e + iv_len (content_alg e.encryption)
 
-abbrev pub for_receivers : EncryptionPlan → List ℕ → List ℕ
-for_receivers e random = take (drawn_for_all e.receivers) random
+abbrev pub for_recipients : EncryptionPlan → List ℕ → List ℕ
+for_recipients e random = take (drawn_for_all e.recipient_keys) random
 
-abbrev pub after_receivers : EncryptionPlan → List ℕ → List ℕ
-after_receivers e random = drop (drawn_for_all e.receivers) random
+abbrev pub after_recipients : EncryptionPlan → List ℕ → List ℕ
+after_recipients e random = drop (drawn_for_all e.recipient_keys) random
 
 abbrev pub cek_by : EncryptionPlan → List ℕ → List ℕ
-cek_by e random = unwrap_or (direct_key e.receivers) (take (cek_drawn e) (after_receivers e random))
+cek_by e random = unwrap_or (direct_key e.recipient_keys) (take (cek_drawn e) (after_recipients e random))
 
 abbrev pub iv_by : EncryptionPlan → List ℕ → List ℕ
-iv_by e random = drop (cek_drawn e) (after_receivers e random)
+iv_by e random = drop (cek_drawn e) (after_recipients e random)
 
 abbrev pub deliveries_by : EncryptionPlan → List ℕ → List Delivery
-deliveries_by e random = deliveries_to e (cek_by e random) e.receivers (for_receivers e random)
+deliveries_by e random = deliveries_to e (cek_by e random) e.recipient_keys (for_recipients e random)
 
 -- ---- the headers
 
@@ -72,11 +72,10 @@ with_management given (GcmKeyWrap iv tag) header = put (codes "tag") (string (ba
 abbrev pub with_parameters : Given → Delivery → Members → Members
 with_parameters given d header = with_management given.p2c d.management (with_name given.alg (codes "alg") (management_name d.alg) header)
 
--- It is written into the protected header where there is one receiver, ..
-abbrev pub protected_header : Given → List Delivery → Members → Members
-protected_header given [] header = header
-protected_header given (d ∷ []) header = with_parameters given d header
-protected_header given (d ∷ (other ∷ rest)) header = header
+-- It is written into the protected header where there is one recipient, ..
+abbrev pub protected_header : Given → Bool → List Delivery → Members → Members
+protected_header given alone [] header = header
+protected_header given alone (d ∷ rest) header = if alone then with_parameters given d header else header
 
 -- .. and else into the header of each recipient.
 abbrev pub per_recipient_header : Given → Bool → Delivery → Members
@@ -84,18 +83,18 @@ per_recipient_header given alone d = if alone then no_members else with_paramete
 
 -- the protected header with what is drawn
 abbrev pub header_of : EncryptionPlan → List ℕ → Members
-header_of e random = protected_header e.given (deliveries_by e random) e.protected
+header_of e random = protected_header e.given (is_alone e.recipient_keys) (deliveries_by e random) e.protected
 
 -- its text
 abbrev pub header_by : EncryptionPlan → List ℕ → List ℕ
 header_by e random = header_text (header_of e random)
 
 -- a recipient, by whether it is the only one
-abbrev pub recipient_by : Given → Bool → Delivery → RecipientParts
-recipient_by given alone d = record { header = per_recipient_header given alone d; encrypted_key = d.encrypted_key }
+abbrev pub recipient_parts_by : Given → Bool → Delivery → RecipientParts
+recipient_parts_by given alone d = record { header = per_recipient_header given alone d; encrypted_key = d.encrypted_key }
 
 abbrev pub recipients_by : EncryptionPlan → List ℕ → List RecipientParts
-recipients_by e random = map (recipient_by e.given (is_alone e.receivers)) (deliveries_by e random)
+recipients_by e random = map (recipient_parts_by e.given (is_alone e.recipient_keys)) (deliveries_by e random)
 
 -- ---- the object of a plaintext
 
@@ -201,7 +200,7 @@ pub record AreSound (limits : Limits) : Type 0 where
 abbrev pub MayDecrypt : Limits → Bool → List OctetKey → OctetKey → List ℕ → Type 0
 MayDecrypt limits compact keys key template =
     (e : EncryptionPlan) → read_encryption limits compact keys template ≡ Ok e
-    → AllByRecursion (λ r. r.key ≡ key → allows key (management_operations r.management).1 ≡ true) e.receivers
+    → AllByRecursion (λ r. r.key ≡ key → allows key (management_operations r.management).1 ≡ true) e.recipient_keys
 
 -- at each of the first n recipients the key opens nothing, or this plaintext
 abbrev pub OpensNoOther : ℕ → OctetKey → EncryptedObject → List ℕ → Type 0

@@ -54,7 +54,7 @@ pub record IsUnsealed {S : Type 0} (is_sealing : S → Sealing → List ℕ → 
   pub encryption : EncryptionPlan
   pub random : List ℕ
   pub is : plan ≡ Ok (plan_by limits compact detach encryption random)
-  pub begun : is_sealing sealer (sealing_by encryption random) []
+  pub started : is_sealing sealer (sealing_by encryption random) []
   pub places : length texts ≡ (if detach then 2 else 3)
   pub framed : frame_by limits compact detach encryption random ≡ Ok texts
   pub whole : (plaintext : List ℕ) (sealed : Sealed) → IsOctets plaintext → sealed_by (sealing_by encryption random) plaintext ≡ Ok sealed

@@ -30,7 +30,7 @@ pub record InputStart : Type 0 where
   pub key : List ℕ
   pub protected : List ℕ
 
--- Each input was begun with its start and a dot, and has then taken this text.
+-- Each input was started with its start and a dot, and has then taken this text.
 abbrev pub HoldEach : {S : Type 0} → (S → HashFunction → List ℕ → List ℕ → Type 0) → List S → List InputStart → List ℕ → Type 0
 HoldEach has_taken [] [] text = ⊤
 HoldEach has_taken [] (s ∷ starts) text = ⊥
@@ -73,7 +73,7 @@ start_of s = record { alg = s.alg; key = s.key.octets; protected = protected_by 
 abbrev pub unsigned_protected : List Signature → List (List ℕ)
 unsigned_protected signatures = map (λ s. s.protected) signatures
 
--- The texts are those of the frame of what the plan is of, and the inputs were begun for its signers.
+-- The texts are those of the frame of what the plan is of, and the inputs were started for its signers.
 pub record IsFramed {S : Type 0} (has_taken : S → HashFunction → List ℕ → List ℕ → Type 0) (compact detach : Bool) (plan : Result (Plan OutputTexts) Refusal) (inputs : List S) (texts : List (List ℕ)) : Type 0 where
   pub signing : Signing
   pub object : SignedObject
@@ -81,4 +81,4 @@ pub record IsFramed {S : Type 0} (has_taken : S → HashFunction → List ℕ �
   pub made : unsigned_by limits signing ≡ Ok object
   pub texts_are : jws_frame compact detach object ≡ Ok texts
   pub frame : IsJwsFrame compact detach object texts
-  pub begun : HoldEach has_taken inputs (map start_of signing.signers) []
+  pub started : HoldEach has_taken inputs (map start_of signing.signers) []

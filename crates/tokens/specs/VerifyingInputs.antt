@@ -1,4 +1,4 @@
--- What signing inputs start with where they are begun before the payload is read: one for each candidate pair of a key and a signature
+-- What signing inputs start with where they are started before the payload is read: one for each candidate pair of a key and a signature
 -- (RFC 7515 section 5.2), the keys in order and for each of them the signatures in order.
 use Rattle.std.specs.Prelude.{List, [], ◌∷◌, ◌++◌, Option, Some, None}
 use Rattle.keys.specs.declared.algorithm.SignatureAlg.{SignatureAlg}

@@ -9,7 +9,7 @@ use Rattle.tokens.specs.declared.sign.signer.Signer.{Signer as CodeSigner}
 use Rattle.tokens.specs.declared.sign.settle.Signing.{Signing as CodeSigning}
 use Rattle.tokens.specs.declared.algorithms.Algorithms.{Algorithms as CodeAlgorithms}
 use Rattle.tokens.specs.declared.decrypt.pair.Pair.{Pair as CodePair}
-use Rattle.tokens.specs.declared.decrypt.Sealed.{Sealed}
+use Rattle.tokens.specs.declared.decrypt.SealedWith.{SealedWith}
 use Rattle.tokens.specs.declared.decrypt.Work.{Work}
 use Rattle.tokens.specs.declared.encrypt.recipient_key.RecipientKey.{RecipientKey as CodeRecipientKey}
 use Rattle.tokens.specs.declared.encrypt.plan.Given.{Given as CodeGiven}
@@ -42,8 +42,8 @@ abbrev pub pair_view : CodePair → Pair
 pair_view p = record { recipient = recipient_view p.recipient.now; algorithms = algorithms_view p.algorithms; key = key_view p.key.now }
 
 -- with the ciphertext, which stands elsewhere
-abbrev pub sealed_view : Sealed → List ℕ → SealedContent
-sealed_view s ciphertext = record { iv = s.iv.now; aad = s.aad.now; ciphertext = ciphertext; tag = s.tag.now }
+abbrev pub sealed_with_view : SealedWith → List ℕ → SealedContent
+sealed_with_view s ciphertext = record { iv = s.iv.now; aad = s.aad.now; ciphertext = ciphertext; tag = s.tag.now }
 
 abbrev pub work_view : Work → WorkCounts
 work_view w = record { iterations = w.iterations; unwraps = w.unwraps; openings = w.openings }
@@ -66,7 +66,7 @@ given_view g = record { alg = g.alg; p2c = g.p2c }
 abbrev pub encryption_plan_view : CodeEncryptionPlan → EncryptionPlan
 encryption_plan_view e = record {
   encryption = e.encryption;
-  receivers = map recipient_key_view e.receivers.items;
+  recipient_keys = map recipient_key_view e.recipient_keys.items;
   given = given_view e.given;
   p2c = e.p2c;
   protected = members_view e.protected.entries;

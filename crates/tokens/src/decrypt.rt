@@ -7,7 +7,7 @@ ghost use Rattle.octets.specs.Outcomes.{AgreesUnlessMemory, AgreesUnlessExternal
 ghost use Rattle.keys.specs.Limits.{limits};
 ghost use Rattle.objects.specs.Views.{jwe_view};
 ghost use Rattle.tokens.specs.Decrypting.{decrypted, pairs_to_try, are_within, iterations_of, additional_authenticated_data, first_opened, opened_by, cek_of, no_work, with_pair, with_pairs, work_told, IsBounded};
-ghost use Rattle.tokens.specs.Views.{pair_view, sealed_view, work_view};
+ghost use Rattle.tokens.specs.Views.{pair_view, sealed_with_view, work_view};
 
 mod pair;
 mod pairs;
@@ -39,7 +39,7 @@ pub struct Work {
 
 /// What a content was sealed with, its ciphertext aside.
 #[derive(Clone, Copy)]
-struct Sealed<'j> {
+struct SealedWith<'j> {
     iv: &'j [u8],
     aad: &'j [u8],
     tag: &'j [u8],
@@ -116,7 +116,7 @@ fn open_first(alloc: Global, keys: &KeySet, jwe: Jwe, work: &mut Work) -> Result
     let mut octets = jwe.take_ciphertext(alloc);
     let pairs = pairs_to_try(alloc, keys.keys(), jwe.recipients())?;
     let aad = additional_authenticated_data(alloc, jwe.protected(), jwe.aad())?;
-    let sealed = Sealed {
+    let sealed = SealedWith {
         iv: jwe.iv(),
         aad: aad.as_bytes(),
         tag: jwe.tag(),
@@ -129,15 +129,15 @@ fn open_first(alloc: Global, keys: &KeySet, jwe: Jwe, work: &mut Work) -> Result
 /// Opens the ciphertext where it stands by the first pair that opens it, and answers the length of the plaintext.
 fn open_pairs(
     pairs: &[Pair<'_>],
-    sealed: Sealed<'_>,
+    sealed: SealedWith<'_>,
     octets: &mut [u8],
     work: &mut Work,
 ) -> Option<usize>
     requires few { length pairs.now ≤ limits.keys * limits.recipients }
     requires within { are_within limits (map pair_view pairs.now) ≡ true }
     requires fresh { work_view work.old ≡ no_work }
-    ensures opened { option_map (λ n. take n octets.new) result ≡ first_opened (sealed_view sealed.entry octets.old) (map pair_view pairs.now) }
-    ensures work { work_view work.new ≡ with_pairs (sealed_view sealed.entry octets.old) no_work (map pair_view pairs.now) }
+    ensures opened { option_map (λ n. take n octets.new) result ≡ first_opened (sealed_with_view sealed.entry octets.old) (map pair_view pairs.now) }
+    ensures work { work_view work.new ≡ with_pairs (sealed_with_view sealed.entry octets.old) no_work (map pair_view pairs.now) }
     ensures bound { IsBounded (work_view work.new) }
 {
     for (i, pair) in pairs.iter().enumerate() {
@@ -154,14 +154,14 @@ fn open_pairs(
 fn open_pair(
     pair: &Pair<'_>,
     before: &[Pair<'_>],
-    sealed: Sealed<'_>,
+    sealed: SealedWith<'_>,
     octets: &mut [u8],
     work: &mut Work,
 ) -> Option<usize>
     requires bound { IsBounded (work_view work.old) }
     requires counted { iterations_of (pair_view pair.now) ≤ limits.greatest_p2c_read }
-    requires tried { first_opened (sealed_view sealed octets.old) (map pair_view before.now) ≡ None }
-    ensures opened { option_map (λ n. take n octets.new) result ≡ opened_by (sealed_view sealed.entry octets.old) (pair_view pair.now) }
+    requires tried { first_opened (sealed_with_view sealed octets.old) (map pair_view before.now) ≡ None }
+    ensures opened { option_map (λ n. take n octets.new) result ≡ opened_by (sealed_with_view sealed.entry octets.old) (pair_view pair.now) }
     ensures unchanged { IfNone result (octets.new ≡ octets.old) }
     ensures work { work_view work.new ≡ with_pair (work_view work.old) (pair_view pair.now) }
     ensures iterations { work.new.iterations ≡ work.old.iterations + iterations_of (pair_view pair.now) }

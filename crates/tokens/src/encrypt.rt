@@ -30,7 +30,6 @@ mod template;
 
 use crate::aad::additional_authenticated_data;
 use crate::algorithms::content_alg;
-use crate::copies::copied;
 use crate::encrypt::ciphertext::{Ciphertext, EncodedCiphertext};
 use crate::encrypt::deliver::{SALT_LEN, deliver_to_all, drawn_for_all};
 use crate::encrypt::plan::EncryptionPlan;
@@ -94,7 +93,7 @@ pub fn jwe_encrypt<I: Input, O: Output>(
         → AgreesUnlessExternal (planned (plan_from (enc_plan limits compact (is_some detached.entry) keys.now template.now) octets) plaintext)
         (record { text = appended (O.written out.old) (O.written out.new); content = wrote_on O.written (lent detached.entry detached.exit) }) result }
 
-    // Exactly the octets of the receivers, the key and the vector are read of the random input, and no more before a refusal.
+    // Exactly the octets of the recipients, the key and the vector are read of the random input, and no more before a refusal.
     ensures drawn { OnOk result (length (appended (I.consumed random.old) (I.consumed random.new))
         ≡ drawn_of (enc_plan limits compact (is_some detached.entry) keys.now template.now)) }
     ensures at_most { length (appended (I.consumed random.old) (I.consumed random.new))
@@ -154,7 +153,7 @@ pub fn jwe_encrypt<I: Input, O: Output>(
     }
 }
 
-/// What is settled before there is a plaintext: the texts round the ciphertext and the tag, and the sealing, begun.
+/// What is settled before there is a plaintext: the texts round the ciphertext and the tag, and the sealing, started.
 #[derive(Drop)]
 struct PreparedEncryption {
     texts: Vec<String>,
@@ -212,34 +211,35 @@ fn begin_sealing(
         × (length (cek_by (encryption_plan_view encryption.entry) random.now) ≡ cek_len (content_alg_of (encryption_plan_view encryption.entry).encryption))) }
     ensures memory { IfErr result (λ e. e ≡ Refusal.Memory) }
 {
-    let (for_receivers, random) = random.split_at(drawn_for_all(&encryption.receivers));
+    let (for_recipients, random) = random.split_at(drawn_for_all(&encryption.recipient_keys));
     let (for_cek, iv) = random.split_at(cek_drawn(&encryption));
     let cek = content_key(&encryption, for_cek);
     are_octets(cek.octets());
-    let deliveries = deliver_to_all(alloc, &encryption, for_receivers, &cek)?;
+    let deliveries = deliver_to_all(alloc, &encryption, for_recipients, &cek)?;
     let alg = content_alg(encryption.encryption);
     let EncryptionPlan {
-        receivers,
+        recipient_keys,
         given,
         protected,
         unprotected,
         aad,
         ..
     } = encryption;
-    let header = protected_header(alloc, given, &deliveries, protected)?;
+    let alone = recipient_keys.len() <= 1;
+    let header = protected_header(alloc, given, alone, &deliveries, protected)?;
     let header = header_text(alloc, header)?;
     let protected = b64_encode(alloc, header.as_bytes())?;
     let sealer = {
         let data = additional_authenticated_data(alloc, &protected, &aad)?;
         alg.seal(cek.octets(), iv, data.as_bytes())
     };
-    let recipients = recipients(alloc, given, receivers.len() <= 1, deliveries)?;
+    let recipients = recipients(alloc, given, alone, deliveries)?;
     let jwe = Jwe::build(
         alloc,
         JweParts {
             protected,
             unprotected,
-            iv: copied(alloc, iv)?,
+            iv: iv.to_vec(alloc)?,
             aad,
             ciphertext: Vec::new(alloc),
             tag: Vec::new(alloc),
@@ -255,8 +255,8 @@ fn random_len(encryption: &EncryptionPlan<'_>) -> usize
     ensures count { result ≡ random_len (encryption_plan_view encryption.now) }
     ensures bound { result ≤ 1104 }
 {
-    let for_receivers = drawn_for_all(&encryption.receivers);
-    for_receivers + cek_drawn(encryption) + content_alg(encryption.encryption).iv_len()
+    let for_recipients = drawn_for_all(&encryption.recipient_keys);
+    for_recipients + cek_drawn(encryption) + content_alg(encryption.encryption).iv_len()
 }
 
 /// How many of them the content encryption key takes.
@@ -264,17 +264,17 @@ fn cek_drawn(encryption: &EncryptionPlan<'_>) -> usize
     ensures count { result ≡ cek_drawn (encryption_plan_view encryption.now) }
     ensures bound { result ≤ 64 }
 {
-    match direct_key(&encryption.receivers) {
+    match direct_key(&encryption.recipient_keys) {
         Some(_) => 0,
         None => content_alg(encryption.encryption).cek_len(),
     }
 }
 
 /// The key that is used directly, if one is: it is the only one.
-fn direct_key<'k>(receivers: &[RecipientKey<'k>]) -> Option<&'k [u8]>
-    ensures { option_map (λ key. key.now) result ≡ direct_key (map recipient_key_view receivers.now) }
+fn direct_key<'k>(recipient_keys: &[RecipientKey<'k>]) -> Option<&'k [u8]>
+    ensures { option_map (λ key. key.now) result ≡ direct_key (map recipient_key_view recipient_keys.now) }
 {
-    let first = receivers.first()?;
+    let first = recipient_keys.first()?;
     if is_direct(first.management) {
         Some(first.key.octets())
     } else {
@@ -285,10 +285,10 @@ fn direct_key<'k>(receivers: &[RecipientKey<'k>]) -> Option<&'k [u8]>
 /// The content encryption key: what was drawn, or the key that is used directly.
 fn content_key(encryption: &EncryptionPlan<'_>, drawn: &[u8]) -> Cek
     requires { length drawn.now ≡ cek_drawn (encryption_plan_view encryption.now) }
-    ensures cek { result ≡ unwrap_or (direct_key (encryption_plan_view encryption.now).receivers) drawn.now }
+    ensures cek { result ≡ unwrap_or (direct_key (encryption_plan_view encryption.now).recipient_keys) drawn.now }
     ensures fits { length result ≡ cek_len (content_alg_of (encryption_plan_view encryption.now).encryption) }
 {
-    match direct_key(&encryption.receivers) {
+    match direct_key(&encryption.recipient_keys) {
         Some(key) => Cek::new(key),
         None => Cek::new(drawn),
     }

@@ -11,20 +11,6 @@ use keys::{MOST_DEPTH, laws, object_nests_at_most};
 use serde_json::{Map, Value};
 use std::alloc::{AllocError, Global};
 
-/// A copy of a header. An absent one has no members.
-#[tactic(auto, using(crate::proofs::HeaderMembers::copied_members))]
-pub(crate) fn copy(
-    alloc: Global,
-    part: Option<&Map<String, Value>>,
-) -> Result<Map<String, Value>, AllocError>
-    ensures { IfOk result (λ copy. members_view copy.entries ≡ part_view part.entry) }
-{
-    match part {
-        None => Ok(Map::new(alloc)),
-        Some(members) => members.clone(),
-    }
-}
-
 /// The header nests at most 64 deep.
 pub(crate) fn is_shallow(part: Option<&Map<String, Value>>) -> bool
     ensures { result ≡ is_shallow limits (part_view part.entry) }

@@ -12,7 +12,6 @@
 
 mod aad;
 mod algorithms;
-mod copies;
 mod decrypt;
 mod encrypt;
 mod framed;

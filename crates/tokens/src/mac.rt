@@ -6,6 +6,9 @@ ghost use Rattle.prf.specs.Views.{HoldsHmac};
 use prf::{Hash, Hmac};
 use std::marker::Model;
 
+/// How many characters the base64url text of the longest code has, which is of 64 octets.
+pub(crate) const MAC_TEXT: usize = 86;
+
 /// A whole HMAC. It is seen as its octets.
 #[derive(Drop)]
 pub(crate) struct Mac {

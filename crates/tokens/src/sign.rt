@@ -23,13 +23,13 @@ mod signer;
 mod template;
 
 use crate::framed::{write_beside, write_inside};
-use crate::headers::{copy, header_text};
+use crate::headers::header_text;
 use crate::sign::payload::{EncodedPayload, Payload};
 use crate::sign::settle::{Signing, read_signing};
 use crate::sign::signer::Signer;
 use crate::signing_input::{HmacInput, SigningInput};
 use keys::KeySet;
-use objects::{Jws, JwsParts, SignatureParts};
+use objects::{Jws, JwsParts, SignatureParts, copy_header};
 use octets::{Input, Output, Refusal, b64_encode};
 use std::alloc::Global;
 
@@ -107,7 +107,7 @@ pub fn jws_sign<I: Input, O: Output>(
     }
 }
 
-/// The texts that stand round the payload and the signatures, and the signing input of each signer, begun.
+/// The texts that stand round the payload and the signatures, and the signing input of each signer, started.
 #[derive(Drop)]
 struct PreparedSigning {
     texts: Vec<String>,
@@ -156,10 +156,10 @@ fn unsigned_parts(alloc: Global, signing: &Signing<'_>) -> Result<Vec<SignatureP
 {
     let mut parts = Vec::new(alloc);
     for signer in &signing.signers {
-        let text = header_text(alloc, copy(alloc, Some(&signer.protected))?)?;
+        let text = header_text(alloc, copy_header(alloc, Some(&signer.protected))?)?;
         parts.push(SignatureParts {
             protected: b64_encode(alloc, text.as_bytes())?,
-            header: copy(alloc, Some(&signing.header))?,
+            header: copy_header(alloc, Some(&signing.header))?,
             signature: Vec::new(alloc),
         })?;
     }
@@ -173,13 +173,13 @@ fn signing_inputs(
     jws: &Jws<'_>,
 ) -> Result<Vec<HmacInput>, Refusal>
     requires { unsigned_protected (jws_view jws.now).signatures ≡ map protected_by (map signer_view signers.now) }
-    ensures begun { IfOk result (λ inputs. HoldEach ⟦<HmacInput as SigningInput>⟧.has_taken inputs.items (map start_of (map signer_view signers.now)) []) }
+    ensures started { IfOk result (λ inputs. HoldEach ⟦<HmacInput as SigningInput>⟧.has_taken inputs.items (map start_of (map signer_view signers.now)) []) }
     ensures memory { IfErr result (λ e. e ≡ Refusal.Memory) }
 {
     let mut inputs = Vec::new(alloc);
     for (signer, signature) in signers.iter().zip(jws.signatures()) {
         let protected = signature.protected().as_bytes();
-        inputs.push(HmacInput::begin(signer.alg, signer.key.octets(), protected))?;
+        inputs.push(HmacInput::start(signer.alg, signer.key.octets(), protected))?;
     }
     Ok(inputs)
 }

@@ -19,7 +19,7 @@ use prf::{Hash, Hmac, Sha256, Sha384, Sha512};
 
 /// A signing input that is taken in pieces.
 pub(crate) trait SigningInput: Drop {
-    /// It was begun for an HMAC by this hash under this key, and has taken this text.
+    /// It was started for an HMAC by this hash under this key, and has taken this text.
     ghost has_taken: { Self → HashFunction → List ℕ → List ℕ → Type 0 };
 
     /// Takes the next piece.
@@ -42,13 +42,13 @@ pub(crate) enum HmacInput {
 
 impl HmacInput {
     /// Begins with the text of the protected header, and a dot.
-    pub(crate) fn begin(alg: SignatureAlg, key: &[u8], protected: &[u8]) -> HmacInput
+    pub(crate) fn start(alg: SignatureAlg, key: &[u8], protected: &[u8]) -> HmacInput
         ensures { ⟦<HmacInput as SigningInput>⟧.has_taken result (signature_hash alg) key.now (protected.now ++ codes ".") }
     {
         match alg {
-            SignatureAlg::Hs256 => HmacInput::Hs256(begun(key, protected)),
-            SignatureAlg::Hs384 => HmacInput::Hs384(begun(key, protected)),
-            SignatureAlg::Hs512 => HmacInput::Hs512(begun(key, protected)),
+            SignatureAlg::Hs256 => HmacInput::Hs256(started(key, protected)),
+            SignatureAlg::Hs384 => HmacInput::Hs384(started(key, protected)),
+            SignatureAlg::Hs512 => HmacInput::Hs512(started(key, protected)),
         }
     }
 }
@@ -79,7 +79,7 @@ impl SigningInput for HmacInput {
 }
 
 /// A code that has taken the text of the protected header, and a dot.
-fn begun<H: Hash>(key: &[u8], protected: &[u8]) -> Hmac<H>
+fn started<H: Hash>(key: &[u8], protected: &[u8]) -> Hmac<H>
     ensures { HoldsHmac H.function H.holds result key.now (protected.now ++ codes ".") }
 {
     let mut mac = Hmac::<H>::new(key);
@@ -97,7 +97,7 @@ pub(crate) fn signature_of(
 ) -> Mac
     ensures { result ≡ hmac (signature_hash alg) key.now (signing_input protected.now (held_view payload.entry)) }
 {
-    let mut input = HmacInput::begin(alg, key, protected);
+    let mut input = HmacInput::start(alg, key, protected);
     take_payload(&mut input, payload);
     input.sign()
 }

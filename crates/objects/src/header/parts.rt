@@ -41,7 +41,7 @@ pub fn header_at<'v>(
 
 /// A copy of the header that a member of the value is. An absent one has no members. Refused with `Form` where the member is
 /// no object.
-pub(crate) fn copy_header(
+pub(crate) fn owned_header_at(
     alloc: Global,
     value: &Value,
     name: &str,
@@ -51,7 +51,7 @@ pub(crate) fn copy_header(
 {
     let part = header_at(value, name)?;
     Ok(HeaderMembers {
-        map: copy(alloc, part)?,
+        map: copy_header(alloc, part)?,
     })
 }
 
@@ -93,7 +93,7 @@ pub(crate) fn has_some_members(part: Option<&Map<String, Value>>) -> bool
 
 /// A copy of a header. An absent one has no members.
 #[tactic(auto, using(crate::proofs::HeaderMembers::copied_members))]
-pub(crate) fn copy(
+pub fn copy_header(
     alloc: Global,
     part: Option<&Map<String, Value>>,
 ) -> Result<Map<String, Value>, Refusal>

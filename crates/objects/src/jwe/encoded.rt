@@ -12,7 +12,7 @@ ghost use Rattle.objects.specs.Texts.{each, each_item};
 use crate::compact::{split_at_dot, three_parts_of};
 use crate::content::Content;
 use crate::header::members::HeaderMembers;
-use crate::header::parts::{copy_header, has_some_members, header_at, no_members};
+use crate::header::parts::{has_some_members, header_at, no_members, owned_header_at};
 use crate::json_members::{object_list, text_at};
 use crate::jwe::parts::{JweMembers, RecipientMembers};
 use keys::laws::members_keep_floats_out;
@@ -88,7 +88,7 @@ fn encoded_shared(alloc: Global, value: &Value) -> Result<EncodedShared<'_>, Ref
     ensures { AgreesUnlessMemory encoded_shared_view result (encoded_shared (view value.now)) }
 {
     let protected = text_at(value, "protected")?;
-    let unprotected = copy_header(alloc, value, "unprotected")?;
+    let unprotected = owned_header_at(alloc, value, "unprotected")?;
     let aad = text_at(value, "aad")?;
     Ok(EncodedShared {
         protected,
@@ -149,7 +149,7 @@ fn encoded_recipient(alloc: Global, value: &Value) -> Result<EncodedRecipient<'_
     ensures { AgreesUnlessMemory encoded_recipient_view result (encoded_recipient (view value.now)) }
 {
     let encrypted_key = text_at(value, "encrypted_key")?;
-    let header = copy_header(alloc, value, "header")?;
+    let header = owned_header_at(alloc, value, "header")?;
     Ok(EncodedRecipient {
         header,
         encrypted_key,

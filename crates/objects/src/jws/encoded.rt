@@ -11,7 +11,7 @@ ghost use Rattle.objects.specs.Views.{content_is_text, encoded_jws_view, encoded
 use crate::compact::three_parts_of;
 use crate::content::Content;
 use crate::header::members::HeaderMembers;
-use crate::header::parts::{copy_header, has_some_members, header_at, no_members};
+use crate::header::parts::{has_some_members, header_at, no_members, owned_header_at};
 use crate::json_members::{object_list, required_text, text_at};
 use crate::jws::parts::{DecodedSignature, SignatureMembers};
 use keys::laws::members_keep_floats_out;
@@ -109,7 +109,7 @@ fn encoded_signature(alloc: Global, value: &Value) -> Result<EncodedSignature<'_
     ensures { AgreesUnlessMemory encoded_signature_view result (encoded_signature (view value.now)) }
 {
     let protected = text_at(value, "protected")?;
-    let header = copy_header(alloc, value, "header")?;
+    let header = owned_header_at(alloc, value, "header")?;
     let signature = required_text(value, "signature")?;
     Ok(EncodedSignature {
         protected,

@@ -10,6 +10,9 @@ use octets::{
 };
 use std::marker::Model;
 
+/// How many characters the base64url text of the longest tag has, which is of 32 octets.
+const TAG_TEXT: usize = 43;
+
 /// The authentication tag. It is seen as its octets.
 #[derive(Drop)]
 pub(crate) struct Tag {
@@ -170,7 +173,7 @@ impl Values for Tag {
     ghost count = { λ tag. 1 };
 
     fn write<O: Output>(self, texts: &[String], out: &mut O) -> Result<(), Refusal> {
-        let mut text = [0; 43];
+        let mut text = [0; TAG_TEXT];
         let len = encode_onto(self.octets(), &mut text);
         write_whole(out, texts[0].as_bytes())?;
         write_whole(out, &text[..len])?;

@@ -1,4 +1,4 @@
-//! The delivery of a content encryption key to receivers (RFC 7516 section 5.1, steps 4 to 6). It sees no header and no content.
+//! The delivery of a content encryption key to recipients (RFC 7516 section 5.1, steps 4 to 6). It sees no header and no content.
 ghost use Rattle.std.specs.Prelude.{◌≡◌, ◌≤◌, ◌*◌, ◌||◌, true, not, nat_le, length, map, IfOk, IfErr};
 ghost use Rattle.std.specs.List.{AllByRecursion};
 ghost use Rattle.ciphers.specs.Sealing.{cek_len};
@@ -13,7 +13,6 @@ ghost use Rattle.tokens.specs.Delivering.{drawn_by, drawn_for, drawn_for_all, ma
 ghost use Rattle.tokens.specs.Views.{recipient_key_view, encryption_plan_view, delivery_view};
 
 use crate::algorithms::{NO_PARAMETERS, key_alg};
-use crate::copies::copied;
 use crate::encrypt::plan::EncryptionPlan;
 use crate::encrypt::recipient_key::RecipientKey;
 use ciphers::{Cek, KeyParameters};
@@ -36,25 +35,25 @@ pub(crate) struct Delivery {
     pub(crate) encrypted_key: Vec<u8>,
 }
 
-/// How many octets are drawn for all receivers.
-pub(crate) fn drawn_for_all(receivers: &[RecipientKey<'_>]) -> usize
-    requires { length receivers.now ≤ limits.keys }
-    ensures count { result ≡ drawn_for_all (map recipient_key_view receivers.now) }
-    ensures bound { result ≤ 16 * length receivers.now }
+/// How many octets are drawn for all recipients.
+pub(crate) fn drawn_for_all(recipient_keys: &[RecipientKey<'_>]) -> usize
+    requires { length recipient_keys.now ≤ limits.keys }
+    ensures count { result ≡ drawn_for_all (map recipient_key_view recipient_keys.now) }
+    ensures bound { result ≤ 16 * length recipient_keys.now }
 {
     let mut count = 0;
-    for receiver in receivers {
-        count += drawn_for(receiver);
+    for recipient_key in recipient_keys {
+        count += drawn_for(recipient_key);
     }
     count
 }
 
-/// How many of them are drawn for a receiver.
-fn drawn_for(receiver: &RecipientKey<'_>) -> usize
-    ensures count { result ≡ drawn_for (recipient_key_view receiver.now) }
+/// How many of them are drawn for a recipient.
+fn drawn_for(recipient_key: &RecipientKey<'_>) -> usize
+    ensures count { result ≡ drawn_for (recipient_key_view recipient_key.now) }
     ensures bound { result ≤ 16 }
 {
-    drawn_by(receiver.management)
+    drawn_by(recipient_key.management)
 }
 
 /// How many octets are drawn for an algorithm: the salt input of a password, or the initialization vector of a key wrap by AES
@@ -70,52 +69,52 @@ fn drawn_by(alg: KeyManagementAlg) -> usize
     }
 }
 
-/// Delivers the content encryption key to the receivers, in order, by the octets that were drawn for them.
+/// Delivers the content encryption key to the recipients, in order, by the octets that were drawn for them.
 pub(crate) fn deliver_to_all(
     alloc: Global,
     encryption: &EncryptionPlan<'_>,
     drawn: &[u8],
     cek: &Cek,
 ) -> Result<Vec<Delivery>, Refusal>
-    requires drawn { length drawn.now ≡ drawn_for_all (encryption_plan_view encryption.now).receivers }
+    requires drawn { length drawn.now ≡ drawn_for_all (encryption_plan_view encryption.now).recipient_keys }
     requires fits { length cek.now ≡ cek_len (content_alg_of encryption.now.encryption) }
-    requires direct { AllByRecursion (λ r. r.management ≡ KeyManagementAlg.Dir → cek.now ≡ (key_view r.key.now).octets) encryption.now.receivers.items }
+    requires direct { AllByRecursion (λ r. r.management ≡ KeyManagementAlg.Dir → cek.now ≡ (key_view r.key.now).octets) encryption.now.recipient_keys.items }
     ensures deliveries { IfOk result (λ list. map delivery_view list.items
-        ≡ deliveries_to (encryption_plan_view encryption.now) cek.now (encryption_plan_view encryption.now).receivers drawn.now) }
+        ≡ deliveries_to (encryption_plan_view encryption.now) cek.now (encryption_plan_view encryption.now).recipient_keys drawn.now) }
     ensures memory { IfErr result (λ e. e ≡ Refusal.Memory) }
 {
     let mut list = Vec::new(alloc);
     let mut left = drawn;
-    for receiver in &encryption.receivers {
-        let (drawn, rest) = left.split_at(drawn_for(receiver));
-        list.push(deliver(alloc, encryption, receiver, drawn, cek)?)?;
+    for recipient_key in &encryption.recipient_keys {
+        let (drawn, rest) = left.split_at(drawn_for(recipient_key));
+        list.push(deliver(alloc, encryption, recipient_key, drawn, cek)?)?;
         left = rest;
     }
     Ok(list)
 }
 
-/// Delivers it to a receiver, by the octets that were drawn for it.
+/// Delivers it to a recipient, by the octets that were drawn for it.
 #[tactic(auto, using(crate::proofs::AlgorithmCases::is_key_of, crate::proofs::AlgorithmCases::counts_where_password, crate::proofs::AlgorithmCases::iv_of_drawn))]
 fn deliver(
     alloc: Global,
     encryption: &EncryptionPlan<'_>,
-    receiver: &RecipientKey<'_>,
+    recipient_key: &RecipientKey<'_>,
     drawn: &[u8],
     cek: &Cek,
 ) -> Result<Delivery, Refusal>
-    requires drawn { length drawn.now ≡ drawn_for (recipient_key_view receiver.now) }
+    requires drawn { length drawn.now ≡ drawn_for (recipient_key_view recipient_key.now) }
     requires fits { length cek.now ≡ cek_len (content_alg_of encryption.now.encryption) }
-    requires key_fits { fits (key_view receiver.now.key.now) (EncryptionWith receiver.now.management encryption.now.encryption) ≡ true }
-    requires counted { (not (is_password_based receiver.now.management) || nat_le 1 encryption.now.p2c) ≡ true }
-    requires direct { receiver.now.management ≡ KeyManagementAlg.Dir → cek.now ≡ (key_view receiver.now.key.now).octets }
+    requires key_fits { fits (key_view recipient_key.now.key.now) (EncryptionWith recipient_key.now.management encryption.now.encryption) ≡ true }
+    requires counted { (not (is_password_based recipient_key.now.management) || nat_le 1 encryption.now.p2c) ≡ true }
+    requires direct { recipient_key.now.management ≡ KeyManagementAlg.Dir → cek.now ≡ (key_view recipient_key.now.key.now).octets }
     ensures delivery { IfOk result (λ made. delivery_view made
-        ≡ delivery_to (encryption_plan_view encryption.now) cek.now (recipient_key_view receiver.now) drawn.now) }
+        ≡ delivery_to (encryption_plan_view encryption.now) cek.now (recipient_key_view recipient_key.now) drawn.now) }
     ensures memory { IfErr result (λ e. e ≡ Refusal.Memory) }
 {
     let RecipientKey {
         key,
         management: alg,
-    } = *receiver;
+    } = *recipient_key;
     let parameters = KeyParameters {
         iv: drawn,
         p2s: drawn,
@@ -128,7 +127,7 @@ fn deliver(
     Ok(Delivery {
         alg,
         management: management_with(alloc, alg, drawn, encryption.p2c, &tag[..tag_len])?,
-        encrypted_key: copied(alloc, &buf[..len])?,
+        encrypted_key: buf[..len].to_vec(alloc)?,
     })
 }
 
@@ -147,12 +146,12 @@ fn management_with(
         KeyManagementMode::Direct => Ok(KeyManagement::Direct),
         KeyManagementMode::KeyWrap => Ok(KeyManagement::KeyWrap),
         KeyManagementMode::Password => Ok(KeyManagement::Password {
-            p2s: copied(alloc, drawn)?,
+            p2s: drawn.to_vec(alloc)?,
             p2c: p2c as u64,
         }),
         KeyManagementMode::GcmKeyWrap => Ok(KeyManagement::GcmKeyWrap {
-            iv: copied(alloc, drawn)?,
-            tag: copied(alloc, tag)?,
+            iv: drawn.to_vec(alloc)?,
+            tag: tag.to_vec(alloc)?,
         }),
     }
 }

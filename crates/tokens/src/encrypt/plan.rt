@@ -14,7 +14,7 @@ use crate::encrypt::recipient_key::RecipientKey;
 use keys::ContentEncryptionAlg;
 use serde_json::{Map, Value};
 
-/// What the template gives of key management, and so is written for no receiver: the name of its algorithm, and the
+/// What the template gives of key management, and so is written for no recipient: the name of its algorithm, and the
 /// iterations.
 #[derive(Clone, Copy)]
 pub(crate) struct Given {
@@ -22,20 +22,20 @@ pub(crate) struct Given {
     pub(crate) p2c: bool,
 }
 
-/// The content encryption, the receivers, which fit, and the iterations, which are 0 where no key is a password; the headers,
-/// but for what is written for the receivers; and the additional data. A key that is used directly is the only one.
+/// The content encryption, the recipient keys, which fit, and the iterations, which are 0 where no key is a password; the headers,
+/// but for what is written for the recipients; and the additional data. A key that is used directly is the only one.
 #[derive(Drop)]
 pub(crate) struct EncryptionPlan<'k> {
     pub(crate) encryption: ContentEncryptionAlg,
-    pub(crate) receivers: Vec<RecipientKey<'k>>,
+    pub(crate) recipient_keys: Vec<RecipientKey<'k>>,
     pub(crate) given: Given,
     pub(crate) p2c: u32,
     pub(crate) protected: Map<String, Value>,
     pub(crate) unprotected: Map<String, Value>,
     pub(crate) aad: Vec<u8>,
-    ghost few: { length receivers.items ≤ limits.keys },
+    ghost few: { length recipient_keys.items ≤ limits.keys },
     ghost no_float: { members_have_float (members_view protected.entries) ≡ false },
-    ghost fit: { list_all (λ r. fits (key_view r.key.now) (EncryptionWith r.management encryption)) receivers.items ≡ true },
-    ghost counted: { list_all (λ r. not (is_password_based r.management) || nat_le 1 p2c) receivers.items ≡ true },
-    ghost alone: { list_all (λ r. not (is_direct r.management) || nat_le (length receivers.items) 1) receivers.items ≡ true },
+    ghost fit: { list_all (λ r. fits (key_view r.key.now) (EncryptionWith r.management encryption)) recipient_keys.items ≡ true },
+    ghost counted: { list_all (λ r. not (is_password_based r.management) || nat_le 1 p2c) recipient_keys.items ≡ true },
+    ghost alone: { list_all (λ r. not (is_direct r.management) || nat_le (length recipient_keys.items) 1) recipient_keys.items ≡ true },
 }

@@ -8,7 +8,7 @@ ghost use Rattle.octets.specs.Base64url.{base64url};
 ghost use Rattle.objects.specs.KeyManagementView.{management_view};
 ghost use Rattle.objects.specs.Views.{recipient_parts_view};
 ghost use Rattle.tokens.specs.Choosing.{with_p2c};
-ghost use Rattle.tokens.specs.Encrypting.{with_management, with_parameters, protected_header, per_recipient_header, recipient_by};
+ghost use Rattle.tokens.specs.Encrypting.{with_management, with_parameters, protected_header, per_recipient_header, recipient_parts_by};
 ghost use Rattle.tokens.specs.Views.{given_view, delivery_view};
 
 use crate::encrypt::deliver::Delivery;
@@ -20,21 +20,22 @@ use octets::{Refusal, b64_encode};
 use serde_json::{Map, Value};
 use std::alloc::{AllocError, Global};
 
-/// The protected header, with what is written of a delivery that is the only one.
+/// The protected header, with what is written of the first delivery, if it is the only one.
 pub(crate) fn protected_header(
     alloc: Global,
     given: Given,
+    alone: bool,
     deliveries: &[Delivery],
     header: Map<String, Value>,
 ) -> Result<Map<String, Value>, Refusal>
     ensures members { IfOk result (λ made. members_view made.entries
-        ≡ protected_header (given_view given) (map delivery_view deliveries.now) (members_view header.entries)) }
+        ≡ protected_header (given_view given) alone (map delivery_view deliveries.now) (members_view header.entries)) }
     ensures no_float { IfOk result (λ made. members_have_float (members_view header.entries) ≡ false
         → members_have_float (members_view made.entries) ≡ false) }
     ensures memory { IfErr result (λ e. e ≡ Refusal.Memory) }
 {
-    match deliveries {
-        [delivery] => with_parameters(alloc, given, delivery, header),
+    match deliveries.first() {
+        Some(delivery) if alone => with_parameters(alloc, given, delivery, header),
         _ => Ok(header),
     }
 }
@@ -47,7 +48,7 @@ pub(crate) fn recipients(
     deliveries: Vec<Delivery>,
 ) -> Result<Vec<RecipientParts>, Refusal>
     ensures recipients { IfOk result (λ list. map recipient_parts_view list.items
-        ≡ map (recipient_by (given_view given) alone) (map delivery_view deliveries.items)) }
+        ≡ map (recipient_parts_by (given_view given) alone) (map delivery_view deliveries.items)) }
     ensures memory { IfErr result (λ e. e ≡ Refusal.Memory) }
 {
     let mut list = Vec::new(alloc);
@@ -64,7 +65,7 @@ fn recipient(
     alone: bool,
     delivery: Delivery,
 ) -> Result<RecipientParts, Refusal>
-    ensures recipient { IfOk result (λ made. recipient_parts_view made ≡ recipient_by (given_view given) alone (delivery_view delivery)) }
+    ensures recipient { IfOk result (λ made. recipient_parts_view made ≡ recipient_parts_by (given_view given) alone (delivery_view delivery)) }
     ensures memory { IfErr result (λ e. e ≡ Refusal.Memory) }
 {
     let header = per_recipient_header(alloc, given, alone, &delivery)?;

@@ -14,11 +14,12 @@ ghost use Rattle.tokens.specs.Views.{recipient_key_view, encryption_plan_view, e
 use crate::encrypt::plan::{EncryptionPlan, Given};
 use crate::encrypt::recipient_key::RecipientKey;
 use crate::encrypt::template::{EncryptionTemplate, read_encryption_template};
-use crate::headers::{copy, is_empty, is_shallow, with_name};
+use crate::headers::{is_empty, is_shallow, with_name};
 use keys::{
     Algorithm, ContentEncryptionAlg, GREATEST_P2C, Key, KeyManagementAlg, KeyManagementMode,
     KeySet, LEAST_P2C, MOST_ITERATIONS, USUAL_P2C, read_json,
 };
+use objects::copy_header;
 use octets::{Refusal, needs};
 use std::alloc::Global;
 
@@ -51,27 +52,27 @@ fn settle_encryption<'k>(
     ensures { AgreesUnlessMemory encryption_plan_view result (settle_encryption_with_keys limits compact (map key_view keys.now) (encryption_template_view template.entry)) }
 {
     let asked = template.asked;
-    let receivers = receivers_by(alloc, asked.management, keys)?;
-    needs(direct_key_is_alone(&receivers), Refusal::Header)?;
-    let encryption = encryption_for(asked.encryption, &receivers)?;
+    let recipient_keys = recipient_keys_by(alloc, asked.management, keys)?;
+    needs(direct_key_is_alone(&recipient_keys), Refusal::Header)?;
+    let encryption = encryption_for(asked.encryption, &recipient_keys)?;
     needs(
-        all_may_encrypt(encryption, &receivers),
+        all_may_encrypt(encryption, &recipient_keys),
         Refusal::KeyDoesNotFit,
     )?;
-    let passwords = password_count(&receivers);
+    let passwords = password_count(&recipient_keys);
     let p2c = chosen_p2c(passwords, asked.p2c)?;
     let shallow = is_shallow(template.protected) && is_shallow(template.unprotected);
     needs(shallow, Refusal::Limit)?;
     needs(p2c_may_be_written(passwords, p2c), Refusal::Limit)?;
     needs(
-        compact_has_room(compact, &receivers, &template),
+        compact_has_room(compact, &recipient_keys, &template),
         Refusal::NotCompact,
     )?;
     let given = Given {
         alg: asked.management.is_some(),
         p2c: is_given(asked.p2c),
     };
-    let protected = copy(alloc, template.protected)?;
+    let protected = copy_header(alloc, template.protected)?;
     let protected = with_name(
         alloc,
         asked.encryption.is_some(),
@@ -79,11 +80,11 @@ fn settle_encryption<'k>(
         encryption.name(),
         protected,
     )?;
-    let unprotected = copy(alloc, template.unprotected)?;
+    let unprotected = copy_header(alloc, template.unprotected)?;
     let EncryptionTemplate { aad, .. } = template;
     Ok(EncryptionPlan {
         encryption,
-        receivers,
+        recipient_keys,
         given,
         p2c: p2c as u32,
         protected,
@@ -92,24 +93,24 @@ fn settle_encryption<'k>(
     })
 }
 
-/// The receivers that the keys are.
+/// The keys, each with its algorithm of key management.
 #[tactic(auto, using(objects::proofs::Lemmas::reading))]
-fn receivers_by<'k>(
+fn recipient_keys_by<'k>(
     alloc: Global,
     asked: Option<KeyManagementAlg>,
     keys: &'k [Key],
 ) -> Result<Vec<RecipientKey<'k>>, Refusal>
-    ensures exact { AgreesUnlessMemory (λ receivers. map recipient_key_view receivers.items) result (each (recipient_key_by_key asked) (map key_view keys.now)) }
-    ensures as_many { IfOk result (λ receivers. length receivers.items ≡ length keys.now) }
+    ensures exact { AgreesUnlessMemory (λ recipient_keys. map recipient_key_view recipient_keys.items) result (each (recipient_key_by_key asked) (map key_view keys.now)) }
+    ensures as_many { IfOk result (λ recipient_keys. length recipient_keys.items ≡ length keys.now) }
 {
-    let mut receivers = Vec::new(alloc);
+    let mut recipient_keys = Vec::new(alloc);
     for key in keys {
-        receivers.push(recipient_key_by(asked, key)?)?;
+        recipient_keys.push(recipient_key_by(asked, key)?)?;
     }
-    Ok(receivers)
+    Ok(recipient_keys)
 }
 
-/// The receiver that a key is. Refused with `NoAlgorithm` where nothing says the algorithm of key management, and with
+/// The key with its algorithm of key management. Refused with `NoAlgorithm` where nothing says the algorithm of key management, and with
 /// `KeyDoesNotFit` where the key's `alg` is none of encryption.
 #[tactic(auto, unfolding(crate::specs::Choosing::recipient_key_by))]
 fn recipient_key_by<'k>(
@@ -177,19 +178,19 @@ fn management_by_name(
 }
 
 /// A key that is used directly is the only one.
-fn direct_key_is_alone(receivers: &[RecipientKey<'_>]) -> bool
-    ensures { result ≡ direct_key_is_alone (map recipient_key_view receivers.now) }
+fn direct_key_is_alone(recipient_keys: &[RecipientKey<'_>]) -> bool
+    ensures { result ≡ direct_key_is_alone (map recipient_key_view recipient_keys.now) }
 {
-    receivers.len() <= 1 || !any_is_direct(receivers)
+    recipient_keys.len() <= 1 || !any_is_direct(recipient_keys)
 }
 
 /// Some key is used directly.
-fn any_is_direct(receivers: &[RecipientKey<'_>]) -> bool
-    ensures { result ≡ list_any (λ r. is_direct r.management) (map recipient_key_view receivers.now) }
+fn any_is_direct(recipient_keys: &[RecipientKey<'_>]) -> bool
+    ensures { result ≡ list_any (λ r. is_direct r.management) (map recipient_key_view recipient_keys.now) }
 {
-    receivers
+    recipient_keys
         .iter()
-        .any(|receiver| is_direct(receiver.management))
+        .any(|recipient_key| is_direct(recipient_key.management))
 }
 
 /// The key is used directly.
@@ -203,14 +204,14 @@ pub(crate) fn is_direct(alg: KeyManagementAlg) -> bool
     }
 }
 
-/// The algorithm of content encryption of the template, or else the one that goes with the first receiver.
+/// The algorithm of content encryption of the template, or else the one that goes with the first recipient key.
 fn encryption_for(
     asked: Option<ContentEncryptionAlg>,
-    receivers: &[RecipientKey<'_>],
+    recipient_keys: &[RecipientKey<'_>],
 ) -> Result<ContentEncryptionAlg, Refusal>
-    ensures { Agrees (λ alg. alg) result (encryption_for asked (map recipient_key_view receivers.now)) }
+    ensures { Agrees (λ alg. alg) result (encryption_for asked (map recipient_key_view recipient_keys.now)) }
 {
-    match receivers.first() {
+    match recipient_keys.first() {
         None => Err(Refusal::NoAlgorithm),
         Some(first) => chosen_encryption(asked, first.management, first.key),
     }
@@ -276,30 +277,30 @@ fn encryption_by_length(len: usize) -> Option<ContentEncryptionAlg>
 }
 
 /// Each key may encrypt, and fits.
-fn all_may_encrypt(encryption: ContentEncryptionAlg, receivers: &[RecipientKey<'_>]) -> bool
-    ensures { result ≡ list_all (may_encrypt encryption) (map recipient_key_view receivers.now) }
+fn all_may_encrypt(encryption: ContentEncryptionAlg, recipient_keys: &[RecipientKey<'_>]) -> bool
+    ensures { result ≡ list_all (may_encrypt encryption) (map recipient_key_view recipient_keys.now) }
 {
-    receivers
+    recipient_keys
         .iter()
-        .all(|receiver| may_encrypt(encryption, receiver))
+        .all(|recipient_key| may_encrypt(encryption, recipient_key))
 }
 
 /// The key may encrypt by the algorithms, and fits.
-fn may_encrypt(encryption: ContentEncryptionAlg, receiver: &RecipientKey<'_>) -> bool
-    ensures { result ≡ may_encrypt encryption (recipient_key_view receiver.now) }
+fn may_encrypt(encryption: ContentEncryptionAlg, recipient_key: &RecipientKey<'_>) -> bool
+    ensures { result ≡ may_encrypt encryption (recipient_key_view recipient_key.now) }
 {
-    let RecipientKey { key, management } = *receiver;
+    let RecipientKey { key, management } = *recipient_key;
     key.allows(management.operations().0) && key.fits(Algorithm::Encryption(management, encryption))
 }
 
-/// How many receivers are passwords.
-fn password_count(receivers: &[RecipientKey<'_>]) -> usize
-    ensures count { result ≡ password_count (map recipient_key_view receivers.now) }
-    ensures few { result ≤ length receivers.now }
+/// How many recipient keys are passwords.
+fn password_count(recipient_keys: &[RecipientKey<'_>]) -> usize
+    ensures count { result ≡ password_count (map recipient_key_view recipient_keys.now) }
+    ensures few { result ≤ length recipient_keys.now }
 {
     let mut count = 0;
-    for receiver in receivers {
-        if receiver.management.is_password_based() {
+    for recipient_key in recipient_keys {
+        if recipient_key.management.is_password_based() {
             count += 1;
         }
     }
@@ -342,10 +343,11 @@ fn is_given(asked: Result<Option<u64>, Refusal>) -> bool
 /// The form has room for what the keys and the template give: a compact text holds one recipient, and a protected header alone.
 fn compact_has_room(
     compact: bool,
-    receivers: &[RecipientKey<'_>],
+    recipient_keys: &[RecipientKey<'_>],
     template: &EncryptionTemplate<'_>,
 ) -> bool
-    ensures { result ≡ compact_has_room compact (map recipient_key_view receivers.now) (encryption_template_view template.now) }
+    ensures { result ≡ compact_has_room compact (map recipient_key_view recipient_keys.now) (encryption_template_view template.now) }
 {
-    !compact || receivers.len() <= 1 && is_empty(template.unprotected) && template.aad.is_empty()
+    !compact
+        || recipient_keys.len() <= 1 && is_empty(template.unprotected) && template.aad.is_empty()
 }

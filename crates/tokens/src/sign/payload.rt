@@ -5,6 +5,7 @@ ghost use Rattle.octets.specs.Base64url.{base64url};
 ghost use Rattle.tokens.specs.SigningInputs.{InputStart, HoldEach, HaveTaken};
 
 use crate::framed::Values;
+use crate::mac::MAC_TEXT;
 use crate::signing_input::{SigningInput, take_each};
 use octets::{B64Writer, Output, PIECE_TEXT, Refusal, Transform, emit, encode_onto, write_whole};
 
@@ -124,7 +125,7 @@ impl<S: SigningInput> Values for Vec<S> {
     ghost count = { λ inputs. length inputs.items };
 
     fn write<O: Output>(self, texts: &[String], out: &mut O) -> Result<(), Refusal> {
-        let mut octets = [0; 86];
+        let mut octets = [0; MAC_TEXT];
         for (input, text) in self.into_iter().zip(texts) {
             write_whole(out, text.as_bytes())?;
             let signature = input.sign();

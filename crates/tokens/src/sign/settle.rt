@@ -11,12 +11,13 @@ ghost use Rattle.tokens.specs.Signing.{read_signing, settle_signing as settle_si
 ghost use Rattle.tokens.specs.Template.{is_shallow as is_shallow_header};
 ghost use Rattle.tokens.specs.Views.{signer_view, signing_view, template_view};
 
-use crate::headers::{copy, is_empty, is_shallow};
+use crate::headers::{is_empty, is_shallow};
 use crate::sign::signer::Signer;
 use crate::sign::template::{Template, read_template, with_alg};
 use keys::{
     Algorithm, Key, KeySet, MOST_DEPTH, Operation, SignatureAlg, object_nests_at_most, read_json,
 };
+use objects::copy_header;
 use octets::{Refusal, needs};
 use serde_json::{Map, Value};
 use std::alloc::Global;
@@ -60,7 +61,7 @@ fn settle_signing<'k>(
     needs(shallow, Refusal::Limit)?;
     let alone = signers.len() <= 1 && is_empty(template.per_signature);
     needs(!compact || alone, Refusal::NotCompact)?;
-    let header = copy(alloc, template.per_signature)?;
+    let header = copy_header(alloc, template.per_signature)?;
     Ok(Signing { signers, header })
 }
 

@@ -1,5 +1,5 @@
 //! Templates of signatures. It is given a template's value, and sees no key and no content.
-ghost use Rattle.std.specs.Prelude.{◌≡◌, false, option_map, IfOk};
+ghost use Rattle.std.specs.Prelude.{◌≡◌, false, option_map, IfOk, IfErr};
 ghost use Rattle.serde_json.specs.View.{view, members_view};
 ghost use Rattle.serde_json.specs.Written.{has_float, members_have_float};
 ghost use Rattle.octets.specs.Outcomes.{Agrees};
@@ -7,12 +7,11 @@ ghost use Rattle.objects.specs.Views.{part_view};
 ghost use Rattle.tokens.specs.Template.{template_of, template_headers, named_alg, supported_if_there, with_alg};
 ghost use Rattle.tokens.specs.Views.{template_view};
 
-use crate::headers::copy;
 use keys::{SignatureAlg, has_only, is_object, laws};
-use objects::{Header, header_at};
+use objects::{Header, copy_header, header_at};
 use octets::{Refusal, needs};
 use serde_json::{Map, Value};
-use std::alloc::{AllocError, Global};
+use std::alloc::Global;
 
 /// A template of a signature: its two headers, and the algorithm that they name.
 #[derive(Clone, Copy)]
@@ -86,13 +85,14 @@ pub(crate) fn with_alg(
     alloc: Global,
     template: Template<'_>,
     alg: SignatureAlg,
-) -> Result<Map<String, Value>, AllocError>
+) -> Result<Map<String, Value>, Refusal>
     ensures members { IfOk result (λ protected. members_view protected.entries ≡ with_alg (template_view template.entry) alg) }
     ensures no_float { IfOk result (λ protected. members_have_float (template_view template.entry).protected ≡ false
         → members_have_float (members_view protected.entries) ≡ false) }
+    ensures memory { IfErr result (λ e. e ≡ Refusal.Memory) }
 {
     laws::members_keep_floats_out();
-    let mut protected = copy(alloc, template.protected)?;
+    let mut protected = copy_header(alloc, template.protected)?;
     if template.alg.is_none() {
         let name = Value::try_from_str(alloc, alg.name())?;
         serde_json::put(&mut protected, alloc, "alg", name)?;

@@ -24,7 +24,7 @@ use std::vec::IntoIter;
 
 /// Verifies the object with the keys (RFC 7515 section 5.2). Its payload is all that the content gives, whatever payload the object
 /// was read with. Some key that may verify by the algorithm of a signature, and fits, must have made this signature; with `all`,
-/// each key must have made one. The content is read once, in pieces of 4,096 octets, and is not held: an HMAC is begun for each pair
+/// each key must have made one. The content is read once, in pieces of 4,096 octets, and is not held: an HMAC is started for each pair
 /// of a key and a signature that it may verify, and each of them takes each piece.
 ///
 /// Fails with `Memory` before the content is read, or with `Read` if the content fails. Once the content was read to its end, refused,
@@ -64,7 +64,7 @@ fn signing_inputs(
     keys: &[Key],
     signatures: &[Signature],
 ) -> Result<Vec<HmacInput>, Refusal>
-    ensures begun { IfOk result (λ inputs. HoldEach ⟦<HmacInput as SigningInput>⟧.has_taken inputs.items
+    ensures started { IfOk result (λ inputs. HoldEach ⟦<HmacInput as SigningInput>⟧.has_taken inputs.items
         (starts_for_keys (map signature_view signatures.now) (map key_view keys.now)) []) }
     ensures memory { IfErr result (λ e. e ≡ Refusal.Memory) }
 {
@@ -103,7 +103,7 @@ fn push_input(inputs: &mut Vec<HmacInput>, key: &Key, signature: &Signature) -> 
         None => Ok(()),
         Some(alg) => {
             let protected = signature.protected().as_bytes();
-            inputs.push(HmacInput::begin(alg, key.octets(), protected))?;
+            inputs.push(HmacInput::start(alg, key.octets(), protected))?;
             Ok(())
         }
     }

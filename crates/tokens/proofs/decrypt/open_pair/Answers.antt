@@ -1,12 +1,12 @@
 use Rattle.std.proofs.Common.{◌∙◌, Some, sym, ap}
 use Rattle.ciphers.specs.Openings.{opening}
-use Rattle.tokens.specs.Views.{pair_view, sealed_view}
+use Rattle.tokens.specs.Views.{pair_view, sealed_with_view}
 use Rattle.tokens.proofs.Openings.{opens, opened_with}
 use Rattle.tokens.proofs.decrypt.open_pair.Goals as goal
 
 pub returns-clause-opened : goal.returns-clause-opened
 returns-clause-opened c =
-    let s = sealed_view c.args.sealed c.args.octets.now in
+    let s = sealed_with_view c.args.sealed c.args.octets.now in
     let cek = c.octets-cek.result.now in
     opens c.opens_exactly.ensures c.content_alg-enc.result cek s.iv s.aad s.ciphertext s.tag _ c.open.result c.are_octets.ensures c.are_octets-2.ensures c.open.ensures.opened c.open.ensures.nothing
     ∙ ap (λ alg. opening alg cek s.iv s.aad s.ciphertext s.tag) c.content_alg-enc.ensures

@@ -1,14 +1,14 @@
 use Rattle.std.proofs.Common.{◌≡◌, ◌≤◌, true, None, take, drop, map}
 use Rattle.keys.specs.Limits.{limits}
 use Rattle.tokens.specs.Decrypting.{SealedContent, first_opened, no_work, with_pairs}
-use Rattle.tokens.specs.Views.{pair_view, sealed_view, work_view}
+use Rattle.tokens.specs.Views.{pair_view, sealed_with_view, work_view}
 use Rattle.tokens.proofs.Iterations.{within_after}
 use Rattle.tokens.proofs.decrypt.open_pairs.Given as goal
 
 -- the pairs so far open nothing, those that are left open what all of them do, and their work is what is left of the whole and within the limits
 abbrev pub invariant-loop-i : goal.invariant-loop-i
 invariant-loop-i l =
-    let s : SealedContent = sealed_view l.sealed l.initial.octets in
+    let s : SealedContent = sealed_with_view l.sealed l.initial.octets in
     let all = map pair_view l.pairs in
     let left = map pair_view (drop l.i l.pairs) in
     record {

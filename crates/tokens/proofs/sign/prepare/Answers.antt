@@ -54,5 +54,5 @@ returns-clause-framed c =
       made = c.in_ok-jws.ensures;
       texts_are = c.in_ok-texts.ensures.exact;
       frame = c.in_ok-texts.ensures.texts;
-      begun = subst (λ l. HoldEach has_taken-value.it c.in_ok-inputs.inputs.items (map start_of (map signer_view l)) []) c.deref.ensures.value c.in_ok-inputs.ensures.begun;
+      started = subst (λ l. HoldEach has_taken-value.it c.in_ok-inputs.inputs.items (map start_of (map signer_view l)) []) c.deref.ensures.value c.in_ok-inputs.ensures.started;
     }

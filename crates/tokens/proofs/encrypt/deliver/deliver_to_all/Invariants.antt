@@ -3,12 +3,12 @@ use Rattle.tokens.specs.Delivering.{drawn_for_all, deliveries_to}
 use Rattle.tokens.specs.Views.{recipient_key_view, encryption_plan_view, delivery_view}
 use Rattle.tokens.proofs.encrypt.deliver.deliver_to_all.Given as goal
 
--- the deliveries so far and those to the receivers that are left, with the octets that are left, are all of them
-abbrev pub invariant-loop-receiver : goal.invariant-loop-receiver
-invariant-loop-receiver l =
+-- the deliveries so far and those to the recipients that are left, with the octets that are left, are all of them
+abbrev pub invariant-loop-recipient_key : goal.invariant-loop-recipient_key
+invariant-loop-recipient_key l =
     let e = encryption_plan_view l.encryption in
-    let left = map recipient_key_view (drop l.receiver-index l.encryption.receivers.items) in
+    let left = map recipient_key_view (drop l.recipient_key-index l.encryption.recipient_keys.items) in
     record {
-      deliveries : map delivery_view l.list.items ++ deliveries_to e l.cek left l.left ≡ deliveries_to e l.cek e.receivers l.drawn;
+      deliveries : map delivery_view l.list.items ++ deliveries_to e l.cek left l.left ≡ deliveries_to e l.cek e.recipient_keys l.drawn;
       drawn : length l.left ≡ drawn_for_all left;
     }

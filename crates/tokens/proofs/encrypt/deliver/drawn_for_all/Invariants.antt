@@ -3,9 +3,9 @@ use Rattle.tokens.specs.Delivering.{drawn_for_all}
 use Rattle.tokens.specs.Views.{recipient_key_view}
 use Rattle.tokens.proofs.encrypt.deliver.drawn_for_all.Given as goal
 
--- the octets so far and those of the receivers that are left are all of them
-abbrev pub invariant-loop-receiver : goal.invariant-loop-receiver
-invariant-loop-receiver l = record {
-  count : l.count + drawn_for_all (map recipient_key_view (drop l.receiver-index l.receivers)) ≡ drawn_for_all (map recipient_key_view l.receivers);
-  bound : l.count ≤ 16 * l.receiver-index;
+-- the octets so far and those of the recipients that are left are all of them
+abbrev pub invariant-loop-recipient_key : goal.invariant-loop-recipient_key
+invariant-loop-recipient_key l = record {
+  count : l.count + drawn_for_all (map recipient_key_view (drop l.recipient_key-index l.recipient_keys)) ≡ drawn_for_all (map recipient_key_view l.recipient_keys);
+  bound : l.count ≤ 16 * l.recipient_key-index;
 }

@@ -1,11 +1,11 @@
 use Rattle.std.proofs.Common.{◌≡◌, ◌++◌, map}
 use Rattle.objects.specs.Views.{recipient_parts_view}
-use Rattle.tokens.specs.Encrypting.{recipient_by}
+use Rattle.tokens.specs.Encrypting.{recipient_parts_by}
 use Rattle.tokens.specs.Views.{given_view, delivery_view}
 use Rattle.tokens.proofs.encrypt.recipients.recipients.Given as goal
 
 -- the recipients so far and those of the deliveries that are left are all of them
 abbrev pub invariant-loop-delivery : goal.invariant-loop-delivery
 invariant-loop-delivery l =
-    let by = recipient_by (given_view l.given) l.alone in
+    let by = recipient_parts_by (given_view l.given) l.alone in
     map recipient_parts_view l.list.items ++ map by (map delivery_view l.delivery-iterator.rest.items) ≡ map by (map delivery_view l.fn.deliveries.items)

@@ -3,9 +3,9 @@ use Rattle.tokens.specs.Choosing.{password_count}
 use Rattle.tokens.specs.Views.{recipient_key_view}
 use Rattle.tokens.proofs.encrypt.settle.password_count.Given as goal
 
--- the passwords so far and those of the receivers that are left are all of them
-abbrev pub invariant-loop-receiver : goal.invariant-loop-receiver
-invariant-loop-receiver l = record {
-  count : l.count + password_count (map recipient_key_view (drop l.receiver-index l.receivers)) ≡ password_count (map recipient_key_view l.receivers);
-  few : l.count ≤ l.receiver-index;
+-- the passwords so far and those of the recipient keys that are left are all of them
+abbrev pub invariant-loop-recipient_key : goal.invariant-loop-recipient_key
+invariant-loop-recipient_key l = record {
+  count : l.count + password_count (map recipient_key_view (drop l.recipient_key-index l.recipient_keys)) ≡ password_count (map recipient_key_view l.recipient_keys);
+  few : l.count ≤ l.recipient_key-index;
 }

@@ -4,13 +4,13 @@ use Rattle.objects.specs.Texts.{each}
 use Rattle.objects.proofs.Lemmas.{with_done}
 use Rattle.tokens.specs.Choosing.{recipient_key_by}
 use Rattle.tokens.specs.Views.{recipient_key_view}
-use Rattle.tokens.proofs.encrypt.settle.receivers_by.Given as goal
+use Rattle.tokens.proofs.encrypt.settle.recipient_keys_by.Given as goal
 
--- the receivers so far and those of the keys that are left are all of them
+-- the recipient keys so far and those of the keys that are left are all of them
 abbrev pub invariant-loop-key : goal.invariant-loop-key
 invariant-loop-key l =
     let by = recipient_key_by l.asked in
     record {
-      exact : each by (map key_view l.keys) ≡ with_done by (map recipient_key_view l.receivers.items) (map key_view (drop l.key-index l.keys));
-      as_many : length l.receivers.items ≡ l.key-index;
+      exact : each by (map key_view l.keys) ≡ with_done by (map recipient_key_view l.recipient_keys.items) (map key_view (drop l.key-index l.keys));
+      as_many : length l.recipient_keys.items ≡ l.key-index;
     }

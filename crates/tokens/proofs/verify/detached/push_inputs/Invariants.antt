@@ -4,7 +4,7 @@ use Rattle.objects.specs.Views.{signature_view}
 use Rattle.tokens.specs.SigningInputs.{InputStart, HoldEach}
 use Rattle.tokens.specs.VerifyingInputs.{starts_for_key}
 use Rattle.tokens.specs.contracts.signing_input.HmacInputSigningInput.TheImpl.{has_taken-value}
-use Rattle.tokens.proofs.BegunInputs.{AreBegun}
+use Rattle.tokens.proofs.StartedInputs.{AreStarted}
 use Rattle.tokens.proofs.verify.detached.push_inputs.Given as goal
 
 -- the inputs so far, and those of the signatures that are left, are all
@@ -12,4 +12,4 @@ abbrev pub invariant-loop-signature : goal.invariant-loop-signature
 invariant-loop-signature l =
     let key = key_view l.key in
     (starts : List InputStart) → HoldEach has_taken-value.it l.initial.inputs.items starts []
-    → AreBegun has_taken-value.it l.inputs.items (starts_for_key (map signature_view (drop l.signature-index l.signatures)) key) (starts ++ starts_for_key (map signature_view l.signatures) key)
+    → AreStarted has_taken-value.it l.inputs.items (starts_for_key (map signature_view (drop l.signature-index l.signatures)) key) (starts ++ starts_for_key (map signature_view l.signatures) key)

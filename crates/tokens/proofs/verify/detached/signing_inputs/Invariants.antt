@@ -3,11 +3,11 @@ use Rattle.keys.specs.Views.{key_view}
 use Rattle.objects.specs.Views.{signature_view}
 use Rattle.tokens.specs.VerifyingInputs.{starts_for_keys}
 use Rattle.tokens.specs.contracts.signing_input.HmacInputSigningInput.TheImpl.{has_taken-value}
-use Rattle.tokens.proofs.BegunInputs.{AreBegun}
+use Rattle.tokens.proofs.StartedInputs.{AreStarted}
 use Rattle.tokens.proofs.verify.detached.signing_inputs.Given as goal
 
 -- the inputs so far, and those of the keys that are left, are all
 abbrev pub invariant-loop-key : goal.invariant-loop-key
 invariant-loop-key l =
     let signatures = map signature_view l.signatures in
-    AreBegun has_taken-value.it l.inputs.items (starts_for_keys signatures (map key_view (drop l.key-index l.keys))) (starts_for_keys signatures (map key_view l.keys))
+    AreStarted has_taken-value.it l.inputs.items (starts_for_keys signatures (map key_view (drop l.key-index l.keys))) (starts_for_keys signatures (map key_view l.keys))

@@ -4,7 +4,7 @@ use Rattle.octets.specs.Pumps.{RefusesFrom}
 use Rattle.octets.proofs.Lemmas.{of_refusal}
 use Rattle.ciphers.specs.Sealing.{IsTooLong}
 use Rattle.tokens.specs.SealedTexts.{sealed_plan}
-use Rattle.tokens.proofs.Sealed.{adds, refuses_long}
+use Rattle.tokens.proofs.SealedPlans.{adds, refuses_long}
 use Rattle.tokens.proofs.encrypt.ciphertext.CiphertextTransform.feed.Goals as goal
 
 pub returns-in_err-len-clause-refused : goal.returns-in_err-len-clause-refused
