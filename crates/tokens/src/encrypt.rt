@@ -253,7 +253,7 @@ fn begin_sealing(
 /// How many octets are drawn.
 fn random_len(encryption: &EncryptionPlan<'_>) -> usize
     ensures count { result ≡ random_len (encryption_plan_view encryption.now) }
-    ensures bound { result ≤ 1104 }
+    ensures bound { result ≤ MOST_DRAWN }
 {
     let for_recipients = drawn_for_all(&encryption.recipient_keys);
     for_recipients + cek_drawn(encryption) + content_alg(encryption.encryption).iv_len()

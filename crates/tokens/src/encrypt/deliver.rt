@@ -39,7 +39,7 @@ pub(crate) struct Delivery {
 pub(crate) fn drawn_for_all(recipient_keys: &[RecipientKey<'_>]) -> usize
     requires { length recipient_keys.now ≤ limits.keys }
     ensures count { result ≡ drawn_for_all (map recipient_key_view recipient_keys.now) }
-    ensures bound { result ≤ 16 * length recipient_keys.now }
+    ensures bound { result ≤ SALT_LEN * length recipient_keys.now }
 {
     let mut count = 0;
     for recipient_key in recipient_keys {
@@ -51,7 +51,7 @@ pub(crate) fn drawn_for_all(recipient_keys: &[RecipientKey<'_>]) -> usize
 /// How many of them are drawn for a recipient.
 fn drawn_for(recipient_key: &RecipientKey<'_>) -> usize
     ensures count { result ≡ drawn_for (recipient_key_view recipient_key.now) }
-    ensures bound { result ≤ 16 }
+    ensures bound { result ≤ SALT_LEN }
 {
     drawn_by(recipient_key.management)
 }
@@ -60,7 +60,7 @@ fn drawn_for(recipient_key: &RecipientKey<'_>) -> usize
 /// in GCM.
 fn drawn_by(alg: KeyManagementAlg) -> usize
     ensures count { result ≡ drawn_by alg }
-    ensures bound { result ≤ 16 }
+    ensures bound { result ≤ SALT_LEN }
 {
     match alg.mode() {
         KeyManagementMode::Direct | KeyManagementMode::KeyWrap => 0,
