@@ -16,8 +16,8 @@ use Rattle.keys.specs.KeySets.{are_objects, items_count, objects_at, key_objects
 use Rattle.keys.specs.Limits.{Limits}
 use Rattle.keys.specs.Members.{string_member, optional_string_member, optional_strings_member}
 use Rattle.keys.proofs.JsonParts.{keep_json}
-use Rattle.octets.proofs.Lemmas.{steps, same_answer, is_there}
-use Rattle.keys.proofs.TextOctets.{DecodesToOctets, string_octets}
+use Rattle.octets.proofs.Lemmas.{octets_of_meaning, steps, same_answer, is_there}
+use Rattle.keys.proofs.TextOctets.{string_octets}
 use Rattle.keys.proofs.ValuesRead.{reads_json}
 
 -- ---- one key
@@ -36,14 +36,14 @@ decoded_or_key (Ok x) octets h = ap Ok (same_answer x octets h)
 decoded_or_key (Err e) octets h = cc h
 
 -- so is what it means
-k_octets : DecodesToOctets → (limits : Limits) (value : Data) (octets : List ℕ) → IsJson value → key_octets limits value ≡ Ok octets → IsOctets octets
+k_octets : (limits : Limits) (value : Data) (octets : List ℕ) → IsJson value → key_octets limits value ≡ Ok octets → IsOctets octets
 unfolding key_octets
-k_octets to_octets limits value octets json h =
+k_octets limits value octets json h =
     let text = steps (string_member (codes "k") value) _ octets h in
     let found = steps (or_key (decoded text.0)) _ octets text.2 in
     let in_range = steps (needs _ Key) (λ _. Ok found.0) octets found.2 in
     subst IsOctets (same_answer found.0 octets in_range.2)
-    (to_octets text.0 found.0 (member_octets (codes "k") text.0 value json text.1) (decoded_or_key (decoded text.0) found.0 found.1))
+    (octets_of_meaning text.0 found.0 (member_octets (codes "k") text.0 value json text.1) (decoded_or_key (decoded text.0) found.0 found.1))
 
 constrained_octets : (octets : List ℕ) (value : Data) (key : OctetKey) → constrained_key octets value ≡ Ok key → octets ≡ key.octets
 unfolding constrained_key
@@ -54,19 +54,19 @@ constrained_octets octets value key h =
     let key_ops = steps (optional_strings_member (codes "key_ops") value) _ key kid.2 in
     ap (λ (k : OctetKey). k.octets) (same_answer _ key key_ops.2)
 
-octets_of_key : DecodesToOctets → (limits : Limits) (value : Data) (key : OctetKey) → IsJson value → octet_key limits value ≡ Ok key → IsOctets key.octets
+octets_of_key : (limits : Limits) (value : Data) (key : OctetKey) → IsJson value → octet_key limits value ≡ Ok key → IsOctets key.octets
 unfolding octet_key
-octets_of_key to_octets limits value key json h =
+octets_of_key limits value key json h =
     let kty = steps (string_member (codes "kty") value) _ key h in
     let oct = steps (needs (bytes_eq kty.0 (codes "oct")) Key) (λ _. key_octets limits value >>= λ octets. constrained_key octets value) key kty.2 in
     let octets = steps (key_octets limits value) (λ octets. constrained_key octets value) key oct.2 in
-    subst IsOctets (constrained_octets octets.0 value key octets.2) (k_octets to_octets limits value octets.0 json octets.1)
+    subst IsOctets (constrained_octets octets.0 value key octets.2) (k_octets limits value octets.0 json octets.1)
 
 -- ---- the keys of objects
 
-octets_of_keys : DecodesToOctets → (limits : Limits) (strict : Bool) (objects : Items) (keys : List OctetKey) → AreJsonItems objects → octet_keys limits strict objects ≡ Ok keys → AreOctetKeys keys
-octets_of_keys to_octets limits strict no_items keys json h = subst AreOctetKeys (same_answer [] keys h) tt
-octets_of_keys to_octets limits strict (item value values) keys json h = by_key strict (octet_key limits value) refl (octet_keys limits strict values) (λ keys. octets_of_keys to_octets limits strict values keys json.1) h
+octets_of_keys : (limits : Limits) (strict : Bool) (objects : Items) (keys : List OctetKey) → AreJsonItems objects → octet_keys limits strict objects ≡ Ok keys → AreOctetKeys keys
+octets_of_keys limits strict no_items keys json h = subst AreOctetKeys (same_answer [] keys h) tt
+octets_of_keys limits strict (item value values) keys json h = by_key strict (octet_key limits value) refl (octet_keys limits strict values) (λ keys. octets_of_keys limits strict values keys json.1) h
   where
     by_rest : (key : OctetKey) → IsOctets key.octets → (rest : Result (List OctetKey) Refusal) → ((keys : List OctetKey) → rest ≡ Ok keys → AreOctetKeys keys) → before key rest ≡ Ok keys → AreOctetKeys keys
     by_rest key octets (Ok rest) others h = subst AreOctetKeys (same_answer (key ∷ rest) keys h) (octets, others rest refl)
@@ -74,7 +74,7 @@ octets_of_keys to_octets limits strict (item value values) keys json h = by_key 
 
     by_key : (strict : Bool) (r : Result OctetKey Refusal) → octet_key limits value ≡ r → (rest : Result (List OctetKey) Refusal) → ((keys : List OctetKey) → rest ≡ Ok keys → AreOctetKeys keys)
         → unless_bad strict r rest ≡ Ok keys → AreOctetKeys keys
-    by_key strict (Ok key) is rest others h = by_rest key (octets_of_key to_octets limits value key json.0 is) rest others h
+    by_key strict (Ok key) is rest others h = by_rest key (octets_of_key limits value key json.0 is) rest others h
     by_key true (Err e) is rest others h = cc h
     by_key false (Err e) is rest others h = others keys h
 
@@ -96,19 +96,19 @@ json_objects value objects json h = by_test (is_object value) h
     by_test true h = json_at value (get (codes "keys") value) objects json refl h
     by_test false h = cc h
 
-octets_of_value : DecodesToOctets → (limits : Limits) (value : Data) (strict : Bool) (keys : List OctetKey) → IsJson value → value_keys limits value strict ≡ Ok keys → AreOctetKeys keys
+octets_of_value : (limits : Limits) (value : Data) (strict : Bool) (keys : List OctetKey) → IsJson value → value_keys limits value strict ≡ Ok keys → AreOctetKeys keys
 unfolding value_keys
-octets_of_value to_octets limits value strict keys json h =
+octets_of_value limits value strict keys json h =
     let objects = steps (key_objects value) _ keys h in
     let good : List OctetKey → Result (List OctetKey) Refusal = λ keys. needs (not (length keys == 0)) Key >>= λ _. Ok keys in
     let few = steps (needs (nat_le (items_count objects.0) limits.keys) Limit) (λ _. octet_keys limits strict objects.0 >>= good) keys objects.2 in
     let found = steps (octet_keys limits strict objects.0) good keys few.2 in
     let some = steps (needs (not (length found.0 == 0)) Key) (λ _. Ok found.0) keys found.2 in
     subst AreOctetKeys (same_answer found.0 keys some.2)
-    (octets_of_keys to_octets limits strict objects.0 found.0 (json_objects value objects.0 json objects.1) found.1)
+    (octets_of_keys limits strict objects.0 found.0 (json_objects value objects.0 json objects.1) found.1)
 
-pub keys_have_octets : DecodesToOctets → KeysHaveOctets
+pub keys_have_octets : KeysHaveOctets
 unfolding key_set
-keys_have_octets to_octets limits text strict keys h =
+keys_have_octets limits text strict keys h =
     let value = steps (json_value text) (λ value. value_keys limits value strict) keys h in
-    octets_of_value to_octets limits value.0 strict keys (reads_json text value.0 value.1).0 value.2
+    octets_of_value limits value.0 strict keys (reads_json text value.0 value.1).0 value.2

@@ -1,11 +1,10 @@
--- UTF-8 is octets, and so is the text of a string, and what a text decodes to.
-use Rattle.std.proofs.Common.{◌≡◌, ℕ, ◌+◌, ◌/◌, ◌<◌, true, List, [], ◌∷◌, Some, Ok, IsUtf8, ⊎_elim, subst, arith}
+-- UTF-8 is octets, and so is the text of a string.
+use Rattle.std.proofs.Common.{◌≡◌, ℕ, ◌+◌, ◌/◌, ◌<◌, true, List, [], ◌∷◌, Some, IsUtf8, ⊎_elim, subst, arith}
 use Rattle.std.proofs.lemmas.Bool.{and_parts, cond_both, ltb-true}
 use lib.Dec.{ltb}
 use lib.Utf8.{scalar, scalars, scalar_cases, next, encode, encodes}
 use Rattle.serde_json.specs.Data.{Data, null, boolean, number, string, array, object}
 use Rattle.serde_json.specs.Find.{as_str}
-use Rattle.octets.specs.Base64url.{decoded}
 use Rattle.octets.specs.Octets.{IsOctets}
 use Rattle.octets.proofs.Lemmas.{IsOctets-nil, first_or, IsOctets-append}
 use Rattle.keys.specs.JsonTexts.{IsJson}
@@ -47,8 +46,3 @@ string_octets (number n) text is h = cc h
 string_octets (string s) text is h = let same : s ≡ text = cc h in subst IsOctets same (octets_of_utf8 s is)
 string_octets (array ds) text is h = cc h
 string_octets (object ms) text is h = cc h
-
--- ---- what is decoded
-
-abbrev pub DecodesToOctets : Type 0
-DecodesToOctets = (text octets : List ℕ) → IsOctets text → decoded text ≡ Ok octets → IsOctets octets

@@ -5,7 +5,6 @@ ghost use Rattle.keys.specs.Keys.{AreOctetKeys};
 ghost use Rattle.keys.specs.KeySets.{KeysHaveOctets};
 
 use crate::set::KeySet;
-use octets::laws::base64url_decodes_to_octets;
 
 /// The keys of a set have octets. A caller says so of a set that it is given.
 pub fn are_octet_keys(keys: &KeySet)
@@ -49,6 +48,4 @@ pub fn url_texts_are_json()
 /// The keys of a key text have octets, since the text of each was decoded.
 pub fn keys_have_octets()
     ensures { KeysHaveOctets }
-{
-    base64url_decodes_to_octets();
-}
+{}

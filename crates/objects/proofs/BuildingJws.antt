@@ -9,9 +9,8 @@ use Rattle.octets.specs.declared.refusal.Refusal.{Refusal}
 use Rattle.octets.specs.declared.refusal.Refusal.TheVariants.{Json, Form}
 use Rattle.octets.specs.Outcomes.{◌>>=◌, needs}
 use Rattle.keys.specs.Json.{json_value}
-use Rattle.keys.specs.JsonTexts.{DeepTextsAreRefused}
 use Rattle.keys.specs.Limits.{Limits}
-use Rattle.keys.proofs.Lemmas.{numbers_whole}
+use Rattle.keys.proofs.Lemmas.{numbers_whole, deep_texts, reads_back}
 use Rattle.objects.specs.Jws.{JwsParts, SignatureParts, EncodedJws, encoded_in_json, encoded_jws, decoded_object, jws_of, nest_at_most, have_whole_numbers, built, AreMembers, BuildingIsReading, JsonTextsAreCompact}
 use Rattle.objects.specs.Texts.{handed_in, depth_of_each}
 use Rattle.objects.proofs.DetachedContent.{handed_octets}
@@ -20,7 +19,7 @@ use Rattle.objects.proofs.JwsWritten.{members_are_written}
 use Rattle.objects.proofs.MadeJws.{IsSignature, json_are}
 use Rattle.objects.proofs.Members.{put_all}
 use Rattle.objects.proofs.ReadJson.{IsShallow}
-use Rattle.objects.proofs.Spelling.{Laws, object_form, object_value}
+use Rattle.objects.proofs.Spelling.{object_form, object_value}
 use Rattle.objects.proofs.SpellingJws.{entries, texts_read, no_texts_read, signature_spelled, parts_spelled, decoding, decoding_is, members_json, object_json}
 
 -- the value of the JSON text
@@ -50,11 +49,11 @@ built_shallow limits parts members shallow =
     let whole : have_whole_numbers parts.signatures ≡ true = all_pass _ _ (λ s is. numbers_whole (object s.header) is.1.0) parts.signatures members.signatures in
     rw (shallow, whole) refl
 
-read_shallow : Laws → (limits : Limits) (parts : JwsParts) → AreMembers parts → nest_at_most (depth_of_each (length parts.signatures)) parts.signatures ≡ true → (detach b : Bool) → nat_le 1 (length parts.signatures) ≡ b
+read_shallow : (limits : Limits) (parts : JwsParts) → AreMembers parts → nest_at_most (depth_of_each (length parts.signatures)) parts.signatures ≡ true → (detach b : Bool) → nat_le 1 (length parts.signatures) ≡ b
     → jws_of limits (handed_in detach parts.payload) (compact_text (object (members_of detach parts))) ≡ (needs b Form >>= λ some. decoding limits parts)
-read_shallow laws limits parts members shallow detach b some =
+read_shallow limits parts members shallow detach b some =
     let t : EncodedJws = parts_spelled parts in
-    let value = object_value laws (entries detach t) (members_json laws parts members shallow detach) in
+    let value = object_value (entries detach t) (members_json parts members shallow detach) in
     by_count b parts.signatures refl some value
   where
     by_count : (b : Bool) (ss : List SignatureParts) → parts.signatures ≡ ss → nat_le 1 (length parts.signatures) ≡ b
@@ -62,7 +61,7 @@ read_shallow laws limits parts members shallow detach b some =
         → jws_of limits (handed_in detach parts.payload) (compact_text (object (members_of detach parts))) ≡ (needs b Form >>= λ some. decoding limits parts)
     by_count true ss is some value =
         read_value limits (handed_in detach parts.payload) (members_of detach parts) (Ok (parts_spelled parts)) value (texts_read detach parts.payload (parts_spelled parts) refl (some_texts parts some))
-        ∙ decoding_is laws limits parts members
+        ∙ decoding_is limits parts members
     by_count false [] is some value =
         read_value limits (handed_in detach parts.payload) (members_of detach parts) (Err Form) value (no_texts_read detach parts.payload (parts_spelled parts) refl (ap (map signature_spelled) is))
     by_count false (s ∷ ss) is some value = absurd (true≢false (sym (le-leb 1 (length (s ∷ ss)) (omega arith)) ∙ ap (λ l. nat_le 1 (length l)) (sym is) ∙ some))
@@ -70,27 +69,27 @@ read_shallow laws limits parts members shallow detach b some =
 -- ---- where one is
 
 -- what nests at most as deep as a text may has no header that is too deep
-shallow_nest : Laws → (parts : JwsParts) → AreMembers parts → (detach : Bool) → depth (object (members_of detach parts)) ≤ 127 → (ss : List SignatureParts) → parts.signatures ≡ ss
+shallow_nest : (parts : JwsParts) → AreMembers parts → (detach : Bool) → depth (object (members_of detach parts)) ≤ 127 → (ss : List SignatureParts) → parts.signatures ≡ ss
     → nest_at_most (depth_of_each (length parts.signatures)) parts.signatures ≡ true
-shallow_nest laws parts members detach h [] is = ap (λ l. nest_at_most (depth_of_each (length l)) l) is
-shallow_nest laws parts members detach h (s ∷ ss) is =
+shallow_nest parts members detach h [] is = ap (λ l. nest_at_most (depth_of_each (length l)) l) is
+shallow_nest parts members detach h (s ∷ ss) is =
     let t : EncodedJws = parts_spelled parts in
-    let value : IsShallow 127 (object (members_of detach parts)) = record { json = object_json laws parts members detach; shallow = h } in
+    let value : IsShallow 127 (object (members_of detach parts)) = record { json = object_json parts members detach; shallow = h } in
     let some : nat_le 1 (length parts.signatures) ≡ true = ap (λ l. nat_le 1 (length l)) is ∙ le-leb 1 (length (s ∷ ss)) (omega arith) in
-    let are = json_are laws.keep (record { exact = laws.exact; octets = laws.octets }) (handed_in detach parts.payload) (handed_octets detach parts.payload members.payload) _ t value
+    let are = json_are (handed_in detach parts.payload) (handed_octets detach parts.payload members.payload) _ t value
     (texts_read detach parts.payload t refl (some_texts parts some)) in
     let n : ℕ = depth_of_each (length parts.signatures) in
     let all : AllByRecursion (IsSignature n) t.signatures =
     subst (λ k. AllByRecursion (IsSignature (depth_of_each k)) t.signatures) (length-map parts.signatures signature_spelled) are.signatures in
     images_pass (IsSignature n) signature_spelled _ (λ p is. le-leb _ n is.header.shallow) parts.signatures all
 
-read_deep : Laws → DeepTextsAreRefused → (limits : Limits) (parts : JwsParts) → AreMembers parts → nest_at_most (depth_of_each (length parts.signatures)) parts.signatures ≡ false → (detach : Bool)
+read_deep : (limits : Limits) (parts : JwsParts) → AreMembers parts → nest_at_most (depth_of_each (length parts.signatures)) parts.signatures ≡ false → (detach : Bool)
     → jws_of limits (handed_in detach parts.payload) (compact_text (object (members_of detach parts))) ≡ Err Json
-read_deep laws refused limits parts members deep detach =
+read_deep limits parts members deep detach =
     let ms = members_of detach parts in
     elim (cases_lt 127 (depth (object ms))) [
-      | inl deeper ↦ refuse_value limits (handed_in detach parts.payload) ms (refused (object ms) (object_json laws parts members detach) deeper)
-      | inr shallow ↦ absurd (true≢false (sym (shallow_nest laws parts members detach shallow parts.signatures refl) ∙ deep))
+      | inl deeper ↦ refuse_value limits (handed_in detach parts.payload) ms (deep_texts (object ms) (object_json parts members detach) deeper)
+      | inr shallow ↦ absurd (true≢false (sym (shallow_nest parts members detach shallow parts.signatures refl) ∙ deep))
     ]
 
 -- ---- in either case
@@ -99,29 +98,29 @@ built_deep : (limits : Limits) (parts : JwsParts) → nest_at_most (depth_of_eac
 unfolding built
 built_deep limits parts deep = rw deep refl
 
-by_depth : Laws → DeepTextsAreRefused → (limits : Limits) (parts : JwsParts) → AreMembers parts → (detach b : Bool) → nest_at_most (depth_of_each (length parts.signatures)) parts.signatures ≡ b
+by_depth : (limits : Limits) (parts : JwsParts) → AreMembers parts → (detach b : Bool) → nest_at_most (depth_of_each (length parts.signatures)) parts.signatures ≡ b
     → built limits parts ≡ jws_of limits (handed_in detach parts.payload) (compact_text (object (members_of detach parts)))
-by_depth laws refused limits parts members detach true shallow = built_shallow limits parts members shallow ∙ sym (read_shallow laws limits parts members shallow detach _ refl)
-by_depth laws refused limits parts members detach false deep = built_deep limits parts deep ∙ sym (read_deep laws refused limits parts members deep detach)
+by_depth limits parts members detach true shallow = built_shallow limits parts members shallow ∙ sym (read_shallow limits parts members shallow detach _ refl)
+by_depth limits parts members detach false deep = built_deep limits parts deep ∙ sym (read_deep limits parts members deep detach)
 
-pub building_is_reading : Laws → DeepTextsAreRefused → BuildingIsReading
-building_is_reading laws refused limits parts members detach =
-    by_depth laws refused limits parts members detach _ refl ∙ ap (jws_of limits (handed_in detach parts.payload)) (sym (members_are_written laws detach parts members))
+pub building_is_reading : BuildingIsReading
+building_is_reading limits parts members detach =
+    by_depth limits parts members detach _ refl ∙ ap (jws_of limits (handed_in detach parts.payload)) (sym (members_are_written detach parts members))
 
 -- ---- the text itself
 
 -- what is read of it is the value of its members, or nothing
-read_as_written : Laws → DeepTextsAreRefused → (detach : Bool) (parts : JwsParts) → AreMembers parts → (value : Data) → json_value (compact_text (object (members_of detach parts))) ≡ Ok value
+read_as_written : (detach : Bool) (parts : JwsParts) → AreMembers parts → (value : Data) → json_value (compact_text (object (members_of detach parts))) ≡ Ok value
     → compact_text (object (members_of detach parts)) ≡ compact_text value
-read_as_written laws refused detach parts members value read =
+read_as_written detach parts members value read =
     let ms = members_of detach parts in
-    let json = object_json laws parts members detach in
+    let json = object_json parts members detach in
     elim (cases_lt 127 (depth (object ms))) [
-      | inl deeper ↦ let none = refused (object ms) json deeper in cc (read, none)
-      | inr shallow ↦ let again = laws.reads_back (object ms) json shallow in let same : object ms ≡ value = cc (again, read) in ap compact_text same
+      | inl deeper ↦ let none = deep_texts (object ms) json deeper in cc (read, none)
+      | inr shallow ↦ let again = reads_back (object ms) json shallow in let same : object ms ≡ value = cc (again, read) in ap compact_text same
     ]
 
-pub json_texts_are_compact : Laws → DeepTextsAreRefused → JsonTextsAreCompact
-json_texts_are_compact laws refused detach parts value members read =
-    let written = members_are_written laws detach parts members in
-    written ∙ read_as_written laws refused detach parts members value (ap json_value (sym written) ∙ read)
+pub json_texts_are_compact : JsonTextsAreCompact
+json_texts_are_compact detach parts value members read =
+    let written = members_are_written detach parts members in
+    written ∙ read_as_written detach parts members value (ap json_value (sym written) ∙ read)

@@ -4,17 +4,17 @@ use Rattle.std.specs.List.{list_all}
 use Rattle.std.specs.Option.{option_or}
 use Rattle.serde_json.specs.Data.{Data, string, object}
 use Rattle.octets.specs.declared.refusal.Refusal.TheVariants.{Form}
-use Rattle.octets.specs.Base64url.{base64url, decoded, is_url_character, DecodesExactly}
+use Rattle.octets.specs.Base64url.{base64url, decoded, is_url_character}
 use Rattle.octets.specs.Octets.{IsOctets}
 use Rattle.octets.specs.Outcomes.{needs}
-use Rattle.octets.proofs.Lemmas.{IsOctets-nil, decoded-nil, steps, passed, same_answer}
-use Rattle.keys.specs.JsonTexts.{IsJson, KeepJson, UrlTextsAreJson}
+use Rattle.octets.proofs.Lemmas.{IsOctets-nil, decoded-nil, steps, passed, same_answer, decodes_exactly, octets_of_meaning}
+use Rattle.keys.specs.JsonTexts.{IsJson}
 use Rattle.objects.specs.Texts.{text_at, has_text, content_by, content_text, handed_in, AreOctetsHandedIn}
 use Rattle.objects.proofs.Characters.{IsUrlText}
 use Rattle.objects.proofs.Members.{Entries, put_all, first_there, IsJsonIfThere}
 use Rattle.objects.proofs.ReadJson.{text_octets, required_octets}
 use Rattle.objects.proofs.Spelling.{name_is_json, text_found, required_found, required_entry}
-use Rattle.objects.proofs.TextOctets.{TextLaws, text_is}
+use Rattle.objects.proofs.TextOctets.{text_is}
 
 -- ---- as a member of a JSON text
 
@@ -24,10 +24,10 @@ content_there false text = Some (string text)
 content_there true text = None
 
 -- it is as JSON has it
-pub content_entry : UrlTextsAreJson → (detach : Bool) (n : ℕ) (name text : List ℕ) → list_all is_url_character name ≡ true → IsUtf8 text
+pub content_entry : (detach : Bool) (n : ℕ) (name text : List ℕ) → list_all is_url_character name ≡ true → IsUtf8 text
     → IsUtf8 name × IsJsonIfThere n (content_there detach text)
-content_entry url false n name text is h = required_entry url n name text is h
-content_entry url true n name text is h = (name_is_json url name is, tt)
+content_entry false n name text is h = required_entry n name text is h
+content_entry true n name text is h = (name_is_json name is, tt)
 
 -- its text is read where it stands, and is that of the content handed in where it is detached
 pub content_found : (detach : Bool) (name : List ℕ) (es : Entries) (content text : List ℕ) → base64url content ≡ text
@@ -48,8 +48,8 @@ kept false text = text
 kept true text = []
 
 -- no octets have the empty text
-pub no_octets : DecodesExactly → base64url [] ≡ []
-no_octets exact = sym ((exact.meaning [] [] IsOctets-nil IsOctets-nil).0 decoded-nil)
+pub no_octets : base64url [] ≡ []
+no_octets = sym ((decodes_exactly.meaning [] [] IsOctets-nil IsOctets-nil).0 decoded-nil)
 
 -- what is kept of letters, digits, `-` and `_` is such characters
 pub kept_characters : (detach : Bool) (text : List ℕ) → IsUrlText text → IsUrlText (kept detach text)
@@ -67,10 +67,10 @@ no_text [] h = refl
 no_text (c ∷ text) h = cc h
 
 -- a part is what is kept of the text of the content that is read
-pub part_is : TextLaws → (detached : Option (List ℕ)) (part text content : List ℕ) → IsOctets part → content_by detached part ≡ Ok text → decoded text ≡ Ok content
+pub part_is : (detached : Option (List ℕ)) (part text content : List ℕ) → IsOctets part → content_by detached part ≡ Ok text → decoded text ≡ Ok content
     → part ≡ kept (is_some detached) (base64url content)
-part_is laws None part text content is h decodes = text_is laws part content is (ap decoded (same_answer part text h) ∙ decodes)
-part_is laws (Some handed) part text content is h decodes =
+part_is None part text content is h decodes = text_is part content is (ap decoded (same_answer part text h) ∙ decodes)
+part_is (Some handed) part text content is h decodes =
     let a = steps (needs (not (has_text part)) Form) _ text h in
     no_text part (passed _ Form a.0 a.1)
 
@@ -81,20 +81,20 @@ abbrev pub MeansOctets : List ℕ → Type 0
 MeansOctets text = (octets : List ℕ) → decoded text ≡ Ok octets → IsOctets octets
 
 -- the text of octets decodes to these
-text_means_octets : DecodesExactly → (content : List ℕ) → IsOctets content → MeansOctets (base64url content)
-text_means_octets exact content is octets decodes = subst IsOctets (same_answer content octets (sym (exact.round_trip content is) ∙ decodes)) is
+text_means_octets : (content : List ℕ) → IsOctets content → MeansOctets (base64url content)
+text_means_octets content is octets decodes = subst IsOctets (same_answer content octets (sym (decodes_exactly.round_trip content is) ∙ decodes)) is
 
 -- what is read of a part decodes to octets
-pub part_octets : TextLaws → (detached : Option (List ℕ)) (part text : List ℕ) → AreOctetsHandedIn detached → IsOctets part → content_by detached part ≡ Ok text → MeansOctets text
-part_octets laws None part text handed is h = subst MeansOctets (same_answer part text h) (λ octets decodes. laws.octets part octets is decodes)
-part_octets laws (Some content) part text handed is h =
+pub part_octets : (detached : Option (List ℕ)) (part text : List ℕ) → AreOctetsHandedIn detached → IsOctets part → content_by detached part ≡ Ok text → MeansOctets text
+part_octets None part text handed is h = subst MeansOctets (same_answer part text h) (λ octets decodes. octets_of_meaning part octets is decodes)
+part_octets (Some content) part text handed is h =
     let a = steps (needs (not (has_text part)) Form) _ text h in
-    subst MeansOctets (same_answer (base64url content) text a.2) (text_means_octets laws.exact content handed)
+    subst MeansOctets (same_answer (base64url content) text a.2) (text_means_octets content handed)
 
 -- so does what is read of a member
-pub member_octets : KeepJson → TextLaws → (detached : Option (List ℕ)) (name : List ℕ) (d : Data) (text : List ℕ) → AreOctetsHandedIn detached → IsJson d
+pub member_octets : (detached : Option (List ℕ)) (name : List ℕ) (d : Data) (text : List ℕ) → AreOctetsHandedIn detached → IsJson d
     → content_text detached name d ≡ Ok text → MeansOctets text
-member_octets keep laws None name d text handed is h = λ octets decodes. laws.octets text octets (required_octets keep name d text is h) decodes
-member_octets keep laws (Some content) name d text handed is h =
+member_octets None name d text handed is h = λ octets decodes. octets_of_meaning text octets (required_octets name d text is h) decodes
+member_octets (Some content) name d text handed is h =
     let a = steps (text_at name d) (content_by (Some content)) text h in
-    part_octets laws (Some content) a.0 text handed (text_octets keep name d a.0 is a.1) a.2
+    part_octets (Some content) a.0 text handed (text_octets name d a.0 is a.1) a.2

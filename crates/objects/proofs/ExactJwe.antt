@@ -17,7 +17,7 @@ use Rattle.objects.proofs.Joined.{joined_of_split, joined_of_three, split_octets
 use Rattle.objects.proofs.JweWritten.{compact_is}
 use Rattle.objects.proofs.MadeJwe.{IsRecipient, AreSpelled, compact, compact_are, recipient_spelled, parts_spelled}
 use Rattle.objects.proofs.MadeOf.{object_is}
-use Rattle.objects.proofs.TextOctets.{TextLaws, text_is}
+use Rattle.objects.proofs.TextOctets.{text_is}
 
 -- the texts of a compact text stand in it between dots: those of one recipient, no header but the protected one, and a part of which the ciphertext is read
 pub record IsCompact (detached : Option (List ℕ)) (text : List ℕ) (t : EncodedJwe) : Type 0 where
@@ -91,27 +91,27 @@ joined_is : (a b c d e part : List ℕ) (o : EncryptedObject) (r : RecipientPart
     → o.protected ++ 46 ∷ (base64url r.encrypted_key ++ 46 ∷ (base64url o.iv ++ 46 ∷ (part ++ 46 ∷ base64url o.tag))) ≡ a ++ 46 ∷ (b ++ 46 ∷ (c ++ 46 ∷ (d ++ 46 ∷ e)))
 joined_is a b c d e part o r protected key iv same tag = rw (protected, key, iv, same, tag) refl
 
-exact : TextLaws → (limits : Limits) (detached : Option (List ℕ)) (line : List ℕ) (t : EncodedJwe) (o : EncryptedObject) → AreOctetsHandedIn detached → IsOctets line
+exact : (limits : Limits) (detached : Option (List ℕ)) (line : List ℕ) (t : EncodedJwe) (o : EncryptedObject) → AreOctetsHandedIn detached → IsOctets line
     → encoded_in_compact detached line ≡ Ok t → decoded_object limits t ≡ Ok o → jwe_compact_text (is_some detached) o ≡ Ok line
-exact laws limits detached line t o handed octets split h =
+exact limits detached line t o handed octets split h =
     let is = texts_of_compact detached line t octets split in
-    let are = compact_are laws detached handed line t octets split in
+    let are = compact_are detached handed line t octets split in
     let spelled = object_spelled limits t o h in
     let one = one_read decoded_recipient is.recipient (map recipient_parts_of o.recipients) (ap (each decoded_recipient) (sym is.alone) ∙ spelled.recipients) in
     let recipient = recipient_spelled is.recipient one.0 one.1 in
     let texts = subst (AllByRecursion (IsRecipient (depth_of_each (length t.recipients)))) is.alone are.recipients in
-    let key = text_is laws is.recipient.encrypted_key one.0.encrypted_key texts.0.encrypted_key recipient.encrypted_key in
-    let iv = text_is laws t.content.iv o.iv are.content.iv spelled.iv in
-    let part = part_is laws detached is.part t.content.ciphertext o.ciphertext is.octets is.ciphertext spelled.ciphertext in
-    let tag = text_is laws t.content.tag o.tag are.content.tag spelled.tag in
+    let key = text_is is.recipient.encrypted_key one.0.encrypted_key texts.0.encrypted_key recipient.encrypted_key in
+    let iv = text_is t.content.iv o.iv are.content.iv spelled.iv in
+    let part = part_is detached is.part t.content.ciphertext o.ciphertext is.octets is.ciphertext spelled.ciphertext in
+    let tag = text_is t.content.tag o.tag are.content.tag spelled.tag in
     let no_aad : o.aad ≡ [] = same_answer o.aad [] (sym spelled.aad ∙ ap decoded is.aad ∙ decoded-nil) in
     compact_text_is (is_some detached) o one.0 one.2 (spelled.unprotected ∙ is.unprotected) (recipient.header ∙ is.header) no_aad
     ∙ ap Ok (joined_is t.shared.protected is.recipient.encrypted_key t.content.iv is.part t.content.tag (kept (is_some detached) (base64url o.ciphertext)) o one.0 spelled.protected key iv part tag ∙ sym is.between_dots)
 
-pub compact_texts_are_exact : TextLaws → CompactTextsAreExact
+pub compact_texts_are_exact : CompactTextsAreExact
 unfolding jwe_of encoded_jwe
-compact_texts_are_exact laws limits detached text o handed octets form h =
+compact_texts_are_exact limits detached text o handed octets form h =
     let line : List ℕ = without_line_end text in
     let read : (encoded_in_compact detached line >>= decoded_object limits) ≡ Ok o = rw form at h in
     let a = steps (encoded_in_compact detached line) (decoded_object limits) o read in
-    exact laws limits detached line a.0 o handed (line_octets text octets) a.1 a.2
+    exact limits detached line a.0 o handed (line_octets text octets) a.1 a.2

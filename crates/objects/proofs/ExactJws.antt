@@ -18,7 +18,7 @@ use Rattle.objects.proofs.JwsWritten.{compact_is}
 use Rattle.objects.proofs.MadeJws.{IsSignature, compact_are, signature_spelled}
 use Rattle.objects.proofs.MadeOf.{signed_is}
 use Rattle.octets.proofs.Lemmas.{steps, same_answer}
-use Rattle.objects.proofs.TextOctets.{TextLaws, text_is}
+use Rattle.objects.proofs.TextOctets.{text_is}
 
 -- the texts of a compact text stand in it between dots: those of one signature without an unprotected header, and a part of which the payload is read
 pub record IsCompact (detached : Option (List ℕ)) (text : List ℕ) (t : EncodedJws) : Type 0 where
@@ -76,24 +76,24 @@ compact_text_is detach o s alone header =
 joined_is : (a b c part : List ℕ) (s : SignatureParts) → s.protected ≡ a → b ≡ part → c ≡ base64url s.signature → s.protected ++ 46 ∷ (part ++ 46 ∷ base64url s.signature) ≡ a ++ 46 ∷ (b ++ 46 ∷ c)
 joined_is a b c part s protected same signature = rw (protected, same, signature) refl
 
-exact : TextLaws → (limits : Limits) (detached : Option (List ℕ)) (line : List ℕ) (t : EncodedJws) (o : SignedObject) → AreOctetsHandedIn detached → IsOctets line
+exact : (limits : Limits) (detached : Option (List ℕ)) (line : List ℕ) (t : EncodedJws) (o : SignedObject) → AreOctetsHandedIn detached → IsOctets line
     → encoded_in_compact detached line ≡ Ok t → decoded_object limits t ≡ Ok o → jws_compact_text (is_some detached) o ≡ Ok line
-exact laws limits detached line t o handed octets split h =
+exact limits detached line t o handed octets split h =
     let is = texts_of_compact detached line t octets split in
-    let are = compact_are laws detached handed line t octets split in
+    let are = compact_are detached handed line t octets split in
     let spelled = object_spelled limits t o h in
     let one = one_read decoded_signature is.signature spelled.decoded_signatures (ap (each decoded_signature) (sym is.alone) ∙ spelled.decodes) in
     let s = signature_spelled is.signature one.0 one.1 in
     let texts = subst (AllByRecursion (IsSignature (depth_of_each (length t.signatures)))) is.alone are.signatures in
-    let part = part_is laws detached is.part t.payload o.payload is.octets is.payload spelled.payload in
-    let signature = text_is laws is.signature.signature one.0.parts.signature texts.0.signature s.signature in
+    let part = part_is detached is.part t.payload o.payload is.octets is.payload spelled.payload in
+    let signature = text_is is.signature.signature one.0.parts.signature texts.0.signature s.signature in
     compact_text_is (is_some detached) o one.0.parts (spelled.signatures ∙ ap (map (λ (s : DecodedSignature). s.parts)) one.2) (s.header ∙ is.header)
     ∙ ap Ok (joined_is is.signature.protected is.part is.signature.signature (kept (is_some detached) (base64url o.payload)) one.0.parts s.protected part signature ∙ sym is.between_dots)
 
-pub compact_texts_are_exact : TextLaws → CompactTextsAreExact
+pub compact_texts_are_exact : CompactTextsAreExact
 unfolding jws_of encoded_jws
-compact_texts_are_exact laws limits detached text o handed octets form h =
+compact_texts_are_exact limits detached text o handed octets form h =
     let line : List ℕ = without_line_end text in
     let read : (encoded_in_compact detached line >>= decoded_object limits) ≡ Ok o = rw form at h in
     let a = steps (encoded_in_compact detached line) (decoded_object limits) o read in
-    exact laws limits detached line a.0 o handed (line_octets text octets) a.1 a.2
+    exact limits detached line a.0 o handed (line_octets text octets) a.1 a.2

@@ -3,11 +3,11 @@ use Rattle.std.proofs.Common.{◌≡◌, ℕ, List, [], ◌∷◌, Bool, true, f
 use Rattle.serde_json.specs.Data.{Data, Items, no_members}
 use Rattle.octets.specs.declared.refusal.Refusal.{Refusal}
 use Rattle.octets.specs.declared.refusal.Refusal.TheVariants.{Form, Limit}
-use Rattle.octets.specs.Base64url.{base64url, decoded, DecodesExactly}
+use Rattle.octets.specs.Base64url.{base64url, decoded}
 use Rattle.octets.specs.LineEnds.{without_line_end}
 use Rattle.octets.specs.Octets.{IsOctets}
 use Rattle.octets.specs.Outcomes.{◌>>=◌, needs}
-use Rattle.octets.proofs.Lemmas.{IsOctets-nil}
+use Rattle.octets.proofs.Lemmas.{IsOctets-nil, decodes_exactly}
 use Rattle.keys.specs.Json.{json_value}
 use Rattle.keys.specs.Limits.{Limits, are_few}
 use Rattle.objects.specs.HandedIn.{PayloadIsHandedIn, with_payload}
@@ -86,22 +86,22 @@ of_list limits content list = do
   decoded ← each decoded_signature list
   signed_object limits.management content decoded
 
-decoded_list : DecodesExactly → (limits : Limits) (content : List ℕ) (list : List EncodedSignature) → IsOctets content
+decoded_list : (limits : Limits) (content : List ℕ) (list : List EncodedSignature) → IsOctets content
     → decoded_object limits (record { payload = base64url content; signatures = list }) ≡ of_list limits content list
 unfolding decoded_object
-decoded_list exact limits content list is =
-    ap (λ octets. needs (are_few limits (length list)) Limit >>= λ few. octets >>= λ payload. each decoded_signature list >>= λ d. signed_object limits.management payload d) (exact.round_trip content is)
+decoded_list limits content list is =
+    ap (λ octets. needs (are_few limits (length list)) Limit >>= λ few. octets >>= λ payload. each decoded_signature list >>= λ d. signed_object limits.management payload d) (decodes_exactly.round_trip content is)
 
-jws_list : DecodesExactly → (limits : Limits) (content : List ℕ) (list : Result (List EncodedSignature) Refusal) → IsOctets content
+jws_list : (limits : Limits) (content : List ℕ) (list : Result (List EncodedSignature) Refusal) → IsOctets content
     → (beside content list >>= decoded_object limits) ≡ (list >>= of_list limits content)
-jws_list exact limits content (Err r) is = refl
-jws_list exact limits content (Ok list) is = decoded_list exact limits content list is
+jws_list limits content (Err r) is = refl
+jws_list limits content (Ok list) is = decoded_list limits content list is
 
-by_list : DecodesExactly → (limits : Limits) (content text : List ℕ) → IsOctets content
+by_list : (limits : Limits) (content text : List ℕ) → IsOctets content
     → jws_of limits (Some content) text ≡ (signatures_in (is_json_form text) text >>= of_list limits content)
 unfolding jws_of
-by_list exact limits content text is =
-    ap (λ texts. texts >>= decoded_object limits) (in_text content text) ∙ jws_list exact limits content (signatures_in (is_json_form text) text) is
+by_list limits content text is =
+    ap (λ texts. texts >>= decoded_object limits) (in_text content text) ∙ jws_list limits content (signatures_in (is_json_form text) text) is
 
 -- its payload alone differs
 other_payload : (limits : Limits) (content : List ℕ) (list : Result (List EncodedSignature) Refusal)
@@ -122,8 +122,8 @@ other_payload limits content (Ok list) = by_few (are_few limits (length list)) (
     by_few true (Err r) = refl
     by_few true (Ok decoded) = by_signatures (signatures_of limits.management decoded)
 
-pub payload_is_handed_in : DecodesExactly → PayloadIsHandedIn
-payload_is_handed_in exact limits payload text is =
+pub payload_is_handed_in : PayloadIsHandedIn
+payload_is_handed_in limits payload text is =
     let list = signatures_in (is_json_form text) text in
-    by_list exact limits payload text is ∙ other_payload limits payload list
-    ∙ ap (λ object. object >>= λ o. Ok (with_payload payload o)) (sym (by_list exact limits [] text IsOctets-nil))
+    by_list limits payload text is ∙ other_payload limits payload list
+    ∙ ap (λ object. object >>= λ o. Ok (with_payload payload o)) (sym (by_list limits [] text IsOctets-nil))

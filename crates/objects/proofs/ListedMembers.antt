@@ -9,7 +9,7 @@ use Rattle.serde_json.specs.Find.{get}
 use Rattle.octets.specs.declared.refusal.Refusal.{Refusal}
 use Rattle.octets.specs.declared.refusal.Refusal.TheVariants.{Form}
 use Rattle.octets.specs.Outcomes.{◌>>=◌}
-use Rattle.keys.specs.JsonTexts.{AreJsonItems, KeepJson}
+use Rattle.keys.specs.JsonTexts.{AreJsonItems}
 use Rattle.keys.specs.KeySets.{are_objects}
 use Rattle.objects.specs.Texts.{each_item, object_list, header_depth, listed_header_depth, depth_of_each}
 use Rattle.objects.proofs.EachRead.{all_then}
@@ -96,22 +96,22 @@ depth_of_several : (n : ℕ) → depth_of_each (suc (suc n)) ≡ listed_header_d
 depth_of_several n = ap (λ few. if few then header_depth else listed_header_depth) (leb-suc-suc (suc n) 0 ∙ leb-suc-zero n)
 
 -- where the members of each are as JSON has them, so is the list, which nests two deeper
-items_json : {X T : Type 0} → KeepJson → (n : ℕ) (text : X → T) (entries : T → Entries) (xs : List X) → AllByRecursion (λ x. AreJsonEntries n (entries (text x))) xs
+items_json : {X T : Type 0} → (n : ℕ) (text : X → T) (entries : T → Entries) (xs : List X) → AllByRecursion (λ x. AreJsonEntries n (entries (text x))) xs
     → AreJsonItems (listed entries (map text xs)) × (items_depth (listed entries (map text xs)) ≤ suc n)
-items_json keep n text entries [] all = (tt, omega arith)
-items_json keep n text entries (x ∷ xs) all =
-    let first = all_json keep n (entries (text x)) all.0 in
-    let others = items_json keep n text entries xs all.1 in
+items_json n text entries [] all = (tt, omega arith)
+items_json n text entries (x ∷ xs) all =
+    let first = all_json n (entries (text x)) all.0 in
+    let others = items_json n text entries xs all.1 in
     ((first.0, others.0), omega (arith, first.1, others.1))
 
 -- so the members of all nest no deeper than a header at the top may, where those of each nest no deeper than its header may
-pub each_json : {X T : Type 0} → KeepJson → (name : List ℕ) (text : X → T) (entries : T → Entries) (xs : List X) → IsUtf8 name
+pub each_json : {X T : Type 0} → (name : List ℕ) (text : X → T) (entries : T → Entries) (xs : List X) → IsUtf8 name
     → AllByRecursion (λ x. AreJsonEntries (depth_of_each (length xs)) (entries (text x))) xs → AreJsonEntries header_depth (each_entries name entries (map text xs))
-each_json keep name text entries [] named all = ((named, (tt, omega arith)), tt)
-each_json keep name text entries (x ∷ []) named all = all.0
-each_json keep name text entries (x ∷ (other ∷ rest)) named all =
+each_json name text entries [] named all = ((named, (tt, omega arith)), tt)
+each_json name text entries (x ∷ []) named all = all.0
+each_json name text entries (x ∷ (other ∷ rest)) named all =
     let deep = λ (n : ℕ). AllByRecursion (λ x. AreJsonEntries n (entries (text x))) (x ∷ (other ∷ rest)) in
-    let items = items_json keep listed_header_depth text entries (x ∷ (other ∷ rest)) (subst deep (depth_of_several (length rest)) all) in
+    let items = items_json listed_header_depth text entries (x ∷ (other ∷ rest)) (subst deep (depth_of_several (length rest)) all) in
     ((named, (items.0, omega (arith, items.1))), tt)
 
 -- what nests at most so deep nests at most two deeper
@@ -120,10 +120,10 @@ deeper_if_there n None h = tt
 deeper_if_there n (Some d) h = (h.0, omega (arith, h.1))
 
 -- where the members of each are as JSON has them, at most so deep, those of all nest at most two deeper
-pub each_json_deeper : {X T : Type 0} → KeepJson → (n : ℕ) (name : List ℕ) (text : X → T) (entries : T → Entries) (xs : List X) → IsUtf8 name
+pub each_json_deeper : {X T : Type 0} → (n : ℕ) (name : List ℕ) (text : X → T) (entries : T → Entries) (xs : List X) → IsUtf8 name
     → AllByRecursion (λ x. AreJsonEntries n (entries (text x))) xs → AreJsonEntries (suc (suc n)) (each_entries name entries (map text xs))
-each_json_deeper keep n name text entries [] named all = ((named, (tt, omega arith)), tt)
-each_json_deeper keep n name text entries (x ∷ []) named all = all_then _ _ (λ e h. (h.0, deeper_if_there n e.1 h.1)) (entries (text x)) all.0
-each_json_deeper keep n name text entries (x ∷ (other ∷ rest)) named all =
-    let items = items_json keep n text entries (x ∷ (other ∷ rest)) all in
+each_json_deeper n name text entries [] named all = ((named, (tt, omega arith)), tt)
+each_json_deeper n name text entries (x ∷ []) named all = all_then _ _ (λ e h. (h.0, deeper_if_there n e.1 h.1)) (entries (text x)) all.0
+each_json_deeper n name text entries (x ∷ (other ∷ rest)) named all =
+    let items = items_json n text entries (x ∷ (other ∷ rest)) all in
     ((named, (items.0, omega (arith, items.1))), tt)

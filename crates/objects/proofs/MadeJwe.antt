@@ -8,8 +8,8 @@ use Rattle.octets.specs.declared.refusal.Refusal.TheVariants.{Limit}
 use Rattle.octets.specs.Base64url.{decoded}
 use Rattle.octets.specs.Octets.{IsOctets}
 use Rattle.octets.specs.Outcomes.{needs}
-use Rattle.octets.proofs.Lemmas.{IsOctets-nil, steps, passed, same_answer}
-use Rattle.keys.specs.JsonTexts.{IsJson, KeepJson}
+use Rattle.octets.proofs.Lemmas.{IsOctets-nil, steps, passed, same_answer, octets_of_meaning}
+use Rattle.keys.specs.JsonTexts.{IsJson}
 use Rattle.keys.specs.Limits.{Limits, are_few}
 use Rattle.objects.specs.Headers.{header_at}
 use Rattle.objects.specs.Jwe.{EncodedRecipient, RecipientParts, EncodedShared, EncodedContent, EncodedJwe, JweParts, EncryptedObject, encoded_shared, encoded_recipient, encoded_content, no_recipient_at, recipients_by, recipient_objects, encoded_in_json, encoded_in_compact, encoded_jwe, decoded_recipient, decoded_members, decoded_object, jwe_of, headers_are_shallow, have_whole_numbers, built, AreMembers, ObjectsAreMade}
@@ -18,8 +18,7 @@ use Rattle.objects.proofs.DetachedContent.{MeansOctets, part_octets, member_octe
 use Rattle.objects.proofs.Each.{as_many}
 use Rattle.objects.proofs.EachRead.{all_read, all_pass, all_then}
 use Rattle.objects.proofs.Joined.{split_octets, three_octets}
-use Rattle.objects.proofs.ReadJson.{ReadingLaws, text_is_json, IsShallow, IsHeader, AreObjects, no_header, header_whole, text_octets, header_shallow, alone, listed, each_is, of_text}
-use Rattle.objects.proofs.TextOctets.{TextLaws}
+use Rattle.objects.proofs.ReadJson.{text_is_json, IsShallow, IsHeader, AreObjects, no_header, header_whole, text_octets, header_shallow, alone, listed, each_is, of_text}
 
 -- ---- the texts are octets, but that of the ciphertext, which decodes to octets, and the headers are as JSON has them
 
@@ -45,60 +44,60 @@ pub record AreTexts (t : EncodedJwe) : Type 0 where
 
 -- ---- in JSON form
 
-recipient_is : KeepJson → (n : ℕ) (d : Data) (t : EncodedRecipient) → 1 ≤ n → IsShallow (suc n) d → encoded_recipient d ≡ Ok t → IsRecipient n t
+recipient_is : (n : ℕ) (d : Data) (t : EncodedRecipient) → 1 ≤ n → IsShallow (suc n) d → encoded_recipient d ≡ Ok t → IsRecipient n t
 unfolding encoded_recipient
-recipient_is keep n d t some is h =
+recipient_is n d t some is h =
     let a = steps (text_at (codes "encrypted_key") d) _ t h in
     let b = steps (header_at (codes "header") d) _ t a.2 in
     subst (IsRecipient n) (same_answer _ t b.2)
-    (record { header = header_shallow keep n (codes "header") d b.0 some is b.1; encrypted_key = text_octets keep (codes "encrypted_key") d a.0 is.json a.1 })
+    (record { header = header_shallow n (codes "header") d b.0 some is b.1; encrypted_key = text_octets (codes "encrypted_key") d a.0 is.json a.1 })
 
-shared_are : KeepJson → (d : Data) (t : EncodedShared) → IsShallow 127 d → encoded_shared d ≡ Ok t → AreShared t
+shared_are : (d : Data) (t : EncodedShared) → IsShallow 127 d → encoded_shared d ≡ Ok t → AreShared t
 unfolding encoded_shared
-shared_are keep d t is h =
+shared_are d t is h =
     let a = steps (text_at (codes "protected") d) _ t h in
     let b = steps (header_at (codes "unprotected") d) _ t a.2 in
     let c = steps (text_at (codes "aad") d) _ t b.2 in
     subst AreShared (same_answer _ t c.2)
     (record {
-      protected = text_octets keep (codes "protected") d a.0 is.json a.1;
-      unprotected = header_shallow keep header_depth (codes "unprotected") d b.0 (omega arith) is b.1;
-      aad = text_octets keep (codes "aad") d c.0 is.json c.1;
+      protected = text_octets (codes "protected") d a.0 is.json a.1;
+      unprotected = header_shallow header_depth (codes "unprotected") d b.0 (omega arith) is b.1;
+      aad = text_octets (codes "aad") d c.0 is.json c.1;
     })
 
-content_are : KeepJson → TextLaws → (detached : Option (List ℕ)) → AreOctetsHandedIn detached → (d : Data) (t : EncodedContent) → IsJson d → encoded_content detached d ≡ Ok t → AreContent t
+content_are : (detached : Option (List ℕ)) → AreOctetsHandedIn detached → (d : Data) (t : EncodedContent) → IsJson d → encoded_content detached d ≡ Ok t → AreContent t
 unfolding encoded_content
-content_are keep laws detached handed d t is h =
+content_are detached handed d t is h =
     let a = steps (text_at (codes "iv") d) _ t h in
     let b = steps (content_text detached (codes "ciphertext") d) _ t a.2 in
     let c = steps (text_at (codes "tag") d) _ t b.2 in
     subst AreContent (same_answer _ t c.2)
     (record {
-      iv = text_octets keep (codes "iv") d a.0 is a.1;
-      ciphertext = member_octets keep laws detached (codes "ciphertext") d b.0 handed is b.1;
-      tag = text_octets keep (codes "tag") d c.0 is c.1;
+      iv = text_octets (codes "iv") d a.0 is a.1;
+      ciphertext = member_octets detached (codes "ciphertext") d b.0 handed is b.1;
+      tag = text_octets (codes "tag") d c.0 is c.1;
     })
 
-objects_by : KeepJson → (d : Data) (o : Option Data) (items : Items) → IsShallow 127 d → get (codes "recipients") d ≡ o → recipients_by d o ≡ Ok items → AreObjects items
-objects_by keep d None items is e h = subst AreObjects (same_answer _ items h) (alone d is)
-objects_by keep d (Some list) items is e h =
+objects_by : (d : Data) (o : Option Data) (items : Items) → IsShallow 127 d → get (codes "recipients") d ≡ o → recipients_by d o ≡ Ok items → AreObjects items
+objects_by d None items is e h = subst AreObjects (same_answer _ items h) (alone d is)
+objects_by d (Some list) items is e h =
     let a = steps (no_recipient_at d) _ items h in
-    listed keep (codes "recipients") d list items is e a.2
+    listed (codes "recipients") d list items is e a.2
 
-objects_are : KeepJson → (d : Data) (items : Items) → IsShallow 127 d → recipient_objects d ≡ Ok items → AreObjects items
+objects_are : (d : Data) (items : Items) → IsShallow 127 d → recipient_objects d ≡ Ok items → AreObjects items
 unfolding recipient_objects
-objects_are keep d items is h = objects_by keep d (get (codes "recipients") d) items is refl h
+objects_are d items is h = objects_by d (get (codes "recipients") d) items is refl h
 
-pub json_are : KeepJson → TextLaws → (detached : Option (List ℕ)) → AreOctetsHandedIn detached → (d : Data) (t : EncodedJwe) → IsShallow 127 d → encoded_in_json detached d ≡ Ok t → AreTexts t
+pub json_are : (detached : Option (List ℕ)) → AreOctetsHandedIn detached → (d : Data) (t : EncodedJwe) → IsShallow 127 d → encoded_in_json detached d ≡ Ok t → AreTexts t
 unfolding encoded_in_json
-json_are keep laws detached handed d t is h =
+json_are detached handed d t is h =
     let a = steps (encoded_shared d) _ t h in
     let b = steps (recipient_objects d) _ t a.2 in
     let c = steps (each_item encoded_recipient b.0) _ t b.2 in
     let e = steps (encoded_content detached d) _ t c.2 in
-    let recipients = each_is IsRecipient encoded_recipient (recipient_is keep) b.0 c.0 (objects_are keep d b.0 is b.1) c.1 in
+    let recipients = each_is IsRecipient encoded_recipient (recipient_is) b.0 c.0 (objects_are d b.0 is b.1) c.1 in
     subst AreTexts (same_answer _ t e.2)
-    (record { shared = shared_are keep d a.0 is a.1; recipients = recipients.0; some = recipients.1; content = content_are keep laws detached handed d e.0 is.json e.1 })
+    (record { shared = shared_are d a.0 is a.1; recipients = recipients.0; some = recipients.1; content = content_are detached handed d e.0 is.json e.1 })
 
 -- ---- in compact form
 
@@ -110,9 +109,9 @@ compact protected encrypted_key iv ciphertext tag = record {
   content = record { iv = iv; ciphertext = ciphertext; tag = tag };
 }
 
-pub compact_are : TextLaws → (detached : Option (List ℕ)) → AreOctetsHandedIn detached → (text : List ℕ) (t : EncodedJwe) → IsOctets text → encoded_in_compact detached text ≡ Ok t → AreTexts t
+pub compact_are : (detached : Option (List ℕ)) → AreOctetsHandedIn detached → (text : List ℕ) (t : EncodedJwe) → IsOctets text → encoded_in_compact detached text ≡ Ok t → AreTexts t
 unfolding encoded_in_compact
-compact_are laws detached handed text t octets h =
+compact_are detached handed text t octets h =
     let a = steps (split_at_dot text) _ t h in
     let b = steps (split_at_dot a.0.1) _ t a.2 in
     let c = steps (three_parts b.0.1) _ t b.2 in
@@ -127,15 +126,15 @@ compact_are laws detached handed text t octets h =
       shared = record { protected = first.0; unprotected = none; aad = IsOctets-nil };
       recipients = (record { header = none; encrypted_key = second.0 }, tt);
       some = omega arith;
-      content = record { iv = others.0; ciphertext = part_octets laws detached c.0.1 d.0 handed others.1 d.1; tag = others.2 };
+      content = record { iv = others.0; ciphertext = part_octets detached c.0.1 d.0 handed others.1 d.1; tag = others.2 };
     })
 
 -- ---- in either form
 
-texts_are : ReadingLaws → TextLaws → (detached : Option (List ℕ)) → AreOctetsHandedIn detached → (text : List ℕ) (t : EncodedJwe) → IsOctets text → encoded_jwe detached text ≡ Ok t → AreTexts t
+texts_are : (detached : Option (List ℕ)) → AreOctetsHandedIn detached → (text : List ℕ) (t : EncodedJwe) → IsOctets text → encoded_jwe detached text ≡ Ok t → AreTexts t
 unfolding encoded_jwe
-texts_are reading laws detached handed text t octets h =
-    of_text AreTexts (encoded_in_json detached) (encoded_in_compact detached) reading.reads (json_are reading.keep laws detached handed) (compact_are laws detached handed) (is_json_form text) text t octets h
+texts_are detached handed text t octets h =
+    of_text AreTexts (encoded_in_json detached) (encoded_in_compact detached) (json_are detached handed) (compact_are detached handed) (is_json_form text) text t octets h
 
 -- ---- the members
 
@@ -174,22 +173,22 @@ parts_spelled t parts h =
 abbrev IsMade : ℕ → RecipientParts → Type 0
 IsMade n r = IsHeader n r.header × IsOctets r.encrypted_key
 
-recipient_made : ReadingLaws → (n : ℕ) (t : EncodedRecipient) (r : RecipientParts) → IsRecipient n t → decoded_recipient t ≡ Ok r → IsMade n r
-recipient_made laws n t r is h =
+recipient_made : (n : ℕ) (t : EncodedRecipient) (r : RecipientParts) → IsRecipient n t → decoded_recipient t ≡ Ok r → IsMade n r
+recipient_made n t r is h =
     let spelled = recipient_spelled t r h in
-    (subst (IsHeader n) (sym spelled.header) is.header, laws.octets t.encrypted_key r.encrypted_key is.encrypted_key spelled.encrypted_key)
+    (subst (IsHeader n) (sym spelled.header) is.header, octets_of_meaning t.encrypted_key r.encrypted_key is.encrypted_key spelled.encrypted_key)
 
 -- and so they are of all
-recipients_made : ReadingLaws → (ts : List EncodedRecipient) (rs : List RecipientParts) → AllByRecursion (IsRecipient (depth_of_each (length ts))) ts → each decoded_recipient ts ≡ Ok rs
+recipients_made : (ts : List EncodedRecipient) (rs : List RecipientParts) → AllByRecursion (IsRecipient (depth_of_each (length ts))) ts → each decoded_recipient ts ≡ Ok rs
     → AllByRecursion (IsMade (depth_of_each (length rs))) rs
-recipients_made laws ts rs are h =
+recipients_made ts rs are h =
     let n : ℕ = depth_of_each (length ts) in
-    let all : AllByRecursion (IsMade n) rs = all_read (IsRecipient n) (IsMade n) decoded_recipient (recipient_made laws n) ts rs are h in
+    let all : AllByRecursion (IsMade n) rs = all_read (IsRecipient n) (IsMade n) decoded_recipient (recipient_made n) ts rs are h in
     subst (λ k. AllByRecursion (IsMade (depth_of_each k)) rs) (sym (as_many decoded_recipient ts rs h)) all
 
-object_made : ReadingLaws → (limits : Limits) (t : EncodedJwe) (o : EncryptedObject) → AreTexts t → decoded_object limits t ≡ Ok o → (parts : JweParts) × (AreMembers parts × (built limits parts ≡ Ok o))
+object_made : (limits : Limits) (t : EncodedJwe) (o : EncryptedObject) → AreTexts t → decoded_object limits t ≡ Ok o → (parts : JweParts) × (AreMembers parts × (built limits parts ≡ Ok o))
 unfolding decoded_object built
-object_made laws limits t o are h =
+object_made limits t o are h =
     let a = steps (needs (are_few limits (length t.recipients)) Limit) _ o h in
     let b = steps (decoded t.shared.protected) _ o a.2 in
     let c = steps (decoded_members t) _ o b.2 in
@@ -197,15 +196,15 @@ object_made laws limits t o are h =
     let spelled = parts_spelled t parts c.1 in
     let many = as_many decoded_recipient t.recipients parts.recipients spelled.recipients in
     let n : ℕ = depth_of_each (length parts.recipients) in
-    let all : AllByRecursion (IsMade n) parts.recipients = recipients_made laws t.recipients parts.recipients are.recipients spelled.recipients in
+    let all : AllByRecursion (IsMade n) parts.recipients = recipients_made t.recipients parts.recipients are.recipients spelled.recipients in
     let unprotected : IsHeader header_depth parts.unprotected = subst (IsHeader header_depth) (sym spelled.unprotected) are.shared.unprotected in
     let members : AreMembers parts = record {
-      protected = subst IsUtf8 (sym spelled.protected) (text_is_json laws t.shared.protected b.0 are.shared.protected b.1);
+      protected = subst IsUtf8 (sym spelled.protected) (text_is_json t.shared.protected b.0 are.shared.protected b.1);
       unprotected = unprotected.json;
-      iv = laws.octets t.content.iv parts.iv are.content.iv spelled.iv;
-      aad = laws.octets t.shared.aad parts.aad are.shared.aad spelled.aad;
+      iv = octets_of_meaning t.content.iv parts.iv are.content.iv spelled.iv;
+      aad = octets_of_meaning t.shared.aad parts.aad are.shared.aad spelled.aad;
       ciphertext = are.content.ciphertext parts.ciphertext spelled.ciphertext;
-      tag = laws.octets t.content.tag parts.tag are.content.tag spelled.tag;
+      tag = octets_of_meaning t.content.tag parts.tag are.content.tag spelled.tag;
       recipients = all_then (IsMade n) _ (λ r is. (is.0.json, is.1)) parts.recipients all;
     } in
     let shallow : headers_are_shallow parts ≡ true = and_from _ _ (le-leb _ header_depth unprotected.shallow) (all_pass (IsMade n) _ (λ r is. le-leb _ n is.0.shallow) parts.recipients all) in
@@ -216,9 +215,9 @@ object_made laws limits t o are h =
     let octets : decoded parts.protected ≡ Ok b.0 = ap decoded spelled.protected ∙ b.1 in
     (parts, (members, rw (shallow, whole, some, few, octets) c.2))
 
-pub objects_are_made : ReadingLaws → ObjectsAreMade
+pub objects_are_made : ObjectsAreMade
 unfolding jwe_of
-objects_are_made laws limits detached text o handed octets h =
+objects_are_made limits detached text o handed octets h =
     let a = steps (encoded_jwe detached text) (decoded_object limits) o h in
-    let are = texts_are laws (record { exact = laws.exact; octets = laws.octets }) detached handed text a.0 octets a.1 in
-    object_made laws limits a.0 o are a.2
+    let are = texts_are detached handed text a.0 octets a.1 in
+    object_made limits a.0 o are a.2

@@ -9,7 +9,6 @@ use Rattle.octets.specs.declared.refusal.Refusal.TheVariants.{Limit}
 use Rattle.octets.specs.Base64url.{decoded}
 use Rattle.octets.specs.Octets.{IsOctets}
 use Rattle.octets.specs.Outcomes.{◌>>=◌, needs}
-use Rattle.keys.specs.JsonTexts.{KeepJson}
 use Rattle.keys.specs.Limits.{Limits, are_few}
 use Rattle.objects.specs.Headers.{header_at}
 use Rattle.objects.specs.Jws.{EncodedSignature, SignatureParts, EncodedJws, JwsParts, DecodedSignature, SignedObject, encoded_signature, no_signature_at, signatures_by, signature_objects, encoded_in_json, encoded_in_compact, encoded_jws, decoded_part, decoded_signature, decoded_object, jws_of, nest_at_most, have_whole_numbers, built, AreMembers, ObjectsAreMade}
@@ -18,9 +17,8 @@ use Rattle.objects.proofs.DetachedContent.{MeansOctets, part_octets, member_octe
 use Rattle.objects.proofs.Each.{as_many}
 use Rattle.objects.proofs.EachRead.{all_read, read_again, all_pass, all_then, all_images}
 use Rattle.objects.proofs.Joined.{three_octets}
-use Rattle.objects.proofs.ReadJson.{ReadingLaws, text_is_json, IsShallow, IsHeader, AreObjects, no_header, header_whole, text_octets, required_octets, header_shallow, alone, listed, each_is, of_text}
-use Rattle.octets.proofs.Lemmas.{steps, passed, same_answer}
-use Rattle.objects.proofs.TextOctets.{TextLaws}
+use Rattle.objects.proofs.ReadJson.{text_is_json, IsShallow, IsHeader, AreObjects, no_header, header_whole, text_octets, required_octets, header_shallow, alone, listed, each_is, of_text}
+use Rattle.octets.proofs.Lemmas.{steps, passed, same_answer, octets_of_meaning}
 
 -- ---- the texts are octets, but that of the payload, which decodes to octets, and the headers are as JSON has them
 
@@ -36,60 +34,60 @@ pub record AreTexts (t : EncodedJws) : Type 0 where
 
 -- ---- in JSON form
 
-signature_is : KeepJson → (n : ℕ) (d : Data) (t : EncodedSignature) → 1 ≤ n → IsShallow (suc n) d → encoded_signature d ≡ Ok t → IsSignature n t
+signature_is : (n : ℕ) (d : Data) (t : EncodedSignature) → 1 ≤ n → IsShallow (suc n) d → encoded_signature d ≡ Ok t → IsSignature n t
 unfolding encoded_signature
-signature_is keep n d t some is h =
+signature_is n d t some is h =
     let a = steps (text_at (codes "protected") d) _ t h in
     let b = steps (header_at (codes "header") d) _ t a.2 in
     let c = steps (required_text (codes "signature") d) _ t b.2 in
     subst (IsSignature n) (same_answer _ t c.2)
     (record {
-      protected = text_octets keep (codes "protected") d a.0 is.json a.1;
-      header = header_shallow keep n (codes "header") d b.0 some is b.1;
-      signature = required_octets keep (codes "signature") d c.0 is.json c.1;
+      protected = text_octets (codes "protected") d a.0 is.json a.1;
+      header = header_shallow n (codes "header") d b.0 some is b.1;
+      signature = required_octets (codes "signature") d c.0 is.json c.1;
     })
 
-objects_by : KeepJson → (d : Data) (o : Option Data) (items : Items) → IsShallow 127 d → get (codes "signatures") d ≡ o → signatures_by d o ≡ Ok items → AreObjects items
-objects_by keep d None items is e h = subst AreObjects (same_answer _ items h) (alone d is)
-objects_by keep d (Some list) items is e h =
+objects_by : (d : Data) (o : Option Data) (items : Items) → IsShallow 127 d → get (codes "signatures") d ≡ o → signatures_by d o ≡ Ok items → AreObjects items
+objects_by d None items is e h = subst AreObjects (same_answer _ items h) (alone d is)
+objects_by d (Some list) items is e h =
     let a = steps (no_signature_at d) _ items h in
-    listed keep (codes "signatures") d list items is e a.2
+    listed (codes "signatures") d list items is e a.2
 
-objects_are : KeepJson → (d : Data) (items : Items) → IsShallow 127 d → signature_objects d ≡ Ok items → AreObjects items
+objects_are : (d : Data) (items : Items) → IsShallow 127 d → signature_objects d ≡ Ok items → AreObjects items
 unfolding signature_objects
-objects_are keep d items is h = objects_by keep d (get (codes "signatures") d) items is refl h
+objects_are d items is h = objects_by d (get (codes "signatures") d) items is refl h
 
-pub json_are : KeepJson → TextLaws → (detached : Option (List ℕ)) → AreOctetsHandedIn detached → (d : Data) (t : EncodedJws) → IsShallow 127 d → encoded_in_json detached d ≡ Ok t → AreTexts t
+pub json_are : (detached : Option (List ℕ)) → AreOctetsHandedIn detached → (d : Data) (t : EncodedJws) → IsShallow 127 d → encoded_in_json detached d ≡ Ok t → AreTexts t
 unfolding encoded_in_json
-json_are keep laws detached handed d t is h =
+json_are detached handed d t is h =
     let a = steps (content_text detached (codes "payload") d) _ t h in
     let b = steps (signature_objects d) _ t a.2 in
     let c = steps (each_item encoded_signature b.0) _ t b.2 in
-    let signatures = each_is IsSignature encoded_signature (signature_is keep) b.0 c.0 (objects_are keep d b.0 is b.1) c.1 in
+    let signatures = each_is IsSignature encoded_signature (signature_is) b.0 c.0 (objects_are d b.0 is b.1) c.1 in
     subst AreTexts (same_answer _ t c.2)
-    (record { payload = member_octets keep laws detached (codes "payload") d a.0 handed is.json a.1; signatures = signatures.0; some = signatures.1 })
+    (record { payload = member_octets detached (codes "payload") d a.0 handed is.json a.1; signatures = signatures.0; some = signatures.1 })
 
 -- ---- in compact form
 
-pub compact_are : TextLaws → (detached : Option (List ℕ)) → AreOctetsHandedIn detached → (text : List ℕ) (t : EncodedJws) → IsOctets text → encoded_in_compact detached text ≡ Ok t → AreTexts t
+pub compact_are : (detached : Option (List ℕ)) → AreOctetsHandedIn detached → (text : List ℕ) (t : EncodedJws) → IsOctets text → encoded_in_compact detached text ≡ Ok t → AreTexts t
 unfolding encoded_in_compact
-compact_are laws detached handed text t octets h =
+compact_are detached handed text t octets h =
     let a = steps (three_parts text) _ t h in
     let b = steps (content_by detached a.0.1) _ t a.2 in
     let parts = three_octets text a.0 octets a.1 in
     subst AreTexts (same_answer _ t b.2)
     (record {
-      payload = part_octets laws detached a.0.1 b.0 handed parts.1 b.1;
+      payload = part_octets detached a.0.1 b.0 handed parts.1 b.1;
       signatures = (record { protected = parts.0; header = no_header 126 (omega arith); signature = parts.2 }, tt);
       some = omega arith;
     })
 
 -- ---- in either form
 
-texts_are : ReadingLaws → TextLaws → (detached : Option (List ℕ)) → AreOctetsHandedIn detached → (text : List ℕ) (t : EncodedJws) → IsOctets text → encoded_jws detached text ≡ Ok t → AreTexts t
+texts_are : (detached : Option (List ℕ)) → AreOctetsHandedIn detached → (text : List ℕ) (t : EncodedJws) → IsOctets text → encoded_jws detached text ≡ Ok t → AreTexts t
 unfolding encoded_jws
-texts_are reading laws detached handed text t octets h =
-    of_text AreTexts (encoded_in_json detached) (encoded_in_compact detached) reading.reads (json_are reading.keep laws detached handed) (compact_are laws detached handed) (is_json_form text) text t octets h
+texts_are detached handed text t octets h =
+    of_text AreTexts (encoded_in_json detached) (encoded_in_compact detached) (json_are detached handed) (compact_are detached handed) (is_json_form text) text t octets h
 
 -- ---- the members
 
@@ -112,19 +110,19 @@ signature_spelled t s h =
 abbrev IsMade : ℕ → SignatureParts → Type 0
 IsMade n s = IsUtf8 s.protected × IsHeader n s.header × IsOctets s.signature
 
-signature_made : ReadingLaws → (n : ℕ) (t : EncodedSignature) (s : DecodedSignature) → IsSignature n t → decoded_signature t ≡ Ok s → IsMade n s.parts
+signature_made : (n : ℕ) (t : EncodedSignature) (s : DecodedSignature) → IsSignature n t → decoded_signature t ≡ Ok s → IsMade n s.parts
 unfolding decoded_part
-signature_made laws n t s is h =
+signature_made n t s is h =
     let spelled = signature_spelled t s h in
     let own = steps (decoded s.parts.protected) _ s spelled.again in (
-      text_is_json laws s.parts.protected own.0 (subst IsOctets (sym spelled.protected) is.protected) own.1,
+      text_is_json s.parts.protected own.0 (subst IsOctets (sym spelled.protected) is.protected) own.1,
       subst (IsHeader n) (sym spelled.header) is.header,
-      laws.octets t.signature s.parts.signature is.signature spelled.signature,
+      octets_of_meaning t.signature s.parts.signature is.signature spelled.signature,
     )
 
-object_made : ReadingLaws → (limits : Limits) (t : EncodedJws) (o : SignedObject) → AreTexts t → decoded_object limits t ≡ Ok o → (parts : JwsParts) × (AreMembers parts × (built limits parts ≡ Ok o))
+object_made : (limits : Limits) (t : EncodedJws) (o : SignedObject) → AreTexts t → decoded_object limits t ≡ Ok o → (parts : JwsParts) × (AreMembers parts × (built limits parts ≡ Ok o))
 unfolding decoded_object built
-object_made laws limits t o are h =
+object_made limits t o are h =
     let a = steps (needs (are_few limits (length t.signatures)) Limit) _ o h in
     let b = steps (decoded t.payload) _ o a.2 in
     let c = steps (each decoded_signature t.signatures) _ o b.2 in
@@ -134,7 +132,7 @@ object_made laws limits t o are h =
     let n : ℕ = depth_of_each (length signatures) in
     let texts : AllByRecursion (IsSignature n) t.signatures = subst (λ k. AllByRecursion (IsSignature (depth_of_each k)) t.signatures) (sym many) are.signatures in
     let all : AllByRecursion (IsMade n) signatures =
-    all_images (IsMade n) members_of (λ s is. is) c.0 (all_read (IsSignature n) (λ s. IsMade n s.parts) decoded_signature (signature_made laws n) t.signatures c.0 texts c.1) in
+    all_images (IsMade n) members_of (λ s is. is) c.0 (all_read (IsSignature n) (λ s. IsMade n s.parts) decoded_signature (signature_made n) t.signatures c.0 texts c.1) in
     let members : AreMembers (record { payload = b.0; signatures = signatures }) = record {
       payload = are.payload b.0 b.1;
       signatures = all_then (IsMade n) _ (λ s is. (is.0, (is.1.json, is.2))) signatures all;
@@ -146,9 +144,9 @@ object_made laws limits t o are h =
     let again : each decoded_part signatures ≡ Ok c.0 = read_again decoded_signature members_of decoded_part (λ t s h. (signature_spelled t s h).again) t.signatures c.0 c.1 in
     (record { payload = b.0; signatures = signatures }, (members, rw (shallow, whole, some, few, again) c.2))
 
-pub objects_are_made : ReadingLaws → ObjectsAreMade
+pub objects_are_made : ObjectsAreMade
 unfolding jws_of
-objects_are_made laws limits detached text o handed octets h =
+objects_are_made limits detached text o handed octets h =
     let a = steps (encoded_jws detached text) (decoded_object limits) o h in
-    let are = texts_are laws (record { exact = laws.exact; octets = laws.octets }) detached handed text a.0 octets a.1 in
-    object_made laws limits a.0 o are a.2
+    let are = texts_are detached handed text a.0 octets a.1 in
+    object_made limits a.0 o are a.2

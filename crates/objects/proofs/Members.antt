@@ -7,7 +7,8 @@ use Rattle.std.specs.Str.{bytes_eq, IsUtf8}
 use Rattle.serde_json.specs.Data.{Data, Members, no_members, put, depth, members_depth}
 use Rattle.serde_json.specs.Find.{get_member}
 use Rattle.serde_json.proofs.Views.{get_member-put, get_member-put_other}
-use Rattle.keys.specs.JsonTexts.{IsJson, AreJsonMembers, KeepJson}
+use Rattle.keys.specs.JsonTexts.{IsJson, AreJsonMembers}
+use Rattle.keys.proofs.Lemmas.{keep_json}
 
 -- names, each with its value where it is there
 abbrev pub Entries : Type 0
@@ -56,14 +57,14 @@ abbrev pub AreJsonEntries : ℕ → Entries → Type 0
 AreJsonEntries n entries = AllByRecursion (λ e. IsUtf8 e.0 × IsJsonIfThere n e.1) entries
 
 -- members stay so where one is put in
-one_more : KeepJson → (n : ℕ) (name : List ℕ) (d : Option Data) (members : Members) → IsUtf8 name → IsJsonIfThere n d → AreJsonMembers members × (members_depth members ≤ n)
+one_more : (n : ℕ) (name : List ℕ) (d : Option Data) (members : Members) → IsUtf8 name → IsJsonIfThere n d → AreJsonMembers members × (members_depth members ≤ n)
     → AreJsonMembers (put_if_there name d members) × (members_depth (put_if_there name d members) ≤ n)
-one_more keep n name None ms text is all = all
-one_more keep n name (Some d) ms text is all =
-    let more = keep.put_in name d ms text is.0 all.0 in
+one_more n name None ms text is all = all
+one_more n name (Some d) ms text is all =
+    let more = keep_json.put_in name d ms text is.0 all.0 in
     (more.0, omega (arith, more.1, is.1, all.1))
 
 -- where each is so, the members are, and nest no deeper
-pub all_json : KeepJson → (n : ℕ) (entries : Entries) → AreJsonEntries n entries → AreJsonMembers (put_all entries) × (members_depth (put_all entries) ≤ n)
-all_json keep n [] all = (tt, omega arith)
-all_json keep n (e ∷ rest) all = one_more keep n e.0 e.1 (put_all rest) all.0.0 all.0.1 (all_json keep n rest all.1)
+pub all_json : (n : ℕ) (entries : Entries) → AreJsonEntries n entries → AreJsonMembers (put_all entries) × (members_depth (put_all entries) ≤ n)
+all_json n [] all = (tt, omega arith)
+all_json n (e ∷ rest) all = one_more n e.0 e.1 (put_all rest) all.0.0 all.0.1 (all_json n rest all.1)

@@ -8,38 +8,26 @@ use Rattle.serde_json.specs.Data.{Data, object, Items, no_items, item, Members, 
 use Rattle.serde_json.specs.Find.{get, as_str, as_array, as_object}
 use Rattle.octets.specs.declared.refusal.Refusal.{Refusal}
 use Rattle.octets.specs.declared.refusal.Refusal.TheVariants.{Form}
-use Rattle.octets.specs.Base64url.{base64url, decoded, DecodesExactly, HasUrlCharacters}
+use Rattle.octets.specs.Base64url.{base64url, decoded}
 use Rattle.octets.specs.LineEnds.{without_line_end}
 use Rattle.octets.specs.Octets.{IsOctets}
 use Rattle.octets.specs.Outcomes.{◌>>=◌, needs}
-use Rattle.octets.proofs.Lemmas.{IsOctets-nil, steps, passed, same_answer, is_there, decodes_exactly, has_url_characters, octets_of_meaning}
+use Rattle.octets.proofs.Lemmas.{IsOctets-nil, steps, passed, same_answer, is_there, has_url_characters, octets_of_meaning}
 use Rattle.keys.specs.Json.{json_value, member_numbers_are_whole}
-use Rattle.keys.specs.JsonTexts.{IsJson, AreJsonItems, AreJsonMembers, KeepJson, ReadsJson, UrlTextsAreJson}
+use Rattle.keys.specs.JsonTexts.{IsJson, AreJsonItems, AreJsonMembers}
 use Rattle.keys.specs.KeySets.{are_objects, items_count}
-use Rattle.keys.proofs.Lemmas.{string_octets, DecodesToOctets, numbers_whole, keep_json, reads_json, url_texts_are_json}
+use Rattle.keys.proofs.Lemmas.{string_octets, numbers_whole, keep_json, reads_json, url_texts_are_json}
 use Rattle.objects.specs.Headers.{header_at, members_if_there, some_members}
 use Rattle.objects.specs.Texts.{each_item, text_if_there, text_at, required_text, has_items, object_list, depth_of_each}
 use Rattle.objects.proofs.EachRead.{all_items_read, as_many_items}
 use Rattle.objects.proofs.Joined.{line_octets}
 use Rattle.objects.proofs.TextOctets.{text_is}
 
--- the laws of what is read
-pub record ReadingLaws : Type 0 where
-  pub reads : ReadsJson
-  pub keep : KeepJson
-  pub url : UrlTextsAreJson
-  pub exact : DecodesExactly
-  pub octets : DecodesToOctets
-  pub characters : HasUrlCharacters
-
-pub reading_laws : ReadingLaws
-reading_laws = record { reads = reads_json; keep = keep_json; url = url_texts_are_json; exact = decodes_exactly; octets = octets_of_meaning; characters = has_url_characters }
-
 -- a text that decodes is UTF-8
-pub text_is_json : ReadingLaws → (text octets : List ℕ) → IsOctets text → decoded text ≡ Ok octets → IsUtf8 text
-text_is_json laws text octets is h =
-    let same : text ≡ base64url octets = text_is (record { exact = laws.exact; octets = laws.octets }) text octets is h in
-    subst IsUtf8 (sym same) (laws.url (base64url octets) (laws.characters octets (laws.octets text octets is h))).0
+pub text_is_json : (text octets : List ℕ) → IsOctets text → decoded text ≡ Ok octets → IsUtf8 text
+text_is_json text octets is h =
+    let same : text ≡ base64url octets = text_is text octets is h in
+    subst IsUtf8 (sym same) (url_texts_are_json (base64url octets) (has_url_characters octets (octets_of_meaning text octets is h))).0
 
 -- a value that is as JSON texts have it, and nests at most so deep
 pub record IsShallow (n : ℕ) (d : Data) : Type 0 where
@@ -47,17 +35,17 @@ pub record IsShallow (n : ℕ) (d : Data) : Type 0 where
   pub shallow : depth d ≤ n
 
 -- what a text reads as is such a value
-value_shallow : ReadsJson → (text : List ℕ) (d : Data) → json_value text ≡ Ok d → IsShallow 127 d
-value_shallow reads text d h = let is = reads text d h in record { json = is.0; shallow = is.1 }
+value_shallow : (text : List ℕ) (d : Data) → json_value text ≡ Ok d → IsShallow 127 d
+value_shallow text d h = let is = reads_json text d h in record { json = is.0; shallow = is.1 }
 
 -- what is read of a text in JSON form, or else without its line end
-pub of_text : {T : Type 0} (P : T → Type 0) (json : Data → Result T Refusal) (compact : List ℕ → Result T Refusal) → ReadsJson → ((d : Data) (t : T) → IsShallow 127 d → json d ≡ Ok t → P t)
+pub of_text : {T : Type 0} (P : T → Type 0) (json : Data → Result T Refusal) (compact : List ℕ → Result T Refusal) → ((d : Data) (t : T) → IsShallow 127 d → json d ≡ Ok t → P t)
     → ((line : List ℕ) (t : T) → IsOctets line → compact line ≡ Ok t → P t) → (b : Bool) (text : List ℕ) (t : T) → IsOctets text
     → (if b then (json_value text >>= json) else compact (without_line_end text)) ≡ Ok t → P t
-of_text P json compact reads of_json of_compact true text t octets h =
+of_text P json compact of_json of_compact true text t octets h =
     let a = steps (json_value text) json t h in
-    of_json a.0 t (value_shallow reads text a.0 a.1) a.2
-of_text P json compact reads of_json of_compact false text t octets h = of_compact (without_line_end text) t (line_octets text octets) h
+    of_json a.0 t (value_shallow text a.0 a.1) a.2
+of_text P json compact of_json of_compact false text t octets h = of_compact (without_line_end text) t (line_octets text octets) h
 
 -- a header whose members are so
 pub record IsHeader (n : ℕ) (header : Members) : Type 0 where
@@ -74,21 +62,21 @@ header_whole n header is = numbers_whole (object header) is.json
 
 -- ---- texts
 
-text_by : KeepJson → (name : List ℕ) (d : Data) (o : Option Data) (text : List ℕ) → IsJson d → get name d ≡ o → text_if_there o ≡ Ok text → IsOctets text
-text_by keep name d None text is e h = subst IsOctets (same_answer [] text h) IsOctets-nil
-text_by keep name d (Some value) text is e h = string_octets value text (keep.found name d value is e).0 (is_there (as_str value) Form text h)
+text_by : (name : List ℕ) (d : Data) (o : Option Data) (text : List ℕ) → IsJson d → get name d ≡ o → text_if_there o ≡ Ok text → IsOctets text
+text_by name d None text is e h = subst IsOctets (same_answer [] text h) IsOctets-nil
+text_by name d (Some value) text is e h = string_octets value text (keep_json.found name d value is e).0 (is_there (as_str value) Form text h)
 
-required_by : KeepJson → (name : List ℕ) (d : Data) (o : Option Data) (text : List ℕ) → IsJson d → get name d ≡ o → ok_or (option_and_then as_str o) Form ≡ Ok text → IsOctets text
-required_by keep name d None text is e h = cc h
-required_by keep name d (Some value) text is e h = text_by keep name d (Some value) text is e h
+required_by : (name : List ℕ) (d : Data) (o : Option Data) (text : List ℕ) → IsJson d → get name d ≡ o → ok_or (option_and_then as_str o) Form ≡ Ok text → IsOctets text
+required_by name d None text is e h = cc h
+required_by name d (Some value) text is e h = text_by name d (Some value) text is e h
 
-pub text_octets : KeepJson → (name : List ℕ) (d : Data) (text : List ℕ) → IsJson d → text_at name d ≡ Ok text → IsOctets text
+pub text_octets : (name : List ℕ) (d : Data) (text : List ℕ) → IsJson d → text_at name d ≡ Ok text → IsOctets text
 unfolding text_at
-text_octets keep name d text is h = text_by keep name d (get name d) text is refl h
+text_octets name d text is h = text_by name d (get name d) text is refl h
 
-pub required_octets : KeepJson → (name : List ℕ) (d : Data) (text : List ℕ) → IsJson d → required_text name d ≡ Ok text → IsOctets text
+pub required_octets : (name : List ℕ) (d : Data) (text : List ℕ) → IsJson d → required_text name d ≡ Ok text → IsOctets text
 unfolding required_text
-required_octets keep name d text is h = required_by keep name d (get name d) text is refl h
+required_octets name d text is h = required_by name d (get name d) text is refl h
 
 -- ---- headers
 
@@ -96,17 +84,17 @@ object_is : (o : Option Members) (header : Members) → some_members o ≡ Ok he
 object_is None header h = cc h
 object_is (Some ms) header h = ap Some (same_answer ms header h)
 
-header_by : KeepJson → (n : ℕ) (name : List ℕ) (d : Data) (o : Option Data) (header : Members) → 1 ≤ n → IsShallow (suc n) d → get name d ≡ o → members_if_there o ≡ Ok header → IsHeader n header
-header_by keep n name d None header some is e h = subst (IsHeader n) (same_answer no_members header h) (no_header n some)
-header_by keep n name d (Some value) header some is e h =
-    let found = keep.found name d value is.json e in
-    let members = keep.members_of value header found.0 (object_is (as_object value) header h) in
+header_by : (n : ℕ) (name : List ℕ) (d : Data) (o : Option Data) (header : Members) → 1 ≤ n → IsShallow (suc n) d → get name d ≡ o → members_if_there o ≡ Ok header → IsHeader n header
+header_by n name d None header some is e h = subst (IsHeader n) (same_answer no_members header h) (no_header n some)
+header_by n name d (Some value) header some is e h =
+    let found = keep_json.found name d value is.json e in
+    let members = keep_json.members_of value header found.0 (object_is (as_object value) header h) in
     record { json = members.0; shallow = omega (arith, is.shallow, found.1, members.1) }
 
 -- a header nests less deep than the object that it is in
-pub header_shallow : KeepJson → (n : ℕ) (name : List ℕ) (d : Data) (header : Members) → 1 ≤ n → IsShallow (suc n) d → header_at name d ≡ Ok header → IsHeader n header
+pub header_shallow : (n : ℕ) (name : List ℕ) (d : Data) (header : Members) → 1 ≤ n → IsShallow (suc n) d → header_at name d ≡ Ok header → IsHeader n header
 unfolding header_at
-header_shallow keep n name d header some is h = header_by keep n name d (get name d) header some is refl h
+header_shallow n name d header some is h = header_by n name d (get name d) header some is refl h
 
 -- ---- objects, alone or in a list
 
@@ -129,14 +117,14 @@ some_items no_items h = cc h
 some_items (item d rest) h = omega arith
 
 -- those of a list that is found in a value
-pub listed : KeepJson → (name : List ℕ) (d list : Data) (items : Items) → IsShallow 127 d → get name d ≡ Some list → object_list list ≡ Ok items → AreObjects items
+pub listed : (name : List ℕ) (d list : Data) (items : Items) → IsShallow 127 d → get name d ≡ Some list → object_list list ≡ Ok items → AreObjects items
 unfolding object_list
-listed keep name d list items is e h =
+listed name d list items is e h =
     let a = steps (ok_or (as_array list) Form) _ items h in
     let b = steps (needs (has_items a.0 && are_objects a.0) Form) _ items a.2 in
     let same : a.0 ≡ items = same_answer a.0 items b.2 in
-    let found = keep.found name d list is.json e in
-    let inner = keep.items_of list a.0 found.0 (is_there (as_array list) Form a.0 a.1) in
+    let found = keep_json.found name d list is.json e in
+    let inner = keep_json.items_of list a.0 found.0 (is_there (as_array list) Form a.0 a.1) in
     let some = some_items a.0 (and_parts (has_items a.0) (are_objects a.0) (passed _ Form b.0 b.1)).0 in
     subst AreObjects same (record { json = inner.0; shallow = omega (arith, is.shallow, found.1, inner.1, listed_at_least (items_count a.0)); some = some })
 

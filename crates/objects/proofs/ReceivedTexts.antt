@@ -4,16 +4,16 @@ use Rattle.std.proofs.lemmas.List.{nil_from_length, length-take}
 use Rattle.std.specs.Result.{result_unwrap_or}
 use Rattle.octets.specs.declared.refusal.Refusal.{Refusal}
 use Rattle.octets.specs.declared.refusal.Refusal.TheVariants.{Base64}
-use Rattle.octets.specs.Base64url.{base64url, decoded, settled, unsettled, DecodesExactly, HasUrlCharacters}
+use Rattle.octets.specs.Base64url.{base64url, decoded, settled, unsettled}
 use Rattle.octets.specs.Devices.{AppendsPrefixOf}
 use Rattle.octets.specs.Encoding.{octets_of_groups, settling}
 use Rattle.octets.specs.LineEnds.{without_line_end}
 use Rattle.octets.specs.Octets.{IsOctets}
 use Rattle.octets.specs.Pumps.{RefusesFrom}
-use Rattle.octets.proofs.Lemmas.{IsOctets-front, AppendsPrefixOf-front, cut, reading_starts, settling_grows}
+use Rattle.octets.proofs.Lemmas.{IsOctets-front, AppendsPrefixOf-front, cut, reading_starts, settling_grows, decodes_exactly, has_url_characters, octets_of_meaning}
 use Rattle.objects.specs.Texts.{meaning}
 use Rattle.objects.proofs.Characters.{joined_characters, no_line_end}
-use Rattle.objects.proofs.TextOctets.{TextLaws, text_is}
+use Rattle.objects.proofs.TextOctets.{text_is}
 
 -- ---- line ends
 
@@ -31,23 +31,23 @@ as_long text h =
     all_taken zero (x ∷ xs) h = absurd (omega (arith, h))
 
 -- the text of octets has none
-pub octets_end_so : HasUrlCharacters → (x : List ℕ) → IsOctets x → without_line_end (base64url x) ≡ base64url x
-octets_end_so url x h = no_line_end (base64url x) (joined_characters (base64url x ∷ []) (url x h, tt))
+pub octets_end_so : (x : List ℕ) → IsOctets x → without_line_end (base64url x) ≡ base64url x
+octets_end_so x h = no_line_end (base64url x) (joined_characters (base64url x ∷ []) (has_url_characters x h, tt))
 
 -- a text that has one means nothing
-pub none_with_line_end : TextLaws → HasUrlCharacters → (text : List ℕ) → IsOctets text → (length (without_line_end text) == length text) ≡ false → decoded text ≡ Err Base64
-none_with_line_end laws url text octets longer = by_meaning (decoded text) refl
+pub none_with_line_end : (text : List ℕ) → IsOctets text → (length (without_line_end text) == length text) ≡ false → decoded text ≡ Err Base64
+none_with_line_end text octets longer = by_meaning (decoded text) refl
   where
     differs : (n : ℕ) → (n == n) ≡ false → ⊥
     differs n h = grind (arith, h)
 
     by_meaning : (r : Result (List ℕ) Refusal) → decoded text ≡ r → decoded text ≡ Err Base64
     by_meaning (Ok x) is =
-        let whole = text_is laws text x octets is in
-        let same : without_line_end text ≡ text = ap without_line_end whole ∙ octets_end_so url x (laws.octets text x octets is) ∙ sym whole in
+        let whole = text_is text x octets is in
+        let same : without_line_end text ≡ text = ap without_line_end whole ∙ octets_end_so x (octets_of_meaning text x octets is) ∙ sym whole in
         let test : (length text == length text) ≡ false = sym (ap (λ t. length t == length text) same) ∙ longer in
         absurd (differs (length text) test)
-    by_meaning (Err r) is = is ∙ ap Err (laws.exact.refusal text r is)
+    by_meaning (Err r) is = is ∙ ap Err (decodes_exactly.refusal text r is)
 
 -- ---- what a text means
 
@@ -56,8 +56,8 @@ pub meant_by : (text x : List ℕ) → decoded text ≡ Ok x → decoded text �
 meant_by text x is = is ∙ ap (λ r. Ok (result_unwrap_or r [])) (sym is)
 
 -- a text of octets has no line end, and means them
-pub means : DecodesExactly → HasUrlCharacters → (text : List ℕ) → IsOctets (meaning text) → text ≡ base64url (meaning text) → decoded (without_line_end text) ≡ Ok (meaning text)
-means exact url text octets is = ap (λ t. decoded (without_line_end t)) is ∙ ap decoded (octets_end_so url (meaning text) octets) ∙ exact.round_trip (meaning text) octets
+pub means : (text : List ℕ) → IsOctets (meaning text) → text ≡ base64url (meaning text) → decoded (without_line_end text) ≡ Ok (meaning text)
+means text octets is = ap (λ t. decoded (without_line_end t)) is ∙ ap decoded (octets_end_so (meaning text) octets) ∙ decodes_exactly.round_trip (meaning text) octets
 
 -- ---- a text in pieces
 
@@ -112,9 +112,9 @@ module _ {waiting all rest : List ℕ} (k : IsReadTo waiting all rest) where
       (AppendsPrefixOf-front (octets_of_groups (settled k.front) ++ octets) begins.rest old new (behind old (octets_of_groups (settled k.front)) octets new (subst (λ o. AppendsPrefixOf octets o new) written stands)))
 
   -- and where nothing is left, all of them
-  pub all_written : DecodesExactly → HasUrlCharacters → IsOctets (meaning all) → all ≡ base64url (meaning all) → IsOctets all → (last : List ℕ) → length rest ≡ 0
+  pub all_written : IsOctets (meaning all) → all ≡ base64url (meaning all) → IsOctets all → (last : List ℕ) → length rest ≡ 0
       → (IsOctets k.front → decoded (without_line_end k.front) ≡ Ok (octets_of_groups (settled k.front) ++ last)) → meaning all ≡ octets_of_groups (settled k.front) ++ last
-  all_written exact url meant_octets is octets last none ends =
+  all_written meant_octets is octets last none ends =
       let front = all_read none in
-      let meant = sym (means exact url all meant_octets is) ∙ ap (λ t. decoded (without_line_end t)) (sym front) ∙ ends (subst IsOctets (sym front) octets) in
+      let meant = sym (means all meant_octets is) ∙ ap (λ t. decoded (without_line_end t)) (sym front) ∙ ends (subst IsOctets (sym front) octets) in
       cc meant

@@ -8,29 +8,17 @@ use Rattle.serde_json.specs.Data.{Data, Members, no_members, member, string, obj
 use Rattle.serde_json.specs.Find.{as_str}
 use Rattle.serde_json.specs.Written.{compact_text}
 use Rattle.octets.specs.declared.refusal.Refusal.TheVariants.{Form}
-use Rattle.octets.specs.Base64url.{base64url, decoded, is_url_character, DecodesExactly, HasUrlCharacters}
+use Rattle.octets.specs.Base64url.{base64url, decoded, is_url_character}
 use Rattle.octets.specs.Octets.{IsOctets}
 use Rattle.octets.proofs.Lemmas.{decodes_exactly, has_url_characters, octets_of_meaning}
 use Rattle.keys.specs.Json.{json_value}
-use Rattle.keys.specs.JsonTexts.{AreJsonMembers, CompactTextReadsBack, KeepJson, UrlTextsAreJson}
-use Rattle.keys.proofs.Lemmas.{keep_json, reads_back, url_texts_are_json}
+use Rattle.keys.specs.JsonTexts.{AreJsonMembers}
+use Rattle.keys.proofs.Lemmas.{reads_back, url_texts_are_json}
 use Rattle.objects.specs.Headers.{header_at, members_if_there}
 use Rattle.objects.specs.Texts.{is_json_form, text_if_there, text_at, required_text, has_members, header_depth}
 use Rattle.objects.proofs.Characters.{IsUrlText}
 use Rattle.objects.proofs.EachRead.{all_passed}
 use Rattle.objects.proofs.Members.{Entries, put_all, first_there, get_member-put_all, IsJsonIfThere, AreJsonEntries, all_json}
-
--- the laws of JSON and base64url texts
-pub record Laws : Type 0 where
-  pub reads_back : CompactTextReadsBack
-  pub keep : KeepJson
-  pub url : UrlTextsAreJson
-  pub exact : DecodesExactly
-  pub characters : HasUrlCharacters
-  pub octets : (text octets : List ℕ) → IsOctets text → decoded text ≡ Ok octets → IsOctets octets
-
-pub laws : Laws
-laws = record { reads_back = reads_back; keep = keep_json; url = url_texts_are_json; exact = decodes_exactly; characters = has_url_characters; octets = octets_of_meaning }
 
 -- ---- texts and headers that are put in
 
@@ -79,34 +67,34 @@ required_found name es text is = ap (λ o. ok_or (option_and_then as_str o) Form
 -- ---- as JSON has it
 
 -- a text that decodes has letters, digits, `-` and `_` alone
-pub decoded_characters : Laws → (text octets : List ℕ) → IsOctets text → decoded text ≡ Ok octets → IsUrlText text
-decoded_characters laws text octets is decodes =
-    let meant : IsOctets octets = laws.octets text octets is decodes in
-    let spelled : text ≡ base64url octets = (laws.exact.meaning text octets is meant).0 decodes in
-    rw spelled (laws.characters octets meant)
+pub decoded_characters : (text octets : List ℕ) → IsOctets text → decoded text ≡ Ok octets → IsUrlText text
+decoded_characters text octets is decodes =
+    let meant : IsOctets octets = octets_of_meaning text octets is decodes in
+    let spelled : text ≡ base64url octets = (decodes_exactly.meaning text octets is meant).0 decodes in
+    rw spelled (has_url_characters octets meant)
 
 -- a name of these characters is UTF-8
-pub name_is_json : UrlTextsAreJson → (name : List ℕ) → list_all is_url_character name ≡ true → IsUtf8 name
-name_is_json url name h = (url name (all_passed is_url_character name h)).0
+pub name_is_json : (name : List ℕ) → list_all is_url_character name ≡ true → IsUtf8 name
+name_is_json name h = (url_texts_are_json name (all_passed is_url_character name h)).0
 
 -- so is the text of octets
-pub spelled_is_json : Laws → (octets : List ℕ) → IsOctets octets → IsUtf8 (base64url octets)
-spelled_is_json laws octets is = (laws.url (base64url octets) (laws.characters octets is)).0
+pub spelled_is_json : (octets : List ℕ) → IsOctets octets → IsUtf8 (base64url octets)
+spelled_is_json octets is = (url_texts_are_json (base64url octets) (has_url_characters octets is)).0
 
 -- such a text is as JSON has it
-pub required_entry : UrlTextsAreJson → (n : ℕ) (name text : List ℕ) → list_all is_url_character name ≡ true → IsUtf8 text → IsUtf8 name × IsJsonIfThere n (Some (string text))
-required_entry url n name text is h = (name_is_json url name is, (h, omega arith))
+pub required_entry : (n : ℕ) (name text : List ℕ) → list_all is_url_character name ≡ true → IsUtf8 text → IsUtf8 name × IsJsonIfThere n (Some (string text))
+required_entry n name text is h = (name_is_json name is, (h, omega arith))
 
 -- so is one that may be absent
-pub text_entry : UrlTextsAreJson → (n : ℕ) (name text : List ℕ) → list_all is_url_character name ≡ true → IsUtf8 text → IsUtf8 name × IsJsonIfThere n (text_there text)
-text_entry url n name [] is h = (name_is_json url name is, tt)
-text_entry url n name (c ∷ text) is h = required_entry url n name (c ∷ text) is h
+pub text_entry : (n : ℕ) (name text : List ℕ) → list_all is_url_character name ≡ true → IsUtf8 text → IsUtf8 name × IsJsonIfThere n (text_there text)
+text_entry n name [] is h = (name_is_json name is, tt)
+text_entry n name (c ∷ text) is h = required_entry n name (c ∷ text) is h
 
 -- so is a header that is as JSON has it, and is not too deep
-pub header_entry : UrlTextsAreJson → (n : ℕ) (name : List ℕ) (header : Members) → list_all is_url_character name ≡ true → AreJsonMembers header → nat_le (depth (object header)) n ≡ true
+pub header_entry : (n : ℕ) (name : List ℕ) (header : Members) → list_all is_url_character name ≡ true → AreJsonMembers header → nat_le (depth (object header)) n ≡ true
     → IsUtf8 name × IsJsonIfThere n (header_there header)
-header_entry url n name no_members is json shallow = (name_is_json url name is, tt)
-header_entry url n name (member k d rest) is json shallow = (name_is_json url name is, (json, leb-true _ n shallow))
+header_entry n name no_members is json shallow = (name_is_json name is, tt)
+header_entry n name (member k d rest) is json shallow = (name_is_json name is, (json, leb-true _ n shallow))
 
 -- ---- the whole text
 
@@ -116,7 +104,7 @@ unfolding is_json_form
 object_form ms = refl
 
 -- its value is the object of its members
-pub object_value : Laws → (es : Entries) → AreJsonEntries header_depth es → json_value (compact_text (object (put_all es))) ≡ Ok (object (put_all es))
-object_value laws es is =
-    let json = all_json laws.keep header_depth es is in
-    laws.reads_back (object (put_all es)) json.0 (omega (arith, json.1))
+pub object_value : (es : Entries) → AreJsonEntries header_depth es → json_value (compact_text (object (put_all es))) ≡ Ok (object (put_all es))
+object_value es is =
+    let json = all_json header_depth es is in
+    reads_back (object (put_all es)) json.0 (omega (arith, json.1))

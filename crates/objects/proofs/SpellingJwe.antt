@@ -23,8 +23,8 @@ use Rattle.objects.proofs.EachRead.{all_passed, all_both, all_images, bounded, e
 use Rattle.objects.proofs.ListedMembers.{each_entries, in_front, objects_by, ReadsEach, each_read, none_read, each_json, each_json_deeper}
 use Rattle.objects.proofs.MadeOf.{object_is}
 use Rattle.objects.proofs.Members.{Entries, put_all, first_there, get_member-put_all, AreJsonEntries, all_json}
-use Rattle.objects.proofs.Spelling.{Laws, text_there, header_there, text_found, header_found, decoded_characters, name_is_json, spelled_is_json, text_entry, header_entry}
-use Rattle.octets.proofs.Lemmas.{steps, passed}
+use Rattle.objects.proofs.Spelling.{text_there, header_there, text_found, header_found, decoded_characters, name_is_json, spelled_is_json, text_entry, header_entry}
+use Rattle.octets.proofs.Lemmas.{steps, passed, decodes_exactly, has_url_characters}
 use Rattle.keys.proofs.Lemmas.{octets_of_utf8}
 
 -- ---- the members of the JSON text
@@ -165,10 +165,10 @@ decoding limits parts = do
   encrypted_object limits.management octets parts
 
 -- the texts of the parts decode to these
-parts_read : Laws → (parts : JweParts) → AreMembers parts → decoded_members (parts_spelled parts) ≡ Ok parts
+parts_read : (parts : JweParts) → AreMembers parts → decoded_members (parts_spelled parts) ≡ Ok parts
 unfolding decoded_members decoded_recipient
-parts_read laws parts members =
-    let round = laws.exact.round_trip in
+parts_read parts members =
+    let round = decodes_exactly.round_trip in
     let reads = each_alike (λ p. Ok p) decoded_recipient recipient_spelled (λ p h. rw (round p.encrypted_key h.1) refl) parts.recipients members.recipients in
     rw (
       round parts.aad members.aad,
@@ -180,13 +180,13 @@ parts_read laws parts members =
     ) refl
 
 -- and are read so
-pub decoding_is : Laws → (limits : Limits) (parts : JweParts) → AreMembers parts → decoded_object limits (parts_spelled parts) ≡ decoding limits parts
+pub decoding_is : (limits : Limits) (parts : JweParts) → AreMembers parts → decoded_object limits (parts_spelled parts) ≡ decoding limits parts
 unfolding decoded_object
-decoding_is laws limits parts members = rw (length-map parts.recipients recipient_spelled, parts_read laws parts members) refl
+decoding_is limits parts members = rw (length-map parts.recipients recipient_spelled, parts_read parts members) refl
 
 -- as the object
-pub object_read : Laws → (limits : Limits) (parts : JweParts) (o : EncryptedObject) → AreMembers parts → IsBuilt limits parts o → decoded_object limits (parts_spelled parts) ≡ Ok o
-object_read laws limits parts o members is = decoding_is laws limits parts members ∙ rw (is.few, is.decodes) is.made
+pub object_read : (limits : Limits) (parts : JweParts) (o : EncryptedObject) → AreMembers parts → IsBuilt limits parts o → decoded_object limits (parts_spelled parts) ≡ Ok o
+object_read limits parts o members is = decoding_is limits parts members ∙ rw (is.few, is.decodes) is.made
 
 -- ---- the texts
 
@@ -199,53 +199,52 @@ pub record HasUrlTexts (t : EncodedJwe) : Type 0 where
   pub ciphertext : IsUrlText t.content.ciphertext
   pub tag : IsUrlText t.content.tag
 
-pub url_texts : Laws → (limits : Limits) (parts : JweParts) (o : EncryptedObject) → AreMembers parts → IsBuilt limits parts o → HasUrlTexts (parts_spelled parts)
-url_texts laws limits parts o members is = record {
-  protected = decoded_characters laws parts.protected is.octets (octets_of_utf8 parts.protected members.protected) is.decodes;
-  aad = laws.characters parts.aad members.aad;
-  keys = all_images (λ r. IsUrlText r.encrypted_key) recipient_spelled (λ p h. laws.characters p.encrypted_key h.1) parts.recipients members.recipients;
-  iv = laws.characters parts.iv members.iv;
-  ciphertext = laws.characters parts.ciphertext members.ciphertext;
-  tag = laws.characters parts.tag members.tag;
+pub url_texts : (limits : Limits) (parts : JweParts) (o : EncryptedObject) → AreMembers parts → IsBuilt limits parts o → HasUrlTexts (parts_spelled parts)
+url_texts limits parts o members is = record {
+  protected = decoded_characters parts.protected is.octets (octets_of_utf8 parts.protected members.protected) is.decodes;
+  aad = has_url_characters parts.aad members.aad;
+  keys = all_images (λ r. IsUrlText r.encrypted_key) recipient_spelled (λ p h. has_url_characters p.encrypted_key h.1) parts.recipients members.recipients;
+  iv = has_url_characters parts.iv members.iv;
+  ciphertext = has_url_characters parts.ciphertext members.ciphertext;
+  tag = has_url_characters parts.tag members.tag;
 }
 
 -- the members of a recipient are as JSON has them, and nest no deeper than its header
-recipient_json : Laws → (n : ℕ) (p : RecipientParts) → AreJsonMembers p.header × IsOctets p.encrypted_key → nat_le (depth (object p.header)) n ≡ true
+recipient_json : (n : ℕ) (p : RecipientParts) → AreJsonMembers p.header × IsOctets p.encrypted_key → nat_le (depth (object p.header)) n ≡ true
     → AreJsonEntries n (recipient_entries (recipient_spelled p))
-recipient_json laws n p members shallow = (
-  header_entry laws.url n (codes "header") p.header refl members.0 shallow,
-  (text_entry laws.url n (codes "encrypted_key") (base64url p.encrypted_key) refl (spelled_is_json laws p.encrypted_key members.1), tt),
+recipient_json n p members shallow = (
+  header_entry n (codes "header") p.header refl members.0 shallow,
+  (text_entry n (codes "encrypted_key") (base64url p.encrypted_key) refl (spelled_is_json p.encrypted_key members.1), tt),
 )
 
 -- so are those beside the recipients, behind which others are
-own_json : Laws → (n : ℕ) (parts : JweParts) → AreMembers parts → nat_le (depth (object parts.unprotected)) n ≡ true → (detach : Bool) (later : Entries) → AreJsonEntries n later
+own_json : (n : ℕ) (parts : JweParts) → AreMembers parts → nat_le (depth (object parts.unprotected)) n ≡ true → (detach : Bool) (later : Entries) → AreJsonEntries n later
     → AreJsonEntries n (own_entries detach (parts_spelled parts) ++ later)
-own_json laws n parts members shallow detach later are =
-    let url = laws.url in
-    let unprotected = header_entry url n (codes "unprotected") parts.unprotected refl members.unprotected shallow in
-    let tag = text_entry url n (codes "tag") (base64url parts.tag) refl (spelled_is_json laws parts.tag members.tag) in
-    let protected = text_entry url n (codes "protected") parts.protected refl members.protected in
-    let iv = text_entry url n (codes "iv") (base64url parts.iv) refl (spelled_is_json laws parts.iv members.iv) in
-    let ciphertext = content_entry url detach n (codes "ciphertext") (base64url parts.ciphertext) refl (spelled_is_json laws parts.ciphertext members.ciphertext) in
-    let aad = text_entry url n (codes "aad") (base64url parts.aad) refl (spelled_is_json laws parts.aad members.aad) in
+own_json n parts members shallow detach later are =
+    let unprotected = header_entry n (codes "unprotected") parts.unprotected refl members.unprotected shallow in
+    let tag = text_entry n (codes "tag") (base64url parts.tag) refl (spelled_is_json parts.tag members.tag) in
+    let protected = text_entry n (codes "protected") parts.protected refl members.protected in
+    let iv = text_entry n (codes "iv") (base64url parts.iv) refl (spelled_is_json parts.iv members.iv) in
+    let ciphertext = content_entry detach n (codes "ciphertext") (base64url parts.ciphertext) refl (spelled_is_json parts.ciphertext members.ciphertext) in
+    let aad = text_entry n (codes "aad") (base64url parts.aad) refl (spelled_is_json parts.aad members.aad) in
     (unprotected, (tag, (protected, (iv, (ciphertext, (aad, are))))))
 
 -- so are all members, where no header is too deep
-pub members_json : Laws → (parts : JweParts) → AreMembers parts → headers_are_shallow parts ≡ true → (detach : Bool) → AreJsonEntries header_depth (entries detach (parts_spelled parts))
-members_json laws parts members shallow detach =
+pub members_json : (parts : JweParts) → AreMembers parts → headers_are_shallow parts ≡ true → (detach : Bool) → AreJsonEntries header_depth (entries detach (parts_spelled parts))
+members_json parts members shallow detach =
     let n : ℕ = depth_of_each (length parts.recipients) in
     let both = and_parts (nat_le (depth (object parts.unprotected)) header_depth) (nest_at_most n parts.recipients) shallow in
-    let each = all_both (recipient_json laws n) parts.recipients members.recipients (all_passed (λ p. nat_le (depth (object p.header)) n) parts.recipients both.1) in
-    let recipients = each_json laws.keep (codes "recipients") recipient_spelled recipient_entries parts.recipients (name_is_json laws.url (codes "recipients") refl) each in
-    own_json laws header_depth parts members both.0 detach (each_entries (codes "recipients") recipient_entries (map recipient_spelled parts.recipients)) recipients
+    let each = all_both (recipient_json n) parts.recipients members.recipients (all_passed (λ p. nat_le (depth (object p.header)) n) parts.recipients both.1) in
+    let recipients = each_json (codes "recipients") recipient_spelled recipient_entries parts.recipients (name_is_json (codes "recipients") refl) each in
+    own_json header_depth parts members both.0 detach (each_entries (codes "recipients") recipient_entries (map recipient_spelled parts.recipients)) recipients
 
 -- and they are however deep these are
-pub object_json : Laws → (parts : JweParts) → AreMembers parts → (detach : Bool) → IsJson (object (put_all (entries detach (parts_spelled parts))))
-object_json laws parts members detach =
+pub object_json : (parts : JweParts) → AreMembers parts → (detach : Bool) → IsJson (object (put_all (entries detach (parts_spelled parts))))
+object_json parts members detach =
     let most = bounded (λ (p : RecipientParts). depth (object p.header)) parts.recipients in
     let n : ℕ = most.0 + depth (object parts.unprotected) in
-    let each = all_both (λ p is h. recipient_json laws n p is (le-leb (depth (object p.header)) n (omega (arith, h)))) parts.recipients members.recipients most.1 in
-    let recipients = each_json_deeper laws.keep n (codes "recipients") recipient_spelled recipient_entries parts.recipients (name_is_json laws.url (codes "recipients") refl) each in
+    let each = all_both (λ p is h. recipient_json n p is (le-leb (depth (object p.header)) n (omega (arith, h)))) parts.recipients members.recipients most.1 in
+    let recipients = each_json_deeper n (codes "recipients") recipient_spelled recipient_entries parts.recipients (name_is_json (codes "recipients") refl) each in
     let shallow : nat_le (depth (object parts.unprotected)) (suc (suc n)) ≡ true = le-leb _ _ (omega arith) in
-    (all_json laws.keep (suc (suc n)) (entries detach (parts_spelled parts))
-    (own_json laws (suc (suc n)) parts members shallow detach (each_entries (codes "recipients") recipient_entries (map recipient_spelled parts.recipients)) recipients)).0
+    (all_json (suc (suc n)) (entries detach (parts_spelled parts))
+    (own_json (suc (suc n)) parts members shallow detach (each_entries (codes "recipients") recipient_entries (map recipient_spelled parts.recipients)) recipients)).0

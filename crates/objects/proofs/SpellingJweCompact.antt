@@ -3,9 +3,8 @@ use Rattle.std.proofs.Common.{◌≡◌, ◌==◌, ◌&&◌, ℕ, List, [], ◌�
 use Rattle.std.proofs.lemmas.Bool.{and_parts, eqb-true}
 use Rattle.serde_json.specs.Data.{no_members}
 use Rattle.octets.specs.declared.refusal.Refusal.TheVariants.{NotCompact}
-use Rattle.octets.specs.Base64url.{base64url, SpellsSixBits}
+use Rattle.octets.specs.Base64url.{base64url}
 use Rattle.octets.specs.Outcomes.{needs}
-use Rattle.keys.specs.JsonTexts.{DeepTextsAreRefused}
 use Rattle.keys.specs.Limits.{Limits}
 use Rattle.objects.specs.Jwe.{JweParts, Recipient, EncryptedObject, EncodedJwe, encoded_in_compact, encoded_jwe, decoded_object, jwe_of, built, members_text, recipient_parts_of, parts_of, json_text, is_compact, key_of_first, jwe_written, jwe_compact_text, jwe_text, AreMembers, IsMade, BuildingIsReading, TextsSpellObjects}
 use Rattle.objects.specs.Texts.{has_members, handed_in}
@@ -16,9 +15,9 @@ use Rattle.objects.proofs.CompactTexts.{all_no_dot, split_of_joined, three_of_jo
 use Rattle.objects.proofs.DetachedContent.{kept, kept_read, kept_characters}
 use Rattle.objects.proofs.JweWritten.{compact_is}
 use Rattle.objects.proofs.MadeOf.{object_is}
-use Rattle.objects.proofs.Spelling.{Laws, no_member}
+use Rattle.objects.proofs.Spelling.{no_member}
 use Rattle.objects.proofs.SpellingJwe.{spelled, parts_spelled, object_keeps, IsBuilt, jwe_is_built, object_read, HasUrlTexts, url_texts}
-use Rattle.octets.proofs.Lemmas.{steps, passed, same_answer}
+use Rattle.octets.proofs.Lemmas.{steps, passed, same_answer, spells_six_bits}
 
 -- the texts of a compact text with these parts
 abbrev compact : List ℕ → List ℕ → List ℕ → List ℕ → List ℕ → EncodedJwe
@@ -41,19 +40,19 @@ split_in_five detach protected key iv ciphertext tag h =
     rw (first, second, others, kept_read detach ciphertext) refl
 
 -- no octets have no text
-no_text : SpellsSixBits → (xs : List ℕ) → (length xs == 0) ≡ true → base64url xs ≡ []
-no_text spells [] h = spells [] (λ i. omega arith)
-no_text spells (x ∷ xs) h = absurd (omega (arith, eqb-true _ 0 h))
+no_text : (xs : List ℕ) → (length xs == 0) ≡ true → base64url xs ≡ []
+no_text [] h = spells_six_bits [] (λ i. omega arith)
+no_text (x ∷ xs) h = absurd (omega (arith, eqb-true _ 0 h))
 
 -- an object that a compact text can hold has one recipient, and no other texts than such a text
-only_recipient : SpellsSixBits → (o : EncryptedObject) (rs : List Recipient) → o.recipients ≡ rs → is_compact o rs ≡ true
+only_recipient : (o : EncryptedObject) (rs : List Recipient) → o.recipients ≡ rs → is_compact o rs ≡ true
     → spelled o ≡ compact o.protected (base64url (key_of_first (map recipient_parts_of rs))) (base64url o.iv) (base64url o.ciphertext) (base64url o.tag)
-only_recipient spells o [] is fits = cc fits
-only_recipient spells o (r ∷ []) is fits =
+only_recipient o [] is fits = cc fits
+only_recipient o (r ∷ []) is fits =
     let first = and_parts (not (has_members o.unprotected)) (not (has_members r.header) && (length o.aad == 0)) fits in
     let others = and_parts (not (has_members r.header)) (length o.aad == 0) first.1 in
-    rw (is, no_member o.unprotected first.0, no_member r.header others.0, no_text spells o.aad others.1) refl
-only_recipient spells o (r ∷ (other ∷ rest)) is fits = cc fits
+    rw (is, no_member o.unprotected first.0, no_member r.header others.0, no_text o.aad others.1) refl
+only_recipient o (r ∷ (other ∷ rest)) is fits = cc fits
 
 -- a compact text is read by its parts
 read_compact : (limits : Limits) (detach : Bool) (protected key iv ciphertext tag : List ℕ) (o : EncryptedObject) → HasUrlTexts (compact protected key iv (base64url ciphertext) tag)
@@ -67,10 +66,10 @@ read_compact limits detach protected key iv ciphertext tag o url h =
     rw (no_json_form text all, no_line_end text all, split_in_five detach protected key iv ciphertext tag url) h
 
 -- an object is what its compact text spells
-compact_text_spells : Laws → SpellsSixBits → (limits : Limits) (parts : JweParts) (o : EncryptedObject) → AreMembers parts → IsBuilt limits parts o → (detach : Bool)
+compact_text_spells : (limits : Limits) (parts : JweParts) (o : EncryptedObject) → AreMembers parts → IsBuilt limits parts o → (detach : Bool)
     → (text : List ℕ) → jwe_compact_text detach o ≡ Ok text → jwe_of limits (handed_in detach o.ciphertext) text ≡ Ok o
 unfolding jwe_compact_text
-compact_text_spells laws spells limits parts o members is detach text h =
+compact_text_spells limits parts o members is detach text h =
     let w = steps (jwe_written false true detach o) _ text h in
     let a = steps (needs (is_compact o o.recipients) NotCompact) _ w.0 w.1 in
     let protected : List ℕ = o.protected in
@@ -79,12 +78,12 @@ compact_text_spells laws spells limits parts o members is detach text h =
     let ciphertext : List ℕ = base64url o.ciphertext in
     let tag : List ℕ = base64url o.tag in
     let texts : parts_spelled parts ≡ compact protected key iv ciphertext tag =
-    sym (object_keeps limits.management is.octets parts o is.made) ∙ only_recipient spells o o.recipients refl (passed _ NotCompact a.0 a.1) in
+    sym (object_keeps limits.management is.octets parts o is.made) ∙ only_recipient o o.recipients refl (passed _ NotCompact a.0 a.1) in
     let joined : text ≡ between_dots (protected ∷ key ∷ iv ∷ kept detach ciphertext ∷ tag ∷ []) =
     sym (same_answer _ text w.2) ∙ ap (λ (w : Written). w.text) (sym (same_answer _ w.0 a.2)) ∙ compact_is detach (parts_of o) in
     ap (jwe_of limits (handed_in detach o.ciphertext)) joined
-    ∙ read_compact limits detach protected key iv o.ciphertext tag o (subst HasUrlTexts texts (url_texts laws limits parts o members is))
-    (ap (decoded_object limits) (sym texts) ∙ object_read laws limits parts o members is)
+    ∙ read_compact limits detach protected key iv o.ciphertext tag o (subst HasUrlTexts texts (url_texts limits parts o members is))
+    (ap (decoded_object limits) (sym texts) ∙ object_read limits parts o members is)
 
 -- an object is what its JSON text spells, which is that of its members
 json_text_spells : BuildingIsReading → (limits : Limits) (parts : JweParts) (o : EncryptedObject) → AreMembers parts → built limits parts ≡ Ok o → (detach : Bool)
@@ -94,9 +93,9 @@ json_text_spells reading limits parts o members h detach =
     ap (λ (p : JweParts). jwe_of limits (handed_in detach p.ciphertext) (members_text detach p)) (object_is limits.management is.octets parts o is.made) ∙ sym (reading limits parts members detach) ∙ h
 
 -- an object that is made of its members is what its texts spell
-pub texts_spell_objects : Laws → DeepTextsAreRefused → SpellsSixBits → TextsSpellObjects
-texts_spell_objects laws refused spells limits parts o members h detach =
-    (json_text_spells (building_is_reading laws refused) limits parts o members h detach, compact_text_spells laws spells limits parts o members (jwe_is_built limits parts o h) detach)
+pub texts_spell_objects : TextsSpellObjects
+texts_spell_objects limits parts o members h detach =
+    (json_text_spells (building_is_reading) limits parts o members h detach, compact_text_spells limits parts o members (jwe_is_built limits parts o h) detach)
 
 -- ---- what is written
 

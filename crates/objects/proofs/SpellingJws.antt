@@ -21,8 +21,8 @@ use Rattle.objects.proofs.EachRead.{all_passed, all_both, all_images, bounded, e
 use Rattle.objects.proofs.ListedMembers.{each_entries, in_front, objects_by, ReadsEach, each_read, none_read, each_json, each_json_deeper}
 use Rattle.objects.proofs.MadeOf.{signed_is}
 use Rattle.objects.proofs.Members.{Entries, put_all, first_there, get_member-put_all, IsJsonIfThere, AreJsonEntries, all_json}
-use Rattle.objects.proofs.Spelling.{Laws, text_there, header_there, text_found, header_found, required_found, decoded_characters, name_is_json, spelled_is_json, required_entry, text_entry, header_entry}
-use Rattle.octets.proofs.Lemmas.{steps, passed, same_answer}
+use Rattle.objects.proofs.Spelling.{text_there, header_there, text_found, header_found, required_found, decoded_characters, name_is_json, spelled_is_json, required_entry, text_entry, header_entry}
+use Rattle.octets.proofs.Lemmas.{steps, passed, same_answer, decodes_exactly, has_url_characters}
 use Rattle.keys.proofs.Lemmas.{octets_of_utf8}
 
 -- ---- the members of the JSON text
@@ -151,16 +151,16 @@ decoding limits parts = do
   signed_object limits.management parts.payload signatures
 
 -- the texts of the parts are read so
-pub decoding_is : Laws → (limits : Limits) (parts : JwsParts) → AreMembers parts → decoded_object limits (parts_spelled parts) ≡ decoding limits parts
+pub decoding_is : (limits : Limits) (parts : JwsParts) → AreMembers parts → decoded_object limits (parts_spelled parts) ≡ decoding limits parts
 unfolding decoded_object decoded_signature
-decoding_is laws limits parts members =
-    let round = laws.exact.round_trip in
+decoding_is limits parts members =
+    let round = decodes_exactly.round_trip in
     let reads = each_alike decoded_part decoded_signature signature_spelled (λ p h. rw (round p.signature h.1.1) refl) parts.signatures members.signatures in
     rw (length-map parts.signatures signature_spelled, round parts.payload members.payload, reads) refl
 
 -- as the object
-pub object_read : Laws → (limits : Limits) (parts : JwsParts) (o : SignedObject) → AreMembers parts → IsBuilt limits parts o → decoded_object limits (parts_spelled parts) ≡ Ok o
-object_read laws limits parts o members is = decoding_is laws limits parts members ∙ rw (is.few, is.decodes) is.made
+pub object_read : (limits : Limits) (parts : JwsParts) (o : SignedObject) → AreMembers parts → IsBuilt limits parts o → decoded_object limits (parts_spelled parts) ≡ Ok o
+object_read limits parts o members is = decoding_is limits parts members ∙ rw (is.few, is.decodes) is.made
 
 -- ---- the texts
 
@@ -173,44 +173,44 @@ pub record HasUrlTexts (t : EncodedJws) : Type 0 where
   pub payload : IsUrlText t.payload
   pub signatures : AllByRecursion AreUrlTexts t.signatures
 
-signature_url_texts : Laws → (p : SignatureParts) (d : DecodedSignature) → IsUtf8 p.protected × (AreJsonMembers p.header × IsOctets p.signature) → decoded_part p ≡ Ok d → AreUrlTexts (signature_spelled p)
+signature_url_texts : (p : SignatureParts) (d : DecodedSignature) → IsUtf8 p.protected × (AreJsonMembers p.header × IsOctets p.signature) → decoded_part p ≡ Ok d → AreUrlTexts (signature_spelled p)
 unfolding decoded_part
-signature_url_texts laws p d members h =
+signature_url_texts p d members h =
     let a = steps (decoded p.protected) _ d h in
-    (decoded_characters laws p.protected a.0 (octets_of_utf8 p.protected members.0) a.1, laws.characters p.signature members.1.1)
+    (decoded_characters p.protected a.0 (octets_of_utf8 p.protected members.0) a.1, has_url_characters p.signature members.1.1)
 
-pub url_texts : Laws → (limits : Limits) (parts : JwsParts) (o : SignedObject) → AreMembers parts → IsBuilt limits parts o → HasUrlTexts (parts_spelled parts)
-url_texts laws limits parts o members is = record {
-  payload = laws.characters parts.payload members.payload;
-  signatures = all_images AreUrlTexts signature_spelled (λ p h. h) parts.signatures (each_all decoded_part (signature_url_texts laws) parts.signatures is.decoded is.decodes members.signatures);
+pub url_texts : (limits : Limits) (parts : JwsParts) (o : SignedObject) → AreMembers parts → IsBuilt limits parts o → HasUrlTexts (parts_spelled parts)
+url_texts limits parts o members is = record {
+  payload = has_url_characters parts.payload members.payload;
+  signatures = all_images AreUrlTexts signature_spelled (λ p h. h) parts.signatures (each_all decoded_part (signature_url_texts) parts.signatures is.decoded is.decodes members.signatures);
 }
 
 -- the members of a signature are as JSON has them, and nest no deeper than its header
-signature_json : Laws → (n : ℕ) (p : SignatureParts) → IsUtf8 p.protected × (AreJsonMembers p.header × IsOctets p.signature) → nat_le (depth (object p.header)) n ≡ true
+signature_json : (n : ℕ) (p : SignatureParts) → IsUtf8 p.protected × (AreJsonMembers p.header × IsOctets p.signature) → nat_le (depth (object p.header)) n ≡ true
     → AreJsonEntries n (signature_entries (signature_spelled p))
-signature_json laws n p members shallow =
-    let header = header_entry laws.url n (codes "header") p.header refl members.1.0 shallow in
-    let signature = required_entry laws.url n (codes "signature") (base64url p.signature) refl (spelled_is_json laws p.signature members.1.1) in
-    let protected = text_entry laws.url n (codes "protected") p.protected refl members.0 in
+signature_json n p members shallow =
+    let header = header_entry n (codes "header") p.header refl members.1.0 shallow in
+    let signature = required_entry n (codes "signature") (base64url p.signature) refl (spelled_is_json p.signature members.1.1) in
+    let protected = text_entry n (codes "protected") p.protected refl members.0 in
     (header, (signature, (protected, tt)))
 
-payload_json : Laws → (n : ℕ) (parts : JwsParts) → AreMembers parts → (detach : Bool) → IsUtf8 (codes "payload") × IsJsonIfThere n (content_there detach (base64url parts.payload))
-payload_json laws n parts members detach = content_entry laws.url detach n (codes "payload") (base64url parts.payload) refl (spelled_is_json laws parts.payload members.payload)
+payload_json : (n : ℕ) (parts : JwsParts) → AreMembers parts → (detach : Bool) → IsUtf8 (codes "payload") × IsJsonIfThere n (content_there detach (base64url parts.payload))
+payload_json n parts members detach = content_entry detach n (codes "payload") (base64url parts.payload) refl (spelled_is_json parts.payload members.payload)
 
 -- so are all members, where no header is too deep
-pub members_json : Laws → (parts : JwsParts) → AreMembers parts → nest_at_most (depth_of_each (length parts.signatures)) parts.signatures ≡ true → (detach : Bool)
+pub members_json : (parts : JwsParts) → AreMembers parts → nest_at_most (depth_of_each (length parts.signatures)) parts.signatures ≡ true → (detach : Bool)
     → AreJsonEntries header_depth (entries detach (parts_spelled parts))
-members_json laws parts members nest detach =
+members_json parts members nest detach =
     let n : ℕ = depth_of_each (length parts.signatures) in
     let shallow = all_passed (λ p. nat_le (depth (object p.header)) n) parts.signatures nest in
-    let each = all_both (signature_json laws n) parts.signatures members.signatures shallow in
-    (payload_json laws header_depth parts members detach, each_json laws.keep (codes "signatures") signature_spelled signature_entries parts.signatures (name_is_json laws.url (codes "signatures") refl) each)
+    let each = all_both (signature_json n) parts.signatures members.signatures shallow in
+    (payload_json header_depth parts members detach, each_json (codes "signatures") signature_spelled signature_entries parts.signatures (name_is_json (codes "signatures") refl) each)
 
 -- and they are however deep these are
-pub object_json : Laws → (parts : JwsParts) → AreMembers parts → (detach : Bool) → IsJson (object (put_all (entries detach (parts_spelled parts))))
-object_json laws parts members detach =
+pub object_json : (parts : JwsParts) → AreMembers parts → (detach : Bool) → IsJson (object (put_all (entries detach (parts_spelled parts))))
+object_json parts members detach =
     let most = bounded (λ (p : SignatureParts). depth (object p.header)) parts.signatures in
     let n : ℕ = most.0 in
-    let each = all_both (λ p is h. signature_json laws n p is (le-leb (depth (object p.header)) n h)) parts.signatures members.signatures most.1 in
-    let signatures = each_json_deeper laws.keep n (codes "signatures") signature_spelled signature_entries parts.signatures (name_is_json laws.url (codes "signatures") refl) each in
-    (all_json laws.keep (suc (suc n)) (entries detach (parts_spelled parts)) (payload_json laws (suc (suc n)) parts members detach, signatures)).0
+    let each = all_both (λ p is h. signature_json n p is (le-leb (depth (object p.header)) n h)) parts.signatures members.signatures most.1 in
+    let signatures = each_json_deeper n (codes "signatures") signature_spelled signature_entries parts.signatures (name_is_json (codes "signatures") refl) each in
+    (all_json (suc (suc n)) (entries detach (parts_spelled parts)) (payload_json (suc (suc n)) parts members detach, signatures)).0

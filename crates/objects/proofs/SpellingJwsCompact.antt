@@ -4,7 +4,6 @@ use Rattle.serde_json.specs.Data.{no_members}
 use Rattle.octets.specs.declared.refusal.Refusal.TheVariants.{NotCompact}
 use Rattle.octets.specs.Base64url.{base64url}
 use Rattle.octets.specs.Outcomes.{needs}
-use Rattle.keys.specs.JsonTexts.{DeepTextsAreRefused}
 use Rattle.keys.specs.Limits.{Limits}
 use Rattle.objects.specs.Jws.{JwsParts, Signature, SignedObject, EncodedJws, encoded_in_compact, encoded_jws, decoded_object, jws_of, built, members_text, signature_parts_of, json_text, with_compact, is_compact, jws_written, jws_compact_text, jws_text, AreMembers, IsMade, BuildingIsReading, TextsSpellObjects}
 use Rattle.objects.specs.Texts.{handed_in}
@@ -14,7 +13,7 @@ use Rattle.objects.proofs.Characters.{between_dots, joined_characters, no_json_f
 use Rattle.objects.proofs.CompactTexts.{all_no_dot, three_of_joined}
 use Rattle.objects.proofs.DetachedContent.{kept, kept_read, kept_characters}
 use Rattle.objects.proofs.JwsWritten.{compact_is}
-use Rattle.objects.proofs.Spelling.{Laws, no_member}
+use Rattle.objects.proofs.Spelling.{no_member}
 use Rattle.objects.proofs.SpellingJws.{spelled, parts_spelled, parts_are, object_keeps, IsBuilt, jws_is_built, object_read, HasUrlTexts, url_texts}
 use Rattle.octets.proofs.Lemmas.{steps, passed, same_answer}
 
@@ -61,17 +60,17 @@ read_compact limits detach protected payload signature o url h =
     rw (no_json_form text all, no_line_end text all, split_in_three detach protected payload signature url) h
 
 -- an object is what its compact text spells
-compact_text_spells : Laws → (limits : Limits) (parts : JwsParts) (o : SignedObject) → AreMembers parts → IsBuilt limits parts o → (detach : Bool)
+compact_text_spells : (limits : Limits) (parts : JwsParts) (o : SignedObject) → AreMembers parts → IsBuilt limits parts o → (detach : Bool)
     → (text : List ℕ) → jws_compact_text detach o ≡ Ok text → jws_of limits (handed_in detach o.payload) text ≡ Ok o
 unfolding jws_compact_text
-compact_text_spells laws limits parts o members is detach text h =
+compact_text_spells limits parts o members is detach text h =
     let w = steps (jws_written false true detach o) _ text h in
     let a = steps (needs (is_compact o.signatures) NotCompact) _ w.0 w.1 in
     let one = only_signature detach o o.signatures refl (passed _ NotCompact a.0 a.1) in
     let texts : parts_spelled parts ≡ compact one.protected (base64url o.payload) one.signature = sym (object_keeps limits parts o is) ∙ one.texts in
     ap (jws_of limits (handed_in detach o.payload)) (sym (same_answer _ text w.2) ∙ ap (λ (w : Written). w.text) (sym (same_answer _ w.0 a.2)) ∙ one.text)
-    ∙ read_compact limits detach one.protected o.payload one.signature o (subst HasUrlTexts texts (url_texts laws limits parts o members is))
-    (ap (decoded_object limits) (sym texts) ∙ object_read laws limits parts o members is)
+    ∙ read_compact limits detach one.protected o.payload one.signature o (subst HasUrlTexts texts (url_texts limits parts o members is))
+    (ap (decoded_object limits) (sym texts) ∙ object_read limits parts o members is)
 
 -- an object is what its JSON text spells, which is that of its members
 json_text_spells : BuildingIsReading → (limits : Limits) (parts : JwsParts) (o : SignedObject) → AreMembers parts → built limits parts ≡ Ok o → (detach : Bool)
@@ -81,9 +80,9 @@ json_text_spells reading limits parts o members h detach =
     ap (λ (p : JwsParts). jws_of limits (handed_in detach p.payload) (members_text detach p)) same ∙ sym (reading limits parts members detach) ∙ h
 
 -- an object that is made of its members is what its texts spell
-pub texts_spell_objects : Laws → DeepTextsAreRefused → TextsSpellObjects
-texts_spell_objects laws refused limits parts o members h detach =
-    (json_text_spells (building_is_reading laws refused) limits parts o members h detach, compact_text_spells laws limits parts o members (jws_is_built limits parts o h) detach)
+pub texts_spell_objects : TextsSpellObjects
+texts_spell_objects limits parts o members h detach =
+    (json_text_spells (building_is_reading) limits parts o members h detach, compact_text_spells limits parts o members (jws_is_built limits parts o h) detach)
 
 -- ---- what is written
 

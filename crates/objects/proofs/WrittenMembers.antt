@@ -4,7 +4,7 @@ use Rattle.std.specs.List.{AllByRecursion, list_all}
 use Rattle.serde_json.specs.Data.{Data, string, array, object, Members, no_members, member}
 use Rattle.serde_json.specs.Written.{comma_if, compact_text, members_text, items_text}
 use Rattle.octets.specs.Base64url.{base64url, is_url_character}
-use Rattle.keys.specs.JsonTexts.{UrlTextsAreJson}
+use Rattle.keys.proofs.Lemmas.{url_texts_are_json}
 use Rattle.objects.specs.Writing.{Written, nothing_written, pushed, slot_by, with_slot, opened, closed, comma_by, named, with_value, with_text, with_header, with_place, with_content, inside, with_items, with_list}
 use Rattle.objects.proofs.Characters.{IsUrlText}
 use Rattle.objects.proofs.DetachedContent.{content_there}
@@ -44,44 +44,44 @@ begins_slot octets w rest all b = subst (λ p. Begins (slot_by p octets w) rest 
 -- ---- names and values
 
 -- a text of these characters needs no escape
-quoted : UrlTextsAreJson → (text rest : List ℕ) → IsUrlText text → compact_text (string text) ++ rest ≡ codes "\"" ++ (text ++ (codes "\"" ++ rest))
-quoted url text rest is = ap (λ t. t ++ rest) (url text is).1 ∙ ap (λ t. 34 ∷ t) (append_assoc text (34 ∷ []) rest)
+quoted : (text rest : List ℕ) → IsUrlText text → compact_text (string text) ++ rest ≡ codes "\"" ++ (text ++ (codes "\"" ++ rest))
+quoted text rest is = ap (λ t. t ++ rest) (url_texts_are_json text is).1 ∙ ap (λ t. 34 ∷ t) (append_assoc text (34 ∷ []) rest)
 
 begins_comma : (b : Bool) (w : Written) (rest all : List ℕ) → Begins w (comma_if b ++ rest) all → Begins (comma_by b w) rest all
 begins_comma true w rest all b = begins_pushed (codes ",") w rest all b
 begins_comma false w rest all b = b
 
 -- behind its name stands the value
-begins_named : UrlTextsAreJson → (name : List ℕ) (d : Data) (ms : Members) (tail : List ℕ) (w : Written) (all : List ℕ) → list_all is_url_character name ≡ true
+begins_named : (name : List ℕ) (d : Data) (ms : Members) (tail : List ℕ) (w : Written) (all : List ℕ) → list_all is_url_character name ≡ true
     → Begins w (members_text w.later (member name d ms) ++ tail) all → Begins (named name w) (compact_text d ++ (members_text true ms ++ tail)) all
-begins_named url name d ms tail w all is b =
+begins_named name d ms tail w all is b =
     let value : List ℕ = compact_text d ++ (members_text true ms ++ tail) in
     let split : members_text w.later (member name d ms) ++ tail ≡ comma_if w.later ++ (codes "\"" ++ (name ++ (codes "\":" ++ value))) =
     append_assoc (comma_if w.later) _ tail
     ∙ ap (λ l. comma_if w.later ++ l) (append_assoc (compact_text (string name)) _ tail
     ∙ ap (λ l. compact_text (string name) ++ 58 ∷ l) (append_assoc (compact_text d) (members_text true ms) tail)
-    ∙ quoted url name (58 ∷ value) (all_passed is_url_character name is)) in
+    ∙ quoted name (58 ∷ value) (all_passed is_url_character name is)) in
     let before = begins_comma w.later w (codes "\"" ++ (name ++ (codes "\":" ++ value))) all (at_rest w _ _ all split b) in
     begins_closed (codes "\":") _ value all (begins_pushed name _ (codes "\":" ++ value) all (begins_pushed (codes "\"") _ (name ++ (codes "\":" ++ value)) all before))
 
-begins_value : UrlTextsAreJson → (name : List ℕ) (d : Data) (ms : Members) (tail : List ℕ) (w : Written) (all : List ℕ) → list_all is_url_character name ≡ true
+begins_value : (name : List ℕ) (d : Data) (ms : Members) (tail : List ℕ) (w : Written) (all : List ℕ) → list_all is_url_character name ≡ true
     → Begins w (members_text w.later (member name d ms) ++ tail) all → Begins (with_value name d w) (members_text true ms ++ tail) all
-begins_value url name d ms tail w all is b = begins_pushed (compact_text d) (named name w) (members_text true ms ++ tail) all (begins_named url name d ms tail w all is b)
+begins_value name d ms tail w all is b = begins_pushed (compact_text d) (named name w) (members_text true ms ++ tail) all (begins_named name d ms tail w all is b)
 
 -- ---- members
 
 -- a text is written where it is there
-pub begins_text : UrlTextsAreJson → (name text : List ℕ) (ms : Members) (tail : List ℕ) (w : Written) (all : List ℕ) → list_all is_url_character name ≡ true
+pub begins_text : (name text : List ℕ) (ms : Members) (tail : List ℕ) (w : Written) (all : List ℕ) → list_all is_url_character name ≡ true
     → Begins w (members_text w.later (member_if_there name (text_there text) ms) ++ tail) all → Begins (with_text name text w) (members_text (with_text name text w).later ms ++ tail) all
-begins_text url name [] ms tail w all is b = b
-begins_text url name (c ∷ text) ms tail w all is b = begins_value url name (string (c ∷ text)) ms tail w all is b
+begins_text name [] ms tail w all is b = b
+begins_text name (c ∷ text) ms tail w all is b = begins_value name (string (c ∷ text)) ms tail w all is b
 
 -- so is a header
-pub begins_header : UrlTextsAreJson → (name : List ℕ) (header ms : Members) (tail : List ℕ) (w : Written) (all : List ℕ) → list_all is_url_character name ≡ true
+pub begins_header : (name : List ℕ) (header ms : Members) (tail : List ℕ) (w : Written) (all : List ℕ) → list_all is_url_character name ≡ true
     → Begins w (members_text w.later (member_if_there name (header_there header) ms) ++ tail) all
     → Begins (with_header name header w) (members_text (with_header name header w).later ms ++ tail) all
-begins_header url name no_members ms tail w all is b = b
-begins_header url name (member k d header) ms tail w all is b = begins_value url name (object (member k d header)) ms tail w all is b
+begins_header name no_members ms tail w all is b = b
+begins_header name (member k d header) ms tail w all is b = begins_value name (object (member k d header)) ms tail w all is b
 
 -- a place changes nothing of what stands before
 slot_later : (places : Bool) (octets : List ℕ) (w : Written) → (slot_by places octets w).later ≡ w.later
@@ -89,23 +89,23 @@ slot_later true octets w = refl
 slot_later false octets w = refl
 
 -- the text of octets stands between quotes
-pub begins_place : UrlTextsAreJson → (name octets : List ℕ) (ms : Members) (tail : List ℕ) (w : Written) (all : List ℕ) → list_all is_url_character name ≡ true → IsUrlText (base64url octets)
+pub begins_place : (name octets : List ℕ) (ms : Members) (tail : List ℕ) (w : Written) (all : List ℕ) → list_all is_url_character name ≡ true → IsUrlText (base64url octets)
     → Begins w (members_text w.later (member name (string (base64url octets)) ms) ++ tail) all
     → Begins (with_place name octets w) (members_text (with_place name octets w).later ms ++ tail) all
-begins_place url name octets ms tail w all is plain b =
+begins_place name octets ms tail w all is plain b =
     let text : List ℕ = base64url octets in
     let rest : List ℕ = members_text true ms ++ tail in
-    let value = at_rest (named name w) _ _ all (quoted url text rest plain) (begins_named url name (string text) ms tail w all is b) in
+    let value = at_rest (named name w) _ _ all (quoted text rest plain) (begins_named name (string text) ms tail w all is b) in
     let before = begins_pushed (codes "\"") (named name w) (text ++ (codes "\"" ++ rest)) all value in
     subst (λ later. Begins (with_place name octets w) (members_text later ms ++ tail) all) (sym (slot_later _ octets _))
     (begins_pushed (codes "\"") _ rest all (begins_slot octets _ (codes "\"" ++ rest) all before))
 
 -- that of a content is there unless it is detached
-pub begins_content : UrlTextsAreJson → (name : List ℕ) (detach : Bool) (content : List ℕ) (ms : Members) (tail : List ℕ) (w : Written) (all : List ℕ) → list_all is_url_character name ≡ true
+pub begins_content : (name : List ℕ) (detach : Bool) (content : List ℕ) (ms : Members) (tail : List ℕ) (w : Written) (all : List ℕ) → list_all is_url_character name ≡ true
     → IsUrlText (base64url content) → Begins w (members_text w.later (member_if_there name (content_there detach (base64url content)) ms) ++ tail) all
     → Begins (with_content name (inside detach content) w) (members_text (with_content name (inside detach content) w).later ms ++ tail) all
-begins_content url name true content ms tail w all is plain b = b
-begins_content url name false content ms tail w all is plain b = begins_place url name content ms tail w all is plain b
+begins_content name true content ms tail w all is plain b = b
+begins_content name false content ms tail w all is plain b = begins_place name content ms tail w all is plain b
 
 -- ---- lists
 
@@ -127,13 +127,13 @@ begins_items with_one entries text (x ∷ xs) writes tail w all b =
     let one = writes.0 others _ all (begins_opened (codes "{") _ (members_text false ms ++ others) all brace) in
     begins_items with_one entries text xs writes.1 tail _ all (begins_closed (codes "}") _ others all one)
 
-pub begins_list : UrlTextsAreJson → {X T : Type 0} (name : List ℕ) (with_one : X → Written → Written) (entries : T → Entries) (text : X → T) (xs : List X)
+pub begins_list : {X T : Type 0} (name : List ℕ) (with_one : X → Written → Written) (entries : T → Entries) (text : X → T) (xs : List X)
     → AllByRecursion (WritesOne with_one entries text) xs → (ms : Members) (tail : List ℕ) (w : Written) (all : List ℕ) → list_all is_url_character name ≡ true
     → Begins w (members_text w.later (member name (array (listed entries (map text xs))) ms) ++ tail) all → Begins (with_list name with_one xs w) (members_text true ms ++ tail) all
-begins_list url name with_one entries text xs writes ms tail w all is b =
+begins_list name with_one entries text xs writes ms tail w all is b =
     let list = listed entries (map text xs) in
     let rest : List ℕ = members_text true ms ++ tail in
-    let value = begins_named url name (array list) ms tail w all is b in
+    let value = begins_named name (array list) ms tail w all is b in
     let items = begins_opened (codes "[") (named name w) (items_text false list ++ rest) all value in
     begins_closed (codes "]") _ rest all (begins_items with_one entries text xs writes rest _ all items)
 

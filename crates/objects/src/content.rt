@@ -12,7 +12,7 @@ pub(crate) mod received_text;
 use crate::content::payload::Payload;
 use crate::content::received_text::ReceivedText;
 use crate::json_members::{required_text, text_at};
-use octets::laws::{are_octets, base64url_decodes_exactly};
+use octets::laws::are_octets;
 use octets::{Refusal, b64_decode, needs};
 use serde_json::Value;
 use std::alloc::Global;
@@ -55,10 +55,10 @@ impl<'t> Content<'t> {
     }
 
     /// Its octets. Refused with `Base64` where its text is no base64url text.
+    #[tactic(auto, using(octets::proofs::Lemmas::meaning_of_text))]
     pub(crate) fn octets(self, alloc: Global) -> Result<Vec<u8>, Refusal>
         ensures { AgreesUnlessMemory (λ octets. octets.items) result (decoded (content_text_view self.entry)) }
     {
-        base64url_decodes_exactly();
         match self {
             Content::Text(text) => b64_decode(alloc, text),
             Content::Octets(octets) => {
@@ -69,11 +69,11 @@ impl<'t> Content<'t> {
     }
 
     /// The payload that it is, without memory. Refused with `Base64` where its text is no base64url text.
+    #[tactic(auto, using(octets::proofs::Lemmas::meaning_of_text))]
     pub(crate) fn payload(self) -> Result<Payload<'t>, Refusal>
         ensures exact { Agrees payload_view result (decoded (content_text_view self.entry)) }
         ensures form { IfOk result (λ payload. payload_is_text payload ≡ content_is_text self.entry) }
     {
-        base64url_decodes_exactly();
         match self {
             Content::Text(text) => Ok(Payload::Text(ReceivedText::read(text)?)),
             Content::Octets(octets) => {

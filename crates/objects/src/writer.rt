@@ -12,8 +12,6 @@ use crate::content::payload::HeldContent;
 use crate::content::received_text::ReceivedText;
 use crate::header::members::HeaderMembers;
 use crate::header::parts::{copy_header, has_members};
-use keys::laws;
-use octets::laws::base64url_has_url_characters;
 use octets::{Refusal, b64_append, b64_encode};
 use serde_json::Value;
 use std::alloc::Global;
@@ -310,12 +308,11 @@ fn append(text: &mut String, content: HeldContent<'_>) -> Result<(), Refusal>
 }
 
 /// Adds a text that was received.
+#[tactic(auto, using(crate::proofs::Spelling::spelled_is_json))]
 fn append_received(text: &mut String, received: &ReceivedText<'_>) -> Result<(), Refusal>
     ensures text { OnOk result (string_bytes text.new ≡ string_bytes text.old ++ base64url (received_view received.now)) }
     ensures memory { OnErr result (result ≡ Err Refusal.Memory) }
 {
-    base64url_has_url_characters();
-    laws::url_texts_are_json();
     let Ok(characters) = str::from_utf8(received.text()) else {
         unreachable!()
     };

@@ -209,7 +209,7 @@ json_parameters : (named counted : Bool) (alg : List ℕ) (m : KeyManagement) �
 json_parameters named counted alg m text is = by_management m is
   where
     is_name : (name : List ℕ) → list_all is_url_character name ≡ true → IsUtf8 name
-    is_name = name_is_json url_texts_are_json
+    is_name = name_is_json
 
     url_json : (octets : List ℕ) → IsOctets octets → IsJsonIfThere 0 (Some (string (base64url octets)))
     url_json octets is = ((url_texts_are_json (base64url octets) (has_url_characters octets is)).0, omega arith)
@@ -260,7 +260,7 @@ pub header_with_enc : (given : Bool) (enc : ContentEncryptionAlg) (header : Memb
 header_with_enc given enc header is =
     let value : Data = string (encryption_name enc) in
     header_onto header ((codes "enc", unless given value) ∷ []) is
-    ((name_is_json url_texts_are_json (codes "enc") refl, json_unless given value (λ e. (encryption_is_text enc, omega arith))), tt) refl refl
+    ((name_is_json (codes "enc") refl, json_unless given value (λ e. (encryption_is_text enc, omega arith))), tt) refl refl
 
 -- ---- the recipient that is read
 

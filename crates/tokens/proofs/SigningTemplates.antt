@@ -17,7 +17,7 @@ use Rattle.keys.specs.Algorithms.{signature_name, signature_alg_of}
 use Rattle.keys.specs.Json.{is_object, has_only}
 use Rattle.keys.specs.JsonTexts.{IsJson, AreJsonMembers}
 use Rattle.keys.specs.Keys.{OctetKey}
-use Rattle.keys.proofs.Lemmas.{keep_json, url_texts_are_json}
+use Rattle.keys.proofs.Lemmas.{keep_json}
 use Rattle.objects.specs.Headers.{header_at, overlap, all_members, are_disjoint, joint_header, string_parameter, if_there, required, has_no_crit}
 use Rattle.objects.proofs.Lemmas.{get_member-all_members, name_is_json}
 use Rattle.octets.proofs.Lemmas.{steps, passed, same_answer}
@@ -196,9 +196,9 @@ pub record IsSettled (header : Members) (s : Signer) : Type 0 where
 
 -- the name of an algorithm is text
 name_is_utf8 : (alg : SignatureAlg) → IsUtf8 (signature_name alg)
-name_is_utf8 Hs256 = name_is_json url_texts_are_json (codes "HS256") refl
-name_is_utf8 Hs384 = name_is_json url_texts_are_json (codes "HS384") refl
-name_is_utf8 Hs512 = name_is_json url_texts_are_json (codes "HS512") refl
+name_is_utf8 Hs256 = name_is_json (codes "HS256") refl
+name_is_utf8 Hs384 = name_is_json (codes "HS384") refl
+name_is_utf8 Hs512 = name_is_json (codes "HS512") refl
 
 -- by the chosen algorithm, which is put in where the template names none
 settled_by : (p u : Members) (asked : Option SignatureAlg) (key : OctetKey) (alg : SignatureAlg) → AreJsonMembers p → Say p u asked → chosen_alg asked key ≡ Ok alg
@@ -217,7 +217,7 @@ settled_by p u None key alg json say chosen =
     let absent : is_some (get_member (codes "alg") u) ≡ false = is_absent _ (in_neither (codes "alg") p u none).1 in
     let value : Data = string (signature_name alg) in
     record {
-      json = (keep_json.put_in (codes "alg") value p (name_is_json url_texts_are_json (codes "alg") refl) (name_is_utf8 alg) json).0;
+      json = (keep_json.put_in (codes "alg") value p (name_is_json (codes "alg") refl) (name_is_utf8 alg) json).0;
       disjoint = disjoint (put (codes "alg") value p) u (overlap-put (codes "alg") value p u absent (apart p u say.disjoint));
       plain = ap is_none (get_member-put_other (codes "crit") (codes "alg") value p crit_is_not_alg) ∙ say.plain;
       alg = put_parameter (codes "alg") (signature_name alg) p u;

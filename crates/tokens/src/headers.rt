@@ -7,7 +7,7 @@ ghost use Rattle.objects.specs.Views.{part_view};
 ghost use Rattle.tokens.specs.Template.{header_text, is_shallow, is_empty};
 ghost use Rattle.tokens.specs.Choosing.{with_name};
 
-use keys::{MOST_DEPTH, laws, object_nests_at_most};
+use keys::{MOST_DEPTH, object_nests_at_most};
 use serde_json::{Map, Value};
 use std::alloc::{AllocError, Global};
 
@@ -46,6 +46,7 @@ pub(crate) fn header_text(alloc: Global, members: Map<String, Value>) -> Result<
 }
 
 /// The header with a parameter, where the template does not name its algorithm.
+#[tactic(auto, using(keys::proofs::Lemmas::no_float_put_in))]
 pub(crate) fn with_name(
     alloc: Global,
     named: bool,
@@ -57,7 +58,6 @@ pub(crate) fn with_name(
     ensures no_float { IfOk result (λ made. members_have_float (members_view header.entries) ≡ false
         → members_have_float (members_view made.entries) ≡ false) }
 {
-    laws::members_keep_floats_out();
     if !named {
         let value = Value::try_from_str(alloc, name)?;
         serde_json::put(&mut header, alloc, parameter, value)?;

@@ -8,10 +8,7 @@ ghost use Rattle.objects.specs.Texts.{meaning};
 ghost use Rattle.objects.specs.Views.{held_view, payload_view, received_view, is_text, payload_is_text};
 
 use crate::content::received_text::ReceivedText;
-use octets::laws::{
-    are_octets, base64url_decodes_exactly, base64url_decodes_to_octets,
-    base64url_has_url_characters,
-};
+use octets::laws::are_octets;
 use octets::{
     B64Reader, Output, PIECE, PIECE_TEXT, Refusal, Transform, b64_decode, emit, needs,
     without_line_end, write_whole,
@@ -34,12 +31,11 @@ pub enum HeldContent<'c> {
 
 impl<'t> ReceivedText<'t> {
     /// Refused with `Base64` where the text is no base64url text.
+    #[tactic(auto, using(octets::proofs::Lemmas::octets_of_meaning, crate::proofs::TextOctets::text_is))]
     pub(crate) fn read(text: &'t [u8]) -> Result<ReceivedText<'t>, Refusal>
         ensures { Agrees received_view result (decoded text.entry.now) }
     {
         are_octets(text);
-        base64url_decodes_exactly();
-        base64url_decodes_to_octets();
         check(text)?;
         Ok(ReceivedText { text })
     }
@@ -98,9 +94,6 @@ fn check(text: &[u8]) -> Result<(), Refusal>
     ensures { Agrees (λ done. meaning text.now) result (decoded text.now) }
 {
     are_octets(text);
-    base64url_decodes_exactly();
-    base64url_decodes_to_octets();
-    base64url_has_url_characters();
     needs(without_line_end(text).len() == text.len(), Refusal::Base64)?;
     let mut reader = B64Reader::start();
     let mut space = [0; PIECE_TEXT];
@@ -122,8 +115,6 @@ fn write_meaning<O: Output>(text: &ReceivedText<'_>, out: &mut O) -> Result<(), 
     ensures fails { OnErr result (O.failures out.new ≡ next_count (O.failures out.old)) }
 {
     are_octets(text.text);
-    base64url_decodes_exactly();
-    base64url_has_url_characters();
     let mut reader = B64Reader::start();
     let mut space = [0; PIECE_TEXT];
     for piece in text.text.chunks(PIECE) {
@@ -139,11 +130,11 @@ fn write_meaning<O: Output>(text: &ReceivedText<'_>, out: &mut O) -> Result<(), 
 }
 
 /// The octets that the text means.
+#[tactic(auto, using(octets::proofs::Lemmas::meaning_of_text))]
 fn meant(alloc: Global, text: &ReceivedText<'_>) -> Result<Vec<u8>, Refusal>
     ensures meaning { IfOk result (λ octets. octets.items ≡ received_view text.now) }
     ensures memory { IfErr result (λ e. e ≡ Refusal.Memory) }
 {
-    base64url_decodes_exactly();
     b64_decode(alloc, text.text)
 }
 

@@ -12,14 +12,14 @@ ghost use Rattle.objects.specs.Views.{part_view};
 
 use crate::header::Header;
 use crate::header::members::HeaderMembers;
-use keys::{laws, read_json};
+use keys::read_json;
 use octets::Refusal;
 use serde_json::{Map, Value};
 use std::alloc::Global;
 
 /// The header that a member of the value is (RFC 7515 section 7.2.1, RFC 7516 section 7.2.1). It may be absent.
 /// Refused with `Form` where the member is no object.
-#[tactic(auto, unfolding(crate::specs::Headers::header_at))]
+#[tactic(auto, unfolding(crate::specs::Headers::header_at), using(keys::proofs::Lemmas::no_float_in_member, keys::proofs::Lemmas::no_float_members_of))]
 pub fn header_at<'v>(
     value: &'v Value,
     name: &str,
@@ -29,7 +29,6 @@ pub fn header_at<'v>(
         → members_have_float (part_view part) ≡ false) }
     ensures refusal { IfErr result (λ e. e ≡ Refusal.Form) }
 {
-    laws::members_keep_floats_out();
     match value.get(name) {
         None => Ok(None),
         Some(found) => match found.as_object() {
@@ -56,11 +55,11 @@ pub(crate) fn owned_header_at(
 }
 
 /// The members, whose numbers are whole.
+#[tactic(auto, using(keys::proofs::Lemmas::no_float_in_members))]
 pub(crate) fn with_whole_numbers(map: Map<String, Value>) -> HeaderMembers
     requires { member_numbers_are_whole (members_view map.entries) ≡ true }
     ensures { members_view result.map.entries ≡ members_view map.entries }
 {
-    laws::members_keep_floats_out();
     HeaderMembers { map }
 }
 

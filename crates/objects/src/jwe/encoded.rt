@@ -15,7 +15,6 @@ use crate::header::members::HeaderMembers;
 use crate::header::parts::{has_some_members, header_at, no_members, owned_header_at};
 use crate::json_members::{object_list, text_at};
 use crate::jwe::parts::{JweMembers, RecipientMembers};
-use keys::laws::members_keep_floats_out;
 use octets::{Refusal, b64_decode, b64_encode, needs};
 use serde_json::Value;
 use std::alloc::Global;
@@ -98,13 +97,12 @@ fn encoded_shared(alloc: Global, value: &Value) -> Result<EncodedShared<'_>, Ref
 }
 
 /// The objects that the recipients are: the value itself, or those of its list, beside which nothing of one may stand.
-#[tactic(auto, unfolding(crate::specs::Jwe::recipient_objects))]
+#[tactic(auto, unfolding(crate::specs::Jwe::recipient_objects), using(keys::proofs::Lemmas::no_float_in_member))]
 fn recipient_objects(value: &Value) -> Result<&[Value], Refusal>
     requires { has_float (view value.now) ≡ false }
     ensures exact { Agrees (λ objects. items_view objects.now) result (recipient_objects (view value.now)) }
     ensures no_float { IfOk result (λ objects. items_have_float (items_view objects.now) ≡ false) }
 {
-    members_keep_floats_out();
     match value.get("recipients") {
         None => Ok(slice::from_ref(value)),
         Some(list) => {

@@ -14,8 +14,6 @@ use crate::header::members::HeaderMembers;
 use crate::header::parts::{has_some_members, header_at, no_members, owned_header_at};
 use crate::json_members::{object_list, required_text, text_at};
 use crate::jws::parts::{DecodedSignature, SignatureMembers};
-use keys::laws::members_keep_floats_out;
-use octets::laws::base64url_decodes_exactly;
 use octets::{Refusal, b64_decode, b64_encode, needs};
 use serde_json::Value;
 use std::alloc::Global;
@@ -58,13 +56,12 @@ pub(crate) fn encoded_in_json(
 }
 
 /// The objects that the signatures are: the value itself, or those of its list, beside which nothing of one may stand.
-#[tactic(auto, unfolding(crate::specs::Jws::signature_objects))]
+#[tactic(auto, unfolding(crate::specs::Jws::signature_objects), using(keys::proofs::Lemmas::no_float_in_member))]
 fn signature_objects(value: &Value) -> Result<&[Value], Refusal>
     requires { has_float (view value.now) ≡ false }
     ensures exact { Agrees (λ objects. items_view objects.now) result (signature_objects (view value.now)) }
     ensures no_float { IfOk result (λ objects. items_have_float (items_view objects.now) ≡ false) }
 {
-    members_keep_floats_out();
     match value.get("signatures") {
         None => Ok(slice::from_ref(value)),
         Some(list) => {
@@ -159,14 +156,13 @@ pub(crate) fn decoded_signatures(
     Ok(signatures)
 }
 
-#[tactic(auto, unfolding(crate::specs::Jws::decoded_signature, crate::specs::Jws::decoded_part))]
+#[tactic(auto, unfolding(crate::specs::Jws::decoded_signature, crate::specs::Jws::decoded_part), using(octets::proofs::Lemmas::meaning_of_text))]
 fn decoded_signature(
     alloc: Global,
     texts: EncodedSignature<'_>,
 ) -> Result<DecodedSignature, Refusal>
     ensures { AgreesUnlessMemory decoded_signature_view result (decoded_signature (encoded_signature_view texts.entry)) }
 {
-    base64url_decodes_exactly();
     let EncodedSignature {
         protected,
         header,

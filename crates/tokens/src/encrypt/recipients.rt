@@ -14,7 +14,6 @@ ghost use Rattle.tokens.specs.Views.{given_view, delivery_view};
 use crate::encrypt::deliver::Delivery;
 use crate::encrypt::plan::Given;
 use crate::headers::with_name;
-use keys::laws;
 use objects::{KeyManagement, RecipientParts};
 use octets::{Refusal, b64_encode};
 use serde_json::{Map, Value};
@@ -139,6 +138,7 @@ fn with_management(
 }
 
 /// The header with the iterations, unless the template gives them.
+#[tactic(auto, using(keys::proofs::Lemmas::no_float_put_in))]
 fn with_p2c(
     alloc: Global,
     given: bool,
@@ -149,7 +149,6 @@ fn with_p2c(
     ensures no_float { IfOk result (λ made. members_have_float (members_view header.entries) ≡ false
         → members_have_float (members_view made.entries) ≡ false) }
 {
-    laws::members_keep_floats_out();
     if !given {
         serde_json::put(&mut header, alloc, "p2c", Value::from(p2c))?;
     }
@@ -157,6 +156,7 @@ fn with_p2c(
 }
 
 /// The header with a parameter whose value is the base64url text of octets.
+#[tactic(auto, using(keys::proofs::Lemmas::no_float_put_in))]
 fn with_octets(
     alloc: Global,
     parameter: &str,
@@ -168,7 +168,6 @@ fn with_octets(
         → members_have_float (members_view made.entries) ≡ false) }
     ensures memory { IfErr result (λ e. e ≡ Refusal.Memory) }
 {
-    laws::members_keep_floats_out();
     let text = b64_encode(alloc, octets)?;
     serde_json::put(&mut header, alloc, parameter, Value::from(text))?;
     Ok(header)

@@ -7,7 +7,7 @@ ghost use Rattle.objects.specs.Views.{part_view};
 ghost use Rattle.tokens.specs.Template.{template_of, template_headers, named_alg, supported_if_there, with_alg};
 ghost use Rattle.tokens.specs.Views.{template_view};
 
-use keys::{SignatureAlg, has_only, is_object, laws};
+use keys::{SignatureAlg, has_only, is_object};
 use objects::{Header, copy_header, header_at};
 use octets::{Refusal, needs};
 use serde_json::{Map, Value};
@@ -81,6 +81,7 @@ fn supported_if_there(name: Option<&str>) -> Result<Option<SignatureAlg>, Refusa
 }
 
 /// The protected header of a template, with the algorithm where the template names none.
+#[tactic(auto, using(keys::proofs::Lemmas::no_float_put_in))]
 pub(crate) fn with_alg(
     alloc: Global,
     template: Template<'_>,
@@ -91,7 +92,6 @@ pub(crate) fn with_alg(
         → members_have_float (members_view protected.entries) ≡ false) }
     ensures memory { IfErr result (λ e. e ≡ Refusal.Memory) }
 {
-    laws::members_keep_floats_out();
     let mut protected = copy_header(alloc, template.protected)?;
     if template.alg.is_none() {
         let name = Value::try_from_str(alloc, alg.name())?;

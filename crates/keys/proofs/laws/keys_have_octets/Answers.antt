@@ -2,4 +2,4 @@ use Rattle.keys.proofs.KeyOctets.{keys_have_octets}
 use Rattle.keys.proofs.laws.keys_have_octets.Goals as goal
 
 pub returns : goal.returns
-returns c = keys_have_octets c.base64url_decodes_to_octets.ensures
+returns c = keys_have_octets

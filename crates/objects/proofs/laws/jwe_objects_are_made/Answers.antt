@@ -1,6 +1,5 @@
-use Rattle.objects.proofs.ReadJson.{reading_laws}
 use Rattle.objects.proofs.MadeJwe.{objects_are_made}
 use Rattle.objects.proofs.laws.jwe_objects_are_made.Goals as goal
 
 pub returns : goal.returns
-returns c = objects_are_made reading_laws
+returns c = objects_are_made

@@ -1,7 +1,5 @@
-use Rattle.keys.proofs.Lemmas.{deep_texts}
-use Rattle.objects.proofs.Spelling.{laws}
 use Rattle.objects.proofs.BuildingJws.{building_is_reading}
 use Rattle.objects.proofs.laws.jws_building_is_reading.Goals as goal
 
 pub returns : goal.returns
-returns c = building_is_reading laws deep_texts
+returns c = building_is_reading

@@ -1,6 +1,5 @@
-use Rattle.objects.proofs.TextOctets.{text_laws}
 use Rattle.objects.proofs.ExactJws.{compact_texts_are_exact}
 use Rattle.objects.proofs.laws.jws_compact_texts_are_exact.Goals as goal
 
 pub returns : goal.returns
-returns c = compact_texts_are_exact text_laws
+returns c = compact_texts_are_exact

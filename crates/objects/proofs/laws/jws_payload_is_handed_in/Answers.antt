@@ -1,6 +1,5 @@
-use Rattle.octets.proofs.Lemmas.{decodes_exactly}
 use Rattle.objects.proofs.HandedIn.{payload_is_handed_in}
 use Rattle.objects.proofs.laws.jws_payload_is_handed_in.Goals as goal
 
 pub returns : goal.returns
-returns c = payload_is_handed_in decodes_exactly
+returns c = payload_is_handed_in

@@ -2,14 +2,12 @@ use Rattle.std.proofs.Common.{rules, ◌≡◌, length, Err, sym, ap, subst, ◌
 use Rattle.octets.specs.Base64url.{decoded}
 use Rattle.octets.specs.LineEnds.{without_line_end}
 use Rattle.octets.specs.Octets.{IsOctets}
-use Rattle.objects.proofs.TextOctets.{TextLaws}
 use Rattle.objects.proofs.ReceivedTexts.{as_long, none_with_line_end, meant_by, nothing_read, octets_read, piece_read, piece_refused, all_read}
 use Rattle.objects.proofs.content.payload.check.Goals as goal
 
 pub returns-in_err-needs : goal.returns-in_err-needs
 returns-in_err-needs c =
-    let laws : TextLaws = record { exact = c.base64url_decodes_exactly.ensures; octets = c.base64url_decodes_to_octets.ensures } in
-    let none = none_with_line_end laws c.base64url_has_url_characters.ensures c.args.text.now c.are_octets.ensures in
+    let none = none_with_line_end c.args.text.now c.are_octets.ensures in
     search (rules, none)
 
 pub loop-piece-init : goal.loop-piece-init

@@ -16,7 +16,7 @@ pub unreachable-requires : goal.unreachable-requires
 unreachable-requires g c =
     let text = c.args.text.now.text.now in
     let k = c.loop-piece.invariant.1.0 in
-    let meant = means c.base64url_decodes_exactly.ensures c.base64url_has_url_characters.ensures text c.args.text.now.is_octets c.args.text.now.is_text in
+    let meant = means text c.args.text.now.is_octets c.args.text.now.is_text in
     let refused = piece_refused k _ c.in-Some.piece.now _ c.in-Some.ensures.steps.1.0 c.are_octets.ensures (c.in_default.ensures.refused tt k.front k.fed) in
     cc (sym refused ∙ meant)
 
@@ -41,7 +41,7 @@ returns-in_err-write_whole-clause-part g c =
     let parts = c.in-Some.ensures.steps.1.0 in
     let out = g.O.Output.written c.loop-piece.out in
     let new = g.O.Output.written c.write_whole.new.out in
-    let meant = means c.base64url_decodes_exactly.ensures c.base64url_has_url_characters.ensures text c.args.text.now.is_octets c.args.text.now.is_text in
+    let meant = means text c.args.text.now.is_octets c.args.text.now.is_text in
     let adds = c.in-Ok.ensures.text tt k.front k.fed (octets_read k _ piece parts c.are_octets.ensures) in
     let stands = AppendsPrefixOf-part c.in-Ok.octets.now out new _ c.in_err-write_whole.ensures.part.1 in
     at_refusal _ (piece_stands k _ piece c.in-Ok.octets.now (meaning text) (g.O.Output.written c.args.out.now) out new parts c.are_octets.ensures meant adds i.1.1.0 stands)
@@ -59,7 +59,7 @@ unreachable-requires-in_default-finish g c =
     let text = c.args.text.now.text.now in
     let k = c.loop-piece.invariant.1.0 in
     let front : k.front ≡ text = all_read k c.in-None.ensures.steps.1.0 in
-    let meant = means c.base64url_decodes_exactly.ensures c.base64url_has_url_characters.ensures text c.args.text.now.is_octets c.args.text.now.is_text in
+    let meant = means text c.args.text.now.is_octets c.args.text.now.is_text in
     let refused = c.in_default-finish.ensures.refused tt k.front k.fed (subst IsOctets (sym front) c.are_octets.ensures) in
     cc (sym refused ∙ ap (λ t. decoded (without_line_end t)) front ∙ meant)
 
@@ -69,7 +69,7 @@ returns-clause-all g c =
     let k = i.1.0 in
     let old = g.O.Output.written c.args.out.now in
     let last = c.in-Ok-finish.octets.now in
-    let all = all_written k c.base64url_decodes_exactly.ensures c.base64url_has_url_characters.ensures c.args.text.now.is_octets c.args.text.now.is_text c.are_octets.ensures last c.in-None.ensures.steps.1.0
+    let all = all_written k c.args.text.now.is_octets c.args.text.now.is_text c.are_octets.ensures last c.in-None.ensures.steps.1.0
     (c.in-Ok-finish.ensures.text tt k.front k.fed) in
     on_success c.emit.result c.emit.ensures.all (λ wrote. wrote ∙ ap (λ t. t ++ last) i.1.1.0 ∙ append_assoc old (octets_of_groups (settled k.front)) last ∙ ap (λ t. old ++ t) (sym all))
 
@@ -83,7 +83,7 @@ returns-clause-part g c =
     let old = g.O.Output.written c.args.out.now in
     let new = g.O.Output.written c.emit.new.out in
     let last = c.in-Ok-finish.octets.now in
-    let all = all_written k c.base64url_decodes_exactly.ensures c.base64url_has_url_characters.ensures c.args.text.now.is_octets c.args.text.now.is_text c.are_octets.ensures last c.in-None.ensures.steps.1.0
+    let all = all_written k c.args.text.now.is_octets c.args.text.now.is_text c.are_octets.ensures last c.in-None.ensures.steps.1.0
     (c.in-Ok-finish.ensures.text tt k.front k.fed) in
     on_refusal c.emit.result c.emit.ensures.part (λ stands. subst (λ t. AppendsPrefixOf t old new) (sym all) (behind old (octets_of_groups (settled k.front)) last new (subst (λ o. AppendsPrefixOf last o new) i.1.1.0 stands)))
 
