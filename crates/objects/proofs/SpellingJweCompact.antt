@@ -6,7 +6,7 @@ use Rattle.octets.specs.declared.refusal.Refusal.TheVariants.{NotCompact}
 use Rattle.octets.specs.Base64url.{base64url}
 use Rattle.octets.specs.Outcomes.{needs}
 use Rattle.keys.specs.Limits.{Limits}
-use Rattle.objects.specs.Jwe.{JweParts, Recipient, EncryptedObject, EncodedJwe, encoded_in_compact, encoded_jwe, decoded_object, jwe_of, built, members_text, recipient_parts_of, parts_of, json_text, is_compact, key_of_first, jwe_written, jwe_compact_text, jwe_text, AreMembers, IsMade, BuildingIsReading, TextsSpellObjects}
+use Rattle.objects.specs.Jwe.{JweParts, Recipient, EncryptedObject, EncodedJwe, encoded_in_compact, encoded_jwe, decoded_object, jwe_of, built, members_text, recipient_parts_of, parts_of, json_text, is_compact, key_of_first, jwe_written, jwe_compact_text, jwe_text, AreMembers, IsMade, TextsSpellObjects}
 use Rattle.objects.specs.Texts.{has_members, handed_in}
 use Rattle.objects.specs.Writing.{Written}
 use Rattle.objects.proofs.BuildingJwe.{building_is_reading}
@@ -86,22 +86,22 @@ compact_text_spells limits parts o members is detach text h =
     (ap (decoded_object limits) (sym texts) ∙ object_read limits parts o members is)
 
 -- an object is what its JSON text spells, which is that of its members
-json_text_spells : BuildingIsReading → (limits : Limits) (parts : JweParts) (o : EncryptedObject) → AreMembers parts → built limits parts ≡ Ok o → (detach : Bool)
+json_text_spells : (limits : Limits) (parts : JweParts) (o : EncryptedObject) → AreMembers parts → built limits parts ≡ Ok o → (detach : Bool)
     → jwe_of limits (handed_in detach o.ciphertext) (json_text detach o) ≡ Ok o
-json_text_spells reading limits parts o members h detach =
+json_text_spells limits parts o members h detach =
     let is = jwe_is_built limits parts o h in
-    ap (λ (p : JweParts). jwe_of limits (handed_in detach p.ciphertext) (members_text detach p)) (object_is limits.management is.octets parts o is.made) ∙ sym (reading limits parts members detach) ∙ h
+    ap (λ (p : JweParts). jwe_of limits (handed_in detach p.ciphertext) (members_text detach p)) (object_is limits.management is.octets parts o is.made) ∙ sym (building_is_reading limits parts members detach) ∙ h
 
 -- an object that is made of its members is what its texts spell
 pub texts_spell_objects : TextsSpellObjects
 texts_spell_objects limits parts o members h detach =
-    (json_text_spells (building_is_reading) limits parts o members h detach, compact_text_spells limits parts o members (jwe_is_built limits parts o h) detach)
+    (json_text_spells limits parts o members h detach, compact_text_spells limits parts o members (jwe_is_built limits parts o h) detach)
 
 -- ---- what is written
 
 -- in either form the text spells an object that can be made
-pub written_spells : TextsSpellObjects → (limits : Limits) (compact detach : Bool) (o : EncryptedObject) (text : List ℕ) → IsMade limits o → jwe_text compact detach o ≡ Ok text
+pub written_spells : (limits : Limits) (compact detach : Bool) (o : EncryptedObject) (text : List ℕ) → IsMade limits o → jwe_text compact detach o ≡ Ok text
     → jwe_of limits (handed_in detach o.ciphertext) text ≡ Ok o
-written_spells spells limits true detach o text made h = (spells limits made.0 o made.1.0 made.1.1 detach).1 text h
-written_spells spells limits false detach o text made h =
-    ap (jwe_of limits (handed_in detach o.ciphertext)) (sym (same_answer (json_text detach o) text h)) ∙ (spells limits made.0 o made.1.0 made.1.1 detach).0
+written_spells limits true detach o text made h = (texts_spell_objects limits made.0 o made.1.0 made.1.1 detach).1 text h
+written_spells limits false detach o text made h =
+    ap (jwe_of limits (handed_in detach o.ciphertext)) (sym (same_answer (json_text detach o) text h)) ∙ (texts_spell_objects limits made.0 o made.1.0 made.1.1 detach).0

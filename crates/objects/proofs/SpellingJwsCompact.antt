@@ -5,7 +5,7 @@ use Rattle.octets.specs.declared.refusal.Refusal.TheVariants.{NotCompact}
 use Rattle.octets.specs.Base64url.{base64url}
 use Rattle.octets.specs.Outcomes.{needs}
 use Rattle.keys.specs.Limits.{Limits}
-use Rattle.objects.specs.Jws.{JwsParts, Signature, SignedObject, EncodedJws, encoded_in_compact, encoded_jws, decoded_object, jws_of, built, members_text, signature_parts_of, json_text, with_compact, is_compact, jws_written, jws_compact_text, jws_text, AreMembers, IsMade, BuildingIsReading, TextsSpellObjects}
+use Rattle.objects.specs.Jws.{JwsParts, Signature, SignedObject, EncodedJws, encoded_in_compact, encoded_jws, decoded_object, jws_of, built, members_text, signature_parts_of, json_text, with_compact, is_compact, jws_written, jws_compact_text, jws_text, AreMembers, IsMade, TextsSpellObjects}
 use Rattle.objects.specs.Texts.{handed_in}
 use Rattle.objects.specs.Writing.{Written, nothing_written, inside}
 use Rattle.objects.proofs.BuildingJws.{building_is_reading}
@@ -73,22 +73,22 @@ compact_text_spells limits parts o members is detach text h =
     (ap (decoded_object limits) (sym texts) ∙ object_read limits parts o members is)
 
 -- an object is what its JSON text spells, which is that of its members
-json_text_spells : BuildingIsReading → (limits : Limits) (parts : JwsParts) (o : SignedObject) → AreMembers parts → built limits parts ≡ Ok o → (detach : Bool)
+json_text_spells : (limits : Limits) (parts : JwsParts) (o : SignedObject) → AreMembers parts → built limits parts ≡ Ok o → (detach : Bool)
     → jws_of limits (handed_in detach o.payload) (json_text detach o) ≡ Ok o
-json_text_spells reading limits parts o members h detach =
+json_text_spells limits parts o members h detach =
     let same = parts_are limits parts o (jws_is_built limits parts o h) in
-    ap (λ (p : JwsParts). jws_of limits (handed_in detach p.payload) (members_text detach p)) same ∙ sym (reading limits parts members detach) ∙ h
+    ap (λ (p : JwsParts). jws_of limits (handed_in detach p.payload) (members_text detach p)) same ∙ sym (building_is_reading limits parts members detach) ∙ h
 
 -- an object that is made of its members is what its texts spell
 pub texts_spell_objects : TextsSpellObjects
 texts_spell_objects limits parts o members h detach =
-    (json_text_spells (building_is_reading) limits parts o members h detach, compact_text_spells limits parts o members (jws_is_built limits parts o h) detach)
+    (json_text_spells limits parts o members h detach, compact_text_spells limits parts o members (jws_is_built limits parts o h) detach)
 
 -- ---- what is written
 
 -- in either form the text spells an object that can be made
-pub written_spells : TextsSpellObjects → (limits : Limits) (compact detach : Bool) (o : SignedObject) (text : List ℕ) → IsMade limits o → jws_text compact detach o ≡ Ok text
+pub written_spells : (limits : Limits) (compact detach : Bool) (o : SignedObject) (text : List ℕ) → IsMade limits o → jws_text compact detach o ≡ Ok text
     → jws_of limits (handed_in detach o.payload) text ≡ Ok o
-written_spells spells limits true detach o text made h = (spells limits made.0 o made.1.0 made.1.1 detach).1 text h
-written_spells spells limits false detach o text made h =
-    ap (jws_of limits (handed_in detach o.payload)) (sym (same_answer (json_text detach o) text h)) ∙ (spells limits made.0 o made.1.0 made.1.1 detach).0
+written_spells limits true detach o text made h = (texts_spell_objects limits made.0 o made.1.0 made.1.1 detach).1 text h
+written_spells limits false detach o text made h =
+    ap (jws_of limits (handed_in detach o.payload)) (sym (same_answer (json_text detach o) text h)) ∙ (texts_spell_objects limits made.0 o made.1.0 made.1.1 detach).0

@@ -24,7 +24,6 @@ use crate::jwe::encoded::{EncodedJwe, decoded_members, encoded_in_compact, encod
 use crate::jwe::parts::{JweMembers, RecipientMembers};
 use crate::jwe::recipient::{Recipient, has_no_crit_or_zip, recipients_of_one_enc};
 use crate::jwe::recipient_list::RecipientList;
-use crate::laws::jwe_objects_are_made;
 use keys::{MOST_RECIPIENTS, read_json};
 use octets::laws::are_octets;
 use octets::{Refusal, b64_decode, needs, without_line_end};
@@ -53,11 +52,11 @@ impl Jwe {
     /// where the protected header is no object, `Header` where a joint header is none, its `alg` or `enc` is absent or no string,
     /// it lacks what its `alg` reads, or `enc` is not the same for all, and `Unsupported` where a header has a `crit` or a `zip`.
     /// Whether the algorithms are supported is not asked.
+    #[tactic(auto, using(crate::proofs::MadeJwe::objects_are_made))]
     pub fn read(alloc: Global, text: &[u8], detached: Option<Vec<u8>>) -> Result<Jwe, Refusal>
         ensures exact { AgreesUnlessMemory jwe_view result (jwe_of limits (option_map (λ c. c.items) detached) text.now) }
         ensures made { IfOk result (λ jwe. IsMade limits (jwe_view jwe)) }
     {
-        jwe_objects_are_made();
         are_octets(text);
         handed_in_is_octets(&detached);
         object_of_text(alloc, text, detached)

@@ -23,7 +23,6 @@ use crate::jws::encoded::{EncodedJws, decoded_signatures, encoded_in_compact, en
 use crate::jws::parts::DecodedSignature;
 use crate::jws::signature::{Signature, read_signatures};
 use crate::jws::signature_list::SignatureList;
-use crate::laws::jws_objects_are_made;
 use keys::{MOST_RECIPIENTS, read_json};
 use octets::laws::are_octets;
 use octets::{Output, Refusal, needs, without_line_end};
@@ -45,6 +44,7 @@ impl<'t> Jws<'t> {
     /// with `Json` or `Number`, `Form`, `Limit` where there are more than 256 signatures, `Base64`, `Json`, `Number` or `Header`
     /// where a protected header is no object, `Header` where a joint header is none, its `alg` is absent or no string or it lacks
     /// what that reads, and `Unsupported` where a header has a `crit` (RFC 7515 section 4.1.11).
+    #[tactic(auto, using(crate::proofs::MadeJws::objects_are_made))]
     pub fn read(
         alloc: Global,
         text: &'t [u8],
@@ -54,7 +54,6 @@ impl<'t> Jws<'t> {
         ensures made { IfOk result (λ jws. IsMade limits (jws_view jws)) }
         ensures form { IfOk result (λ jws. holds_text jws ≡ not (has_json_form text.now) && is_none detached) }
     {
-        jws_objects_are_made();
         are_octets(text);
         handed_in_is_octets(&detached);
         object_of_text(alloc, text, detached)

@@ -12,7 +12,6 @@ use crate::content::payload::HeldContent;
 use crate::header::parts::has_members;
 use crate::jwe::Jwe;
 use crate::jwe::recipient::Recipient;
-use crate::laws::jwe_texts_spell_objects;
 use crate::writer::{Listed, TextWriter, inside};
 use octets::{Refusal, needs};
 use std::alloc::Global;
@@ -42,7 +41,6 @@ impl Jwe {
         ensures exact { AgreesUnlessMemory string_bytes result (jwe_text compact detach (jwe_view self.now)) }
         ensures spells { IsMade limits (jwe_view self.now) → IfOk result (λ text. jwe_of limits (handed_in detach (jwe_view self.now).ciphertext) (string_bytes text) ≡ Ok (jwe_view self.now)) }
     {
-        jwe_texts_spell_objects();
         Ok(self.written(alloc, false, compact, detach)?.into_text())
     }
 

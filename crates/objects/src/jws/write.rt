@@ -12,7 +12,6 @@ use crate::content::payload::HeldContent;
 use crate::header::parts::has_members;
 use crate::jws::Jws;
 use crate::jws::signature::Signature;
-use crate::laws::jws_texts_spell_objects;
 use crate::writer::{Listed, TextWriter, inside};
 use octets::{Refusal, needs};
 use std::alloc::Global;
@@ -41,7 +40,6 @@ impl Jws<'_> {
         ensures exact { AgreesUnlessMemory string_bytes result (jws_text compact detach (jws_view self.now)) }
         ensures spells { IsMade limits (jws_view self.now) → IfOk result (λ text. jws_of limits (handed_in detach (jws_view self.now).payload) (string_bytes text) ≡ Ok (jws_view self.now)) }
     {
-        jws_texts_spell_objects();
         Ok(self.written(alloc, false, compact, detach)?.into_text())
     }
 

@@ -14,4 +14,4 @@ returns-clause-exact c =
 
 pub returns-clause-spells : goal.returns-clause-spells
 returns-clause-spells c made =
-    written_spells c.jwe_texts_spell_objects.ensures limits c.args.compact c.args.detach (jwe_view c.args.self.now) _ made (returns-clause-exact c)
+    written_spells limits c.args.compact c.args.detach (jwe_view c.args.self.now) _ made (returns-clause-exact c)

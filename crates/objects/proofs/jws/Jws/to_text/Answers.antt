@@ -14,4 +14,4 @@ returns-clause-exact c =
 
 pub returns-clause-spells : goal.returns-clause-spells
 returns-clause-spells c made =
-    written_spells c.jws_texts_spell_objects.ensures limits c.args.compact c.args.detach (jws_view c.args.self.now) _ made (returns-clause-exact c)
+    written_spells limits c.args.compact c.args.detach (jws_view c.args.self.now) _ made (returns-clause-exact c)
