@@ -4,7 +4,7 @@ use Rattle.std.proofs.Math.Seq.{drop-length}
 use Rattle.octets.specs.declared.refusal.Refusal.{Refusal}
 use Rattle.octets.specs.Devices.{appended}
 use Rattle.octets.specs.Outcomes.{◌>>=◌}
-use Rattle.octets.specs.Plan.{Plan, Draft, drawn_of, without_content, placed, by_plan, by_text}
+use Rattle.octets.specs.Plan.{Plan, Draft, drawn_of, without_content, placed, by_plan}
 use Rattle.keys.specs.Generating.{MadeKey, made_key, key_text}
 use Rattle.keys.specs.Limits.{limits}
 use Rattle.jose.specs.Jwk.{making}
@@ -61,10 +61,6 @@ placed_drawn f (Err r) = refl
 pub by_plan_drawn : {W : Type 0} (plan : Result (Plan W) Refusal) → drawn_of (by_plan plan) ≡ 0
 by_plan_drawn (Ok p) = refl
 by_plan_drawn (Err r) = refl
-
-pub by_text_drawn : {V : Type 0} (f : List ℕ → V) (answer : Result (List ℕ) Refusal) → drawn_of (placed f (by_text answer)) ≡ 0
-by_text_drawn f (Ok x) = refl
-by_text_drawn f (Err r) = refl
 
 pub placed_refused : {V : Type 0} (f : List ℕ → V) (draft : Result (Draft (List ℕ)) Refusal) (refusal : Refusal) → placed f draft ≡ Err refusal → draft ≡ Err refusal
 placed_refused f (Ok d) refusal is = cc is

@@ -6,7 +6,13 @@ pub mod Settings
 pub mod Table
 pub mod Agreement
 pub mod Draws
+pub mod Doing
 pub mod Objects
+pub mod Rows
+pub mod Made
+pub mod OnePass
 pub mod Spared
+pub mod Wrote
+pub mod Streamed
 pub mod Headline
 pub mod WiderLimits

@@ -36,11 +36,11 @@ planned_by_text (Ok texts) random = ap (λ plan. planned plan []) (drawing_nothi
 planned_by_text (Err r) random = refl
 
 -- the answer of an object is that by what is handed in
-pub planned_of_object : {W : Type 0} (given : Bool) (none_of_it : W) (answer : Option (List ℕ) → Result W Refusal) (random text content : List ℕ)
-    → planned (plan_from (of_object given none_of_it answer) random) (content_of (cond given the_content none) text content []) ≡ answer (handed_in given content)
-planned_of_object true none_of_it answer random text content =
-    ap (λ plan. planned plan content) (drawing_nothing (record { whole = λ whole. answer (Some whole); fixed = λ front. none_of_it }) random)
-planned_of_object false none_of_it answer random text content = planned_by_text (answer None) random
+pub planned_of_object : (given : Bool) (answer : Option (List ℕ) → Result OutputTexts Refusal) (random text content : List ℕ)
+    → planned (plan_from (of_object given answer) random) (content_of (cond given the_content none) text content []) ≡ answer (handed_in given content)
+planned_of_object true answer random text content =
+    ap (λ plan. planned plan content) (drawing_nothing (record { whole = λ whole. answer (Some whole); fixed = λ front. nothing }) random)
+planned_of_object false answer random text content = planned_by_text (answer None) random
 
 formed_unread : (a : Result OutputTexts Refusal) → nothing ≡ formed a false
 formed_unread (Ok texts) = refl
@@ -57,7 +57,7 @@ formed_by_text (Err r) random = refl
 
 -- What may stand of it is all of the answer, and nothing before what is handed in was read.
 pub begun_of_object : (given others : Bool) (answer : Option (List ℕ) → Result OutputTexts Refusal) (random : List ℕ) (text content : Observed)
-    → cond others (begun (plan_from (of_object given nothing answer) random) (content_of (cond given the_content none) text content (record { octets = []; ended = true }))) nothing
+    → cond others (begun (plan_from (of_object given answer) random) (content_of (cond given the_content none) text content (record { octets = []; ended = true }))) nothing
     ≡ formed (answer (handed_in given content.octets)) (others && (not given || content.ended))
 begun_of_object given false answer random text content = formed_unread (answer (handed_in given content.octets))
 begun_of_object true true answer random text content =
@@ -65,34 +65,17 @@ begun_of_object true true answer random text content =
     ∙ formed_by_content (answer (Some content.octets)) content.ended
 begun_of_object false true answer random text content = formed_by_text (answer None) random
 
-placed_by_text : {W V : Type 0} (f : W → V) (a : Result W Refusal) → placed f (by_text a) ≡ by_text (a >>= λ texts. Ok (f texts))
-placed_by_text f (Ok texts) = refl
-placed_by_text f (Err r) = refl
-
--- what is settled of it, put in its place
-pub placed_of_object : {W V : Type 0} (f : W → V) (given : Bool) (none_of_it : W) (answer : Option (List ℕ) → Result W Refusal)
-    → placed f (of_object given none_of_it answer) ≡ of_object given (f none_of_it) (λ detached. answer detached >>= λ texts. Ok (f texts))
-placed_of_object f true none_of_it answer = refl
-placed_of_object f false none_of_it answer = placed_by_text f (answer None)
-
--- what may stand of a content alone
-pub formed_as_content : (a : Result (List ℕ) Refusal) (read : Bool) → formed (a >>= λ content. Ok (as_content content)) read ≡ as_content (accepted a read)
-formed_as_content (Ok content) true = refl
-formed_as_content (Ok content) false = refl
-formed_as_content (Err r) true = refl
-formed_as_content (Err r) false = refl
-
 drawn_by_text : {W : Type 0} (a : Result W Refusal) → drawn_of (by_text a) ≡ 0
 drawn_by_text (Ok texts) = refl
 drawn_by_text (Err r) = refl
 
 -- nothing is drawn for it
-pub drawn_of_object : {W : Type 0} (given : Bool) (none_of_it : W) (answer : Option (List ℕ) → Result W Refusal) → drawn_of (of_object given none_of_it answer) ≡ 0
-drawn_of_object true none_of_it answer = refl
-drawn_of_object false none_of_it answer = drawn_by_text (answer None)
+pub drawn_of_object : (given : Bool) (answer : Option (List ℕ) → Result OutputTexts Refusal) → drawn_of (of_object given answer) ≡ 0
+drawn_of_object true answer = refl
+drawn_of_object false answer = drawn_by_text (answer None)
 
 -- Where the text and the keys alone refuse it, nothing is handed in.
-pub refused_alone : {W : Type 0} (given : Bool) (none_of_it : W) (answer : Option (List ℕ) → Result W Refusal) (refusal : Refusal)
-    → of_object given none_of_it answer ≡ Err refusal → given ≡ false
-refused_alone true none_of_it answer refusal is = cc is
-refused_alone false none_of_it answer refusal is = refl
+pub refused_alone : (given : Bool) (answer : Option (List ℕ) → Result OutputTexts Refusal) (refusal : Refusal)
+    → of_object given answer ≡ Err refusal → given ≡ false
+refused_alone true answer refusal is = cc is
+refused_alone false answer refusal is = refl

@@ -10,6 +10,7 @@ pub mod Ports
 pub mod Jwk
 pub mod Meanings
 pub mod Answer
+pub mod Doing
 pub mod Files
 pub mod System
 pub mod Runs

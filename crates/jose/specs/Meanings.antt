@@ -11,7 +11,7 @@ use Rattle.keys.specs.Limits.{limits}
 use Rattle.jose.specs.declared.words.table.Command.{Command}
 use Rattle.jose.specs.declared.words.table.Command.TheVariants.{JwkGen, JwkThp, B64Enc, B64Dec, JwsSig, JwsVer, JwsFmt, JweEnc, JweDec, JweFmt}
 use Rattle.jose.specs.Invocations.{Settings, value_at, hash_asked}
-use Rattle.jose.specs.Ports.{as_text, as_content}
+use Rattle.jose.specs.Ports.{as_text, as_content, on_text, on_content}
 use Rattle.jose.specs.Jwk.{making, thp_answer}
 use Rattle.jose.specs.Jwe.{enc_answer, dec_answer, jwe_fmt_answer}
 use Rattle.jose.specs.Jws.{sig_answer, ver_answer, jws_fmt_answer}
@@ -40,9 +40,9 @@ abbrev pub content_beside : Settings → Content
 content_beside settings = if is_content_given settings then the_content else none
 
 -- What is written of an object, as a whole: by the content too, where that is handed in, and else by the text alone.
-abbrev pub of_object : {W : Type 0} → Bool → W → (Option (List ℕ) → Result W Refusal) → Result (Draft W) Refusal
-of_object true none_of_it answer = Ok (without_random (record { whole = λ content. answer (Some content); fixed = λ front. none_of_it }))
-of_object false none_of_it answer = by_text (answer None)
+abbrev pub of_object : Bool → (Option (List ℕ) → Result OutputTexts Refusal) → Result (Draft OutputTexts) Refusal
+of_object true answer = Ok (without_random (record { whole = λ content. answer (Some content); fixed = λ front. nothing }))
+of_object false answer = by_text (answer None)
 
 -- `-O` was given
 abbrev pub is_content_wanted : Settings → Bool
@@ -69,7 +69,7 @@ jwk_thp = record {
   content = λ settings. none;
   holds_back = true;
   takes_memory = true;
-  draft = λ settings text keys. placed as_text (by_text (ok_or (hash_asked settings) Usage >>= λ hash. thp_answer hash text));
+  draft = λ settings text keys. by_text (ok_or (hash_asked settings) Usage >>= λ hash. on_text (thp_answer hash text));
 }
 
 abbrev pub b64_enc : CommandSpec
@@ -102,7 +102,7 @@ jws_ver = record {
   holds_back = true;
   takes_memory = true;
   draft = λ settings text keys.
-      placed as_content (of_object (is_content_given settings) [] (λ detached. ver_answer limits (is_all_asked settings) (is_content_wanted settings) keys detached text));
+      of_object (is_content_given settings) (λ detached. on_content (ver_answer limits (is_all_asked settings) (is_content_wanted settings) keys detached text));
 }
 
 abbrev pub jws_fmt : CommandSpec
@@ -110,7 +110,7 @@ jws_fmt = record {
   content = content_beside;
   holds_back = true;
   takes_memory = true;
-  draft = λ settings text keys. of_object (is_content_given settings) nothing (λ detached. jws_fmt_answer limits (is_compact_asked settings) (is_content_wanted settings) detached text);
+  draft = λ settings text keys. of_object (is_content_given settings) (λ detached. jws_fmt_answer limits (is_compact_asked settings) (is_content_wanted settings) detached text);
 }
 
 abbrev pub jwe_enc : CommandSpec
@@ -126,7 +126,7 @@ jwe_dec = record {
   content = content_beside;
   holds_back = true;
   takes_memory = true;
-  draft = λ settings text keys. placed as_content (of_object (is_content_given settings) [] (λ detached. dec_answer limits keys detached text));
+  draft = λ settings text keys. of_object (is_content_given settings) (λ detached. on_content (dec_answer limits keys detached text));
 }
 
 abbrev pub jwe_fmt : CommandSpec
@@ -134,7 +134,7 @@ jwe_fmt = record {
   content = content_beside;
   holds_back = true;
   takes_memory = true;
-  draft = λ settings text keys. of_object (is_content_given settings) nothing (λ detached. jwe_fmt_answer limits (is_compact_asked settings) (is_content_wanted settings) detached text);
+  draft = λ settings text keys. of_object (is_content_given settings) (λ detached. jwe_fmt_answer limits (is_compact_asked settings) (is_content_wanted settings) detached text);
 }
 
 abbrev pub spec_of : Command → CommandSpec

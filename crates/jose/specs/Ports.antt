@@ -4,6 +4,7 @@ use Rattle.std.specs.Iterator.{Count, IsFinite}
 use Rattle.octets.specs.declared.refusal.Refusal.{Refusal}
 use Rattle.octets.specs.Devices.{Observed, observed, appended, AppendsPrefixOf, IsPossibleInput}
 use Rattle.octets.specs.Faults.{Counts, counts}
+use Rattle.octets.specs.Outcomes.{◌>>=◌}
 use Rattle.octets.specs.Plan.{OutputTexts, nothing}
 use Rattle.objects.specs.Texts.{handed_out}
 use Rattle.jose.specs.declared.ports.Inputs.{Inputs}
@@ -30,6 +31,14 @@ as_text octets = record { text = octets; content = [] }
 -- the octets of `-O`
 abbrev pub as_content : List ℕ → OutputTexts
 as_content octets = record { text = []; content = octets }
+
+-- an answer that is written to `-o`
+abbrev pub on_text : Result (List ℕ) Refusal → Result OutputTexts Refusal
+on_text answer = answer >>= λ octets. Ok (as_text octets)
+
+-- an answer that is written to `-O`
+abbrev pub on_content : Result (List ℕ) Refusal → Result OutputTexts Refusal
+on_content answer = answer >>= λ octets. Ok (as_content octets)
 
 -- the text of an object, and its content beside it where that is detached
 abbrev pub object_texts : Bool → List ℕ → List ℕ → OutputTexts

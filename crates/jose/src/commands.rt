@@ -1,81 +1,67 @@
-//! What each command does, from devices to devices. They are given an option's value where a device does not say it all.
-ghost use Rattle.std.specs.Prelude.{◌≡◌, ◌≢◌, ◌⊎◌, ◌&&◌, ◌++◌, false, ℕ, List, [], ◌∷◌, option_map, None, Err, OnOk, OnErr, IfOk, IfErr, IsTrue};
+//! What each command does, from devices to devices.
+ghost use Rattle.std.specs.Prelude.{◌≡◌, true, false, ◌⊎◌, ◌++◌, ℕ, List, [], ◌∷◌, option_map, Err, OnOk, OnErr, IfOk, IfErr, IsTrue};
 ghost use Rattle.std.specs.Iterator.{IsFinite};
 ghost use Rattle.octets.specs.Devices.{appended, observed, IsPossibleInput, AppendsPrefixOf, IsFinishedOnce};
 ghost use Rattle.octets.specs.Faults.{TellsFaults, DidNotFail, counts};
-ghost use Rattle.octets.specs.Outcomes.{AgreesUnlessExternal, IsReadingFailure, GivesUnlessExternal, is_external};
-ghost use Rattle.keys.specs.KeySets.{key_set};
-ghost use Rattle.keys.specs.Limits.{limits};
-ghost use Rattle.objects.specs.Texts.{handed_in, handed_out};
+ghost use Rattle.octets.specs.Outcomes.{AgreesUnlessExternal, IsReadingFailure};
+ghost use Rattle.objects.specs.Texts.{handed_in};
 ghost use Rattle.objects.specs.Views.{held_view};
-ghost use Rattle.jose.specs.Ports.{object_texts};
+ghost use Rattle.jose.specs.Doing.{ReadsInputs, WritesWhole, input_members, output_members, where_read};
+ghost use Rattle.jose.specs.Ports.{AreFinite, object_texts};
 
 pub(crate) mod b64;
 pub(crate) mod jwe;
 pub(crate) mod jwk;
 pub(crate) mod jws;
 
-use keys::KeySet;
+use crate::ports::{Inputs, Outputs};
 use objects::HeldContent;
 use octets::{Input, Output, PIECE, Refusal, emit, read_to_end};
 use std::alloc::Global;
 
-/// Reads the text to its end, and then the keys. `strict` asks for each key to be good.
-fn read_with_keys<I: Input>(
-    alloc: Global,
-    text: &mut I,
-    keys: &mut I,
-    strict: bool,
-) -> Result<(Vec<u8>, KeySet), Refusal>
-    requires text { IsFinite (I.remaining text.old) }
-    requires keys { IsFinite (I.remaining keys.old) }
-    ensures ends { OnOk result (IsTrue (I.is_at_end text.new) × IsTrue (I.is_at_end keys.new)) }
-    ensures text { IfOk result (λ read. (whole : List ℕ)
-        → IsPossibleInput (observed I.consumed I.is_at_end text.old text.new) whole → whole ≡ read.0.items) }
-    ensures keys { (whole : List ℕ) → IsPossibleInput (observed I.consumed I.is_at_end keys.old keys.new) whole
-        → GivesUnlessExternal (λ read. read.1) result (key_set limits whole strict) }
-    ensures in_order { I.is_at_end text.new ≡ false → keys.new ≡ keys.old }
-    ensures reads_first { IfErr result (λ refusal. is_external refusal ≡ false → IsTrue (I.is_at_end text.new) × IsTrue (I.is_at_end keys.new)) }
-    ensures faults { TellsFaults (counts I.failures text.old text.new ∷ counts I.failures keys.old keys.new ∷ []) [] result }
-{
-    let text = read_to_end(alloc, text)?;
-    let keys = read_to_end(alloc, keys)?;
-    let set = KeySet::read(alloc, &keys, strict)?;
-    Ok((text, set))
+/// All that the inputs of a command gave. An input that it does not read gave nothing.
+#[derive(Drop)]
+struct WholeInputs {
+    text: Vec<u8>,
+    keys: Vec<u8>,
+    content: Option<Vec<u8>>,
 }
 
-/// Reads the text to its end, then the keys, and then the content, where one is handed in.
-fn read_object<I: Input>(
+/// Reads the text to its end, then the keys, if the command has some, and then the content, if it is handed in.
+fn read_inputs<I: Input>(
     alloc: Global,
-    text: &mut I,
-    keys: &mut I,
+    has_keys: bool,
     detached_given: bool,
-    content: &mut I,
-) -> Result<(Vec<u8>, KeySet, Option<Vec<u8>>), Refusal>
-    requires text { IsFinite (I.remaining text.old) }
-    requires keys { IsFinite (I.remaining keys.old) }
-    requires content { IsFinite (I.remaining content.old) }
-    ensures ends { OnOk result (IsTrue (I.is_at_end text.new) × IsTrue (I.is_at_end keys.new)) }
-    ensures text { IfOk result (λ read. (whole : List ℕ)
-        → IsPossibleInput (observed I.consumed I.is_at_end text.old text.new) whole → whole ≡ read.0.items) }
-    ensures keys { (whole : List ℕ) → IsPossibleInput (observed I.consumed I.is_at_end keys.old keys.new) whole
-        → GivesUnlessExternal (λ read. read.1) result (key_set limits whole false) }
-    ensures content { IfOk result (λ read. (whole : List ℕ)
-        → IsPossibleInput (observed I.consumed I.is_at_end content.old content.new) whole
-        → handed_in detached_given whole ≡ option_map (λ c. c.items) read.2) }
-    ensures content_ends { OnOk result (IsTrue detached_given → IsTrue (I.is_at_end content.new)) }
-    ensures in_order { (I.is_at_end text.new ≡ false → keys.new ≡ keys.old)
-        × (I.is_at_end keys.new && I.is_at_end text.new ≡ false → content.new ≡ content.old) }
-    ensures reads_first { IfErr result (λ refusal. is_external refusal ≡ false
-        → IsTrue (I.is_at_end text.new) × IsTrue (I.is_at_end keys.new) × (IsTrue detached_given → IsTrue (I.is_at_end content.new))) }
-    ensures untouched { detached_given ≡ false → content.new ≡ content.old }
-    ensures faults { TellsFaults (counts I.failures text.old text.new ∷ counts I.failures keys.old keys.new ∷ counts I.failures content.old content.new ∷ []) [] result }
+    inputs: &mut Inputs<I>,
+) -> Result<WholeInputs, Refusal>
+    requires { AreFinite I.remaining inputs.old }
+    ensures { ReadsInputs (input_members I.consumed I.is_at_end I.failures) has_keys detached_given inputs.old inputs.new result }
 {
-    let text = read_to_end(alloc, text)?;
-    let keys = read_to_end(alloc, keys)?;
-    let detached = read_beside(alloc, detached_given, content)?;
-    let set = KeySet::read(alloc, &keys, false)?;
-    Ok((text, set, detached))
+    let text = read_to_end(alloc, &mut inputs.text)?;
+    let keys = read_keys(alloc, has_keys, &mut inputs.keys)?;
+    let content = read_beside(alloc, detached_given, &mut inputs.content)?;
+    Ok(WholeInputs {
+        text,
+        keys,
+        content,
+    })
+}
+
+/// Reads the keys to their end, if the command has some.
+fn read_keys<I: Input>(alloc: Global, has_keys: bool, keys: &mut I) -> Result<Vec<u8>, Refusal>
+    requires { IsFinite (I.remaining keys.old) }
+    ensures keys { IfOk result (λ read. (whole : List ℕ)
+        → IsPossibleInput (observed I.consumed I.is_at_end keys.old keys.new) whole → read.items ≡ where_read has_keys whole) }
+    ensures ends { OnOk result (IsTrue has_keys → IsTrue (I.is_at_end keys.new)) }
+    ensures untouched { has_keys ≡ false → keys.new ≡ keys.old }
+    ensures works { OnOk result (I.failures keys.new ≡ I.failures keys.old) }
+    ensures fails { IfErr result (IsReadingFailure (I.failures keys.old) (I.failures keys.new)) }
+{
+    if has_keys {
+        read_to_end(alloc, keys)
+    } else {
+        Ok(Vec::new(alloc))
+    }
 }
 
 /// Reads the content to its end, where it is handed in beside an object.
@@ -121,31 +107,12 @@ fn write_object<O: Output>(
     text: &str,
     detach: bool,
     content: HeldContent<'_>,
-    out: &mut O,
-    detached: &mut O,
+    outputs: &mut Outputs<O>,
 ) -> Result<(), Refusal>
-    ensures answer { AgreesUnlessExternal (Ok (object_texts detach (held_view content.entry) text.now))
-        (record { text = appended (O.written out.old) (O.written out.new); content = appended (O.written detached.old) (O.written detached.new) }) result }
-    ensures beginning { OnErr result ((AppendsPrefixOf text.now (O.written out.old) (O.written out.new))
-        × (AppendsPrefixOf (handed_out detach (held_view content.entry)) (O.written detached.old) (O.written detached.new))) }
-    ensures content_first { OnErr result (((out.new ≡ out.old) × (O.endings detached.new ≡ O.endings detached.old)) ⊎ (IsTrue detach → IsFinishedOnce O.is_finished O.endings detached.old detached.new
-        × (O.written detached.new ≡ O.written detached.old ++ handed_out detach (held_view content.entry)))) }
-    ensures held_back { IfErr result (λ refusal. DidNotFail refusal (counts O.failures out.old out.new) → out.new ≡ out.old) }
-    ensures finished { OnOk result (IsFinishedOnce O.is_finished O.endings out.old out.new × (IsTrue detach → IsFinishedOnce O.is_finished O.endings detached.old detached.new)) }
-    ensures unfinished { OnErr result (O.endings out.new ≡ O.endings out.old) }
-    ensures untouched { detach ≡ false → detached.new ≡ detached.old }
-    ensures cause { OnErr result (result ≡ Err Refusal.Write) }
-    ensures faults { TellsFaults [] (counts O.failures out.old out.new ∷ counts O.failures detached.old detached.new ∷ []) result }
+    ensures { WritesWhole (output_members O.written O.is_finished O.endings O.failures) true detach (Ok (object_texts detach (held_view content.entry) text.now)) outputs.old outputs.new result }
 {
     if detach {
-        content.write(detached)?;
+        content.write(&mut outputs.content)?;
     }
-    emit(out, text.as_bytes())
-}
-
-/// No output, where one like this might be.
-fn no_output<'o, O>(_like: &'o O) -> Option<&'o mut O>
-    ensures { result ≡ None }
-{
-    None
+    emit(&mut outputs.text, text.as_bytes())
 }

@@ -53,102 +53,15 @@ pub fn run<I: Input, O: Output>(
     ensures faults { TellsFaults (input_counts I.failures inputs.old inputs.new) (output_counts O.failures outputs.old outputs.new) result }
 {
     match invocation.command {
-        Command::JwkGen => jwk::generate(
-            alloc,
-            &mut inputs.text,
-            &mut inputs.random,
-            &mut outputs.text,
-        ),
-        Command::JwkThp => {
-            let hash = invocation.hash().ok_or(Refusal::Usage)?;
-            jwk::thumbprints(alloc, &mut inputs.text, hash, &mut outputs.text)
-        }
-        Command::B64Enc => b64::encode(&mut inputs.content, &mut outputs.text),
-        Command::B64Dec => b64::decode(&mut inputs.text, &mut outputs.content),
-        Command::JwsSig => {
-            let compact = invocation.has('c');
-            let detach = invocation.has('O');
-            jws::sign(
-                alloc,
-                &mut inputs.text,
-                &mut inputs.keys,
-                compact,
-                detach,
-                &mut inputs.content,
-                &mut outputs.text,
-                &mut outputs.content,
-            )
-        }
-        Command::JwsVer => {
-            let detached_given = invocation.has('I');
-            let all = invocation.has('a');
-            let payload_wanted = invocation.has('O');
-            jws::verify(
-                alloc,
-                &mut inputs.text,
-                &mut inputs.keys,
-                detached_given,
-                &mut inputs.content,
-                all,
-                payload_wanted,
-                &mut outputs.content,
-            )
-        }
-        Command::JwsFmt => {
-            let detached_given = invocation.has('I');
-            let compact = invocation.has('c');
-            let detach = invocation.has('O');
-            jws::format(
-                alloc,
-                &mut inputs.text,
-                detached_given,
-                &mut inputs.content,
-                compact,
-                detach,
-                &mut outputs.text,
-                &mut outputs.content,
-            )
-        }
-        Command::JweEnc => {
-            let compact = invocation.has('c');
-            let detach = invocation.has('O');
-            jwe::encrypt(
-                alloc,
-                &mut inputs.text,
-                &mut inputs.keys,
-                compact,
-                detach,
-                &mut inputs.random,
-                &mut inputs.content,
-                &mut outputs.text,
-                &mut outputs.content,
-            )
-        }
-        Command::JweDec => {
-            let detached_given = invocation.has('I');
-            jwe::decrypt(
-                alloc,
-                &mut inputs.text,
-                &mut inputs.keys,
-                detached_given,
-                &mut inputs.content,
-                &mut outputs.content,
-            )
-        }
-        Command::JweFmt => {
-            let detached_given = invocation.has('I');
-            let compact = invocation.has('c');
-            let detach = invocation.has('O');
-            jwe::format(
-                alloc,
-                &mut inputs.text,
-                detached_given,
-                &mut inputs.content,
-                compact,
-                detach,
-                &mut outputs.text,
-                &mut outputs.content,
-            )
-        }
+        Command::JwkGen => jwk::generate(alloc, invocation, inputs, outputs),
+        Command::JwkThp => jwk::thumbprints(alloc, invocation, inputs, outputs),
+        Command::B64Enc => b64::encode(invocation, inputs, outputs),
+        Command::B64Dec => b64::decode(invocation, inputs, outputs),
+        Command::JwsSig => jws::sign(alloc, invocation, inputs, outputs),
+        Command::JwsVer => jws::verify(alloc, invocation, inputs, outputs),
+        Command::JwsFmt => jws::format(alloc, invocation, inputs, outputs),
+        Command::JweEnc => jwe::encrypt(alloc, invocation, inputs, outputs),
+        Command::JweDec => jwe::decrypt(alloc, invocation, inputs, outputs),
+        Command::JweFmt => jwe::format(alloc, invocation, inputs, outputs),
     }
 }

@@ -7,11 +7,43 @@ ghost use Rattle.octets.specs.Faults.{TellsFaults, counts};
 ghost use Rattle.octets.specs.Outcomes.{AgreesUnlessExternal};
 ghost use Rattle.octets.specs.Plan.{beginning_of};
 ghost use Rattle.octets.specs.Pumps.{KeepsUp};
+ghost use Rattle.jose.specs.declared.words.table.Command.{Command};
+ghost use Rattle.jose.specs.Doing.{Does, input_members, output_members};
+ghost use Rattle.jose.specs.Invocations.{invocation_view};
+ghost use Rattle.jose.specs.Ports.{AreFinite};
 
+use crate::ports::{Inputs, Outputs};
+use crate::words::invocation::Invocation;
 use octets::{B64Reader, B64Writer, Input, Output, Refusal, pump};
 
 /// Writes the base64url text of the content as it reads it.
-pub(crate) fn encode<I: Input, O: Output>(content: &mut I, out: &mut O) -> Result<(), Refusal>
+pub(crate) fn encode<I: Input, O: Output>(
+    invocation: &Invocation,
+    inputs: &mut Inputs<I>,
+    outputs: &mut Outputs<O>,
+) -> Result<(), Refusal>
+    requires command { invocation.now.command ≡ Command.B64Enc }
+    requires finite { AreFinite I.remaining inputs.old }
+    ensures { Does (input_members I.consumed I.is_at_end I.failures) (output_members O.written O.is_finished O.endings O.failures) (invocation_view invocation.now) inputs.old inputs.new outputs.old outputs.new result }
+{
+    encode_content(&mut inputs.content, &mut outputs.text)
+}
+
+/// Writes the octets whose base64url text the input is, with a line end or without, as it reads it.
+pub(crate) fn decode<I: Input, O: Output>(
+    invocation: &Invocation,
+    inputs: &mut Inputs<I>,
+    outputs: &mut Outputs<O>,
+) -> Result<(), Refusal>
+    requires command { invocation.now.command ≡ Command.B64Dec }
+    requires finite { AreFinite I.remaining inputs.old }
+    ensures { Does (input_members I.consumed I.is_at_end I.failures) (output_members O.written O.is_finished O.endings O.failures) (invocation_view invocation.now) inputs.old inputs.new outputs.old outputs.new result }
+{
+    decode_text(&mut inputs.text, &mut outputs.content)
+}
+
+/// Writes the base64url text of the content as it reads it.
+fn encode_content<I: Input, O: Output>(content: &mut I, out: &mut O) -> Result<(), Refusal>
     requires { IsFinite (I.remaining content.old) }
     ensures answer { (whole : List ℕ) → IsPossibleInput (observed I.consumed I.is_at_end content.old content.new) whole
         → AgreesUnlessExternal (encoding.whole whole) (appended (O.written out.old) (O.written out.new)) result }
@@ -30,7 +62,7 @@ pub(crate) fn encode<I: Input, O: Output>(content: &mut I, out: &mut O) -> Resul
 }
 
 /// Writes the octets whose base64url text the input is, with a line end or without, as it reads it.
-pub(crate) fn decode<I: Input, O: Output>(text: &mut I, out: &mut O) -> Result<(), Refusal>
+fn decode_text<I: Input, O: Output>(text: &mut I, out: &mut O) -> Result<(), Refusal>
     requires { IsFinite (I.remaining text.old) }
     ensures answer { (whole : List ℕ) → IsPossibleInput (observed I.consumed I.is_at_end text.old text.new) whole
         → AgreesUnlessExternal (decoding.whole whole) (appended (O.written out.old) (O.written out.new)) result }

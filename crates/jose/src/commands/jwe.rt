@@ -1,21 +1,20 @@
 //! The commands `jwe enc`, `jwe dec` and `jwe fmt`, from devices to devices.
-ghost use Rattle.std.specs.Prelude.{◌≡◌, ◌≢◌, ◌⊎◌, ◌<◌, ◌≤◌, ◌++◌, false, not, ◌&&◌, ◌||◌, ℕ, List, [], ◌∷◌, length, option_map, Err, OnOk, OnErr, IfErr, IsTrue, string_bytes};
-ghost use Rattle.std.specs.Iterator.{IsFinite};
-ghost use Rattle.octets.specs.Devices.{appended, observed, IsPossibleInput, AppendsPrefixOf, IsFinishedOnce};
-ghost use Rattle.octets.specs.declared.refusal.Refusal.{Refusal};
-ghost use Rattle.octets.specs.Faults.{TellsFaults, DidNotFail, counts};
-ghost use Rattle.octets.specs.Outcomes.{AgreesUnlessExternal, AgreesUnlessMemory, is_external};
-ghost use Rattle.octets.specs.Plan.{accepted, drawn_of, fixed_by, plan_from, planned, planned_beginning};
-ghost use Rattle.octets.specs.Pumps.{KeepsUp};
+ghost use Rattle.std.specs.Prelude.{◌≡◌, true, false, option_map, string_bytes};
+ghost use Rattle.octets.specs.Outcomes.{AgreesUnlessMemory};
 ghost use Rattle.keys.specs.Limits.{limits};
-ghost use Rattle.objects.specs.Texts.{handed_in};
 ghost use Rattle.objects.specs.Views.{jwe_view};
-ghost use Rattle.jose.specs.Jwe.{enc_answer, dec_answer, jwe_fmt_answer};
-ghost use Rattle.jose.specs.Ports.{formed, object_texts};
+ghost use Rattle.jose.specs.declared.words.table.Command.{Command};
+ghost use Rattle.jose.specs.Doing.{Does, WritesWhole, input_members, output_members};
+ghost use Rattle.jose.specs.Invocations.{invocation_view};
+ghost use Rattle.jose.specs.Jwe.{dec_answer, jwe_fmt_answer};
+ghost use Rattle.jose.specs.Ports.{AreFinite, object_texts, on_content};
 
-use crate::commands::{no_output, read_beside, read_object, read_with_keys, write_object};
+use crate::commands::{WholeInputs, read_inputs, write_object};
+use crate::ports::{Inputs, Outputs};
+use crate::words::invocation::Invocation;
+use keys::KeySet;
 use objects::{HeldContent, Jwe};
-use octets::{Input, Output, Refusal, read_to_end};
+use octets::{Input, Output, Refusal};
 use std::alloc::Global;
 use tokens::{jwe_decrypt, jwe_encrypt};
 
@@ -23,107 +22,38 @@ use tokens::{jwe_decrypt, jwe_encrypt};
 /// it is to be detached.
 pub(crate) fn encrypt<I: Input, O: Output>(
     alloc: Global,
-    template: &mut I,
-    keys: &mut I,
-    compact: bool,
-    detach: bool,
-    random: &mut I,
-    content: &mut I,
-    out: &mut O,
-    detached: &mut O,
+    invocation: &Invocation,
+    inputs: &mut Inputs<I>,
+    outputs: &mut Outputs<O>,
 ) -> Result<(), Refusal>
-    requires template { IsFinite (I.remaining template.old) }
-    requires keys { IsFinite (I.remaining keys.old) }
-    requires content { IsFinite (I.remaining content.old) }
-    ensures answer { (whole_template whole_keys octets plaintext : List ℕ)
-        → IsPossibleInput (observed I.consumed I.is_at_end template.old template.new) whole_template
-        → IsPossibleInput (observed I.consumed I.is_at_end keys.old keys.new) whole_keys
-        → IsPossibleInput (observed I.consumed I.is_at_end random.old random.new) octets
-        → IsPossibleInput (observed I.consumed I.is_at_end content.old content.new) plaintext
-        → AgreesUnlessExternal (planned (plan_from (enc_answer limits compact detach whole_keys whole_template) octets) plaintext)
-        (record { text = appended (O.written out.old) (O.written out.new); content = appended (O.written detached.old) (O.written detached.new) }) result }
-
-    // Exactly what the answer draws is read of the random input, and no more before a refusal.
-    ensures drawn { OnOk result ((whole_template whole_keys : List ℕ)
-        → IsPossibleInput (observed I.consumed I.is_at_end template.old template.new) whole_template
-        → IsPossibleInput (observed I.consumed I.is_at_end keys.old keys.new) whole_keys
-        → length (appended (I.consumed random.old) (I.consumed random.new)) ≡ drawn_of (enc_answer limits compact detach whole_keys whole_template)) }
-    ensures at_most { (whole_template whole_keys : List ℕ)
-        → IsPossibleInput (observed I.consumed I.is_at_end template.old template.new) whole_template
-        → IsPossibleInput (observed I.consumed I.is_at_end keys.old keys.new) whole_keys
-        → length (appended (I.consumed random.old) (I.consumed random.new)) ≤ drawn_of (enc_answer limits compact detach whole_keys whole_template) }
-    ensures beginning { OnErr result (AppendsPrefixOf
-        (planned_beginning (I.is_at_end keys.new && I.is_at_end template.new)
-        (plan_from (enc_answer limits compact detach (appended (I.consumed keys.old) (I.consumed keys.new)) (appended (I.consumed template.old) (I.consumed template.new)))
-        (appended (I.consumed random.old) (I.consumed random.new)))
-        (observed I.consumed I.is_at_end content.old content.new)).text (O.written out.old) (O.written out.new)) }
-    ensures beginning_beside { OnErr result (AppendsPrefixOf
-        (planned_beginning (I.is_at_end keys.new && I.is_at_end template.new)
-        (plan_from (enc_answer limits compact detach (appended (I.consumed keys.old) (I.consumed keys.new)) (appended (I.consumed template.old) (I.consumed template.new)))
-        (appended (I.consumed random.old) (I.consumed random.new)))
-        (observed I.consumed I.is_at_end content.old content.new)).content (O.written detached.old) (O.written detached.new)) }
-    ensures finished { OnOk result (IsFinishedOnce O.is_finished O.endings out.old out.new × (IsTrue detach → IsFinishedOnce O.is_finished O.endings detached.old detached.new)) }
-    ensures unfinished { OnErr result (O.endings out.new ≡ O.endings out.old) }
-    ensures untouched { detach ≡ false → detached.new ≡ detached.old }
-
-    // No input is touched before the one ahead of it was read to its end, and what is drawn and the content not before the
-    // rest is accepted.
-    ensures in_order { (I.is_at_end template.new ≡ false → keys.new ≡ keys.old)
-        × (I.is_at_end keys.new && I.is_at_end template.new ≡ false → (random.new ≡ random.old) × (content.new ≡ content.old)) }
-    ensures content_last { (refusal : Refusal)
-        → enc_answer limits compact detach (appended (I.consumed keys.old) (I.consumed keys.new)) (appended (I.consumed template.old) (I.consumed template.new)) ≡ Err refusal
-        → (random.new ≡ random.old) × (content.new ≡ content.old) }
-    ensures reads_first { IfErr result (λ refusal. is_external refusal ≡ false → IsTrue (I.is_at_end template.new) × IsTrue (I.is_at_end keys.new)) }
-    ensures memory_first { IfErr result (λ refusal. refusal ≡ Refusal.Memory → content.new ≡ content.old) }
-    ensures random_first { length (appended (I.consumed random.old) (I.consumed random.new))
-        < drawn_of (enc_answer limits compact detach (appended (I.consumed keys.old) (I.consumed keys.new)) (appended (I.consumed template.old) (I.consumed template.new)))
-        → content.new ≡ content.old }
-
-    // An output that did not fail, and on which nothing was written, is as it was; and the text is not begun before the content
-    // stands whole beside it, where it goes out there.
-    ensures uncut { IfErr result (λ refusal.
-        (DidNotFail refusal (counts O.failures out.old out.new) → O.written out.new ≡ O.written out.old → out.new ≡ out.old)
-        × (refusal ≢ Refusal.Write → O.written detached.new ≡ O.written detached.old → detached.new ≡ detached.old)) }
-    ensures unread { IfErr result (λ refusal. appended (I.consumed content.old) (I.consumed content.new) ≡ []
-        → (DidNotFail refusal (counts O.failures out.old out.new) → out.new ≡ out.old) × (refusal ≢ Refusal.Write → detached.new ≡ detached.old)) }
-    ensures keeps_up { result ≡ Err Refusal.Read → appended (I.consumed content.old) (I.consumed content.new) ≢ []
-        → KeepsUp (λ front. (fixed_by (plan_from (enc_answer limits compact detach (appended (I.consumed keys.old) (I.consumed keys.new)) (appended (I.consumed template.old) (I.consumed template.new)))
-        (appended (I.consumed random.old) (I.consumed random.new))) front).text)
-        (appended (I.consumed content.old) (I.consumed content.new)) (O.written out.old) (O.written out.new)
-        × KeepsUp (λ front. (fixed_by (plan_from (enc_answer limits compact detach (appended (I.consumed keys.old) (I.consumed keys.new)) (appended (I.consumed template.old) (I.consumed template.new)))
-        (appended (I.consumed random.old) (I.consumed random.new))) front).content)
-        (appended (I.consumed content.old) (I.consumed content.new)) (O.written detached.old) (O.written detached.new) }
-    ensures content_first { OnErr result (((out.new ≡ out.old) × (O.endings detached.new ≡ O.endings detached.old)) ⊎ (IsTrue detach → IsTrue (I.is_at_end content.new) × IsFinishedOnce O.is_finished O.endings detached.old detached.new
-        × (O.written detached.new ≡ O.written detached.old ++ (planned_beginning (I.is_at_end keys.new && I.is_at_end template.new)
-        (plan_from (enc_answer limits compact detach (appended (I.consumed keys.old) (I.consumed keys.new)) (appended (I.consumed template.old) (I.consumed template.new)))
-        (appended (I.consumed random.old) (I.consumed random.new)))
-        (observed I.consumed I.is_at_end content.old content.new)).content))) }
-    ensures faults { TellsFaults (counts I.failures template.old template.new ∷ counts I.failures keys.old keys.new
-        ∷ counts I.failures random.old random.new ∷ counts I.failures content.old content.new ∷ [])
-        (counts O.failures out.old out.new ∷ counts O.failures detached.old detached.new ∷ []) result }
+    requires command { invocation.now.command ≡ Command.JweEnc }
+    requires finite { AreFinite I.remaining inputs.old }
+    ensures { Does (input_members I.consumed I.is_at_end I.failures) (output_members O.written O.is_finished O.endings O.failures) (invocation_view invocation.now) inputs.old inputs.new outputs.old outputs.new result }
 {
-    let (template, set) = read_with_keys(alloc, template, keys, true)?;
-    if detach {
+    let template = read_inputs(alloc, true, false, inputs)?;
+    let set = KeySet::read(alloc, &template.keys, true)?;
+    let compact = invocation.has('c');
+    if invocation.has('O') {
         jwe_encrypt(
             alloc,
             &set,
-            &template,
+            &template.text,
             compact,
-            random,
-            content,
-            out,
-            Some(detached),
+            &mut inputs.random,
+            &mut inputs.content,
+            &mut outputs.text,
+            Some(&mut outputs.content),
         )
     } else {
         jwe_encrypt(
             alloc,
             &set,
-            &template,
+            &template.text,
             compact,
-            random,
-            content,
-            out,
-            no_output(detached),
+            &mut inputs.random,
+            &mut inputs.content,
+            &mut outputs.text,
+            Option::default(),
         )
     }
 }
@@ -131,88 +61,74 @@ pub(crate) fn encrypt<I: Input, O: Output>(
 /// Decrypts the text, and the ciphertext where it is handed in, with the keys, and writes the plaintext.
 pub(crate) fn decrypt<I: Input, O: Output>(
     alloc: Global,
-    text: &mut I,
-    keys: &mut I,
-    detached_given: bool,
-    content: &mut I,
-    out: &mut O,
+    invocation: &Invocation,
+    inputs: &mut Inputs<I>,
+    outputs: &mut Outputs<O>,
 ) -> Result<(), Refusal>
-    requires text { IsFinite (I.remaining text.old) }
-    requires keys { IsFinite (I.remaining keys.old) }
-    requires content { IsFinite (I.remaining content.old) }
-    ensures answer { (whole_text whole_keys whole_content : List ℕ)
-        → IsPossibleInput (observed I.consumed I.is_at_end text.old text.new) whole_text
-        → IsPossibleInput (observed I.consumed I.is_at_end keys.old keys.new) whole_keys
-        → IsPossibleInput (observed I.consumed I.is_at_end content.old content.new) whole_content
-        → AgreesUnlessExternal (dec_answer limits whole_keys (handed_in detached_given whole_content) whole_text) (appended (O.written out.old) (O.written out.new)) result }
-
-    // The output is not touched before a key has opened the object.
-    ensures held_back { IfErr result (λ refusal. refusal ≢ Refusal.Write → out.new ≡ out.old) }
-    ensures beginning { OnErr result (AppendsPrefixOf
-        (accepted (dec_answer limits (appended (I.consumed keys.old) (I.consumed keys.new)) (handed_in detached_given (appended (I.consumed content.old) (I.consumed content.new))) (appended (I.consumed text.old) (I.consumed text.new)))
-        (I.is_at_end keys.new && I.is_at_end text.new && (not detached_given || I.is_at_end content.new))) (O.written out.old) (O.written out.new)) }
-    ensures finished { OnOk result (IsFinishedOnce O.is_finished O.endings out.old out.new) }
-    ensures unfinished { OnErr result (O.endings out.new ≡ O.endings out.old) }
-    ensures in_order { (I.is_at_end text.new ≡ false → keys.new ≡ keys.old)
-        × (I.is_at_end keys.new && I.is_at_end text.new ≡ false → content.new ≡ content.old) }
-    ensures reads_first { IfErr result (λ refusal. is_external refusal ≡ false
-        → IsTrue (I.is_at_end text.new) × IsTrue (I.is_at_end keys.new) × (IsTrue detached_given → IsTrue (I.is_at_end content.new))) }
-    ensures untouched { detached_given ≡ false → content.new ≡ content.old }
-    ensures faults { TellsFaults (counts I.failures text.old text.new ∷ counts I.failures keys.old keys.new ∷ counts I.failures content.old content.new ∷ [])
-        (counts O.failures out.old out.new ∷ []) result }
+    requires command { invocation.now.command ≡ Command.JweDec }
+    requires finite { AreFinite I.remaining inputs.old }
+    ensures { Does (input_members I.consumed I.is_at_end I.failures) (output_members O.written O.is_finished O.endings O.failures) (invocation_view invocation.now) inputs.old inputs.new outputs.old outputs.new result }
 {
-    let (text, set, beside) = read_object(alloc, text, keys, detached_given, content)?;
-    let jwe = Jwe::read(alloc, &text, beside)?;
-    jwe_decrypt(alloc, &set, jwe, out).1
+    let whole = read_inputs(alloc, true, invocation.has('I'), inputs)?;
+    write_plaintext(alloc, whole, outputs)
+}
+
+/// Writes the plaintext of what the inputs gave.
+fn write_plaintext<O: Output>(
+    alloc: Global,
+    whole: WholeInputs,
+    outputs: &mut Outputs<O>,
+) -> Result<(), Refusal>
+    ensures { WritesWhole (output_members O.written O.is_finished O.endings O.failures) false true
+        (on_content (dec_answer limits whole.keys.items (option_map (λ c. c.items) whole.content) whole.text.items)) outputs.old outputs.new result }
+{
+    let WholeInputs {
+        text,
+        keys,
+        content,
+    } = whole;
+    let set = KeySet::read(alloc, &keys, false)?;
+    let jwe = Jwe::read(alloc, &text, content)?;
+    jwe_decrypt(alloc, &set, jwe, &mut outputs.content).1
 }
 
 /// Writes the text of the object in compact form, or else in JSON form. The ciphertext is handed in beside the text where it is
 /// given, and goes out beside it where it is to be detached.
 pub(crate) fn format<I: Input, O: Output>(
     alloc: Global,
-    text: &mut I,
-    detached_given: bool,
-    content: &mut I,
+    invocation: &Invocation,
+    inputs: &mut Inputs<I>,
+    outputs: &mut Outputs<O>,
+) -> Result<(), Refusal>
+    requires command { invocation.now.command ≡ Command.JweFmt }
+    requires finite { AreFinite I.remaining inputs.old }
+    ensures { Does (input_members I.consumed I.is_at_end I.failures) (output_members O.written O.is_finished O.endings O.failures) (invocation_view invocation.now) inputs.old inputs.new outputs.old outputs.new result }
+{
+    let whole = read_inputs(alloc, false, invocation.has('I'), inputs)?;
+    write_formed(
+        alloc,
+        whole,
+        invocation.has('c'),
+        invocation.has('O'),
+        outputs,
+    )
+}
+
+/// Writes the object of what the inputs gave in the form that is asked for.
+fn write_formed<O: Output>(
+    alloc: Global,
+    whole: WholeInputs,
     compact: bool,
     detach: bool,
-    out: &mut O,
-    detached: &mut O,
+    outputs: &mut Outputs<O>,
 ) -> Result<(), Refusal>
-    requires text { IsFinite (I.remaining text.old) }
-    requires content { IsFinite (I.remaining content.old) }
-    ensures answer { (whole whole_content : List ℕ)
-        → IsPossibleInput (observed I.consumed I.is_at_end text.old text.new) whole
-        → IsPossibleInput (observed I.consumed I.is_at_end content.old content.new) whole_content
-        → AgreesUnlessExternal (jwe_fmt_answer limits compact detach (handed_in detached_given whole_content) whole)
-        (record { text = appended (O.written out.old) (O.written out.new); content = appended (O.written detached.old) (O.written detached.new) }) result }
-
-    // The outputs are not touched before all is accepted, and the text's not before the content stands whole beside it, where it
-    // goes out there.
-    ensures held_back { IfErr result (λ refusal. (DidNotFail refusal (counts O.failures out.old out.new) → out.new ≡ out.old)
-        × (refusal ≢ Refusal.Write → detached.new ≡ detached.old)) }
-    ensures content_first { OnErr result (((out.new ≡ out.old) × (O.endings detached.new ≡ O.endings detached.old)) ⊎ (IsTrue detach → (IsTrue detached_given → IsTrue (I.is_at_end content.new)) × IsFinishedOnce O.is_finished O.endings detached.old detached.new
-        × (O.written detached.new ≡ O.written detached.old ++ (formed (jwe_fmt_answer limits compact detach (handed_in detached_given (appended (I.consumed content.old) (I.consumed content.new))) (appended (I.consumed text.old) (I.consumed text.new)))
-        (I.is_at_end text.new && (not detached_given || I.is_at_end content.new))).content))) }
-    ensures beginning { OnErr result (
-        (AppendsPrefixOf (formed (jwe_fmt_answer limits compact detach (handed_in detached_given (appended (I.consumed content.old) (I.consumed content.new))) (appended (I.consumed text.old) (I.consumed text.new)))
-        (I.is_at_end text.new && (not detached_given || I.is_at_end content.new))).text (O.written out.old) (O.written out.new))
-        × (AppendsPrefixOf (formed (jwe_fmt_answer limits compact detach (handed_in detached_given (appended (I.consumed content.old) (I.consumed content.new))) (appended (I.consumed text.old) (I.consumed text.new)))
-        (I.is_at_end text.new && (not detached_given || I.is_at_end content.new))).content (O.written detached.old) (O.written detached.new))) }
-    ensures finished { OnOk result (IsFinishedOnce O.is_finished O.endings out.old out.new × (IsTrue detach → IsFinishedOnce O.is_finished O.endings detached.old detached.new)) }
-    ensures unfinished { OnErr result (O.endings out.new ≡ O.endings out.old) }
-
-    // No content is read before the text was read to its end, and none where it is not given.
-    ensures in_order { I.is_at_end text.new ≡ false → content.new ≡ content.old }
-    ensures reads_first { IfErr result (λ refusal. is_external refusal ≡ false → IsTrue (I.is_at_end text.new) × (IsTrue detached_given → IsTrue (I.is_at_end content.new))) }
-    ensures untouched { (detached_given ≡ false → content.new ≡ content.old) × (detach ≡ false → detached.new ≡ detached.old) }
-    ensures faults { TellsFaults (counts I.failures text.old text.new ∷ counts I.failures content.old content.new ∷ [])
-        (counts O.failures out.old out.new ∷ counts O.failures detached.old detached.new ∷ []) result }
+    ensures { WritesWhole (output_members O.written O.is_finished O.endings O.failures) true detach
+        (jwe_fmt_answer limits compact detach (option_map (λ c. c.items) whole.content) whole.text.items) outputs.old outputs.new result }
 {
-    let text = read_to_end(alloc, text)?;
-    let beside = read_beside(alloc, detached_given, content)?;
-    let (object, formed) = formed(alloc, &text, beside, compact, detach)?;
+    let WholeInputs { text, content, .. } = whole;
+    let (object, formed) = formed(alloc, &text, content, compact, detach)?;
     let ciphertext = HeldContent::Octets(object.ciphertext());
-    write_object(&formed, detach, ciphertext, out, detached)
+    write_object(&formed, detach, ciphertext, outputs)
 }
 
 /// The object of the text, and its text in the form that is asked for.

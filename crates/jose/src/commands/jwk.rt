@@ -1,87 +1,91 @@
 //! The commands `jwk gen` and `jwk thp`, from devices to devices.
-ghost use Rattle.std.specs.Prelude.{◌≡◌, ◌≢◌, ◌≤◌, ℕ, List, [], ◌∷◌, false, Err, length, map, string_bytes, OnOk, OnErr, IfOk, IfErr, IsTrue};
-ghost use Rattle.std.specs.Iterator.{IsFinite};
+ghost use Rattle.std.specs.Prelude.{◌≡◌, true, false, ◌≢◌, ◌≤◌, ℕ, List, [], ◌∷◌, Err, length, map, string_bytes, OnOk, OnErr, IfOk, IfErr};
 ghost use Rattle.octets.specs.Devices.{appended, observed, IsPossibleInput, AppendsPrefixOf, IsFinishedOnce};
 ghost use Rattle.octets.specs.declared.refusal.Refusal.{Refusal};
 ghost use Rattle.octets.specs.Faults.{TellsFaults, counts};
-ghost use Rattle.octets.specs.Outcomes.{AgreesUnlessExternal, AgreesUnlessMemory, is_external};
+ghost use Rattle.octets.specs.Outcomes.{AgreesUnlessExternal, AgreesUnlessMemory};
 ghost use Rattle.octets.specs.Plan.{accepted, drawn_of};
 ghost use Rattle.keys.specs.Generating.{gen_answer};
 ghost use Rattle.keys.specs.Limits.{limits};
 ghost use Rattle.keys.specs.Views.{key_view};
+ghost use Rattle.jose.specs.declared.words.table.Command.{Command};
+ghost use Rattle.jose.specs.Doing.{Does, WritesWhole, input_members, output_members};
+ghost use Rattle.jose.specs.Invocations.{invocation_view};
 ghost use Rattle.jose.specs.Jwk.{making, thp_answer, thumbprint_lines};
+ghost use Rattle.jose.specs.Ports.{AreFinite, on_text};
 
+use crate::commands::read_inputs;
+use crate::ports::{Inputs, Outputs};
+use crate::words::invocation::Invocation;
 use keys::{Key, KeySet, thumbprint};
-use octets::{Input, Output, Refusal, emit, read_to_end};
+use octets::{Input, Output, Refusal, emit};
 use prf::HashAlg;
 use std::alloc::Global;
 
 /// Makes a key as the template asks, of octets of the random input, and writes its text.
 pub(crate) fn generate<I: Input, O: Output>(
     alloc: Global,
-    template: &mut I,
+    invocation: &Invocation,
+    inputs: &mut Inputs<I>,
+    outputs: &mut Outputs<O>,
+) -> Result<(), Refusal>
+    requires command { invocation.now.command ≡ Command.JwkGen }
+    requires finite { AreFinite I.remaining inputs.old }
+    ensures { Does (input_members I.consumed I.is_at_end I.failures) (output_members O.written O.is_finished O.endings O.failures) (invocation_view invocation.now) inputs.old inputs.new outputs.old outputs.new result }
+{
+    let template = read_inputs(alloc, false, false, inputs)?;
+    write_key(alloc, &template.text, &mut inputs.random, &mut outputs.text)
+}
+
+/// Makes a key as the template asks, of octets of the random input, and writes its text.
+fn write_key<I: Input, O: Output>(
+    alloc: Global,
+    template: &[u8],
     random: &mut I,
     out: &mut O,
 ) -> Result<(), Refusal>
-    requires { IsFinite (I.remaining template.old) }
-    ensures answer { (whole_template octets : List ℕ)
-        → IsPossibleInput (observed I.consumed I.is_at_end template.old template.new) whole_template
-        → IsPossibleInput (observed I.consumed I.is_at_end random.old random.new) octets
-        → AgreesUnlessExternal (gen_answer limits whole_template octets) (appended (O.written out.old) (O.written out.new)) result }
-
-    // Exactly the key's octets are read of the random input, and no more before a refusal.
-    ensures drawn { OnOk result ((whole_template : List ℕ)
-        → IsPossibleInput (observed I.consumed I.is_at_end template.old template.new) whole_template
-        → length (appended (I.consumed random.old) (I.consumed random.new)) ≡ drawn_of (making whole_template)) }
-    ensures at_most { (whole_template : List ℕ)
-        → IsPossibleInput (observed I.consumed I.is_at_end template.old template.new) whole_template
-        → length (appended (I.consumed random.old) (I.consumed random.new)) ≤ drawn_of (making whole_template) }
-
-    // The output is not touched before all is accepted.
+    ensures answer { (octets : List ℕ) → IsPossibleInput (observed I.consumed I.is_at_end random.old random.new) octets
+        → AgreesUnlessExternal (gen_answer limits template.now octets) (appended (O.written out.old) (O.written out.new)) result }
+    ensures drawn { OnOk result (length (appended (I.consumed random.old) (I.consumed random.new)) ≡ drawn_of (making template.now)) }
+    ensures at_most { length (appended (I.consumed random.old) (I.consumed random.new)) ≤ drawn_of (making template.now) }
+    ensures beginning { OnErr result (AppendsPrefixOf (accepted (gen_answer limits template.now (appended (I.consumed random.old) (I.consumed random.new))) true) (O.written out.old) (O.written out.new)) }
     ensures held_back { IfErr result (λ refusal. refusal ≢ Refusal.Write → out.new ≡ out.old) }
-    ensures beginning { OnErr result (AppendsPrefixOf
-        (accepted (gen_answer limits (appended (I.consumed template.old) (I.consumed template.new)) (appended (I.consumed random.old) (I.consumed random.new)))
-        (I.is_at_end template.new)) (O.written out.old) (O.written out.new)) }
     ensures finished { OnOk result (IsFinishedOnce O.is_finished O.endings out.old out.new) }
     ensures unfinished { OnErr result (O.endings out.new ≡ O.endings out.old) }
-
-    // The random input is touched once the template was read and accepted.
-    ensures in_order { I.is_at_end template.new ≡ false → random.new ≡ random.old }
-    ensures reads_first { IfErr result (λ refusal. is_external refusal ≡ false → IsTrue (I.is_at_end template.new)) }
-    ensures content_last { (refusal : Refusal) → making (appended (I.consumed template.old) (I.consumed template.new)) ≡ Err refusal
-        → random.new ≡ random.old }
-    ensures faults { TellsFaults (counts I.failures template.old template.new ∷ counts I.failures random.old random.new ∷ [])
-        (counts O.failures out.old out.new ∷ []) result }
+    ensures content_last { (refusal : Refusal) → making template.now ≡ Err refusal → random.new ≡ random.old }
+    ensures faults { TellsFaults (counts I.failures random.old random.new ∷ []) (counts O.failures out.old out.new ∷ []) result }
 {
-    let template = read_to_end(alloc, template)?;
-    let key = keys::generate(alloc, &template, random)?;
+    let key = keys::generate(alloc, template, random)?;
     emit(out, key.as_bytes())
 }
 
 /// Writes the thumbprints of the good keys of the text, in order, with a line feed between each two.
 pub(crate) fn thumbprints<I: Input, O: Output>(
     alloc: Global,
-    text: &mut I,
-    hash: HashAlg,
-    out: &mut O,
+    invocation: &Invocation,
+    inputs: &mut Inputs<I>,
+    outputs: &mut Outputs<O>,
 ) -> Result<(), Refusal>
-    requires { IsFinite (I.remaining text.old) }
-    ensures answer { (whole : List ℕ) → IsPossibleInput (observed I.consumed I.is_at_end text.old text.new) whole
-        → AgreesUnlessExternal (thp_answer hash whole) (appended (O.written out.old) (O.written out.new)) result }
-
-    // The output is not touched before all is accepted.
-    ensures held_back { IfErr result (λ refusal. refusal ≢ Refusal.Write → out.new ≡ out.old) }
-    ensures beginning { OnErr result (AppendsPrefixOf
-        (accepted (thp_answer hash (appended (I.consumed text.old) (I.consumed text.new))) (I.is_at_end text.new))
-        (O.written out.old) (O.written out.new)) }
-    ensures finished { OnOk result (IsFinishedOnce O.is_finished O.endings out.old out.new) }
-    ensures unfinished { OnErr result (O.endings out.new ≡ O.endings out.old) }
-    ensures reads_first { IfErr result (λ refusal. is_external refusal ≡ false → IsTrue (I.is_at_end text.new)) }
-    ensures faults { TellsFaults (counts I.failures text.old text.new ∷ []) (counts O.failures out.old out.new ∷ []) result }
+    requires command { invocation.now.command ≡ Command.JwkThp }
+    requires finite { AreFinite I.remaining inputs.old }
+    ensures { Does (input_members I.consumed I.is_at_end I.failures) (output_members O.written O.is_finished O.endings O.failures) (invocation_view invocation.now) inputs.old inputs.new outputs.old outputs.new result }
 {
-    let text = read_to_end(alloc, text)?;
-    let lines = text_thumbprints(alloc, &text, hash)?;
-    emit(out, lines.as_bytes())
+    let hash = invocation.hash().ok_or(Refusal::Usage)?;
+    let whole = read_inputs(alloc, false, false, inputs)?;
+    write_thumbprints(alloc, &whole.text, hash, outputs)
+}
+
+/// Writes the thumbprints of the good keys of a text.
+fn write_thumbprints<O: Output>(
+    alloc: Global,
+    text: &[u8],
+    hash: HashAlg,
+    outputs: &mut Outputs<O>,
+) -> Result<(), Refusal>
+    ensures { WritesWhole (output_members O.written O.is_finished O.endings O.failures) true false (on_text (thp_answer hash text.now)) outputs.old outputs.new result }
+{
+    let lines = text_thumbprints(alloc, text, hash)?;
+    emit(&mut outputs.text, lines.as_bytes())
 }
 
 /// The thumbprints of the good keys of a text. A bad one of a set is passed over.

@@ -1,24 +1,24 @@
 //! The commands `jws sig`, `jws ver` and `jws fmt`, from devices to devices.
-ghost use Rattle.std.specs.Prelude.{◌≡◌, ◌≢◌, ◌⊎◌, ◌++◌, Bool, false, not, ◌&&◌, ◌||◌, ℕ, List, [], ◌∷◌, option_map, Some, Err, OnOk, OnErr, IfOk, IfErr, IsTrue, string_bytes};
+ghost use Rattle.std.specs.Prelude.{◌≡◌, Bool, true, false, ◌&&◌, ℕ, List, [], ◌∷◌, option_map, Some, Err, OnOk, IfOk, IfErr, IsTrue, string_bytes};
 ghost use Rattle.std.specs.Iterator.{IsFinite};
-ghost use Rattle.octets.specs.Devices.{appended, observed, IsPossibleInput, AppendsPrefixOf, IsFinishedOnce};
+ghost use Rattle.octets.specs.Devices.{observed, IsPossibleInput};
 ghost use Rattle.octets.specs.declared.refusal.Refusal.{Refusal};
-ghost use Rattle.octets.specs.Faults.{TellsFaults, DidNotFail, counts};
+ghost use Rattle.octets.specs.Faults.{TellsFaults, counts};
 ghost use Rattle.octets.specs.Octets.{IsOctets};
 ghost use Rattle.octets.specs.Outcomes.{AgreesUnlessExternal, AgreesUnlessMemory, is_external, is_memory};
-ghost use Rattle.octets.specs.Plan.{accepted, fixed_by, planned, planned_beginning};
-ghost use Rattle.octets.specs.Pumps.{KeepsUp};
 ghost use Rattle.keys.specs.Limits.{limits};
 ghost use Rattle.objects.specs.HandedIn.{with_payload};
-ghost use Rattle.objects.specs.Texts.{handed_in};
 ghost use Rattle.objects.specs.Views.{jws_view};
 ghost use Rattle.tokens.specs.Verifying.{verifying_by};
-ghost use Rattle.jose.specs.Jws.{sig_answer, ver_answer, jws_fmt_answer};
-ghost use Rattle.jose.specs.Ports.{formed, object_texts};
+ghost use Rattle.jose.specs.declared.words.table.Command.{Command};
+ghost use Rattle.jose.specs.Doing.{Does, WritesWhole, input_members, output_members};
+ghost use Rattle.jose.specs.Invocations.{invocation_view};
+ghost use Rattle.jose.specs.Jws.{ver_answer, jws_fmt_answer};
+ghost use Rattle.jose.specs.Ports.{AreFinite, object_texts, on_content};
 
-use crate::commands::{
-    no_output, read_beside, read_object, read_past, read_with_keys, write_object,
-};
+use crate::commands::{WholeInputs, read_inputs, read_past, write_object};
+use crate::ports::{Inputs, Outputs};
+use crate::words::invocation::Invocation;
 use keys::KeySet;
 use objects::Jws;
 use objects::laws::jws_payload_is_handed_in;
@@ -30,83 +30,36 @@ use tokens::{jws_sign, jws_verify, jws_verify_detached};
 /// where it is to be detached.
 pub(crate) fn sign<I: Input, O: Output>(
     alloc: Global,
-    template: &mut I,
-    keys: &mut I,
-    compact: bool,
-    detach: bool,
-    content: &mut I,
-    out: &mut O,
-    detached: &mut O,
+    invocation: &Invocation,
+    inputs: &mut Inputs<I>,
+    outputs: &mut Outputs<O>,
 ) -> Result<(), Refusal>
-    requires template { IsFinite (I.remaining template.old) }
-    requires keys { IsFinite (I.remaining keys.old) }
-    requires content { IsFinite (I.remaining content.old) }
-    ensures answer { (whole_template whole_keys payload : List ℕ)
-        → IsPossibleInput (observed I.consumed I.is_at_end template.old template.new) whole_template
-        → IsPossibleInput (observed I.consumed I.is_at_end keys.old keys.new) whole_keys
-        → IsPossibleInput (observed I.consumed I.is_at_end content.old content.new) payload
-        → AgreesUnlessExternal (planned (sig_answer limits compact detach whole_keys whole_template) payload)
-        (record { text = appended (O.written out.old) (O.written out.new); content = appended (O.written detached.old) (O.written detached.new) }) result }
-    ensures beginning { OnErr result (AppendsPrefixOf
-        (planned_beginning (I.is_at_end keys.new && I.is_at_end template.new)
-        (sig_answer limits compact detach (appended (I.consumed keys.old) (I.consumed keys.new)) (appended (I.consumed template.old) (I.consumed template.new)))
-        (observed I.consumed I.is_at_end content.old content.new)).text (O.written out.old) (O.written out.new)) }
-    ensures beginning_beside { OnErr result (AppendsPrefixOf
-        (planned_beginning (I.is_at_end keys.new && I.is_at_end template.new)
-        (sig_answer limits compact detach (appended (I.consumed keys.old) (I.consumed keys.new)) (appended (I.consumed template.old) (I.consumed template.new)))
-        (observed I.consumed I.is_at_end content.old content.new)).content (O.written detached.old) (O.written detached.new)) }
-    ensures finished { OnOk result (IsFinishedOnce O.is_finished O.endings out.old out.new × (IsTrue detach → IsFinishedOnce O.is_finished O.endings detached.old detached.new)) }
-    ensures unfinished { OnErr result (O.endings out.new ≡ O.endings out.old) }
-    ensures untouched { detach ≡ false → detached.new ≡ detached.old }
-
-    // No input is touched before the one ahead of it was read to its end, and the content not before the rest is accepted.
-    ensures in_order { (I.is_at_end template.new ≡ false → keys.new ≡ keys.old)
-        × (I.is_at_end keys.new && I.is_at_end template.new ≡ false → content.new ≡ content.old) }
-    ensures content_last { (refusal : Refusal)
-        → sig_answer limits compact detach (appended (I.consumed keys.old) (I.consumed keys.new)) (appended (I.consumed template.old) (I.consumed template.new)) ≡ Err refusal
-        → content.new ≡ content.old }
-    ensures reads_first { IfErr result (λ refusal. is_external refusal ≡ false → IsTrue (I.is_at_end template.new) × IsTrue (I.is_at_end keys.new)) }
-    ensures memory_first { IfErr result (λ refusal. refusal ≡ Refusal.Memory → content.new ≡ content.old) }
-
-    // An output that did not fail, and on which nothing was written, is as it was; and the text is not begun before the content
-    // stands whole beside it, where it goes out there.
-    ensures uncut { IfErr result (λ refusal.
-        (DidNotFail refusal (counts O.failures out.old out.new) → O.written out.new ≡ O.written out.old → out.new ≡ out.old)
-        × (refusal ≢ Refusal.Write → O.written detached.new ≡ O.written detached.old → detached.new ≡ detached.old)) }
-    ensures unread { IfErr result (λ refusal. appended (I.consumed content.old) (I.consumed content.new) ≡ []
-        → (DidNotFail refusal (counts O.failures out.old out.new) → out.new ≡ out.old) × (refusal ≢ Refusal.Write → detached.new ≡ detached.old)) }
-    ensures keeps_up { result ≡ Err Refusal.Read → appended (I.consumed content.old) (I.consumed content.new) ≢ []
-        → KeepsUp (λ front. (fixed_by (sig_answer limits compact detach (appended (I.consumed keys.old) (I.consumed keys.new)) (appended (I.consumed template.old) (I.consumed template.new))) front).text)
-        (appended (I.consumed content.old) (I.consumed content.new)) (O.written out.old) (O.written out.new)
-        × KeepsUp (λ front. (fixed_by (sig_answer limits compact detach (appended (I.consumed keys.old) (I.consumed keys.new)) (appended (I.consumed template.old) (I.consumed template.new))) front).content)
-        (appended (I.consumed content.old) (I.consumed content.new)) (O.written detached.old) (O.written detached.new) }
-    ensures content_first { OnErr result (((out.new ≡ out.old) × (O.endings detached.new ≡ O.endings detached.old)) ⊎ (IsTrue detach → IsTrue (I.is_at_end content.new) × IsFinishedOnce O.is_finished O.endings detached.old detached.new
-        × (O.written detached.new ≡ O.written detached.old ++ (planned_beginning (I.is_at_end keys.new && I.is_at_end template.new)
-        (sig_answer limits compact detach (appended (I.consumed keys.old) (I.consumed keys.new)) (appended (I.consumed template.old) (I.consumed template.new)))
-        (observed I.consumed I.is_at_end content.old content.new)).content))) }
-    ensures faults { TellsFaults (counts I.failures template.old template.new ∷ counts I.failures keys.old keys.new ∷ counts I.failures content.old content.new ∷ [])
-        (counts O.failures out.old out.new ∷ counts O.failures detached.old detached.new ∷ []) result }
+    requires command { invocation.now.command ≡ Command.JwsSig }
+    requires finite { AreFinite I.remaining inputs.old }
+    ensures { Does (input_members I.consumed I.is_at_end I.failures) (output_members O.written O.is_finished O.endings O.failures) (invocation_view invocation.now) inputs.old inputs.new outputs.old outputs.new result }
 {
-    let (template, set) = read_with_keys(alloc, template, keys, true)?;
-    if detach {
+    let template = read_inputs(alloc, true, false, inputs)?;
+    let set = KeySet::read(alloc, &template.keys, true)?;
+    let compact = invocation.has('c');
+    if invocation.has('O') {
         jws_sign(
             alloc,
             &set,
-            &template,
+            &template.text,
             compact,
-            content,
-            out,
-            Some(detached),
+            &mut inputs.content,
+            &mut outputs.text,
+            Some(&mut outputs.content),
         )
     } else {
         jws_sign(
             alloc,
             &set,
-            &template,
+            &template.text,
             compact,
-            content,
-            out,
-            no_output(detached),
+            &mut inputs.content,
+            &mut outputs.text,
+            Option::default(),
         )
     }
 }
@@ -115,47 +68,52 @@ pub(crate) fn sign<I: Input, O: Output>(
 /// it is wanted.
 pub(crate) fn verify<I: Input, O: Output>(
     alloc: Global,
-    text: &mut I,
-    keys: &mut I,
-    detached_given: bool,
-    content: &mut I,
+    invocation: &Invocation,
+    inputs: &mut Inputs<I>,
+    outputs: &mut Outputs<O>,
+) -> Result<(), Refusal>
+    requires command { invocation.now.command ≡ Command.JwsVer }
+    requires finite { AreFinite I.remaining inputs.old }
+    ensures { Does (input_members I.consumed I.is_at_end I.failures) (output_members O.written O.is_finished O.endings O.failures) (invocation_view invocation.now) inputs.old inputs.new outputs.old outputs.new result }
+{
+    let detached_given = invocation.has('I');
+    let all = invocation.has('a');
+    let payload_wanted = invocation.has('O');
+    if detached_given && !payload_wanted {
+        return verify_in_one_pass(
+            alloc,
+            &mut inputs.text,
+            &mut inputs.keys,
+            &mut inputs.content,
+            all,
+        );
+    }
+    let whole = read_inputs(alloc, true, detached_given, inputs)?;
+    write_verified(alloc, whole, all, payload_wanted, outputs)
+}
+
+/// Verifies what the inputs gave, and writes its payload where it is wanted.
+fn write_verified<O: Output>(
+    alloc: Global,
+    whole: WholeInputs,
     all: bool,
     payload_wanted: bool,
-    out: &mut O,
+    outputs: &mut Outputs<O>,
 ) -> Result<(), Refusal>
-    requires text { IsFinite (I.remaining text.old) }
-    requires keys { IsFinite (I.remaining keys.old) }
-    requires content { IsFinite (I.remaining content.old) }
-    ensures answer { (whole_text whole_keys whole_content : List ℕ)
-        → IsPossibleInput (observed I.consumed I.is_at_end text.old text.new) whole_text
-        → IsPossibleInput (observed I.consumed I.is_at_end keys.old keys.new) whole_keys
-        → IsPossibleInput (observed I.consumed I.is_at_end content.old content.new) whole_content
-        → AgreesUnlessExternal (ver_answer limits all payload_wanted whole_keys (handed_in detached_given whole_content) whole_text) (appended (O.written out.old) (O.written out.new)) result }
-
-    // The output is not touched before all is accepted.
-    ensures held_back { IfErr result (λ refusal. refusal ≢ Refusal.Write → out.new ≡ out.old) }
-    ensures beginning { OnErr result (AppendsPrefixOf
-        (accepted (ver_answer limits all payload_wanted (appended (I.consumed keys.old) (I.consumed keys.new)) (handed_in detached_given (appended (I.consumed content.old) (I.consumed content.new))) (appended (I.consumed text.old) (I.consumed text.new)))
-        (I.is_at_end keys.new && I.is_at_end text.new && (not detached_given || I.is_at_end content.new))) (O.written out.old) (O.written out.new)) }
-    ensures finished { OnOk result (IsTrue payload_wanted → IsFinishedOnce O.is_finished O.endings out.old out.new) }
-    ensures unfinished { OnErr result (O.endings out.new ≡ O.endings out.old) }
-    ensures untouched { (payload_wanted ≡ false → out.new ≡ out.old) × (detached_given ≡ false → content.new ≡ content.old) }
-    ensures in_order { (I.is_at_end text.new ≡ false → keys.new ≡ keys.old)
-        × (I.is_at_end keys.new && I.is_at_end text.new ≡ false → content.new ≡ content.old) }
-    ensures reads_first { IfErr result (λ refusal. is_external refusal ≡ false
-        → IsTrue (I.is_at_end text.new) × IsTrue (I.is_at_end keys.new) × (IsTrue detached_given → IsTrue (I.is_at_end content.new))) }
-    ensures faults { TellsFaults (counts I.failures text.old text.new ∷ counts I.failures keys.old keys.new ∷ counts I.failures content.old content.new ∷ [])
-        (counts O.failures out.old out.new ∷ []) result }
+    ensures { WritesWhole (output_members O.written O.is_finished O.endings O.failures) false payload_wanted
+        (on_content (ver_answer limits all payload_wanted whole.keys.items (option_map (λ c. c.items) whole.content) whole.text.items)) outputs.old outputs.new result }
 {
-    if detached_given && !payload_wanted {
-        return verify_in_one_pass(alloc, text, keys, content, all);
-    }
-    let (text, set, beside) = read_object(alloc, text, keys, detached_given, content)?;
-    let jws = Jws::read(alloc, &text, beside)?;
+    let WholeInputs {
+        text,
+        keys,
+        content,
+    } = whole;
+    let set = KeySet::read(alloc, &keys, false)?;
+    let jws = Jws::read(alloc, &text, content)?;
     if payload_wanted {
-        jws_verify(&set, &jws, all, Some(out))
+        jws_verify(&set, &jws, all, Some(&mut outputs.content))
     } else {
-        jws_verify(&set, &jws, all, no_output(out))
+        jws_verify::<O>(&set, &jws, all, Option::default())
     }
 }
 
@@ -215,48 +173,38 @@ fn keys_and_object<'t>(
 /// given, and goes out beside it where it is to be detached.
 pub(crate) fn format<I: Input, O: Output>(
     alloc: Global,
-    text: &mut I,
-    detached_given: bool,
-    content: &mut I,
+    invocation: &Invocation,
+    inputs: &mut Inputs<I>,
+    outputs: &mut Outputs<O>,
+) -> Result<(), Refusal>
+    requires command { invocation.now.command ≡ Command.JwsFmt }
+    requires finite { AreFinite I.remaining inputs.old }
+    ensures { Does (input_members I.consumed I.is_at_end I.failures) (output_members O.written O.is_finished O.endings O.failures) (invocation_view invocation.now) inputs.old inputs.new outputs.old outputs.new result }
+{
+    let whole = read_inputs(alloc, false, invocation.has('I'), inputs)?;
+    write_formed(
+        alloc,
+        whole,
+        invocation.has('c'),
+        invocation.has('O'),
+        outputs,
+    )
+}
+
+/// Writes the object of what the inputs gave in the form that is asked for.
+fn write_formed<O: Output>(
+    alloc: Global,
+    whole: WholeInputs,
     compact: bool,
     detach: bool,
-    out: &mut O,
-    detached: &mut O,
+    outputs: &mut Outputs<O>,
 ) -> Result<(), Refusal>
-    requires text { IsFinite (I.remaining text.old) }
-    requires content { IsFinite (I.remaining content.old) }
-    ensures answer { (whole whole_content : List ℕ)
-        → IsPossibleInput (observed I.consumed I.is_at_end text.old text.new) whole
-        → IsPossibleInput (observed I.consumed I.is_at_end content.old content.new) whole_content
-        → AgreesUnlessExternal (jws_fmt_answer limits compact detach (handed_in detached_given whole_content) whole)
-        (record { text = appended (O.written out.old) (O.written out.new); content = appended (O.written detached.old) (O.written detached.new) }) result }
-
-    // The outputs are not touched before all is accepted, and the text's not before the content stands whole beside it, where it
-    // goes out there.
-    ensures held_back { IfErr result (λ refusal. (DidNotFail refusal (counts O.failures out.old out.new) → out.new ≡ out.old)
-        × (refusal ≢ Refusal.Write → detached.new ≡ detached.old)) }
-    ensures content_first { OnErr result (((out.new ≡ out.old) × (O.endings detached.new ≡ O.endings detached.old)) ⊎ (IsTrue detach → (IsTrue detached_given → IsTrue (I.is_at_end content.new)) × IsFinishedOnce O.is_finished O.endings detached.old detached.new
-        × (O.written detached.new ≡ O.written detached.old ++ (formed (jws_fmt_answer limits compact detach (handed_in detached_given (appended (I.consumed content.old) (I.consumed content.new))) (appended (I.consumed text.old) (I.consumed text.new)))
-        (I.is_at_end text.new && (not detached_given || I.is_at_end content.new))).content))) }
-    ensures beginning { OnErr result (
-        (AppendsPrefixOf (formed (jws_fmt_answer limits compact detach (handed_in detached_given (appended (I.consumed content.old) (I.consumed content.new))) (appended (I.consumed text.old) (I.consumed text.new)))
-        (I.is_at_end text.new && (not detached_given || I.is_at_end content.new))).text (O.written out.old) (O.written out.new))
-        × (AppendsPrefixOf (formed (jws_fmt_answer limits compact detach (handed_in detached_given (appended (I.consumed content.old) (I.consumed content.new))) (appended (I.consumed text.old) (I.consumed text.new)))
-        (I.is_at_end text.new && (not detached_given || I.is_at_end content.new))).content (O.written detached.old) (O.written detached.new))) }
-    ensures finished { OnOk result (IsFinishedOnce O.is_finished O.endings out.old out.new × (IsTrue detach → IsFinishedOnce O.is_finished O.endings detached.old detached.new)) }
-    ensures unfinished { OnErr result (O.endings out.new ≡ O.endings out.old) }
-
-    // No content is read before the text was read to its end, and none where it is not given.
-    ensures in_order { I.is_at_end text.new ≡ false → content.new ≡ content.old }
-    ensures reads_first { IfErr result (λ refusal. is_external refusal ≡ false → IsTrue (I.is_at_end text.new) × (IsTrue detached_given → IsTrue (I.is_at_end content.new))) }
-    ensures untouched { (detached_given ≡ false → content.new ≡ content.old) × (detach ≡ false → detached.new ≡ detached.old) }
-    ensures faults { TellsFaults (counts I.failures text.old text.new ∷ counts I.failures content.old content.new ∷ [])
-        (counts O.failures out.old out.new ∷ counts O.failures detached.old detached.new ∷ []) result }
+    ensures { WritesWhole (output_members O.written O.is_finished O.endings O.failures) true detach
+        (jws_fmt_answer limits compact detach (option_map (λ c. c.items) whole.content) whole.text.items) outputs.old outputs.new result }
 {
-    let text = read_to_end(alloc, text)?;
-    let beside = read_beside(alloc, detached_given, content)?;
-    let (object, formed) = formed(alloc, &text, beside, compact, detach)?;
-    write_object(&formed, detach, object.held_payload(), out, detached)
+    let WholeInputs { text, content, .. } = whole;
+    let (object, formed) = formed(alloc, &text, content, compact, detach)?;
+    write_object(&formed, detach, object.held_payload(), outputs)
 }
 
 /// The object of the text, and its text in the form that is asked for.

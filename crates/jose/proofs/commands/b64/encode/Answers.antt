@@ -1,31 +1,43 @@
-use Rattle.std.proofs.Common.{rules, Ok, refl, sym, ◌∙◌, ap}
-use Rattle.octets.specs.Devices.{appended}
+use Rattle.std.proofs.Common.{◌≡◌, ◌≢◌, List, [], ℕ, Ok, refl, rules}
+use Rattle.std.proofs.Math.Seq.{drop-length}
+use Rattle.octets.specs.declared.refusal.Refusal.TheVariants.{Write}
+use Rattle.octets.specs.Devices.{appended, observed}
 use Rattle.octets.specs.Encoding.{encoding}
-use Rattle.octets.proofs.Lemmas.{encoding_grows, at_refusal, seen_possible, keeps_up, passed_on, whole_stands}
+use Rattle.octets.proofs.Lemmas.{encoding_fixes_nothing, AppendsPrefixOf-none, kept_up_by_none, on_success, on_refusal, plan_of_plan, unread_untouched}
+use Rattle.jose.specs.Ports.{as_text}
+use Rattle.jose.proofs.Agreement.{agrees_as_text, beginning_map}
+use Rattle.jose.proofs.Doing.{if_weaker}
+use Rattle.jose.proofs.Draws.{none_drawn, nothing_drawn}
+use Rattle.jose.proofs.Spared.{spared_alone}
 use Rattle.jose.proofs.commands.b64.encode.Goals as goal
 
-pub returns-in_err-pump-clause-answer : goal.returns-in_err-pump-clause-answer
-returns-in_err-pump-clause-answer g c whole possible =
-    passed_on _ _ c.from_residual.result c.in_err-pump.field-0.0 (search rules) (λ inside. c.in_err-pump.ensures.answer tt whole c.start.ensures possible inside)
-
-pub returns-in_err-pump-clause-beginning : goal.returns-in_err-pump-clause-beginning
-returns-in_err-pump-clause-beginning g c = at_refusal _ (c.in_err-pump.ensures.beginning tt c.start.ensures encoding_grows)
-
-pub returns-in_err-pump-clause-keeps_up : goal.returns-in_err-pump-clause-keeps_up
-returns-in_err-pump-clause-keeps_up g c is some =
-    let consumed = g.I.Input.consumed in
-    let written = g.O.Output.written in
-    let p = appended (consumed c.args.content.now) (consumed c.pump.new.content) in
-    keeps_up encoding encoding_grows encoding.fixed (λ q. refl) p (written c.args.out.now) (written c.pump.new.out) (c.pump.ensures.stands tt c.start.ensures (search rules) some)
-
-pub returns-in_err-finish-clause-beginning : goal.returns-in_err-finish-clause-beginning
-returns-in_err-finish-clause-beginning g c =
-    let consumed = g.I.Input.consumed in
-    let written = g.O.Output.written in
-    let whole = c.in_ok-pump.ensures.answer tt (appended (consumed c.args.content.now) (consumed c.pump.new.content)) c.start.ensures (seen_possible consumed g.I.Input.is_at_end c.args.content.now c.pump.new.content) in
-    at_refusal _ (whole_stands encoding (consumed c.args.content.now) (consumed c.pump.new.content) (written c.args.out.now) (written c.pump.new.out) (written c.finish.new.self) (g.I.Input.is_at_end c.pump.new.content)
-    c.in_ok-pump.ensures.ends whole c.in_ok-pump.ensures.extends c.finish.ensures.same)
-
-pub returns-clause-answer : goal.returns-clause-answer
-returns-clause-answer g c whole possible =
-    c.in_ok-pump.ensures.answer tt whole c.start.ensures possible ∙ ap (λ l. Ok (appended (g.O.Output.written c.args.out.now) l)) (sym c.finish.ensures.same)
+pub returns : goal.returns
+returns g c =
+    let r = c.encode_content.result in
+    let random = g.I.Input.consumed c.args.inputs.now.random in
+    let content = observed g.I.Input.consumed g.I.Input.is_at_end c.args.inputs.now.content c.encode_content.new.content in
+    let drawn = nothing_drawn random in
+    let untouched = spared_alone g.O.Output.failures c.args.outputs.now.text c.encode_content.new.out (content.octets ≡ [] → c.encode_content.new.out ≡ c.args.outputs.now.text) r c.encode_content.ensures.faults
+    (if_weaker r _ (λ e. e ≢ Write → content.octets ≡ [] → c.encode_content.new.out ≡ c.args.outputs.now.text)
+    (unread_untouched g.O.Output.written c.args.outputs.now.text c.encode_content.new.out encoding content r encoding_fixes_nothing c.encode_content.ensures.beginning c.encode_content.ensures.uncut)
+    (λ e untouched others nothing. untouched nothing others)) in
+    rw c.requires.command (record {
+      answer = λ inputs may. rw (plan_of_plan as_text (Ok encoding) inputs.random) (agrees_as_text _ _ _ _ (drop-length (g.O.Output.written c.args.outputs.now.content)) (c.encode_content.ensures.answer inputs.content may.content));
+      drawn = on_success r c.encode_content.ensures.finished (λ done inputs may. drawn);
+      at_most = λ inputs may. none_drawn random _;
+      beginning = on_refusal r c.encode_content.ensures.beginning (λ part. rw (plan_of_plan as_text (Ok encoding) (appended random random), beginning_map as_text encoding content.octets content.ended) (record { text = part; content = AppendsPrefixOf-none _ _ refl }));
+      held_back = search rules;
+      uncut = search rules;
+      unread = if_weaker r _ _ untouched (λ e untouched streams nothing. record { text = λ spared. untouched spared nothing; content = λ others. refl });
+      keeps_up = λ told. rw (plan_of_plan as_text (Ok encoding) (appended random random)) (λ streams some. (c.encode_content.ensures.keeps_up told some, kept_up_by_none _ (λ q. refl) content.octets (g.O.Output.written c.args.outputs.now.content)));
+      content_first = search rules;
+      in_order = search rules;
+      reads_first = search rules;
+      random_first = search rules;
+      memory_first = search rules;
+      content_last = search rules;
+      finished = search rules;
+      unfinished = search rules;
+      untouched = search rules;
+      faults = search rules;
+    })

@@ -1,65 +1,8 @@
-use Rattle.std.proofs.Common.{◌≡◌, ◌∙◌, Ok, ap, sym}
-use Rattle.keys.specs.Generating.{gen_answer}
-use Rattle.keys.specs.Limits.{limits}
-use Rattle.octets.specs.Devices.{appended}
-use Rattle.octets.proofs.Lemmas.{on_success, on_refusal, seen_possible, agrees_last, appended-append, whole_is}
-use Rattle.jose.proofs.Agreement.{refused}
-use Rattle.jose.proofs.Draws.{key_drawn, key_drawn_at_most, making_refused}
+use Rattle.jose.specs.Invocations.{settings_view}
+use Rattle.jose.proofs.Made.{made}
 use Rattle.jose.proofs.commands.jwk.generate.Goals as goal
 
--- ---- the template is refused, or too little is drawn
-
-pub returns-in_err-key-clause-answer : goal.returns-in_err-key-clause-answer
-returns-in_err-key-clause-answer g c whole_template octets template_may octets_may =
-    let t : whole_template ≡ c.deref.result.now = whole_is g.I.Input.consumed g.I.Input.is_at_end _ _ _ whole_template c.in_ok-template.ensures.whole.0 c.in_ok-template.ensures.whole.1 template_may ∙ sym c.deref.ensures.value in
-    refused _ _ c.in_err-key.field-0.0 c.from_residual-in_err-key.result c.from_residual-in_err-key.ensures.1
-    (λ inside. rw t (c.in_err-key.ensures.answer octets octets_may inside))
-
-pub returns-in_err-key-clause-at_most : goal.returns-in_err-key-clause-at_most
-returns-in_err-key-clause-at_most g c whole_template template_may =
-    let t : whole_template ≡ c.deref.result.now = whole_is g.I.Input.consumed g.I.Input.is_at_end _ _ _ whole_template c.in_ok-template.ensures.whole.0 c.in_ok-template.ensures.whole.1 template_may ∙ sym c.deref.ensures.value in
-    rw t (key_drawn_at_most g.I.Input.consumed c.args.random.now c.generate.new.random c.deref.result.now c.generate.ensures.at_most c.generate.ensures.untouched)
-
-pub returns-in_err-key-clause-content_last : goal.returns-in_err-key-clause-content_last
-returns-in_err-key-clause-content_last g c refusal is =
-    let consumed = g.I.Input.consumed in
-    let template = appended (consumed c.args.template.now) (consumed c.read_to_end.new.input) in
-    let t : template ≡ c.deref.result.now = ap (appended (consumed c.args.template.now)) c.in_ok-template.ensures.whole.0 ∙ appended-append (consumed c.args.template.now) _ ∙ sym c.deref.ensures.value in
-    c.generate.ensures.untouched refusal (making_refused c.deref.result.now refusal (rw t at is))
-
--- ---- the key is made
-
-pub returns-clause-answer : goal.returns-clause-answer
-returns-clause-answer g c whole_template octets template_may octets_may =
-    let old = g.O.Output.written c.args.out.now in
-    let t : whole_template ≡ c.deref.result.now = whole_is g.I.Input.consumed g.I.Input.is_at_end _ _ _ whole_template c.in_ok-template.ensures.whole.0 c.in_ok-template.ensures.whole.1 template_may ∙ sym c.deref.ensures.value in
-    agrees_last _ _ c.emit.result c.emit.ensures.all c.emit.ensures.cause
-    (λ all. rw t (c.in_ok-key.ensures.answer octets octets_may) ∙ ap Ok (sym (ap (appended old) all ∙ appended-append old c.as_bytes.result.now ∙ c.as_bytes.ensures.value)))
-
-pub returns-clause-drawn : goal.returns-clause-drawn
-returns-clause-drawn g c = on_success c.emit.result c.emit.ensures.finished (λ done whole_template template_may.
-    let t : whole_template ≡ c.deref.result.now = whole_is g.I.Input.consumed g.I.Input.is_at_end _ _ _ whole_template c.in_ok-template.ensures.whole.0 c.in_ok-template.ensures.whole.1 template_may ∙ sym c.deref.ensures.value in
-    rw t (key_drawn g.I.Input.consumed c.args.random.now c.generate.new.random c.deref.result.now c.in_ok-key.ensures.drawn c.generate.ensures.untouched))
-
-pub returns-clause-at_most : goal.returns-clause-at_most
-returns-clause-at_most g c whole_template template_may =
-    let t : whole_template ≡ c.deref.result.now = whole_is g.I.Input.consumed g.I.Input.is_at_end _ _ _ whole_template c.in_ok-template.ensures.whole.0 c.in_ok-template.ensures.whole.1 template_may ∙ sym c.deref.ensures.value in
-    rw t (key_drawn_at_most g.I.Input.consumed c.args.random.now c.generate.new.random c.deref.result.now c.generate.ensures.at_most c.generate.ensures.untouched)
-
-pub returns-clause-beginning : goal.returns-clause-beginning
-returns-clause-beginning g c =
-    let consumed = g.I.Input.consumed in
-    let template = appended (consumed c.args.template.now) (consumed c.read_to_end.new.input) in
-    let random = appended (consumed c.args.random.now) (consumed c.generate.new.random) in
-    let t : template ≡ c.deref.result.now = ap (appended (consumed c.args.template.now)) c.in_ok-template.ensures.whole.0 ∙ appended-append (consumed c.args.template.now) _ ∙ sym c.deref.ensures.value in
-    let made : gen_answer limits template random ≡ Ok c.as_bytes.result.now =
-    ap (λ text. gen_answer limits text random) t ∙ c.in_ok-key.ensures.answer random (seen_possible consumed g.I.Input.is_at_end c.args.random.now c.generate.new.random) ∙ ap Ok (sym c.as_bytes.ensures.value)
-    in
-    on_refusal c.emit.result c.emit.ensures.part (λ part. rw (c.in_ok-template.ensures.whole.1, made) part)
-
-pub returns-clause-content_last : goal.returns-clause-content_last
-returns-clause-content_last g c refusal is =
-    let consumed = g.I.Input.consumed in
-    let template = appended (consumed c.args.template.now) (consumed c.read_to_end.new.input) in
-    let t : template ≡ c.deref.result.now = ap (appended (consumed c.args.template.now)) c.in_ok-template.ensures.whole.0 ∙ appended-append (consumed c.args.template.now) _ ∙ sym c.deref.ensures.value in
-    c.generate.ensures.untouched refusal (making_refused c.deref.result.now refusal (rw t at is))
+pub returns : goal.returns
+returns g c =
+    let key = rw c.deref.ensures.value at c.write_key.ensures in
+    rw c.requires.command (made (settings_view c.args.invocation.now.options.items) c.write_key.result c.in_ok-template.ensures (record { answer = key.answer; drawn = key.drawn; at_most = key.at_most; beginning = key.beginning; held_back = key.held_back; finished = key.finished; unfinished = key.unfinished; content_last = key.content_last; faults = key.faults }))

@@ -1,123 +1,55 @@
-use Rattle.std.proofs.Common.{◌≡◌, ◌∙◌, inl, inr, sym, true, Ok}
-use Rattle.std.proofs.Math.Seq.{drop-length}
+use Rattle.std.proofs.Common.{◌≡◌, Bool, is_some, ◌∙◌, Ok, None, Some, false, refl, sym, true, arith}
 use Rattle.keys.specs.KeySets.{key_set}
 use Rattle.keys.specs.Limits.{limits}
 use Rattle.octets.specs.Devices.{appended}
-use Rattle.octets.specs.Outcomes.{AgreesUnlessExternal}
-use Rattle.octets.specs.Plan.{planned}
-use Rattle.octets.proofs.Lemmas.{kept_up_by_none, on_refusal, seen_possible, unlent}
+use Rattle.octets.specs.Plan.{by_plan}
+use Rattle.octets.proofs.Lemmas.{on_success, plan_from-by_plan}
 use Rattle.tokens.specs.Signing.{sig_plan}
-use Rattle.jose.proofs.Agreement.{refused}
+use Rattle.jose.specs.Doing.{input_members, output_members}
+use Rattle.jose.specs.Invocations.{settings_view}
+use Rattle.jose.proofs.Doing.{not_read}
+use Rattle.jose.proofs.Draws.{by_plan_drawn, by_plan_refused, none_drawn, nothing_drawn}
 use Rattle.jose.proofs.Fixed.{signed_inside}
+use Rattle.jose.proofs.Rows.{sig_is, is_given}
+use Rattle.jose.proofs.Streamed.{StreamsLent, keys_refused, streamed, unlent_call, told_unread}
 use Rattle.jose.proofs.commands.jws.sign.Goals as goal
 
-pub returns-in_err-template-clause-answer : goal.returns-in_err-template-clause-answer
-returns-in_err-template-clause-answer g c whole_template whole_keys payload template_may keys_may payload_may =
-    refused _ _ c.in_err-template.field-0.0 c.from_residual.result c.from_residual.ensures.1 (λ inside. rw (c.in_err-template.ensures.keys whole_keys keys_may inside))
+pub returns-in_err-template : goal.returns-in_err-template
+returns-in_err-template g c =
+    let is = sig_is (settings_view c.args.invocation.now.options.items) _ refl in
+    rw c.requires.command (not_read _ _ is.reader c.in_err-template.ensures c.from_residual.result c.from_residual.ensures.1)
 
-pub returns-then-detach-clause-answer : goal.returns-then-detach-clause-answer
-returns-then-detach-clause-answer g c whole_template whole_keys payload template_may keys_may payload_may =
-    let t : whole_template ≡ c.deref.result.now = c.in_ok-template.ensures.text whole_template template_may ∙ sym c.deref.ensures.value in
-    let k : key_set limits whole_keys true ≡ Ok c.in_ok-template.set = c.in_ok-template.ensures.keys whole_keys keys_may in
-    rw (k, t, c.if-detach.true) (c.jws_sign.ensures.answer payload payload_may)
+pub returns-in_err-set : goal.returns-in_err-set
+returns-in_err-set g c =
+    let is = sig_is (settings_view c.args.invocation.now.options.items) _ refl in
+    rw c.requires.command (keys_refused _ _ is c.in_ok-template.ensures (λ memory. let k = c.in_err-set.ensures memory in (rw (← c.deref.ensures.value, k.0) refl, k.1))
+    c.from_residual-in_err-set.result c.from_residual-in_err-set.ensures.1)
 
-pub returns-then-detach-clause-beginning : goal.returns-then-detach-clause-beginning
-returns-then-detach-clause-beginning g c =
+pub returns-then-has : goal.returns-then-has
+returns-then-has g c =
+    let options = settings_view c.args.invocation.now.options.items in
     let consumed = g.I.Input.consumed in
-    let at_end = g.I.Input.is_at_end in
-    let old = c.args in
-    let new = c.read_with_keys.new in
-    let t : appended (consumed old.template.now) (consumed new.text) ≡ c.deref.result.now = c.in_ok-template.ensures.text _ (seen_possible consumed at_end old.template.now new.text) ∙ sym c.deref.ensures.value in
-    let k : key_set limits (appended (consumed old.keys.now) (consumed new.keys)) true ≡ Ok c.in_ok-template.set = c.in_ok-template.ensures.keys _ (seen_possible consumed at_end old.keys.now new.keys) in
-    rw (c.in_ok-template.ensures.ends.0, c.in_ok-template.ensures.ends.1, k, t, c.if-detach.true) c.jws_sign.ensures.beginning
+    let random = consumed c.read_inputs.new.inputs.random in
+    let e = c.jws_sign.ensures in
+    let plan = sig_plan limits c.has-compact.result true c.in_ok-set.set c.deref-then-has.result.now in
+    let k : key_set limits c.in_ok-template.template.keys.items true ≡ Ok c.in_ok-set.set = rw (← c.deref.ensures.value) c.in_ok-set.ensures in
+    let t : c.in_ok-template.template.text.items ≡ c.deref-then-has.result.now = sym c.deref-then-has.ensures.value in
+    let wanted : true ≡ is_given "O" options = sym c.if-has.true ∙ c.has.ensures in
+    rw c.requires.command (streamed (Some (record { old = c.args.outputs.now.content; new = c.jws_sign.new.detached.0 })) c.jws_sign.result (sig_is options true wanted) c.in_ok-template.ensures
+    (rw (k, t, ← c.has-compact.ensures, ← wanted) refl) (plan_from-by_plan plan) (λ none. refl) (λ none. cc) refl (record { answer = λ octets whole octets_may may. e.answer whole may; drawn = on_success c.jws_sign.result e.finished (λ done. nothing_drawn random ∙ sym (by_plan_drawn plan)); at_most = none_drawn random _; beginning = e.beginning; beginning_beside = e.beginning_beside; finished = e.finished; unfinished = e.unfinished; keeps_up = e.keeps_up; content_last = λ refusal refused. (refl, e.content_last refusal (by_plan_refused plan refusal refused)); random_first = λ short. let none = by_plan_drawn plan in absurd (omega (arith, none, short)); uncut = e.uncut; content_first = e.content_first; memory_first = e.memory_first; unread = e.unread; faults = told_unread _ _ _ c.jws_sign.result refl e.faults }))
 
-pub returns-then-detach-clause-beginning_beside : goal.returns-then-detach-clause-beginning_beside
-returns-then-detach-clause-beginning_beside g c =
+pub returns : goal.returns
+returns g c =
+    let options = settings_view c.args.invocation.now.options.items in
     let consumed = g.I.Input.consumed in
-    let at_end = g.I.Input.is_at_end in
-    let old = c.args in
-    let new = c.read_with_keys.new in
-    let t : appended (consumed old.template.now) (consumed new.text) ≡ c.deref.result.now = c.in_ok-template.ensures.text _ (seen_possible consumed at_end old.template.now new.text) ∙ sym c.deref.ensures.value in
-    let k : key_set limits (appended (consumed old.keys.now) (consumed new.keys)) true ≡ Ok c.in_ok-template.set = c.in_ok-template.ensures.keys _ (seen_possible consumed at_end old.keys.now new.keys) in
-    rw (c.in_ok-template.ensures.ends.0, c.in_ok-template.ensures.ends.1, k, t, c.if-detach.true) c.jws_sign.ensures.beginning_beside
-
-pub returns-then-detach-clause-content_last : goal.returns-then-detach-clause-content_last
-returns-then-detach-clause-content_last g c refusal is =
-    let consumed = g.I.Input.consumed in
-    let at_end = g.I.Input.is_at_end in
-    let old = c.args in
-    let new = c.read_with_keys.new in
-    let t : appended (consumed old.template.now) (consumed new.text) ≡ c.deref.result.now = c.in_ok-template.ensures.text _ (seen_possible consumed at_end old.template.now new.text) ∙ sym c.deref.ensures.value in
-    let k : key_set limits (appended (consumed old.keys.now) (consumed new.keys)) true ≡ Ok c.in_ok-template.set = c.in_ok-template.ensures.keys _ (seen_possible consumed at_end old.keys.now new.keys) in
-    c.jws_sign.ensures.content_last refusal (rw (k, t, c.if-detach.true) at is)
-
-pub returns-clause-answer : goal.returns-clause-answer
-returns-clause-answer g c whole_template whole_keys payload template_may keys_may payload_may =
-    let t : whole_template ≡ c.deref-else-detach.result.now = c.in_ok-template.ensures.text whole_template template_may ∙ sym c.deref-else-detach.ensures.value in
-    let k : key_set limits whole_keys true ≡ Ok c.in_ok-template.set = c.in_ok-template.ensures.keys whole_keys keys_may in
-    let written = g.O.Output.written in
-    let text = appended (written c.args.out.now) (written c.jws_sign-else-detach.new.out) in
-    rw (k, t, c.if-detach.false, drop-length (written c.args.detached.now))
-    (unlent written c.no_output.result _ (λ detach content. AgreesUnlessExternal (planned (sig_plan limits c.args.compact detach c.in_ok-template.set c.deref-else-detach.result.now) payload) (record { text = text; content = content }) c.jws_sign-else-detach.result)
-    c.no_output.ensures (c.jws_sign-else-detach.ensures.answer payload payload_may))
-
-pub returns-clause-beginning : goal.returns-clause-beginning
-returns-clause-beginning g c =
-    let consumed = g.I.Input.consumed in
-    let at_end = g.I.Input.is_at_end in
-    let old = c.args in
-    let new = c.read_with_keys.new in
-    let t : appended (consumed old.template.now) (consumed new.text) ≡ c.deref-else-detach.result.now = c.in_ok-template.ensures.text _ (seen_possible consumed at_end old.template.now new.text) ∙ sym c.deref-else-detach.ensures.value in
-    let k : key_set limits (appended (consumed old.keys.now) (consumed new.keys)) true ≡ Ok c.in_ok-template.set = c.in_ok-template.ensures.keys _ (seen_possible consumed at_end old.keys.now new.keys) in
-    rw (c.in_ok-template.ensures.ends.0, c.in_ok-template.ensures.ends.1, k, t, c.if-detach.false) (rw (c.no_output.ensures) at c.jws_sign-else-detach.ensures.beginning)
-
-pub returns-clause-content_last : goal.returns-clause-content_last
-returns-clause-content_last g c refusal is =
-    let consumed = g.I.Input.consumed in
-    let at_end = g.I.Input.is_at_end in
-    let old = c.args in
-    let new = c.read_with_keys.new in
-    let t : appended (consumed old.template.now) (consumed new.text) ≡ c.deref-else-detach.result.now = c.in_ok-template.ensures.text _ (seen_possible consumed at_end old.template.now new.text) ∙ sym c.deref-else-detach.ensures.value in
-    let k : key_set limits (appended (consumed old.keys.now) (consumed new.keys)) true ≡ Ok c.in_ok-template.set = c.in_ok-template.ensures.keys _ (seen_possible consumed at_end old.keys.now new.keys) in
-    c.jws_sign-else-detach.ensures.content_last refusal (rw (c.no_output.ensures) (rw (k, t, c.if-detach.false) at is))
-
-pub returns-then-detach-clause-content_first : goal.returns-then-detach-clause-content_first
-returns-then-detach-clause-content_first g c =
-    let consumed = g.I.Input.consumed in
-    let at_end = g.I.Input.is_at_end in
-    let old = c.args in
-    let new = c.read_with_keys.new in
-    let template = appended (consumed old.template.now) (consumed new.text) in
-    let keys = appended (consumed old.keys.now) (consumed new.keys) in
-    let t : template ≡ c.deref.result.now = c.in_ok-template.ensures.text template (seen_possible consumed at_end old.template.now new.text) ∙ sym c.deref.ensures.value in
-    let k : key_set limits keys true ≡ Ok c.in_ok-template.set = c.in_ok-template.ensures.keys keys (seen_possible consumed at_end old.keys.now new.keys) in
-    on_refusal c.jws_sign.result c.jws_sign.ensures.content_first
-    (λ first. rw (c.in_ok-template.ensures.ends.0, c.in_ok-template.ensures.ends.1, k, t, c.if-detach.true) (elim first [ inl same ↦ inl same | inr whole ↦ inr (λ is. whole) ]))
-
-pub returns-in_err-template-clause-keeps_up : goal.returns-in_err-template-clause-keeps_up
-returns-in_err-template-clause-keeps_up g c is some = absurd (some (drop-length (g.I.Input.consumed c.args.content.now)))
-
-pub returns-then-detach-clause-keeps_up : goal.returns-then-detach-clause-keeps_up
-returns-then-detach-clause-keeps_up g c is some =
-    let consumed = g.I.Input.consumed in
-    let at_end = g.I.Input.is_at_end in
-    let old = c.args in
-    let new = c.read_with_keys.new in
-    let t : appended (consumed old.template.now) (consumed new.text) ≡ c.deref.result.now = c.in_ok-template.ensures.text _ (seen_possible consumed at_end old.template.now new.text) ∙ sym c.deref.ensures.value in
-    let k : key_set limits (appended (consumed old.keys.now) (consumed new.keys)) true ≡ Ok c.in_ok-template.set = c.in_ok-template.ensures.keys _ (seen_possible consumed at_end old.keys.now new.keys) in
-    rw (k, t, c.if-detach.true) (c.jws_sign.ensures.keeps_up is some)
-
-pub returns-clause-keeps_up : goal.returns-clause-keeps_up
-returns-clause-keeps_up g c is some =
-    let consumed = g.I.Input.consumed in
-    let at_end = g.I.Input.is_at_end in
-    let old = c.args in
-    let new = c.read_with_keys.new in
-    let t : appended (consumed old.template.now) (consumed new.text) ≡ c.deref-else-detach.result.now = c.in_ok-template.ensures.text _ (seen_possible consumed at_end old.template.now new.text) ∙ sym c.deref-else-detach.ensures.value in
-    let k : key_set limits (appended (consumed old.keys.now) (consumed new.keys)) true ≡ Ok c.in_ok-template.set = c.in_ok-template.ensures.keys _ (seen_possible consumed at_end old.keys.now new.keys) in
-    let read = appended (consumed old.content.now) (consumed c.jws_sign-else-detach.new.content) in
-    let text = (c.jws_sign-else-detach.ensures.keeps_up is some).0 in
-    rw (k, t, c.if-detach.false) (
-      rw (c.no_output.ensures) at text,
-      kept_up_by_none _ (signed_inside old.compact c.in_ok-template.set c.deref-else-detach.result.now) read (g.O.Output.written old.detached.now),
-    )
+    let random = consumed c.read_inputs.new.inputs.random in
+    let e = c.jws_sign-else-has.ensures in
+    let plan_by = λ (detach : Bool). sig_plan limits c.has-compact.result detach c.in_ok-set.set c.deref-else-has.result.now in
+    let plan = plan_by (is_some c.default.result) in
+    let input = input_members consumed g.I.Input.is_at_end g.I.Input.failures in
+    let output = output_members g.O.Output.written g.O.Output.is_finished g.O.Output.endings g.O.Output.failures in
+    let k : key_set limits c.in_ok-template.template.keys.items true ≡ Ok c.in_ok-set.set = rw (← c.deref.ensures.value) c.in_ok-set.ensures in
+    let t : c.in_ok-template.template.text.items ≡ c.deref-else-has.result.now = sym c.deref-else-has.ensures.value in
+    let wanted : false ≡ is_given "O" options = sym c.if-has.false ∙ c.has.ensures in
+    rw c.requires.command (streamed None c.jws_sign-else-has.result (sig_is options false wanted) c.in_ok-template.ensures
+    (rw (k, t, ← c.has-compact.ensures, ← wanted) refl) (plan_from-by_plan (plan_by false)) (λ none. refl) (λ none. signed_inside c.has-compact.result c.in_ok-set.set c.deref-else-has.result.now) refl (unlent_call c.default.result _ (λ detach l. StreamsLent input output (by_plan (plan_by detach)) (λ octets. plan_by detach) c.read_inputs.new.inputs.random c.read_inputs.new.inputs.random c.read_inputs.new.inputs.content c.jws_sign-else-has.new.content c.args.outputs.now.text c.jws_sign-else-has.new.out l c.jws_sign-else-has.result) c.default.ensures (record { answer = λ octets whole octets_may may. e.answer whole may; drawn = on_success c.jws_sign-else-has.result e.finished (λ done. nothing_drawn random ∙ sym (by_plan_drawn plan)); at_most = none_drawn random _; beginning = e.beginning; beginning_beside = e.beginning_beside; finished = e.finished; unfinished = e.unfinished; keeps_up = e.keeps_up; content_last = λ refusal refused. (refl, e.content_last refusal (by_plan_refused plan refusal refused)); random_first = λ short. let none = by_plan_drawn plan in absurd (omega (arith, none, short)); uncut = e.uncut; content_first = e.content_first; memory_first = e.memory_first; unread = e.unread; faults = told_unread _ _ _ c.jws_sign-else-has.result refl e.faults })))

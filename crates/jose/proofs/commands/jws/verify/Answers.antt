@@ -1,56 +1,24 @@
-use Rattle.std.proofs.Common.{◌≡◌, ◌∙◌, sym, false, Ok, option_map}
-use Rattle.std.proofs.Math.Seq.{drop-length}
-use Rattle.keys.specs.KeySets.{key_set}
-use Rattle.keys.specs.Limits.{limits}
-use Rattle.objects.specs.Texts.{handed_in}
-use Rattle.objects.specs.Views.{jws_view}
-use Rattle.octets.specs.Devices.{appended}
-use Rattle.octets.specs.Outcomes.{AgreesUnlessExternal}
-use Rattle.octets.proofs.Lemmas.{AppendsPrefixOf-kept, at_refusal, seen_possible, unlent}
-use Rattle.tokens.specs.Verifying.{verifying_by}
-use Rattle.jose.proofs.Agreement.{not_memory, refused}
-use Rattle.jose.proofs.Objects.{beside_ended}
+use Rattle.std.proofs.Common.{◌≡◌, ◌∙◌, true, false, sym}
+use Rattle.jose.specs.Invocations.{settings_view}
+use Rattle.jose.proofs.Doing.{not_read, reader_of, wrote_whole}
+use Rattle.jose.proofs.Rows.{is_given, ver_is}
+use Rattle.jose.proofs.OnePass.{verified_in_one_pass}
 use Rattle.jose.proofs.commands.jws.verify.Goals as goal
 
-pub returns-in_err-text-clause-answer : goal.returns-in_err-text-clause-answer
-returns-in_err-text-clause-answer g c whole_text whole_keys whole_content text_may keys_may content_may =
-    refused _ _ c.in_err-text.field-0.0 c.from_residual.result c.from_residual.ensures.1 (λ inside. rw (c.in_err-text.ensures.keys whole_keys keys_may inside))
+pub returns-then-not-payload_wanted : goal.returns-then-not-payload_wanted
+returns-then-not-payload_wanted g c =
+    let e = c.verify_in_one_pass.ensures in
+    let given : true ≡ is_given "I" (settings_view c.args.invocation.now.options.items) = sym c.if-detached_given.true ∙ c.has-detached_given.ensures in
+    let wanted : false ≡ is_given "O" (settings_view c.args.invocation.now.options.items) = sym c.if-not-payload_wanted.true ∙ c.has-payload_wanted.ensures in
+    let is = ver_is (settings_view c.args.invocation.now.options.items) true _ false given c.has-all.ensures wanted in
+    rw c.requires.command (verified_in_one_pass _ _ _ c.verify_in_one_pass.result is e.answer e.in_order e.reads_first e.faults)
 
-pub returns-in_err-jws-clause-answer : goal.returns-in_err-jws-clause-answer
-returns-in_err-jws-clause-answer g c whole_text whole_keys whole_content text_may keys_may content_may =
-    let t : whole_text ≡ c.deref.result.now = c.in_ok-text.ensures.text whole_text text_may ∙ sym c.deref.ensures.value in
-    let k : key_set limits whole_keys false ≡ Ok c.in_ok-text.set = c.in_ok-text.ensures.keys whole_keys keys_may in
-    refused _ _ c.in_err-jws.field-0.0 c.from_residual-in_err-jws.result c.from_residual-in_err-jws.ensures.1
-    (λ inside. rw (k, t, c.in_ok-text.ensures.content whole_content content_may, (c.in_err-jws.ensures.exact (not_memory _ inside)).0))
+pub returns-in_err-whole : goal.returns-in_err-whole
+returns-in_err-whole g c =
+    let is = ver_is (settings_view c.args.invocation.now.options.items) _ _ _ c.has-detached_given.ensures c.has-all.ensures c.has-payload_wanted.ensures in
+    rw c.requires.command (not_read _ _ (reader_of is) c.in_err-whole.ensures c.from_residual.result c.from_residual.ensures.1)
 
-pub returns-then-payload_wanted-clause-answer : goal.returns-then-payload_wanted-clause-answer
-returns-then-payload_wanted-clause-answer g c whole_text whole_keys whole_content text_may keys_may content_may =
-    let t : whole_text ≡ c.deref.result.now = c.in_ok-text.ensures.text whole_text text_may ∙ sym c.deref.ensures.value in
-    let k : key_set limits whole_keys false ≡ Ok c.in_ok-text.set = c.in_ok-text.ensures.keys whole_keys keys_may in
-    rw (k, t, c.in_ok-text.ensures.content whole_content content_may, c.in_ok-jws.ensures.exact, c.if-payload_wanted.true) c.jws_verify.ensures.answer
-
-pub returns-then-payload_wanted-clause-beginning : goal.returns-then-payload_wanted-clause-beginning
-returns-then-payload_wanted-clause-beginning g c =
-    let consumed = g.I.Input.consumed in
-    let at_end = g.I.Input.is_at_end in
-    let old = c.args in
-    let new = c.read_object.new in
-    let text = appended (consumed old.text.now) (consumed new.text) in
-    let keys = appended (consumed old.keys.now) (consumed new.keys) in
-    let detached_given = handed_in old.detached_given (appended (consumed old.content.now) (consumed new.content)) in
-    let t : text ≡ c.deref.result.now = c.in_ok-text.ensures.text text (seen_possible consumed at_end old.text.now new.text) ∙ sym c.deref.ensures.value in
-    let k : key_set limits keys false ≡ Ok c.in_ok-text.set = c.in_ok-text.ensures.keys keys (seen_possible consumed at_end old.keys.now new.keys) in
-    let d : detached_given ≡ option_map (λ v. v.items) c.in_ok-text.beside = c.in_ok-text.ensures.content _ (seen_possible consumed at_end old.content.now new.content) in
-    rw (c.in_ok-text.ensures.ends.0, c.in_ok-text.ensures.ends.1, beside_ended _ _ c.in_ok-text.ensures.content_ends, k, t, d, c.in_ok-jws.ensures.exact, c.if-payload_wanted.true) c.jws_verify.ensures.beginning
-
-pub returns-clause-answer : goal.returns-clause-answer
-returns-clause-answer g c whole_text whole_keys whole_content text_may keys_may content_may =
-    let t : whole_text ≡ c.deref.result.now = c.in_ok-text.ensures.text whole_text text_may ∙ sym c.deref.ensures.value in
-    let k : key_set limits whole_keys false ≡ Ok c.in_ok-text.set = c.in_ok-text.ensures.keys whole_keys keys_may in
-    let written = g.O.Output.written in
-    rw (k, t, c.in_ok-text.ensures.content whole_content content_may, c.in_ok-jws.ensures.exact, c.if-payload_wanted.false, drop-length (written c.args.out.now))
-    (unlent written c.no_output.result _ (λ payload_wanted payload. AgreesUnlessExternal (verifying_by c.args.all payload_wanted c.in_ok-text.set (jws_view c.in_ok-jws.jws)) payload c.jws_verify-else-payload_wanted.result)
-    c.no_output.ensures c.jws_verify-else-payload_wanted.ensures.answer)
-
-pub returns-clause-beginning : goal.returns-clause-beginning
-returns-clause-beginning g c = at_refusal c.jws_verify-else-payload_wanted.result (AppendsPrefixOf-kept _ _)
+pub returns : goal.returns
+returns g c =
+    let is = ver_is (settings_view c.args.invocation.now.options.items) _ _ _ c.has-detached_given.ensures c.has-all.ensures c.has-payload_wanted.ensures in
+    rw c.requires.command (wrote_whole c.write_verified.result is c.in_ok-whole.ensures c.write_verified.ensures)

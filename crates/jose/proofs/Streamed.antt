@@ -1,0 +1,224 @@
+-- What a command promises that reads its text and its keys whole, and then its content as it writes.
+use Rattle.std.proofs.Common.{◌≡◌, ◌≢◌, ◌⊎◌, ◌<◌, ◌≤◌, ◌++◌, ℕ, List, [], ◌∷◌, length, Bool, true, false, not, ◌&&◌, ◌||◌, IsTrue, Option, Some, None, is_some, MutBor, Result, Ok, Err, OnOk, OnErr, IfErr, IsErrAnd, inl, inr, refl, sym, ap, subst, ◌∙◌}
+use Rattle.std.proofs.Math.Seq.{drop-length}
+use Rattle.octets.specs.declared.refusal.Refusal.{Refusal}
+use Rattle.octets.specs.declared.refusal.Refusal.TheVariants.{Read, Write, Memory}
+use Rattle.octets.specs.Devices.{appended, observed, IsPossibleInput, AppendsPrefixOf, IsFinishedOnce}
+use Rattle.octets.specs.Faults.{Counts, counts, TellsFaults, NoneFailed, SomeFailed, DidNotFail}
+use Rattle.octets.specs.Lent.{Lent, lent, IfLent, wrote_on, counts_of}
+use Rattle.octets.specs.Outcomes.{is_external, is_memory, AgreesUnlessExternal}
+use Rattle.octets.specs.Plan.{OutputTexts, Plan, Draft, drawn_of, plan_from, planned, begun, fixed_by}
+use Rattle.octets.specs.Pumps.{KeepsUp}
+use Rattle.octets.proofs.Lemmas.{AppendsPrefixOf-kept, kept_up_by_none, on_success, on_refusal, seen_possible}
+use Rattle.jose.specs.declared.commands.WholeInputs.{WholeInputs}
+use Rattle.jose.specs.declared.ports.Inputs.{Inputs}
+use Rattle.jose.specs.declared.ports.Outputs.{Outputs}
+use Rattle.jose.specs.Invocations.{InvocationView}
+use Rattle.jose.specs.Ports.{InputTexts, ObservedInputs, ArePossibleInputs, input_counts, output_counts}
+use Rattle.jose.specs.Meanings.{the_content, spec_of}
+use Rattle.jose.specs.Answer.{draft_of, content_of, content_seen, beginning, others_read, has_content_input, has_random_input, has_text_output, has_content_output}
+use Rattle.jose.specs.Doing.{InputMembers, OutputMembers, seen_of, Does, ReadsInputs}
+use Rattle.jose.proofs.Agreement.{both_on_refusal, not_memory}
+use Rattle.jose.proofs.Doing.{IsReader, ends_early, others_are, if_always, if_weaker}
+
+-- ---- an output that may be lent
+
+-- what it was lent as and came back as, or that it was not called
+abbrev pub IsBeside : {E : Type 0} → Option (Lent E) → E → E → Type 0
+IsBeside None before after = after ≡ before
+IsBeside (Some it) before after = it ≡ record { old = before; new = after }
+
+-- the facts of a call to which none was lent
+pub unlent_call : {E : Type 0} (entry : Option (MutBor E)) (exit : Unit {0} ⊎ ((MutBor E × Unit {0}) ⊎ ⊥)) (P : Bool → Option (Lent E) → Type 0) → entry ≡ None → P (is_some entry) (lent entry exit) → P false None
+unlent_call None exit P none p = p
+unlent_call (Some it) exit P none p = cc
+
+-- a fact where it is lent
+where_lent : {E : Type 0} (l : Option (Lent E)) (P : E → E → Type 0) (before after : E) → IsBeside l before after → is_some l ≡ true → IfLent l P → P before after
+where_lent None P before after is some p = cc
+where_lent (Some it) P before after is some p = subst (λ (l : Lent _). P l.old l.new) is p
+
+-- a fact that holds too of one that was not called
+lent_or : {E : Type 0} (l : Option (Lent E)) (P : E → E → Type 0) (before after : E) → IsBeside l before after → (is_some l ≡ false → P before before) → IfLent l P → P before after
+lent_or None P before after is same p = subst (P before) (sym is) (same refl)
+lent_or (Some it) P before after is same p = subst (λ (l : Lent _). P l.old l.new) is p
+
+not_lent : {E : Type 0} (l : Option (Lent E)) (before after : E) → IsBeside l before after → is_some l ≡ false → after ≡ before
+not_lent None before after is none = is
+not_lent (Some it) before after is none = cc
+
+-- which of two facts holds where it is lent
+which_lent : {E : Type 0} (l : Option (Lent E)) (Same : Type 0) (endings : E → ℕ) (P : E → E → Type 0) (before after : E) → IsBeside l before after
+    → IfLent l (λ old new. (Same × (endings new ≡ endings old)) ⊎ P old new) → (Same × (endings after ≡ endings before)) ⊎ (is_some l ≡ true → P before after)
+which_lent None Same endings P before after is p = inr (λ some. cc)
+which_lent (Some it) Same endings P before after is p =
+    elim (subst (λ (l : Lent _). (Same × (endings l.new ≡ endings l.old)) ⊎ P l.old l.new) is p) [ inl same ↦ inl same | inr fact ↦ inr (λ some. fact) ]
+
+wrote_is : {E : Type 0} (written : E → List ℕ) (l : Option (Lent E)) (before after : E) → IsBeside l before after → wrote_on written l ≡ appended (written before) (written after)
+wrote_is written None before after is = sym (ap (λ d. appended (written before) (written d)) is ∙ drop-length (written before))
+wrote_is written (Some it) before after is = ap (λ (l : Lent _). appended (written l.old) (written l.new)) is
+
+none_failed : {E : Type 0} (failures : E → ℕ) (l : Option (Lent E)) (before after : E) → IsBeside l before after → NoneFailed (counts_of failures l) → NoneFailed (counts failures before after ∷ [])
+none_failed failures None before after is none = (ap failures is, tt)
+none_failed failures (Some it) before after is none = subst (λ (l : Lent _). NoneFailed (counts failures l.old l.new ∷ [])) is none
+
+some_failed : {E : Type 0} (failures : E → ℕ) (l : Option (Lent E)) (before after : E) → IsBeside l before after → SomeFailed (counts_of failures l) → SomeFailed (counts failures before after ∷ [])
+some_failed failures None before after is some = absurd some
+some_failed failures (Some it) before after is some = subst (λ (l : Lent _). SomeFailed (counts failures l.old l.new ∷ [])) is some
+
+-- ---- what the call promises that writes
+
+pub record StreamsLent {D E : Type 0} (input : InputMembers D) (output : OutputMembers E) (draft : Result (Draft OutputTexts) Refusal) (plan : List ℕ → Result (Plan OutputTexts) Refusal) (random random' content content' : D) (text text' : E) (l : Option (Lent E)) (r : Result (Unit {0}) Refusal) : Type 0 where
+  pub answer : (octets whole : List ℕ) → IsPossibleInput (observed input.consumed input.is_at_end random random') octets → IsPossibleInput (observed input.consumed input.is_at_end content content') whole
+      → AgreesUnlessExternal (planned (plan octets) whole) (record { text = appended (output.written text) (output.written text'); content = wrote_on output.written l }) r
+  pub drawn : OnOk r (length (appended (input.consumed random) (input.consumed random')) ≡ drawn_of draft)
+  pub at_most : length (appended (input.consumed random) (input.consumed random')) ≤ drawn_of draft
+  pub beginning : OnErr r (AppendsPrefixOf (begun (plan (appended (input.consumed random) (input.consumed random'))) (observed input.consumed input.is_at_end content content')).text (output.written text) (output.written text'))
+  pub beginning_beside : OnErr r (IfLent l (λ old new. AppendsPrefixOf (begun (plan (appended (input.consumed random) (input.consumed random'))) (observed input.consumed input.is_at_end content content')).content (output.written old) (output.written new)))
+  pub finished : OnOk r (IsFinishedOnce output.is_finished output.endings text text' × IfLent l (IsFinishedOnce output.is_finished output.endings))
+  pub unfinished : OnErr r (output.endings text' ≡ output.endings text)
+  pub keeps_up : r ≡ Err Read → appended (input.consumed content) (input.consumed content') ≢ []
+      → KeepsUp (λ front. (fixed_by (plan (appended (input.consumed random) (input.consumed random'))) front).text) (appended (input.consumed content) (input.consumed content')) (output.written text) (output.written text')
+      × IfLent l (λ old new. KeepsUp (λ front. (fixed_by (plan (appended (input.consumed random) (input.consumed random'))) front).content) (appended (input.consumed content) (input.consumed content')) (output.written old) (output.written new))
+  pub content_last : (refusal : Refusal) → draft ≡ Err refusal → (random' ≡ random) × (content' ≡ content)
+  pub random_first : length (appended (input.consumed random) (input.consumed random')) < drawn_of draft → content' ≡ content
+  pub uncut : IfErr r (λ refusal. (DidNotFail refusal (counts output.failures text text') → output.written text' ≡ output.written text → text' ≡ text)
+      × IfLent l (λ old new. refusal ≢ Write → output.written new ≡ output.written old → new ≡ old))
+  pub content_first : OnErr r (IfLent l (λ old new. ((text' ≡ text) × (output.endings new ≡ output.endings old))
+      ⊎ (IsTrue (input.is_at_end content') × IsFinishedOnce output.is_finished output.endings old new
+      × (output.written new ≡ output.written old ++ (begun (plan (appended (input.consumed random) (input.consumed random'))) (observed input.consumed input.is_at_end content content')).content))))
+  pub memory_first : IfErr r (λ refusal. refusal ≡ Memory → content' ≡ content)
+  pub unread : IfErr r (λ refusal. appended (input.consumed content) (input.consumed content') ≡ []
+      → (DidNotFail refusal (counts output.failures text text') → text' ≡ text) × IfLent l (λ old new. refusal ≢ Write → new ≡ old))
+  pub faults : TellsFaults (counts input.failures random random' ∷ counts input.failures content content' ∷ []) (counts output.failures text text' ∷ counts_of output.failures l) r
+
+-- the inputs that were read whole did not fail, and then those of the call are told
+told_after : {E X : Type 0} (failures : E → ℕ) (l : Option (Lent E)) (before after : E) → IsBeside l before after → (text content content' keys random random' texts : Counts) (x : X) (r : Result (Unit {0}) Refusal)
+    → TellsFaults (text ∷ content ∷ keys ∷ random ∷ []) [] (Ok x) → TellsFaults (random' ∷ content' ∷ []) (texts ∷ counts_of failures l) r
+    → TellsFaults (text ∷ content' ∷ keys ∷ random' ∷ []) (texts ∷ counts failures before after ∷ []) r
+told_after failures l before after is text content content' keys random random' texts x (Ok done) i o = record {
+  works = ((i.works.0.0, (o.works.0.1.0, (i.works.0.1.1.0, (o.works.0.0, tt)))), (o.works.1.0, none_failed failures l before after is o.works.1.1));
+  read = λ told. cc;
+  write = λ told. cc;
+  inputs_told = tt;
+  outputs_told = tt;
+}
+told_after failures l before after is text content content' keys random random' texts x (Err e) i o = record {
+  works = tt;
+  read = λ told. elim (o.read told) [ inl random ↦ inr (inr (inr (inl random))) | inr rest ↦ elim rest [ inl content ↦ inr (inl content) | inr nothing ↦ absurd nothing ] ];
+  write = λ told. elim (o.write told) [ inl text ↦ inl text | inr some ↦ inr (some_failed failures l before after is some) ];
+  inputs_told = λ others. let none = o.inputs_told others in (i.works.0.0, (none.1.0, (i.works.0.1.1.0, (none.0, tt))));
+  outputs_told = λ others. let none = o.outputs_told others in (none.0, none_failed failures l before after is none.1);
+}
+
+-- ---- the command
+
+pub record IsStreamer (v : InvocationView) (detach : Bool) : Type 0 where
+  pub reader : IsReader v true false
+  pub streams : (spec_of v.command).holds_back ≡ false
+  pub content : has_content_input v ≡ true
+  pub text_out : has_text_output v ≡ true
+  pub content_out : has_content_output v ≡ detach
+
+pub streamed : {D E : Type 0} {input : InputMembers D} {output : OutputMembers E} {v : InvocationView} {draft : Result (Draft OutputTexts) Refusal} {plan : List ℕ → Result (Plan OutputTexts) Refusal} {old mid : Inputs D} {random content : D} {before after : Outputs E} {read : WholeInputs}
+    (l : Option (Lent E)) (r : Result (Unit {0}) Refusal)
+    → IsStreamer v (is_some l) → ReadsInputs input true false old mid (Ok read) → draft_of v read.text.items read.keys.items ≡ draft → ((octets : List ℕ) → plan_from draft octets ≡ plan octets)
+    → (has_random_input v.command ≡ false → random ≡ mid.random)
+    → (is_some l ≡ false → (front : List ℕ) → (fixed_by (plan (appended (input.consumed mid.random) (input.consumed random))) front).content ≡ [])
+    → IsBeside l before.content after.content
+    → StreamsLent input output draft plan mid.random random mid.content content before.text after.text l r
+    → Does input output v old (record mid { content = content; random = random }) before after r
+streamed {D} {E} {input} {output} {v} {draft} {plan} {old} {mid} {random} {content} {before} {after} {read = whole} l r is read draft_is plans no_random inside beside call =
+    let new : Inputs D = record mid { content = content; random = random } in
+    let seen = seen_of input old new in
+    let s : StreamsLent input output draft plan old.random random old.content content before.text after.text l r
+    = subst (λ d. StreamsLent input output draft plan d random old.content content before.text after.text l r) read.no_random
+    (subst (λ d. StreamsLent input output draft plan mid.random random d content before.text after.text l r) (read.no_content refl) call) in
+    let inside_it : is_some l ≡ false → (front : List ℕ) → (fixed_by (plan (appended (input.consumed old.random) (input.consumed random))) front).content ≡ []
+    = subst (λ d. is_some l ≡ false → (front : List ℕ) → (fixed_by (plan (appended (input.consumed d) (input.consumed random))) front).content ≡ []) read.no_random inside in
+    let settled : (text keys : List ℕ) → IsPossibleInput seen.text text → IsPossibleInput seen.keys keys → draft_of v text keys ≡ draft
+    = λ text keys text_may keys_may. rw (read.text text text_may, read.keys keys keys_may) draft_is in
+    let seen_settled : draft_of v seen.text.octets seen.keys.octets ≡ draft
+    = settled _ _ (seen_possible input.consumed input.is_at_end old.text new.text) (seen_possible input.consumed input.is_at_end old.keys new.keys) in
+    let others : others_read v seen ≡ true = others_are is.reader seen ∙ rw (read.keys_end refl, read.text_ends) refl in
+    let which : (spec_of v.command).content v.options ≡ the_content = is.reader.streamed is.streams in
+    let stands : beginning v seen ≡ begun (plan seen.random.octets) seen.content = rw (others, seen_settled, which, plans seen.random.octets) refl in
+    record {
+      answer = λ inputs may. rw (settled inputs.text inputs.keys may.text may.keys, which, plans inputs.random)
+          (rw (wrote_is output.written l before.content after.content beside) at (s.answer inputs.random inputs.content may.random may.content));
+      drawn = on_success r s.drawn (λ drawn inputs may. rw (settled inputs.text inputs.keys may.text may.keys) drawn);
+      at_most = λ inputs may. rw (settled inputs.text inputs.keys may.text may.keys) s.at_most;
+      beginning = both_on_refusal r s.beginning s.beginning_beside (λ text part. rw stands (record {
+        text = text;
+        content = lent_or l (λ old new. AppendsPrefixOf (begun (plan seen.random.octets) seen.content).content (output.written old) (output.written new)) before.content after.content beside (λ none. AppendsPrefixOf-kept _ _) part;
+      }));
+      held_back = if_always r _ (λ e holds. let streams = is.streams in cc);
+      uncut = if_weaker r _ _ s.uncut (λ e uncut. record {
+        text = uncut.0;
+        content = lent_or l (λ old new. e ≢ Write → output.written new ≡ output.written old → new ≡ old) before.content after.content beside (λ none others same. refl) uncut.1;
+      });
+      unread = if_weaker r _ _ s.unread (λ e unread streams nothing. let u = unread (rw which at nothing) in record {
+        text = u.0;
+        content = lent_or l (λ old new. e ≢ Write → new ≡ old) before.content after.content beside (λ none others. refl) u.1;
+      });
+      keeps_up = λ told streams some. let u = s.keeps_up told (rw which at some) in rw (seen_settled, which, plans seen.random.octets) (
+        u.0,
+        lent_or l (λ old new. KeepsUp (λ front. (fixed_by (plan seen.random.octets) front).content) seen.content.octets (output.written old) (output.written new)) before.content after.content beside
+            (λ none. kept_up_by_none _ (inside_it none) seen.content.octets (output.written before.content)) u.1,
+      );
+      content_first = on_refusal r s.content_first (λ first. elim (
+          which_lent l (after.text ≡ before.text) output.endings (λ old new. IsTrue seen.content.ended × IsFinishedOnce output.is_finished output.endings old new
+          × (output.written new ≡ output.written old ++ (begun (plan seen.random.octets) seen.content).content)) before.content after.content beside first
+          ) [ inl same ↦ inl same | inr wrote ↦ inr (λ has. rw (stands, which) (wrote (sym is.content_out ∙ has))) ]);
+      in_order = record {
+        keys = λ unread. read.keys_in_order (rw is.reader.text at unread);
+        random = λ unread. cc;
+        content = λ unread. cc;
+      };
+      reads_first = if_always r _ (λ e inside usage. rw (others, is.streams) refl);
+      random_first = λ short. s.random_first (rw seen_settled at short);
+      memory_first = if_weaker r _ _ s.memory_first (λ e first memory. (is.reader.memory, λ streams. first memory));
+      content_last = λ refusal refused. s.content_last refusal (sym seen_settled ∙ refused);
+      finished = on_success r s.finished (λ done. (λ has. done.0, λ has. where_lent l (IsFinishedOnce output.is_finished output.endings) before.content after.content beside (sym is.content_out ∙ has) done.1));
+      unfinished = on_refusal r s.unfinished (λ same. (same, λ none. let some = is.text_out in cc));
+      untouched = record {
+        text = λ none. let some = is.reader.text in cc;
+        content = λ none. let some = is.content in cc;
+        keys = λ none. let some = is.reader.keys in cc;
+        random = λ none. no_random none ∙ read.no_random;
+        text_out = λ none. let some = is.text_out in cc;
+        content_out = λ none. not_lent l before.content after.content beside (sym is.content_out ∙ none);
+      };
+      faults = told_after output.failures l before.content after.content beside _ _ _ _ _ _ _ whole r read.faults s.faults;
+    }
+
+-- ---- where the keys are refused
+
+told_of_keys : {X Y : Type 0} (inputs : List Counts) (x : X) (e : Refusal) → e ≢ Read → e ≢ Write → TellsFaults inputs [] (Ok x) → TellsFaults {X = Y} inputs [] (Err e)
+told_of_keys inputs x e not_read not_write told = record {
+  works = tt;
+  read = λ is. absurd (not_read (cc is));
+  write = λ is. absurd (not_write (cc is));
+  inputs_told = λ others. told.works.0;
+  outputs_told = λ others. tt;
+}
+
+pub keys_refused : {D E : Type 0} {input : InputMembers D} {v : InvocationView} {detach : Bool} {old new : Inputs D} {read : WholeInputs} {e : Refusal} (output : OutputMembers E) (outs : Outputs E)
+    → IsStreamer v detach → ReadsInputs input true false old new (Ok read)
+    → (is_memory e ≡ false → (draft_of v read.text.items read.keys.items ≡ Err e) × (is_external e ≡ false))
+    → (r : Result (Unit {0}) Refusal) → IsErrAnd r (λ refusal. refusal ≡ e) → Does input output v old new outs outs r
+keys_refused {D} {E} {input} {v} {detach} {old} {new} {read = whole} {e} output outs is read refuses =
+    let not_told : (device : Refusal) → is_memory device ≡ false → is_external device ≡ true → e ≢ device
+    = λ device memory outside is. let inside = (refuses (ap is_memory is ∙ memory)).1 in let out = ap is_external is ∙ outside in cc in
+    ends_early output outs is.reader read (told_of_keys {Y = WholeInputs} _ whole e (not_told Read refl refl) (not_told Write refl refl) read.faults) (λ inside. (
+      others_are is.reader (seen_of input old new) ∙ rw (read.keys_end refl, read.text_ends) refl,
+      is.streams,
+      λ text keys text_may keys_may. rw (read.text text text_may, read.keys keys keys_may) (refuses (not_memory e inside)).0,
+    ))
+
+-- ---- a call without a random input
+
+-- a random input that is not read
+pub told_unread : (random : Counts) (inputs outputs : List Counts) (r : Result (Unit {0}) Refusal) → random.new ≡ random.old → TellsFaults inputs outputs r → TellsFaults (random ∷ inputs) outputs r
+told_unread random inputs outputs (Ok done) same told = record { works = ((same, told.works.0), told.works.1); read = λ is. cc; write = λ is. cc; inputs_told = tt; outputs_told = tt }
+told_unread random inputs outputs (Err e) same told = record { works = tt; read = λ is. inr (told.read is); write = told.write; inputs_told = λ others. (same, told.inputs_told others); outputs_told = told.outputs_told }
