@@ -1,4 +1,4 @@
-/* Replaces the C library's open, read and write in a program that is run with it preloaded, and lets some of these calls fail, as on a device
+/* Replaces the C library's open, read, write and fsync in a program that is run with it preloaded, and lets some of these calls fail, as on a device
    that works again later. It counts the calls from 1: all of them, or only those that OF names, as `read 0`. A file has the name that it was
    opened with, and a standard stream its number. The call that AT names fails, and TIMES says how many fail from there on, if not one. FAIL
    names the error; with `none` the call returns 0. Each call that fails is written as a line to the descriptor FAILED. PIECE is the most
@@ -18,6 +18,7 @@ static const struct {
 } ERRORS[] = {
     {"none", 0},        {"EIO", EIO},       {"EINTR", EINTR},   {"EAGAIN", EAGAIN}, {"ECONNRESET", ECONNRESET}, {"ETIMEDOUT", ETIMEDOUT},
     {"EPIPE", EPIPE},   {"ENOSPC", ENOSPC}, {"EDQUOT", EDQUOT}, {"EFBIG", EFBIG},   {"EMFILE", EMFILE},         {"ENOMEM", ENOMEM},
+    {"EINVAL", EINVAL}, {"ENOSYS", ENOSYS}, {"ENOTSUP", ENOTSUP},
 };
 
 enum { FILES = 64, LONGEST = 100 };
@@ -79,4 +80,10 @@ ssize_t write(int file, const void *octets, size_t length) {
     if (fails("write", name_of(file))) return errno ? -1 : 0;
     ssize_t (*write_now)(int, const void *, size_t) = dlsym(RTLD_NEXT, "write");
     return write_now(file, octets, piece(length));
+}
+
+int fsync(int file) {
+    if (fails("fsync", name_of(file))) return errno ? -1 : 0;
+    int (*fsync_now)(int) = dlsym(RTLD_NEXT, "fsync");
+    return fsync_now(file);
 }

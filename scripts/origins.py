@@ -102,9 +102,13 @@ PLACES = [
      "what the stream or the file answers; a write of nothing, and an output that no option names"),
     ("jose/src/files.rt", "Sink::flush", "match self { Sink::Nowhere => Ok(()), Sink::Standard(stdout) => stdout.flush(), "
      "Sink::File(output) => { if output.opened.is_none() { output.opened = Some(output.create()?); } "
-     "match &mut output.opened { Some(file) => file.flush(), None => unreachable!(), } } }", "what the stream or the file answers; an output that no option names"),
-    ("jose/src/files.rt", "OutputFile::create", "if are_one_file(self.files, self.path, self.apart.content) || are_one_file(self.files, self.path, self.apart.beside) { "
-     "return Err(io::Error::from(io::ErrorKind::ResourceBusy)); }", "an output that is the file of the content or of the other output"),
+     "match &mut output.opened { Some(file) => { file.flush()?; match output.purpose { Purpose::Key => synchronize(output.files, file), "
+     "Purpose::Public | Purpose::Secret => Ok(()), } } None => unreachable!(), } } }",
+     "what the stream or the file answers, and for a made key the system; an output that no option names"),
+    ("jose/src/files.rt", "OutputFile::create", "if is_one_of(self.files, self.path, &others) { "
+     "return Err(io::Error::from(io::ErrorKind::ResourceBusy)); }", "an output that is the file of the content, of the keys or of the other output"),
+    ("jose/src/files.rt", "synchronize", "match files.sync(file) { Err(e) if e.kind() == io::ErrorKind::InvalidInput || e.kind() == io::ErrorKind::Unsupported => { Ok(()) } "
+     "result => result, }", "what the system answers; that a pipe or a terminal cannot be synchronized is no failure"),
     ("jose/src/system.rt", "HostRuntime::id", "match metadata(self, path) { Ok(found) => file_id(&found), Err(_) => None,", "a file that can't be looked at is not the same"),
     ("jose/src/files.rt", "inputs", "let text = invocation.value('i').or(invocation.value('s'));", "options of the command"),
     ("jose/src/files.rt", "inputs", "let random = invocation.value('R').or(Some(SYSTEM_RANDOM));", "options of the command"),

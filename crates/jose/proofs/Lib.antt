@@ -1,6 +1,7 @@
 pub mod Finding
 pub mod Fixed
 pub mod Lines
+pub mod Mapped
 pub mod Parses
 pub mod Settings
 pub mod Table

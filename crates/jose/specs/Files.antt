@@ -1,5 +1,6 @@
 -- Sources and sinks as clauses see them, which of them the value of an option means, and the devices of a run.
-use Rattle.std.specs.Prelude.{◌≡◌, ℕ, ◌&&◌, ◌==◌, Bool, true, false, List, [], drop, Option, None, Some, IsSome, IsNone, codes, slice_index, option_map, if◌then◌else◌, ⊤}
+use Rattle.std.specs.Prelude.{◌≡◌, ℕ, ◌&&◌, ◌==◌, Bool, true, false, List, [], ◌∷◌, map, drop, Option, None, Some, IsSome, IsNone, Result, codes, slice_index, option_map, if◌then◌else◌, ⊤}
+use Rattle.std.specs.declared.io.Error.{Error}
 use Rattle.std.specs.Option.{option_and_then, option_or}
 use Rattle.std.specs.Iterator.{at_most}
 use Rattle.std.specs.Str.{byte, bytes_eq}
@@ -9,8 +10,10 @@ use Rattle.octets.specs.declared.streams.WriterOutput.{WriterOutput}
 use Rattle.octets.specs.Devices.{most_octets}
 use Rattle.octets.specs.Views.{reader_of, consumed_of, is_at_end_of, remaining_of, read_failures_of, writer_of, written_of, is_finished_of, endings_of, write_failures_of}
 use Rattle.jose.specs.declared.words.table.Command.{Command}
-use Rattle.jose.specs.declared.words.table.Command.TheVariants.{JwkGen, B64Enc, B64Dec, JwsSig, JweEnc, JweDec}
-use Rattle.jose.specs.declared.files.Apart.{Apart as CodeApart}
+use Rattle.jose.specs.declared.words.table.Command.TheVariants.{JwkGen, JwkThp, B64Enc, B64Dec, JwsSig, JweEnc, JweDec}
+use Rattle.jose.specs.declared.files.Apart.{Apart}
+use Rattle.jose.specs.declared.files.Purpose.{Purpose}
+use Rattle.jose.specs.declared.files.Purpose.TheVariants.{Public, Secret, Key}
 use Rattle.jose.specs.declared.files.Source.{Source}
 use Rattle.jose.specs.declared.files.Source.TheVariants as source
 use Rattle.jose.specs.declared.files.Sink.{Sink}
@@ -18,6 +21,7 @@ use Rattle.jose.specs.declared.files.Sink.TheVariants as sink
 use Rattle.jose.specs.declared.ports.Inputs.{Inputs}
 use Rattle.jose.specs.declared.ports.Outputs.{Outputs}
 use Rattle.jose.specs.Invocations.{Settings, InvocationView, value_at}
+use Rattle.jose.specs.System.{name_of, MayBeSynchronized}
 
 -- ---- sources
 
@@ -62,6 +66,19 @@ origin_named may_be_json (Some text) =
     else if may_be_json && (slice_index text 0 == byte "{") then words text
     else input_file text
 
+-- the files of the standard streams
+abbrev pub standard_input_file : Text
+standard_input_file = codes "/dev/stdin"
+
+abbrev pub standard_output_file : Text
+standard_output_file = codes "/dev/stdout"
+
+-- the file of an input; octets of the words have none
+abbrev pub file_of : Origin → Option Text
+file_of (words octets) = None
+file_of standard_input = Some standard_input_file
+file_of (input_file name) = Some name
+
 -- the text of `b64 dec` is never JSON
 abbrev pub text_may_be_json : Command → Bool
 text_may_be_json B64Dec = false
@@ -73,24 +90,19 @@ system_random = codes "/dev/urandom"
 
 -- ---- sinks
 
--- what an output file must not be: the file of the content that is read while it is written, and that of the output which is written before it
-pub record Apart : Type 0 where
-  pub content : Option Text
-  pub beside : Option Text
-
--- nowhere, standard output, or the file of this name, which is its owner's alone where it is made for a secret and is none of the others
+-- nowhere, standard output, or the file of this name, which is made for this purpose and is none of the others
 pub data Destination : Type 0 where
   nowhere : Destination
   standard_output : Destination
-  output_file : Text → Bool → Apart → Destination
+  output_file : Text → Purpose → List (Option Text) → Destination
 
-abbrev pub apart_view : CodeApart → Apart
-apart_view apart = record { content = option_map (λ text. text.now) apart.content; beside = option_map (λ text. text.now) apart.beside }
+abbrev pub others_of : Apart → List (Option Text)
+others_of apart = map name_of (apart.content ∷ apart.keys ∷ apart.beside ∷ [])
 
 abbrev pub destination_of : {R F D : Type 0} → Sink R F D → Destination
 destination_of sink.Nowhere = nowhere
 destination_of (sink.Standard stdout) = standard_output
-destination_of (sink.File file) = output_file file.path.now file.is_secret (apart_view file.apart)
+destination_of (sink.File file) = output_file file.path.now file.purpose (others_of file.apart)
 
 -- what the sink holds, where it is known: an open file whose octets are known
 abbrev pub sink_contents : {R F D : Type 0} → (F → Option (List ℕ)) → Sink R F D → Option (List ℕ)
@@ -107,30 +119,37 @@ abbrev pub IsUnopenedSink : {R F D : Type 0} → Sink R F D → Type 0
 IsUnopenedSink (sink.File file) = IsNone file.opened
 IsUnopenedSink other = ⊤
 
+-- what is open for this purpose was synchronized, if it is a key
+abbrev pub IsKeptFor : {F : Type 0} → Purpose → (F → Result (Unit {0}) Error → Type 0) → Option F → Type 0
+IsKeptFor Key gives None = ⊥
+IsKeptFor Key gives (Some file) = MayBeSynchronized (gives file)
+IsKeptFor other gives opened = ⊤
+
+-- The file of a made key was synchronized.
+abbrev pub IsKept : {R F D : Type 0} → (R → F → Result (Unit {0}) Error → Type 0) → Sink R F D → Type 0
+IsKept gives (sink.File file) = IsKeptFor file.purpose (gives file.files.now) file.opened
+IsKept gives other = ⊤
+
+-- the mode of a file that is made: a secret is read and written by its owner alone
+abbrev pub mode_for : Purpose → ℕ
+mode_for Public = 0o666
+mode_for other = 0o600
+
 -- no value means nowhere, `-` standard output, and each other text the file of this name
-abbrev pub destination_named : Bool → Apart → Option Text → Destination
-destination_named is_secret apart None = nowhere
-destination_named is_secret apart (Some text) = if bytes_eq text (codes "-") then standard_output else output_file text is_secret apart
+abbrev pub destination_named : Purpose → List (Option Text) → Option Text → Destination
+destination_named purpose others None = nowhere
+destination_named purpose others (Some text) = if bytes_eq text (codes "-") then standard_output else output_file text purpose others
 
 -- a made key, and what is decrypted
-abbrev pub text_is_secret : Command → Bool
-text_is_secret JwkGen = true
-text_is_secret other = false
+abbrev pub text_purpose : Command → Purpose
+text_purpose JwkGen = Key
+text_purpose other = Public
 
-abbrev pub content_is_secret : Command → Bool
-content_is_secret JweDec = true
-content_is_secret other = false
+abbrev pub content_purpose : Command → Purpose
+content_purpose JweDec = Secret
+content_purpose other = Public
 
--- the files of the standard streams
-abbrev pub standard_input_file : Text
-standard_input_file = codes "/dev/stdin"
-
-abbrev pub standard_output_file : Text
-standard_output_file = codes "/dev/stdout"
-
--- the file that an option's value names: of `-` that of the standard stream
-abbrev pub file_named : Text → Option Text → Option Text
-file_named standard = option_map (λ text. if bytes_eq text (codes "-") then standard else text)
+-- ---- the files that an output must not be
 
 -- the content that a command reads while it writes: of the four that do, the octets, the text, the payload or the plaintext
 abbrev pub streamed_value : Command → Settings → Option Text
@@ -141,14 +160,26 @@ streamed_value JweEnc options = value_at (byte "I") options
 streamed_value other options = None
 
 abbrev pub streamed_file : InvocationView → Option Text
-streamed_file invocation = file_named standard_input_file (streamed_value invocation.command invocation.options)
+streamed_file invocation = file_of (origin_named false (streamed_value invocation.command invocation.options))
 
--- the text is not written to its content's file, nor to that of the content beside it, and the content not to its own
-abbrev pub text_apart : InvocationView → Apart
-text_apart invocation = record { content = streamed_file invocation; beside = file_named standard_output_file (value_at (byte "O") invocation.options) }
+-- the keys that a command reads: the text of `jwk thp`, and of the others those of `-k`
+abbrev pub keys_value : Command → Settings → Option Text
+keys_value JwkThp options = value_at (byte "i") options
+keys_value other options = value_at (byte "k") options
 
-abbrev pub content_apart : InvocationView → Apart
-content_apart invocation = record { content = streamed_file invocation; beside = None }
+abbrev pub keys_file : InvocationView → Option Text
+keys_file invocation = file_of (origin_named true (keys_value invocation.command invocation.options))
+
+-- the file of an output that an option's value names
+abbrev pub file_written : Option Text → Option Text
+file_written = option_map (λ text. if bytes_eq text (codes "-") then standard_output_file else text)
+
+-- Neither output is the file of the content that is read meanwhile, or that of the keys. The text is not that of the content beside it either.
+abbrev pub text_others : InvocationView → List (Option Text)
+text_others invocation = streamed_file invocation ∷ keys_file invocation ∷ file_written (value_at (byte "O") invocation.options) ∷ []
+
+abbrev pub content_others : InvocationView → List (Option Text)
+content_others invocation = streamed_file invocation ∷ keys_file invocation ∷ None ∷ []
 
 -- ---- the devices of a run
 
@@ -177,7 +208,7 @@ pub record AreNewInputs {R F D : Type 0} (invocation : InvocationView) (inputs :
   pub keys : IsNewInput (origin_named true (value_at (byte "k") invocation.options)) inputs.keys
   pub random : IsNewInput (origin_named false (option_or (value_at (byte "R") invocation.options) (Some system_random))) inputs.random
 
--- each output is the one that its option names, apart from the content that is read while it is written, and the text from the content's output too
+-- each output is the one that its option names, for its purpose, and apart from the files that it must not be
 pub record AreNewOutputs {R F D : Type 0} (invocation : InvocationView) (outputs : Outputs (WriterOutput (Sink R F D))) : Type 0 where
-  pub text : IsNewOutput (destination_named (text_is_secret invocation.command) (text_apart invocation) (value_at (byte "o") invocation.options)) outputs.text
-  pub content : IsNewOutput (destination_named (content_is_secret invocation.command) (content_apart invocation) (value_at (byte "O") invocation.options)) outputs.content
+  pub text : IsNewOutput (destination_named (text_purpose invocation.command) (text_others invocation) (value_at (byte "o") invocation.options)) outputs.text
+  pub content : IsNewOutput (destination_named (content_purpose invocation.command) (content_others invocation) (value_at (byte "O") invocation.options)) outputs.content

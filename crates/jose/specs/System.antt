@@ -1,9 +1,11 @@
 -- What the operating system is asked. Of each answer it is known only that the system may give it: `gives` is the system's own relation.
-use Rattle.std.specs.Prelude.{◌≡◌, ℕ, ℤ, pos, ◌≤ℤ◌, ◌⊎◌, Bool, true, false, ◌&&◌, ◌==◌, if◌then◌else◌, List, [], ◌∷◌, Option, None, Some, IfSome, Result, Ok, Err}
+use Rattle.std.specs.Prelude.{◌≡◌, ℕ, ℤ, pos, ◌≤ℤ◌, ◌⊎◌, ⊤, Bool, true, false, ◌&&◌, ◌==◌, List, [], ◌∷◌, Option, None, Some, option_map, IfSome, Result, Ok, Err}
+use Rattle.std.specs.Borrow.{Bor}
 use Rattle.std.specs.declared.io.Error.{Error}
+use Rattle.std.specs.declared.io.ErrorKind.TheVariants.{InvalidInput, Unsupported}
+use Rattle.std.specs.IoError.{error_kind}
 use Rattle.clap.specs.Words.{Text}
 use Rattle.jose.specs.declared.system.FileId.{FileId}
-use Rattle.jose.specs.Files.{Apart}
 
 -- ---- names of one file
 
@@ -18,17 +20,29 @@ MayBeOne gives path None is_one = is_one ≡ false
 MayBeOne gives path (Some other) is_one =
     (file : Option FileId) × (found : Option FileId) × (gives path file × gives other found × (is_one ≡ are_one file found))
 
--- the file of this name is neither of the others
-abbrev pub IsApart : (Text → Option FileId → Type 0) → Text → Apart → Type 0
-IsApart gives path apart = MayBeOne gives path apart.content false × MayBeOne gives path apart.beside false
+-- the file of this name is none of the others
+abbrev pub IsApart : (Text → Option FileId → Type 0) → Text → List (Option Text) → Type 0
+IsApart gives path [] = ⊤
+IsApart gives path (other ∷ others) = MayBeOne gives path other false × IsApart gives path others
 
 -- it is one of them
-abbrev pub IsNotApart : (Text → Option FileId → Type 0) → Text → Apart → Type 0
-IsNotApart gives path apart = MayBeOne gives path apart.content true ⊎ MayBeOne gives path apart.beside true
+abbrev pub IsNotApart : (Text → Option FileId → Type 0) → Text → List (Option Text) → Type 0
+IsNotApart gives path [] = ⊥
+IsNotApart gives path (other ∷ others) = MayBeOne gives path other true ⊎ IsNotApart gives path others
 
--- the mode of a file that is made: read and written by its owner alone if it is for a secret
-abbrev pub mode_of : Bool → ℕ
-mode_of is_secret = if is_secret then 0o600 else 0o666
+-- the name that the code has of another file
+abbrev pub name_of : Option (Bor Text) → Option Text
+name_of = option_map (λ text. text.now)
+
+-- ---- files on their disk
+
+-- by such an error the system says that this is nothing to write to a disk, as a pipe or a terminal
+abbrev pub CannotBeSynchronized : Error → Type 0
+CannotBeSynchronized e = (error_kind e ≡ InvalidInput) ⊎ (error_kind e ≡ Unsupported)
+
+-- The system was asked to write the file to its disk. It did, or it cannot.
+abbrev pub MayBeSynchronized : (Result (Unit {0}) Error → Type 0) → Type 0
+MayBeSynchronized gives = gives (Ok tt) ⊎ ((e : Error) × (gives (Err e) × CannotBeSynchronized e))
 
 -- ---- closed standard streams
 

@@ -1,15 +1,15 @@
 //! Files, the standard streams and the words themselves, as readers and writers. A file is opened at
 //! its first read; an output file is opened, and cut to nothing, just before its first octet is
 //! written, or when it is finished with none; one that is made for a secret is its owner's alone. An
-//! output is not opened where it is the file of the content that is read meanwhile, or of the other output.
-ghost use Rattle.std.specs.Prelude.{◌≡◌, ℕ, ◌<◌, ◌++◌, ◌⊎◌, List, length, take, drop, min, option_map, OnOk, IfOk, IfErr, Ok, Err};
+//! output is not opened if it is the file of the content that is read meanwhile, of the keys, or of the other output.
+ghost use Rattle.std.specs.Prelude.{◌≡◌, ℕ, ◌<◌, ◌++◌, ◌⊎◌, false, true, List, length, map, take, drop, min, option_map, OnOk, IfOk, IfErr, Ok, Err};
 ghost use Rattle.std.specs.Result.{result_unwrap_or};
 ghost use Rattle.std.specs.Io.{ReadsAtMost, WritesAtMost};
 ghost use Rattle.std.specs.Io.KnownBytes.{Keeps, ReadConsumes, WriteAppends};
 ghost use Rattle.jose.specs.Invocations.{invocation_view};
-ghost use Rattle.jose.specs.Files.{words, origin_of, origin_named, after_read, source_remaining, IsOpenSource, IsUnopenedSource, AreNewInputs};
-ghost use Rattle.jose.specs.System.{MayBeOne, IsApart, IsNotApart, mode_of};
-ghost use Rattle.jose.specs.Files.{nowhere, destination_of, destination_named, sink_contents, IsOpenSink, IsUnopenedSink, apart_view, file_named, streamed_file, AreNewOutputs};
+ghost use Rattle.jose.specs.Files.{words, origin_of, origin_named, after_read, source_remaining, IsOpenSource, IsUnopenedSource, file_of, AreNewInputs};
+ghost use Rattle.jose.specs.System.{MayBeOne, IsApart, IsNotApart, MayBeSynchronized, CannotBeSynchronized, name_of};
+ghost use Rattle.jose.specs.Files.{nowhere, destination_of, destination_named, sink_contents, IsOpenSink, IsUnopenedSink, IsKept, mode_for, others_of, file_written, streamed_file, keys_file, AreNewOutputs};
 
 use crate::ports::{Inputs, Outputs};
 use crate::system::System;
@@ -102,7 +102,7 @@ pub(crate) enum Sink<'a, R: Files> {
 pub(crate) struct OutputFile<'a, R: Files> {
     files: &'a R,
     path: &'a str,
-    is_secret: bool,
+    purpose: Purpose,
     apart: Apart<'a>,
     opened: Option<R::File>,
 }
@@ -112,8 +112,21 @@ pub(crate) struct OutputFile<'a, R: Files> {
 pub(crate) struct Apart<'a> {
     /// The file of the content that is read while the output is written.
     content: Option<&'a str>,
+    /// That of the keys.
+    keys: Option<&'a str>,
     /// That of the output which is written before it.
     beside: Option<&'a str>,
+}
+
+/// What an output file is made for.
+#[derive(Clone, Copy)]
+pub(crate) enum Purpose {
+    /// What others may read.
+    Public,
+    /// What was decrypted, for its owner alone.
+    Secret,
+    /// A made key, for its owner alone. At the end it is on the disk.
+    Key,
 }
 
 impl<'a, R: System> Write for Sink<'a, R> {
@@ -152,6 +165,7 @@ impl<'a, R: System> Write for Sink<'a, R> {
         ensures nowhere { destination_of self.old ≡ nowhere → result ≡ Ok tt }
         ensures sink { destination_of self.new ≡ destination_of self.old }
         ensures opened { OnOk result (IsOpenSink self.new) }
+        ensures kept { OnOk result (IsKept R.sync_gives self.new) }
 
         // What the trait says.
         ensures bytes { Keeps (sink_contents R.File.contents self.old)
@@ -165,7 +179,13 @@ impl<'a, R: System> Write for Sink<'a, R> {
                     output.opened = Some(output.create()?);
                 }
                 match &mut output.opened {
-                    Some(file) => file.flush(),
+                    Some(file) => {
+                        file.flush()?;
+                        match output.purpose {
+                            Purpose::Key => synchronize(output.files, file),
+                            Purpose::Public | Purpose::Secret => Ok(()),
+                        }
+                    }
                     None => unreachable!(),
                 }
             }
@@ -177,26 +197,54 @@ impl<'a, R: System> OutputFile<'a, R> {
     /// Opens the file for writing, and cuts it to nothing. Where it is not there it is made, for its owner alone where it is
     /// for a secret, and else with the mode that the process's mask leaves. One that it must not be is left as it is.
     fn create(&self) -> io::Result<R::File>
-        ensures apart { OnOk result (IsApart (R.id_gives self.now.files.now) self.now.path.now (apart_view self.now.apart)) }
+        ensures apart { OnOk result (IsApart (R.id_gives self.now.files.now) self.now.path.now (others_of self.now.apart)) }
         ensures created { IfOk result (λ file.
-            R.create_gives self.now.files.now self.now.path.now (mode_of self.now.is_secret) (Ok file)) }
+            R.create_gives self.now.files.now self.now.path.now (mode_for self.now.purpose) (Ok file)) }
         ensures refused { IfErr result (λ e.
-            IsNotApart (R.id_gives self.now.files.now) self.now.path.now (apart_view self.now.apart)
-            ⊎ R.create_gives self.now.files.now self.now.path.now (mode_of self.now.is_secret) (Err e)) }
+            IsNotApart (R.id_gives self.now.files.now) self.now.path.now (others_of self.now.apart)
+            ⊎ R.create_gives self.now.files.now self.now.path.now (mode_for self.now.purpose) (Err e)) }
     {
-        if are_one_file(self.files, self.path, self.apart.content)
-            || are_one_file(self.files, self.path, self.apart.beside)
-        {
+        let others = [self.apart.content, self.apart.keys, self.apart.beside];
+        if is_one_of(self.files, self.path, &others) {
             return Err(io::Error::from(io::ErrorKind::ResourceBusy));
         }
-        let mode = if self.is_secret { SECRET_MODE } else { MODE };
+        let mode = match self.purpose {
+            Purpose::Public => MODE,
+            Purpose::Secret | Purpose::Key => SECRET_MODE,
+        };
         self.files.create(self.path, mode)
     }
 }
 
+/// Has the system write the file to its disk. It is no failure that this cannot be done, as with a pipe or a terminal.
+fn synchronize<R: System>(files: &R, file: &R::File) -> io::Result<()>
+    ensures synchronized { OnOk result (MayBeSynchronized (R.sync_gives files.now file.now)) }
+    ensures failed { IfErr result (λ e. R.sync_gives files.now file.now (Err e) × ¬ CannotBeSynchronized e) }
+{
+    match files.sync(file) {
+        Err(e)
+            if e.kind() == io::ErrorKind::InvalidInput || e.kind() == io::ErrorKind::Unsupported =>
+            { Ok(()) }
+        result => result,
+    }
+}
+
+/// The name is that of one of the others, by whatever links.
+fn is_one_of<R: System>(files: &R, path: &str, others: &[Option<&str>]) -> bool
+    ensures apart { result ≡ false → IsApart (R.id_gives files.now) path.now (map name_of others.now) }
+    ensures one { result ≡ true → IsNotApart (R.id_gives files.now) path.now (map name_of others.now) }
+{
+    for other in others {
+        if are_one_file(files, path, *other) {
+            return true;
+        }
+    }
+    false
+}
+
 /// Both names are those of one regular file, by whatever links. Where either can't be looked at they are not.
 fn are_one_file<R: System>(files: &R, path: &str, other: Option<&str>) -> bool
-    ensures { MayBeOne (R.id_gives files.now) path.now (option_map (λ text. text.now) other.entry) result }
+    ensures { MayBeOne (R.id_gives files.now) path.now (name_of other.entry) result }
 {
     let Some(other) = other else {
         return false;
@@ -249,8 +297,8 @@ fn source_of<'a, R: Files>(
     }
 }
 
-/// The outputs that the options name. A made key and what is decrypted are secrets. Both are kept apart from the content that
-/// is read while they are written, and the text from the content beside it, which is written before.
+/// The outputs that the options name. A made key and what is decrypted are secrets. Both outputs are kept apart from the content
+/// that is read while they are written and from the keys, and the text from the content beside it, which is written before.
 pub(crate) fn outputs<'a, R: System>(
     files: &'a R,
     standard: Stdout,
@@ -258,13 +306,25 @@ pub(crate) fn outputs<'a, R: System>(
 ) -> Outputs<WriterOutput<Sink<'a, R>>>
     ensures { AreNewOutputs (invocation_view invocation.now) result }
 {
-    let text_is_secret = invocation.command == Command::JwkGen;
-    let content_is_secret = invocation.command == Command::JweDec;
+    let text_purpose = match invocation.command {
+        Command::JwkGen => Purpose::Key,
+        _ => Purpose::Public,
+    };
+    let content_purpose = match invocation.command {
+        Command::JweDec => Purpose::Secret,
+        _ => Purpose::Public,
+    };
     let content = streamed_file(invocation);
-    let beside = file_named(STANDARD_OUTPUT, invocation.value('O'));
-    let text_apart = Apart { content, beside };
+    let keys = keys_file(invocation);
+    let beside = file_written(invocation.value('O'));
+    let text_apart = Apart {
+        content,
+        keys,
+        beside,
+    };
     let content_apart = Apart {
         content,
+        keys,
         beside: None,
     };
     Outputs {
@@ -272,14 +332,14 @@ pub(crate) fn outputs<'a, R: System>(
             files,
             standard,
             invocation.value('o'),
-            text_is_secret,
+            text_purpose,
             text_apart,
         )),
         content: WriterOutput::new(sink_of(
             files,
             standard,
             invocation.value('O'),
-            content_is_secret,
+            content_purpose,
             content_apart,
         )),
     }
@@ -287,23 +347,45 @@ pub(crate) fn outputs<'a, R: System>(
 
 /// The file of the content that the command reads while it writes.
 fn streamed_file(invocation: &Invocation) -> Option<&str>
-    ensures { option_map (λ text. text.now) result ≡ streamed_file (invocation_view invocation.now) }
+    ensures { name_of result ≡ streamed_file (invocation_view invocation.now) }
 {
     let value = match invocation.command {
         Command::B64Dec => invocation.value('i'),
         Command::B64Enc | Command::JwsSig | Command::JweEnc => invocation.value('I'),
         _ => None,
     };
-    file_named(STANDARD_INPUT, value)
+    file_read(value, false)
 }
 
-/// The file that an option's value names, which is this one where it is `-`.
-fn file_named<'a>(standard: &'static str, value: Option<&'a str>) -> Option<&'a str>
-    ensures { option_map (λ text. text.now) result
-        ≡ file_named standard.now (option_map (λ text. text.now) value.entry) }
+/// The file of the keys that the command reads.
+fn keys_file(invocation: &Invocation) -> Option<&str>
+    ensures { name_of result ≡ keys_file (invocation_view invocation.now) }
+{
+    let value = match invocation.command {
+        Command::JwkThp => invocation.value('i'),
+        _ => invocation.value('k'),
+    };
+    file_read(value, true)
+}
+
+/// The file of an input that has this value. JSON in the words has none.
+fn file_read(value: Option<&str>, may_be_json: bool) -> Option<&str>
+    ensures { name_of result ≡ file_of (origin_named may_be_json (name_of value.entry)) }
 {
     match value {
-        Some("-") => Some(standard),
+        None => None,
+        Some("-") => Some(STANDARD_INPUT),
+        Some(text) if may_be_json && text.starts_with('{') => None,
+        Some(path) => Some(path),
+    }
+}
+
+/// The file of an output that has this value.
+fn file_written(value: Option<&str>) -> Option<&str>
+    ensures { name_of result ≡ file_written (name_of value.entry) }
+{
+    match value {
+        Some("-") => Some(STANDARD_OUTPUT),
         named => named,
     }
 }
@@ -312,12 +394,11 @@ fn sink_of<'a, R: Files>(
     files: &'a R,
     standard: Stdout,
     value: Option<&'a str>,
-    is_secret: bool,
+    purpose: Purpose,
     apart: Apart<'a>,
 ) -> Sink<'a, R>
     ensures named { destination_of result
-        ≡ destination_named is_secret (apart_view apart.entry)
-        (option_map (λ text. text.now) value.entry) }
+        ≡ destination_named purpose (others_of apart.entry) (name_of value.entry) }
     ensures unopened { IsUnopenedSink result }
 {
     match value {
@@ -326,7 +407,7 @@ fn sink_of<'a, R: Files>(
         Some(path) => Sink::File(OutputFile {
             files,
             path,
-            is_secret,
+            purpose,
             apart,
             opened: None,
         }),

@@ -30,6 +30,8 @@ pub(crate) trait System: Files {
 
     ghost create_gives: { Self → Text → ℕ → Result Self.File Error → Type 0 };
 
+    ghost sync_gives: { Self → Self.File → Result (Unit {0}) Error → Type 0 };
+
     /// The program's arguments, its name first. `Usage` if one of them is not UTF-8.
     fn args(&self) -> Result<Vec<String>, Refusal>
         ensures given { IfOk result (λ args. args_gives self.now (Ok (map string_bytes args.items))) }
@@ -47,6 +49,10 @@ pub(crate) trait System: Files {
     /// Opens the file for writing, and cuts it to nothing. Where it is not there it is made, with this mode.
     fn create(&self, path: &str, mode: u32) -> io::Result<Self::File>
         ensures { create_gives self.now path.now mode result };
+
+    /// Writes to the disk what was written to the file, and waits for it.
+    fn sync(&self, file: &Self::File) -> io::Result<()>
+        ensures { sync_gives self.now file.now result };
 }
 
 impl System for HostRuntime {
@@ -57,6 +63,8 @@ impl System for HostRuntime {
     ghost open_gives = { λ _ _ _. ⊤ };
 
     ghost create_gives = { λ _ _ _ _. ⊤ };
+
+    ghost sync_gives = { λ _ _ _. ⊤ };
 
     fn args(&self) -> Result<Vec<String>, Refusal> {
         match std::env::args(self) {
@@ -79,6 +87,10 @@ impl System for HostRuntime {
 
     fn create(&self, path: &str, mode: u32) -> io::Result<File> {
         new_file(mode).open(self, path)
+    }
+
+    fn sync(&self, file: &File) -> io::Result<()> {
+        file.sync_all()
     }
 }
 

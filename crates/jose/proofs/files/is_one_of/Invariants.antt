@@ -1,0 +1,13 @@
+use Rattle.std.proofs.Common.{drop, map}
+use Rattle.jose.specs.System.{IsApart, IsNotApart, name_of}
+use Rattle.jose.proofs.files.is_one_of.Given as goal
+
+-- what holds of the names that are left holds of all of them
+abbrev pub invariant-loop-other : goal.invariant-loop-other
+invariant-loop-other g l =
+    let gives = g.R.System.id_gives l.files in
+    let names = map name_of l.others in
+    record {
+      apart : IsApart gives l.path (drop l.other-index names) → IsApart gives l.path names;
+      one : IsNotApart gives l.path (drop l.other-index names) → IsNotApart gives l.path names;
+    }
