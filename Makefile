@@ -70,8 +70,8 @@ pages:
 tour:
 	@scripts/tour
 
-# Sends tokens both ways between the built program and latchset's jose, jwcrypto and go-jose, if they are installed. With SEED the tokens are
-# random, and it takes at most five minutes.
+# Sends tokens both ways between the built program and latchset's jose, jwcrypto, go-jose and ten more libraries, if they are installed. With
+# SEED the tokens are random, and it takes at most five minutes.
 interop:
 	@scripts/interop $(if $(SEED),--seed $(SEED))
 
