@@ -23,8 +23,8 @@ edits:
 build:
 	@scripts/build
 
-# Compares docs/CALLS.md (what each public call may refuse and change) with the sources. It also reads in the code that refusals for memory
-# and devices come only from their errors, and how tags are compared.
+# Compares docs/CALLS.md (what each public call may refuse and change) and docs/AUDIT.md (which definitions the promises reach) with the
+# sources. It also reads in the code that refusals for memory and devices come only from their errors, and how tags are compared.
 calls:
 	@scripts/calls
 
