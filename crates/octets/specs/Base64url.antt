@@ -9,19 +9,20 @@ use Rattle.octets.specs.Octets.{IsOctets}
 use Rattle.octets.specs.declared.refusal.Refusal.{Refusal}
 use Rattle.octets.specs.declared.refusal.Refusal.TheVariants.{Base64}
 
--- the text of the octets
+-- the text of the octets (RFC 7515 section 2, RFC 4648 section 5)
 unfoldable pub base64url : List ℕ → List ℕ
 base64url octets = encode_of url_safe_no_pad octets
 
+-- every other text is refused (docs/SPECIFICATION.md "Octets and texts")
 abbrev pub or_base64 : Result (List ℕ) DecodeError → Result (List ℕ) Refusal
 or_base64 (Ok octets) = Ok octets
 or_base64 (Err e) = Err Base64
 
--- the meaning of the text; `DecodesExactly` says which one it is
+-- the meaning of the text; `DecodesExactly` says which one it is (RFC 4648 sections 3.3, 3.5 and 5)
 unfoldable pub decoded : List ℕ → Result (List ℕ) Refusal
 decoded text = or_base64 (decode_of url_safe_no_pad text)
 
--- the octets in whole groups of three, whose text is four characters each, and those after them
+-- the octets in whole groups of three, whose text is four characters each, and those after them (RFC 4648 section 4)
 unfoldable pub whole_groups : List ℕ → List ℕ
 whole_groups octets = take (length octets / 3 * 3) octets
 
@@ -35,11 +36,11 @@ settled text = take ((length text - 2) / 4 * 4) text
 unfoldable pub unsettled : List ℕ → List ℕ
 unsettled text = drop ((length text - 2) / 4 * 4) text
 
--- octets with one text are equal
+-- octets with one text are equal (docs/SPECIFICATION.md "Octets and texts")
 abbrev pub TextsAreDistinct : Type 0
 TextsAreDistinct = (x y : List ℕ) → IsOctets x → IsOctets y → base64url x ≡ base64url y → x ≡ y
 
--- a text means the octets that have it, and no other text has a meaning
+-- a text means the octets that have it, and no other text has a meaning (RFC 4648 section 3.5)
 pub record DecodesExactly : Type 0 where
   pub round_trip : (x : List ℕ) → IsOctets x → decoded (base64url x) ≡ Ok x
   pub meaning : (text x : List ℕ) → IsOctets text → IsOctets x → (decoded text ≡ Ok x) ↔ (text ≡ base64url x)
@@ -49,21 +50,21 @@ pub record DecodesExactly : Type 0 where
 abbrev pub url_alphabet : List ℕ
 url_alphabet = codes "ABCDEFGHIJKLMNOPQRSTUVWXYZabcdefghijklmnopqrstuvwxyz0123456789-_"
 
--- the six bits from bit 6 * i on, as a number; zero bits follow the last octet
+-- the six bits from bit 6 * i on, as a number; zero bits follow the last octet (RFC 4648 section 4)
 abbrev pub six_bits : List ℕ → ℕ → ℕ
 six_bits octets i = (slice_index octets (6 * i / 8) * 256 + slice_index octets (6 * i / 8 + 1)) / 2 ^ (10 - 6 * i % 8) % 64
 
--- a text has the character of each six bits of the octets, in order
+-- a text has the character of each six bits of the octets, in order (RFC 4648 sections 4 and 5)
 abbrev pub SpellsSixBits : Type 0
 SpellsSixBits = (x : List ℕ) → IsOctets x
     → base64url x ≡ map (λ i. slice_index url_alphabet (six_bits x i)) (range_with_len 0 ((8 * length x + 5) / 6))
 
--- a letter, a digit, `-` or `_`
+-- a letter, a digit, `-` or `_` (table 2)
 abbrev pub is_url_character : ℕ → Bool
 is_url_character c =
     (nat_le (byte "A") c && nat_le c (byte "Z")) || (nat_le (byte "a") c && nat_le c (byte "z"))
     || (nat_le (byte "0") c && nat_le c (byte "9")) || (c == byte "-") || (c == byte "_")
 
--- a text has such characters alone: no dot, no quote, no backslash and no line end
+-- a text has such characters alone: no dot, no quote, no backslash and no line end (RFC 4648 section 5)
 abbrev pub HasUrlCharacters : Type 0
 HasUrlCharacters = (x : List ℕ) → IsOctets x → AllByRecursion (λ c. is_url_character c ≡ true) (base64url x)

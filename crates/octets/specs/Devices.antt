@@ -3,7 +3,7 @@ use Rattle.std.specs.Prelude.{◌≡◌, ℕ, ◌+◌, ◌-◌, ◌≤◌, ◌^�
 use Rattle.std.specs.Iterator.{Count, IsFinite, size}
 use Rattle.octets.specs.Octets.{IsOctets}
 
--- ---- the counts of failures, and of the ends of an output
+-- ---- the counts of failures, and of the ends of an output (docs/SPECIFICATION.md "Devices")
 
 abbrev pub greatest_count : ℕ
 greatest_count = 2 ^ 64 - 1
@@ -16,7 +16,7 @@ next_count n = min (n + 1) greatest_count
 abbrev pub IsFinishedOnce : {D : Type 0} → (D → Bool) → (D → ℕ) → D → D → Type 0
 IsFinishedOnce is_finished endings old new = IsTrue (is_finished new) × (endings new ≡ next_count (endings old))
 
--- ---- how far it is to the end
+-- ---- how far it is to the end (docs/SPECIFICATION.md "Devices")
 
 -- Where the end or a failure was at most so many octets away, it is now nearer by n octets.
 abbrev pub ComesNearer : Count → Count → ℕ → Type 0

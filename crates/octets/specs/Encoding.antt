@@ -7,7 +7,7 @@ use Rattle.octets.specs.LineEnds.{without_line_end}
 use Rattle.octets.specs.Octets.{IsOctets}
 use Rattle.octets.specs.Plan.{Plan, Begins}
 
--- the text of the content; each group of three octets fixes four characters
+-- the text of the content; each group of three octets fixes four characters (RFC 4648 section 4)
 abbrev pub encoding : Plan (List ℕ)
 encoding = record { whole = λ content. Ok (base64url content); fixed = λ front. base64url (whole_groups front) }
 
@@ -16,12 +16,12 @@ abbrev pub and_octets : Result (List ℕ) Refusal → List ℕ → List ℕ
 and_octets (Ok octets) more = octets ++ more
 and_octets (Err r) more = []
 
--- the octets of the groups of four characters at the front, up to the first that is no text
+-- the octets of the groups of four characters at the front, up to the first that is no text (docs/SPECIFICATION.md "Commands")
 unfoldable pub octets_of_groups : List ℕ → List ℕ
 octets_of_groups (a ∷ b ∷ c ∷ d ∷ rest) = and_octets (decoded (a ∷ b ∷ c ∷ d ∷ [])) (octets_of_groups rest)
 octets_of_groups rest = []
 
--- the octets whose text it is, with a line end or without; each good group of four characters fixes three octets
+-- the octets whose text it is, with a line end or without; each good group of four characters fixes three octets ("Octets and texts")
 abbrev pub decoding : Plan (List ℕ)
 decoding = record { whole = λ text. decoded (without_line_end text); fixed = octets_of_groups }
 

@@ -4,7 +4,7 @@ use Rattle.octets.specs.declared.refusal.Refusal.{Refusal}
 use Rattle.octets.specs.declared.refusal.Refusal.TheVariants.{Read, Write}
 use Rattle.octets.specs.Devices.{greatest_count, next_count}
 
--- how often a device had failed before the call, and after it
+-- how often a device had failed before the call, and after it (docs/SPECIFICATION.md "Devices")
 pub record Counts : Type 0 where
   pub old : ℕ
   pub new : ℕ
@@ -22,7 +22,7 @@ abbrev pub SomeFailed : List Counts → Type 0
 SomeFailed [] = ⊥
 SomeFailed (c ∷ cs) = (c.new ≡ next_count c.old) ⊎ SomeFailed cs
 
--- A device that failed in the call is told, and no other is: no success and no other refusal, as Memory, hides a failure.
+-- A device that failed in the call is told, and no other is: no success and no other refusal, as Memory, hides a failure. See "Refusals".
 pub record TellsFaults {X : Type 0} (inputs outputs : List Counts) (result : Result X Refusal) : Type 0 where
   pub works : OnOk result (NoneFailed inputs × NoneFailed outputs)
   pub read : IsErrOf result Read → SomeFailed inputs
@@ -30,6 +30,6 @@ pub record TellsFaults {X : Type 0} (inputs outputs : List Counts) (result : Res
   pub inputs_told : IfErr result (λ refusal. refusal ≢ Read → NoneFailed inputs)
   pub outputs_told : IfErr result (λ refusal. refusal ≢ Write → NoneFailed outputs)
 
--- An output with these counts did not fail in the call: the refusal tells of no output, or of another one.
+-- An output with these counts did not fail in the call: the refusal tells of no output, or of another one. See docs/SPECIFICATION.md "Refusals".
 abbrev pub DidNotFail : Refusal → Counts → Type 0
 DidNotFail refusal c = refusal ≡ Write → (c.old < greatest_count) × (c.new ≡ c.old)

@@ -4,7 +4,7 @@ use Rattle.octets.specs.declared.refusal.Refusal.{Refusal}
 use Rattle.octets.specs.declared.refusal.Refusal.TheVariants.{Memory, Read, Write, Random}
 use Rattle.octets.specs.Devices.{next_count, Observed}
 
--- A definition of several steps is a `do` block: the first refusal decides.
+-- A definition of several steps is a `do` block: the first refusal decides. See docs/SPECIFICATION.md "Refusals".
 infixl 10 ◌>>=◌
 abbrev pub ◌>>=◌ : {A B : Type 0} → Result A Refusal → (A → Result B Refusal) → Result B Refusal
 (Ok x) >>= f = f x
@@ -19,7 +19,7 @@ abbrev pub is_memory : Refusal → Bool
 is_memory Memory = true
 is_memory r = false
 
--- the cause is memory or a device, and stands in no text
+-- the cause is memory or a device, and stands in no text (docs/SPECIFICATION.md "Refusals")
 abbrev pub is_external : Refusal → Bool
 is_external Memory = true
 is_external Read = true
@@ -36,12 +36,12 @@ abbrev pub AgreesUnlessMemory : {X Y : Type 0} → (X → Y) → Result X Refusa
 AgreesUnlessMemory view (Ok x) answer = answer ≡ Ok (view x)
 AgreesUnlessMemory view (Err r) answer = is_memory r ≡ false → (answer ≡ Err r) × (is_external r ≡ false)
 
--- A call over devices that answers a value: its result, seen by view, is the answer, unless memory or a device failed.
+-- A call over devices that answers a value: its result, seen by view, is the answer, unless memory or a device failed. See "Refusals".
 abbrev pub GivesUnlessExternal : {X Y : Type 0} → (X → Y) → Result X Refusal → Result Y Refusal → Type 0
 GivesUnlessExternal view (Ok x) answer = answer ≡ Ok (view x)
 GivesUnlessExternal view (Err r) answer = is_external r ≡ false → answer ≡ Err r
 
--- One that answers by writing: it wrote the octets of the answer, or refused as the answer does, unless memory or a device failed.
+-- One that answers by writing: it wrote the octets of the answer, or refused as the answer does, unless memory or a device failed. See "Refusals".
 abbrev pub AgreesUnlessExternal : {W : Type 0} → Result W Refusal → W → Result (Unit {0}) Refusal → Type 0
 AgreesUnlessExternal answer wrote result = GivesUnlessExternal (λ done. wrote) result answer
 

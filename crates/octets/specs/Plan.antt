@@ -7,7 +7,7 @@ use Rattle.octets.specs.Octets.{IsOctets}
 use Rattle.octets.specs.Devices.{Observed}
 use Rattle.octets.specs.Outcomes.{◌>>=◌, needs}
 
--- ---- what is written
+-- ---- what is written (docs/SPECIFICATION.md "Commands" 4)
 
 -- the octets for each output of a call: that of its text, and that of a content which goes out beside it
 pub record OutputTexts : Type 0 where
@@ -17,7 +17,7 @@ pub record OutputTexts : Type 0 where
 abbrev pub nothing : OutputTexts
 nothing = record { text = []; content = [] }
 
--- ---- by the content
+-- ---- by the content (docs/SPECIFICATION.md "Commands", what is left after a refusal)
 
 -- what is written, W, by the content
 pub record Plan (W : Type 0) : Type 0 where
@@ -61,7 +61,7 @@ as_it_is = record { whole = λ content. Ok content; fixed = λ front. front }
 abbrev pub without_content : {W : Type 0} → W → Plan W
 without_content texts = record { whole = λ content. Ok texts; fixed = λ front. texts }
 
--- ---- by octets of the random input, and then by the content
+-- ---- by octets of the random input, and then by the content (docs/SPECIFICATION.md "Commands", what is read first)
 
 -- What templates and keys settle: how many octets of the random input are drawn, and the plan by these.
 pub record Draft (W : Type 0) : Type 0 where
@@ -98,7 +98,7 @@ by_plan plan = plan >>= λ p. Ok (without_random p)
 abbrev pub by_text : {W : Type 0} → Result W Refusal → Result (Draft W) Refusal
 by_text answer = answer >>= λ text. Ok (without_random (without_content text))
 
--- ---- answers
+-- ---- answers (docs/SPECIFICATION.md "Commands", what is left after a refusal)
 
 -- the answer of a plan, once its content is whole
 abbrev pub planned : {W : Type 0} → Result (Plan W) Refusal → List ℕ → Result W Refusal

@@ -16,11 +16,11 @@ behind before plan = plan_map (λ text. before ++ text) plan
 abbrev pub RefusesFrom : Plan (List ℕ) → List ℕ → Refusal → Type 0
 RefusesFrom plan p e = (rest : List ℕ) → IsOctets (p ++ rest) → plan.whole (p ++ rest) ≡ Err e
 
--- how many octets that were read what is written may leave out, where the content fails
+-- how many octets that were read what is written may leave out, where the content fails ("Commands", what is left after a refusal)
 abbrev pub most_behind : ℕ
 most_behind = 4160
 
--- What stands is at least as long as what is fixed by all that was read but these.
+-- What stands is at least as long as what is fixed by all that was read but these. See docs/SPECIFICATION.md "Commands".
 abbrev pub KeepsUp : (List ℕ → List ℕ) → List ℕ → List ℕ → List ℕ → Type 0
 KeepsUp fixed read old new = length old + length (fixed (take (length read - most_behind) read)) ≤ length new
 
