@@ -20,9 +20,9 @@ use Rattle.keys.specs.declared.algorithm.KeyLen.TheVariants.{AtLeast, Exactly, A
 use Rattle.keys.specs.declared.operation.Operation.{Operation}
 use Rattle.keys.specs.declared.operation.Operation.TheVariants.{Sign, Verify, Encrypt, Decrypt, WrapKey, UnwrapKey, WrapByPassword, UnwrapByPassword}
 
--- ---- names
+-- ---- names (RFC 7518 sections 3.1, 4.1 and 5.1)
 
--- signatures: the values of `alg` in a JWS
+-- signatures: the values of `alg` in a JWS (section 3.1)
 abbrev pub signature_name : SignatureAlg → List ℕ
 signature_name Hs256 = codes "HS256"
 signature_name Hs384 = codes "HS384"
@@ -31,7 +31,7 @@ signature_name Hs512 = codes "HS512"
 abbrev pub signature_algs : List SignatureAlg
 signature_algs = Hs256 ∷ Hs384 ∷ Hs512 ∷ []
 
--- key management: the values of `alg` in a JWE
+-- key management: the values of `alg` in a JWE (section 4.1)
 abbrev pub management_name : KeyManagementAlg → List ℕ
 management_name Dir = codes "dir"
 management_name A128Kw = codes "A128KW"
@@ -55,7 +55,7 @@ gcm_management_algs = A128GcmKw ∷ A192GcmKw ∷ A256GcmKw ∷ []
 abbrev pub management_algs : List KeyManagementAlg
 management_algs = earlier_management_algs ++ gcm_management_algs
 
--- content encryption: the values of `enc`
+-- content encryption: the values of `enc` (section 5.1)
 abbrev pub encryption_name : ContentEncryptionAlg → List ℕ
 encryption_name A128CbcHs256 = codes "A128CBC-HS256"
 encryption_name A192CbcHs384 = codes "A192CBC-HS384"
@@ -87,7 +87,7 @@ named_alg_of name =
     option_or (option_map named.Management (management_alg_of name)) (
     option_map named.Encryption (encryption_alg_of name)))
 
--- ---- the management of keys
+-- ---- the management of keys (RFC 7518 section 4.1)
 
 -- how a key delivers the content encryption key: it is that key (section 4.5), it wraps it by AES key wrap (section 4.4), it is a
 -- password from which the key of such a wrap is derived (section 4.8), or it wraps it by AES in GCM (section 4.7)
@@ -103,7 +103,7 @@ mode_of A128GcmKw = GcmKeyWrap
 mode_of A192GcmKw = GcmKeyWrap
 mode_of A256GcmKw = GcmKeyWrap
 
--- the octets of the key of the wrap; 0 where there is none
+-- the octets of the key of the wrap; 0 where there is none (sections 4.4, 4.7 and 4.8)
 abbrev pub kek_len : KeyManagementAlg → ℕ
 kek_len Dir = 0
 kek_len A128Kw = 16
@@ -126,14 +126,14 @@ is_password GcmKeyWrap = false
 abbrev pub is_password_based : KeyManagementAlg → Bool
 is_password_based alg = is_password (mode_of alg)
 
--- ---- lengths of keys, in octets
+-- ---- lengths of keys, in octets (docs/SPECIFICATION.md "Keys" 5)
 
 abbrev pub has_len : KeyLen → ℕ → Bool
 has_len (AtLeast n) len = nat_le n len
 has_len (Exactly n) len = len == n
 has_len Any len = true
 
--- the length of a key where nothing else says it
+-- the length of a key where nothing else says it (docs/SPECIFICATION.md "Making keys")
 abbrev pub usual_len : KeyLen → Option ℕ
 usual_len (AtLeast n) = Some n
 usual_len (Exactly n) = Some n
@@ -176,14 +176,14 @@ named_key_len (named.Signature alg) = AtLeast (signature_key_len alg)
 named_key_len (named.Management alg) = management_key_len alg
 named_key_len (named.Encryption enc) = Exactly (cek_len enc)
 
--- ---- the names that the `alg` of a key may have
+-- ---- the names that the `alg` of a key may have (RFC 7517 section 4.4, docs/SPECIFICATION.md "Keys" 5)
 
 abbrev pub key_names : Algorithm → List (List ℕ)
 key_names (Signature alg) = signature_name alg ∷ []
 key_names (Encryption Dir enc) = management_name Dir ∷ encryption_name enc ∷ []
 key_names (Encryption alg enc) = management_name alg ∷ []
 
--- ---- operations: of a sender, and of a recipient
+-- ---- operations: of a sender, and of a recipient (RFC 7517 section 4.3, docs/SPECIFICATION.md "Keys" 4)
 
 abbrev pub operations_in : KeyManagementMode → Operation × Operation
 operations_in Direct = (Encrypt, Decrypt)

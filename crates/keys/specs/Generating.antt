@@ -17,7 +17,7 @@ use Rattle.keys.specs.Algorithms.{named_alg_of, named_key_len, has_len, usual_le
 use Rattle.keys.specs.Limits.{Limits}
 use Rattle.keys.specs.Operations.{operation_name}
 
--- ---- the template
+-- ---- the template (docs/SPECIFICATION.md "Making keys")
 
 -- members of another key, or of a set
 abbrev pub is_fresh : Members → Bool
@@ -56,7 +56,7 @@ key_template value members = do
   bytes ← len_if_there (get_member (codes "bytes") members)
   Ok (record { alg = alg; bytes = bytes })
 
--- ---- how long the key is
+-- ---- how long the key is (docs/SPECIFICATION.md "Making keys" 1 to 3)
 
 abbrev pub is_within_limit : Limits → Option ℕ → Bool
 is_within_limit limits None = true
@@ -88,7 +88,7 @@ len_if_taken alg (Some n) = if takes_len alg n then Ok n else Err KeyDoesNotFit
 unfoldable pub fitting_len : Option NamedAlg → Option ℕ → Result ℕ Refusal
 fitting_len alg bytes = len_if_taken alg (asked_len bytes alg)
 
--- ---- its members beside `k`
+-- ---- its members beside `k` (docs/SPECIFICATION.md "Making keys")
 
 -- the members without the one of this name
 abbrev pub without : List ℕ → Members → Members
@@ -114,7 +114,7 @@ with_operations (Some alg) members =
 abbrev pub completed : Option NamedAlg → Members → Members
 completed alg members = put (codes "kty") (string (codes "oct")) (with_operations alg (without (codes "bytes") members))
 
--- ---- the key
+-- ---- the key (docs/SPECIFICATION.md "Making keys")
 
 -- its length, and its members beside `k`
 pub record MadeKey : Type 0 where
@@ -141,7 +141,7 @@ made_key limits text = do
   value ← json_value text
   made_if_object limits value (as_object value)
 
--- the JSON text of the key with these octets
+-- the JSON text of the key with these octets (RFC 7518 section 6.4.1)
 abbrev pub key_text : MadeKey → List ℕ → List ℕ
 key_text made octets = compact_text (object (put (codes "k") (string (base64url octets)) made.members))
 

@@ -11,9 +11,9 @@ use Rattle.octets.specs.declared.refusal.Refusal.TheVariants.{Json, Number}
 use Rattle.octets.specs.Outcomes.{◌>>=◌, needs}
 use Rattle.keys.specs.Texts.{is_among}
 
--- ---- reading
+-- ---- reading (docs/SPECIFICATION.md "Octets and texts")
 
--- what UTF-8 octets read as
+-- what UTF-8 octets read as (RFC 8259 sections 2 and 8.1)
 unfoldable pub json_reading : List ℕ → Result Data Refusal
 json_reading octets = if is_utf8 octets then ok_or (read octets) Json else Err Json
 
@@ -46,7 +46,7 @@ json_value octets = do
   whole ← needs (numbers_are_whole value) Number
   Ok value
 
--- ---- objects
+-- ---- objects (RFC 8259 section 4)
 
 abbrev pub is_object : Data → Bool
 is_object value = is_some (as_object value)

@@ -13,19 +13,19 @@ use Rattle.octets.specs.Base64url.{is_url_character}
 use Rattle.keys.specs.Json.{json_value}
 use Rattle.keys.specs.Generating.{without}
 
--- a whole number from -2^63 to 2^64 - 1, which is negative exactly where it is below 0; `negsuc n` is -n - 1
+-- a whole number from -2^63 to 2^64 - 1, which is negative exactly where it is below 0; `negsuc n` is -n - 1 ("Left out by name")
 abbrev pub IsJsonNumber : Num → Type 0
 IsJsonNumber (unsigned n) = n < 2 ^ 64
 IsJsonNumber (negative (pos n)) = ⊥
 IsJsonNumber (negative (negsuc n)) = n < 2 ^ 63
 IsJsonNumber (float x) = ⊥
 
--- the name stands before that of each member, in byte order
+-- the name stands before that of each member, in byte order (docs/SPECIFICATION.md "Octets and texts")
 abbrev pub IsBefore : List ℕ → Members → Type 0
 IsBefore name no_members = ⊤
 IsBefore name (member other value rest) = (slice_cmp nat_cmp name other ≡ Less) × IsBefore name rest
 
--- each text is UTF-8, each number a whole one of 64 bits, and each object has its names in order, none of them twice
+-- each text is UTF-8, each number a whole one of 64 bits, and each object has its names in order, none of them twice ("Octets and texts")
 abbrev mutual
   pub IsJson : Data → Type 0
   IsJson null = ⊤
@@ -43,15 +43,15 @@ abbrev mutual
   AreJsonMembers no_members = ⊤
   AreJsonMembers (member name value rest) = IsUtf8 name × IsBefore name rest × IsJson value × AreJsonMembers rest
 
--- such a value, at most 127 deep, is what its compact text reads as
+-- such a value, at most 127 deep, is what its compact text reads as (docs/SPECIFICATION.md "Octets and texts")
 abbrev pub CompactTextReadsBack : Type 0
 CompactTextReadsBack = (d : Data) → IsJson d → depth d ≤ 127 → json_value (compact_text d) ≡ Ok d
 
--- one that nests deeper has a compact text that is refused
+-- one that nests deeper has a compact text that is refused (docs/SPECIFICATION.md "Octets and texts")
 abbrev pub DeepTextsAreRefused : Type 0
 DeepTextsAreRefused = (d : Data) → IsJson d → 127 < depth d → json_value (compact_text d) ≡ Err Json
 
--- what a text reads as is such a value
+-- what a text reads as is such a value (docs/SPECIFICATION.md "Octets and texts")
 abbrev pub ReadsJson : Type 0
 ReadsJson = (text : List ℕ) (d : Data) → json_value text ≡ Ok d → IsJson d × (depth d ≤ 127)
 
@@ -65,6 +65,6 @@ pub record KeepJson : Type 0 where
       → AreJsonMembers (put name d members) × (members_depth (put name d members) ≤ max (depth d) (members_depth members))
   pub left : (name : List ℕ) (members : Members) → AreJsonMembers members → AreJsonMembers (without name members) × (members_depth (without name members) ≤ members_depth members)
 
--- a text of letters, digits, `-` and `_` is UTF-8, and its compact text is the same between quotes
+-- a text of letters, digits, `-` and `_` is UTF-8, and its compact text is the same between quotes (RFC 8259 section 7)
 abbrev pub UrlTextsAreJson : Type 0
 UrlTextsAreJson = (text : List ℕ) → AllByRecursion (λ c. is_url_character c ≡ true) text → IsUtf8 text × (compact_text (string text) ≡ 34 ∷ (text ++ 34 ∷ []))

@@ -10,7 +10,7 @@ use Rattle.keys.specs.Json.{json_value, is_object}
 use Rattle.keys.specs.Limits.{Limits}
 use Rattle.keys.specs.Keys.{OctetKey, AreOctetKeys, octet_key}
 
--- ---- the objects of a key text
+-- ---- the objects of a key text (RFC 7517 section 5.1, docs/SPECIFICATION.md "Keys" 1)
 
 abbrev pub are_objects : Items → Bool
 are_objects no_items = true
@@ -31,7 +31,7 @@ objects_at value (Some list) = do
 unfoldable pub key_objects : Data → Result Items Refusal
 key_objects value = if is_object value then objects_at value (get (codes "keys") value) else Err Key
 
--- ---- the keys
+-- ---- the keys (docs/SPECIFICATION.md "Keys" 3 and 6)
 
 abbrev pub before : OctetKey → Result (List OctetKey) Refusal → Result (List OctetKey) Refusal
 before key (Ok keys) = Ok (key ∷ keys)

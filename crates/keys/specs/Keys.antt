@@ -16,7 +16,7 @@ use Rattle.keys.specs.Texts.{is_among}
 use Rattle.keys.specs.Algorithms.{key_names, key_len, has_len}
 use Rattle.keys.specs.Operations.{operation_names, operation_use}
 
--- what is kept of a key: its octets, and its `alg`, `use` and `key_ops` where they are there
+-- what is kept of a key: its octets, and its `alg`, `use` and `key_ops` where they are there (RFC 7517 sections 4.2 to 4.4)
 pub record OctetKey : Type 0 where
   pub octets : List ℕ
   pub alg : Option (List ℕ)
@@ -27,7 +27,7 @@ pub record OctetKey : Type 0 where
 abbrev pub AreOctetKeys : List OctetKey → Type 0
 AreOctetKeys keys = AllByRecursion (λ key. IsOctets key.octets) keys
 
--- ---- reading
+-- ---- reading (RFC 7517 section 4.1, RFC 7518 section 6.4.1, docs/SPECIFICATION.md "Keys" 2)
 
 -- where a key is asked for, a bad text is a bad key
 abbrev pub or_key : Result (List ℕ) Refusal → Result (List ℕ) Refusal
@@ -59,7 +59,7 @@ octet_key limits value = do
   octets ← key_octets limits value
   constrained_key octets value
 
--- ---- operations
+-- ---- operations (RFC 7517 sections 4.2 and 4.3, docs/SPECIFICATION.md "Keys" 4)
 
 abbrev pub is_absent_or_text : Option (List ℕ) → List ℕ → Bool
 is_absent_or_text None text = true
@@ -78,7 +78,7 @@ is_absent_or_meets (Some found) names = list_any (is_among names) found
 unfoldable pub allows : OctetKey → Operation → Bool
 allows key operation = is_absent_or_text key.key_use (operation_use operation) && is_absent_or_meets key.key_ops (operation_names operation)
 
--- ---- algorithms
+-- ---- algorithms (RFC 7517 section 4.4, docs/SPECIFICATION.md "Keys" 5)
 
 -- the key has a length that the algorithm takes, and its `alg` names no other
 unfoldable pub fits : OctetKey → Algorithm → Bool

@@ -4,6 +4,7 @@ use Rattle.std.specs.Prelude.{ℕ, Bool, nat_le, List}
 use Rattle.keys.specs.declared.algorithm.KeyManagementAlg.{KeyManagementAlg}
 use Rattle.keys.specs.Algorithms.{management_algs}
 
+-- the numbers of docs/SPECIFICATION.md "Keys" 1 and 2, "Making keys" 4, "Objects" 2, "Decrypting" 2, and "Encrypting" 5 and 7
 pub record Limits : Type 0 where
   -- the most keys of a set, the good and the others, and the most octets of a key
   pub keys : ℕ
@@ -22,7 +23,7 @@ pub record Limits : Type 0 where
   -- the algorithms of key management
   pub management : List KeyManagementAlg
 
--- those of this profile
+-- those of this profile (docs/SPECIFICATION.md "Keys" to "Encrypting")
 abbrev pub limits : Limits
 limits = record {
   keys = 64;
@@ -52,6 +53,6 @@ earlier_limits = record {
   management = management_algs;
 }
 
--- so many recipients, or signatures, are not too many for an object
+-- so many recipients, or signatures, are not too many for an object (docs/SPECIFICATION.md "Objects" 2)
 abbrev pub are_few : Limits → ℕ → Bool
 are_few limits n = nat_le n limits.recipients

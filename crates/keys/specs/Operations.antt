@@ -14,7 +14,7 @@ operation_name UnwrapKey = codes "unwrapKey"
 operation_name WrapByPassword = codes "wrapKey"
 operation_name UnwrapByPassword = codes "unwrapKey"
 
--- a key that another is derived from may be named by the derivation
+-- a key that another is derived from may be named by the derivation (RFC 7517 section 4.3, docs/SPECIFICATION.md "Keys" 4)
 abbrev pub derivation_names : Operation → List (List ℕ)
 derivation_names Sign = []
 derivation_names Verify = []
@@ -25,7 +25,7 @@ derivation_names UnwrapKey = []
 derivation_names WrapByPassword = codes "deriveKey" ∷ codes "deriveBits" ∷ []
 derivation_names UnwrapByPassword = codes "deriveKey" ∷ codes "deriveBits" ∷ []
 
--- the names in `key_ops` that allow the operation
+-- the names in `key_ops` that allow the operation (RFC 7517 section 4.3, docs/SPECIFICATION.md "Keys" 4)
 abbrev pub operation_names : Operation → List (List ℕ)
 operation_names operation = operation_name operation ∷ derivation_names operation
 
