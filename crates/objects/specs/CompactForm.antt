@@ -12,11 +12,11 @@ use Rattle.objects.specs.Jws.{Signature, SignedObject, jws_compact_text}
 abbrev pub HasText : Result (List ℕ) Refusal → Type 0
 HasText compact = (text : List ℕ) × (compact ≡ Ok text)
 
--- the part of the content: its base64url text, or nothing where it is detached
+-- the part of the content: its base64url text, or nothing where it is detached (RFC 7515 appendix F)
 abbrev pub content_part : Bool → List ℕ → List ℕ
 content_part detach content = if detach then [] else base64url content
 
--- ---- signed objects
+-- ---- signed objects (RFC 7515 section 7.1)
 
 -- It is the object's one signature, and has no unprotected header.
 pub record IsOnlySignature (o : SignedObject) (s : Signature) : Type 0 where
@@ -38,7 +38,7 @@ pub record JwsCompactFormIsExact : Type 0 where
   pub text : (detach : Bool) (o : SignedObject) (s : Signature) → IsOnlySignature o s → jws_compact_text detach o ≡ Ok (jws_parts_text detach o s)
   pub refused : (detach : Bool) (o : SignedObject) → ¬ HasOnlySignature o → jws_compact_text detach o ≡ Err NotCompact
 
--- ---- encrypted objects
+-- ---- encrypted objects (RFC 7516 section 7.1)
 
 -- It is the object's one recipient. Neither has an unprotected header, and the object has no additional data.
 pub record IsOnlyRecipient (o : EncryptedObject) (r : Recipient) : Type 0 where

@@ -9,7 +9,7 @@ use Rattle.octets.specs.Outcomes.{◌>>=◌, needs}
 use Rattle.octets.specs.Base64url.{decoded}
 use Rattle.keys.specs.Json.{json_value}
 
--- ---- a header in a JSON value
+-- ---- a header in a JSON value (RFC 7515 section 7.2.1, RFC 7516 section 7.2.1)
 
 abbrev pub some_members : Option Members → Result Members Refusal
 some_members None = Err Form
@@ -23,7 +23,7 @@ members_if_there (Some value) = some_members (as_object value)
 unfoldable pub header_at : List ℕ → Data → Result Members Refusal
 header_at name value = members_if_there (get name value)
 
--- ---- the protected header
+-- ---- the protected header (RFC 7515 section 5.2, step 3, and RFC 7516 section 5.2, step 3)
 
 abbrev pub object_members : Option Members → Result Members Refusal
 object_members None = Err Header
@@ -39,7 +39,7 @@ members_of_json octets = do
 unfoldable pub protected_members : List ℕ → Result Members Refusal
 protected_members octets = if nat_le (length octets) 0 then Ok no_members else members_of_json octets
 
--- ---- the joint header
+-- ---- the joint header (RFC 7515 section 5.2, step 4, and RFC 7516 section 5.2, step 4)
 
 -- some name stands in both
 abbrev pub overlap : Members → Members → Bool
@@ -75,7 +75,7 @@ pub record HasAllMembers (protected unprotected per_recipient : Members) : Type 
 abbrev pub JointHeaderHasAllMembers : Type 0
 JointHeaderHasAllMembers = (protected unprotected per_recipient : Members) → are_disjoint protected unprotected per_recipient ≡ true → HasAllMembers protected unprotected per_recipient
 
--- ---- parameters
+-- ---- parameters (docs/SPECIFICATION.md "Objects" 3)
 
 abbrev pub required : {X : Type 0} → Option X → Result (Option X) Refusal
 required None = Err Header

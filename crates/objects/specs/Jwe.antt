@@ -20,7 +20,7 @@ use Rattle.objects.specs.KeyManagement.{KeyManagement, key_management}
 use Rattle.objects.specs.Texts.{each, each_item, is_json_form, split_at_dot, three_parts, text_at, content_by, content_text, handed_in, AreOctetsHandedIn, object_list, has_text, has_members, header_depth, depth_of_each}
 use Rattle.objects.specs.Writing.{Written, nothing_written, pushed, opened, closed, with_text, with_header, with_place, with_content, inside, with_list, with_part, with_place_part, with_content_part}
 
--- ---- the members of an object
+-- ---- the members of an object (RFC 7516 section 7.2.1)
 
 -- the per-recipient unprotected header, and the encrypted key
 pub record RecipientParts : Type 0 where
@@ -37,7 +37,7 @@ pub record JweParts : Type 0 where
   pub tag : List ℕ
   pub recipients : List RecipientParts
 
--- ---- the members of a text
+-- ---- the members of a text (RFC 7516 section 5.2, step 1, and section 7)
 
 -- what all recipients share beside the content: headers, and additional data
 pub record EncodedShared : Type 0 where
@@ -104,7 +104,7 @@ encoded_in_json detached value = do
   content ← encoded_content detached value
   Ok (record { shared = shared; recipients = recipients; content = content })
 
--- exactly five parts between dots
+-- exactly five parts between dots (section 7.1)
 unfoldable pub encoded_in_compact : Option (List ℕ) → List ℕ → Result EncodedJwe Refusal
 encoded_in_compact detached text = do
   protected ← split_at_dot text
@@ -121,7 +121,7 @@ encoded_in_compact detached text = do
 unfoldable pub encoded_jwe : Option (List ℕ) → List ℕ → Result EncodedJwe Refusal
 encoded_jwe detached text = if is_json_form text then (json_value text >>= encoded_in_json detached) else encoded_in_compact detached (without_line_end text)
 
--- the octets that they are the base64url texts of, the text of the protected header aside
+-- the octets that they are the base64url texts of, the text of the protected header aside (RFC 7516 section 5.2, step 2)
 unfoldable pub decoded_recipient : EncodedRecipient → Result RecipientParts Refusal
 decoded_recipient texts = do
   encrypted_key ← decoded texts.encrypted_key
@@ -144,7 +144,7 @@ decoded_members texts = do
     recipients = recipients;
   })
 
--- ---- the object
+-- ---- the object (RFC 7516 section 3)
 
 -- A recipient: its per-recipient unprotected header, its encrypted key, and what its joint header says.
 pub record Recipient : Type 0 where
@@ -178,7 +178,7 @@ without_ciphertext o = record {
   recipients = o.recipients;
 }
 
--- ---- the header of a recipient
+-- ---- the header of a recipient (RFC 7516 section 5.2, step 4)
 
 -- a recipient, by its joint header
 unfoldable pub recipient_by : List KeyManagementAlg → Members → RecipientParts → Result Recipient Refusal
@@ -197,7 +197,7 @@ recipient_of algs protected unprotected parts = do
 abbrev pub recipients_of : List KeyManagementAlg → Members → Members → List RecipientParts → Result (List Recipient) Refusal
 recipients_of algs protected unprotected parts = each (recipient_of algs protected unprotected) parts
 
--- `enc` is the same for all
+-- `enc` is the same for all (section 7.2.1)
 abbrev pub have_enc : List ℕ → List Recipient → Bool
 have_enc enc recipients = list_all (λ r. bytes_eq r.enc enc) recipients
 
@@ -213,15 +213,15 @@ recipients_of_one_enc algs protected unprotected parts = do
 
 -- ---- members that are refused
 
--- neither `crit` nor `zip`: no extension is known, and no content is compressed
+-- neither `crit` nor `zip`: no extension is known, and no content is compressed (RFC 7516 sections 4.1.3 and 4.1.13)
 abbrev pub has_no_crit_or_zip : Members → Bool
 has_no_crit_or_zip header = has_no_crit header && is_none (get_member (codes "zip") header)
 
--- in no part of a header
+-- in no part of a header (RFC 7516 section 5.2, step 5, and docs/SPECIFICATION.md "Objects" 4)
 abbrev pub have_no_crit_or_zip : Members → Members → List RecipientParts → Bool
 have_no_crit_or_zip protected unprotected recipients = has_no_crit_or_zip protected && (has_no_crit_or_zip unprotected && list_all (λ r. has_no_crit_or_zip r.header) recipients)
 
--- the object with these members and these octets of its protected header
+-- the object with these members and these octets of its protected header (RFC 7516 section 5.2, steps 3 to 5)
 unfoldable pub encrypted_object : List KeyManagementAlg → List ℕ → JweParts → Result EncryptedObject Refusal
 encrypted_object algs octets parts = do
   protected ← protected_members octets
@@ -229,7 +229,7 @@ encrypted_object algs octets parts = do
   plain ← needs (have_no_crit_or_zip protected parts.unprotected parts.recipients) Unsupported
   Ok (record { protected = parts.protected; protected_members = protected; unprotected = parts.unprotected; iv = parts.iv; aad = parts.aad; ciphertext = parts.ciphertext; tag = parts.tag; recipients = recipients })
 
--- the object whose members have these texts; it has not too many recipients
+-- the object whose members have these texts; it has not too many recipients (RFC 7516 section 5.2, steps 2 to 5)
 unfoldable pub decoded_object : Limits → EncodedJwe → Result EncryptedObject Refusal
 decoded_object limits texts = do
   few ← needs (are_few limits (length texts.recipients)) Limit
@@ -237,13 +237,13 @@ decoded_object limits texts = do
   parts ← decoded_members texts
   encrypted_object limits.management octets parts
 
--- the object of a text, and of a ciphertext where one was handed in, or the first refusal
+-- the object of a text, and of a ciphertext where one was handed in, or the first refusal (RFC 7516 section 5.2, steps 1 to 5)
 unfoldable pub jwe_of : Limits → Option (List ℕ) → List ℕ → Result EncryptedObject Refusal
 jwe_of limits detached text = do
   texts ← encoded_jwe detached text
   decoded_object limits texts
 
--- ---- an object that is made of its members
+-- ---- an object that is made of its members (docs/SPECIFICATION.md "Objects")
 
 abbrev pub nest_at_most : ℕ → List RecipientParts → Bool
 nest_at_most n recipients = list_all (λ r. nat_le (depth (object r.header)) n) recipients
@@ -265,7 +265,7 @@ built limits parts = do
   octets ← decoded parts.protected
   encrypted_object limits.management octets parts
 
--- ---- its texts
+-- ---- its texts (RFC 7516 section 7, docs/SPECIFICATION.md "Objects" 5)
 
 -- the header and the encrypted key of a recipient
 abbrev pub with_recipient : RecipientParts → Written → Written

@@ -20,7 +20,7 @@ use Rattle.objects.specs.KeyManagement.{key_management}
 use Rattle.objects.specs.Texts.{each, each_item, is_json_form, three_parts, text_at, required_text, content_by, content_text, handed_in, AreOctetsHandedIn, object_list, has_text, has_members, depth_of_each}
 use Rattle.objects.specs.Writing.{Written, nothing_written, pushed, opened, closed, with_text, with_header, with_place, with_content, inside, with_list, with_place_part, with_content_part}
 
--- ---- the members of an object
+-- ---- the members of an object (RFC 7515 section 7.2.1)
 
 -- the text of the protected header, as it was received, the unprotected header, and the octets of the signature
 pub record SignatureParts : Type 0 where
@@ -32,7 +32,7 @@ pub record JwsParts : Type 0 where
   pub payload : List ℕ
   pub signatures : List SignatureParts
 
--- ---- the members of a text
+-- ---- the members of a text (RFC 7515 section 5.2, step 1, and section 7)
 
 -- the same, with the text of the signature
 pub record EncodedSignature : Type 0 where
@@ -76,7 +76,7 @@ encoded_in_json detached value = do
   signatures ← each_item encoded_signature objects
   Ok (record { payload = payload; signatures = signatures })
 
--- exactly three parts between dots
+-- exactly three parts between dots (section 7.1)
 unfoldable pub encoded_in_compact : Option (List ℕ) → List ℕ → Result EncodedJws Refusal
 encoded_in_compact detached text = do
   parts ← three_parts text
@@ -87,7 +87,7 @@ encoded_in_compact detached text = do
 unfoldable pub encoded_jws : Option (List ℕ) → List ℕ → Result EncodedJws Refusal
 encoded_jws detached text = if is_json_form text then (json_value text >>= encoded_in_json detached) else encoded_in_compact detached (without_line_end text)
 
--- ---- the object
+-- ---- the object (RFC 7515 section 3)
 
 -- A signature: its members, and the `alg` of its joint header (section 4.1.1). Beside the text of its protected header stand the
 -- members that this holds.
@@ -112,24 +112,26 @@ pub record HeadedSignature : Type 0 where
   pub members : Members
   pub parts : SignatureParts
 
+-- its protected header is a base64url text (RFC 7515 section 5.2, step 2)
 unfoldable pub decoded_part : SignatureParts → Result DecodedSignature Refusal
 decoded_part parts = do
   octets ← decoded parts.protected
   Ok (record { octets = octets; parts = parts })
 
--- one whose members have these texts
+-- one whose members have these texts (RFC 7515 section 5.2, steps 2 and 7)
 unfoldable pub decoded_signature : EncodedSignature → Result DecodedSignature Refusal
 decoded_signature texts = do
   signature ← decoded texts.signature
   decoded_part (record { protected = texts.protected; header = texts.header; signature = signature })
 
+-- its protected header is the text of a JSON object (RFC 7515 section 5.2, step 3)
 unfoldable pub headed_signature : DecodedSignature → Result HeadedSignature Refusal
 headed_signature s = do
   members ← protected_members s.octets
   Ok (record { members = members; parts = s.parts })
 
 -- Its headers have no name in common, and name the algorithm together. Where that is one of key management, they have the parameters
--- that it reads.
+-- that it reads. See RFC 7515 section 5.2, step 4, and docs/SPECIFICATION.md "Objects" 3.
 unfoldable pub signature_by : List KeyManagementAlg → HeadedSignature → Result Signature Refusal
 signature_by algs s = do
   header ← joint_header s.members no_members s.parts.header
@@ -137,11 +139,11 @@ signature_by algs s = do
   management ← key_management algs alg header
   Ok (record { protected = s.parts.protected; protected_members = s.members; header = s.parts.header; signature = s.parts.signature; alg = alg })
 
--- neither header has a `crit`
+-- neither header has a `crit` (RFC 7515 section 5.2, step 5)
 abbrev pub headers_have_no_crit : HeadedSignature → Bool
 headers_have_no_crit s = has_no_crit s.members && has_no_crit s.parts.header
 
--- Each step is taken for every signature before the next.
+-- Each step is taken for every signature before the next. See RFC 7515 section 5.2, steps 3 to 5 and 9.
 unfoldable pub signatures_of : List KeyManagementAlg → List DecodedSignature → Result (List Signature) Refusal
 signatures_of algs decoded = do
   headed ← each headed_signature decoded
@@ -155,7 +157,7 @@ signed_object algs payload decoded = do
   signatures ← signatures_of algs decoded
   Ok (record { payload = payload; signatures = signatures })
 
--- the object whose members have these texts; it has not too many signatures
+-- the object whose members have these texts; it has not too many signatures (RFC 7515 section 5.2, steps 2 to 7)
 unfoldable pub decoded_object : Limits → EncodedJws → Result SignedObject Refusal
 decoded_object limits texts = do
   few ← needs (are_few limits (length texts.signatures)) Limit
@@ -163,13 +165,13 @@ decoded_object limits texts = do
   signatures ← each decoded_signature texts.signatures
   signed_object limits.management payload signatures
 
--- the object of a text, and of a payload where one was handed in, or the first refusal
+-- the object of a text, and of a payload where one was handed in, or the first refusal (RFC 7515 section 5.2, steps 1 to 7)
 unfoldable pub jws_of : Limits → Option (List ℕ) → List ℕ → Result SignedObject Refusal
 jws_of limits detached text = do
   texts ← encoded_jws detached text
   decoded_object limits texts
 
--- ---- an object that is made of its members
+-- ---- an object that is made of its members (docs/SPECIFICATION.md "Objects")
 
 abbrev pub nest_at_most : ℕ → List SignatureParts → Bool
 nest_at_most n signatures = list_all (λ s. nat_le (depth (object s.header)) n) signatures
@@ -187,7 +189,7 @@ built limits parts = do
   signatures ← each decoded_part parts.signatures
   signed_object limits.management parts.payload signatures
 
--- ---- its texts
+-- ---- its texts (RFC 7515 section 7, docs/SPECIFICATION.md "Objects" 5)
 
 -- a signature, and the payload where it stands beside it
 abbrev pub with_signature : Option (List ℕ) → SignatureParts → Written → Written

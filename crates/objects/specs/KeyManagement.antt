@@ -12,7 +12,7 @@ use Rattle.keys.specs.declared.algorithm.KeyManagementMode.TheVariants as mode
 use Rattle.keys.specs.Algorithms.{management_alg_among, mode_of}
 use Rattle.objects.specs.Headers.{number_parameter, salt_parameter, octets_parameter}
 
--- How a recipient's key delivers the content encryption key, with the header parameters that its algorithm reads.
+-- How a recipient's key delivers the content encryption key, with the header parameters that its algorithm reads. See RFC 7518 section 4.1.
 pub data KeyManagement : Type 0 where
   -- an algorithm that is not known, of which nothing is read
   Unknown : KeyManagement
@@ -44,19 +44,19 @@ gcm_management header = do
   tag ← ok_or tag_if_there Header
   Ok (GcmKeyWrap iv tag)
 
--- what a header says where its algorithm delivers so
+-- what a header says where its algorithm delivers so (RFC 7518 sections 4.4, 4.5, 4.7.1 and 4.8.1)
 abbrev pub management_in : KeyManagementMode → Members → Result KeyManagement Refusal
 management_in mode.Direct header = Ok Direct
 management_in mode.KeyWrap header = Ok KeyWrap
 management_in mode.Password header = password_management header
 management_in mode.GcmKeyWrap header = gcm_management header
 
--- by its algorithm
+-- by its algorithm (RFC 7518 section 4.1)
 abbrev pub management_by : Option KeyManagementAlg → Members → Result KeyManagement Refusal
 management_by None header = Ok Unknown
 management_by (Some alg) header = management_in (mode_of alg) header
 
--- by the name of this, among the algorithms that are known
+-- by the name of this, among the algorithms that are known (RFC 7518 section 4.1, docs/SPECIFICATION.md "Objects" 3)
 abbrev pub key_management : List KeyManagementAlg → List ℕ → Members → Result KeyManagement Refusal
 key_management algs alg header = management_by (management_alg_among algs alg) header
 

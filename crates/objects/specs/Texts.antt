@@ -32,7 +32,7 @@ each_item read (item x rest) = do
   others ← each_item read rest
   Ok (first ∷ others)
 
--- ---- the form of a text
+-- ---- the form of a text (docs/SPECIFICATION.md "Objects")
 
 -- white space of JSON (RFC 8259 section 2)
 abbrev pub is_json_space : ℕ → Bool
@@ -46,7 +46,7 @@ is_brace (Some c) = c == byte "{"
 unfoldable pub is_json_form : List ℕ → Bool
 is_json_form text = is_brace (find (λ c. not (is_json_space c)) text)
 
--- ---- the parts of a compact text
+-- ---- the parts of a compact text (RFC 7515 section 7.1, RFC 7516 section 7.1)
 
 abbrev pub is_dot : ℕ → Bool
 is_dot c = c == byte "."
@@ -67,7 +67,7 @@ three_parts text = do
   last ← needs (is_none (position is_dot second.1)) Form
   Ok (first.0, second.0, second.1)
 
--- ---- the members of a JSON text
+-- ---- the members of a JSON text (RFC 7515 section 7.2, RFC 7516 section 7.2)
 
 abbrev pub text_if_there : Option Data → Result (List ℕ) Refusal
 text_if_there None = Ok []
@@ -119,7 +119,7 @@ abbrev pub handed_out : Bool → List ℕ → List ℕ
 handed_out false content = []
 handed_out true content = content
 
--- ---- lists
+-- ---- lists (RFC 7515 section 7.2.1, RFC 7516 section 7.2.1)
 
 abbrev pub has_items : Items → Bool
 has_items no_items = false
@@ -136,7 +136,7 @@ abbrev pub has_members : Members → Bool
 has_members no_members = false
 has_members (member k d rest) = true
 
--- ---- how deep a header may nest
+-- ---- how deep a header may nest (docs/SPECIFICATION.md "Octets and texts")
 
 -- A text is read where it nests at most 127 deep, and so is a header in it where that nests one less deep.
 abbrev pub header_depth : ℕ

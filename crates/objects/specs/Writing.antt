@@ -32,7 +32,7 @@ slot_by false octets w = pushed (base64url octets) w
 abbrev pub with_slot : List ℕ → Written → Written
 with_slot octets w = slot_by w.places octets w
 
--- ---- objects and lists
+-- ---- objects and lists (docs/SPECIFICATION.md "Octets and texts")
 
 -- a bracket behind which nothing stands yet
 abbrev pub opened : List ℕ → Written → Written
@@ -54,7 +54,7 @@ separated w = comma_by w.later w
 abbrev pub named : List ℕ → Written → Written
 named name w = closed (codes "\":") (pushed name (pushed (codes "\"") (separated w)))
 
--- ---- members
+-- ---- members (docs/SPECIFICATION.md "Objects" 5)
 
 abbrev pub with_value : List ℕ → Data → Written → Written
 with_value name value w = pushed (compact_text value) (named name w)
@@ -90,7 +90,7 @@ with_items with_one (x ∷ rest) w = with_items with_one rest (closed (codes "}"
 abbrev pub with_list : {X : Type 0} → List ℕ → (X → Written → Written) → List X → Written → Written
 with_list name with_one xs w = closed (codes "]") (with_items with_one xs (opened (codes "[") (named name w)))
 
--- ---- parts of a compact text
+-- ---- parts of a compact text (RFC 7515 section 7.1, RFC 7516 section 7.1)
 
 -- the base64url text of octets behind a dot
 abbrev pub with_part : List ℕ → Written → Written
