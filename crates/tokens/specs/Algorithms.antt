@@ -33,7 +33,7 @@ key_alg A128GcmKw = delivery.A128GcmKw
 key_alg A192GcmKw = delivery.A192GcmKw
 key_alg A256GcmKw = delivery.A256GcmKw
 
--- where an algorithm reads no parameters
+-- where an algorithm reads no parameters (RFC 7518 sections 4.4 and 4.5)
 abbrev pub no_parameters : Parameters
 no_parameters = record { iv = []; tag = []; p2s = []; p2c = 0 }
 
@@ -45,7 +45,7 @@ parameters_by KeyWrap = no_parameters
 parameters_by (Password p2s p2c) = record { iv = []; tag = []; p2s = p2s; p2c = p2c }
 parameters_by (GcmKeyWrap iv tag) = record { iv = iv; tag = tag; p2s = []; p2c = 0 }
 
--- both algorithms of an encrypted object
+-- both algorithms of an encrypted object (RFC 7516 sections 4.1.1 and 4.1.2)
 pub record Algorithms : Type 0 where
   pub management : KeyManagementAlg
   pub encryption : ContentEncryptionAlg

@@ -22,7 +22,7 @@ use Rattle.objects.specs.Texts.{each}
 use Rattle.tokens.specs.EncryptionTemplate.{EncryptionTemplate, encryption_template}
 use Rattle.tokens.specs.Template.{is_shallow, is_empty}
 
--- ---- the algorithms of a key
+-- ---- the algorithms of a key (docs/SPECIFICATION.md "Encrypting" 2 and 3)
 
 -- the one whose keys have n octets
 abbrev pub management_by_length : ℕ → Option KeyManagementAlg
@@ -83,7 +83,7 @@ abbrev pub chosen_encryption : Option ContentEncryptionAlg → KeyManagementAlg 
 chosen_encryption (Some enc) alg key = Ok enc
 chosen_encryption None alg key = ok_or (encryption_by_management alg key) NoAlgorithm
 
--- ---- the recipient keys
+-- ---- the recipient keys (docs/SPECIFICATION.md "Encrypting" 2 to 4)
 
 -- a key, and the algorithm by which it receives the content encryption key
 pub record RecipientKey : Type 0 where
@@ -101,7 +101,7 @@ is_direct_in mode.KeyWrap = false
 is_direct_in mode.Password = false
 is_direct_in mode.GcmKeyWrap = false
 
--- the key is the content encryption key
+-- the key is the content encryption key (RFC 7518 section 4.5)
 abbrev pub is_direct : KeyManagementAlg → Bool
 is_direct alg = is_direct_in (mode_of alg)
 
@@ -121,7 +121,7 @@ encryption_for asked (r ∷ rest) = chosen_encryption asked r.management r.key
 abbrev pub may_encrypt : ContentEncryptionAlg → RecipientKey → Bool
 may_encrypt encryption r = allows r.key (management_operations r.management).0 && fits r.key (EncryptionWith r.management encryption)
 
--- ---- the iterations of PBKDF2
+-- ---- the iterations of PBKDF2 (RFC 7518 section 4.8.1.2, docs/SPECIFICATION.md "Encrypting" 4, 5 and 7)
 
 -- how many recipient keys are passwords
 abbrev pub password_count : List RecipientKey → ℕ
@@ -139,7 +139,7 @@ abbrev pub p2c_may_be_written : Limits → ℕ → ℕ → Bool
 p2c_may_be_written limits zero p2c = true
 p2c_may_be_written limits (suc n) p2c = nat_le limits.least_p2c p2c && (nat_le p2c limits.greatest_p2c && nat_le (suc n * p2c) limits.p2c_sum)
 
--- ---- the headers
+-- ---- the headers (docs/SPECIFICATION.md "Encrypting" 7)
 
 -- the header with a parameter, where the template does not name its algorithm
 abbrev pub with_name : Bool → List ℕ → List ℕ → Members → Members
@@ -156,7 +156,7 @@ abbrev pub is_given : Result (Option ℕ) Refusal → Bool
 is_given (Ok p2c) = is_some p2c
 is_given (Err refusal) = true
 
--- ---- what a template and keys settle
+-- ---- what a template and keys settle (docs/SPECIFICATION.md "Encrypting" 2 to 5)
 
 -- What the template gives of key management, and so is written for no recipient: the name of its algorithm, and the iterations.
 pub record Given : Type 0 where
@@ -174,7 +174,7 @@ pub record EncryptionPlan : Type 0 where
   pub unprotected : Members
   pub aad : List ℕ
 
--- a compact text has one recipient, and no member but those that are protected
+-- a compact text has one recipient, and no member but those that are protected (RFC 7516 section 7.1)
 abbrev pub compact_has_room : Bool → List RecipientKey → EncryptionTemplate → Bool
 compact_has_room compact recipient_keys t = if compact then is_alone recipient_keys && (is_empty t.unprotected && (length t.aad == 0)) else true
 

@@ -20,7 +20,7 @@ use Rattle.objects.specs.Jwe.{Recipient, EncryptedObject}
 use Rattle.objects.specs.KeyManagement.{KeyManagement, Unknown, Direct, KeyWrap, Password, GcmKeyWrap}
 use Rattle.tokens.specs.Algorithms.{Algorithms, content_alg, key_alg, parameters_by}
 
--- ---- the pairs that are tried
+-- ---- the pairs that are tried (RFC 7516 section 5.2, steps 6, 7 and 13, and docs/SPECIFICATION.md "Decrypting" 2)
 
 abbrev pub algorithms_by : Option KeyManagementAlg → Option ContentEncryptionAlg → Option Algorithms
 algorithms_by None enc = None
@@ -89,7 +89,7 @@ pairs_to_try limits keys recipients = do
   few ← needs (are_within limits (all_pairs limits.management keys recipients)) Limit
   Ok (all_pairs limits.management keys recipients)
 
--- ---- what a pair opens
+-- ---- what a pair opens (RFC 7516 section 5.2, steps 9 to 18, and docs/SPECIFICATION.md "Decrypting" 3 and 4)
 
 -- the text of the protected header, and after a dot that of the other additional data, where there are some (step 15)
 abbrev pub additional_authenticated_data : List ℕ → List ℕ → List ℕ
@@ -106,12 +106,12 @@ pub record SealedContent : Type 0 where
 abbrev pub sealed_content : EncryptedObject → SealedContent
 sealed_content o = record { iv = o.iv; aad = additional_authenticated_data o.protected o.aad; ciphertext = o.ciphertext; tag = o.tag }
 
--- the content encryption key that the recipient's encrypted key delivers
+-- the content encryption key that the recipient's encrypted key delivers (steps 9 to 11)
 unfoldable pub cek_of : Pair → Option (List ℕ)
 cek_of pair =
     delivered (key_alg pair.algorithms.management) (content_alg pair.algorithms.encryption) pair.key.octets (parameters_by pair.recipient.management) pair.recipient.encrypted_key
 
--- the plaintext under it
+-- the plaintext under it (step 16)
 unfoldable pub opened_by : SealedContent → Pair → Option (List ℕ)
 opened_by s pair = option_and_then (λ cek. opening (content_alg pair.algorithms.encryption) cek s.iv s.aad s.ciphertext s.tag) (cek_of pair)
 
@@ -120,7 +120,7 @@ abbrev pub first_opened : SealedContent → List Pair → Option (List ℕ)
 first_opened s [] = None
 first_opened s (pair ∷ pairs) = option_or (opened_by s pair) (first_opened s pairs)
 
--- the plaintext of the object, or the first refusal
+-- the plaintext of the object, or the first refusal (step 18)
 unfoldable pub decrypted : Limits → List OctetKey → EncryptedObject → Result (List ℕ) Refusal
 decrypted limits keys o = do
   pairs ← pairs_to_try limits keys o.recipients

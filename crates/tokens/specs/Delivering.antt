@@ -9,7 +9,7 @@ use Rattle.objects.specs.KeyManagement.{KeyManagement, Direct, KeyWrap, Password
 use Rattle.tokens.specs.Algorithms.{key_alg}
 use Rattle.tokens.specs.Choosing.{RecipientKey, EncryptionPlan}
 
--- ---- what is drawn for the recipients
+-- ---- what is drawn for the recipients (docs/SPECIFICATION.md "Encrypting" 6)
 
 -- the octets of a salt input (RFC 7518 section 4.8.1.1)
 abbrev pub salt_len : ℕ
@@ -38,7 +38,7 @@ abbrev pub drawn_for_all : List RecipientKey → ℕ
 drawn_for_all [] = 0
 drawn_for_all (r ∷ rest) = drawn_for r + drawn_for_all rest
 
--- ---- the deliveries
+-- ---- the deliveries (RFC 7516 section 5.1, steps 4 to 6 and 8)
 
 -- the parameters by which a recipient's key encrypts the content encryption key
 abbrev pub parameters_with : List ℕ → ℕ → Parameters

@@ -25,7 +25,7 @@ use Rattle.tokens.specs.Delivering.{drawn_for_all, Delivery, deliveries_to}
 use Rattle.tokens.specs.Template.{header_text}
 
 -- ---- what is drawn: what the recipients take in order, the content encryption key, unless a key is it, and the initialization vector
--- of the content
+-- of the content (RFC 7516 section 5.1, steps 2, 6 and 9, and docs/SPECIFICATION.md "Encrypting" 6)
 
 -- the key that is used directly, if one is: it is the only one
 abbrev pub direct_key : List RecipientKey → Option (List ℕ)
@@ -58,7 +58,7 @@ iv_by e random = drop (cek_drawn e) (after_recipients e random)
 abbrev pub deliveries_by : EncryptionPlan → List ℕ → List Delivery
 deliveries_by e random = deliveries_to e (cek_by e random) e.recipient_keys (for_recipients e random)
 
--- ---- the headers
+-- ---- the headers (RFC 7516 section 5.1, steps 12 and 13, and docs/SPECIFICATION.md "Encrypting" 7)
 
 -- with the parameters of key management, but for the iterations where the template gives them (RFC 7518 sections 4.7.1 and 4.8.1)
 abbrev pub with_management : Bool → KeyManagement → Members → Members
@@ -96,12 +96,12 @@ recipient_parts_by given alone d = record { header = per_recipient_header given 
 abbrev pub recipients_by : EncryptionPlan → List ℕ → List RecipientParts
 recipients_by e random = map (recipient_parts_by e.given (is_alone e.recipient_keys)) (deliveries_by e random)
 
--- ---- the object of a plaintext
+-- ---- the object of a plaintext (RFC 7516 section 5.1, steps 14 and 15)
 
 abbrev pub sealing_by : EncryptionPlan → List ℕ → Sealing
 sealing_by e random = sealing (content_alg e.encryption) (cek_by e random) (iv_by e random) (additional_authenticated_data (base64url (header_by e random)) e.aad)
 
--- what the plaintext becomes, where it is not too long
+-- what the plaintext becomes, where it is not too long (docs/SPECIFICATION.md "Encrypting" 7)
 unfoldable pub sealed_by : Sealing → List ℕ → Result Sealed Refusal
 sealed_by s plaintext = do
   short ← needs (not (is_longer (length plaintext) s.longest)) Limit
@@ -133,7 +133,7 @@ unsealed = record { ciphertext = []; tag = [] }
 abbrev pub frame_by : Limits → Bool → Bool → EncryptionPlan → List ℕ → Result (List (List ℕ)) Refusal
 frame_by limits compact detach e random = built limits (parts_by e random unsealed) >>= jwe_frame compact detach
 
--- ---- its text
+-- ---- its text (RFC 7516 section 5.1, step 19, and docs/SPECIFICATION.md "Commands", what is left after a refusal)
 
 -- what stands before the ciphertext's text: the first text of the object's frame
 abbrev pub text_before : Limits → Bool → EncryptionPlan → List ℕ → List ℕ

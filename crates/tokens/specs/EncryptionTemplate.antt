@@ -15,13 +15,13 @@ use Rattle.objects.specs.Headers.{header_at, joint_header, string_parameter, num
 use Rattle.objects.specs.Jwe.{has_no_crit_or_zip}
 use Rattle.objects.specs.Texts.{text_at}
 
--- its headers and the text of its additional data
+-- its headers and the text of its additional data (docs/SPECIFICATION.md "Encrypting" 1)
 pub record TemplateTexts : Type 0 where
   pub protected : Members
   pub unprotected : Members
   pub aad : List ℕ
 
--- an object with no member but `protected` and `unprotected`, which are objects, and `aad`, which is a string
+-- an object with no member but `protected` and `unprotected`, which are objects, and `aad`, which is a string ("Encrypting" 1)
 unfoldable pub template_texts : Data → Result TemplateTexts Refusal
 template_texts value = do
   an_object ← needs (is_object value) Form
@@ -32,12 +32,13 @@ template_texts value = do
   Ok (record { protected = protected; unprotected = unprotected; aad = aad })
 
 -- The algorithms that the headers name, if they do, and the count of iterations that they give, if they do. It is refused where
--- it is no whole number, but only for an algorithm that reads it.
+-- it is no whole number, but only for an algorithm that reads it. See docs/SPECIFICATION.md "Encrypting" 1 and 4.
 pub record AlgorithmsAsked : Type 0 where
   pub management : Option KeyManagementAlg
   pub encryption : Option ContentEncryptionAlg
   pub p2c : Result (Option ℕ) Refusal
 
+-- other names are refused (docs/SPECIFICATION.md "Encrypting" 1)
 abbrev pub supported_management : Option KeyManagementAlg → Result (Option KeyManagementAlg) Refusal
 supported_management None = Err Unsupported
 supported_management (Some alg) = Ok (Some alg)
@@ -60,7 +61,7 @@ abbrev pub leaves_parameters : Members → Bool
 leaves_parameters header =
     is_none (get_member (codes "p2s") header) && (is_none (get_member (codes "iv") header) && is_none (get_member (codes "tag") header))
 
--- of headers that leave them, and with neither `crit` nor `zip`
+-- of headers that leave them, and with neither `crit` nor `zip` (docs/SPECIFICATION.md "Encrypting" 1)
 unfoldable pub algorithms_asked : Members → Members → Result AlgorithmsAsked Refusal
 algorithms_asked protected unprotected = do
   header ← joint_header protected unprotected no_members
@@ -78,7 +79,7 @@ pub record EncryptionTemplate : Type 0 where
   pub aad : List ℕ
   pub asked : AlgorithmsAsked
 
--- the template that a value is
+-- the template that a value is (docs/SPECIFICATION.md "Encrypting" 1)
 unfoldable pub encryption_template : Data → Result EncryptionTemplate Refusal
 encryption_template value = do
   texts ← template_texts value

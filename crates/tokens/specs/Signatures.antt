@@ -8,16 +8,16 @@ use Rattle.prf.specs.Sha2.{sha256_function, sha384_function, sha512_function}
 use Rattle.keys.specs.declared.algorithm.SignatureAlg.{SignatureAlg}
 use Rattle.keys.specs.declared.algorithm.SignatureAlg.TheVariants.{Hs256, Hs384, Hs512}
 
--- the hash of the HMAC
+-- the hash of the HMAC (RFC 7518 section 3.2)
 abbrev pub signature_hash : SignatureAlg → HashFunction
 signature_hash Hs256 = sha256_function
 signature_hash Hs384 = sha384_function
 signature_hash Hs512 = sha512_function
 
--- the text of the protected header, a dot, and the base64url text of the payload
+-- the text of the protected header, a dot, and the base64url text of the payload (RFC 7515 section 5.1, step 5)
 abbrev pub signing_input : List ℕ → List ℕ → List ℕ
 signing_input protected payload = protected ++ (byte "." ∷ base64url payload)
 
--- the whole HMAC of the signing input
+-- the whole HMAC of the signing input (RFC 7515 section 5.1, step 5, and RFC 7518 section 3.2)
 unfoldable pub signature_of : SignatureAlg → List ℕ → List ℕ → List ℕ → List ℕ
 signature_of alg key protected payload = hmac (signature_hash alg) key (signing_input protected payload)

@@ -22,7 +22,7 @@ use Rattle.objects.specs.Texts.{each, handed_out}
 use Rattle.tokens.specs.Template.{SignatureTemplate, template_of, with_alg, header_text, is_shallow, is_empty}
 use Rattle.tokens.specs.Signatures.{signature_of}
 
--- ---- the algorithm of a key
+-- ---- the algorithm of a key (docs/SPECIFICATION.md "Signing" 2)
 
 -- the one with the longest hash that a key of n octets is long enough for
 abbrev pub alg_by_length : ℕ → Option SignatureAlg
@@ -42,7 +42,7 @@ abbrev pub chosen_alg : Option SignatureAlg → OctetKey → Result SignatureAlg
 chosen_alg (Some alg) key = Ok alg
 chosen_alg None key = alg_of_key key.alg (length key.octets)
 
--- ---- the signers
+-- ---- the signers (docs/SPECIFICATION.md "Signing" 2 to 4)
 
 -- a key, the algorithm that it signs by, and the protected header of its signature
 pub record Signer : Type 0 where
@@ -84,13 +84,13 @@ read_signing limits compact keys text = do
   template ← template_of value
   settle_signing limits compact keys template
 
--- ---- the object of a payload
+-- ---- the object of a payload (RFC 7515 section 5.1, steps 3 to 7)
 
--- the text of the protected header
+-- the text of the protected header (step 4)
 abbrev pub protected_by : Signer → List ℕ
 protected_by s = base64url (header_text s.protected)
 
--- the signature is that of this text and the payload
+-- the signature is that of this text and the payload (step 5)
 abbrev pub signature_by : Members → List ℕ → Signer → SignatureParts
 signature_by header payload s = record {
   protected = protected_by s;
@@ -113,7 +113,7 @@ unsigned_part_by header s = record { protected = protected_by s; header = header
 unfoldable pub unsigned_by : Limits → Signing → Result SignedObject Refusal
 unsigned_by limits s = built limits (record { payload = []; signatures = map (unsigned_part_by s.header) s.signers })
 
--- ---- its text
+-- ---- its text (RFC 7515 section 5.1, step 8, and docs/SPECIFICATION.md "Commands", what is left after a refusal)
 
 -- what is written of the object: its text, and the payload beside it where it is detached
 abbrev pub written_of : Bool → Bool → SignedObject → Result OutputTexts Refusal

@@ -12,7 +12,7 @@ use Rattle.keys.specs.Json.{is_object, has_only}
 use Rattle.keys.specs.Limits.{Limits}
 use Rattle.objects.specs.Headers.{header_at, joint_header, string_parameter}
 
--- ---- the form
+-- ---- the form (docs/SPECIFICATION.md "Signing" 1)
 
 -- the two headers of a template, and the algorithm that they name, if they do
 pub record SignatureTemplate : Type 0 where
@@ -29,7 +29,7 @@ template_headers value = do
   per_signature ← header_at (codes "header") value
   Ok (protected, per_signature)
 
--- ---- the algorithm
+-- ---- the algorithm (docs/SPECIFICATION.md "Signing" 1)
 
 abbrev pub supported : Option SignatureAlg → Result (Option SignatureAlg) Refusal
 supported None = Err Unsupported
@@ -54,7 +54,7 @@ template_of value = do
   alg ← named_alg headers.0 headers.1
   Ok (record { protected = headers.0; per_signature = headers.1; alg = alg })
 
--- ---- the headers that are written
+-- ---- the headers that are written (RFC 7515 section 5.1, steps 3 and 4, and docs/SPECIFICATION.md "Signing" 4 and 5)
 
 -- the protected header, with the algorithm where the template names none
 abbrev pub with_alg : SignatureTemplate → SignatureAlg → Members

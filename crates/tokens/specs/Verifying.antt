@@ -18,7 +18,7 @@ use Rattle.objects.specs.Texts.{handed_in}
 use Rattle.tokens.specs.Signatures.{signature_of}
 use Rattle.tokens.specs.Signing.{sig_plan}
 
--- ---- the pairs of a signature and a key
+-- ---- the pairs of a signature and a key (RFC 7515 section 5.2, step 8, and docs/SPECIFICATION.md "Verifying" 3)
 
 -- the key may verify by the algorithm, and fits
 abbrev pub is_candidate : SignatureAlg → OctetKey → Bool
@@ -48,7 +48,7 @@ verifies_by (Some alg) payload s key = is_signed alg payload s key
 abbrev pub verifies : List ℕ → Signature → OctetKey → Bool
 verifies payload s key = verifies_by (candidate_alg s key) payload s key
 
--- ---- the object
+-- ---- the object (RFC 7515 section 5.2, steps 9 and 10, and docs/SPECIFICATION.md "Verifying" 2 and 3)
 
 -- each key made a signature, where that is asked for, or else some key made some
 abbrev pub are_verified : Bool → List OctetKey → SignedObject → Bool
