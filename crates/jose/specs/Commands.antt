@@ -8,7 +8,7 @@ use Rattle.jose.specs.declared.words.table.Command.TheVariants.{JwkGen, JwkThp, 
 use Rattle.jose.specs.declared.words.table.Role.{Role}
 use Rattle.jose.specs.declared.words.table.Role.TheVariants.{Input, Output, Neither}
 
--- what an option takes: nothing, a value that has to be given, a value, or a value with a default
+-- what an option takes: nothing, a value that has to be given, a value, or a value with a default (docs/SPECIFICATION.md "Commands")
 pub data Takes : Type 0 where
   flag : Takes
   required : Takes
@@ -33,6 +33,8 @@ option letter name takes role = record { letter = byte letter; name = codes name
 -- a default that is written in the table
 abbrev pub else_value : String → Takes
 else_value text = default (codes text)
+
+-- ---- the options of each command (docs/SPECIFICATION.md "Commands")
 
 abbrev pub jwk_gen_options : List OptionEntry
 jwk_gen_options =

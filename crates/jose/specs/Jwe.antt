@@ -10,20 +10,20 @@ use Rattle.tokens.specs.Encrypting.{enc_plan, written_of}
 use Rattle.tokens.specs.Decrypting.{decrypted}
 
 -- the text of a plaintext that is encrypted to the keys, as the template asks, by octets of the random input, with the ciphertext
--- or beside it
+-- or beside it (docs/SPECIFICATION.md "Encrypting")
 abbrev pub enc_answer : Limits → Bool → Bool → List ℕ → List ℕ → Result (Draft OutputTexts) Refusal
 enc_answer limits compact detach keys template = do
   set ← key_set limits keys true
   enc_plan limits compact detach set template
 
--- the plaintext of the object, whose ciphertext may have been handed in
+-- the plaintext of the object, whose ciphertext may have been handed in (docs/SPECIFICATION.md "Decrypting")
 abbrev pub dec_answer : Limits → List ℕ → Option (List ℕ) → List ℕ → Result (List ℕ) Refusal
 dec_answer limits keys detached text = do
   set ← key_set limits keys false
   jwe ← jwe_of limits detached text
   decrypted limits set jwe
 
--- the text of the object in the other form, or in the same, with the ciphertext or beside it
+-- the text of the object in the other form, or in the same, with the ciphertext or beside it (docs/SPECIFICATION.md "Objects" 5)
 unfoldable pub jwe_fmt_answer : Limits → Bool → Bool → Option (List ℕ) → List ℕ → Result OutputTexts Refusal
 jwe_fmt_answer limits compact detach detached text = do
   jwe ← jwe_of limits detached text

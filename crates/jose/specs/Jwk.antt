@@ -12,17 +12,17 @@ use Rattle.keys.specs.KeySets.{key_set}
 use Rattle.keys.specs.Limits.{limits}
 use Rattle.keys.specs.Thumbprints.{thumbprint_of}
 
--- the key that a template's text makes, of the octets that are drawn for it
+-- the key that a template's text makes, of the octets that are drawn for it (docs/SPECIFICATION.md "Making keys")
 abbrev pub making : List ℕ → Result (Draft (List ℕ)) Refusal
 making template = do
   made ← made_key limits template
   Ok (record { drawn = made.len; plan = λ octets. without_content (key_text made octets) })
 
--- the thumbprints of the keys, with a line feed between each two
+-- the thumbprints of the keys, with a line feed between each two (docs/SPECIFICATION.md "Keys" 7)
 unfoldable pub thumbprint_lines : HashAlg → List OctetKey → List ℕ
 thumbprint_lines hash keys = join_by (λ key. thumbprint_of key hash) (byte "\n" ∷ []) keys
 
--- those of the good keys of a text, in order; a bad one of a set is passed over
+-- those of the good keys of a text, in order; a bad one of a set is passed over (docs/SPECIFICATION.md "Keys" 3 and 7)
 unfoldable pub thp_answer : HashAlg → List ℕ → Result (List ℕ) Refusal
 thp_answer hash text = do
   keys ← key_set limits text false
