@@ -1,13 +1,12 @@
 -- What a call did on an output, held against its answer.
-use Rattle.std.proofs.Common.{◌≡◌, ◌⊎◌, List, [], ◌++◌, ℕ, length, take, nat_le, Bool, true, false, Option, Some, None, is_some, MutBor, Result, Ok, Err, OnOk, OnErr, IfErr, IsTrue, refl, sym, ◌∙◌, ap, subst, append-nil, rules}
+use Rattle.std.proofs.Common.{◌≡◌, List, [], ◌++◌, ℕ, length, take, nat_le, Bool, true, false, Result, Ok, Err, OnOk, OnErr, IfErr, IsTrue, refl, sym, ◌∙◌, ap, subst, append-nil, rules}
 use Rattle.std.proofs.Math.Seq.{drop-append_seam}
 use lib.Dec.{leb-zero}
 use Rattle.octets.specs.declared.refusal.Refusal.{Refusal}
 use Rattle.octets.specs.declared.refusal.Refusal.TheVariants.{Write, Random}
 use Rattle.octets.specs.Devices.{observed, appended, IsPossibleInput}
-use Rattle.octets.specs.Lent.{lent, wrote_on}
 use Rattle.octets.specs.Outcomes.{◌>>=◌, needs, is_external, AgreesUnlessExternal}
-use Rattle.octets.specs.Plan.{OutputTexts, Plan, Draft, plan_map, plan_from, placed, by_plan, by_text, without_random, planned, without_content}
+use Rattle.octets.specs.Plan.{OutputTexts, Plan, Draft, plan_map, plan_from, placed, by_plan, without_random, planned, without_content}
 
 pub AgreesUnlessExternal-map : {W V : Type 0} (f : W → V) (a : Result W Refusal) (w : W) (v : V) (r : Result (Unit {0}) Refusal) → f w ≡ v
     → AgreesUnlessExternal a w r → AgreesUnlessExternal (a >>= λ x. Ok (f x)) v r
@@ -35,22 +34,10 @@ pub plan_from-by_plan : {W : Type 0} (plan : Result (Plan W) Refusal) (random : 
 plan_from-by_plan (Ok p) random = enough p random
 plan_from-by_plan (Err r) random = refl
 
-plan_from-by_text : {W : Type 0} (a : Result W Refusal) (random : List ℕ) → plan_from (by_text a) random ≡ (a >>= λ x. Ok (without_content x))
-plan_from-by_text (Ok x) random = enough (without_content x) random
-plan_from-by_text (Err r) random = refl
-
--- the plan of each form of draft, put in its place
+-- the plan of a draft that draws nothing, put in its place
 pub plan_of_plan : {V : Type 0} (f : List ℕ → V) (plan : Result (Plan (List ℕ)) Refusal) (random : List ℕ)
     → plan_from (placed f (by_plan plan)) random ≡ (plan >>= λ p. Ok (plan_map f p))
 plan_of_plan f plan random = plan_from-placed f (by_plan plan) random ∙ ap (λ r. r >>= λ p. Ok (plan_map f p)) (plan_from-by_plan plan random)
-
-pub plan_of_text : {V : Type 0} (f : List ℕ → V) (a : Result (List ℕ) Refusal) (random : List ℕ)
-    → plan_from (placed f (by_text a)) random ≡ (a >>= λ x. Ok (without_content (f x)))
-plan_of_text f a random = plan_from-placed f (by_text a) random ∙ ap (λ r. r >>= λ p. Ok (plan_map f p)) (plan_from-by_text a random) ∙ mapped a
-  where
-    mapped : (a : Result (List ℕ) Refusal) → ((a >>= λ x. Ok (without_content x)) >>= λ p. Ok (plan_map f p)) ≡ (a >>= λ x. Ok (without_content (f x)))
-    mapped (Ok x) = refl
-    mapped (Err r) = refl
 
 -- ---- answers
 
@@ -119,9 +106,3 @@ pub both_written : (texts : OutputTexts) (old new old_beside new_beside : List �
 both_written texts old new old_beside new_beside text content =
     ap (λ t. record { text = t; content = texts.content }) (sym (ap (appended old) text ∙ appended-append old texts.text))
     ∙ ap (λ c. record { text = appended old new; content = c }) (sym (ap (appended old_beside) content ∙ appended-append old_beside texts.content))
-
--- where no output is lent, nothing is written on it
-pub unlent : {D : Type 0} (written : D → List ℕ) (entry : Option (MutBor D)) (exit : Unit {0} ⊎ ((MutBor D × Unit {0}) ⊎ ⊥)) (P : Bool → List ℕ → Type 0) → entry ≡ None
-    → P (is_some entry) (wrote_on written (lent entry exit)) → P false []
-unlent written None exit P none p = p
-unlent written (Some m) exit P none p = cc none
