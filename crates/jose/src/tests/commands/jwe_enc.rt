@@ -83,6 +83,22 @@ const NOT_ENCRYPTED: &[(&str, &str, Refusal)] = &[
         RFC7516_KEY,
         Refusal::NoAlgorithm,
     ),
+    // Keys whose length gives no algorithm: 24 octets for `dir`, and 48 and 64 octets without an `alg`.
+    (
+        "{\"protected\":{\"alg\":\"dir\"}}",
+        "{\"kty\":\"oct\",\"k\":\"AAECAwQFBgcICQoLDA0ODxAREhMUFRYX\"}",
+        Refusal::NoAlgorithm,
+    ),
+    (
+        "{}",
+        "{\"kty\":\"oct\",\"k\":\"AAECAwQFBgcICQoLDA0ODxAREhMUFRYXGBkaGxwdHh8gISIjJCUmJygpKissLS4v\"}",
+        Refusal::NoAlgorithm,
+    ),
+    (
+        "{}",
+        "{\"kty\":\"oct\",\"k\":\"AAECAwQFBgcICQoLDA0ODxAREhMUFRYXGBkaGxwdHh8gISIjJCUmJygpKissLS4vMDEyMzQ1Njc4OTo7PD0-Pw\"}",
+        Refusal::NoAlgorithm,
+    ),
     (
         "{\"protected\":{\"alg\":\"A256KW\"}}",
         RFC7516_KEY,

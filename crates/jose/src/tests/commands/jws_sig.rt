@@ -116,6 +116,48 @@ fn the_key_decides_where_the_template_has_no_algorithm(rt: HostRuntime) -> Resul
     signs_each(&rt, &SIGN_COMPACT, WITHOUT_ALGORITHM)
 }
 
+/// Keys without an `alg` by their lengths, just below and at each border: the length gives the algorithm.
+const BY_LENGTH: &[(&str, &str, Answer<'_>)] = &[
+    (
+        "{}",
+        "{\"kty\":\"oct\",\"k\":\"AAECAwQFBgcICQoLDA0ODxAREhMUFRYXGBkaGxwdHh8gISIjJCUmJygpKissLS4\"}",
+        Answer::Text("eyJhbGciOiJIUzI1NiJ9.YWJj.HtR2krNGRoo7nqs61JXCB4-oTEb9au81z-W8n36IaYA"),
+    ),
+    (
+        "{}",
+        "{\"kty\":\"oct\",\"k\":\"AAECAwQFBgcICQoLDA0ODxAREhMUFRYXGBkaGxwdHh8gISIjJCUmJygpKissLS4v\"}",
+        Answer::Text(
+            "eyJhbGciOiJIUzM4NCJ9.YWJj.QLbFgP6fKlfCOLCO34g5kBFbPDrRErHpKeUNyWtNUbiwewfrJP4nRoHt1Iiz6o4I",
+        ),
+    ),
+    (
+        "{}",
+        "{\"kty\":\"oct\",\"k\":\"AAECAwQFBgcICQoLDA0ODxAREhMUFRYXGBkaGxwdHh8gISIjJCUmJygpKissLS4vMDEyMzQ1Njc4OTo7PD0-\"}",
+        Answer::Text(
+            "eyJhbGciOiJIUzM4NCJ9.YWJj.1n2Hrq1S4_8ZCYSyNwXGElYMqcJMjLMp6kz-kkP0p9yPGhlzy0TYZsloNrp83h8F",
+        ),
+    ),
+    (
+        "{}",
+        "{\"kty\":\"oct\",\"k\":\"AAECAwQFBgcICQoLDA0ODxAREhMUFRYXGBkaGxwdHh8gISIjJCUmJygpKissLS4vMDEyMzQ1Njc4OTo7PD0-Pw\"}",
+        Answer::Text(
+            "eyJhbGciOiJIUzUxMiJ9.YWJj.85xIDhV7368pTPWIOAG_JnfClRr-Ocpbx65jbD-FS-VLbA0UzXF6WJG6Mq_2KdzdeAZl57C2n5xlKmU6gH7OZg",
+        ),
+    ),
+    (
+        "{}",
+        "{\"kty\":\"oct\",\"k\":\"AAECAwQFBgcICQoLDA0ODxAREhMUFRYXGBkaGxwdHh8gISIjJCUmJygpKissLS4vMDEyMzQ1Njc4OTo7PD0-P0A\"}",
+        Answer::Text(
+            "eyJhbGciOiJIUzUxMiJ9.YWJj.yEk5Q_W4R2zYJBl9FARu_5AkJ81QCGUCT-yI92-ZpbSVGMW4gwrMb2cS2XZCexjBK7HpJkoAWkpRP4-6eLd9Dg",
+        ),
+    ),
+];
+
+#[test]
+fn the_length_of_a_key_gives_the_longest_hash_that_fits(rt: HostRuntime) -> Result<(), Fail> {
+    signs_each(&rt, &SIGN_COMPACT, BY_LENGTH)
+}
+
 /// Templates with a header that is not protected.
 const WITH_HEADER: &[(&str, &str, Answer<'_>)] = &[
     // A header beside the protected one.

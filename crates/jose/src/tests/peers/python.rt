@@ -172,3 +172,41 @@ fn aes_key_wrap_gives_the_texts_of_another_program(rt: HostRuntime) -> Result<()
     made_elsewhere(&rt, BY_A192KW)?;
     made_elsewhere(&rt, BY_A256KW)
 }
+
+#[test]
+fn the_length_of_a_direct_key_gives_its_content_encryption(rt: HostRuntime) -> Result<(), Fail> {
+    for (_, key, text) in &BY_DIR[..3] {
+        let template = "{\"protected\":{\"alg\":\"dir\"}}";
+        let answer = Answer::Text(text);
+        encrypts(&rt, &ENCRYPT_COMPACT, template, key, OCTETS_FROM_1, answer)?;
+    }
+    Ok(())
+}
+
+#[test]
+fn the_length_of_an_aes_key_gives_both_algorithms(rt: HostRuntime) -> Result<(), Fail> {
+    for (_, key, text) in [BY_A128KW[0], BY_A192KW[1], BY_A256KW[2]] {
+        let answer = Answer::Text(text);
+        encrypts(&rt, &ENCRYPT_COMPACT, "{}", key, OCTETS_FROM_1, answer)?;
+    }
+    Ok(())
+}
+
+/// `LINE` by keys whose `alg` names the content encryption that each is used for directly, with the template `{}`: the texts of `BY_DIR`.
+const NAMED_BY_THE_KEY: &[&str] = &[
+    "{\"kty\":\"oct\",\"k\":\"ZWZnaGlqa2xtbm9wcXJzdHV2d3h5ent8fX5_gIGCg4Q\",\"alg\":\"A128CBC-HS256\"}",
+    "{\"kty\":\"oct\",\"k\":\"MzQ1Njc4OTo7PD0-P0BBQkNERUZHSElKS0xNTk9QUVJTVFVWV1hZWltcXV5fYGFi\",\"alg\":\"A192CBC-HS384\"}",
+    "{\"kty\":\"oct\",\"k\":\"HyAhIiMkJSYnKCkqKywtLi8wMTIzNDU2Nzg5Ojs8PT4_QEFCQ0RFRkdISUpLTE1OT1BRUlNUVVZXWFlaW1xdXg\",\"alg\":\"A256CBC-HS512\"}",
+    "{\"kty\":\"oct\",\"k\":\"ZWZnaGlqa2xtbm9wcXJzdA\",\"alg\":\"A128GCM\"}",
+    "{\"kty\":\"oct\",\"k\":\"ZWZnaGlqa2xtbm9wcXJzdHV2d3h5ent8\",\"alg\":\"A192GCM\"}",
+    "{\"kty\":\"oct\",\"k\":\"ZWZnaGlqa2xtbm9wcXJzdHV2d3h5ent8fX5_gIGCg4Q\",\"alg\":\"A256GCM\"}",
+];
+
+#[test]
+fn a_key_that_names_a_content_encryption_is_used_directly(rt: HostRuntime) -> Result<(), Fail> {
+    for (key, (_, _, text)) in NAMED_BY_THE_KEY.iter().zip(BY_DIR) {
+        let answer = Answer::Text(text);
+        encrypts(&rt, &ENCRYPT_COMPACT, "{}", key, OCTETS_FROM_1, answer)?;
+    }
+    Ok(())
+}
