@@ -1,4 +1,4 @@
-use Rattle.std.proofs.Common.{ℕ, List, map, [], Bor, inl, inr}
+use Rattle.std.proofs.Common.{ℕ, List, [], Bor, inl, inr}
 use Rattle.jose.proofs.Mapped.{mapped-at}
 use Rattle.jose.proofs.placeholder.Goals as goal
 
