@@ -16,7 +16,7 @@ xor_count t a = to_be_bytes w64 (bit_xor (from_be_bytes w64 a) t)
 abbrev pub part : List ℕ → ℕ → List ℕ
 part p i = take 8 (drop (8 * i) p)
 
--- The table (section 2.2.1): A(t) in column 0, and R(t, i) in column i, from 1 to the number n of parts. Step t + 1 is
+-- The table (section 2.2.1, by indexes instead of shifts): A(t) in column 0, and R(t, i) in column i, from 1 to the number n of parts. Step t + 1 is
 -- that of A and of the register after t modulo n.
 unfoldable pub table : (List ℕ → List ℕ) → List ℕ → ℕ → ℕ → List ℕ
 table e p zero zero = initial_value
