@@ -9,6 +9,6 @@ use Rattle.keys.specs.Keys.{OctetKey}
 unfoldable pub required_members : OctetKey → List ℕ
 required_members key = codes "{\"k\":\"" ++ base64url key.octets ++ codes "\",\"kty\":\"oct\"}"
 
--- the base64url text of their hash (section 3.1)
+-- the base64url text of their hash (section 3)
 unfoldable pub thumbprint_of : OctetKey → HashAlg → List ℕ
 thumbprint_of key hash = base64url (digest_of hash (required_members key))
