@@ -1,8 +1,11 @@
-# Three functions for scripts that use jose; read them in by `. jose-functions.sh`.
+# Three functions for scripts that use jose. Read them in by `. ./jose-functions.sh`, or by the full path: dash, busybox and `bash --posix`
+# look for a name without a slash in the folders of PATH only.
 
 # jose_set FILE..: one set of all keys in these files, on standard output. A file holds a key or a set. A file that holds anything but
-# good keys is refused, with its name and the refusal, and nothing is written. To add a key to a set write a new file, as in
-# `jose_set all.jwks new.jwk > all.new`, and rename it on the next line.
+# good keys is refused, with its name and the refusal, and nothing is written. So `jose_set all.jwks >/dev/null` says whether each key of a
+# set is good. This adds a key, or the keys of a set, to the set all.jwks:
+#     umask 077; jose_set all.jwks new.jwk > all.new && mv all.new all.jwks
+# If a key is refused, all.jwks stays as it is. Write to a new name: the shell truncates what is after `>` before jose_set reads it.
 jose_set() (
     jose_list=
     jose_names=
@@ -32,6 +35,8 @@ jose_set() (
 
 # jose_ver_all NUMBER KEYS WORD..: runs `jose jws ver -a -k KEYS WORD..`, if the file KEYS holds exactly NUMBER different good keys.
 # By itself -a passes over bad keys, and takes one signature for two keys that are the same. KEYS is read twice, so it is no pipe.
+# Use only keys that `jose jwk gen` made. HMAC pads a short key with zero octets, so a key and the same key with zero octets after it make
+# the same signatures, as do a key that is longer than a block and its hash. Such keys are counted as different.
 jose_ver_all() (
     jose_number=$1
     jose_keys=$2

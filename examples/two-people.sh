@@ -23,7 +23,8 @@ join() {
         "$(cut -d . -f 1 "$1")" "$(cut -d . -f 3 "$1")" "$(cut -d . -f 1 "$2")" "$(cut -d . -f 3 "$2")"
 }
 
-# The host. -a asks every good key of the set and passes over bad keys, so jose_ver_all counts the good keys too.
+# The host. -a asks every good key of the set and passes over bad keys, so jose_ver_all counts the good keys too. It counts different
+# keys, not people: all of them have to come from `jwk gen`, as jose-functions.sh says.
 jose_set ann.jwk bob.jwk > people.jwks
 join release.ann release.bob > release.jws
 jose_ver_all 2 people.jwks -i release.jws -I release
@@ -50,7 +51,7 @@ for other in padded number curve empty; do
     [ ! -s bad.new ]
 done
 
-# A third person: the key is added to the set, which keeps the other two.
+# A third person: the key is added to the set, which keeps the other two. If a key is refused, set -e ends the script before mv.
 jose jwk gen -i '{"alg":"HS256","kid":"eve"}' -o eve.jwk
 jose_set people.jwks eve.jwk > people.new
 mv people.new people.jwks
