@@ -10,8 +10,8 @@ BUILT = scripts/built
 demo:
 	@scripts/demo
 
-# The gate: proves every crate from nothing, tries the must-fail edits, and runs the tests and the program. Up to three checks run side
-# by side, one per processor.
+# Proves every crate from nothing, tries the must-fail edits, and runs the tests and the program. The gate (.ci/run) begins with it. Up to
+# three checks run side by side, one per processor.
 test:
 	RT_JOBS=$$(nproc | awk '{ print ($$1 < 3) ? $$1 : 3 }') rt ci
 
