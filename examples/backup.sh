@@ -25,7 +25,7 @@ jose jwe enc -c -k backup.jwk -I list -o parts/list.jwe
 
 # Restore it. The list is decrypted and compared, and then all parts are decrypted, before the archive is unpacked.
 jose jwe dec -i parts/list.jwe -k backup.jwk -O list.back
-(cd parts && sha256sum -c --quiet ../list.back && [ "$(ls part-*.jwe | wc -l)" -eq "$(wc -l < ../list.back)" ])
+(cd parts && sha256sum -c ../list.back >/dev/null && [ "$(ls part-*.jwe | wc -l)" -eq "$(wc -l < ../list.back)" ])
 mkdir -p restored
 for object in parts/part-*.jwe; do
     jose jwe dec -i "$object" -I "${object%.jwe}.enc" -k backup.jwk -O "${object%.jwe}.tar"
@@ -44,7 +44,7 @@ grep -q '17 NotOpened' why
 
 # The list shows that a part is missing.
 mv parts/part-ab.jwe gone.jwe
-if (cd parts && sha256sum -c --quiet ../list.back) >why 2>&1; then
+if (cd parts && sha256sum -c ../list.back) >why 2>&1; then
     echo 'a missing part was not noticed' >&2
     exit 1
 fi
