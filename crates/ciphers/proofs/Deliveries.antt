@@ -1,23 +1,17 @@
--- The delivery of content encryption keys, by the cipher that was made.
-use Rattle.std.proofs.Common.{◌≡◌, ◌≤◌, ℕ, ◌%◌, List, [], length, refl, sym, ap, ap₂, ◌∙◌, subst, lit≤, Option, Some, None, IfSome, IfNone, arith}
-use Rattle.std.proofs.Math.Path.{fun_ext}
-use Rattle.aes.specs.Cipher.{encrypted_block}
-use Rattle.ciphers.specs.Delivery.{Parameters, IsIvOf, IsTagOf, encrypted_key_of, key_tag_of, IsDelivered}
+-- The delivery of content encryption keys, by the way that the code goes.
+use Rattle.std.proofs.Common.{◌≡◌, ◌≤◌, ℕ, ◌%◌, ◌&&◌, ◌==◌, Bool, true, List, [], length, refl, sym, ap, ap₂, ◌∙◌, subst, Option, Some, None, IfSome, IfNone, arith}
+use Rattle.std.specs.Bool.{Decides}
+use Rattle.std.proofs.lemmas.Bool.Decides.{Decides-eqb, Decides-and}
+use Rattle.std.proofs.lemmas.Slice.Eq.{bytes_eq-Decides}
+use Rattle.ciphers.specs.Delivery.{Parameters, Way, directly, by_wrap, by_gcm, encrypted_by, tag_by, agrees_by, is_delivered_by, Delivers}
 use Rattle.ciphers.specs.KeyWrap.{IsUnwrapping}
 use Rattle.ciphers.specs.Sealing.{cek_len}
 use Rattle.ciphers.specs.declared.content_alg.ContentAlg.{ContentAlg}
-use Rattle.ciphers.specs.declared.content_alg.ContentAlg.TheVariants.{A128CbcHs256, A192CbcHs384, A256CbcHs512, A128Gcm, A192Gcm, A256Gcm}
-use Rattle.ciphers.specs.declared.key_alg.KeyAlg.{KeyAlg}
-use Rattle.ciphers.specs.declared.key_alg.KeyAlg.TheVariants.{Dir}
-use Rattle.ciphers.specs.Views.{IsWrap, IsGcmWrap}
+use Rattle.ciphers.proofs.Rows.{content_row}
 use Rattle.modes.specs.Ctr.{ctr}
 use Rattle.modes.proofs.Lemmas.{length-gcm_ciphertext}
 use Rattle.modes.specs.Gcm.{gcm_ciphertext, gcm_tag, IsGcmOpening}
 use Rattle.octets.specs.Octets.{IsOctets}
-
--- the cipher under a key that was made
-pub cipher_under : (nk : ℕ) (e : List ℕ → List ℕ) (made key : List ℕ) → ((b : List ℕ) → e b ≡ encrypted_block nk made b) → made ≡ key → encrypted_block nk key ≡ e
-cipher_under nk e made key same is = sym (fun_ext same ∙ ap (encrypted_block nk) is)
 
 -- GCM makes no octets of none
 pub none_encrypted : (e : List ℕ → List ℕ) (iv : List ℕ) → gcm_ciphertext e iv [] ≡ []
@@ -37,117 +31,89 @@ same_opening e iv other c copy tag p q a b d o =
 pub opening_long : (e : List ℕ → List ℕ) (iv c tag p : List ℕ) → IsGcmOpening e iv [] c tag p → length p ≡ length c
 opening_long e iv c tag p o = sym (length-gcm_ciphertext e iv p) ∙ ap length o.is_ciphertext
 
--- what is said of a known algorithm
-pub wrap_is : (alg known : KeyAlg) (key : List ℕ) (p : Parameters) (e : List ℕ → List ℕ) → alg ≡ known → IsWrap known key p e → IsWrap alg key p e
-wrap_is alg known key p e is w = subst (λ a. IsWrap a key p e) (sym is) w
+module _ (enc : ContentAlg) (key : List ℕ) (p : Parameters) (encrypted : List ℕ) where
+  -- the test of a content encryption key decides that it has its length, is encrypted to the octets that were received, and agrees
+  pub decided : (way : Way) (cek : List ℕ) → Decides (is_delivered_by way enc key p encrypted cek)
+      ((length cek ≡ cek_len enc) × ((encrypted_by way p cek ≡ encrypted) × (agrees_by way key p cek ≡ true)))
+  decided way cek =
+      Decides-and _ _ (Decides-eqb (length cek) (cek_len enc)) (Decides-and _ _ (bytes_eq-Decides (encrypted_by way p cek) encrypted) (λ h. h, λ h. h))
 
-pub gcm_is : (alg known : KeyAlg) (key : List ℕ) (p : Parameters) (e : List ℕ → List ℕ) → alg ≡ known → IsGcmWrap known key p e → IsGcmWrap alg key p e
-gcm_is alg known key p e is w = subst (λ a. IsGcmWrap a key p e) (sym is) w
+  -- the same for a known way
+  pub by_way : (P : (List ℕ → Type 0) → Type 0) (way known : Way) → known ≡ way → P (Delivers known enc key p encrypted) → P (Delivers way enc key p encrypted)
+  by_way P way known is h = subst (λ w. P (Delivers w enc key p encrypted)) is h
 
--- the key of each algorithm of content encryption can be wrapped
-parts_of : (enc : ContentAlg) → cek_len enc % 8 ≡ 0
-parts_of A128CbcHs256 = refl
-parts_of A192CbcHs384 = refl
-parts_of A256CbcHs512 = refl
-parts_of A128Gcm = refl
-parts_of A192Gcm = refl
-parts_of A256Gcm = refl
-
-two_of : (enc : ContentAlg) → 16 ≤ cek_len enc
-two_of A128CbcHs256 = lit≤ tt
-two_of A192CbcHs384 = lit≤ tt
-two_of A256CbcHs512 = lit≤ tt
-two_of A128Gcm = lit≤ tt
-two_of A192Gcm = lit≤ tt
-two_of A256Gcm = lit≤ tt
-
--- and has 64 octets at most
-pub most_of : (enc : ContentAlg) → cek_len enc ≤ 64
-most_of A128CbcHs256 = lit≤ tt
-most_of A192CbcHs384 = lit≤ tt
-most_of A256CbcHs512 = lit≤ tt
-most_of A128Gcm = lit≤ tt
-most_of A192Gcm = lit≤ tt
-most_of A256Gcm = lit≤ tt
-
-module _ (alg : KeyAlg) (enc : ContentAlg) (key : List ℕ) (p : Parameters) (encrypted : List ℕ) where
   -- ---- a key that is used directly
 
-  pub direct_delivers : (o : Option (List ℕ)) → alg ≡ Dir → IsOctets key
-      → IfSome o (λ cek. (cek ≡ key) × (length key ≡ cek_len enc) × (encrypted ≡ [])) → IfSome o (λ cek. IsDelivered alg enc key p encrypted cek)
-  unfolding encrypted_key_of
-  direct_delivers None is octets h = tt
-  direct_delivers (Some cek) is octets h = record {
+  pub direct_delivers : (o : Option (List ℕ)) → IsOctets key
+      → IfSome o (λ cek. (cek ≡ key) × (length key ≡ cek_len enc) × (encrypted ≡ [])) → IfSome o (Delivers directly enc key p encrypted)
+  direct_delivers None octets h = tt
+  direct_delivers (Some cek) octets h = record {
     octets = subst IsOctets (sym h.0) octets;
-    fits = ap length h.0 ∙ h.1;
-    direct = λ _. h.0;
-    iv_fits = subst (λ a. IsIvOf a p.iv) (sym is) tt;
-    is_encrypted = ap (λ a. encrypted_key_of a key p cek) is ∙ sym h.2;
-    is_tag = subst (λ a. IsTagOf a (key_tag_of alg key p cek) p.tag) (sym is) tt;
+    is_delivered = (decided directly cek).1 (ap length h.0 ∙ h.1, (sym h.2, (bytes_eq-Decides cek key).1 h.0));
   }
 
-  pub direct_nothing : (o : Option (List ℕ)) → alg ≡ Dir → IfNone o (length key ≡ cek_len enc → encrypted ≡ [] → ⊥)
-      → IfNone o ((cek : List ℕ) → IsDelivered alg enc key p encrypted cek → ⊥)
-  unfolding encrypted_key_of
-  direct_nothing None is h = λ cek d. h (sym (ap length (d.direct is)) ∙ d.fits) (sym d.is_encrypted ∙ ap (λ a. encrypted_key_of a key p cek) is)
-  direct_nothing (Some cek) is h = tt
+  pub direct_nothing : (o : Option (List ℕ)) → IfNone o (length key ≡ cek_len enc → encrypted ≡ [] → ⊥)
+      → IfNone o ((cek : List ℕ) → Delivers directly enc key p encrypted cek → ⊥)
+  direct_nothing None h = λ cek d.
+      let r = (decided directly cek).0 d.is_delivered in
+      h (sym (ap length ((bytes_eq-Decides cek key).0 r.1.1)) ∙ r.0) (sym r.1.0)
+  direct_nothing (Some cek) h = tt
 
   -- ---- a key that is unwrapped
 
-  module _ (e : List ℕ → List ℕ) (way : IsWrap alg key p e) where
+  module _ (e : List ℕ → List ℕ) where
     pub unwrapped_delivers : (o : Option (List ℕ)) → IfSome o (λ cek. (length cek ≡ cek_len enc) × IsUnwrapping e encrypted cek)
-        → IfSome o (λ cek. IsDelivered alg enc key p encrypted cek)
+        → IfSome o (Delivers (by_wrap e) enc key p encrypted)
     unwrapped_delivers None h = tt
     unwrapped_delivers (Some cek) h = record {
       octets = h.1.key_data.octets;
-      fits = h.0;
-      direct = λ is. absurd (way.other is);
-      iv_fits = way.iv;
-      is_encrypted = way.wraps cek ∙ h.1.wraps;
-      is_tag = way.any_tag (key_tag_of alg key p cek) p.tag;
+      is_delivered = (decided (by_wrap e) cek).1 (h.0, (h.1.wraps, refl));
     }
 
-    pub unwrapping : (cek : List ℕ) → IsDelivered alg enc key p encrypted cek → IsUnwrapping e encrypted cek
-    unwrapping cek d = record {
-      key_data = record {
-        octets = d.octets;
-        parts = ap (λ n. n % 8) d.fits ∙ parts_of enc;
-        two = subst (λ n. 16 ≤ n) (sym d.fits) (two_of enc);
-      };
-      wraps = sym (way.wraps cek) ∙ d.is_encrypted;
-    }
+    pub unwrapping : (cek : List ℕ) → Delivers (by_wrap e) enc key p encrypted cek → IsUnwrapping e encrypted cek
+    unwrapping cek d =
+        let r = (decided (by_wrap e) cek).0 d.is_delivered in
+        record {
+          key_data = record {
+            octets = d.octets;
+            parts = ap (λ n. n % 8) r.0 ∙ (content_row enc).parts;
+            two = subst (λ n. 16 ≤ n) (sym r.0) (content_row enc).two;
+          };
+          wraps = r.1.0;
+        }
 
     pub unwrapped_nothing : (o : Option (List ℕ)) → IfNone o ((cek : List ℕ) → length cek ≡ cek_len enc → IsUnwrapping e encrypted cek → ⊥)
-        → IfNone o ((cek : List ℕ) → IsDelivered alg enc key p encrypted cek → ⊥)
-    unwrapped_nothing None none = λ cek d. none cek d.fits (unwrapping cek d)
+        → IfNone o ((cek : List ℕ) → Delivers (by_wrap e) enc key p encrypted cek → ⊥)
+    unwrapped_nothing None none = λ cek d. none cek ((decided (by_wrap e) cek).0 d.is_delivered).0 (unwrapping cek d)
     unwrapped_nothing (Some cek) none = tt
 
-  -- ---- a key that is opened
+    -- ---- a key that is opened in GCM
 
-  module _ (e : List ℕ → List ℕ) (way : IsGcmWrap alg key p e) where
+    agreed : (cek : List ℕ) → Decides (agrees_by (by_gcm e) key p cek) ((length p.iv ≡ 12) × (tag_by (by_gcm e) p cek ≡ p.tag))
+    agreed cek = Decides-and _ _ (Decides-eqb (length p.iv) 12) (bytes_eq-Decides (tag_by (by_gcm e) p cek) p.tag)
+
     pub opened_delivers : (o : Option (List ℕ)) → IfSome o (λ cek. (length cek ≡ cek_len enc) × (length p.iv ≡ 12) × IsGcmOpening e p.iv [] encrypted p.tag cek)
-        → IfSome o (λ cek. IsDelivered alg enc key p encrypted cek)
+        → IfSome o (Delivers (by_gcm e) enc key p encrypted)
     opened_delivers None h = tt
     opened_delivers (Some cek) h = record {
       octets = h.2.octets;
-      fits = h.0;
-      direct = λ is. absurd (way.other is);
-      iv_fits = way.iv.1 h.1;
-      is_encrypted = way.encrypts cek ∙ h.2.is_ciphertext;
-      is_tag = (way.tag (key_tag_of alg key p cek) p.tag).1 (way.tags cek ∙ ap (gcm_tag e p.iv []) h.2.is_ciphertext ∙ h.2.is_tag);
+      is_delivered = (decided (by_gcm e) cek).1 (h.0, (h.2.is_ciphertext, (agreed cek).1 (h.1, ap (gcm_tag e p.iv []) h.2.is_ciphertext ∙ h.2.is_tag)));
     }
 
-    gcm_opening : (cek : List ℕ) → IsDelivered alg enc key p encrypted cek → IsGcmOpening e p.iv [] encrypted p.tag cek
+    pub gcm_opening : (cek : List ℕ) → Delivers (by_gcm e) enc key p encrypted cek → (length p.iv ≡ 12) × IsGcmOpening e p.iv [] encrypted p.tag cek
     gcm_opening cek d =
-        let text : gcm_ciphertext e p.iv cek ≡ encrypted = sym (way.encrypts cek) ∙ d.is_encrypted in
-        record {
-          octets = d.octets;
-          short = omega (arith, d.fits, most_of enc);
-          is_ciphertext = text;
-          is_tag = sym (ap (gcm_tag e p.iv []) text) ∙ sym (way.tags cek) ∙ (way.tag (key_tag_of alg key p cek) p.tag).0 d.is_tag;
-        }
+        let r = (decided (by_gcm e) cek).0 d.is_delivered in
+        let agree = (agreed cek).0 r.1.1 in (
+          agree.0,
+          record {
+            octets = d.octets;
+            short = omega (arith, r.0, (content_row enc).most);
+            is_ciphertext = r.1.0;
+            is_tag = sym (ap (gcm_tag e p.iv []) r.1.0) ∙ agree.1;
+          },
+        )
 
     pub opened_nothing : (o : Option (List ℕ)) → IfNone o ((cek : List ℕ) → length cek ≡ cek_len enc → length p.iv ≡ 12 → IsGcmOpening e p.iv [] encrypted p.tag cek → ⊥)
-        → IfNone o ((cek : List ℕ) → IsDelivered alg enc key p encrypted cek → ⊥)
-    opened_nothing None none = λ cek d. none cek d.fits (way.iv.0 d.iv_fits) (gcm_opening cek d)
+        → IfNone o ((cek : List ℕ) → Delivers (by_gcm e) enc key p encrypted cek → ⊥)
+    opened_nothing None none = λ cek d. let o = gcm_opening cek d in none cek ((decided (by_gcm e) cek).0 d.is_delivered).0 o.0 o.1
     opened_nothing (Some cek) none = tt

@@ -1,20 +1,20 @@
 -- Searching for an opening or a delivered key finds exactly it.
-use Rattle.std.proofs.Common.{◌≡◌, ◌↔◌, ℕ, ◌==◌, ◌&&◌, ◌+◌, ◌<◌, ◌≤◌, Bool, true, false, List, [], length, drop, slice_index, if◌then◌else◌, Option, Some, None, ◌⊎◌, inl, inr, refl, ◌∙◌, ap, arith}
+use Rattle.std.proofs.Common.{◌≡◌, ◌↔◌, ℕ, ◌==◌, ◌&&◌, ◌+◌, ◌*◌, ◌<◌, ◌≤◌, Bool, true, false, List, [], length, drop, slice_index, if◌then◌else◌, Option, Some, None, ◌⊎◌, inl, inr, refl, ◌∙◌, ap, arith}
 use Rattle.std.specs.Bool.{Decides}
 use Rattle.std.specs.Option.{IsSomeAnd}
-use Rattle.std.proofs.lemmas.Bool.Decides.{Decides-eqb, Decides-and, Decides-like, Decides-not, Decides-ltb}
+use Rattle.std.proofs.lemmas.Bool.Decides.{Decides-eqb, Decides-and, Decides-not, Decides-ltb}
 use Rattle.std.proofs.lemmas.Slice.Eq.{bytes_eq-Decides}
 use Rattle.aes.specs.Block.{IsBlock, IsCipher}
 use Rattle.aes.specs.Cipher.{encrypted_block}
 use Rattle.aes.specs.InverseCipher.{inverse_cipher}
 use Rattle.aes.specs.KeyExpansion.{key_expansion}
-use Rattle.ciphers.specs.Delivery.{Parameters, IsIvOf, IsTagOf, encrypted_key_of, key_tag_of, IsDelivered}
-use Rattle.ciphers.specs.Openings.{is_direct_key, is_iv_of, is_tag_of, is_encrypted_to, delivered, is_longer, is_sealed_to, opening}
-use Rattle.ciphers.specs.Sealing.{Sealing, IsTooLong, sealing, cek_len, iv_len, IsOpening}
+use Rattle.ciphers.specs.Algorithms.{ContentFamily, aes_cbc_hmac, aes_gcm, content_family}
+use Rattle.ciphers.specs.Delivery.{Parameters, way_of, is_delivered_by, IsDelivered}
+use Rattle.ciphers.specs.Openings.{delivered, is_longer, is_sealed_to, opening}
+use Rattle.ciphers.specs.Sealing.{Sealing, IsTooLong, sealing_in, sealing, cek_len, iv_len_in, iv_len, Opens, IsOpening}
+use Rattle.ciphers.proofs.Deliveries.{decided}
 use Rattle.ciphers.specs.declared.content_alg.ContentAlg.{ContentAlg}
-use Rattle.ciphers.specs.declared.content_alg.ContentAlg.TheVariants.{A128CbcHs256, A192CbcHs384, A256CbcHs512, A128Gcm, A192Gcm, A256Gcm}
 use Rattle.ciphers.specs.declared.key_alg.KeyAlg.{KeyAlg}
-use Rattle.ciphers.specs.declared.key_alg.KeyAlg.TheVariants.{Dir, A128Kw, A192Kw, A256Kw, A128GcmKw, A192GcmKw, A256GcmKw, Pbes2Hs256A128Kw, Pbes2Hs384A192Kw, Pbes2Hs512A256Kw}
 use Rattle.modes.specs.Cbc.{cbc}
 use Rattle.modes.specs.Ctr.{counter_block}
 use Rattle.modes.specs.Gcm.{gcm_ciphertext, pre_counter_block}
@@ -56,65 +56,15 @@ module _ (finds : FindsOctets) (n : ℕ) (test : List ℕ → Bool) (P : List �
 
 -- ---- content encryption keys
 
--- the test of a direct key decides that it is the key, where the algorithm uses it directly
-direct_decided : (alg : KeyAlg) (key cek : List ℕ) → Decides (is_direct_key alg key cek) (alg ≡ Dir → cek ≡ key)
-direct_decided Dir key cek = Decides-like _ (λ e _. e) (λ e. e refl) (bytes_eq-Decides cek key)
-direct_decided A128Kw key cek = (λ _ e. cc e, λ _. refl)
-direct_decided A192Kw key cek = (λ _ e. cc e, λ _. refl)
-direct_decided A256Kw key cek = (λ _ e. cc e, λ _. refl)
-direct_decided A128GcmKw key cek = (λ _ e. cc e, λ _. refl)
-direct_decided A192GcmKw key cek = (λ _ e. cc e, λ _. refl)
-direct_decided A256GcmKw key cek = (λ _ e. cc e, λ _. refl)
-direct_decided Pbes2Hs256A128Kw key cek = (λ _ e. cc e, λ _. refl)
-direct_decided Pbes2Hs384A192Kw key cek = (λ _ e. cc e, λ _. refl)
-direct_decided Pbes2Hs512A256Kw key cek = (λ _ e. cc e, λ _. refl)
-
--- the test of an IV decides that it has its length, where one is read
-iv_decided : (alg : KeyAlg) (iv : List ℕ) → Decides (is_iv_of alg iv) (IsIvOf alg iv)
-iv_decided A128GcmKw iv = Decides-eqb (length iv) 12
-iv_decided A192GcmKw iv = Decides-eqb (length iv) 12
-iv_decided A256GcmKw iv = Decides-eqb (length iv) 12
-iv_decided Dir iv = (λ _. tt, λ _. refl)
-iv_decided A128Kw iv = (λ _. tt, λ _. refl)
-iv_decided A192Kw iv = (λ _. tt, λ _. refl)
-iv_decided A256Kw iv = (λ _. tt, λ _. refl)
-iv_decided Pbes2Hs256A128Kw iv = (λ _. tt, λ _. refl)
-iv_decided Pbes2Hs384A192Kw iv = (λ _. tt, λ _. refl)
-iv_decided Pbes2Hs512A256Kw iv = (λ _. tt, λ _. refl)
-
--- and that of a tag that it is the one that was made
-tag_decided : (alg : KeyAlg) (made given : List ℕ) → Decides (is_tag_of alg made given) (IsTagOf alg made given)
-tag_decided A128GcmKw made given = bytes_eq-Decides made given
-tag_decided A192GcmKw made given = bytes_eq-Decides made given
-tag_decided A256GcmKw made given = bytes_eq-Decides made given
-tag_decided Dir made given = (λ _. tt, λ _. refl)
-tag_decided A128Kw made given = (λ _. tt, λ _. refl)
-tag_decided A192Kw made given = (λ _. tt, λ _. refl)
-tag_decided A256Kw made given = (λ _. tt, λ _. refl)
-tag_decided Pbes2Hs256A128Kw made given = (λ _. tt, λ _. refl)
-tag_decided Pbes2Hs384A192Kw made given = (λ _. tt, λ _. refl)
-tag_decided Pbes2Hs512A256Kw made given = (λ _. tt, λ _. refl)
-
 module _ (finds : FindsOctets) (alg : KeyAlg) (enc : ContentAlg) (key : List ℕ) (p : Parameters) (encrypted : List ℕ)
     (one : (x y : List ℕ) → IsDelivered alg enc key p encrypted x → IsDelivered alg enc key p encrypted y → x ≡ y) where
-  -- the test of a content encryption key decides that it is of its length, the direct key, and encrypted to what was received
-  decided : (cek : List ℕ) → Decides (is_encrypted_to alg enc key p encrypted cek)
-      ((length cek ≡ cek_len enc) × ((alg ≡ Dir → cek ≡ key) × (IsIvOf alg p.iv × ((encrypted_key_of alg key p cek ≡ encrypted) × IsTagOf alg (key_tag_of alg key p cek) p.tag))))
-  decided cek =
-      Decides-and _ _ (Decides-eqb (length cek) (cek_len enc))
-      (Decides-and _ _ (direct_decided alg key cek)
-      (Decides-and _ _ (iv_decided alg p.iv)
-      (Decides-and _ _ (bytes_eq-Decides (encrypted_key_of alg key p cek) encrypted) (tag_decided alg (key_tag_of alg key p cek) p.tag))))
-
   -- the search gives exactly the key that is delivered
   pub delivers : (cek : List ℕ) → (delivered alg enc key p encrypted ≡ Some cek) ↔ IsDelivered alg enc key p encrypted cek
   unfolding delivered
   delivers =
-      finds_exactly finds (cek_len enc) (is_encrypted_to alg enc key p encrypted) (IsDelivered alg enc key p encrypted)
-      (λ x octets h.
-      let r = (decided x).0 h in
-      record { octets = octets; fits = r.0; direct = r.1.0; iv_fits = r.1.1.0; is_encrypted = r.1.1.1.0; is_tag = r.1.1.1.1 })
-      (λ x d. (d.octets, omega (arith, d.fits), (decided x).1 (d.fits, (d.direct, (d.iv_fits, (d.is_encrypted, d.is_tag))))))
+      finds_exactly finds (cek_len enc) (is_delivered_by (way_of alg key p) enc key p encrypted) (IsDelivered alg enc key p encrypted)
+      (λ x octets h. record { octets = octets; is_delivered = h })
+      (λ x d. (d.octets, omega (arith, ((decided enc key p encrypted (way_of alg key p) x).0 d.is_delivered).0), d.is_delivered))
       one
 
 -- ---- contents
@@ -145,26 +95,23 @@ module _ (cipher : (nk : ℕ) (k : List ℕ) → ((i : ℕ) → slice_index k i 
       omega (arith, length-cbc _ _ (cipher nk (drop n cek) (IsOctets-drop n cek key)) iv block p octets, ap length text)
 
   -- an opening is no longer than its ciphertext
-  no_longer : (alg : ContentAlg) (cek iv aad c tag p : List ℕ) → IsOctets cek → IsOctets iv → IsOpening alg cek iv aad c tag p → length p ≤ length c
-  unfolding sealing
-  no_longer A128CbcHs256 cek iv aad c tag p key start o = under_cbc 4 16 cek iv p c key start o.iv_fits o.octets o.ciphertext
-  no_longer A192CbcHs384 cek iv aad c tag p key start o = under_cbc 6 24 cek iv p c key start o.iv_fits o.octets o.ciphertext
-  no_longer A256CbcHs512 cek iv aad c tag p key start o = under_cbc 8 32 cek iv p c key start o.iv_fits o.octets o.ciphertext
-  no_longer A128Gcm cek iv aad c tag p key start o = under_gcm (encrypted_block 4 cek) iv p c o.ciphertext
-  no_longer A192Gcm cek iv aad c tag p key start o = under_gcm (encrypted_block 6 cek) iv p c o.ciphertext
-  no_longer A256Gcm cek iv aad c tag p key start o = under_gcm (encrypted_block 8 cek) iv p c o.ciphertext
+  no_longer : (family : ContentFamily) (cek iv aad c tag p : List ℕ) → IsOctets cek → IsOctets iv → length iv ≡ iv_len_in family
+      → Opens (sealing_in family cek iv aad) c tag p → length p ≤ length c
+  no_longer (aes_cbc_hmac nk f) cek iv aad c tag p key start fits o = under_cbc nk (4 * nk) cek iv p c key start fits o.octets o.ciphertext
+  no_longer (aes_gcm nk) cek iv aad c tag p key start fits o = under_gcm (encrypted_block nk cek) iv p c o.ciphertext
 
   module _ (finds : FindsOctets) (alg : ContentAlg) (cek iv aad c tag : List ℕ) (key : IsOctets cek) (start : IsOctets iv)
       (one : (x y : List ℕ) → IsOpening alg cek iv aad c tag x → IsOpening alg cek iv aad c tag y → x ≡ y) where
     -- under a key and an IV of their lengths the search finds exactly the opening
     opens_where_fit : (length cek ≡ cek_len alg) × (length iv ≡ iv_len alg) → (p : List ℕ)
         → (found_within (length c) (is_sealed_to (sealing alg cek iv aad) c tag) ≡ Some p) ↔ IsOpening alg cek iv aad c tag p
+    unfolding sealing
     opens_where_fit (cek_fits, iv_fits) =
         let decided = sealed_decided (sealing alg cek iv aad) c tag in
         finds_exactly finds (length c) (is_sealed_to (sealing alg cek iv aad) c tag) (IsOpening alg cek iv aad c tag)
         (λ x octets h. let r = (decided x).0 h in
-        record { cek_fits = cek_fits; iv_fits = iv_fits; octets = octets; short = r.0; ciphertext = r.1.0; is_tag = r.1.1 })
-        (λ x o. (o.octets, no_longer alg cek iv aad c tag x key start o, (decided x).1 (o.short, (o.ciphertext, o.is_tag))))
+        record { cek_fits = cek_fits; iv_fits = iv_fits; opens = record { octets = octets; short = r.0; ciphertext = r.1.0; is_tag = r.1.1 } })
+        (λ x o. (o.opens.octets, no_longer (content_family alg) cek iv aad c tag x key start iv_fits o.opens, (decided x).1 (o.opens.short, (o.opens.ciphertext, o.opens.is_tag))))
         one
 
     -- the function of opening gives exactly the opening

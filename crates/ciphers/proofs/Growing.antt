@@ -4,8 +4,8 @@ use Rattle.std.proofs.lemmas.List.FromFn.{length-map-range_with_len, get_or-map-
 use Rattle.std.specs.List.{range_with_len}
 use Rattle.std.specs.Prelude.{replicate}
 use Rattle.ciphers.specs.declared.content_alg.ContentAlg.{ContentAlg}
-use Rattle.ciphers.specs.declared.content_alg.ContentAlg.TheVariants.{A128CbcHs256, A192CbcHs384, A256CbcHs512, A128Gcm, A192Gcm, A256Gcm}
-use Rattle.ciphers.specs.Sealing.{sealing}
+use Rattle.ciphers.specs.Algorithms.{ContentFamily, aes_cbc_hmac, aes_gcm, content_family}
+use Rattle.ciphers.specs.Sealing.{sealing_in, sealing}
 use Rattle.modes.specs.Cbc.{pad, chained, cbc_blocks, cbc}
 use Rattle.modes.specs.Ctr.{stream_octet, ctr}
 use Rattle.modes.specs.Gcm.{gcm_ciphertext}
@@ -48,22 +48,23 @@ stream_grows e f p q =
       continues = ctr-append e f p q rest (length-map-range_with_len octet 0 (length q)) (λ i l. get_or-map-range_with_len octet 0 (length q) i i 0 l (omega arith));
     }
 
--- so it is with each algorithm: what p fixes goes on
+-- so it is with each family
+fixed_grows_in : (family : ContentFamily) (cek iv aad p q : List ℕ) → Begins ((sealing_in family cek iv aad).fixed p) ((sealing_in family cek iv aad).fixed (p ++ q))
+unfolding gcm_ciphertext
+fixed_grows_in (aes_cbc_hmac nk f) cek iv aad p q = blocks_grow _ iv p q
+fixed_grows_in (aes_gcm nk) cek iv aad p q = stream_grows _ _ p q
+
+ciphertext_grows_in : (family : ContentFamily) (cek iv aad p q : List ℕ) → Begins ((sealing_in family cek iv aad).fixed p) ((sealing_in family cek iv aad).sealed (p ++ q)).ciphertext
+unfolding gcm_ciphertext
+ciphertext_grows_in (aes_cbc_hmac nk f) cek iv aad p q = padded_grows _ iv p q
+ciphertext_grows_in (aes_gcm nk) cek iv aad p q = stream_grows _ _ p q
+
+-- and with each algorithm: what p fixes goes on
 pub fixed_grows : (alg : ContentAlg) (cek iv aad p q : List ℕ) → Begins ((sealing alg cek iv aad).fixed p) ((sealing alg cek iv aad).fixed (p ++ q))
-unfolding sealing gcm_ciphertext
-fixed_grows A128CbcHs256 cek iv aad p q = blocks_grow _ iv p q
-fixed_grows A192CbcHs384 cek iv aad p q = blocks_grow _ iv p q
-fixed_grows A256CbcHs512 cek iv aad p q = blocks_grow _ iv p q
-fixed_grows A128Gcm cek iv aad p q = stream_grows _ _ p q
-fixed_grows A192Gcm cek iv aad p q = stream_grows _ _ p q
-fixed_grows A256Gcm cek iv aad p q = stream_grows _ _ p q
+unfolding sealing
+fixed_grows alg = fixed_grows_in (content_family alg)
 
 -- and it begins the ciphertext
 pub ciphertext_grows : (alg : ContentAlg) (cek iv aad p q : List ℕ) → Begins ((sealing alg cek iv aad).fixed p) ((sealing alg cek iv aad).sealed (p ++ q)).ciphertext
-unfolding sealing gcm_ciphertext
-ciphertext_grows A128CbcHs256 cek iv aad p q = padded_grows _ iv p q
-ciphertext_grows A192CbcHs384 cek iv aad p q = padded_grows _ iv p q
-ciphertext_grows A256CbcHs512 cek iv aad p q = padded_grows _ iv p q
-ciphertext_grows A128Gcm cek iv aad p q = stream_grows _ _ p q
-ciphertext_grows A192Gcm cek iv aad p q = stream_grows _ _ p q
-ciphertext_grows A256Gcm cek iv aad p q = stream_grows _ _ p q
+unfolding sealing
+ciphertext_grows alg = ciphertext_grows_in (content_family alg)

@@ -1,3 +1,4 @@
+pub mod Rows
 pub mod Halves
 pub mod Table
 pub mod Unwrapping

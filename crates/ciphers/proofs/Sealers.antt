@@ -1,15 +1,8 @@
 -- A running sealing, from what it was fed to what it gives.
 use Rattle.std.proofs.Common.{◌≡◌, ℕ, ◌+◌, ◌*◌, ◌/◌, ◌≤◌, List, ◌++◌, length, take, sym, ap, subst, ◌∙◌, arith, length-append, Result, Ok, Err, IfOk, OnOk}
 use Rattle.std.proofs.lemmas.List.{take_at, take-take, length-take-le}
-use Rattle.aes.specs.declared.aes.Aes128.{Aes128}
-use Rattle.aes.specs.declared.aes.Aes192.{Aes192}
-use Rattle.aes.specs.declared.aes.Aes256.{Aes256}
-use Rattle.ciphers.specs.declared.cbc_hmac.CbcHmac.{CbcHmac}
-use Rattle.ciphers.specs.declared.sealer.ContentSealer.{ContentSealer}
-use Rattle.ciphers.specs.declared.sealer.ContentSealer.TheVariants.{A128CbcHs256, A192CbcHs384, A256CbcHs512, A128Gcm, A192Gcm, A256Gcm}
-use Rattle.ciphers.specs.Views.{HoldsGcmSealing, on_sealer}
-use Rattle.ciphers.specs.Sealing.{Sealing, KeepsPace, cbc_hmac}
-use Rattle.prf.specs.Sha2.{Sha256, Sha384, Sha512}
+use Rattle.ciphers.specs.Views.{KeepsPace, HoldsGcmSealing}
+use Rattle.ciphers.specs.Sealing.{Sealing, cbc_hmac}
 use Rattle.modes.specs.Cbc.{cbc_blocks}
 use Rattle.modes.specs.Gcm.{gcm_ciphertext}
 use Rattle.modes.specs.Views as modes
@@ -57,28 +50,3 @@ gcm_fed encrypted x y s p piece out (Ok n) k room len fed text =
       pace = subst (λ t. KeepsPace t (p ++ piece)) (sym k.is_sealing) (record { within = omega (arith, longer); nearly = omega (arith, longer) });
     }
 gcm_fed encrypted x y s p piece out (Err refusal) k room len fed text = tt
-
--- ---- the sealing of an algorithm
-
-module _ (x : ContentSealer) (a : CbcHmac Aes128 Sha256 → Type 0) (b : CbcHmac Aes192 Sha384 → Type 0) (c : CbcHmac Aes256 Sha512 → Type 0)
-    (d : Gcm Aes128 → Type 0) (e : Gcm Aes192 → Type 0) (f : Gcm Aes256 → Type 0) (k : on_sealer x a b c d e f) where
-  at : (z : ContentSealer) → x ≡ z → on_sealer z a b c d e f
-  at z is = subst (λ z. on_sealer z a b c d e f) is k
-
-  pub at_a128 : (y : CbcHmac Aes128 Sha256) → x ≡ A128CbcHs256 y → a y
-  at_a128 y is = at (A128CbcHs256 y) is
-
-  pub at_a192 : (y : CbcHmac Aes192 Sha384) → x ≡ A192CbcHs384 y → b y
-  at_a192 y is = at (A192CbcHs384 y) is
-
-  pub at_a256 : (y : CbcHmac Aes256 Sha512) → x ≡ A256CbcHs512 y → c y
-  at_a256 y is = at (A256CbcHs512 y) is
-
-  pub at_a128_gcm : (y : Gcm Aes128) → x ≡ A128Gcm y → d y
-  at_a128_gcm y is = at (A128Gcm y) is
-
-  pub at_a192_gcm : (y : Gcm Aes192) → x ≡ A192Gcm y → e y
-  at_a192_gcm y is = at (A192Gcm y) is
-
-  pub at_a256_gcm : (y : Gcm Aes256) → x ≡ A256Gcm y → f y
-  at_a256_gcm y is = at (A256Gcm y) is

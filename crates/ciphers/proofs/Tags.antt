@@ -1,15 +1,15 @@
 -- A tag is not empty.
-use Rattle.std.proofs.Common.{◌≡◌, ℕ, ◌/◌, ◌≤◌, List, ◌++◌, length, refl, arith, lit≤}
+use Rattle.std.proofs.Common.{◌≡◌, ℕ, ◌/◌, ◌≤◌, List, ◌++◌, length, refl, arith}
 use Rattle.std.proofs.lemmas.List.{length-take}
-use Rattle.ciphers.specs.Sealing.{cbc_tag, sealing}
+use Rattle.ciphers.specs.Algorithms.{ContentFamily, aes_cbc_hmac, aes_gcm, content_family}
+use Rattle.ciphers.specs.Sealing.{cbc_tag, sealing_in, sealing}
 use Rattle.ciphers.specs.declared.content_alg.ContentAlg.{ContentAlg}
-use Rattle.ciphers.specs.declared.content_alg.ContentAlg.TheVariants.{A128CbcHs256, A192CbcHs384, A256CbcHs512, A128Gcm, A192Gcm, A256Gcm}
+use Rattle.ciphers.proofs.Rows.{HasHash, content_row}
 use Rattle.modes.specs.Gcm.{bit_length, pre_counter_block, gcm_hash, gcm_tag}
 use Rattle.modes.specs.Ghash.{ghash}
 use Rattle.modes.proofs.Lemmas.{length-xor}
 use Rattle.prf.specs.HashFunction.{HashFunction, IsHashFunction}
 use Rattle.prf.specs.Hmac.{hmac}
-use Rattle.prf.specs.Sha2.{sha256_function, sha384_function, sha512_function, sha256_is_hash_function, sha384_is_hash_function, sha512_is_hash_function}
 
 -- half of a MAC of two octets or more
 some_cbc_tag : (f : HashFunction) → IsHashFunction f → 2 ≤ f.output_len → (mac_key iv aad c : List ℕ) → 1 ≤ length (cbc_tag f mac_key iv aad c)
@@ -29,9 +29,8 @@ some_gcm_tag e iv aad c =
 -- so it is with each algorithm
 pub some_tag : (alg : ContentAlg) (cek iv aad p : List ℕ) → 1 ≤ length ((sealing alg cek iv aad).sealed p).tag
 unfolding sealing
-some_tag A128CbcHs256 cek iv aad p = some_cbc_tag sha256_function sha256_is_hash_function (lit≤ tt) _ _ _ _
-some_tag A192CbcHs384 cek iv aad p = some_cbc_tag sha384_function sha384_is_hash_function (lit≤ tt) _ _ _ _
-some_tag A256CbcHs512 cek iv aad p = some_cbc_tag sha512_function sha512_is_hash_function (lit≤ tt) _ _ _ _
-some_tag A128Gcm cek iv aad p = some_gcm_tag _ _ _ _
-some_tag A192Gcm cek iv aad p = some_gcm_tag _ _ _ _
-some_tag A256Gcm cek iv aad p = some_gcm_tag _ _ _ _
+some_tag alg cek iv aad p = in_family (content_family alg) (content_row alg).hash
+  where
+    in_family : (family : ContentFamily) → HasHash family → 1 ≤ length ((sealing_in family cek iv aad).sealed p).tag
+    in_family (aes_cbc_hmac nk f) hash = some_cbc_tag f hash.law hash.two _ _ _ _
+    in_family (aes_gcm nk) hash = some_gcm_tag _ _ _ _

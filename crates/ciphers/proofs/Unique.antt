@@ -1,13 +1,13 @@
 -- At most one plaintext has a ciphertext, whatever the algorithm.
-use Rattle.std.proofs.Common.{◌≡◌, ℕ, ◌+◌, ◌<◌, List, length, drop, slice_index, sym, subst, ◌∙◌}
+use Rattle.std.proofs.Common.{◌≡◌, ℕ, ◌+◌, ◌*◌, ◌<◌, List, length, drop, slice_index, sym, subst, ◌∙◌}
 use Rattle.std.proofs.lemmas.List.{get_or-drop}
 use Rattle.aes.specs.Block.{IsBlock, IsCipher}
 use Rattle.aes.specs.Cipher.{encrypted_block}
 use Rattle.aes.specs.InverseCipher.{inverse_cipher}
 use Rattle.aes.specs.KeyExpansion.{key_expansion}
 use Rattle.ciphers.specs.declared.content_alg.ContentAlg.{ContentAlg}
-use Rattle.ciphers.specs.declared.content_alg.ContentAlg.TheVariants.{A128CbcHs256, A192CbcHs384, A256CbcHs512, A128Gcm, A192Gcm, A256Gcm}
-use Rattle.ciphers.specs.Sealing.{sealing, IsOpening}
+use Rattle.ciphers.specs.Algorithms.{ContentFamily, aes_cbc_hmac, aes_gcm, content_family}
+use Rattle.ciphers.specs.Sealing.{iv_len_in, sealing_in, sealing, Opens, IsOpening}
 use Rattle.modes.specs.Cbc.{cbc}
 use Rattle.modes.specs.Gcm.{gcm_ciphertext}
 use Rattle.octets.specs.Octets.{IsOctets}
@@ -24,12 +24,12 @@ module _
   under nk n cek iv p q c key start sixteen x y a b =
       one _ _ iv p q (cipher nk (drop n cek) (half n cek key)) (record { sixteen = sixteen; octets = start }) x y (a ∙ sym b)
 
+  in_family : (family : ContentFamily) (cek iv aad c tag p q : List ℕ) → IsOctets cek → IsOctets iv → length iv ≡ iv_len_in family
+      → Opens (sealing_in family cek iv aad) c tag p → Opens (sealing_in family cek iv aad) c tag q → p ≡ q
+  in_family (aes_cbc_hmac nk f) cek iv aad c tag p q key start fits a b = under nk (4 * nk) cek iv p q c key start fits a.octets b.octets a.ciphertext b.ciphertext
+  in_family (aes_gcm nk) cek iv aad c tag p q key start fits a b = one_gcm (encrypted_block nk cek) iv p q (a.ciphertext ∙ sym b.ciphertext)
+
   pub one_opening : (alg : ContentAlg) (cek iv aad c tag p q : List ℕ) → IsOctets cek → IsOctets iv
       → IsOpening alg cek iv aad c tag p → IsOpening alg cek iv aad c tag q → p ≡ q
   unfolding sealing
-  one_opening A128CbcHs256 cek iv aad c tag p q key start a b = under 4 16 cek iv p q c key start a.iv_fits a.octets b.octets a.ciphertext b.ciphertext
-  one_opening A192CbcHs384 cek iv aad c tag p q key start a b = under 6 24 cek iv p q c key start a.iv_fits a.octets b.octets a.ciphertext b.ciphertext
-  one_opening A256CbcHs512 cek iv aad c tag p q key start a b = under 8 32 cek iv p q c key start a.iv_fits a.octets b.octets a.ciphertext b.ciphertext
-  one_opening A128Gcm cek iv aad c tag p q key start a b = one_gcm (encrypted_block 4 cek) iv p q (a.ciphertext ∙ sym b.ciphertext)
-  one_opening A192Gcm cek iv aad c tag p q key start a b = one_gcm (encrypted_block 6 cek) iv p q (a.ciphertext ∙ sym b.ciphertext)
-  one_opening A256Gcm cek iv aad c tag p q key start a b = one_gcm (encrypted_block 8 cek) iv p q (a.ciphertext ∙ sym b.ciphertext)
+  one_opening alg cek iv aad c tag p q key start a b = in_family (content_family alg) cek iv aad c tag p q key start a.iv_fits a.opens b.opens

@@ -1,3 +1,4 @@
+pub mod Algorithms
 pub mod KeyWrap
 pub mod Delivery
 pub mod Sealing

@@ -1,25 +1,23 @@
 -- What contracts see of the registers of a key wrap, of its cipher, and of running sealings.
-use Rattle.std.specs.Prelude.{◌≡◌, ◌↔◌, ℕ, suc, ◌*◌, ◌/◌, ◌<◌, List, [], ◌++◌, length}
+use Rattle.std.specs.Prelude.{◌≡◌, ℕ, suc, ◌+◌, ◌*◌, ◌/◌, ◌<◌, ◌≤◌, List, ◌++◌, length}
 use Rattle.aes.specs.Block.{IsCipher}
 use Rattle.aes.specs.declared.aes.Aes128.{Aes128}
 use Rattle.aes.specs.declared.aes.Aes192.{Aes192}
 use Rattle.aes.specs.declared.aes.Aes256.{Aes256}
-use Rattle.ciphers.specs.Delivery.{Parameters, IsIvOf, IsTagOf, encrypted_key_of, key_tag_of}
-use Rattle.ciphers.specs.KeyWrap.{part, table, wrapped}
-use Rattle.ciphers.specs.Sealing.{Sealing, KeepsPace, cbc_hmac, gcm}
+use Rattle.ciphers.specs.Delivery.{Parameters, Way, directly, by_wrap, by_gcm}
+use Rattle.ciphers.specs.KeyWrap.{part, table}
+use Rattle.ciphers.specs.Sealing.{Sealing, cbc_hmac, gcm}
 use Rattle.ciphers.specs.declared.authentication.Authentication.{Authentication}
 use Rattle.ciphers.specs.declared.cbc_hmac.CbcHmac.{CbcHmac}
 use Rattle.ciphers.specs.declared.kek.Kek.{Kek}
 use Rattle.ciphers.specs.declared.kek.Kek.TheVariants.{A128, A192, A256}
-use Rattle.ciphers.specs.declared.kek.Way.{Way}
+use Rattle.ciphers.specs.declared.kek.Way.{Way as CodeWay}
 use Rattle.ciphers.specs.declared.kek.Way.TheVariants.{Direct, Wrap, Encrypt}
-use Rattle.ciphers.specs.declared.key_alg.KeyAlg.{KeyAlg}
-use Rattle.ciphers.specs.declared.key_alg.KeyAlg.TheVariants.{Dir}
 use Rattle.ciphers.specs.declared.key_alg.KeyParameters.{KeyParameters}
-use Rattle.ciphers.specs.declared.sealer.ContentSealer.{ContentSealer}
-use Rattle.ciphers.specs.declared.sealer.ContentSealer.TheVariants.{A128CbcHs256, A192CbcHs384, A256CbcHs512, A128Gcm, A192Gcm, A256Gcm}
+use Rattle.ciphers.specs.declared.content_alg.ContentSealer.{ContentSealer}
+use Rattle.ciphers.specs.declared.content_alg.ContentSealer.TheVariants.{A128CbcHs256, A192CbcHs384, A256CbcHs512, A128Gcm, A192Gcm, A256Gcm}
 use Rattle.modes.specs.Cbc.{cbc_blocks}
-use Rattle.modes.specs.Gcm.{bit_length, gcm_ciphertext, gcm_tag}
+use Rattle.modes.specs.Gcm.{bit_length, gcm_ciphertext}
 use Rattle.modes.specs.Views as modes
 use Rattle.modes.specs.declared.gcm.Gcm.{Gcm}
 use Rattle.prf.specs.HashFunction.{HashFunction}
@@ -53,35 +51,24 @@ on_each_kek a b c (A256 k) = c k
 abbrev pub parameters_view : KeyParameters → Parameters
 parameters_view p = record { iv = p.iv.now; tag = p.tag.now; p2s = p.p2s.now; p2c = p.p2c }
 
--- the algorithm wraps keys, by a cipher that sends blocks by e, and reads no IV and no tag
-pub record IsWrap (alg : KeyAlg) (key : List ℕ) (p : Parameters) (e : List ℕ → List ℕ) : Type 0 where
-  pub other : alg ≡ Dir → ⊥
-  pub wraps : (cek : List ℕ) → encrypted_key_of alg key p cek ≡ wrapped e cek
-  pub iv : IsIvOf alg p.iv
-  pub no_tag : (cek : List ℕ) → key_tag_of alg key p cek ≡ []
-  pub any_tag : (made given : List ℕ) → IsTagOf alg made given
-
--- it encrypts them by GCM
-pub record IsGcmWrap (alg : KeyAlg) (key : List ℕ) (p : Parameters) (e : List ℕ → List ℕ) : Type 0 where
-  pub other : alg ≡ Dir → ⊥
-  pub encrypts : (cek : List ℕ) → encrypted_key_of alg key p cek ≡ gcm_ciphertext e p.iv cek
-  pub tags : (cek : List ℕ) → key_tag_of alg key p cek ≡ gcm_tag e p.iv [] (gcm_ciphertext e p.iv cek)
-  pub iv : IsIvOf alg p.iv ↔ (length p.iv ≡ 12)
-  pub tag : (made given : List ℕ) → IsTagOf alg made given ↔ (made ≡ given)
-
--- how a content encryption key is delivered
-abbrev pub IsWayOf : KeyAlg → List ℕ → Parameters → (Kek → List ℕ → List ℕ) → Way → Type 0
-IsWayOf alg key p encrypted Direct = alg ≡ Dir
-IsWayOf alg key p encrypted (Wrap kek calls) = IsWrap alg key p (encrypted kek)
-IsWayOf alg key p encrypted (Encrypt kek) = IsGcmWrap alg key p (encrypted kek)
+-- the way that the code goes, by what each cipher sends a block to
+abbrev pub way_view : (Kek → List ℕ → List ℕ) → CodeWay → Way
+way_view encrypted Direct = directly
+way_view encrypted (Wrap kek calls) = by_wrap (encrypted kek)
+way_view encrypted (Encrypt kek) = by_gcm (encrypted kek)
 
 -- how many calls of HMAC were made to derive the key of its cipher
-abbrev pub calls_made : Way → ℕ
+abbrev pub calls_made : CodeWay → ℕ
 calls_made Direct = 0
 calls_made (Wrap kek calls) = calls
 calls_made (Encrypt kek) = 0
 
 -- ---- a running sealing: what it was started with, and what it was fed
+
+-- the part of the ciphertext that p fixes is as long as p, but for at most sixteen octets
+pub record KeepsPace (s : Sealing) (p : List ℕ) : Type 0 where
+  pub within : length (s.fixed p) ≤ length p
+  pub nearly : length p ≤ length (s.fixed p) + 16
 
 -- it was started with these, and has taken this ciphertext
 pub record HoldsAuthentication {H : Type 0} (f : HashFunction) (holds : H → List ℕ → Type 0) (s : Authentication H) (mac_key iv aad c : List ℕ) : Type 0 where

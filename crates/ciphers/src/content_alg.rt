@@ -1,12 +1,14 @@
 //! The content encryption algorithms (RFC 7518, section 5.1).
-ghost use Rattle.std.specs.Prelude.{◌≡◌, ◌≤◌, ℕ, List, [], ◌/◌, length, take, drop, IfSome, IfNone};
-ghost use Rattle.ciphers.specs.Sealing.{cek_len, iv_len, sealing, IsOpening};
+ghost use Rattle.std.specs.Prelude.{◌≡◌, ◌≤◌, ℕ, List, [], length, take, IfSome, IfNone};
+ghost use Rattle.ciphers.specs.Sealing.{cek_len, iv_len, sealing, Opens, IsOpening};
 
-use crate::cbc_hmac::{CbcHmac, open};
-use crate::sealer::{ContentSealer, Sealer};
-use aes::{Aes128, Aes192, Aes256};
-use modes::{Gcm, gcm_open};
-use prf::{Sha256, Sha384, Sha512};
+use crate::cbc_hmac::{CbcHmac, open_cbc_hmac};
+use crate::kek::{aes128, aes192, aes256};
+use crate::sealer::{Sealer, open_gcm, start_gcm};
+use aes::{Aes128, Aes192, Aes256, Block};
+use modes::Gcm;
+use octets::{Refusal, SEALED_PIECE};
+use prf::{Hash, Sha256, Sha384, Sha512};
 
 /// A content encryption algorithm.
 #[derive(Clone, Copy, Debug, PartialEq, Eq)]
@@ -59,32 +61,20 @@ impl ContentAlg {
     {
         match self {
             ContentAlg::A128CbcHs256 => {
-                let (mac_key, key) = halves(cek);
-                let cipher = Aes128::new(&array(key));
-                ContentSealer::A128CbcHs256(CbcHmac::start(cipher, mac_key, &array(iv), aad))
+                let (mac_key, key) = cek.split_at(16);
+                ContentSealer::A128CbcHs256(CbcHmac::start(aes128(key), mac_key, iv, aad))
             }
             ContentAlg::A192CbcHs384 => {
-                let (mac_key, key) = halves(cek);
-                let cipher = Aes192::new(&array(key));
-                ContentSealer::A192CbcHs384(CbcHmac::start(cipher, mac_key, &array(iv), aad))
+                let (mac_key, key) = cek.split_at(24);
+                ContentSealer::A192CbcHs384(CbcHmac::start(aes192(key), mac_key, iv, aad))
             }
             ContentAlg::A256CbcHs512 => {
-                let (mac_key, key) = halves(cek);
-                let cipher = Aes256::new(&array(key));
-                ContentSealer::A256CbcHs512(CbcHmac::start(cipher, mac_key, &array(iv), aad))
+                let (mac_key, key) = cek.split_at(32);
+                ContentSealer::A256CbcHs512(CbcHmac::start(aes256(key), mac_key, iv, aad))
             }
-            ContentAlg::A128Gcm => {
-                let cipher = Aes128::new(&array(cek));
-                ContentSealer::A128Gcm(Gcm::start(cipher, &array(iv), aad))
-            }
-            ContentAlg::A192Gcm => {
-                let cipher = Aes192::new(&array(cek));
-                ContentSealer::A192Gcm(Gcm::start(cipher, &array(iv), aad))
-            }
-            ContentAlg::A256Gcm => {
-                let cipher = Aes256::new(&array(cek));
-                ContentSealer::A256Gcm(Gcm::start(cipher, &array(iv), aad))
-            }
+            ContentAlg::A128Gcm => ContentSealer::A128Gcm(start_gcm(aes128(cek), iv, aad)),
+            ContentAlg::A192Gcm => ContentSealer::A192Gcm(start_gcm(aes192(cek), iv, aad)),
+            ContentAlg::A256Gcm => ContentSealer::A256Gcm(start_gcm(aes256(cek), iv, aad)),
         }
     }
 
@@ -107,35 +97,90 @@ impl ContentAlg {
         if cek.len() != self.cek_len() || iv.len() != self.iv_len() {
             return None;
         }
+        self.open_fitting(cek, iv, aad, buf, tag)
+    }
+
+    /// The same under a key and an IV of their lengths.
+    fn open_fitting(
+        self,
+        cek: &[u8],
+        iv: &[u8],
+        aad: &[u8],
+        buf: &mut [u8],
+        tag: &[u8],
+    ) -> Option<usize>
+        requires cek_fits { length cek.now ≡ cek_len self }
+        requires iv_fits { length iv.now ≡ iv_len self }
+        ensures opened { IfSome result (λ n. (n ≤ length buf.old)
+            × Opens (sealing self cek.now iv.now aad.now) buf.old tag.now (take n buf.new)) }
+        ensures nothing { IfNone result ((p : List ℕ) → Opens (sealing self cek.now iv.now aad.now) buf.old tag.now p → ⊥) }
+        ensures unchanged { IfNone result (buf.new ≡ buf.old) }
+    {
         match self {
             ContentAlg::A128CbcHs256 => {
-                let (mac_key, key) = halves(cek);
-                let cipher = Aes128::new(&array(key));
-                open::<Aes128, Sha256>(&cipher, mac_key, &array(iv), aad, buf, tag)
+                let (mac_key, key) = cek.split_at(16);
+                open_cbc_hmac::<Aes128, Sha256>(&aes128(key), mac_key, iv, aad, buf, tag)
             }
             ContentAlg::A192CbcHs384 => {
-                let (mac_key, key) = halves(cek);
-                let cipher = Aes192::new(&array(key));
-                open::<Aes192, Sha384>(&cipher, mac_key, &array(iv), aad, buf, tag)
+                let (mac_key, key) = cek.split_at(24);
+                open_cbc_hmac::<Aes192, Sha384>(&aes192(key), mac_key, iv, aad, buf, tag)
             }
             ContentAlg::A256CbcHs512 => {
-                let (mac_key, key) = halves(cek);
-                let cipher = Aes256::new(&array(key));
-                open::<Aes256, Sha512>(&cipher, mac_key, &array(iv), aad, buf, tag)
+                let (mac_key, key) = cek.split_at(32);
+                open_cbc_hmac::<Aes256, Sha512>(&aes256(key), mac_key, iv, aad, buf, tag)
             }
-            ContentAlg::A128Gcm => gcm_open(&Aes128::new(&array(cek)), &array(iv), aad, buf, tag),
-            ContentAlg::A192Gcm => gcm_open(&Aes192::new(&array(cek)), &array(iv), aad, buf, tag),
-            ContentAlg::A256Gcm => gcm_open(&Aes256::new(&array(cek)), &array(iv), aad, buf, tag),
+            ContentAlg::A128Gcm => open_gcm(&aes128(cek), iv, aad, buf, tag),
+            ContentAlg::A192Gcm => open_gcm(&aes192(cek), iv, aad, buf, tag),
+            ContentAlg::A256Gcm => open_gcm(&aes256(cek), iv, aad, buf, tag),
         }
     }
 }
 
-/// The MAC key and the AES key, one after the other in the content encryption key (section 5.2.2.1).
-fn halves(cek: &[u8]) -> (&[u8], &[u8])
-    ensures mac_key { result.0.now ≡ take (length cek.now / 2) cek.now }
-    ensures key { result.1.now ≡ drop (length cek.now / 2) cek.now }
-{
-    cek.split_at(cek.len() / 2)
+/// A sealing under any of the content encryption algorithms.
+#[derive(Drop)]
+pub enum ContentSealer {
+    A128CbcHs256(CbcHmac<Aes128, Sha256>),
+    A192CbcHs384(CbcHmac<Aes192, Sha384>),
+    A256CbcHs512(CbcHmac<Aes256, Sha512>),
+    A128Gcm(Gcm<Aes128>),
+    A192Gcm(Gcm<Aes192>),
+    A256Gcm(Gcm<Aes256>),
+}
+
+impl Sealer for ContentSealer {
+    ghost use Rattle.ciphers.specs.Views.{HoldsCbcHmac, HoldsGcmSealing, on_sealer, on_each_sealer};
+
+    ghost is_sealing = { λ x s p. on_sealer x
+        (λ y. HoldsCbcHmac ⟦<Aes128 as Block>⟧.encrypted ⟦<Sha256 as Hash>⟧.function ⟦<Sha256 as Hash>⟧.holds y s p)
+        (λ y. HoldsCbcHmac ⟦<Aes192 as Block>⟧.encrypted ⟦<Sha384 as Hash>⟧.function ⟦<Sha384 as Hash>⟧.holds y s p)
+        (λ y. HoldsCbcHmac ⟦<Aes256 as Block>⟧.encrypted ⟦<Sha512 as Hash>⟧.function ⟦<Sha512 as Hash>⟧.holds y s p)
+        (λ y. HoldsGcmSealing ⟦<Aes128 as Block>⟧.encrypted y s p)
+        (λ y. HoldsGcmSealing ⟦<Aes192 as Block>⟧.encrypted y s p)
+        (λ y. HoldsGcmSealing ⟦<Aes256 as Block>⟧.encrypted y s p) };
+
+    fn feed(&mut self, piece: &[u8], out: &mut [u8; SEALED_PIECE]) -> Result<usize, Refusal> {
+        match self {
+            ContentSealer::A128CbcHs256(sealer) => Sealer::feed(sealer, piece, out),
+            ContentSealer::A192CbcHs384(sealer) => Sealer::feed(sealer, piece, out),
+            ContentSealer::A256CbcHs512(sealer) => Sealer::feed(sealer, piece, out),
+            ContentSealer::A128Gcm(sealer) => Sealer::feed(sealer, piece, out),
+            ContentSealer::A192Gcm(sealer) => Sealer::feed(sealer, piece, out),
+            ContentSealer::A256Gcm(sealer) => Sealer::feed(sealer, piece, out),
+        }
+    }
+
+    fn finish(self, last: &mut [u8; 16], tag: &mut [u8; 32]) -> (usize, usize) {
+        match self {
+            ContentSealer::A128CbcHs256(sealer) => Sealer::finish(sealer, last, tag),
+            ContentSealer::A192CbcHs384(sealer) => Sealer::finish(sealer, last, tag),
+            ContentSealer::A256CbcHs512(sealer) => Sealer::finish(sealer, last, tag),
+            ContentSealer::A128Gcm(sealer) => Sealer::finish(sealer, last, tag),
+            ContentSealer::A192Gcm(sealer) => Sealer::finish(sealer, last, tag),
+            ContentSealer::A256Gcm(sealer) => Sealer::finish(sealer, last, tag),
+        }
+    }
+
+    ghost keeps_pace = { λ x s p. on_each_sealer x (λ y r. r.pace) (λ y r. r.pace) (λ y r. r.pace) (λ y r. r.pace) (λ y r. r.pace) (λ y r. r.pace) };
 }
 
 /// The octets as an array of their length.

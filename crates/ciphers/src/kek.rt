@@ -1,6 +1,8 @@
 //! AES under a key encryption key, of any of its three lengths, and the ways of delivering a key with one or without.
-ghost use Rattle.std.specs.Prelude.{ℕ, List};
+ghost use Rattle.std.specs.Prelude.{◌≡◌, ℕ, List, length};
+ghost use Rattle.aes.specs.Cipher.{encrypted_block};
 
+use crate::content_alg::array;
 use aes::{Aes128, Aes192, Aes256, Block};
 
 /// The cipher of a key wrap.
@@ -46,4 +48,28 @@ impl Block for Kek {
     }
 
     ghost is_cipher = { on_each_kek (λ k. k.is_cipher) (λ k. k.is_cipher) (λ k. k.is_cipher) };
+}
+
+/// AES-128 under these octets.
+pub(crate) fn aes128(key: &[u8]) -> Aes128
+    requires { length key.now ≡ 16 }
+    ensures { ⟦<Aes128 as Block>⟧.encrypted result ≡ encrypted_block 4 key.now }
+{
+    Aes128::new(&array(key))
+}
+
+/// AES-192 under these octets.
+pub(crate) fn aes192(key: &[u8]) -> Aes192
+    requires { length key.now ≡ 24 }
+    ensures { ⟦<Aes192 as Block>⟧.encrypted result ≡ encrypted_block 6 key.now }
+{
+    Aes192::new(&array(key))
+}
+
+/// AES-256 under these octets.
+pub(crate) fn aes256(key: &[u8]) -> Aes256
+    requires { length key.now ≡ 32 }
+    ensures { ⟦<Aes256 as Block>⟧.encrypted result ≡ encrypted_block 8 key.now }
+{
+    Aes256::new(&array(key))
 }

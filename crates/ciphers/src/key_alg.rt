@@ -1,17 +1,17 @@
 //! The algorithms of key management (RFC 7518, sections 4.4, 4.5, 4.7 and 4.8).
-ghost use Rattle.std.specs.Prelude.{◌≡◌, ℕ, ◌*◌, ◌%◌, ◌≤◌, List, [], ◌++◌, length, take, drop, IfSome, IfNone};
-ghost use Rattle.ciphers.specs.Delivery.{IsKeyOf, IsCountOf, IsIvOf, iteration_count, encrypted_key_of, key_tag_of, IsDelivered};
+ghost use Rattle.std.specs.Prelude.{◌≡◌, ℕ, ◌*◌, ◌%◌, ◌≤◌, List, [], ◌∷◌, ◌++◌, length, take, drop, IfSome, IfNone};
+ghost use Rattle.ciphers.specs.Delivery.{IsKeyOf, IsCountOf, IsIvOf, iteration_count, derived_key, way_of, encrypted_key_of, key_tag_of, IsDelivered};
 ghost use Rattle.ciphers.specs.KeyWrap.{IsUnwrapping};
 ghost use Rattle.ciphers.specs.Sealing.{cek_len};
-ghost use Rattle.ciphers.specs.Views.{parameters_view, IsWayOf, calls_made};
+ghost use Rattle.ciphers.specs.Views.{parameters_view, way_view, calls_made};
 ghost use Rattle.modes.specs.Gcm.{gcm_ciphertext, gcm_tag, IsGcmOpening};
-ghost use Rattle.prf.specs.Pbkdf2.{block_count, pbkdf2};
+ghost use Rattle.prf.specs.Pbkdf2.{block_count};
 
 use crate::cek::Cek;
 use crate::content_alg::{ContentAlg, array};
-use crate::kek::{Kek, Way};
+use crate::kek::{Kek, Way, aes128, aes192, aes256};
 use crate::key_wrap::{unwrap, wrap};
-use aes::{Aes128, Aes192, Aes256, Block};
+use aes::Block;
 use modes::{Gcm, gcm_open};
 use octets::SEALED_PIECE;
 use prf::{Hash, Sha256, Sha384, Sha512, pbkdf2};
@@ -120,24 +120,24 @@ impl KeyAlg {
     fn way(self, key: &[u8], parameters: KeyParameters<'_>) -> Way
         requires key_fits { IsKeyOf self key.now }
         requires count_fits { IsCountOf self parameters.p2c }
-        ensures way { IsWayOf self key.now (parameters_view parameters.entry) ⟦<Kek as Block>⟧.encrypted result }
+        ensures way { way_view ⟦<Kek as Block>⟧.encrypted result ≡ way_of self key.now (parameters_view parameters.entry) }
         ensures calls { calls_made result ≡ iteration_count self parameters.entry.p2c }
     {
         match self {
             KeyAlg::Dir => Way::Direct,
-            KeyAlg::A128Kw => Way::Wrap(Kek::A128(Aes128::new(&array(key))), 0),
-            KeyAlg::A192Kw => Way::Wrap(Kek::A192(Aes192::new(&array(key))), 0),
-            KeyAlg::A256Kw => Way::Wrap(Kek::A256(Aes256::new(&array(key))), 0),
-            KeyAlg::A128GcmKw => Way::Encrypt(Kek::A128(Aes128::new(&array(key)))),
-            KeyAlg::A192GcmKw => Way::Encrypt(Kek::A192(Aes192::new(&array(key)))),
-            KeyAlg::A256GcmKw => Way::Encrypt(Kek::A256(Aes256::new(&array(key)))),
+            KeyAlg::A128Kw => Way::Wrap(Kek::A128(aes128(key)), 0),
+            KeyAlg::A192Kw => Way::Wrap(Kek::A192(aes192(key)), 0),
+            KeyAlg::A256Kw => Way::Wrap(Kek::A256(aes256(key)), 0),
+            KeyAlg::A128GcmKw => Way::Encrypt(Kek::A128(aes128(key))),
+            KeyAlg::A192GcmKw => Way::Encrypt(Kek::A192(aes192(key))),
+            KeyAlg::A256GcmKw => Way::Encrypt(Kek::A256(aes256(key))),
             KeyAlg::Pbes2Hs256A128Kw => {
                 let (derived, calls) = derive_key::<Sha256, 16>(
                     b"PBES2-HS256+A128KW\0",
                     key,
                     parameters,
                 );
-                Way::Wrap(Kek::A128(Aes128::new(&derived)), calls)
+                Way::Wrap(Kek::A128(aes128(&derived)), calls)
             }
             KeyAlg::Pbes2Hs384A192Kw => {
                 let (derived, calls) = derive_key::<Sha384, 24>(
@@ -145,7 +145,7 @@ impl KeyAlg {
                     key,
                     parameters,
                 );
-                Way::Wrap(Kek::A192(Aes192::new(&derived)), calls)
+                Way::Wrap(Kek::A192(aes192(&derived)), calls)
             }
             KeyAlg::Pbes2Hs512A256Kw => {
                 let (derived, calls) = derive_key::<Sha512, 32>(
@@ -153,7 +153,7 @@ impl KeyAlg {
                     key,
                     parameters,
                 );
-                Way::Wrap(Kek::A256(Aes256::new(&derived)), calls)
+                Way::Wrap(Kek::A256(aes256(&derived)), calls)
             }
         }
     }
@@ -220,7 +220,8 @@ fn derive_key<H: Hash, const N: usize>(
 ) -> ([u8; N], u64)
     requires size { N ≤ 64 }
     requires iterated { 1 ≤ parameters.p2c }
-    ensures key { result.0 ≡ pbkdf2 H.function password.now (prefix.now ++ parameters.entry.p2s.now) parameters.entry.p2c N }
+    ensures key { (name : List ℕ) → prefix.now ≡ name ++ (0 ∷ [])
+        → result.0 ≡ derived_key H.function name N password.now parameters.entry.p2s.now parameters.entry.p2c }
     ensures calls { result.1 ≡ parameters.entry.p2c * block_count H.function N }
 {
     let mut key = [0; N];

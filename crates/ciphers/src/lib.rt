@@ -33,10 +33,10 @@ pub mod laws;
 mod sealer;
 
 pub use cek::Cek;
-pub use content_alg::ContentAlg;
+pub use content_alg::{ContentAlg, ContentSealer};
 pub use key_alg::{KeyAlg, KeyParameters};
 pub use key_wrap::{unwrap, wrap};
-pub use sealer::{ContentSealer, Sealer};
+pub use sealer::Sealer;
 
 #[cfg(test)]
 mod content_alg_tests;

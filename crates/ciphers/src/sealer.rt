@@ -1,13 +1,12 @@
 //! Running sealings of content (RFC 7516, section 5.1, step 15).
-ghost use Rattle.std.specs.Prelude.{◌≡◌, ◌↔◌, ℕ, ◌≤◌, List, ◌++◌, length, take, drop, IfOk, IfErr, IsErr, OnOk, OnErr};
-ghost use Rattle.ciphers.specs.Views.{HoldsGcmSealing};
-ghost use Rattle.ciphers.specs.Sealing.{Sealing, IsTooLong, KeepsPace};
+ghost use Rattle.std.specs.Prelude.{◌≡◌, ◌↔◌, ℕ, ◌≤◌, List, [], ◌++◌, length, take, drop, IfSome, IfNone, IfOk, IfErr, IsErr, OnOk, OnErr};
+ghost use Rattle.ciphers.specs.Views.{KeepsPace, HoldsGcmSealing};
+ghost use Rattle.ciphers.specs.Sealing.{Sealing, IsTooLong, gcm, Opens};
 
-use crate::cbc_hmac::CbcHmac;
-use aes::{Aes128, Aes192, Aes256, Block};
-use modes::Gcm;
+use crate::content_alg::array;
+use aes::Block;
+use modes::{Gcm, gcm_open};
 use octets::{PIECE, Refusal, SEALED_PIECE};
-use prf::{Hash, Sha256, Sha384, Sha512};
 
 /// A sealing whose plaintext comes in pieces.
 pub trait Sealer: Drop {
@@ -43,62 +42,42 @@ pub trait Sealer: Drop {
     ghost keeps_pace: { (x : Self) (s : Sealing) (p : List ℕ) → is_sealing x s p → KeepsPace s p };
 }
 
-/// A sealing under any of the content encryption algorithms.
-#[derive(Drop)]
-pub enum ContentSealer {
-    A128CbcHs256(CbcHmac<Aes128, Sha256>),
-    A192CbcHs384(CbcHmac<Aes192, Sha384>),
-    A256CbcHs512(CbcHmac<Aes256, Sha512>),
-    A128Gcm(Gcm<Aes128>),
-    A192Gcm(Gcm<Aes192>),
-    A256Gcm(Gcm<Aes256>),
+/// A sealing by AES-GCM, of which no octet of the plaintext was fed yet.
+pub(crate) fn start_gcm<B: Block>(cipher: B, iv: &[u8], aad: &[u8]) -> Gcm<B>
+    requires { length iv.now ≡ 12 }
+    ensures { HoldsGcmSealing B.encrypted result (gcm (B.encrypted cipher) iv.now aad.now) [] }
+{
+    Gcm::start(cipher, &array(iv), aad)
 }
 
-impl Sealer for ContentSealer {
-    ghost use Rattle.ciphers.specs.Views.{HoldsCbcHmac, on_sealer, on_each_sealer};
-
-    ghost is_sealing = { λ x s p. on_sealer x
-        (λ y. HoldsCbcHmac ⟦<Aes128 as Block>⟧.encrypted ⟦<Sha256 as Hash>⟧.function ⟦<Sha256 as Hash>⟧.holds y s p)
-        (λ y. HoldsCbcHmac ⟦<Aes192 as Block>⟧.encrypted ⟦<Sha384 as Hash>⟧.function ⟦<Sha384 as Hash>⟧.holds y s p)
-        (λ y. HoldsCbcHmac ⟦<Aes256 as Block>⟧.encrypted ⟦<Sha512 as Hash>⟧.function ⟦<Sha512 as Hash>⟧.holds y s p)
-        (λ y. HoldsGcmSealing ⟦<Aes128 as Block>⟧.encrypted y s p)
-        (λ y. HoldsGcmSealing ⟦<Aes192 as Block>⟧.encrypted y s p)
-        (λ y. HoldsGcmSealing ⟦<Aes256 as Block>⟧.encrypted y s p) };
+impl<B: Block> Sealer for Gcm<B> {
+    ghost is_sealing = { HoldsGcmSealing B.encrypted };
 
     fn feed(&mut self, piece: &[u8], out: &mut [u8; SEALED_PIECE]) -> Result<usize, Refusal> {
-        match self {
-            ContentSealer::A128CbcHs256(sealer) => Ok(sealer.feed(piece, out)),
-            ContentSealer::A192CbcHs384(sealer) => Ok(sealer.feed(piece, out)),
-            ContentSealer::A256CbcHs512(sealer) => Ok(sealer.feed(piece, out)),
-            ContentSealer::A128Gcm(sealer) => sealer.feed(piece, out),
-            ContentSealer::A192Gcm(sealer) => sealer.feed(piece, out),
-            ContentSealer::A256Gcm(sealer) => sealer.feed(piece, out),
-        }
+        Gcm::feed(self, piece, out)
     }
 
-    fn finish(self, last: &mut [u8; 16], tag: &mut [u8; 32]) -> (usize, usize) {
-        match self {
-            ContentSealer::A128CbcHs256(sealer) => (16, sealer.finish(last, tag)),
-            ContentSealer::A192CbcHs384(sealer) => (16, sealer.finish(last, tag)),
-            ContentSealer::A256CbcHs512(sealer) => (16, sealer.finish(last, tag)),
-            ContentSealer::A128Gcm(sealer) => (0, finish_gcm(sealer, tag)),
-            ContentSealer::A192Gcm(sealer) => (0, finish_gcm(sealer, tag)),
-            ContentSealer::A256Gcm(sealer) => (0, finish_gcm(sealer, tag)),
-        }
+    fn finish(self, _last: &mut [u8; 16], tag: &mut [u8; 32]) -> (usize, usize) {
+        tag[..16].copy_from_slice(&Gcm::finish(self));
+        (0, 16)
     }
 
-    ghost keeps_pace = { λ x s p. on_each_sealer x (λ y r. r.pace) (λ y r. r.pace) (λ y r. r.pace) (λ y r. r.pace) (λ y r. r.pace) (λ y r. r.pace) };
+    ghost keeps_pace = { λ x s p r. r.pace };
 }
 
-/// Writes the tag to the front of `tag`, answers its length, and leaves the rest of `tag` as it was.
-fn finish_gcm<B: Block>(sealer: Gcm<B>, tag: &mut [u8; 32]) -> usize
-    ensures within { result ≤ 32 }
-    ensures ciphertext { (s : Sealing) (p : List ℕ) → HoldsGcmSealing B.encrypted sealer s p
-        → (s.sealed p).ciphertext ≡ s.fixed p }
-    ensures tag { (s : Sealing) (p : List ℕ) → HoldsGcmSealing B.encrypted sealer s p
-        → (s.sealed p).tag ≡ take result tag.new }
-    ensures rest { drop result tag.new ≡ drop result tag.old }
+/// Opens the ciphertext in `buf` where the tag is right (RFC 7518 section 5.3).
+pub(crate) fn open_gcm<B: Block>(
+    cipher: &B,
+    iv: &[u8],
+    aad: &[u8],
+    buf: &mut [u8],
+    tag: &[u8],
+) -> Option<usize>
+    requires { length iv.now ≡ 12 }
+    ensures opened { IfSome result (λ n. (n ≤ length buf.old)
+        × Opens (gcm (B.encrypted cipher.now) iv.now aad.now) buf.old tag.now (take n buf.new)) }
+    ensures nothing { IfNone result ((p : List ℕ) → Opens (gcm (B.encrypted cipher.now) iv.now aad.now) buf.old tag.now p → ⊥) }
+    ensures unchanged { IfNone result (buf.new ≡ buf.old) }
 {
-    tag[..16].copy_from_slice(&sealer.finish());
-    16
+    gcm_open(cipher, &array(iv), aad, buf, tag)
 }

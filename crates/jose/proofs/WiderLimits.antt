@@ -11,7 +11,8 @@ use Rattle.octets.specs.Plan.{OutputTexts, Draft, drawn_of, plan_from, planned}
 use Rattle.keys.specs.Json.{json_value}
 use Rattle.keys.specs.Keys.{OctetKey, octet_key, key_octets}
 use Rattle.keys.specs.KeySets.{items_count, key_objects, octet_keys, value_keys, key_set}
-use Rattle.keys.specs.Limits.{Limits, limits, earlier_limits}
+use Rattle.keys.specs.Limits.{Limits, limits}
+use Rattle.tokens.specs.MoreAlgorithms.{earlier_limits}
 use Rattle.objects.specs.Jwe as jwe
 use Rattle.objects.specs.Jws as jws
 use Rattle.objects.specs.Texts.{each}

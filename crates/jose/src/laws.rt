@@ -1,6 +1,7 @@
 //! What the commands promise together, and what wider limits keep, as laws of their answers, each the contract of a function that
 //! does nothing.
-ghost use Rattle.keys.specs.Limits.{Limits, limits, earlier_limits};
+ghost use Rattle.keys.specs.Limits.{Limits, limits};
+ghost use Rattle.tokens.specs.MoreAlgorithms.{earlier_limits};
 ghost use Rattle.objects.specs.CompactForm.{HasOnlyRecipient, HasOnlySignature};
 ghost use Rattle.objects.specs.Jwe.{jwe_of};
 ghost use Rattle.objects.specs.Jws.{jws_of};

@@ -15,7 +15,6 @@ pub mod KeyLists
 pub mod Depths
 pub mod KeyMembers
 pub mod MadeFloats
-pub mod KeyLens
 pub mod GenAnswer
 pub mod KeyOctets
 pub mod Lemmas

@@ -38,21 +38,6 @@ limits = record {
   management = management_algs;
 }
 
--- those before 2.0.0, with the algorithms of this profile
-abbrev pub earlier_limits : Limits
-earlier_limits = record {
-  keys = 64;
-  key_octets = 4096;
-  depth = 64;
-  recipients = 64;
-  greatest_p2c_read = 1000000;
-  least_p2c = 1000;
-  greatest_p2c = 1000000;
-  usual_p2c = 10000;
-  p2c_sum = 4000000;
-  management = management_algs;
-}
-
 -- so many recipients, or signatures, are not too many for an object (docs/SPECIFICATION.md "Objects" 2)
 abbrev pub are_few : Limits → ℕ → Bool
 are_few limits n = nat_le n limits.recipients

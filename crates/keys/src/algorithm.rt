@@ -1,6 +1,8 @@
 //! The algorithms: their names, the lengths of their keys, and the operations that they serve. It sees no key and no JSON.
-ghost use Rattle.std.specs.Prelude.{◌≡◌, Some};
+ghost use Rattle.std.specs.Prelude.{◌≡◌, ◌≤◌, true, Some};
 ghost use Rattle.keys.specs.Algorithms.{signature_name, signature_alg_of, management_name, management_alg_of, encryption_name, encryption_alg_of, named_alg_of, cek_len, signature_key_len, mode_of, kek_len, management_key_len, key_len, named_key_len, has_len, usual_len, is_password_based, management_operations, operations};
+ghost use Rattle.keys.specs.Generating.{is_within_limit};
+ghost use Rattle.keys.specs.Limits.{limits};
 
 use crate::operation::Operation;
 
@@ -122,7 +124,8 @@ impl SignatureAlg {
 
     /// The least length of its key in octets: that of the hash (RFC 7518 section 3.2).
     pub fn key_len(self) -> usize
-        ensures { result ≡ signature_key_len self }
+        ensures len { result ≡ signature_key_len self }
+        ensures most { result ≤ 64 }
     {
         match self {
             SignatureAlg::Hs256 => 32,
@@ -193,7 +196,8 @@ impl KeyManagementAlg {
 
     /// The octets of the key of the wrap: 16, 24 or 32, and 0 where there is none.
     pub fn kek_len(self) -> usize
-        ensures { result ≡ kek_len self }
+        ensures len { result ≡ kek_len self }
+        ensures most { result ≤ 32 }
     {
         match self {
             KeyManagementAlg::Dir => 0,
@@ -211,7 +215,8 @@ impl KeyManagementAlg {
 
     /// How long its keys are, where no algorithm of content encryption says it.
     pub(crate) fn key_len(self) -> KeyLen
-        ensures { result ≡ management_key_len self }
+        ensures len { result ≡ management_key_len self }
+        ensures most { is_within_limit limits (usual_len result) ≡ true }
     {
         match self.mode() {
             KeyManagementMode::KeyWrap | KeyManagementMode::GcmKeyWrap => {
@@ -284,7 +289,8 @@ impl ContentEncryptionAlg {
 
     /// The length of its content encryption key in octets (RFC 7518 sections 5.2 and 5.3).
     pub fn cek_len(self) -> usize
-        ensures { result ≡ cek_len self }
+        ensures len { result ≡ cek_len self }
+        ensures most { result ≤ 64 }
     {
         match self {
             ContentEncryptionAlg::A128CbcHs256 | ContentEncryptionAlg::A256Gcm => 32,
@@ -303,8 +309,12 @@ impl Algorithm {
     {
         match self {
             Algorithm::Signature(alg) => KeyLen::AtLeast(alg.key_len()),
-            Algorithm::Encryption(KeyManagementAlg::Dir, enc) => KeyLen::Exactly(enc.cek_len()),
-            Algorithm::Encryption(alg, _) => alg.key_len(),
+            Algorithm::Encryption(alg, enc) => match alg.mode() {
+                KeyManagementMode::Direct => KeyLen::Exactly(enc.cek_len()),
+                KeyManagementMode::KeyWrap
+                | KeyManagementMode::Password
+                | KeyManagementMode::GcmKeyWrap => alg.key_len(),
+            },
         }
     }
 }
@@ -329,7 +339,8 @@ impl NamedAlg {
 
     /// How long its keys are.
     pub(crate) fn key_len(self) -> KeyLen
-        ensures { result ≡ named_key_len self }
+        ensures len { result ≡ named_key_len self }
+        ensures most { is_within_limit limits (usual_len result) ≡ true }
     {
         match self {
             NamedAlg::Signature(alg) => KeyLen::AtLeast(alg.key_len()),

@@ -1,5 +1,5 @@
 //! Templates of keys: what they may hold, what they ask for, and how long the key is. It is given a template's JSON value.
-ghost use Rattle.std.specs.Prelude.{◌≡◌, codes, option_map, None, Err};
+ghost use Rattle.std.specs.Prelude.{◌≡◌, ◌≤◌, true, codes, option_map, None, Err, IfOk};
 ghost use Rattle.serde_json.specs.Data.{Members, object};
 ghost use Rattle.serde_json.specs.Find.{get, as_object};
 ghost use Rattle.serde_json.specs.View.{view};
@@ -95,7 +95,8 @@ pub(crate) fn alg_if_there(alg: Option<&str>) -> Result<Option<NamedAlg>, Refusa
 /// is neither, and with `KeyDoesNotFit` where the algorithm takes no such length.
 #[tactic(auto, unfolding(crate::specs::Generating::fitting_len))]
 pub(crate) fn fitting_len(alg: Option<NamedAlg>, asked: Option<usize>) -> Result<usize, Refusal>
-    ensures { Agrees (λ len. len) result (fitting_len alg asked) }
+    ensures len { Agrees (λ len. len) result (fitting_len alg asked) }
+    ensures within_limit { is_within_limit limits asked ≡ true → IfOk result (λ len. len ≤ limits.key_octets) }
 {
     let usual = alg.and_then(|alg| alg.key_len().usual());
     let Some(len) = asked.or(usual) else {

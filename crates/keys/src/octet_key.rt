@@ -12,7 +12,7 @@ ghost use Rattle.keys.specs.Operations.{operation_names};
 ghost use Rattle.keys.specs.Texts.{is_among};
 ghost use Rattle.keys.specs.Views.{key_view};
 
-use crate::algorithm::{Algorithm, KeyManagementAlg};
+use crate::algorithm::{Algorithm, KeyManagementMode};
 use crate::key::Key;
 use crate::limits::MOST_KEY_OCTETS;
 use crate::members::{optional_string_member, optional_strings_member, string_member};
@@ -132,10 +132,12 @@ fn is_absent_or_names(found: Option<&str>, algorithm: Algorithm) -> bool
         None => true,
         Some(name) => match algorithm {
             Algorithm::Signature(alg) => alg.name() == name,
-            Algorithm::Encryption(KeyManagementAlg::Dir, enc) => {
-                KeyManagementAlg::Dir.name() == name || enc.name() == name
-            }
-            Algorithm::Encryption(alg, _) => alg.name() == name,
+            Algorithm::Encryption(alg, enc) => match alg.mode() {
+                KeyManagementMode::Direct => alg.name() == name || enc.name() == name,
+                KeyManagementMode::KeyWrap
+                | KeyManagementMode::Password
+                | KeyManagementMode::GcmKeyWrap => alg.name() == name,
+            },
         },
     }
 }

@@ -4,7 +4,7 @@ ghost use Rattle.modes.specs.Cbc.{cbc, cbc_blocks, chained};
 
 use crate::partial_block::PartialBlock;
 use aes::Block;
-use octets::{SEALED_PIECE, xor_into};
+use octets::{PIECE, SEALED_PIECE, xor_into};
 
 /// An encryption whose plaintext comes in pieces.
 #[derive(Drop)]
@@ -31,8 +31,8 @@ impl<B: Block> Cbc<B> {
     /// Takes the next piece, of at most 4,096 octets. Writes the ciphertext of the blocks that are whole now to the
     /// front of `out`, and answers its length.
     pub fn feed(&mut self, piece: &[u8], out: &mut [u8; SEALED_PIECE]) -> usize
-        requires { length piece.now ≤ 4096 }
-        ensures within { result ≤ 4112 }
+        requires { length piece.now ≤ PIECE }
+        ensures within { result ≤ SEALED_PIECE }
         ensures fed { (e : List ℕ → List ℕ) (iv p : List ℕ) → HoldsCbc B.encrypted self.old e iv p
             → HoldsCbc B.encrypted self.new e iv (p ++ piece.now) }
         ensures text { (e : List ℕ → List ℕ) (iv p : List ℕ) → HoldsCbc B.encrypted self.old e iv p

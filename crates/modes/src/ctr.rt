@@ -4,7 +4,7 @@ ghost use Rattle.modes.specs.Cbc.{block};
 ghost use Rattle.modes.specs.Ctr.{counter_block, ctr};
 
 use aes::Block;
-use octets::{SEALED_PIECE, xor_into};
+use octets::{PIECE, SEALED_PIECE, xor_into};
 
 /// Counter mode from a first counter block, whose last four octets count.
 #[derive(Drop)]
@@ -29,7 +29,7 @@ impl<B: Block> Ctr32<B> {
     /// Takes the next piece, of at most 4,096 octets. Writes as many octets of the result to the front of `out`, and
     /// answers their number.
     pub fn feed(&mut self, piece: &[u8], out: &mut [u8; SEALED_PIECE]) -> usize
-        requires { length piece.now ≤ 4096 }
+        requires { length piece.now ≤ PIECE }
         ensures len { result ≡ length piece.now }
         ensures fed { (e : List ℕ → List ℕ) (f p : List ℕ) → HoldsCtr B.encrypted self.old e f p
             → HoldsCtr B.encrypted self.new e f (p ++ piece.now) }

@@ -10,7 +10,7 @@ ghost use Rattle.std.specs.Int.{w64, to_be_bytes};
 use crate::ctr::{Ctr32, KeyStream};
 use crate::ghash::Ghash;
 use aes::Block;
-use octets::{Refusal, SEALED_PIECE, same_octets, xor_into};
+use octets::{PIECE, Refusal, SEALED_PIECE, same_octets, xor_into};
 
 /// The length of the longest plaintext in octets (section 5.2.1.1).
 const LONGEST: u64 = (1 << 36) - 32;
@@ -44,7 +44,7 @@ impl<B: Block> Gcm<B> {
     /// Takes the next piece, of at most 4,096 octets. Writes as many octets of the ciphertext to the front of `out`, and
     /// answers their number; `Limit`, and nothing is taken, where the plaintext would be longer than 2^36 - 32 octets.
     pub fn feed(&mut self, piece: &[u8], out: &mut [u8; SEALED_PIECE]) -> Result<usize, Refusal>
-        requires { length piece.now ≤ 4096 }
+        requires { length piece.now ≤ PIECE }
         ensures len { IfOk result (λ n. n ≡ length piece.now) }
         ensures fed { (e : List ℕ → List ℕ) (iv aad p : List ℕ) → HoldsGcm B.encrypted self.old e iv aad p
             → OnOk result (HoldsGcm B.encrypted self.new e iv aad (p ++ piece.now)) }

@@ -1,30 +1,48 @@
--- What is so of each algorithm of encrypted objects: its name, the keys that it takes, and the parameters that it reads.
-use Rattle.std.proofs.Common.{◌≡◌, ℕ, zero, suc, ◌<◌, ◌≤◌, ◌||◌, Bool, true, false, not, nat_lt, nat_le, List, [], ◌∷◌, length, codes, slice_index, if◌then◌else◌, Some, IsUtf8, lit≤, refl, ap, ◌∙◌, arith}
+-- What is so of each algorithm: its name, the keys that it takes, and the parameters that it reads.
+use Rattle.std.proofs.Common.{◌≡◌, ℕ, zero, suc, ◌*◌, ◌<◌, ◌≤◌, ◌||◌, Bool, true, false, not, nat_lt, nat_le, List, [], ◌∷◌, length, slice_index, if◌then◌else◌, Option, Some, None, is_none, IsUtf8, refl, sym, ap, subst, ◌∙◌, arith}
 use Rattle.std.proofs.lemmas.Bool.{and_parts, ltb-true, eqb-true, leb-true}
+use Rattle.std.proofs.lemmas.Bool.Decides.{Decides-eqb, Decides-and}
 use Rattle.std.proofs.lemmas.Slice.Eq.{bytes_eq-Decides}
 use Rattle.std.proofs.lemmas.Str.{IsUtf8-from_ascii}
 use Rattle.std.specs.List.{find, list_all}
-use Rattle.std.specs.Prelude.{◌&&◌}
+use Rattle.std.specs.Prelude.{◌&&◌, ◌==◌}
 use Rattle.std.specs.Str.{bytes_eq}
 use Rattle.octets.specs.Octets.{IsOctets}
 use Rattle.octets.proofs.Lemmas.{IsOctets-nil}
-use Rattle.ciphers.specs.Delivery.{IsKeyOf, IsCountOf, IsIvOf, IsTagOf, iteration_count, encrypted_key_of, key_tag_of}
+use Rattle.prf.specs.HashFunction.{HashFunction, IsHashFunction}
+use Rattle.prf.specs.Sha2.{sha256_is_hash_function, sha384_is_hash_function, sha512_is_hash_function}
+use Rattle.ciphers.specs.Algorithms.{KeyFamily, direct, aes_key_wrap, aes_gcm_key_wrap, pbes2, key_family}
+use Rattle.ciphers.specs.Delivery.{IsKeyIn, IsKeyOf, IsCountIn, IsCountOf, IsIvIn, IsIvOf, iterations_in, iteration_count, way_in, encrypted_by, tag_by, is_delivered_by, key_tag_of, encrypted_key_of}
 use Rattle.ciphers.specs.Sealing as ciphers
-use Rattle.ciphers.specs.declared.key_alg.KeyAlg.TheVariants as variants
+use Rattle.ciphers.specs.declared.content_alg.ContentAlg.{ContentAlg}
+use Rattle.ciphers.proofs.Lemmas.{decided}
 use Rattle.keys.specs.declared.algorithm.Algorithm.TheVariants.{Encryption}
 use Rattle.keys.specs.declared.algorithm.ContentEncryptionAlg.{ContentEncryptionAlg}
 use Rattle.keys.specs.declared.algorithm.ContentEncryptionAlg.TheVariants.{A128CbcHs256, A192CbcHs384, A256CbcHs512, A128Gcm, A192Gcm, A256Gcm}
 use Rattle.keys.specs.declared.algorithm.KeyManagementAlg.{KeyManagementAlg}
 use Rattle.keys.specs.declared.algorithm.KeyManagementAlg.TheVariants.{Dir, A128Kw, A192Kw, A256Kw, Pbes2Hs256A128Kw, Pbes2Hs384A192Kw, Pbes2Hs512A256Kw, A128GcmKw, A192GcmKw, A256GcmKw}
-use Rattle.keys.specs.Algorithms.{management_name, encryption_name, management_algs, encryption_algs, management_alg_among, management_alg_of, encryption_alg_of, is_password_based, key_len, has_len, cek_len}
+use Rattle.keys.specs.declared.algorithm.KeyManagementMode.{KeyManagementMode}
+use Rattle.keys.specs.declared.algorithm.KeyManagementMode.TheVariants as mode
+use Rattle.keys.specs.declared.algorithm.SignatureAlg.{SignatureAlg}
+use Rattle.keys.specs.declared.algorithm.SignatureAlg.TheVariants.{Hs256, Hs384, Hs512}
+use Rattle.keys.specs.Algorithms.{signature_name, management_name, encryption_name, signature_algs, management_algs, encryption_algs, management_alg_among, signature_alg_of, management_alg_of, encryption_alg_of, mode_of, kek_len, is_password, is_password_based, len_with, key_len, has_len, cek_len}
 use Rattle.keys.specs.Keys.{OctetKey, fits}
-use Rattle.objects.specs.KeyManagement.{KeyManagement, Direct, KeyWrap, Password, GcmKeyWrap, is_management_of}
+use Rattle.objects.specs.KeyManagement.{KeyManagement, Direct, KeyWrap, Password, GcmKeyWrap, is_management_in, is_management_of}
 use Rattle.tokens.specs.Algorithms.{key_alg, content_alg, parameters_by}
-use Rattle.tokens.specs.Choosing.{is_direct}
+use Rattle.tokens.specs.Choosing.{is_direct_in, is_direct}
 use Rattle.tokens.specs.Decrypting.{iterations_by}
-use Rattle.tokens.specs.Delivering.{drawn_by, parameters_with, management_with}
+use Rattle.tokens.specs.Delivering.{drawn_in, drawn_by, parameters_with, delivered_in, management_with}
+use Rattle.tokens.specs.Rows.{mode_in, kek_len_in, HasOneRow}
+use Rattle.tokens.specs.Signatures.{signature_hash}
 
 -- ---- names
+
+-- the name of a signature algorithm names it
+pub signature_named : (alg : SignatureAlg) → signature_alg_of (signature_name alg) ≡ Some alg
+unfolding signature_alg_of
+signature_named Hs256 = refl
+signature_named Hs384 = refl
+signature_named Hs512 = refl
 
 -- the name of a key management names it
 pub management_named : (alg : KeyManagementAlg) → management_alg_of (management_name alg) ≡ Some alg
@@ -60,18 +78,47 @@ found_by_name name_of name a (first ∷ rest) h = by_test (bytes_eq name (name_o
     by_test true is later h = let same : first ≡ a = cc h in (bytes_eq-Decides name (name_of first)).0 is ∙ ap name_of same
     by_test false is later h = later h
 
--- so a name that names a key management is its name
+-- so a name that names a signature algorithm is its name
+pub signature_name_is : (name : List ℕ) (alg : SignatureAlg) → signature_alg_of name ≡ Some alg → name ≡ signature_name alg
+unfolding signature_alg_of
+signature_name_is name alg h = found_by_name signature_name name alg signature_algs h
+
+-- one that names a key management is its name
 pub management_name_is : (name : List ℕ) (alg : KeyManagementAlg) → management_alg_of name ≡ Some alg → name ≡ management_name alg
 unfolding management_alg_among
 management_name_is name alg h = found_by_name management_name name alg management_algs h
 
--- and one that names a content encryption
+-- and one that names a content encryption is its name
 pub encryption_name_is : (name : List ℕ) (enc : ContentEncryptionAlg) → encryption_alg_of name ≡ Some enc → name ≡ encryption_name enc
 unfolding encryption_alg_of
 encryption_name_is name enc h = found_by_name encryption_name name enc encryption_algs h
 
+-- what a test finds so of all algorithms is so of each that is found
+passes : {A : Type 0} (test is : A → Bool) (algs : List A) (a : A) → list_all test algs ≡ true → find is algs ≡ Some a → test a ≡ true
+passes test is [] a all found = cc found
+passes test is (first ∷ others) a all found = by_test (is first) found
+  where
+    by_test : (b : Bool) → (if b then Some first else find is others) ≡ Some a → test a ≡ true
+    by_test true found = let same : first ≡ a = cc found in ap test (sym same) ∙ (and_parts (test first) (list_all test others) all).0
+    by_test false found = passes test is others a (and_parts (test first) (list_all test others) all).1 found
+
+of_signature : (test : SignatureAlg → Bool) → list_all test signature_algs ≡ true → (alg : SignatureAlg) → test alg ≡ true
+unfolding signature_alg_of
+of_signature test all alg = passes test _ signature_algs alg all (signature_named alg)
+
+of_management : (test : KeyManagementAlg → Bool) → list_all test management_algs ≡ true → (alg : KeyManagementAlg) → test alg ≡ true
+unfolding management_alg_among
+of_management test all alg = passes test _ management_algs alg all (management_named alg)
+
+of_encryption : (test : ContentEncryptionAlg → Bool) → list_all test encryption_algs ≡ true → (enc : ContentEncryptionAlg) → test enc ≡ true
+unfolding encryption_alg_of
+of_encryption test all enc = passes test _ encryption_algs enc all (encryption_named enc)
+
+is_ascii : List ℕ → Bool
+is_ascii text = list_all (λ c. nat_lt c 128) text
+
 -- ASCII characters are text
-ascii_is_text : (text : List ℕ) → list_all (λ c. nat_lt c 128) text ≡ true → IsUtf8 text
+ascii_is_text : (text : List ℕ) → is_ascii text ≡ true → IsUtf8 text
 ascii_is_text text h = IsUtf8-from_ascii text (all_below text h)
   where
     all_below : (cs : List ℕ) → list_all (λ c. nat_lt c 128) cs ≡ true → (i : ℕ) → slice_index cs i < 128
@@ -79,27 +126,64 @@ ascii_is_text text h = IsUtf8-from_ascii text (all_below text h)
     all_below (c ∷ cs) h zero = ltb-true c 128 (and_parts (nat_lt c 128) (list_all (λ c. nat_lt c 128) cs) h).0
     all_below (c ∷ cs) h (suc i) = all_below cs (and_parts (nat_lt c 128) (list_all (λ c. nat_lt c 128) cs) h).1 i
 
--- the name of a key management is text
-pub management_is_text : (alg : KeyManagementAlg) → IsUtf8 (management_name alg)
-management_is_text Dir = ascii_is_text (codes "dir") refl
-management_is_text A128Kw = ascii_is_text (codes "A128KW") refl
-management_is_text A192Kw = ascii_is_text (codes "A192KW") refl
-management_is_text A256Kw = ascii_is_text (codes "A256KW") refl
-management_is_text Pbes2Hs256A128Kw = ascii_is_text (codes "PBES2-HS256+A128KW") refl
-management_is_text Pbes2Hs384A192Kw = ascii_is_text (codes "PBES2-HS384+A192KW") refl
-management_is_text Pbes2Hs512A256Kw = ascii_is_text (codes "PBES2-HS512+A256KW") refl
-management_is_text A128GcmKw = ascii_is_text (codes "A128GCMKW") refl
-management_is_text A192GcmKw = ascii_is_text (codes "A192GCMKW") refl
-management_is_text A256GcmKw = ascii_is_text (codes "A256GCMKW") refl
+-- the names are text
+pub signature_is_text : (alg : SignatureAlg) → IsUtf8 (signature_name alg)
+signature_is_text alg = ascii_is_text (signature_name alg) (of_signature (λ alg. is_ascii (signature_name alg)) refl alg)
 
--- so is that of a content encryption
+pub management_is_text : (alg : KeyManagementAlg) → IsUtf8 (management_name alg)
+management_is_text alg = ascii_is_text (management_name alg) (of_management (λ alg. is_ascii (management_name alg)) refl alg)
+
 pub encryption_is_text : (enc : ContentEncryptionAlg) → IsUtf8 (encryption_name enc)
-encryption_is_text A128CbcHs256 = ascii_is_text (codes "A128CBC-HS256") refl
-encryption_is_text A192CbcHs384 = ascii_is_text (codes "A192CBC-HS384") refl
-encryption_is_text A256CbcHs512 = ascii_is_text (codes "A256CBC-HS512") refl
-encryption_is_text A128Gcm = ascii_is_text (codes "A128GCM") refl
-encryption_is_text A192Gcm = ascii_is_text (codes "A192GCM") refl
-encryption_is_text A256Gcm = ascii_is_text (codes "A256GCM") refl
+encryption_is_text enc = ascii_is_text (encryption_name enc) (of_encryption (λ enc. is_ascii (encryption_name enc)) refl enc)
+
+-- no algorithm of signatures is one of key management
+pub no_management : (alg : SignatureAlg) → management_alg_of (signature_name alg) ≡ None
+unfolding management_alg_among
+no_management alg = is_nothing (management_alg_of (signature_name alg)) (of_signature (λ alg. is_none (management_alg_of (signature_name alg))) refl alg)
+  where
+    is_nothing : {A : Type 0} (o : Option A) → is_none o ≡ true → o ≡ None
+    is_nothing None h = refl
+    is_nothing (Some a) h = cc h
+
+-- the hash of a signature is a hash function
+pub signature_hash_law : (alg : SignatureAlg) → IsHashFunction (signature_hash alg)
+signature_hash_law Hs256 = sha256_is_hash_function
+signature_hash_law Hs384 = sha384_is_hash_function
+signature_hash_law Hs512 = sha512_is_hash_function
+
+-- ---- the rows of both crates
+
+-- both crates give a content encryption key the same length
+pub same_cek_len : (enc : ContentEncryptionAlg) → cek_len enc ≡ ciphers.cek_len (content_alg enc)
+same_cek_len enc = eqb-true (cek_len enc) (ciphers.cek_len (content_alg enc)) (of_encryption (λ enc. cek_len enc == ciphers.cek_len (content_alg enc)) refl enc)
+
+-- and an algorithm of key management the same row
+pub has_one_row : (alg : KeyManagementAlg) → HasOneRow alg
+has_one_row Dir = record { mode = refl; kek_len = refl; name = tt }
+has_one_row A128Kw = record { mode = refl; kek_len = refl; name = tt }
+has_one_row A192Kw = record { mode = refl; kek_len = refl; name = tt }
+has_one_row A256Kw = record { mode = refl; kek_len = refl; name = tt }
+has_one_row Pbes2Hs256A128Kw = record { mode = refl; kek_len = refl; name = refl }
+has_one_row Pbes2Hs384A192Kw = record { mode = refl; kek_len = refl; name = refl }
+has_one_row Pbes2Hs512A256Kw = record { mode = refl; kek_len = refl; name = refl }
+has_one_row A128GcmKw = record { mode = refl; kek_len = refl; name = tt }
+has_one_row A192GcmKw = record { mode = refl; kek_len = refl; name = tt }
+has_one_row A256GcmKw = record { mode = refl; kek_len = refl; name = tt }
+
+-- so what is so of the four families is so of each algorithm
+by_row : (P : KeyManagementMode → ℕ → KeyFamily → Type 0) → P mode.Direct 0 direct → ((nk : ℕ) → P mode.KeyWrap (4 * nk) (aes_key_wrap nk))
+    → ((f : HashFunction) (name : List ℕ) (nk : ℕ) → P mode.Password (4 * nk) (pbes2 f name nk)) → ((nk : ℕ) → P mode.GcmKeyWrap (4 * nk) (aes_gcm_key_wrap nk))
+    → (alg : KeyManagementAlg) → P (mode_of alg) (kek_len alg) (key_family (key_alg alg))
+by_row P for_direct for_wrap for_password for_gcm alg =
+    let row = has_one_row alg in
+    let k : KeyFamily = key_family (key_alg alg) in
+    subst (λ m. P m (kek_len alg) k) row.mode (subst (λ n. P (mode_in k) n k) row.kek_len (in_family k))
+  where
+    in_family : (k : KeyFamily) → P (mode_in k) (kek_len_in k) k
+    in_family direct = for_direct
+    in_family (aes_key_wrap nk) = for_wrap nk
+    in_family (aes_gcm_key_wrap nk) = for_gcm nk
+    in_family (pbes2 f name nk) = for_password f name nk
 
 -- ---- lengths of keys
 
@@ -108,194 +192,99 @@ last true b h = h
 last false b h = cc h
 
 -- a length that the algorithm takes is one that its cipher takes
-pub by_length : (alg : KeyManagementAlg) (enc : ContentEncryptionAlg) (key : OctetKey) → has_len (key_len (Encryption alg enc)) (length key.octets) ≡ true → IsKeyOf (key_alg alg) key.octets
-by_length Dir enc key h = tt
-by_length A128Kw enc key h = eqb-true (length key.octets) 16 h
-by_length A192Kw enc key h = eqb-true (length key.octets) 24 h
-by_length A256Kw enc key h = eqb-true (length key.octets) 32 h
-by_length Pbes2Hs256A128Kw enc key h = tt
-by_length Pbes2Hs384A192Kw enc key h = tt
-by_length Pbes2Hs512A256Kw enc key h = tt
-by_length A128GcmKw enc key h = eqb-true (length key.octets) 16 h
-by_length A192GcmKw enc key h = eqb-true (length key.octets) 24 h
-by_length A256GcmKw enc key h = eqb-true (length key.octets) 32 h
-
--- both crates give a content encryption key the same length
-pub same_cek_len : (enc : ContentEncryptionAlg) → cek_len enc ≡ ciphers.cek_len (content_alg enc)
-same_cek_len A128CbcHs256 = refl
-same_cek_len A192CbcHs384 = refl
-same_cek_len A256CbcHs512 = refl
-same_cek_len A128Gcm = refl
-same_cek_len A192Gcm = refl
-same_cek_len A256Gcm = refl
-
--- so a key that fits is one of its cipher
 pub is_key_of : (alg : KeyManagementAlg) (enc : ContentEncryptionAlg) (key : OctetKey) → fits key (Encryption alg enc) ≡ true → IsKeyOf (key_alg alg) key.octets
 unfolding fits
-is_key_of alg enc key h = by_length alg enc key (last _ (has_len (key_len (Encryption alg enc)) (length key.octets)) h)
+is_key_of alg enc key h =
+    by_row (λ m n k. has_len (len_with m n enc) (length key.octets) ≡ true → IsKeyIn k key.octets)
+    (λ h. tt) (λ nk h. eqb-true (length key.octets) (4 * nk) h) (λ f name nk h. tt) (λ nk h. eqb-true (length key.octets) (4 * nk) h)
+    alg (last _ (has_len (key_len (Encryption alg enc)) (length key.octets)) h)
 
--- a key that is used directly has that length
-pub direct_key_fits : (enc : ContentEncryptionAlg) (key : OctetKey) → fits key (Encryption Dir enc) ≡ true → length key.octets ≡ ciphers.cek_len (content_alg enc)
+-- a key that is used directly has the length of a content encryption key
+pub direct_key_fits : (alg : KeyManagementAlg) (enc : ContentEncryptionAlg) (key : OctetKey) → is_direct alg ≡ true → fits key (Encryption alg enc) ≡ true
+    → length key.octets ≡ ciphers.cek_len (content_alg enc)
 unfolding fits
-direct_key_fits enc key h = eqb-true (length key.octets) (cek_len enc) (last _ (has_len (key_len (Encryption Dir enc)) (length key.octets)) h) ∙ same_cek_len enc
+direct_key_fits alg enc key is h =
+    by_row (λ m n k. is_direct_in m ≡ true → has_len (len_with m n enc) (length key.octets) ≡ true → length key.octets ≡ cek_len enc)
+    (λ is h. eqb-true (length key.octets) (cek_len enc) h) (λ nk is. cc is) (λ f name nk is. cc is) (λ nk is. cc is)
+    alg is (last _ (has_len (key_len (Encryption alg enc)) (length key.octets)) h)
+    ∙ same_cek_len enc
 
 -- a content encryption key has 64 octets at most
 pub cek_size : (enc : ContentEncryptionAlg) → ciphers.cek_len (content_alg enc) ≤ 64
-cek_size A128CbcHs256 = lit≤ tt
-cek_size A192CbcHs384 = lit≤ tt
-cek_size A256CbcHs512 = lit≤ tt
-cek_size A128Gcm = lit≤ tt
-cek_size A192Gcm = lit≤ tt
-cek_size A256Gcm = lit≤ tt
-
--- ---- direct use
-
--- an algorithm that uses the key directly
-pub direct_is : (alg : KeyManagementAlg) → is_direct alg ≡ true → alg ≡ Dir
-direct_is Dir h = refl
-direct_is A128Kw h = cc h
-direct_is A192Kw h = cc h
-direct_is A256Kw h = cc h
-direct_is Pbes2Hs256A128Kw h = cc h
-direct_is Pbes2Hs384A192Kw h = cc h
-direct_is Pbes2Hs512A256Kw h = cc h
-direct_is A128GcmKw h = cc h
-direct_is A192GcmKw h = cc h
-direct_is A256GcmKw h = cc h
-
--- a cipher that uses the key directly is that of such an algorithm
-pub direct_alg : (alg : KeyManagementAlg) → key_alg alg ≡ variants.Dir → is_direct alg ≡ true
-direct_alg Dir h = refl
-direct_alg A128Kw h = cc h
-direct_alg A192Kw h = cc h
-direct_alg A256Kw h = cc h
-direct_alg Pbes2Hs256A128Kw h = cc h
-direct_alg Pbes2Hs384A192Kw h = cc h
-direct_alg Pbes2Hs512A256Kw h = cc h
-direct_alg A128GcmKw h = cc h
-direct_alg A192GcmKw h = cc h
-direct_alg A256GcmKw h = cc h
+cek_size enc = leb-true (ciphers.cek_len (content_alg enc)) 64 (of_encryption (λ enc. nat_le (ciphers.cek_len (content_alg enc)) 64) refl enc)
 
 -- ---- the parameters of key management
 
--- what a header says by an algorithm has a count that this takes
+-- the count that a header gives is one that its algorithm takes
 pub counts : (alg : KeyManagementAlg) (m : KeyManagement) → is_management_of (Some alg) m ≡ true → IsCountOf (key_alg alg) (parameters_by m).p2c
-counts Dir m h = tt
-counts A128Kw m h = tt
-counts A192Kw m h = tt
-counts A256Kw m h = tt
-counts Pbes2Hs256A128Kw (Password p2s p2c) h = leb-true 1 p2c (last (nat_le 8 (length p2s)) (nat_le 1 p2c) h)
-counts Pbes2Hs256A128Kw m h = cc h
-counts Pbes2Hs384A192Kw (Password p2s p2c) h = leb-true 1 p2c (last (nat_le 8 (length p2s)) (nat_le 1 p2c) h)
-counts Pbes2Hs384A192Kw m h = cc h
-counts Pbes2Hs512A256Kw (Password p2s p2c) h = leb-true 1 p2c (last (nat_le 8 (length p2s)) (nat_le 1 p2c) h)
-counts Pbes2Hs512A256Kw m h = cc h
-counts A128GcmKw m h = tt
-counts A192GcmKw m h = tt
-counts A256GcmKw m h = tt
+counts alg m =
+    by_row (λ mode n k. is_management_in mode m ≡ true → IsCountIn k (parameters_by m).p2c) (λ h. tt) (λ nk h. tt) (λ f name nk. of_password m) (λ nk h. tt) alg
+  where
+    of_password : (m : KeyManagement) → is_management_in mode.Password m ≡ true → 1 ≤ (parameters_by m).p2c
+    of_password (Password p2s p2c) h = leb-true 1 p2c (last (nat_le 8 (length p2s)) (nat_le 1 p2c) h)
+    of_password m h = cc h
 
--- and takes as many iterations as the header says
+-- and the number of iterations is the one that the header gives
 pub iterations_made : (alg : KeyManagementAlg) (m : KeyManagement) → is_management_of (Some alg) m ≡ true → iteration_count (key_alg alg) (parameters_by m).p2c ≡ iterations_by m
-iterations_made Dir Direct h = refl
-iterations_made Dir m h = cc
-iterations_made A128Kw KeyWrap h = refl
-iterations_made A128Kw m h = cc
-iterations_made A192Kw KeyWrap h = refl
-iterations_made A192Kw m h = cc
-iterations_made A256Kw KeyWrap h = refl
-iterations_made A256Kw m h = cc
-iterations_made Pbes2Hs256A128Kw (Password p2s p2c) h = refl
-iterations_made Pbes2Hs256A128Kw m h = cc
-iterations_made Pbes2Hs384A192Kw (Password p2s p2c) h = refl
-iterations_made Pbes2Hs384A192Kw m h = cc
-iterations_made Pbes2Hs512A256Kw (Password p2s p2c) h = refl
-iterations_made Pbes2Hs512A256Kw m h = cc
-iterations_made A128GcmKw (GcmKeyWrap iv tag) h = refl
-iterations_made A128GcmKw m h = cc
-iterations_made A192GcmKw (GcmKeyWrap iv tag) h = refl
-iterations_made A192GcmKw m h = cc
-iterations_made A256GcmKw (GcmKeyWrap iv tag) h = refl
-iterations_made A256GcmKw m h = cc
+iterations_made alg m =
+    by_row (λ mode n k. is_management_in mode m ≡ true → iterations_in k (parameters_by m).p2c ≡ iterations_by m)
+    (of_direct m) (λ nk. of_wrap m) (λ f name nk. of_password m) (λ nk. of_gcm m) alg
+  where
+    of_direct : (m : KeyManagement) → is_management_in mode.Direct m ≡ true → 0 ≡ iterations_by m
+    of_direct Direct h = refl
+    of_direct m h = cc
+
+    of_wrap : (m : KeyManagement) → is_management_in mode.KeyWrap m ≡ true → 0 ≡ iterations_by m
+    of_wrap KeyWrap h = refl
+    of_wrap m h = cc
+
+    of_password : (m : KeyManagement) → is_management_in mode.Password m ≡ true → (parameters_by m).p2c ≡ iterations_by m
+    of_password (Password p2s p2c) h = refl
+    of_password m h = cc
+
+    of_gcm : (m : KeyManagement) → is_management_in mode.GcmKeyWrap m ≡ true → 0 ≡ iterations_by m
+    of_gcm (GcmKeyWrap iv tag) h = refl
+    of_gcm m h = cc
 
 -- where a password is counted at least once, the algorithm takes the count
 pub counts_where_password : (alg : KeyManagementAlg) (p2c : ℕ) → (not (is_password_based alg) || nat_le 1 p2c) ≡ true → IsCountOf (key_alg alg) p2c
-counts_where_password Dir p2c h = tt
-counts_where_password A128Kw p2c h = tt
-counts_where_password A192Kw p2c h = tt
-counts_where_password A256Kw p2c h = tt
-counts_where_password Pbes2Hs256A128Kw p2c h = leb-true 1 p2c h
-counts_where_password Pbes2Hs384A192Kw p2c h = leb-true 1 p2c h
-counts_where_password Pbes2Hs512A256Kw p2c h = leb-true 1 p2c h
-counts_where_password A128GcmKw p2c h = tt
-counts_where_password A192GcmKw p2c h = tt
-counts_where_password A256GcmKw p2c h = tt
+counts_where_password alg p2c =
+    by_row (λ m n k. (not (is_password m) || nat_le 1 p2c) ≡ true → IsCountIn k p2c) (λ h. tt) (λ nk h. tt) (λ f name nk h. leb-true 1 p2c h) (λ nk h. tt) alg
 
--- what is drawn for an algorithm is an initialization vector of its length, where it reads one
+-- the octets that are drawn for an algorithm are an initialization vector of its length, where it reads one
 pub iv_of_drawn : (alg : KeyManagementAlg) (drawn : List ℕ) → length drawn ≡ drawn_by alg → IsIvOf (key_alg alg) drawn
-iv_of_drawn Dir drawn long = tt
-iv_of_drawn A128Kw drawn long = tt
-iv_of_drawn A192Kw drawn long = tt
-iv_of_drawn A256Kw drawn long = tt
-iv_of_drawn Pbes2Hs256A128Kw drawn long = tt
-iv_of_drawn Pbes2Hs384A192Kw drawn long = tt
-iv_of_drawn Pbes2Hs512A256Kw drawn long = tt
-iv_of_drawn A128GcmKw drawn long = long
-iv_of_drawn A192GcmKw drawn long = long
-iv_of_drawn A256GcmKw drawn long = long
+iv_of_drawn alg drawn =
+    by_row (λ m n k. length drawn ≡ drawn_in m → IsIvIn k drawn) (λ long. tt) (λ nk long. tt) (λ f name nk long. tt) (λ nk long. long) alg
 
--- the parameters that an algorithm does not read do not matter to the encrypted key, ..
-pub encrypted_alike : (alg : KeyManagementAlg) (key drawn : List ℕ) (p2c : ℕ) (tag cek : List ℕ)
-    → encrypted_key_of (key_alg alg) key (parameters_by (management_with alg drawn p2c tag)) cek ≡ encrypted_key_of (key_alg alg) key (parameters_with drawn p2c) cek
-unfolding encrypted_key_of
-encrypted_alike Dir key drawn p2c tag cek = refl
-encrypted_alike A128Kw key drawn p2c tag cek = refl
-encrypted_alike A192Kw key drawn p2c tag cek = refl
-encrypted_alike A256Kw key drawn p2c tag cek = refl
-encrypted_alike Pbes2Hs256A128Kw key drawn p2c tag cek = refl
-encrypted_alike Pbes2Hs384A192Kw key drawn p2c tag cek = refl
-encrypted_alike Pbes2Hs512A256Kw key drawn p2c tag cek = refl
-encrypted_alike A128GcmKw key drawn p2c tag cek = refl
-encrypted_alike A192GcmKw key drawn p2c tag cek = refl
-encrypted_alike A256GcmKw key drawn p2c tag cek = refl
+-- ---- deliveries
 
--- .. nor to the tag
-pub tag_alike : (alg : KeyManagementAlg) (key drawn : List ℕ) (p2c : ℕ) (tag cek : List ℕ)
-    → key_tag_of (key_alg alg) key (parameters_by (management_with alg drawn p2c tag)) cek ≡ key_tag_of (key_alg alg) key (parameters_with drawn p2c) cek
-unfolding key_tag_of
-tag_alike Dir key drawn p2c tag cek = refl
-tag_alike A128Kw key drawn p2c tag cek = refl
-tag_alike A192Kw key drawn p2c tag cek = refl
-tag_alike A256Kw key drawn p2c tag cek = refl
-tag_alike Pbes2Hs256A128Kw key drawn p2c tag cek = refl
-tag_alike Pbes2Hs384A192Kw key drawn p2c tag cek = refl
-tag_alike Pbes2Hs512A256Kw key drawn p2c tag cek = refl
-tag_alike A128GcmKw key drawn p2c tag cek = refl
-tag_alike A192GcmKw key drawn p2c tag cek = refl
-tag_alike A256GcmKw key drawn p2c tag cek = refl
+module _ (enc : ContentAlg) (key drawn : List ℕ) (p2c : ℕ) (cek : List ℕ) where
+  -- the parameters that an algorithm does not read do not matter to the tag
+  pub tag_alike : (alg : KeyManagementAlg) (tag : List ℕ)
+      → key_tag_of (key_alg alg) key (parameters_by (management_with alg drawn p2c tag)) cek ≡ key_tag_of (key_alg alg) key (parameters_with drawn p2c) cek
+  unfolding key_tag_of
+  tag_alike alg tag =
+      by_row (λ m n k. (let p = parameters_by (delivered_in m drawn p2c tag) in tag_by (way_in k key p) p cek) ≡ (let p = parameters_with drawn p2c in tag_by (way_in k key p) p cek))
+      refl (λ nk. refl) (λ f name nk. refl) (λ nk. refl) alg
 
--- an initialization vector that is read is the one that was drawn
-pub iv_is_drawn : (alg : KeyManagementAlg) (drawn : List ℕ) (p2c : ℕ) (tag : List ℕ) → IsOctets drawn → length drawn ≡ drawn_by alg
-    → (let iv : List ℕ = (parameters_by (management_with alg drawn p2c tag)).iv in IsOctets iv × IsIvOf (key_alg alg) iv)
-iv_is_drawn Dir drawn p2c tag octets long = (IsOctets-nil, tt)
-iv_is_drawn A128Kw drawn p2c tag octets long = (IsOctets-nil, tt)
-iv_is_drawn A192Kw drawn p2c tag octets long = (IsOctets-nil, tt)
-iv_is_drawn A256Kw drawn p2c tag octets long = (IsOctets-nil, tt)
-iv_is_drawn Pbes2Hs256A128Kw drawn p2c tag octets long = (IsOctets-nil, tt)
-iv_is_drawn Pbes2Hs384A192Kw drawn p2c tag octets long = (IsOctets-nil, tt)
-iv_is_drawn Pbes2Hs512A256Kw drawn p2c tag octets long = (IsOctets-nil, tt)
-iv_is_drawn A128GcmKw drawn p2c tag octets long = (octets, long)
-iv_is_drawn A192GcmKw drawn p2c tag octets long = (octets, long)
-iv_is_drawn A256GcmKw drawn p2c tag octets long = (octets, long)
+  -- an initialization vector that is read is the one that was drawn
+  pub iv_is_octets : (alg : KeyManagementAlg) (tag : List ℕ) → IsOctets drawn → IsOctets (parameters_by (management_with alg drawn p2c tag)).iv
+  iv_is_octets alg tag octets =
+      by_row (λ m n k. IsOctets (parameters_by (delivered_in m drawn p2c tag)).iv) IsOctets-nil (λ nk. IsOctets-nil) (λ f name nk. IsOctets-nil) (λ nk. octets) alg
 
--- a tag that is read is the one that was made
-pub tag_is_made : (alg : KeyManagementAlg) (made tag drawn : List ℕ) (p2c : ℕ) → made ≡ tag → IsTagOf (key_alg alg) made (parameters_by (management_with alg drawn p2c tag)).tag
-tag_is_made Dir made tag drawn p2c same = tt
-tag_is_made A128Kw made tag drawn p2c same = tt
-tag_is_made A192Kw made tag drawn p2c same = tt
-tag_is_made A256Kw made tag drawn p2c same = tt
-tag_is_made Pbes2Hs256A128Kw made tag drawn p2c same = tt
-tag_is_made Pbes2Hs384A192Kw made tag drawn p2c same = tt
-tag_is_made Pbes2Hs512A256Kw made tag drawn p2c same = tt
-tag_is_made A128GcmKw made tag drawn p2c same = same
-tag_is_made A192GcmKw made tag drawn p2c same = same
-tag_is_made A256GcmKw made tag drawn p2c same = same
+  -- what is encrypted with the octets that are drawn is delivered by the parameters that are written
+  pub is_delivered : (alg : KeyManagementAlg) → length cek ≡ ciphers.cek_len enc → (is_direct alg ≡ true → cek ≡ key) → length drawn ≡ drawn_by alg
+      → (let q = parameters_with drawn p2c in
+      let p = parameters_by (management_with alg drawn p2c (key_tag_of (key_alg alg) key q cek)) in
+      is_delivered_by (way_in (key_family (key_alg alg)) key p) enc key p (encrypted_key_of (key_alg alg) key q cek) cek ≡ true)
+  unfolding key_tag_of encrypted_key_of
+  is_delivered alg fits =
+      by_row (λ m n k. (is_direct_in m ≡ true → cek ≡ key) → length drawn ≡ drawn_in m
+      → (let q = parameters_with drawn p2c in
+      let p = parameters_by (delivered_in m drawn p2c (tag_by (way_in k key q) q cek)) in
+      is_delivered_by (way_in k key p) enc key p (encrypted_by (way_in k key q) q cek) cek ≡ true))
+      (λ is long. (decided enc key _ _ _ cek).1 (fits, (refl, (bytes_eq-Decides cek key).1 (is refl))))
+      (λ nk is long. (decided enc key _ _ _ cek).1 (fits, (refl, refl)))
+      (λ f name nk is long. (decided enc key _ _ _ cek).1 (fits, (refl, refl)))
+      (λ nk is long. (decided enc key _ _ _ cek).1 (fits, (refl, (Decides-and _ _ (Decides-eqb (length drawn) 12) (bytes_eq-Decides _ _)).1 (long, refl))))
+      alg

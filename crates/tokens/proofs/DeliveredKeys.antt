@@ -16,7 +16,7 @@ use Rattle.tokens.specs.Algorithms.{content_alg, key_alg, parameters_by}
 use Rattle.tokens.specs.Choosing.{RecipientKey, is_direct, is_alone, direct_key_is_alone, EncryptionPlan}
 use Rattle.tokens.specs.Delivering.{drawn_for, drawn_for_all, parameters_with, Delivery, delivery_to, deliveries_to}
 use Rattle.tokens.specs.Encrypting.{direct_key, drawn_cek, cek_drawn, random_len, for_recipients, after_recipients, cek_by}
-use Rattle.tokens.proofs.AlgorithmCases.{direct_is, direct_alg, encrypted_alike, tag_alike, iv_is_drawn, tag_is_made, direct_key_fits}
+use Rattle.tokens.proofs.AlgorithmCases.{direct_key_fits, iv_is_octets, is_delivered}
 use Rattle.tokens.proofs.SettledEncryptions.{Receives, Settles}
 
 -- ---- the recipients with the octets that are drawn for them
@@ -72,7 +72,7 @@ cek_of_one : (enc : ContentEncryptionAlg) (r : RecipientKey) (drawn : List ℕ) 
     → IsCek enc (r ∷ []) (unwrap_or (if direct then Some r.key.octets else None) drawn)
 cek_of_one enc r drawn true is fit octets random long = record {
   octets = octets;
-  fits = direct_key_fits enc r.key (subst (λ alg. fits r.key (EncryptionWith alg enc) ≡ true) (direct_is r.management is) fit);
+  fits = direct_key_fits r.management enc r.key is fit;
   direct = (λ e. refl, tt);
 }
 cek_of_one enc r drawn false is fit octets random long = record { octets = random; fits = long; direct = (λ e. cc (is, e), tt) }
@@ -113,18 +113,12 @@ delivered_to : (e : EncryptionPlan) (cek : List ℕ) (x : RecipientKey × List �
     → (is_direct x.0.management ≡ true → cek ≡ x.0.key.octets) → IsOctets x.1 → length x.1 ≡ drawn_for x.0 → Delivers e cek x
 delivered_to e cek x octets fits key direct drawn long =
     let alg = x.0.management in
-    let tag : List ℕ = key_tag_of (key_alg alg) x.0.key.octets (parameters_with x.1 e.p2c) cek in
-    let iv = iv_is_drawn alg x.1 e.p2c tag drawn long in
     record {
       key = key;
-      iv = iv.0;
+      iv = iv_is_octets (content_alg e.encryption) x.0.key.octets x.1 e.p2c cek alg _ drawn;
       delivers = record {
         octets = octets;
-        fits = fits;
-        direct = λ is. direct (direct_alg alg is);
-        iv_fits = iv.1;
-        is_encrypted = encrypted_alike alg x.0.key.octets x.1 e.p2c tag cek;
-        is_tag = tag_is_made alg _ tag x.1 e.p2c (tag_alike alg x.0.key.octets x.1 e.p2c tag cek);
+        is_delivered = is_delivered (content_alg e.encryption) x.0.key.octets x.1 e.p2c cek alg fits direct long;
       };
     }
 

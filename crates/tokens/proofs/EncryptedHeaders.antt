@@ -54,7 +54,7 @@ ready laws e cek x drawn delivers =
     let tag : List ℕ = key_tag_of (key_alg alg) x.0.key.octets (parameters_with x.1 e.p2c) cek in
     let both = laws.delivering (key_alg alg) (content_alg e.encryption) x.0.key.octets (parameters_by (delivery e cek x).management) (delivery e cek x).encrypted_key cek
     delivers.key delivers.iv delivers.delivers in
-    let tag_octets : IsOctets tag = subst IsOctets (tag_alike alg x.0.key.octets x.1 e.p2c tag cek) both.1 in
+    let tag_octets : IsOctets tag = subst IsOctets (tag_alike (content_alg e.encryption) x.0.key.octets x.1 e.p2c cek alg tag) both.1 in
     record {
       receives = drawn.holds;
       delivers = delivers;

@@ -179,10 +179,12 @@ is_encrypted laws limits known keys e random plaintext o key_octets random_octet
     let opens : IsOpening enc cek iv authentic s.ciphertext s.tag plaintext = record {
       cek_fits = is_cek.fits;
       iv_fits = length-drop (cek_drawn e) later ∙ omega (arith, after_long e random long);
-      octets = octets;
-      short = sealed.0;
-      ciphertext = ap (λ (x : Sealed). x.ciphertext) sealed.1;
-      is_tag = ap (λ (x : Sealed). x.tag) sealed.1;
+      opens = record {
+        octets = octets;
+        short = sealed.0;
+        ciphertext = ap (λ (x : Sealed). x.ciphertext) sealed.1;
+        is_tag = ap (λ (x : Sealed). x.tag) sealed.1;
+      };
     } in
     let both = laws.opened enc cek iv authentic s.ciphertext s.tag plaintext is_cek.octets start opens in
     record {

@@ -21,7 +21,7 @@ use Rattle.tokens.specs.Algorithms.{content_alg}
 use Rattle.tokens.specs.Choosing.{is_direct, direct_key_is_alone, may_encrypt, password_count, p2c_may_be_written}
 use Rattle.tokens.specs.Encrypting.{direct_key}
 use Rattle.tokens.specs.Views.{recipient_key_view}
-use Rattle.tokens.proofs.AlgorithmCases.{direct_is, direct_key_fits}
+use Rattle.tokens.proofs.AlgorithmCases.{direct_key_fits}
 
 -- a step that went on is one whose test holds
 pub held : (test : Bool) (refusal : Refusal) (done : Unit {0}) → Ok done ≡ needs test refusal → test ≡ true
@@ -109,7 +109,7 @@ direct_fits enc (r ∷ rest) key fit is =
         → length key ≡ ciphers.cek_len (content_alg enc)
     by_use true direct fit is =
         let same : (key_view r.key.now).octets ≡ key = cc is in
-        ap length (sym same) ∙ direct_key_fits enc (key_view r.key.now) (subst (λ alg. fits (key_view r.key.now) (EncryptionWith alg enc) ≡ true) (direct_is r.management direct) fit)
+        ap length (sym same) ∙ direct_key_fits r.management enc (key_view r.key.now) direct fit
     by_use false direct fit is = cc is
 
 -- a key that is used directly is the content encryption key, since it is alone

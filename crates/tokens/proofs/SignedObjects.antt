@@ -9,7 +9,7 @@ use Rattle.octets.specs.Outcomes.{needs}
 use Rattle.octets.specs.Plan.{OutputTexts}
 use Rattle.octets.proofs.Lemmas.{meaning_of_text, steps, passed, same_answer}
 use Rattle.keys.specs.declared.algorithm.SignatureAlg.{SignatureAlg}
-use Rattle.keys.specs.declared.algorithm.SignatureAlg.TheVariants.{Hs256, Hs384, Hs512}
+use Rattle.tokens.proofs.AlgorithmCases.{no_management}
 use Rattle.keys.specs.Algorithms.{signature_name, management_alg_among, management_alg_of}
 use Rattle.keys.specs.Json.{json_value, member_numbers_are_whole}
 use Rattle.keys.specs.JsonTexts.{AreJsonMembers}
@@ -106,13 +106,6 @@ decodes header payload s is = rw (meaning_of_text (header_text s.protected) is.b
 reads : (header : Members) (payload : List ℕ) (s : Signer) → Signs header s → headed_signature (decoded_by header payload s) ≡ Ok (headed_by header payload s)
 unfolding headed_signature
 reads header payload s is = rw is.back.members refl
-
--- no algorithm of signatures is one of key management
-no_management : (alg : SignatureAlg) → management_alg_of (signature_name alg) ≡ None
-unfolding management_alg_among
-no_management Hs256 = refl
-no_management Hs384 = refl
-no_management Hs512 = refl
 
 makes : (header : Members) (payload : List ℕ) (s : Signer) → Signs header s → jws.signature_by limits.management (headed_by header payload s) ≡ Ok (made_by header payload s)
 unfolding jws.signature_by joint_header string_there

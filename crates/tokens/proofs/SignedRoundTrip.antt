@@ -11,9 +11,7 @@ use Rattle.octets.specs.Outcomes.{◌>>=◌}
 use Rattle.octets.specs.Plan.{OutputTexts, Plan}
 use Rattle.octets.proofs.Lemmas.{has_url_characters, steps, same_answer}
 use Rattle.prf.specs.Hmac.{hmac}
-use Rattle.prf.specs.Sha2Octets.{IsOctets-sha256, IsOctets-sha384, IsOctets-sha512}
 use Rattle.keys.specs.declared.algorithm.SignatureAlg.{SignatureAlg}
-use Rattle.keys.specs.declared.algorithm.SignatureAlg.TheVariants.{Hs256, Hs384, Hs512}
 use Rattle.keys.specs.declared.algorithm.Algorithm.TheVariants.{Signature as SignedWith}
 use Rattle.keys.specs.declared.operation.Operation.TheVariants.{Sign, Verify}
 use Rattle.keys.specs.Algorithms.{signature_alg_of}
@@ -28,19 +26,18 @@ use Rattle.tokens.specs.Signatures.{signature_of}
 use Rattle.tokens.specs.Signing.{Signer, Signing, signer_by, read_signing, protected_by, signature_by, parts_by, signed, written_of, plan_by, sig_plan}
 use Rattle.tokens.specs.Template.{SignatureTemplate, header_text}
 use Rattle.tokens.specs.Verifying.{may_verify, verifies, are_verified, verified_payload, verifying_by, SignedVerifies}
+use Rattle.tokens.proofs.AlgorithmCases.{signature_named, signature_hash_law}
 use Rattle.tokens.proofs.Beginnings.{handed_back}
 use Rattle.tokens.proofs.ReadLists.{some_passes}
 use Rattle.tokens.proofs.SignedObjects.{Signs, IsSigning, is_signing, made_by, object_by, signed_is, written_is}
-use Rattle.tokens.proofs.SigningTemplates.{named_itself, key_is}
+use Rattle.tokens.proofs.SigningTemplates.{key_is}
 
 -- ---- the object is what its text spells
 
 -- a signature is octets
 pub signature_octets : (alg : SignatureAlg) (key protected payload : List ℕ) → IsOctets (signature_of alg key protected payload)
 unfolding signature_of hmac
-signature_octets Hs256 key protected payload = IsOctets-sha256 _
-signature_octets Hs384 key protected payload = IsOctets-sha384 _
-signature_octets Hs512 key protected payload = IsOctets-sha512 _
+signature_octets alg key protected payload = (signature_hash_law alg).octets _
 
 -- the members of a signature are as they have to be
 signature_members : (header : Members) (payload : List ℕ) → AreJsonMembers header → (s : Signer) → Signs header s
@@ -86,7 +83,7 @@ texts_are_read spells compact detach keys s payload texts octets is h =
 module _ (template : SignatureTemplate) (header : Members) (key : OctetKey) (payload : List ℕ) (may : allows key Verify ≡ true) where
   -- the signature names the algorithm
   supported : (s : Signer) → signer_by template key ≡ Ok s → Signs header s → is_some (signature_alg_of (made_by header payload s).alg) ≡ true
-  supported s by is = rw (named_itself s.alg) refl
+  supported s by is = rw (signature_named s.alg) refl
 
   -- which the key fits, since it signed by it
   fits_alg : (s : Signer) → signer_by template key ≡ Ok s → Signs header s → fits key (SignedWith s.alg) ≡ true
@@ -95,14 +92,14 @@ module _ (template : SignatureTemplate) (header : Members) (key : OctetKey) (pay
 
   -- so they are a candidate
   candidate : (s : Signer) → signer_by template key ≡ Ok s → Signs header s → may_verify (made_by header payload s) key ≡ true
-  candidate s by is = rw (named_itself s.alg, may, fits_alg s by is) refl
+  candidate s by is = rw (signature_named s.alg, may, fits_alg s by is) refl
 
   -- and the key verifies the signature
   verified : (s : Signer) → signer_by template key ≡ Ok s → Signs header s → verifies payload (made_by header payload s) key ≡ true
   verified s by is =
       let same : bytes_eq (signature_of s.alg s.key.octets (protected_by s) payload) (signature_of s.alg key.octets (protected_by s) payload) ≡ true =
       (bytes_eq-Decides _ _).1 (ap (λ (k : OctetKey). signature_of s.alg k.octets (protected_by s) payload) (key_is template key s by)) in
-      rw (named_itself s.alg, may, fits_alg s by is, same) refl
+      rw (signature_named s.alg, may, fits_alg s by is, same) refl
 
 -- so the object is verified with this key alone, and gives the payload
 payload_verified : (compact all : Bool) (before : List OctetKey) (key : OctetKey) (after : List OctetKey) (s : Signing) (payload : List ℕ) → allows key Verify ≡ true

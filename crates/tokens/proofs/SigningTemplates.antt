@@ -12,7 +12,6 @@ use Rattle.serde_json.proofs.Views.{get_member-put, get_member-put_other}
 use Rattle.octets.specs.declared.refusal.Refusal.TheVariants.{Form, Header, Unsupported}
 use Rattle.octets.specs.Outcomes.{needs}
 use Rattle.keys.specs.declared.algorithm.SignatureAlg.{SignatureAlg}
-use Rattle.keys.specs.declared.algorithm.SignatureAlg.TheVariants.{Hs256, Hs384, Hs512}
 use Rattle.keys.specs.Algorithms.{signature_name, signature_alg_of}
 use Rattle.keys.specs.Json.{is_object, has_only}
 use Rattle.keys.specs.JsonTexts.{IsJson, AreJsonMembers}
@@ -23,28 +22,8 @@ use Rattle.objects.proofs.Lemmas.{get_member-all_members, name_is_json}
 use Rattle.octets.proofs.Lemmas.{steps, passed, same_answer}
 use Rattle.tokens.specs.Template.{SignatureTemplate, template_headers, template_of, named_alg, supported, supported_if_there, with_alg}
 use Rattle.tokens.specs.Signing.{Signer, chosen_alg, signer_by}
+use Rattle.tokens.proofs.AlgorithmCases.{signature_named, signature_name_is, signature_is_text}
 use Rattle.tokens.proofs.HeaderTexts.{members_json}
-
--- ---- the names of the algorithms
-
--- the name of an algorithm names it
-pub named_itself : (alg : SignatureAlg) → signature_alg_of (signature_name alg) ≡ Some alg
-unfolding signature_alg_of
-named_itself Hs256 = refl
-named_itself Hs384 = refl
-named_itself Hs512 = refl
-
--- and no other text does
-only_name : (name : List ℕ) (alg : SignatureAlg) → signature_alg_of name ≡ Some alg → name ≡ signature_name alg
-unfolding signature_alg_of
-only_name name alg h = by_tests (bytes_eq name (signature_name Hs256)) (bytes_eq name (signature_name Hs384)) (bytes_eq name (signature_name Hs512)) refl refl refl h
-  where
-    by_tests : (a b c : Bool) → bytes_eq name (signature_name Hs256) ≡ a → bytes_eq name (signature_name Hs384) ≡ b → bytes_eq name (signature_name Hs512) ≡ c
-        → (let found : Option SignatureAlg = cond a (Some Hs256) (cond b (Some Hs384) (cond c (Some Hs512) None)) in found) ≡ Some alg → name ≡ signature_name alg
-    by_tests true b c e f g is = let same : Hs256 ≡ alg = cc is in (bytes_eq-Decides name (signature_name Hs256)).0 e ∙ ap signature_name same
-    by_tests false true c e f g is = let same : Hs384 ≡ alg = cc is in (bytes_eq-Decides name (signature_name Hs384)).0 f ∙ ap signature_name same
-    by_tests false false true e f g is = let same : Hs512 ≡ alg = cc is in (bytes_eq-Decides name (signature_name Hs512)).0 g ∙ ap signature_name same
-    by_tests false false false e f g is = cc is
 
 -- ---- what the headers of a template say
 
@@ -125,7 +104,7 @@ named None alg h = cc h
 named (Some text) alg h =
     let is = supported_is (signature_alg_of text) (Some alg) h in
     let same : alg ≡ is.0 = cc (is.2) in
-    ap Some (only_name text is.0 is.1 ∙ ap signature_name (sym same))
+    ap Some (signature_name_is text is.0 is.1 ∙ ap signature_name (sym same))
 
 -- and where none is named, there is no name
 not_named : (name : Option (List ℕ)) → supported_if_there name ≡ Ok None → name ≡ None
@@ -194,12 +173,6 @@ pub record IsSettled (header : Members) (s : Signer) : Type 0 where
   pub plain : has_no_crit s.protected ≡ true
   pub alg : string_parameter (codes "alg") (all_members s.protected no_members header) ≡ Ok (Some (signature_name s.alg))
 
--- the name of an algorithm is text
-name_is_utf8 : (alg : SignatureAlg) → IsUtf8 (signature_name alg)
-name_is_utf8 Hs256 = name_is_json (codes "HS256") refl
-name_is_utf8 Hs384 = name_is_json (codes "HS384") refl
-name_is_utf8 Hs512 = name_is_json (codes "HS512") refl
-
 -- by the chosen algorithm, which is put in where the template names none
 settled_by : (p u : Members) (asked : Option SignatureAlg) (key : OctetKey) (alg : SignatureAlg) → AreJsonMembers p → Say p u asked → chosen_alg asked key ≡ Ok alg
     → IsSettled u (record { key = key; alg = alg; protected = if is_some asked then p else put (codes "alg") (string (signature_name alg)) p })
@@ -217,7 +190,7 @@ settled_by p u None key alg json say chosen =
     let absent : is_some (get_member (codes "alg") u) ≡ false = is_absent _ (in_neither (codes "alg") p u none).1 in
     let value : Data = string (signature_name alg) in
     record {
-      json = (keep_json.put_in (codes "alg") value p (name_is_json (codes "alg") refl) (name_is_utf8 alg) json).0;
+      json = (keep_json.put_in (codes "alg") value p (name_is_json (codes "alg") refl) (signature_is_text alg) json).0;
       disjoint = disjoint (put (codes "alg") value p) u (overlap-put (codes "alg") value p u absent (apart p u say.disjoint));
       plain = ap is_none (get_member-put_other (codes "crit") (codes "alg") value p crit_is_not_alg) ∙ say.plain;
       alg = put_parameter (codes "alg") (signature_name alg) p u;

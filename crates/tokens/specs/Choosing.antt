@@ -1,7 +1,7 @@
 -- What a template and keys settle before anything is drawn: the keys that receive the content encryption key, the algorithms, and the
 -- headers but for what is drawn.
 use Rattle.std.specs.Prelude.{ℕ, zero, suc, ◌*◌, ◌==◌, ◌&&◌, ◌||◌, Bool, true, false, not, nat_le, List, [], ◌∷◌, length, codes, is_some, if◌then◌else◌, Option, Some, None, Result, Ok, Err}
-use Rattle.std.specs.List.{list_all, list_any}
+use Rattle.std.specs.List.{find, list_all, list_any}
 use Rattle.std.specs.Option.{ok_or, option_or, unwrap_or}
 use Rattle.serde_json.specs.Data.{Members, unsigned, number, string, put}
 use Rattle.octets.specs.declared.refusal.Refusal.{Refusal}
@@ -14,7 +14,7 @@ use Rattle.keys.specs.declared.algorithm.KeyManagementAlg.{KeyManagementAlg}
 use Rattle.keys.specs.declared.algorithm.KeyManagementAlg.TheVariants.{Dir, A128Kw, A192Kw, A256Kw}
 use Rattle.keys.specs.declared.algorithm.KeyManagementMode.{KeyManagementMode}
 use Rattle.keys.specs.declared.algorithm.KeyManagementMode.TheVariants as mode
-use Rattle.keys.specs.Algorithms.{encryption_name, management_alg_of, encryption_alg_of, mode_of, kek_len, is_password_based, management_operations}
+use Rattle.keys.specs.Algorithms.{encryption_name, cek_len, management_alg_of, encryption_alg_of, mode_of, kek_len, is_password_based, management_operations}
 use Rattle.keys.specs.Json.{json_value}
 use Rattle.keys.specs.Keys.{OctetKey, allows, fits}
 use Rattle.keys.specs.Limits.{Limits}
@@ -26,11 +26,7 @@ use Rattle.tokens.specs.Template.{is_shallow, is_empty}
 
 -- the one whose keys have n octets
 abbrev pub management_by_length : ℕ → Option KeyManagementAlg
-management_by_length n =
-    if n == 16 then Some A128Kw
-    else if n == 24 then Some A192Kw
-    else if n == 32 then Some A256Kw
-    else None
+management_by_length n = find (λ alg. n == kek_len alg) (A128Kw ∷ A192Kw ∷ A256Kw ∷ [])
 
 -- the one that its `alg` names, where the name of a content encryption asks for direct use
 abbrev pub management_by_name : Option KeyManagementAlg → Option ContentEncryptionAlg → Option KeyManagementAlg
@@ -47,26 +43,22 @@ abbrev pub chosen_management : Option KeyManagementAlg → OctetKey → Result K
 chosen_management (Some alg) key = Ok alg
 chosen_management None key = management_of_key key.alg (length key.octets)
 
--- the content encryption whose key has n octets, where the key is used directly
+-- AES in CBC mode with HMAC, by the length of the key
+abbrev pub cbc_algs : List ContentEncryptionAlg
+cbc_algs = A128CbcHs256 ∷ A192CbcHs384 ∷ A256CbcHs512 ∷ []
+
+-- the one whose key has n octets, where the key is used directly
 abbrev pub encryption_by_length : ℕ → Option ContentEncryptionAlg
-encryption_by_length n =
-    if n == 32 then Some A128CbcHs256
-    else if n == 48 then Some A192CbcHs384
-    else if n == 64 then Some A256CbcHs512
-    else None
+encryption_by_length n = find (λ enc. n == cek_len enc) cbc_algs
 
 -- the one that the `alg` of a key names
 abbrev pub encryption_by_name : Option (List ℕ) → Option ContentEncryptionAlg
 encryption_by_name None = None
 encryption_by_name (Some name) = encryption_alg_of name
 
--- the CBC one whose AES key is as long as the key of the wrap, of n octets
+-- the one whose AES key, half of the content encryption key, is as long as the key of the wrap, of n octets
 abbrev pub encryption_by_wrap : ℕ → Option ContentEncryptionAlg
-encryption_by_wrap n =
-    if n == 16 then Some A128CbcHs256
-    else if n == 24 then Some A192CbcHs384
-    else if n == 32 then Some A256CbcHs512
-    else None
+encryption_by_wrap n = find (λ enc. 2 * n == cek_len enc) cbc_algs
 
 -- the one that goes with key management
 abbrev pub encryption_in : KeyManagementMode → ℕ → OctetKey → Option ContentEncryptionAlg

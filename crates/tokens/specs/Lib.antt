@@ -5,6 +5,7 @@ pub mod SigningInputs
 pub mod Verifying
 pub mod VerifyingInputs
 pub mod Algorithms
+pub mod Rows
 pub mod Decrypting
 pub mod EncryptionTemplate
 pub mod Choosing

@@ -1,14 +1,37 @@
 -- What stays as it is where more algorithms of key management are known: every object whose recipients name none of the further ones, or
 -- whose names are known without them.
-use Rattle.std.specs.Prelude.{◌≡◌, ◌↔◌, ◌||◌, ℕ, not, is_some, true, Bool, List, ◌++◌, Option, Ok}
+use Rattle.std.specs.Prelude.{◌≡◌, ◌↔◌, ◌||◌, ℕ, not, is_some, true, Bool, List, [], ◌∷◌, ◌++◌, Option, Ok}
 use Rattle.std.specs.List.{list_all}
 use Rattle.keys.specs.declared.algorithm.KeyManagementAlg.{KeyManagementAlg}
-use Rattle.keys.specs.Algorithms.{management_alg_among}
+use Rattle.keys.specs.declared.algorithm.KeyManagementAlg.TheVariants.{Dir, A128Kw, A192Kw, A256Kw, Pbes2Hs256A128Kw, Pbes2Hs384A192Kw, Pbes2Hs512A256Kw, A128GcmKw, A192GcmKw, A256GcmKw}
+use Rattle.keys.specs.Algorithms.{management_algs, management_alg_among}
 use Rattle.keys.specs.Keys.{OctetKey}
 use Rattle.keys.specs.Limits.{Limits}
 use Rattle.objects.specs.Jwe.{EncryptedObject, jwe_of}
 use Rattle.objects.specs.Jws.{SignedObject, jws_of}
 use Rattle.tokens.specs.Decrypting.{decrypted}
+
+-- the limits before 2.0.0, with the algorithms of this profile
+abbrev pub earlier_limits : Limits
+earlier_limits = record {
+  keys = 64;
+  key_octets = 4096;
+  depth = 64;
+  recipients = 64;
+  greatest_p2c_read = 1000000;
+  least_p2c = 1000;
+  greatest_p2c = 1000000;
+  usual_p2c = 10000;
+  p2c_sum = 4000000;
+  management = management_algs;
+}
+
+-- the algorithms of this profile before 2.0.0, and those that came with it: key wrap by AES in GCM (RFC 7518 section 4.7)
+abbrev pub earlier_management_algs : List KeyManagementAlg
+earlier_management_algs = Dir ∷ A128Kw ∷ A192Kw ∷ A256Kw ∷ Pbes2Hs256A128Kw ∷ Pbes2Hs384A192Kw ∷ Pbes2Hs512A256Kw ∷ []
+
+abbrev pub gcm_management_algs : List KeyManagementAlg
+gcm_management_algs = A128GcmKw ∷ A192GcmKw ∷ A256GcmKw ∷ []
 
 -- the same limits, with these algorithms
 abbrev pub knowing : Limits → List KeyManagementAlg → Limits

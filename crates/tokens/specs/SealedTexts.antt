@@ -7,7 +7,8 @@ use Rattle.octets.specs.Base64url.{part_group}
 use Rattle.octets.specs.Octets.{IsOctets}
 use Rattle.octets.specs.Outcomes.{◌>>=◌}
 use Rattle.octets.specs.Plan.{OutputTexts, Plan}
-use Rattle.ciphers.specs.Sealing.{Sealed, Sealing, IsTooLong, KeepsPace}
+use Rattle.ciphers.specs.Sealing.{Sealed, Sealing, IsTooLong}
+use Rattle.ciphers.specs.Views.{KeepsPace}
 use Rattle.keys.specs.Limits.{limits}
 use Rattle.objects.specs.Frames.{filled, in_places}
 use Rattle.objects.specs.Texts.{handed_out}

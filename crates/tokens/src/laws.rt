@@ -1,10 +1,14 @@
 //! Laws of the definitions, each the contract of a function that does nothing.
 ghost use Rattle.std.specs.Prelude.{◌≡◌, ◌++◌, List};
 ghost use Rattle.keys.specs.declared.algorithm.KeyManagementAlg.{KeyManagementAlg};
-ghost use Rattle.keys.specs.Algorithms.{earlier_management_algs, gcm_management_algs};
-ghost use Rattle.keys.specs.Limits.{Limits, limits, earlier_limits};
+ghost use Rattle.keys.specs.declared.algorithm.ContentEncryptionAlg.{ContentEncryptionAlg};
+ghost use Rattle.keys.specs.Algorithms.{cek_len};
+ghost use Rattle.keys.specs.Limits.{Limits, limits};
+ghost use Rattle.ciphers.specs.Sealing as ciphers;
+ghost use Rattle.tokens.specs.Algorithms.{content_alg};
 ghost use Rattle.tokens.specs.Encrypting.{AreSound, EncryptedDecrypts, EncryptingGrows, EncryptingMakesTexts};
-ghost use Rattle.tokens.specs.MoreAlgorithms.{knowing, OpensAlike};
+ghost use Rattle.tokens.specs.MoreAlgorithms.{earlier_limits, earlier_management_algs, gcm_management_algs, knowing, OpensAlike};
+ghost use Rattle.tokens.specs.Rows.{HasOneRow};
 ghost use Rattle.tokens.specs.Signing.{SigningGrows, SigningMakesTexts};
 ghost use Rattle.tokens.specs.Verifying.{SignedVerifies};
 
@@ -70,4 +74,11 @@ pub fn more_algorithms_open_alike()
         × (knowing limits (earlier_management_algs ++ gcm_management_algs) ≡ limits) }
     ensures earlier { OpensAlike earlier_limits earlier_management_algs gcm_management_algs
         × (knowing earlier_limits (earlier_management_algs ++ gcm_management_algs) ≡ earlier_limits) }
+{}
+
+/// `keys` and `ciphers` describe each algorithm alike: an algorithm of key management has one mode, one key length and one name, and an
+/// algorithm of content encryption has one key length.
+pub fn rows_are_one()
+    ensures management { (alg : KeyManagementAlg) → HasOneRow alg }
+    ensures encryption { (enc : ContentEncryptionAlg) → cek_len enc ≡ ciphers.cek_len (content_alg enc) }
 {}

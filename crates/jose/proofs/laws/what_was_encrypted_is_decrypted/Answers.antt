@@ -1,5 +1,6 @@
 use Rattle.std.proofs.Common.{lit≤, refl}
-use Rattle.keys.specs.Limits.{limits, earlier_limits}
+use Rattle.keys.specs.Limits.{limits}
+use Rattle.tokens.specs.MoreAlgorithms.{earlier_limits}
 use Rattle.tokens.specs.Encrypting.{AreSound}
 use Rattle.jose.proofs.Headline.{encrypted_is_decrypted}
 use Rattle.jose.proofs.WiderLimits.{these_are_wider, reads_alike}

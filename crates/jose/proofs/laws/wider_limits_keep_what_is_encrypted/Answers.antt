@@ -1,4 +1,5 @@
-use Rattle.keys.specs.Limits.{limits, earlier_limits}
+use Rattle.keys.specs.Limits.{limits}
+use Rattle.tokens.specs.MoreAlgorithms.{earlier_limits}
 use Rattle.jose.proofs.WiderLimits.{these_are_wider, encrypts_as_before}
 use Rattle.jose.proofs.laws.wider_limits_keep_what_is_encrypted.Goals as goal
 

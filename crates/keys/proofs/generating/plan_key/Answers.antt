@@ -1,14 +1,13 @@
 use Rattle.std.proofs.Common.{ap, sym, ◌∙◌}
 use Rattle.serde_json.specs.View.{view, members_view}
 use Rattle.serde_json.specs.Written.{members_have_float}
-use Rattle.keys.proofs.KeyLens.{len_within_limit}
 use Rattle.keys.proofs.MadeFloats.{no_float-completed, no_float-members}
 use Rattle.keys.proofs.WholeNumbers.{test_holds}
 use Rattle.keys.proofs.generating.plan_key.Goals as goal
 
 pub returns-clause-within_limit : goal.returns-clause-within_limit
 returns-clause-within_limit c =
-    len_within_limit c.in_ok-alg.alg c.in_ok-asked.asked.bytes c.in_ok-len.len (sym c.is_within_limit.ensures ∙ test_holds _ _ _ (sym c.needs.ensures ∙ c.in_ok-needs.was)) c.in_ok-len.ensures
+    c.in_ok-len.ensures.within_limit (sym c.is_within_limit.ensures ∙ test_holds _ _ _ (sym c.needs.ensures ∙ c.in_ok-needs.was))
 
 pub returns-clause-no_float : goal.returns-clause-no_float
 returns-clause-no_float c =

@@ -1,6 +1,6 @@
 use Rattle.std.proofs.Common.{refl}
-use Rattle.keys.specs.Algorithms.{earlier_management_algs, gcm_management_algs}
-use Rattle.keys.specs.Limits.{limits, earlier_limits}
+use Rattle.keys.specs.Limits.{limits}
+use Rattle.tokens.specs.MoreAlgorithms.{earlier_limits, earlier_management_algs, gcm_management_algs}
 use Rattle.tokens.proofs.MoreAlgorithms.{opens_alike}
 use Rattle.tokens.proofs.laws.more_algorithms_open_alike.Goals as goal
 
