@@ -1,4 +1,4 @@
--- GCM (SP 800-38D, section 7.1), with an IV of 12 octets and a tag of 16, over any function e of blocks.
+-- GCM (SP 800-38D section 7.1), with an IV of 12 octets and a tag of 16, over any function e of blocks.
 use Rattle.std.specs.Prelude.{◌≡◌, ℕ, ◌-◌, ◌*◌, ◌%◌, ◌^◌, ◌≤◌, List, [], ◌∷◌, ◌++◌, length, replicate}
 use Rattle.std.specs.Int.{w64, to_be_bytes}
 use Rattle.octets.specs.Octets.{IsOctets, xor_octets}
@@ -17,7 +17,7 @@ pre_counter_block iv = iv ++ 0 ∷ 0 ∷ 0 ∷ 1 ∷ []
 unfoldable pub gcm_ciphertext : (List ℕ → List ℕ) → List ℕ → List ℕ → List ℕ
 gcm_ciphertext e iv p = ctr e (counter_block (pre_counter_block iv) 1) p
 
--- the number of bits of x, modulo 2 ^ 64, as eight octets
+-- the number of bits of x, modulo 2 ^ 64, as eight octets (step 5; RFC 7518 section 5.2.2.1, step 4)
 abbrev pub bit_length : List ℕ → List ℕ
 bit_length x = to_be_bytes w64 (length x * 8 % 2 ^ 64)
 
@@ -33,7 +33,7 @@ gcm_tag e iv aad c = xor_octets (gcm_hash e aad c) (e (pre_counter_block iv))
 abbrev pub longest : ℕ
 longest = 2 ^ 36 - 32
 
--- p is the opening of the ciphertext c and the tag
+-- p is the opening of the ciphertext c and the tag (section 7.2)
 pub record IsGcmOpening (e : List ℕ → List ℕ) (iv aad c tag p : List ℕ) : Type 0 where
   pub octets : IsOctets p
   pub short : length p ≤ longest
