@@ -1,10 +1,10 @@
--- The key expansion (FIPS 197, section 5.2). A key has nk words of four octets: 4, 6 or 8.
+-- The key expansion (FIPS 197 section 5.2). A key has nk words of four octets: 4, 6 or 8.
 use Rattle.std.specs.Prelude.{ℕ, zero, suc, ◌+◌, ◌-◌, ◌*◌, ◌/◌, ◌%◌, ◌==◌, ◌&&◌, nat_lt, if◌then◌else◌, bit_xor, List, [], ◌∷◌, ◌++◌}
 use Rattle.aes.specs.Octet.{octet_product}
 use Rattle.aes.specs.SBox.{s_box}
 use Rattle.aes.specs.State.{word}
 
--- ---- words, as functions that send r to octet r
+-- ---- words, as functions that send r to octet r (section 5.2)
 
 -- the word a b c d turned to b c d a
 abbrev pub rot_word : (ℕ → ℕ) → ℕ → ℕ
@@ -23,13 +23,13 @@ power_of_x (suc j) = octet_product 2 (power_of_x j)
 abbrev pub rcon : ℕ → ℕ → ℕ
 rcon j r = if r == 0 then power_of_x (j - 1) else 0
 
--- what is made of the word a, which stands before place i
+-- the word a of place i - 1, transformed for place i
 abbrev pub transformed : ℕ → ℕ → (ℕ → ℕ) → ℕ → ℕ
 transformed nk i a r =
     if i % nk == 0 then bit_xor (sub_word (rot_word a) r) (rcon (i / nk) r) else
     (if nat_lt 6 nk && (i % nk == 4) then sub_word a r else a r)
 
--- ---- key words, as a list of their octets
+-- ---- key words, as a list of their octets (section 5.2)
 
 -- the word at place i, from the words before it
 abbrev pub next_word : ℕ → List ℕ → ℕ → ℕ → ℕ

@@ -1,4 +1,4 @@
--- The field of octets (FIPS 197, section 4). An octet is a polynomial of degree below 8; the sum of two is `bit_xor`.
+-- The field of octets (FIPS 197 section 4). An octet is a polynomial of degree below 8; the sum of two is `bit_xor`.
 use Rattle.std.specs.Prelude.{ℕ, zero, suc, ◌==◌, if◌then◌else◌}
 use Rattle.aes.specs.Polynomial.{polynomial_product, polynomial_remainder}
 
@@ -6,7 +6,7 @@ use Rattle.aes.specs.Polynomial.{polynomial_product, polynomial_remainder}
 unfoldable pub octet_product : ℕ → ℕ → ℕ
 octet_product a b = polynomial_remainder 8 0x11b 7 (polynomial_product 8 a b)
 
--- the y below n with x * y = 1, and 0 where there is none
+-- the y below n with x * y = 1, or 0 if there is none (section 4.4; in the edition of 2001 section 4.2)
 unfoldable pub inverse_below : ℕ → ℕ → ℕ
 inverse_below zero x = 0
 inverse_below (suc n) x = if octet_product x n == 1 then n else inverse_below n x

@@ -1,12 +1,13 @@
--- What is known of polynomials over two elements.
+-- Laws of the sums, products and remainders of polynomials over two elements (FIPS 197 sections 4.1 and 4.2).
 use Rattle.std.specs.Prelude.{◌≡◌, ℕ, suc, ◌+◌, ◌*◌, ◌^◌, ◌<◌, bit_xor}
 use Rattle.std.specs.Int.{bit_at}
 use Rattle.aes.specs.Polynomial.{polynomial_sum, polynomial_product, polynomial_remainder}
 
--- it sends a sum to the sum
+-- h of a sum is the sum of h of the terms, by the addition of FIPS 197 section 4.1
 abbrev pub IsLinear : (ℕ → ℕ) → Type 0
 IsLinear h = (p q : ℕ) → h (bit_xor p q) ≡ bit_xor (h p) (h q)
 
+-- laws of the arithmetic of FIPS 197 sections 4.1 and 4.2
 pub record PolynomialLaws : Type 0 where
   -- sums of equal terms are equal
   pub sum_same : (f g : ℕ → ℕ) (n : ℕ) → ((i : ℕ) → i < n → f i ≡ g i) → polynomial_sum f n ≡ polynomial_sum g n

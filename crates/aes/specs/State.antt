@@ -1,4 +1,4 @@
--- The state and the four steps of a round (FIPS 197, sections 3.4, 3.5 and 5.1).
+-- The state and the four steps of a round (FIPS 197 sections 3.4, 3.5 and 5.1).
 use Rattle.std.specs.Prelude.{ℕ, ◌+◌, ◌*◌, ◌/◌, ◌%◌, bit_xor, List, [], ◌∷◌, map, slice_index}
 use Rattle.std.specs.List.{range_with_len}
 use Rattle.aes.specs.Polynomial.{polynomial_sum}
@@ -9,7 +9,7 @@ use Rattle.aes.specs.SBox.{s_box}
 abbrev pub at : List ℕ → ℕ → ℕ → ℕ
 at s r c = slice_index s (r + 4 * c)
 
--- the state that has f r c in row r and column c
+-- the state that has f r c in row r and column c (section 3.4)
 unfoldable pub square : (ℕ → ℕ → ℕ) → List ℕ
 square f = map (λ n. f (n % 4) (n / 4)) (range_with_len 0 16)
 
@@ -25,11 +25,11 @@ sub_bytes s = square (λ r c. s_box (at s r c))
 abbrev pub shift_rows : List ℕ → List ℕ
 shift_rows s = square (λ r c. at s r ((c + r) % 4))
 
--- each column multiplied by the matrix m
+-- each column multiplied by the matrix m (section 4.3)
 abbrev pub times_matrix : (ℕ → ℕ → ℕ) → List ℕ → List ℕ
 times_matrix m s = square (λ r c. polynomial_sum (λ k. octet_product (m r k) (at s k c)) 4)
 
--- the matrix of four rows, in row r and column k
+-- the entry in row r and column k of the matrix with these four rows (section 4.3)
 abbrev pub matrix : List ℕ → ℕ → ℕ → ℕ
 matrix rows r k = slice_index rows (4 * r + k)
 

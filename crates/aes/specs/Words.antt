@@ -1,4 +1,4 @@
--- How the code holds a state: as four words, one for each column (FIPS 197, section 3.5).
+-- How the code holds a state: as four words, one for each column (FIPS 197 section 3.5).
 use Rattle.std.specs.Prelude.{◌≡◌, ℕ, ◌<◌, List, slice_index}
 use Rattle.std.specs.Int.{w32, to_le_bytes}
 use Rattle.aes.specs.Octet.{octet_product}
