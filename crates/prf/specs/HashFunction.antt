@@ -2,14 +2,14 @@
 use Rattle.std.specs.Prelude.{◌≡◌, ℕ, ◌<◌, ◌≤◌, List, length}
 use Rattle.octets.specs.Octets.{IsOctets}
 
--- its block length B and its output length L in octets, and the digest of each message
+-- its block length B and its output length L in octets, and the digest of each message (section 2)
 pub record HashFunction : Type 0 where
   pub block_len : ℕ
   pub output_len : ℕ
   pub digest : List ℕ → List ℕ
 
--- Each digest is octets. It has the output length, which is not 0, at most 64 and at most the block length, which is at
--- most 128.
+-- Each digest is octets of the output length, which is from 1 to 64 and at most the block length, and this is at most 128. These are
+-- the greatest lengths of FIPS 180-4 section 1.
 pub record IsHashFunction (f : HashFunction) : Type 0 where
   pub octets : (message : List ℕ) → IsOctets (f.digest message)
   pub digests : (message : List ℕ) → length (f.digest message) ≡ f.output_len
