@@ -26,7 +26,7 @@ ComesNearer old new n = IsFinite old → IsFinite new × (size new + n ≤ size 
 abbrev pub most_octets : ℕ
 most_octets = 2 ^ 62
 
--- ---- lists that grow
+-- ---- lists that grow: what an input has given, and what an output has taken (docs/SPECIFICATION.md "Devices")
 
 -- what the list has grown by
 abbrev pub appended : List ℕ → List ℕ → List ℕ
@@ -40,7 +40,7 @@ Extends old new = new ≡ old ++ appended old new
 abbrev pub AppendsPrefixOf : List ℕ → List ℕ → List ℕ → Type 0
 AppendsPrefixOf text old new = (length old ≤ length new) × (take (length new) (old ++ text) ≡ new)
 
--- ---- what a call saw of an input
+-- ---- what a call saw of an input (docs/SPECIFICATION.md "Devices")
 
 -- the octets that its reads gave, and whether the end was found
 pub record Observed : Type 0 where

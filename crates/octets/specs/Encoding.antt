@@ -11,7 +11,7 @@ use Rattle.octets.specs.Plan.{Plan, Begins}
 abbrev pub encoding : Plan (List ℕ)
 encoding = record { whole = λ content. Ok (base64url content); fixed = λ front. base64url (whole_groups front) }
 
--- the octets of a group, and then those of the groups after it
+-- the octets of a group and then those of the groups after it, or none if the group is no text (docs/SPECIFICATION.md "Commands")
 abbrev pub and_octets : Result (List ℕ) Refusal → List ℕ → List ℕ
 and_octets (Ok octets) more = octets ++ more
 and_octets (Err r) more = []
@@ -33,12 +33,14 @@ pub settling_starts : settling.fixed [] ≡ []
 unfolding settled octets_of_groups
 settling_starts = refl
 
--- What a beginning of a text fixes is x: whole groups of octets, whose text begins it, and none longer are.
+-- x is the longest string of whole groups of octets whose text begins the text (docs/SPECIFICATION.md "Commands", what is left after a
+-- refusal).
 pub record IsLongestDecoded (text x : List ℕ) : Type 0 where
   pub octets : IsOctets x
   pub groups : length x % 3 ≡ 0
   pub begins : Begins (base64url x) text
   pub longest : (y : List ℕ) → IsOctets y → length y % 3 ≡ 0 → Begins (base64url y) text → length y ≤ length x
 
+-- A beginning of a text fixes the longest such string (docs/SPECIFICATION.md "Commands", what is left after a refusal).
 abbrev pub FixesLongest : Type 0
 FixesLongest = (text : List ℕ) → IsOctets text → IsLongestDecoded text (octets_of_groups text)

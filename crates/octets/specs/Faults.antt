@@ -9,15 +9,16 @@ pub record Counts : Type 0 where
   pub old : ℕ
   pub new : ℕ
 
+-- those of a device (docs/SPECIFICATION.md "Devices")
 abbrev pub counts : {D : Type 0} → (D → ℕ) → D → D → Counts
 counts failures old new = record { old = failures old; new = failures new }
 
--- no device failed in the call
+-- no device failed in the call (docs/SPECIFICATION.md "Devices")
 abbrev pub NoneFailed : List Counts → Type 0
 NoneFailed [] = ⊤
 NoneFailed (c ∷ cs) = (c.new ≡ c.old) × NoneFailed cs
 
--- some device did, once
+-- some device failed in the call, once (docs/SPECIFICATION.md "Devices")
 abbrev pub SomeFailed : List Counts → Type 0
 SomeFailed [] = ⊥
 SomeFailed (c ∷ cs) = (c.new ≡ next_count c.old) ⊎ SomeFailed cs

@@ -10,7 +10,7 @@ abbrev pub ◌>>=◌ : {A B : Type 0} → Result A Refusal → (A → Result B R
 (Ok x) >>= f = f x
 (Err r) >>= f = Err r
 
--- a step that goes on where the test holds
+-- a step that goes on if the test holds, and else refuses (docs/SPECIFICATION.md "Refusals")
 abbrev pub needs : Bool → Refusal → Result (Unit {0}) Refusal
 needs test refusal = if test then Ok tt else Err refusal
 
