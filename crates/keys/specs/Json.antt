@@ -64,7 +64,7 @@ has_only names (string s) = true
 has_only names (array items) = true
 has_only names (object members) = members_have_only names members
 
--- ---- values without floats
+-- ---- values without floats (docs/SPECIFICATION.md "Octets and texts")
 
 -- Members whose numbers are whole have no float. A value without floats has none in a member, and its members have none where one
 -- without floats is put in.

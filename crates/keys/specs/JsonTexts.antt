@@ -13,19 +13,21 @@ use Rattle.octets.specs.Base64url.{is_url_character}
 use Rattle.keys.specs.Json.{json_value}
 use Rattle.keys.specs.Generating.{without}
 
--- a whole number from -2^63 to 2^64 - 1, which is negative exactly where it is below 0; `negsuc n` is -n - 1 ("Left out by name")
+-- ---- the values (docs/SPECIFICATION.md "Octets and texts")
+
+-- a whole number from -2^63 to 2^64 - 1, which is negative exactly if it is below 0; `negsuc n` is -n - 1 ("Left out by name")
 abbrev pub IsJsonNumber : Num → Type 0
 IsJsonNumber (unsigned n) = n < 2 ^ 64
 IsJsonNumber (negative (pos n)) = ⊥
 IsJsonNumber (negative (negsuc n)) = n < 2 ^ 63
 IsJsonNumber (float x) = ⊥
 
--- the name stands before that of each member, in byte order (docs/SPECIFICATION.md "Octets and texts")
+-- the name is before that of each member, in byte order
 abbrev pub IsBefore : List ℕ → Members → Type 0
 IsBefore name no_members = ⊤
 IsBefore name (member other value rest) = (slice_cmp nat_cmp name other ≡ Less) × IsBefore name rest
 
--- each text is UTF-8, each number a whole one of 64 bits, and each object has its names in order, none of them twice ("Octets and texts")
+-- each text is UTF-8, each number is a whole one of 64 bits, and each object has its names in order, none of them twice
 abbrev mutual
   pub IsJson : Data → Type 0
   IsJson null = ⊤
@@ -43,19 +45,22 @@ abbrev mutual
   AreJsonMembers no_members = ⊤
   AreJsonMembers (member name value rest) = IsUtf8 name × IsBefore name rest × IsJson value × AreJsonMembers rest
 
--- such a value, at most 127 deep, is what its compact text reads as (docs/SPECIFICATION.md "Octets and texts")
+-- ---- their texts (docs/SPECIFICATION.md "Octets and texts")
+
+-- the compact text of a value that is at most 127 deep reads as the value
 abbrev pub CompactTextReadsBack : Type 0
 CompactTextReadsBack = (d : Data) → IsJson d → depth d ≤ 127 → json_value (compact_text d) ≡ Ok d
 
--- one that nests deeper has a compact text that is refused (docs/SPECIFICATION.md "Octets and texts")
+-- the compact text of a value that nests deeper is refused
 abbrev pub DeepTextsAreRefused : Type 0
 DeepTextsAreRefused = (d : Data) → IsJson d → 127 < depth d → json_value (compact_text d) ≡ Err Json
 
--- what a text reads as is such a value (docs/SPECIFICATION.md "Octets and texts")
+-- what a text reads as is a value as above, and at most 127 deep
 abbrev pub ReadsJson : Type 0
 ReadsJson = (text : List ℕ) (d : Data) → json_value text ≡ Ok d → IsJson d × (depth d ≤ 127)
 
--- Such a value has no float. What is found in it is such, and nests less deep; members stay such where one is put in or left out.
+-- A JSON value has no float. A value found in it, its members and its items are JSON values that nest less deep. Members stay JSON
+-- values when one is put in or left out.
 pub record KeepJson : Type 0 where
   pub no_float : (d : Data) → IsJson d → has_float d ≡ false
   pub found : (name : List ℕ) (d e : Data) → IsJson d → get name d ≡ Some e → IsJson e × (depth e < depth d)

@@ -23,7 +23,7 @@ pub record OctetKey : Type 0 where
   pub key_use : Option (List ℕ)
   pub key_ops : Option (List (List ℕ))
 
--- each has octets
+-- each has octets (RFC 7518 section 6.4.1)
 abbrev pub AreOctetKeys : List OctetKey → Type 0
 AreOctetKeys keys = AllByRecursion (λ key. IsOctets key.octets) keys
 

@@ -6,11 +6,13 @@ use Rattle.serde_json.specs.Find.{get, as_str, as_array}
 use Rattle.octets.specs.declared.refusal.Refusal.{Refusal}
 use Rattle.octets.specs.declared.refusal.Refusal.TheVariants.{Key}
 
--- the text of a member that must be there and be a string (docs/SPECIFICATION.md "Keys" 2)
+-- ---- members (docs/SPECIFICATION.md "Keys" 2)
+
+-- the text of a member that must be there and be a string
 unfoldable pub string_member : List ℕ → Data → Result (List ℕ) Refusal
 string_member name value = ok_or (option_and_then as_str (get name value)) Key
 
--- what is there must have the type that is read (docs/SPECIFICATION.md "Keys" 2)
+-- a member that is there must have the type that is read
 abbrev pub some_read : {X : Type 0} → Option X → Result (Option X) Refusal
 some_read None = Err Key
 some_read (Some x) = Ok (Some x)
@@ -19,7 +21,7 @@ abbrev pub string_if_there : Option Data → Result (Option (List ℕ)) Refusal
 string_if_there None = Ok None
 string_if_there (Some value) = some_read (as_str value)
 
--- the text of a member that may be absent, and is a string where it is there (docs/SPECIFICATION.md "Keys" 2)
+-- the text of a member that is a string, or absent
 unfoldable pub optional_string_member : List ℕ → Data → Result (Option (List ℕ)) Refusal
 optional_string_member name value = string_if_there (get name value)
 
@@ -32,6 +34,6 @@ abbrev pub strings_if_there : Option Data → Result (Option (List (List ℕ))) 
 strings_if_there None = Ok None
 strings_if_there (Some value) = some_read (option_and_then strings_of (as_array value))
 
--- the texts of a member that may be absent, and is a list of strings where it is there (docs/SPECIFICATION.md "Keys" 2)
+-- the texts of a member that is a list of strings, or absent
 unfoldable pub optional_strings_member : List ℕ → Data → Result (Option (List (List ℕ))) Refusal
 optional_strings_member name value = strings_if_there (get name value)
