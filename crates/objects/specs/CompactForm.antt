@@ -8,7 +8,7 @@ use Rattle.octets.specs.Base64url.{base64url}
 use Rattle.objects.specs.Jwe.{Recipient, EncryptedObject, jwe_compact_text}
 use Rattle.objects.specs.Jws.{Signature, SignedObject, jws_compact_text}
 
--- There is a compact text.
+-- There is a compact text (RFC 7515 section 7.1, RFC 7516 section 7.1).
 abbrev pub HasText : Result (List ℕ) Refusal → Type 0
 HasText compact = (text : List ℕ) × (compact ≡ Ok text)
 

@@ -362,7 +362,7 @@ abbrev pub jwe_text : Bool → Bool → EncryptedObject → Result (List ℕ) Re
 jwe_text true detach o = jwe_compact_text detach o
 jwe_text false detach o = Ok (json_text detach o)
 
--- ---- what is written is read, and what is read can be written
+-- ---- what is written is read, and what is read can be written (docs/SPECIFICATION.md "Objects")
 
 -- The texts and headers are as JSON has them, so their numbers are whole, and the others are octets.
 pub record AreMembers (parts : JweParts) : Type 0 where

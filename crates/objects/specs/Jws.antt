@@ -257,7 +257,7 @@ abbrev pub jws_text : Bool → Bool → SignedObject → Result (List ℕ) Refus
 jws_text true detach o = jws_compact_text detach o
 jws_text false detach o = Ok (json_text detach o)
 
--- ---- what is written is read, and what is read can be written
+-- ---- what is written is read, and what is read can be written (docs/SPECIFICATION.md "Objects")
 
 -- The texts and headers are as JSON has them, so their numbers are whole, and the others are octets.
 pub record AreMembers (parts : JwsParts) : Type 0 where

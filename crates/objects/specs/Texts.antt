@@ -14,7 +14,7 @@ use Rattle.octets.specs.Base64url.{base64url, decoded}
 use Rattle.octets.specs.Octets.{IsOctets}
 use Rattle.keys.specs.KeySets.{are_objects}
 
--- ---- each of a list
+-- ---- each of a list (docs/SPECIFICATION.md "Objects", the order of causes)
 
 -- what each is read as, in order, or the first refusal
 abbrev pub each : {X Y : Type 0} → (X → Result Y Refusal) → List X → Result (List Y) Refusal

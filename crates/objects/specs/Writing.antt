@@ -5,8 +5,10 @@ use Rattle.serde_json.specs.Written.{compact_text}
 use Rattle.octets.specs.Base64url.{base64url}
 use Rattle.objects.specs.Texts.{has_members}
 
--- What is written: the texts before the last place, and the text behind it; whether a member or an item stands before in the object or
--- list that is written; and whether places are left for values, which are else written.
+-- ---- texts and places (docs/SPECIFICATION.md "Objects" 5)
+
+-- What is written: the texts before the last place, and the text after it (`text`); whether the object or list that is written has a
+-- member or an item already (`later`); and whether places are left for values (`places`), which are else written.
 pub record Written : Type 0 where
   pub finished : List (List ℕ)
   pub text : List ℕ
@@ -18,8 +20,6 @@ nothing_written places = record { finished = []; text = []; later = false; place
 
 abbrev pub all_texts : Written → List (List ℕ)
 all_texts w = w.finished ++ w.text ∷ []
-
--- ---- texts and places
 
 abbrev pub pushed : List ℕ → Written → Written
 pushed text w = record { finished = w.finished; text = w.text ++ text; later = w.later; places = w.places }
