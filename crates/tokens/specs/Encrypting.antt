@@ -124,7 +124,7 @@ encrypted limits e random plaintext = do
   s ← sealed_by (sealing_by e random) plaintext
   built limits (parts_by e random s)
 
--- ---- the object before there is a ciphertext
+-- ---- the object before there is a ciphertext (docs/SPECIFICATION.md "Commands", what is left after a refusal)
 
 abbrev pub unsealed : Sealed
 unsealed = record { ciphertext = []; tag = [] }
@@ -172,7 +172,7 @@ enc_plan limits compact detach keys text = do
   e ← read_encryption limits compact keys text
   Ok (record { drawn = random_len e; plan = plan_by limits compact detach e })
 
--- ---- what it fixes, and what it makes
+-- ---- what it fixes, and what it makes (docs/SPECIFICATION.md "Encrypting" 7)
 
 -- What a beginning of the plaintext fixes of both texts goes on as more is read, and begins the whole texts.
 abbrev pub EncryptingGrows : Type 0
@@ -185,7 +185,7 @@ abbrev pub EncryptingMakesTexts : Type 0
 EncryptingMakesTexts = (compact detach : Bool) (keys : List OctetKey) (template random plaintext : List ℕ) (plan : Plan OutputTexts) → are_few limits (length keys) ≡ true
     → AreOctetKeys keys → IsOctets random → plan_from (enc_plan limits compact detach keys template) random ≡ Ok plan → IfErr (plan.whole plaintext) (λ refusal. refusal ≡ Limit)
 
--- ---- what is encrypted is decrypted
+-- ---- what is encrypted is decrypted (docs/SPECIFICATION.md "Encrypting" and "Decrypting")
 
 -- Limits under which what is written may be read: a header may stand in a text among those of several recipients, a count of iterations is
 -- not 0, a number of JSON and no more than may be read, and the algorithms are those that may be chosen.

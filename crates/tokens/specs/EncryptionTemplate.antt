@@ -15,13 +15,15 @@ use Rattle.objects.specs.Headers.{header_at, joint_header, string_parameter, num
 use Rattle.objects.specs.Jwe.{has_no_crit_or_zip}
 use Rattle.objects.specs.Texts.{text_at}
 
--- its headers and the text of its additional data (docs/SPECIFICATION.md "Encrypting" 1)
+-- ---- the template (docs/SPECIFICATION.md "Encrypting" 1 and 4)
+
+-- its headers and the text of its additional data
 pub record TemplateTexts : Type 0 where
   pub protected : Members
   pub unprotected : Members
   pub aad : List ℕ
 
--- an object with no member but `protected` and `unprotected`, which are objects, and `aad`, which is a string ("Encrypting" 1)
+-- an object with no members other than `protected` and `unprotected`, which are objects, and `aad`, which is a string
 unfoldable pub template_texts : Data → Result TemplateTexts Refusal
 template_texts value = do
   an_object ← needs (is_object value) Form
@@ -31,14 +33,14 @@ template_texts value = do
   aad ← text_at (codes "aad") value
   Ok (record { protected = protected; unprotected = unprotected; aad = aad })
 
--- The algorithms that the headers name, if they do, and the count of iterations that they give, if they do. It is refused where
--- it is no whole number, but only for an algorithm that reads it. See docs/SPECIFICATION.md "Encrypting" 1 and 4.
+-- The algorithms that the headers name, if they do, and the count of iterations, if they have one. A count that is no whole number is
+-- refused later, and only for an algorithm that reads it.
 pub record AlgorithmsAsked : Type 0 where
   pub management : Option KeyManagementAlg
   pub encryption : Option ContentEncryptionAlg
   pub p2c : Result (Option ℕ) Refusal
 
--- other names are refused (docs/SPECIFICATION.md "Encrypting" 1)
+-- other names are refused
 abbrev pub supported_management : Option KeyManagementAlg → Result (Option KeyManagementAlg) Refusal
 supported_management None = Err Unsupported
 supported_management (Some alg) = Ok (Some alg)
@@ -61,7 +63,7 @@ abbrev pub leaves_parameters : Members → Bool
 leaves_parameters header =
     is_none (get_member (codes "p2s") header) && (is_none (get_member (codes "iv") header) && is_none (get_member (codes "tag") header))
 
--- of headers that leave them, and with neither `crit` nor `zip` (docs/SPECIFICATION.md "Encrypting" 1)
+-- those of headers that leave these parameters out, and have neither `crit` nor `zip`
 unfoldable pub algorithms_asked : Members → Members → Result AlgorithmsAsked Refusal
 algorithms_asked protected unprotected = do
   header ← joint_header protected unprotected no_members
@@ -79,7 +81,7 @@ pub record EncryptionTemplate : Type 0 where
   pub aad : List ℕ
   pub asked : AlgorithmsAsked
 
--- the template that a value is (docs/SPECIFICATION.md "Encrypting" 1)
+-- the template that a value is
 unfoldable pub encryption_template : Data → Result EncryptionTemplate Refusal
 encryption_template value = do
   texts ← template_texts value

@@ -69,7 +69,7 @@ verifying_by all wanted keys o = do
   payload ← verified_payload all keys o
   Ok (if wanted then payload else [])
 
--- ---- what is signed
+-- ---- what is signed is verified (docs/SPECIFICATION.md "Signing" and "Verifying" 3)
 
 -- Where keys sign as the template asks, what is written is an object, which each of the keys that may verify, alone, verifies, and
 -- gives the payload.
