@@ -1,4 +1,4 @@
--- Base64url without padding (RFC 4648 section 5). A text is good where it is the encoding of some octets, which are its meaning.
+-- Base64url without padding (RFC 4648 section 5). A text is good if it is the encoding of octets. These are its meaning.
 use Rattle.std.specs.Prelude.{◌≡◌, ◌↔◌, ℕ, ◌+◌, ◌-◌, ◌*◌, ◌/◌, ◌%◌, ◌^◌, ◌==◌, ◌&&◌, ◌||◌, nat_le, Bool, true, List, length, map, take, drop, slice_index, codes, Result, Ok, Err}
 use Rattle.std.specs.List.{AllByRecursion, range_with_len}
 use Rattle.std.specs.Str.{byte}
@@ -13,7 +13,7 @@ use Rattle.octets.specs.declared.refusal.Refusal.TheVariants.{Base64}
 unfoldable pub base64url : List ℕ → List ℕ
 base64url octets = encode_of url_safe_no_pad octets
 
--- every other text is refused (docs/SPECIFICATION.md "Octets and texts")
+-- a text that is not good is refused (docs/SPECIFICATION.md "Octets and texts")
 abbrev pub or_base64 : Result (List ℕ) DecodeError → Result (List ℕ) Refusal
 or_base64 (Ok octets) = Ok octets
 or_base64 (Err e) = Err Base64
@@ -22,25 +22,27 @@ or_base64 (Err e) = Err Base64
 unfoldable pub decoded : List ℕ → Result (List ℕ) Refusal
 decoded text = or_base64 (decode_of url_safe_no_pad text)
 
--- the octets in whole groups of three, whose text is four characters each, and those after them (RFC 4648 section 4)
+-- the octets in whole groups of three, each of which is four characters of text (RFC 4648 section 4)
 unfoldable pub whole_groups : List ℕ → List ℕ
 whole_groups octets = take (length octets / 3 * 3) octets
 
+-- the octets after these groups
 unfoldable pub part_group : List ℕ → List ℕ
 part_group octets = drop (length octets / 3 * 3) octets
 
--- of a text that goes on, the groups of four that no line end at its end can reach, and the characters after them
+-- the whole groups of four characters before the last two characters, which may be a line end
 unfoldable pub settled : List ℕ → List ℕ
 settled text = take ((length text - 2) / 4 * 4) text
 
+-- the characters after these groups
 unfoldable pub unsettled : List ℕ → List ℕ
 unsettled text = drop ((length text - 2) / 4 * 4) text
 
--- octets with one text are equal (docs/SPECIFICATION.md "Octets and texts")
+-- octet strings with the same text are equal (docs/SPECIFICATION.md "Octets and texts")
 abbrev pub TextsAreDistinct : Type 0
 TextsAreDistinct = (x y : List ℕ) → IsOctets x → IsOctets y → base64url x ≡ base64url y → x ≡ y
 
--- a text means the octets that have it, and no other text has a meaning (RFC 4648 section 3.5)
+-- a text decodes to the octets whose text it is, and every other text is refused (RFC 4648 section 3.5)
 pub record DecodesExactly : Type 0 where
   pub round_trip : (x : List ℕ) → IsOctets x → decoded (base64url x) ≡ Ok x
   pub meaning : (text x : List ℕ) → IsOctets text → IsOctets x → (decoded text ≡ Ok x) ↔ (text ≡ base64url x)
@@ -54,7 +56,7 @@ url_alphabet = codes "ABCDEFGHIJKLMNOPQRSTUVWXYZabcdefghijklmnopqrstuvwxyz012345
 abbrev pub six_bits : List ℕ → ℕ → ℕ
 six_bits octets i = (slice_index octets (6 * i / 8) * 256 + slice_index octets (6 * i / 8 + 1)) / 2 ^ (10 - 6 * i % 8) % 64
 
--- a text has the character of each six bits of the octets, in order (RFC 4648 sections 4 and 5)
+-- a text is the characters of the octets' groups of six bits, in order (RFC 4648 sections 4 and 5)
 abbrev pub SpellsSixBits : Type 0
 SpellsSixBits = (x : List ℕ) → IsOctets x
     → base64url x ≡ map (λ i. slice_index url_alphabet (six_bits x i)) (range_with_len 0 ((8 * length x + 5) / 6))
@@ -65,6 +67,6 @@ is_url_character c =
     (nat_le (byte "A") c && nat_le c (byte "Z")) || (nat_le (byte "a") c && nat_le c (byte "z"))
     || (nat_le (byte "0") c && nat_le c (byte "9")) || (c == byte "-") || (c == byte "_")
 
--- a text has such characters alone: no dot, no quote, no backslash and no line end (RFC 4648 section 5)
+-- a text has only these characters, and so no dot, quote, backslash or line end (RFC 4648 section 5)
 abbrev pub HasUrlCharacters : Type 0
 HasUrlCharacters = (x : List ℕ) → IsOctets x → AllByRecursion (λ c. is_url_character c ≡ true) (base64url x)

@@ -1,4 +1,4 @@
--- What a call does to a device, which is seen as the octets that have passed through it and the count of its failures.
+-- What a call does to a device. A device is seen as the octets that passed through it and the count of its failures.
 use Rattle.std.specs.Prelude.{◌≡◌, ℕ, ◌+◌, ◌-◌, ◌≤◌, ◌^◌, min, Bool, List, [], ◌++◌, length, take, drop, IsTrue}
 use Rattle.std.specs.Iterator.{Count, IsFinite, size}
 use Rattle.octets.specs.Octets.{IsOctets}
@@ -12,27 +12,27 @@ greatest_count = 2 ^ 64 - 1
 abbrev pub next_count : ℕ → ℕ
 next_count n = min (n + 1) greatest_count
 
--- an output was finished once more, and is
+-- an output was finished once more, and is finished now
 abbrev pub IsFinishedOnce : {D : Type 0} → (D → Bool) → (D → ℕ) → D → D → Type 0
 IsFinishedOnce is_finished endings old new = IsTrue (is_finished new) × (endings new ≡ next_count (endings old))
 
 -- ---- how far it is to the end (docs/SPECIFICATION.md "Devices")
 
--- Where the end or a failure was at most so many octets away, it is now nearer by n octets.
+-- A bound of the octets before the end or a failure, if there was one, is now less by n at least.
 abbrev pub ComesNearer : Count → Count → ℕ → Type 0
 ComesNearer old new n = IsFinite old → IsFinite new × (size new + n ≤ size old)
 
--- a device over a reader fails after so many octets
+-- an input over a reader fails after this many octets
 abbrev pub most_octets : ℕ
 most_octets = 2 ^ 62
 
 -- ---- lists that grow: what an input has given, and what an output has taken (docs/SPECIFICATION.md "Devices")
 
--- what the list has grown by
+-- the part by which the list has grown
 abbrev pub appended : List ℕ → List ℕ → List ℕ
 appended old new = drop (length old) new
 
--- the list has grown at its end, if at all
+-- the list has grown at its end, or not at all
 abbrev pub Extends : List ℕ → List ℕ → Type 0
 Extends old new = new ≡ old ++ appended old new
 
@@ -42,7 +42,7 @@ AppendsPrefixOf text old new = (length old ≤ length new) × (take (length new)
 
 -- ---- what a call saw of an input (docs/SPECIFICATION.md "Devices")
 
--- the octets that its reads gave, and whether the end was found
+-- the octets that were read, and whether the end was found
 pub record Observed : Type 0 where
   pub octets : List ℕ
   pub ended : Bool
@@ -51,7 +51,7 @@ abbrev pub observed : {D : Type 0} → (D → List ℕ) → (D → Bool) → D �
 observed consumed is_at_end old new =
     record { octets = appended (consumed old) (consumed new); ended = is_at_end new }
 
--- The whole input may be this: the octets that were seen, and further ones only where no end was found.
+-- The whole input may be this: the octets that were seen, and more only if the end was not found.
 pub record IsPossibleInput (seen : Observed) (whole : List ℕ) : Type 0 where
   pub rest : List ℕ
   pub continues : whole ≡ seen.octets ++ rest

@@ -1,4 +1,4 @@
--- Base64url of a content, and of a text: what all of it becomes, and what a beginning of it fixes.
+-- Contents that are encoded as base64url, and texts that are decoded: the whole result, and what a beginning of the input fixes of it.
 use Rattle.std.specs.Prelude.{◌≡◌, ◌≤◌, ℕ, ◌%◌, List, [], ◌∷◌, ◌++◌, length, Result, Ok, Err}
 use Rattle.std.proofs.Common.{refl}
 use Rattle.octets.specs.declared.refusal.Refusal.{Refusal}
@@ -16,16 +16,16 @@ abbrev pub and_octets : Result (List ℕ) Refusal → List ℕ → List ℕ
 and_octets (Ok octets) more = octets ++ more
 and_octets (Err r) more = []
 
--- the octets of the groups of four characters at the front, up to the first that is no text (docs/SPECIFICATION.md "Commands")
+-- the octets of the groups of four characters, up to the first group that is no text (docs/SPECIFICATION.md "Commands")
 unfoldable pub octets_of_groups : List ℕ → List ℕ
 octets_of_groups (a ∷ b ∷ c ∷ d ∷ rest) = and_octets (decoded (a ∷ b ∷ c ∷ d ∷ [])) (octets_of_groups rest)
 octets_of_groups rest = []
 
--- the octets whose text it is, with a line end or without; each good group of four characters fixes three octets ("Octets and texts")
+-- the octets of a text, which may end in a line end; each good group of four characters fixes three octets ("Octets and texts")
 abbrev pub decoding : Plan (List ℕ)
 decoding = record { whole = λ text. decoded (without_line_end text); fixed = octets_of_groups }
 
--- the same octets, each group once no line end at the end of the text can reach it
+-- the same octets, but a group is fixed only when two characters after it are known, which may be the line end
 abbrev pub settling : Plan (List ℕ)
 settling = record { whole = decoding.whole; fixed = λ front. octets_of_groups (settled front) }
 

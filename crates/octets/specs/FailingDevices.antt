@@ -8,7 +8,7 @@ use Rattle.octets.specs.Views.{Contents, Store, front_of, is_read, rest_of}
 
 -- ---- an input
 
--- the input over memory whose octets it gives
+-- the input over memory that it reads
 abbrev pub input_contents : FailingInput → Contents
 input_contents s = s.input
 
@@ -29,7 +29,7 @@ input_course s = record { failing = s.failing; calls = s.calls; passed = s.passe
 
 -- ---- an output
 
--- the output over memory that keeps what it takes
+-- the output over memory that it writes to
 abbrev pub output_store : FailingOutput → Store
 output_store s = s.output
 
@@ -42,7 +42,7 @@ output_is_finished s = s.output.is_finished
 abbrev pub output_endings : FailingOutput → ℕ
 output_endings s = s.output.endings
 
--- how much it takes in all
+-- how many octets it has room for
 abbrev pub output_room : FailingOutput → ℕ
 output_room s = s.output.room
 
@@ -52,6 +52,6 @@ output_failures s = s.failures
 abbrev pub output_course : FailingOutput → Course
 output_course s = record { failing = s.failing; calls = s.calls; passed = s.passed }
 
--- the most that it takes at a write
+-- the most octets that one write takes
 abbrev pub output_step : FailingOutput → ℕ
 output_step s = s.step

@@ -1,4 +1,4 @@
--- What a result tells of the devices of a call, by the counts of their failures.
+-- What a result says of the devices of a call, by the counts of their failures.
 use Rattle.std.specs.Prelude.{◌≡◌, ◌≢◌, ◌<◌, ◌⊎◌, ℕ, List, [], ◌∷◌, ⊤, Result, OnOk, IfErr, IsErrOf}
 use Rattle.octets.specs.declared.refusal.Refusal.{Refusal}
 use Rattle.octets.specs.declared.refusal.Refusal.TheVariants.{Read, Write}
@@ -23,7 +23,8 @@ abbrev pub SomeFailed : List Counts → Type 0
 SomeFailed [] = ⊥
 SomeFailed (c ∷ cs) = (c.new ≡ next_count c.old) ⊎ SomeFailed cs
 
--- A device that failed in the call is told, and no other is: no success and no other refusal, as Memory, hides a failure. See "Refusals".
+-- The result is Read exactly if an input failed in the call, and Write exactly if an output did: no success and no other refusal, as
+-- Memory, hides a failure. See docs/SPECIFICATION.md "Refusals".
 pub record TellsFaults {X : Type 0} (inputs outputs : List Counts) (result : Result X Refusal) : Type 0 where
   pub works : OnOk result (NoneFailed inputs × NoneFailed outputs)
   pub read : IsErrOf result Read → SomeFailed inputs
@@ -31,6 +32,6 @@ pub record TellsFaults {X : Type 0} (inputs outputs : List Counts) (result : Res
   pub inputs_told : IfErr result (λ refusal. refusal ≢ Read → NoneFailed inputs)
   pub outputs_told : IfErr result (λ refusal. refusal ≢ Write → NoneFailed outputs)
 
--- An output with these counts did not fail in the call: the refusal tells of no output, or of another one. See docs/SPECIFICATION.md "Refusals".
+-- If the refusal is Write, the output with these counts did not fail in the call, but another one did (docs/SPECIFICATION.md "Refusals").
 abbrev pub DidNotFail : Refusal → Counts → Type 0
 DidNotFail refusal c = refusal ≡ Write → (c.old < greatest_count) × (c.new ≡ c.old)

@@ -14,12 +14,12 @@ abbrev pub lent : {D : Type 0} → Option (MutBor D) → Unit {0} ⊎ ((MutBor D
 lent (Some before) (inr (inl after)) = Some (record { old = before.now; new = after.0.now })
 lent entry exit = None
 
--- what was written on it
+-- what was written to it
 abbrev pub wrote_on : {D : Type 0} → (D → List ℕ) → Option (Lent D) → List ℕ
 wrote_on written None = []
 wrote_on written (Some it) = appended (written it.old) (written it.new)
 
--- what the call did to it, where it was lent
+-- what the call did to it, if it was lent
 abbrev pub IfLent : {D : Type 0} → Option (Lent D) → (D → D → Type 0) → Type 0
 IfLent None Did = ⊤
 IfLent (Some it) Did = Did it.old it.new

@@ -1,4 +1,4 @@
--- What a call answers, held against the answer that the definitions give for whole lists of octets.
+-- The result of a call, compared with the answer of the definitions, which speak of whole lists of octets.
 use Rattle.std.specs.Prelude.{◌≡◌, ℕ, ◌<◌, Bool, true, false, if◌then◌else◌, length, Result, Ok, Err, IsTrue}
 use Rattle.octets.specs.declared.refusal.Refusal.{Refusal}
 use Rattle.octets.specs.declared.refusal.Refusal.TheVariants.{Memory, Read, Write, Random}
@@ -19,39 +19,39 @@ abbrev pub is_memory : Refusal → Bool
 is_memory Memory = true
 is_memory r = false
 
--- the cause is memory or a device, and stands in no text (docs/SPECIFICATION.md "Refusals")
+-- the cause is memory or a device, and not the text of an input (docs/SPECIFICATION.md "Refusals")
 abbrev pub is_external : Refusal → Bool
 is_external Memory = true
 is_external Read = true
 is_external Write = true
 is_external r = false
 
--- A call without devices that takes no memory: its result, seen by view, is the answer.
+-- A call without devices that needs no memory: its result, seen by view, is the answer.
 abbrev pub Agrees : {X Y : Type 0} → (X → Y) → Result X Refusal → Result Y Refusal → Type 0
 Agrees view (Ok x) answer = answer ≡ Ok (view x)
 Agrees view (Err r) answer = (answer ≡ Err r) × (is_external r ≡ false)
 
--- One that takes memory: its result, seen by view, is the answer, unless memory ran out.
+-- A call without devices that needs memory: its result, seen by view, is the answer, unless memory ran out.
 abbrev pub AgreesUnlessMemory : {X Y : Type 0} → (X → Y) → Result X Refusal → Result Y Refusal → Type 0
 AgreesUnlessMemory view (Ok x) answer = answer ≡ Ok (view x)
 AgreesUnlessMemory view (Err r) answer = is_memory r ≡ false → (answer ≡ Err r) × (is_external r ≡ false)
 
--- A call over devices that answers a value: its result, seen by view, is the answer, unless memory or a device failed. See "Refusals".
+-- A call over devices that returns a value: its result, seen by view, is the answer, unless memory or a device failed. See "Refusals".
 abbrev pub GivesUnlessExternal : {X Y : Type 0} → (X → Y) → Result X Refusal → Result Y Refusal → Type 0
 GivesUnlessExternal view (Ok x) answer = answer ≡ Ok (view x)
 GivesUnlessExternal view (Err r) answer = is_external r ≡ false → answer ≡ Err r
 
--- One that answers by writing: it wrote the octets of the answer, or refused as the answer does, unless memory or a device failed. See "Refusals".
+-- A call that writes its answer: it wrote the octets of the answer or refused as the answer does, unless memory or a device failed. See "Refusals".
 abbrev pub AgreesUnlessExternal : {W : Type 0} → Result W Refusal → W → Result (Unit {0}) Refusal → Type 0
 AgreesUnlessExternal answer wrote result = GivesUnlessExternal (λ done. wrote) result answer
 
--- Why reading an input to its end gave up, by the count of its failures: memory, or the input failed.
+-- Why reading an input to its end failed, by the count of its failures: memory ran out, or the input failed.
 abbrev pub IsReadingFailure : ℕ → ℕ → Refusal → Type 0
 IsReadingFailure old new Memory = new ≡ old
 IsReadingFailure old new Read = new ≡ next_count old
 IsReadingFailure old new r = ⊥
 
--- Why drawing so many octets gave up, by what it saw and by the count of failures: the input ended with too few, or it failed.
+-- Why drawing this many octets failed, by what was seen and by the count of failures: the input ended too early, or it failed.
 abbrev pub IsDrawingFailure : ℕ → Observed → ℕ → ℕ → Refusal → Type 0
 IsDrawingFailure wanted seen old new Random = (length seen.octets < wanted) × IsTrue seen.ended × (new ≡ old)
 IsDrawingFailure wanted seen old new Read = new ≡ next_count old

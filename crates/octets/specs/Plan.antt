@@ -1,4 +1,4 @@
--- What a call is to write, once all but its content is read and accepted.
+-- What a call is to write, after everything except its content was read and accepted.
 use Rattle.std.specs.Prelude.{◌≡◌, ℕ, Bool, List, [], ◌++◌, length, take, nat_le, false, if◌then◌else◌, Result, Ok, Err}
 use Rattle.std.specs.Result.{result_unwrap_or}
 use Rattle.octets.specs.declared.refusal.Refusal.{Refusal}
@@ -9,7 +9,7 @@ use Rattle.octets.specs.Outcomes.{◌>>=◌, needs}
 
 -- ---- what is written (docs/SPECIFICATION.md "Commands" 4)
 
--- the octets for each output of a call: that of its text, and that of a content which goes out beside it
+-- the octets for each output of a call: for its text, and for a content that is written apart from it
 pub record OutputTexts : Type 0 where
   pub text : List ℕ
   pub content : List ℕ
@@ -19,36 +19,36 @@ nothing = record { text = []; content = [] }
 
 -- ---- by the content (docs/SPECIFICATION.md "Commands", what is left after a refusal)
 
--- what is written, W, by the content
+-- what is written, of type W, for each content
 pub record Plan (W : Type 0) : Type 0 where
-  -- by all of it, or the refusal
+  -- for the whole content, or the refusal
   pub whole : List ℕ → Result W Refusal
-  -- what a beginning of it fixes
+  -- what a beginning of the content fixes
   pub fixed : List ℕ → W
 
--- the list begins with the other
+-- the list `all` begins with `front`
 pub record Begins (front all : List ℕ) : Type 0 where
   pub rest : List ℕ
   pub continues : all ≡ front ++ rest
 
--- What a beginning fixes goes on as more is read, and begins what all of the content becomes.
+-- What a beginning fixes grows as more is read, and is a beginning of what is written for the whole content.
 pub record Grows (plan : Plan (List ℕ)) : Type 0 where
   pub more : (p q : List ℕ) → Begins (plan.fixed p) (plan.fixed (p ++ q))
   pub whole : (p q w : List ℕ) → IsOctets (p ++ q) → plan.whole (p ++ q) ≡ Ok w → Begins (plan.fixed p) w
 
--- What may stand written where so much of the content was read: of the whole text, where the end was found and it is accepted.
+-- What may be written after this much of the content was read: the whole, if the end was found and the content is accepted.
 abbrev pub beginning_of : {W : Type 0} → Plan W → Observed → W
 beginning_of plan seen =
     if seen.ended then result_unwrap_or (plan.whole seen.octets) (plan.fixed seen.octets) else plan.fixed seen.octets
 
--- the same, with what is written put in its place
+-- the plan with f applied to what is written
 abbrev pub plan_map : {W V : Type 0} → (W → V) → Plan W → Plan V
 plan_map f plan = record {
   whole = λ content. plan.whole content >>= λ w. Ok (f w);
   fixed = λ front. f (plan.fixed front);
 }
 
--- What a beginning fixes goes on so on both outputs.
+-- What a beginning fixes grows so for both outputs.
 pub record BothGrow (plan : Plan OutputTexts) : Type 0 where
   pub text : Grows (plan_map (λ texts. texts.text) plan)
   pub content : Grows (plan_map (λ texts. texts.content) plan)
@@ -63,7 +63,7 @@ without_content texts = record { whole = λ content. Ok texts; fixed = λ front.
 
 -- ---- by octets of the random input, and then by the content (docs/SPECIFICATION.md "Commands", what is read first)
 
--- What templates and keys settle: how many octets of the random input are drawn, and the plan by these.
+-- What templates and keys settle: how many random octets are drawn, and the plan by these octets.
 pub record Draft (W : Type 0) : Type 0 where
   pub drawn : ℕ
   pub plan : List ℕ → Plan W
@@ -71,51 +71,51 @@ pub record Draft (W : Type 0) : Type 0 where
 abbrev pub without_random : {W : Type 0} → Plan W → Draft W
 without_random plan = record { drawn = 0; plan = λ octets. plan }
 
--- the same, with what is written put in its place
+-- the draft with f applied to what is written
 abbrev pub draft_map : {W V : Type 0} → (W → V) → Draft W → Draft V
 draft_map f draft = record { drawn = draft.drawn; plan = λ octets. plan_map f (draft.plan octets) }
 
 abbrev pub placed : {W V : Type 0} → (W → V) → Result (Draft W) Refusal → Result (Draft V) Refusal
 placed f draft = draft >>= λ d. Ok (draft_map f d)
 
--- how many are drawn: none where there is a refusal
+-- how many are drawn, which is 0 after a refusal
 abbrev pub drawn_of : {W : Type 0} → Result (Draft W) Refusal → ℕ
 drawn_of (Ok draft) = draft.drawn
 drawn_of (Err r) = 0
 
--- the plan by the first octets of a random input
+-- the plan by the first octets of a random input, or Random if these are too few
 abbrev pub plan_from : {W : Type 0} → Result (Draft W) Refusal → List ℕ → Result (Plan W) Refusal
 plan_from draft random = do
   d ← draft
   enough ← needs (nat_le d.drawn (length random)) Random
   Ok (d.plan (take d.drawn random))
 
--- a plan that draws nothing
+-- the draft of a plan that draws nothing
 abbrev pub by_plan : {W : Type 0} → Result (Plan W) Refusal → Result (Draft W) Refusal
 by_plan plan = plan >>= λ p. Ok (without_random p)
 
--- what is written as a whole, and draws nothing
+-- the draft of a text that is written as a whole, and draws nothing
 abbrev pub by_text : {W : Type 0} → Result W Refusal → Result (Draft W) Refusal
 by_text answer = answer >>= λ text. Ok (without_random (without_content text))
 
 -- ---- answers (docs/SPECIFICATION.md "Commands", what is left after a refusal)
 
--- the answer of a plan, once its content is whole
+-- the answer of a plan for a whole content
 abbrev pub planned : {W : Type 0} → Result (Plan W) Refusal → List ℕ → Result W Refusal
 planned plan content = plan >>= λ p. p.whole content
 
--- What may stand written: nothing before the other inputs are read to their ends and accepted.
+-- What may be written: nothing before the other inputs were read to their ends and accepted.
 abbrev pub begun : Result (Plan OutputTexts) Refusal → Observed → OutputTexts
 begun (Ok plan) seen = beginning_of plan seen
 begun (Err r) seen = nothing
 
--- what so much of the content fixes
+-- what this beginning of the content fixes
 abbrev pub fixed_by : Result (Plan OutputTexts) Refusal → List ℕ → OutputTexts
 fixed_by plan front = begun plan (record { octets = front; ended = false })
 
 abbrev pub planned_beginning : Bool → Result (Plan OutputTexts) Refusal → Observed → OutputTexts
 planned_beginning others_read plan seen = if others_read then begun plan seen else nothing
 
--- The same of one text that is written as a whole, without a content.
+-- the same for one text that is written as a whole, without a content
 abbrev pub accepted : Result (List ℕ) Refusal → Bool → List ℕ
 accepted answer others_read = if others_read then result_unwrap_or answer [] else []

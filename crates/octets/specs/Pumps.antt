@@ -1,4 +1,4 @@
--- A content that is pumped through a transform: what is written of it behind another text, and what is refused.
+-- A content that is pumped through a transform: what is written of it after another text, and what is refused.
 use Rattle.std.specs.Prelude.{◌≡◌, ◌≤◌, ℕ, ◌+◌, ◌-◌, List, [], ◌++◌, length, take, Err}
 use Rattle.base64.specs.Engines.{url_safe_no_pad}
 use Rattle.base64.proofs.EngineFacts.{encode_of-nil}
@@ -8,19 +8,19 @@ use Rattle.octets.specs.declared.refusal.Refusal.{Refusal}
 use Rattle.octets.specs.Octets.{IsOctets}
 use Rattle.octets.specs.Plan.{Plan, plan_map}
 
--- what is written behind a text
+-- the plan with the text `before` in front of what is written
 abbrev pub behind : List ℕ → Plan (List ℕ) → Plan (List ℕ)
 behind before plan = plan_map (λ text. before ++ text) plan
 
--- Every content that begins so is refused.
+-- Every content that begins with p is refused.
 abbrev pub RefusesFrom : Plan (List ℕ) → List ℕ → Refusal → Type 0
 RefusesFrom plan p e = (rest : List ℕ) → IsOctets (p ++ rest) → plan.whole (p ++ rest) ≡ Err e
 
--- how many octets that were read what is written may leave out, where the content fails ("Commands", what is left after a refusal)
+-- the most octets read that may be missing from what is written after the content failed ("Commands", what is left after a refusal)
 abbrev pub most_behind : ℕ
 most_behind = 4160
 
--- What stands is at least as long as what is fixed by all that was read but these. See docs/SPECIFICATION.md "Commands".
+-- What was written is at least as long as what the octets read fix without the last `most_behind`. See docs/SPECIFICATION.md "Commands".
 abbrev pub KeepsUp : (List ℕ → List ℕ) → List ℕ → List ℕ → List ℕ → Type 0
 KeepsUp fixed read old new = length old + length (fixed (take (length read - most_behind) read)) ≤ length new
 

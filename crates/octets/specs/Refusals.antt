@@ -1,4 +1,4 @@
--- The text of a refusal, and which one a fault is.
+-- The text of a refusal, and the refusal of a fault.
 use Rattle.std.specs.Prelude.{ℕ, List, codes}
 use Rattle.octets.specs.declared.refusal.Refusal.{Refusal}
 use Rattle.octets.specs.declared.refusal.Refusal.TheVariants.{Usage, Read, Write, Memory, Random, Base64, Json, Number, Key, Form, Header, Unsupported, NoAlgorithm, KeyDoesNotFit, Limit, NotCompact, NotOpened}
@@ -25,7 +25,7 @@ refusal_text Limit = codes "15 Limit"
 refusal_text NotCompact = codes "16 NotCompact"
 refusal_text NotOpened = codes "17 NotOpened"
 
--- what a device's fault is as a refusal
+-- the refusal of a device's fault
 abbrev pub refusal_of : Fault → Refusal
 refusal_of Reading = Read
 refusal_of Writing = Write

@@ -8,7 +8,7 @@ use Rattle.octets.specs.declared.streams.WriterOutput.{WriterOutput}
 
 -- ---- an input over memory
 
--- all its octets, how many of them were read, and the most that one read gives
+-- all its octets, how many of them were read, and the most octets of one read
 pub record Contents : Type 0 where
   pub octets : List ℕ
   pub position : ℕ
@@ -23,7 +23,7 @@ front_of c = take c.position c.octets
 abbrev pub is_read : Contents → Bool
 is_read c = c.position == length c.octets
 
--- how much is left
+-- how many octets are left
 abbrev pub rest_of : Contents → Count
 rest_of c = at_most (length c.octets - c.position)
 
@@ -31,13 +31,13 @@ rest_of c = at_most (length c.octets - c.position)
 abbrev pub failures_of : Contents → ℕ
 failures_of c = 0
 
--- how many octets a read into so much room gives
+-- the number of octets of a read into this much room
 abbrev pub read_count : Contents → ℕ → ℕ
 read_count c room = min (min (length c.octets - c.position) room) c.step
 
 -- ---- an output over memory
 
--- what it has taken, the most that it takes in all, and what the trait tells of it
+-- what was written to it, how many octets it has room for, and what the trait says of it
 pub record Store : Type 0 where
   pub octets : List ℕ
   pub room : ℕ
@@ -45,7 +45,7 @@ pub record Store : Type 0 where
   pub endings : ℕ
   pub failures : ℕ
 
--- how many of n octets it still takes
+-- how many of n octets it still has room for
 abbrev pub write_count : Store → ℕ → ℕ
 write_count s n = min n (s.room - length s.octets)
 
@@ -54,7 +54,7 @@ write_count s n = min n (s.room - length s.octets)
 abbrev pub reader_of : {R : Type 0} → ReaderInput R → R
 reader_of s = s.reader
 
--- all that it has given
+-- all that was read from it
 abbrev pub consumed_of : {R : Type 0} → ReaderInput R → List ℕ
 consumed_of s = s.transcript.octets
 
@@ -72,7 +72,7 @@ read_failures_of s = s.failures
 abbrev pub writer_of : {W : Type 0} → WriterOutput W → W
 writer_of s = s.writer
 
--- all that it has taken
+-- all that was written to it
 abbrev pub written_of : {W : Type 0} → WriterOutput W → List ℕ
 written_of s = s.transcript.octets
 

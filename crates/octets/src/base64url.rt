@@ -9,7 +9,7 @@ use base64::DecodeAllocError;
 use base64::engine::general_purpose::URL_SAFE_NO_PAD as BASE64URL;
 use std::alloc::Global;
 
-/// The base64url text of the octets. It is refused for want of memory alone.
+/// The base64url text of the octets. Fails only with `Memory`.
 #[tactic(auto, unfolding(crate::specs::Base64url::base64url))]
 pub fn b64_encode(alloc: Global, octets: &[u8]) -> Result<String, Refusal>
     ensures text { IfOk result (λ text. string_bytes text ≡ base64url octets.now) }
@@ -18,8 +18,8 @@ pub fn b64_encode(alloc: Global, octets: &[u8]) -> Result<String, Refusal>
     Ok(BASE64URL.encode(alloc, octets)?)
 }
 
-/// Adds the base64url text of the octets to the end of a text. Refused for want of memory alone, and
-/// then the text is as it was.
+/// Appends the base64url text of the octets to a text. Fails only with `Memory`, and then the text is
+/// unchanged.
 #[tactic(auto, unfolding(crate::specs::Base64url::base64url))]
 pub fn b64_append(text: &mut String, octets: &[u8]) -> Result<(), Refusal>
     ensures text { OnOk result (string_bytes text.new ≡ string_bytes text.old ++ base64url octets.now) }
@@ -29,8 +29,8 @@ pub fn b64_append(text: &mut String, octets: &[u8]) -> Result<(), Refusal>
     Ok(BASE64URL.encode_string(octets, text)?)
 }
 
-/// The octets whose base64url text it is. Each octet string has one text, so padding, white space,
-/// characters outside the alphabet and trailing bits that are not zero are refused: `Base64`.
+/// The octets of a base64url text. Each octet string has one text: padding, white space, characters
+/// outside the alphabet and trailing bits that are not zero are refused with `Base64`.
 #[tactic(auto, unfolding(crate::specs::Base64url::base64url, crate::specs::Base64url::decoded))]
 pub fn b64_decode(alloc: Global, text: &[u8]) -> Result<Vec<u8>, Refusal>
     ensures exact { AgreesUnlessMemory (λ octets. octets.items) result (decoded text.now) }

@@ -1,4 +1,4 @@
-//! Devices that fail when they are told to, and by how many calls a whole content is read, written and passed on.
+//! Devices that fail as `Failing` says, and the number of calls that read, write and pass on a whole content.
 use crate::tests::expect_same;
 use crate::{
     B64Writer, Failing, FailingInput, FailingOutput, MemoryInput, Output, Refusal, draw, emit,
@@ -7,12 +7,12 @@ use crate::{
 use std::process::Abort;
 use std::test::Fail;
 
-/// `abc`, which fails so.
+/// An input of `abc` that fails so.
 fn abc(failing: Failing) -> FailingInput<'static> {
     FailingInput::new(MemoryInput::new(b"abc", 8), failing)
 }
 
-/// Which calls of an output fail, and what comes of two calls: the first fails, the second, or one that is not made.
+/// Which calls of an output fail, and the result of two calls: the first fails, or the second, or one that is not made.
 const CALLS_OF_AN_OUTPUT: &[(Failing, Result<(), Refusal>)] = &[
     (Failing::Once(0), Err(Refusal::Write)),
     (Failing::Once(1), Err(Refusal::Write)),
@@ -31,7 +31,7 @@ fn octets_are_written_and_finished_by_two_calls(rt: HostRuntime) -> Result<(), F
     Ok(())
 }
 
-/// Which calls of an input fail, or after how many octets, and what comes of two reads: the second finds the end.
+/// Which calls of an input fail, or after how many octets, and the result of two reads, of which the second finds the end.
 const CALLS_OF_AN_INPUT: &[(Failing, Result<usize, Refusal>)] = &[
     (Failing::Once(0), Err(Refusal::Read)),
     (Failing::Once(1), Err(Refusal::Read)),
@@ -50,7 +50,7 @@ fn octets_are_read_to_their_end_by_two_calls(rt: HostRuntime) {
     }
 }
 
-/// Which calls of an input fail, or after how many octets, and what comes of drawing three octets and of drawing four.
+/// Which calls of an input fail, or after how many octets, and the results of drawing three octets and of drawing four.
 const CALLS_OF_A_DRAW: &[(Failing, Result<(), Refusal>, Result<(), Refusal>)] = &[
     (Failing::Once(0), Err(Refusal::Read), Err(Refusal::Read)),
     (Failing::Once(1), Ok(()), Err(Refusal::Read)),
@@ -61,7 +61,7 @@ const CALLS_OF_A_DRAW: &[(Failing, Result<(), Refusal>, Result<(), Refusal>)] = 
     (Failing::After(3), Ok(()), Err(Refusal::Read)),
 ];
 
-/// All octets that there are are drawn by one call, and a second one finds that there are no more.
+/// One call draws all octets, and a second one finds that there are no more.
 #[test]
 fn octets_are_drawn_by_one_call(rt: HostRuntime) {
     for &(failing, three, four) in CALLS_OF_A_DRAW {
@@ -72,7 +72,7 @@ fn octets_are_drawn_by_one_call(rt: HostRuntime) {
     }
 }
 
-/// A content is passed on by as many reads, a write for the text before it and one for its own, and no end.
+/// A content is passed on by two reads, a write for the text before it and a write for its own. No call finishes the output.
 #[test]
 fn a_content_is_passed_on_by_two_reads_and_two_writes(rt: HostRuntime) -> Result<(), Fail> {
     for &(failing, answer) in CALLS_OF_AN_INPUT {
@@ -95,7 +95,7 @@ fn a_content_is_passed_on_by_two_reads_and_two_writes(rt: HostRuntime) -> Result
     Ok(())
 }
 
-/// An output that was finished stays so where it fails to be finished again, and not where it fails to be written.
+/// An output that was finished stays so after another `finish` fails, but not after a write fails.
 #[test]
 fn an_end_that_fails_changes_nothing(rt: HostRuntime) -> Result<(), Fail> {
     let mut out = FailingOutput::new(rt.alloc(), 8, 8, Failing::From(1))?;

@@ -1,4 +1,4 @@
-//! Devices over readers and writers that fail, are interrupted, or have long texts to pass.
+//! Devices over readers and writers that fail, are interrupted, or pass long texts.
 use crate::tests::{expect_octets, expect_same, repeated};
 use crate::{Fault, Input, Output, ReaderInput, Refusal, WriterOutput, draw, write_whole};
 use std::alloc::Global;
@@ -7,7 +7,7 @@ use std::io::{ErrorKind, Read, Write};
 use std::process::Abort;
 use std::test::Fail;
 
-/// A reader and a writer whose first calls fail, so many with one kind. Then it gives its octets, and takes all.
+/// A reader and a writer whose first calls fail with one kind. Then all its octets are read, and it takes all.
 #[derive(Drop)]
 struct Failing<'a> {
     kind: ErrorKind,
@@ -61,7 +61,7 @@ impl<'a> Write for Failing<'a> {
     }
 }
 
-/// Each kind of failure but an interruption.
+/// Each kind of failure except an interruption.
 const KINDS: &[ErrorKind] = &[
     ErrorKind::NotFound,
     ErrorKind::PermissionDenied,
@@ -106,7 +106,7 @@ const KINDS: &[ErrorKind] = &[
     ErrorKind::Uncategorized,
 ];
 
-/// Reading answers so.
+/// A read returns this answer.
 fn expect_reading<R: Read>(
     rt: &impl Abort,
     input: &mut ReaderInput<R>,
@@ -120,7 +120,7 @@ fn expect_reading<R: Read>(
     }
 }
 
-/// Each of so many reads that fail so is a fault, and no more than it. The next gives the octets from their front.
+/// Each read that fails so is one fault. The next read starts at the front of the octets.
 fn fails_to_read<R: Abort + AllocGlobal>(rt: &R, kind: ErrorKind, times: usize) {
     let mut reader = Failing::new(rt.alloc(), kind, times, b"abc");
     let mut input = ReaderInput::new(&mut reader);
@@ -132,7 +132,7 @@ fn fails_to_read<R: Abort + AllocGlobal>(rt: &R, kind: ErrorKind, times: usize) 
     expect_same(rt, reader.calls, times.saturating_add(1), kind);
 }
 
-/// Each of so many writes that fail so is a fault, and no more than it. The next takes the octets.
+/// Each write that fails so is one fault. The next write takes the octets.
 fn fails_to_write<R: Abort + AllocGlobal>(rt: &R, kind: ErrorKind, times: usize) {
     let mut writer = Failing::new(rt.alloc(), kind, times, b"");
     let mut out = WriterOutput::new(&mut writer);
@@ -147,7 +147,7 @@ fn fails_to_write<R: Abort + AllocGlobal>(rt: &R, kind: ErrorKind, times: usize)
     expect_octets(rt, &writer.taken, b"def");
 }
 
-/// Each of so many ends whose flush fails so is a fault, and no more than it. The next end is none.
+/// Each `finish` whose flush fails so is one fault. The next `finish` works.
 fn fails_to_finish<R: Abort + AllocGlobal>(rt: &R, kind: ErrorKind, times: usize) {
     let mut writer = Failing::new(rt.alloc(), kind, times, b"");
     let mut out = WriterOutput::new(&mut writer);
@@ -174,7 +174,7 @@ fn each_kind_of_failure_is_told_as_often_as_it_comes(rt: HostRuntime) {
     }
 }
 
-/// A writer whose writes work, and of whose flushes so many fail with one kind.
+/// A writer whose writes work, and whose first flushes fail with one kind.
 #[derive(Drop)]
 struct FailingAtItsEnd {
     kind: ErrorKind,
@@ -199,7 +199,7 @@ impl Write for FailingAtItsEnd {
     }
 }
 
-/// What was written stands once, and each end that fails so is told.
+/// What was written is there once, and each `finish` that fails so is reported.
 fn ends_after_failures<R: Abort + AllocGlobal>(rt: &R, kind: ErrorKind, failures: usize) {
     let mut writer = FailingAtItsEnd {
         kind,
@@ -227,7 +227,7 @@ fn an_end_that_fails_is_told_though_all_was_taken(rt: HostRuntime) {
     }
 }
 
-/// The end after a write that failed is asked of the writer, and is that of what it took.
+/// After a write that failed, `finish` flushes what the writer took.
 #[test]
 fn an_output_is_finished_after_a_write_that_failed(rt: HostRuntime) {
     let mut writer = Failing::new(rt.alloc(), ErrorKind::StorageFull, 1, b"");
@@ -271,7 +271,7 @@ fn a_flush_is_made_again_after_many_interruptions(rt: HostRuntime) {
     expect_same(&rt, calls, (MANY + 1, 1), "calls");
 }
 
-/// A read and a write of nothing do not call what is below, which would fail, and the octets are there for the next.
+/// A read and a write of nothing do not call the device below, which would fail. The octets are there for the next read.
 #[test]
 fn a_read_and_a_write_of_nothing_do_nothing(rt: HostRuntime) {
     let mut device = Failing::new(rt.alloc(), ErrorKind::Other, 1, b"abc");
@@ -293,7 +293,7 @@ fn a_read_and_a_write_of_nothing_do_nothing(rt: HostRuntime) {
     expect_same(&rt, device.calls, 2, "calls");
 }
 
-/// The octets go through a reader and a writer, so many at a time.
+/// The octets go through a reader and a writer, `room` octets at a time.
 fn passes<R: Abort + AllocGlobal>(rt: &R, octets: &[u8], room: usize) -> Result<(), Fail> {
     let mut buf = repeated(rt.alloc(), b"\0", room, b"")?;
     let mut input = ReaderInput::new(octets);
@@ -309,14 +309,14 @@ fn passes<R: Abort + AllocGlobal>(rt: &R, octets: &[u8], room: usize) -> Result<
     Ok(())
 }
 
-/// What one read gives is taken by one write.
+/// One write takes what one read returns.
 fn passes_once<I: Input, O: Output>(rt: &impl Abort, input: &mut I, out: &mut O, buf: &mut [u8]) {
     let n = input.read(buf).unwrap_or(0);
     assert!(rt; n <= buf.len());
     expect_same(rt, out.write(&buf[..n]), Ok(n), n);
 }
 
-/// How many octets a read has room for, and a write has.
+/// How many octets a read or a write has room for.
 const ROOMS: &[usize] = &[4095, 4097, 65536];
 
 /// 2,100,001 octets.

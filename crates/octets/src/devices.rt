@@ -1,5 +1,4 @@
-//! Where octets come from and where they go. Each device counts its failures, and each output how often it was finished, up to
-//! 2^64 - 1.
+//! Inputs and outputs. Each device counts its failures, and each output how often it was finished, up to 2^64 - 1.
 ghost use Rattle.std.specs.Prelude.{◌≡◌, ℕ, ◌<◌, ◌≤◌, Bool, false, List, ◌++◌, length, take, IfOk, IfErr, OnOk, OnErr, Ok, MatchResult, IsTrue};
 ghost use Rattle.std.specs.Iterator.{Count};
 ghost use Rattle.octets.specs.Devices.{next_count, ComesNearer, IsFinishedOnce};
@@ -9,20 +8,20 @@ use crate::Fault;
 
 /// A source of octets.
 pub trait Input {
-    /// All octets that its reads have given so far.
+    /// All octets that were read from it so far.
     ghost consumed: { Self → List ℕ };
 
     /// A read has found the end.
     ghost is_at_end: { Self → Bool };
 
-    /// At most so many octets come before its end or a failure, where there is a bound.
+    /// The bound, if there is one, of the octets before its end or a failure.
     ghost remaining: { Self → Count };
 
     /// How often it has failed.
     ghost failures: { Self → ℕ };
 
-    /// Reads octets into the front of `buf`, and answers how many: 0 for a `buf` with room only at
-    /// the end. A read that fails finds no end, and may leave anything in `buf`. A read without room does nothing.
+    /// Reads octets into the front of `buf` and returns how many. If `buf` has room, 0 is the end. A read that fails
+    /// finds no end, and may leave anything in `buf`. A read without room does nothing.
     fn read(&mut self, buf: &mut [u8]) -> Result<usize, Fault>
         ensures octets { IfOk result (λ n. (n ≤ length buf.old)
             × (consumed self.new ≡ consumed self.old ++ take n buf.new)) }
@@ -39,16 +38,16 @@ pub trait Input {
             × (is_at_end self.new ≡ is_at_end self.old)
             × (failures self.new ≡ next_count (failures self.old))) };
 
-    /// What its reads have given is octets.
+    /// What was read from it is octets.
     ghost gives_octets: { (input : Self) → IsOctets (consumed input) };
 }
 
-/// A place where octets go.
+/// A destination of octets.
 pub trait Output {
-    /// All octets that its writes have taken so far.
+    /// All octets that were written to it so far.
     ghost written: { Self → List ℕ };
 
-    /// All that it has taken was brought to where it belongs.
+    /// All that was written to it was brought to where it belongs.
     ghost is_finished: { Self → Bool };
 
     /// How often it was finished.
@@ -57,7 +56,7 @@ pub trait Output {
     /// How often it has failed.
     ghost failures: { Self → ℕ };
 
-    /// Takes octets from the front of `octets`, and answers how many: at least one, where there is one.
+    /// Writes octets from the front of `octets` and returns how many: at least one, if there are any.
     /// A write of nothing does nothing.
     fn write(&mut self, octets: &[u8]) -> Result<usize, Fault>
         ensures octets { IfOk result (λ n. (n ≤ length octets.now)
@@ -71,7 +70,7 @@ pub trait Output {
             × (written self.new ≡ written self.old)
             × (failures self.new ≡ next_count (failures self.old))) };
 
-    /// Brings all that was taken to where it belongs.
+    /// Brings all that was written to where it belongs.
     fn finish(&mut self) -> Result<(), Fault>
         ensures same { written self.new ≡ written self.old }
         ensures works { OnOk result (failures self.new ≡ failures self.old) }
@@ -81,7 +80,7 @@ pub trait Output {
         ensures kept { OnErr result ((is_finished self.new ≡ is_finished self.old) × (endings self.new ≡ endings self.old)) };
 }
 
-/// Counts one more.
+/// Adds 1 to a count, which stays at its greatest value.
 pub(crate) fn count_one(count: &mut u64)
     ensures { count.new ≡ next_count count.old }
 {

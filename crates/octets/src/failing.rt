@@ -1,4 +1,4 @@
-//! Devices over memory that fail, to show what a call leaves behind where one of its devices does.
+//! Devices over memory that fail, to test what a call leaves behind when one of its devices fails.
 ghost use Rattle.std.specs.Prelude.{◌≡◌, ◌↔◌, ◌+◌, ◌<◌, ◌≤◌, [], ◌++◌, length, take, drop, min, true, false, IfOk, IfErr, IsOk, OnOk, OnErr, Ok, Err, MatchResult, IsTrue};
 ghost use Rattle.octets.specs.Devices.{next_count, ComesNearer, IsFinishedOnce};
 ghost use Rattle.octets.specs.Failing.{is_due, room_for, uncalled, fails_next, after_call, after_failure};
@@ -8,19 +8,19 @@ use crate::devices::count_one;
 use crate::{Fault, Input, MemoryInput, MemoryOutput, Output, Refusal};
 use std::alloc::Global;
 
-/// When a device fails. Its calls are counted from 0: reads with room, writes of something and `finish`.
+/// When a device fails. Its calls are counted from 0: reads with room, writes that are not empty, and `finish`.
 #[derive(Clone, Copy, Debug, PartialEq, Eq)]
 pub enum Failing {
-    /// At this call alone.
+    /// At this call only.
     Once(u64),
     /// At this call and at each later one.
     From(u64),
-    /// Where so many octets have passed, and then at each call.
+    /// At each call after so many octets have passed.
     After(usize),
 }
 
 impl Failing {
-    /// It fails at this call, where so many octets have passed.
+    /// Whether it fails at this call, after so many octets have passed.
     fn is_due(self, call: u64, passed: usize) -> bool
         ensures { result ≡ is_due self call passed }
     {
@@ -31,7 +31,7 @@ impl Failing {
         }
     }
 
-    /// How many of so many octets may pass.
+    /// How many of `len` octets may pass.
     fn room(self, passed: usize, len: usize) -> usize
         ensures { result ≡ room_for self passed len }
     {
@@ -42,7 +42,7 @@ impl Failing {
     }
 }
 
-/// An input of octets in memory that fails when it is told to.
+/// An input of octets in memory that fails as `Failing` says.
 #[derive(Drop)]
 pub struct FailingInput<'a> {
     input: MemoryInput<'a>,
@@ -55,7 +55,7 @@ pub struct FailingInput<'a> {
 impl<'a> FailingInput<'a> {
     ghost use Rattle.octets.specs.FailingDevices.{input_contents, input_consumed, input_failures, input_course};
 
-    /// Gives what the input over memory gives, until it fails.
+    /// An input of what the input over memory reads, until it fails.
     pub fn new(input: MemoryInput<'a>, failing: Failing) -> FailingInput<'a>
         ensures contents { input_contents result ≡ input.entry }
         ensures consumed { input_consumed result ≡ front_of input.entry }
@@ -136,7 +136,7 @@ impl<'a> Input for FailingInput<'a> {
     }
 }
 
-/// An output that keeps what is written, some octets at a write, and fails when it is told to, or past its room.
+/// An output that keeps what is written, some octets at a write. It fails as `Failing` says, and after its room.
 #[derive(Drop)]
 pub struct FailingOutput {
     output: MemoryOutput,
@@ -151,7 +151,7 @@ pub struct FailingOutput {
 impl FailingOutput {
     ghost use Rattle.octets.specs.FailingDevices.{output_written, output_is_finished, output_endings, output_failures, output_course, output_room, output_step};
 
-    /// An empty output with room for so many octets, that takes at most `step` of them at a write.
+    /// An empty output with room for so many octets, of which a write takes at most `step`. Fails only with `Memory`.
     pub fn new(
         alloc: Global,
         room: usize,
@@ -194,7 +194,7 @@ impl FailingOutput {
         self.failures
     }
 
-    /// Whether a call fails that is made now.
+    /// Counts a call, and fails if it is to fail.
     fn call(&mut self) -> Result<(), Fault>
         ensures works { OnOk result (self.new.failures ≡ self.old.failures) }
         ensures fails { IfErr result (λ e. (e ≡ Fault.Writing) × (self.new.failures ≡ next_count self.old.failures)) }

@@ -1,11 +1,11 @@
-//! Sums and comparisons of whole octet strings, 32 octets at a time.
+//! Exclusive or and comparison of whole octet strings, 32 octets at a time.
 ghost use Rattle.std.specs.Prelude.{◌≡◌, ◌↔◌, ◌+◌, ◌≤◌, length, bit_xor, IsTrue};
 ghost use Rattle.std.specs.Simd.Lanes.{zip2, put_chunk, chunk};
 ghost use Rattle.octets.specs.Octets.{xor_octets};
 
 use std::simd::prelude::*;
 
-/// Adds the other octets to these by exclusive or, each to the one in its place.
+/// Xors each of the other octets into the octet at its place. Both strings have the same length.
 pub fn xor_into(octets: &mut [u8], other: &[u8])
     requires { length other.now ≡ length octets.old }
     ensures { octets.new ≡ xor_octets octets.old other.now }
@@ -19,7 +19,7 @@ pub fn xor_into(octets: &mut [u8], other: &[u8])
     }
 }
 
-/// Adds a block to the 32 octets at this place.
+/// Xors a block into the 32 octets at this place.
 fn xor_block(octets: &mut [u8], at: usize, block: &[u8; 32])
     requires { at + 32 ≤ length octets.old }
     ensures { octets.new ≡ put_chunk at octets.old (zip2 bit_xor (chunk at 32 octets.old) block.now) }
@@ -28,7 +28,7 @@ fn xor_block(octets: &mut [u8], at: usize, block: &[u8; 32])
     sum.copy_to_slice(&mut octets[at..]);
 }
 
-/// Whether both are the same octets. It looks at all of them, wherever they differ, but promises nothing of its time.
+/// Whether both are the same octets. It compares all of them, wherever they differ, but promises nothing of its time.
 pub fn same_octets(a: &[u8], b: &[u8]) -> bool
     ensures { IsTrue result ↔ (a.now ≡ b.now) }
 {
@@ -47,7 +47,7 @@ pub fn same_octets(a: &[u8], b: &[u8]) -> bool
     difference == 0
 }
 
-/// Zero exactly where both blocks are the same octets.
+/// Zero exactly if both blocks are the same octets.
 fn block_difference(a: &[u8; 32], b: &[u8; 32]) -> u8
     ensures { (result ≡ 0) ↔ (a.now ≡ b.now) }
 {

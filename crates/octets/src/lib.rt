@@ -1,7 +1,7 @@
 //! Octet devices, base64url, line ends and the refusals of all commands.
 //!
-//! Octets come from an `Input` and go to an `Output`: over memory, or over std's readers and writers.
-//! What fails is told by a `Refusal`.
+//! Octets are read from an `Input` and written to an `Output`, over memory or over std's readers and writers.
+//! A call that fails returns a `Refusal`.
 //!
 //! ```rust
 //! let mut input = MemoryInput::new(b"hello", 2);
@@ -10,7 +10,7 @@
 //! let mut out = MemoryOutput::new(alloc, 16)?;
 //! emit(&mut out, text.as_bytes())?;
 //! assert_eq!(rt; out.octets(), b"aGVsbG8".as_slice());
-//! // Its last bits are not zero, so it is the text of no octets.
+//! // Its last bits are not zero, so it is no base64url text.
 //! assert_eq!(rt; b64_decode(alloc, b"aGVsbG9").err(), Some(Refusal::Base64));
 //! ```
 #![tactic(auto)]

@@ -2,7 +2,7 @@
 ghost use Rattle.std.specs.Prelude.{◌≡◌};
 ghost use Rattle.octets.specs.LineEnds.{without_line_end};
 
-/// The text without the LF or the CR LF that may end it, as a file of text does.
+/// The text without the LF or CR LF that may end it, as it ends text files.
 #[tactic(auto, unfolding(crate::specs::LineEnds::without_line_end))]
 pub fn without_line_end(text: &[u8]) -> &[u8]
     ensures { result.now ≡ without_line_end text.now }

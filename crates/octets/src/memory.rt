@@ -31,7 +31,7 @@ impl<'a> Model for MemoryInput<'a> {
 }
 
 impl<'a> MemoryInput<'a> {
-    /// Gives these octets, at most `step` of them at a read.
+    /// An input of these octets, of which one read returns at most `step`.
     pub fn new(octets: &'a [u8], step: usize) -> MemoryInput<'a>
         requires { 0 < step }
         ensures octets { result.octets ≡ octets.entry.now }
@@ -88,8 +88,8 @@ impl<'a> Input for MemoryInput<'a> {
     }
 }
 
-/// An output that keeps what is written, as far as the room goes that was taken when it was made.
-/// Past it a write fails.
+/// An output that keeps what is written. It has the room that it was made with, and a write after that
+/// fails.
 #[derive(Drop)]
 pub struct MemoryOutput {
     octets: Vec<u8>,
@@ -112,7 +112,7 @@ impl Model for MemoryOutput {
 }
 
 impl MemoryOutput {
-    /// An empty output with room for so many octets.
+    /// An empty output with room for so many octets. Fails only with `Memory`.
     pub fn new(alloc: Global, room: usize) -> Result<MemoryOutput, Refusal>
         ensures empty { IfOk result (λ out. out ≡ record { octets = []; room = room; is_finished = false; endings = 0; failures = 0 }) }
         ensures memory { IfErr result (λ e. e ≡ Refusal.Memory) }
@@ -133,7 +133,7 @@ impl MemoryOutput {
         self.octets.as_slice()
     }
 
-    /// What was finished is to be finished again.
+    /// The output has to be finished again.
     pub(crate) fn reopen(&mut self)
         ensures { self.new ≡ record self.old { is_finished = false } }
     {

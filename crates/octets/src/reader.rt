@@ -1,4 +1,4 @@
-//! Base64url texts that come in pieces, decoded as they come.
+//! Decoding base64url texts that come in pieces.
 ghost use Rattle.std.specs.Prelude.{◌≡◌, ℕ, ◌+◌, ◌*◌, ◌/◌, ◌≤◌, List, [], ◌++◌, length, take, drop, IfOk, OnOk, OnErr, IfErr, Ok, Err};
 ghost use Rattle.octets.specs.Base64url.{decoded, settled, unsettled};
 
@@ -9,8 +9,8 @@ use crate::{Refusal, without_line_end};
 use base64::engine::general_purpose::URL_SAFE_NO_PAD as BASE64URL;
 use std::marker::Model;
 
-/// A base64url text that comes in pieces and may end in a line end. It holds at most five characters,
-/// and is seen as those that wait for a whole group of four past which more comes.
+/// Decodes a base64url text that comes in pieces and may end in a line end. It holds, and contracts see, the at most
+/// five characters that are not in a whole group of four with two characters after it.
 #[derive(Drop)]
 pub struct B64Reader {
     waiting: [u8; 5],
@@ -28,7 +28,7 @@ impl Model for B64Reader {
 }
 
 impl B64Reader {
-    /// No character was fed yet.
+    /// A reader that was fed nothing yet.
     pub fn start() -> B64Reader
         ensures { result ≡ [] }
     {
@@ -78,8 +78,8 @@ impl Transform for B64Reader {
     }
 }
 
-/// Writes the octets that the text means to the front, and answers how many. Refused with `Base64`
-/// where it means none. Past three octets for each four characters, or part of four, `out` is as it was.
+/// Decodes the text into the front of `out` and returns the number of octets. Refuses with `Base64`.
+/// After three octets for each four characters, or part of four, `out` is unchanged.
 #[tactic(auto, unfolding(crate::specs::Base64url::decoded))]
 pub(crate) fn decode_onto(text: &[u8], out: &mut [u8]) -> Result<usize, Refusal>
     requires { (length text.now + 3) / 4 * 3 ≤ length out.old }

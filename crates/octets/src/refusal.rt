@@ -1,4 +1,4 @@
-//! Why a call gave up, and why a device did.
+//! Why a call refuses, and why a device fails.
 ghost use Rattle.std.specs.Prelude.{◌≡◌, Some};
 ghost use Rattle.octets.specs.Outcomes.{needs as needed};
 
@@ -106,7 +106,7 @@ impl<T: Drop> From<AllocFailed<T>> for Refusal {
     }
 }
 
-/// Goes on where the test holds, as in `needs(octets.len() <= 4096, Refusal::Key)?`.
+/// Refuses unless the test holds, as in `needs(octets.len() <= most, Refusal::Key)?`.
 pub fn needs(test: bool, refusal: Refusal) -> Result<(), Refusal>
     ensures { result ≡ needed test refusal }
 {

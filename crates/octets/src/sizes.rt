@@ -1,13 +1,13 @@
-//! How much of a content is held at a time.
+//! The sizes of the pieces in which contents are read and written.
 
-/// How many octets of a content are read and taken at a time.
+/// The most octets of a content that are read at a time.
 pub const PIECE: usize = 4096;
 
-/// How many octets of a ciphertext a piece fixes at most: with those of a block that waited.
+/// The most octets of a ciphertext that one piece fixes: those of the piece, and a block that waited.
 pub const SEALED_PIECE: usize = PIECE + 16;
 
-/// How many characters of base64url text these fix at most.
+/// The most characters of base64url text that these fix.
 pub const PIECE_TEXT: usize = 5488;
 
-/// A piece of a ciphertext, behind the octets that waited for a whole group.
+/// The most octets of a piece of ciphertext with those that waited for a whole group of three.
 pub(crate) const JOINED_PIECE: usize = SEALED_PIECE + 2;

@@ -1,4 +1,4 @@
-//! Devices over std's readers and writers. What passed through one is kept for clauses alone.
+//! Devices over std's readers and writers. What passed through one is kept for contracts only.
 ghost use Rattle.std.specs.Prelude.{◌≡◌, ◌≢◌, ◌+◌, ◌-◌, ◌^◌, ◌<◌, ◌≤◌, ℕ, List, [], ◌++◌, length, take, true, false, IfOk, IfErr, OnOk, OnErr, Ok, MatchResult, IsTrue};
 ghost use Rattle.std.specs.Iterator.{at_most};
 ghost use Rattle.std.specs.Io.KnownBytes.{Consumes, Appends, Keeps, IsAtEnd, ReadConsumes, WriteAppends};
@@ -14,10 +14,10 @@ use crate::{Fault, Input, Output};
 use std::io;
 use std::io::{ErrorKind, Read, Write};
 
-/// After so many octets a read fails.
+/// A read after this many octets fails.
 const MOST_OCTETS: u64 = 1 << 62;
 
-/// An input over a reader. A read that a signal interrupted is made again; one after 2^62 octets fails.
+/// An input over a reader. A read that a signal interrupted is made again. A read after 2^62 octets fails.
 #[derive(Drop)]
 pub struct ReaderInput<R> {
     reader: R,
@@ -32,7 +32,7 @@ pub struct ReaderInput<R> {
 impl<R: Read> ReaderInput<R> {
     ghost use Rattle.octets.specs.Views.{reader_of, consumed_of, is_at_end_of, remaining_of, read_failures_of};
 
-    /// Gives what the reader gives.
+    /// An input of what the reader reads.
     pub fn new(reader: R) -> ReaderInput<R>
         ensures reader { reader_of result ≡ reader }
         ensures consumed { consumed_of result ≡ [] }
@@ -64,7 +64,7 @@ impl<R: Read> Input for ReaderInput<R> {
     ghost gives_octets = { λ input. input.known };
 
     fn read(&mut self, buf: &mut [u8]) -> Result<usize, Fault>
-        // Octets of the reader that are known are those that it gives, and its end is the reader's.
+        // If the octets of the reader are known, these are read, and the end is that of the reader.
         ensures source { MatchResult result
             (λ n. Consumes (R.remaining (reader_of self.old)) (R.remaining (reader_of self.new)) (take n buf.new))
             (λ _. Keeps (R.remaining (reader_of self.old)) (R.remaining (reader_of self.new))) }
@@ -109,7 +109,7 @@ impl<R: Read> Input for ReaderInput<R> {
     }
 }
 
-/// One read, made again where a signal interrupted it.
+/// One read, which is made again if a signal interrupted it.
 fn read_once<R: Read>(reader: &mut R, buf: &mut [u8]) -> io::Result<usize>
     ensures count { IfOk result (λ n. n ≤ length buf.new) }
     ensures source { ReadConsumes (R.remaining reader.old) (R.remaining reader.new) result buf.new }
@@ -124,7 +124,7 @@ fn read_once<R: Read>(reader: &mut R, buf: &mut [u8]) -> io::Result<usize>
     Err(io::Error::from(ErrorKind::Other))
 }
 
-/// An output over a writer. A write that a signal interrupted is made again; one that takes nothing fails.
+/// An output over a writer. A write that a signal interrupted is made again. A write that takes nothing fails.
 #[derive(Drop)]
 pub struct WriterOutput<W> {
     writer: W,
@@ -137,7 +137,7 @@ pub struct WriterOutput<W> {
 impl<W: Write> WriterOutput<W> {
     ghost use Rattle.octets.specs.Views.{writer_of, written_of, is_finished_of, endings_of, write_failures_of};
 
-    /// Hands on to the writer what it takes.
+    /// An output to the writer.
     pub fn new(writer: W) -> WriterOutput<W>
         ensures writer { writer_of result ≡ writer }
         ensures written { written_of result ≡ [] }
@@ -167,7 +167,7 @@ impl<W: Write> Output for WriterOutput<W> {
     ghost failures = { write_failures_of };
 
     fn write(&mut self, octets: &[u8]) -> Result<usize, Fault>
-        // A writer whose contents are known has them and then what was taken.
+        // If the contents of the writer are known, what was written follows them.
         ensures sink { WriteAppends (W.contents (writer_of self.old)) (W.contents (writer_of self.new)) result octets.now }
 
         // What the trait says.
@@ -219,7 +219,7 @@ impl<W: Write> Output for WriterOutput<W> {
     }
 }
 
-/// One write, made again where a signal interrupted it.
+/// One write, which is made again if a signal interrupted it.
 fn write_once<W: Write>(writer: &mut W, octets: &[u8]) -> io::Result<usize>
     ensures count { IfOk result (λ n. n ≤ length octets.now) }
     ensures sink { WriteAppends (W.contents writer.old) (W.contents writer.new) result octets.now }
@@ -234,7 +234,7 @@ fn write_once<W: Write>(writer: &mut W, octets: &[u8]) -> io::Result<usize>
     Err(io::Error::from(ErrorKind::Other))
 }
 
-/// One flush, made again where a signal interrupted it.
+/// One flush, which is made again if a signal interrupted it.
 fn flush_once<W: Write>(writer: &mut W) -> io::Result<()>
     ensures sink { Keeps (W.contents writer.old) (W.contents writer.new) }
     ensures retried { IfErr result (λ e. error_kind e ≢ ErrorKind.Interrupted) }

@@ -1,4 +1,4 @@
-//! Outside vectors, and each device at work.
+//! Vectors from outside, and each device in use.
 use crate::whole::read_piece;
 use crate::{
     B64Writer, Fault, Input, MemoryInput, MemoryOutput, Output, Partial, ReaderInput, Refusal,
@@ -16,7 +16,7 @@ pub(crate) fn expect_octets(rt: &impl Abort, found: &[u8], wanted: &[u8]) {
     assert_eq!(rt; *found, *wanted);
 }
 
-/// The two are the same; where they are not, the message says at what. An `assert_eq!` at each place would be proved anew.
+/// The two are the same. If not, the message says at what. An `assert_eq!` at each place would be proved each time.
 pub(crate) fn expect_same<T: PartialEq + Debug + Drop, N: Debug + Drop>(
     rt: &impl Abort,
     found: T,
@@ -45,7 +45,7 @@ fn rfc4648_section_10(rt: HostRuntime) -> Result<(), Fail> {
     Ok(())
 }
 
-/// The text of octets that are fed in pieces of so many.
+/// The text of octets that are fed in pieces of `step` octets.
 fn fed(rt: &impl Abort, alloc: Global, octets: &[u8], step: usize) -> Result<Vec<u8>, AllocError> {
     assert!(rt; step > 0);
     let mut text = Vec::new(alloc);
@@ -162,7 +162,7 @@ fn a_refusal_prints_its_number_and_its_name(rt: HostRuntime) -> Result<(), Fail>
     Ok(())
 }
 
-/// What a read into four octets gives.
+/// The result of a read into four octets.
 fn next_four<I: Input>(input: &mut I) -> (Result<usize, Fault>, [u8; 4]) {
     let mut octets = [0u8; 4];
     let result = input.read(&mut octets);
@@ -186,7 +186,7 @@ fn an_input_gives_its_octets_and_then_the_end(rt: HostRuntime) {
     }
 }
 
-/// Each of these octet strings is written by one call, with this result.
+/// One call writes each of these octet strings, with this result.
 fn expect_writes<O: Output>(
     rt: &impl Abort,
     out: &mut O,
@@ -265,8 +265,8 @@ fn what_fails_below_is_a_fault(rt: HostRuntime) {
     expect_same(&rt, written, Err(Fault::Writing), "no room");
 }
 
-/// A reader and a writer. Signals interrupt each of its calls three times, and then it gives or takes
-/// one octet.
+/// A reader and a writer. Signals interrupt each of its calls three times, and then one octet is read or
+/// written.
 #[derive(Drop)]
 struct Slow<'a> {
     gives: &'a [u8],
@@ -335,7 +335,7 @@ pub(crate) fn repeated(
     Ok(all)
 }
 
-/// A read into so many octets gives these.
+/// A read into `len` octets reads these.
 fn expect_read<I: Input>(rt: &impl Abort, input: &mut I, len: usize, octets: &[u8]) {
     let mut place = [0u8; 4];
     assert!(rt; len <= 4 && octets.len() <= 4);
@@ -426,7 +426,7 @@ fn slow_octets_are_read(rt: HostRuntime) -> Result<(), Fail> {
     Ok(())
 }
 
-/// The input's next pieces, which are these octets, and then the end.
+/// The next pieces of the input are these octets, and then it ends.
 fn expect_pieces(rt: &impl Abort, input: &mut MemoryInput<'_>, octets: &[u8]) {
     let mut buf = [0u8; 4096];
     for piece in octets.chunks(4096) {
@@ -493,7 +493,7 @@ fn all_of_a_text_goes_out_or_partial_tells_how_much(rt: HostRuntime) -> Result<(
     Ok(())
 }
 
-/// A draw of so many octets, which leaves this in five that were zero.
+/// A draw of `len` octets leaves these in five that were zero.
 fn expect_draw(
     rt: &impl Abort,
     random: &[u8],
@@ -563,7 +563,7 @@ fn multiples(number: u8) -> [u8; 100] {
     octets
 }
 
-/// With up to three blocks of 32, and each rest. What stands behind is left as it is.
+/// With up to three blocks of 32, and each rest. What comes after them is unchanged.
 #[test]
 fn octet_strings_of_each_length_are_added(rt: HostRuntime) {
     let octets = multiples(7);

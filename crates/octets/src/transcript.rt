@@ -1,10 +1,10 @@
-//! The octets that passed through a device of the outside world, for clauses alone.
+//! The octets that passed through a device of the outside world, for contracts only.
 ghost use Rattle.std.specs.Prelude.{◌≡◌, List, ℕ, [], ◌++◌};
 ghost use Rattle.std.specs.Borrow.{ftrue};
 
 use std::marker::{Model, PhantomData};
 
-/// A list of octets that no code can read. It takes no memory, and its methods do nothing at run time.
+/// A list of octets that no code can read. It needs no memory, and its methods do nothing at run time.
 #[derive(Drop)]
 pub struct Transcript {
     marker: PhantomData<u8>,

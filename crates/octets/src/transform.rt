@@ -1,4 +1,4 @@
-//! A content that is read in pieces, and goes out as a transform gives it.
+//! Contents that are read in pieces and written through a transform.
 ghost use Rattle.std.specs.Prelude.{◌≡◌, ◌≢◌, ℕ, ◌≤◌, List, [], ◌∷◌, ◌++◌, length, false, IfOk, OnOk, OnErr, IfErr, Ok, Err, IsTrue};
 ghost use Rattle.std.specs.Iterator.{IsFinite};
 ghost use Rattle.octets.specs.Devices.{appended, observed, Extends, IsPossibleInput, AppendsPrefixOf};
@@ -12,7 +12,7 @@ use crate::sizes::{PIECE, PIECE_TEXT};
 use crate::whole::read_piece;
 use crate::{Input, Output, Refusal, write_whole};
 
-/// What takes a content in pieces, and gives what they fix of its plan.
+/// A transform is fed a content in pieces, and returns what they fix of its plan.
 pub trait Transform: Drop {
     /// What is left of it at the end.
     type Rest: Drop;
@@ -20,17 +20,17 @@ pub trait Transform: Drop {
     /// What it was started for.
     ghost Job: { Type 0 };
 
-    /// What is to be written for a job, by the content.
+    /// What is to be written for a job and each content.
     ghost plan: { Job → Plan (List ℕ) };
 
     /// It was started for this job, and was fed this content so far.
     ghost is_fed: { Self → Job → List ℕ → Type 0 };
 
-    /// This is left of one that was started for this job, and was fed all of this content.
+    /// This is left of a transform that was started for this job, and was fed all of this content.
     ghost is_left: { Self.Rest → Job → List ℕ → Type 0 };
 
-    /// Takes the next piece, of at most 4,096 octets, and gives what it fixes now, which may stand in `space`. Refused where
-    /// every content that begins so is.
+    /// Feeds the next piece, of at most `PIECE` octets, and returns what it fixes now, which may be in `space`. Refuses if
+    /// every content that begins so is refused.
     fn feed<'t>(
         &mut self,
         piece: &'t [u8],
@@ -45,7 +45,7 @@ pub trait Transform: Drop {
             → IfErr result (λ e. RefusesFrom (plan job) (p ++ piece.now) e) }
         ensures cause { IfErr result (λ e. is_external e ≡ false) };
 
-    /// Gives the rest, which may stand in `space`, and what is left. Refused where the content is.
+    /// Returns the rest of the text, which may be in `space`, and what is left. Refuses if the content is refused.
     fn finish<'t>(self, space: &'t mut [u8; PIECE_TEXT]) -> Result<(&'t [u8], Self::Rest), Refusal>
         ensures left { (job : Job) (p : List ℕ) → is_fed self job p → IsOctets p
             → IfOk result (λ end. is_left end.1 job p) }
@@ -59,9 +59,9 @@ pub trait Transform: Drop {
     ghost starts_with_nothing: { (x : Self) (job : Job) → is_fed x job [] → (plan job).fixed [] ≡ [] };
 }
 
-/// Writes the text that stands before, once a first piece of the content was read and taken, then what the transform gives of
-/// the content as it is read, up to its end, and answers what is left. Refused with `Read` where the content fails, as the
-/// transform refuses, and with `Write`. It does not finish the output.
+/// Reads the content to its end, and writes what the transform returns of it. `before` is written first, after the first piece
+/// was read and accepted. Returns what is left of the transform. Refuses with `Read`, with `Write`, and as the transform does.
+/// The output is not finished.
 pub fn pump<I: Input, T: Transform, O: Output>(
     content: &mut I,
     transform: T,
@@ -81,7 +81,7 @@ pub fn pump<I: Input, T: Transform, O: Output>(
         → OnErr result (AppendsPrefixOf (beginning_of (behind before.now (T.plan job)) (observed I.consumed I.is_at_end content.old content.new))
         (O.written out.old) (O.written out.new)) }
 
-    // Where the content failed all that was fixed stands, once something was read.
+    // If the content failed after something was read, all that was fixed was written.
     ensures stands { (job : T.Job) → T.is_fed transform job [] → result ≡ Err Refusal.Read
         → appended (I.consumed content.old) (I.consumed content.new) ≢ []
         → O.written out.new ≡ O.written out.old ++ (behind before.now (T.plan job)).fixed (appended (I.consumed content.old) (I.consumed content.new)) }

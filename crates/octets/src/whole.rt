@@ -1,4 +1,4 @@
-//! All of an input, piece by piece or whole, or exactly so many octets of it, and all of a text to an output.
+//! Reading an input to its end, or exactly as many octets as are needed, and writing all of a text.
 ghost use Rattle.std.specs.Prelude.{◌≡◌, ◌<◌, ◌≤◌, ◌++◌, length, take, drop, Ok, IfOk, OnOk, OnErr, IfErr, IsTrue};
 ghost use Rattle.std.specs.Iterator.{IsFinite, size};
 ghost use Rattle.octets.specs.Devices.{next_count, appended, observed, AppendsPrefixOf, Extends, IsFinishedOnce};
@@ -10,8 +10,7 @@ use crate::sizes::PIECE;
 use crate::{Input, Output, Refusal};
 use std::alloc::Global;
 
-/// All that the input still gives, up to its end. Refused with `Read` where the input fails, and for
-/// want of memory.
+/// Reads the input to its end. Refuses with `Read` if it fails, and with `Memory`.
 pub fn read_to_end<I: Input>(alloc: Global, input: &mut I) -> Result<Vec<u8>, Refusal>
     requires { IsFinite (I.remaining input.old) }
     ensures whole { IfOk result (λ octets. (I.consumed input.new ≡ I.consumed input.old ++ octets.items)
@@ -31,8 +30,8 @@ pub fn read_to_end<I: Input>(alloc: Global, input: &mut I) -> Result<Vec<u8>, Re
     }
 }
 
-/// Reads the next piece of a content into the front of `buf`, and answers its length: 0 only at the end. Refused with `Read`
-/// where the input fails.
+/// Reads the next piece of a content into the front of `buf` and returns its length, which is 0 only at the end. Refuses with
+/// `Read` if the input fails.
 pub(crate) fn read_piece<I: Input>(content: &mut I, buf: &mut [u8; PIECE]) -> Result<usize, Refusal>
     requires { IsFinite (I.remaining content.old) }
     ensures within { IfOk result (λ n. n ≤ PIECE) }
@@ -51,9 +50,9 @@ pub(crate) fn read_piece<I: Input>(content: &mut I, buf: &mut [u8; PIECE]) -> Re
     Ok(n)
 }
 
-/// Fills `out` from the random input, and takes exactly so many octets from it. Refused with `Read`
-/// where the input fails, and with `Random` where it ends first; then the front of `out` has what was
-/// taken, and the rest is as it was.
+/// Fills `out` from the random input, and reads exactly so many octets of it. Refuses with `Read` if the
+/// input fails, and with `Random` if it ends too early. Then the front of `out` has what was read, and
+/// the rest is unchanged.
 pub fn draw<I: Input>(random: &mut I, out: &mut [u8]) -> Result<(), Refusal>
     ensures octets { OnOk result (I.consumed random.new ≡ I.consumed random.old ++ out.new) }
     ensures taken { let drawn = appended (I.consumed random.old) (I.consumed random.new)
@@ -80,7 +79,7 @@ pub fn draw<I: Input>(random: &mut I, out: &mut [u8]) -> Result<(), Refusal>
     Ok(())
 }
 
-/// How many octets went out before an output failed.
+/// How many octets were written before an output failed.
 #[derive(Clone, Copy, Debug, PartialEq, Eq)]
 pub struct Partial {
     pub written: usize,
@@ -96,7 +95,7 @@ impl From<Partial> for Refusal {
     }
 }
 
-/// Writes all of the octets. `Partial` tells exactly how much went out. Writing nothing does nothing.
+/// Writes all of the octets. After a failure `Partial` says exactly how many were written. Writing nothing does nothing.
 pub fn write_whole<O: Output>(out: &mut O, octets: &[u8]) -> Result<(), Partial>
     ensures all { OnOk result (O.written out.new ≡ O.written out.old ++ octets.now) }
     ensures part { IfErr result (λ e. (e.written < length octets.now)

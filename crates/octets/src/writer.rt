@@ -1,4 +1,4 @@
-//! Base64url of octets that come in pieces.
+//! Encoding octets that come in pieces as base64url.
 ghost use Rattle.std.specs.Prelude.{◌≡◌, ℕ, ◌+◌, ◌*◌, ◌/◌, ◌≤◌, List, [], ◌++◌, length, take};
 ghost use Rattle.octets.specs.Base64url.{base64url, whole_groups, part_group};
 
@@ -8,8 +8,8 @@ use crate::transform::Transform;
 use base64::engine::general_purpose::URL_SAFE_NO_PAD as BASE64URL;
 use std::marker::Model;
 
-/// A base64url text whose octets come in pieces. It holds at most two of them, and is seen as those
-/// that wait for a whole group of three. The clauses speak of all octets `fed` so far.
+/// Encodes octets that come in pieces as base64url. It holds, and contracts see, the at most two octets
+/// that wait for a whole group of three. In the clauses `fed` is all octets so far.
 #[derive(Drop)]
 pub struct B64Writer {
     waiting: [u8; 2],
@@ -27,7 +27,7 @@ impl Model for B64Writer {
 }
 
 impl B64Writer {
-    /// No octet was fed yet.
+    /// A writer that was fed nothing yet.
     pub fn start() -> B64Writer
         ensures { result ≡ part_group [] }
     {
@@ -37,8 +37,8 @@ impl B64Writer {
         }
     }
 
-    /// Takes the next piece, of at most 4,112 octets. Writes the text of the groups that are whole now
-    /// to the front of `out`, and answers its length.
+    /// Feeds the next piece, of at most `SEALED_PIECE` octets. Writes the text of the groups that are whole
+    /// now to the front of `out` and returns its length.
     pub fn feed(&mut self, piece: &[u8], out: &mut [u8; PIECE_TEXT]) -> usize
         requires { length piece.now ≤ SEALED_PIECE }
         ensures within { result ≤ PIECE_TEXT }
@@ -58,7 +58,7 @@ impl B64Writer {
         written
     }
 
-    /// Writes the text of the octets that wait to the front of `out`, and answers its length.
+    /// Writes the text of the octets that wait to the front of `out` and returns its length.
     pub fn finish(self, out: &mut [u8; 4]) -> usize
         ensures within { result ≤ 4 }
         ensures text { (fed : List ℕ) → self ≡ part_group fed
@@ -104,7 +104,7 @@ impl Transform for B64Writer {
     }
 }
 
-/// Copies both to the front, one after the other.
+/// Copies `front` and then `back` to the front of `octets`.
 pub(crate) fn join(octets: &mut [u8; JOINED_PIECE], front: &[u8], back: &[u8])
     requires { length front.now + length back.now ≤ JOINED_PIECE }
     ensures { take (length front.now + length back.now) octets.new ≡ front.now ++ back.now }
@@ -114,7 +114,7 @@ pub(crate) fn join(octets: &mut [u8; JOINED_PIECE], front: &[u8], back: &[u8])
     octets[n..n + back.len()].copy_from_slice(back);
 }
 
-/// Writes the base64url text of the octets to the front, and answers its length.
+/// Writes the base64url text of the octets to the front of `out` and returns its length.
 pub fn encode_onto(octets: &[u8], out: &mut [u8]) -> usize
     requires { (4 * length octets.now + 2) / 3 ≤ length out.old }
     ensures len { result ≡ (4 * length octets.now + 2) / 3 }
