@@ -13,13 +13,13 @@ pub record PolynomialLaws : Type 0 where
   pub sum_same : (f g : ℕ → ℕ) (n : ℕ) → ((i : ℕ) → i < n → f i ≡ g i) → polynomial_sum f n ≡ polynomial_sum g n
   -- the sum of sums is the sum of both
   pub sum_of_sums : (f g : ℕ → ℕ) (n : ℕ) → polynomial_sum (λ i. bit_xor (f i) (g i)) n ≡ bit_xor (polynomial_sum f n) (polynomial_sum g n)
-  -- a linear map sends a sum to the sum of what it sends the terms to
+  -- a linear map of a sum is the sum of the map of its terms
   pub sum_mapped : (h f : ℕ → ℕ) (n : ℕ) → IsLinear h → h (polynomial_sum f n) ≡ polynomial_sum (λ i. h (f i)) n
   -- the sum of the c_i x ^ i, with i below n, has a degree below n
   pub powers_below : (c : ℕ → ℕ) (n : ℕ) → ((i : ℕ) → c i < 2) → polynomial_sum (λ i. c i * 2 ^ i) n < 2 ^ n
-  -- and the coefficients c_i
+  -- its coefficients are the c_i
   pub powers_coefficient : (c : ℕ → ℕ) (n i : ℕ) → ((k : ℕ) → c k < 2) → i < n → bit_at (polynomial_sum (λ k. c k * 2 ^ k) n) i ≡ c i
-  -- the multiple by x ^ k is linear
+  -- the product by x ^ k is linear
   pub power_linear : (k : ℕ) → IsLinear (λ q. q * 2 ^ k)
   -- p times the coefficient of x ^ i is linear
   pub coefficient_linear : (i p : ℕ) → IsLinear (λ q. bit_at q i * p)

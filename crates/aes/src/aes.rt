@@ -1,4 +1,4 @@
-//! AES under its three sizes of key (FIPS 197, section 5): the round keys, and the number of rounds.
+//! AES under its three sizes of key (FIPS 197 section 5): the round keys, and the number of rounds.
 ghost use Rattle.std.specs.Prelude.{◌≡◌, ℕ, List};
 ghost use Rattle.aes.specs.Block.{IsBlock, IsCipher};
 ghost use Rattle.aes.specs.Cipher.{IsDecryptedBlock, cipher, encrypted_block};
@@ -8,7 +8,7 @@ use crate::block::Block;
 use crate::cipher::{cipher, inverse_cipher};
 use crate::key_expansion::key_expansion;
 
-/// AES under a key of 128 bits, with 10 rounds (FIPS 197, section 5).
+/// AES under a key of 128 bits, with 10 rounds (FIPS 197 section 5).
 #[derive(Drop)]
 pub struct Aes128 {
     round_keys: [u8; 176],
@@ -16,7 +16,7 @@ pub struct Aes128 {
 }
 
 impl Aes128 {
-    /// The cipher under the key, whose round keys are made once here (section 5.2).
+    /// The cipher under the key. The round keys are made here, once (section 5.2).
     pub fn new(key: &[u8; 16]) -> Aes128
         ensures encrypts { (b : List ℕ)
             → ⟦<Aes128 as Block>⟧.encrypted result b ≡ encrypted_block 4 key.now b }
@@ -47,7 +47,7 @@ impl Block for Aes128 {
     ghost is_cipher = { λ k. k.is_cipher };
 }
 
-/// AES under a key of 192 bits, with 12 rounds (FIPS 197, section 5).
+/// AES under a key of 192 bits, with 12 rounds (FIPS 197 section 5).
 #[derive(Drop)]
 pub struct Aes192 {
     round_keys: [u8; 208],
@@ -55,7 +55,7 @@ pub struct Aes192 {
 }
 
 impl Aes192 {
-    /// The cipher under the key, whose round keys are made once here (section 5.2).
+    /// The cipher under the key. The round keys are made here, once (section 5.2).
     pub fn new(key: &[u8; 24]) -> Aes192
         ensures encrypts { (b : List ℕ)
             → ⟦<Aes192 as Block>⟧.encrypted result b ≡ encrypted_block 6 key.now b }
@@ -86,7 +86,7 @@ impl Block for Aes192 {
     ghost is_cipher = { λ k. k.is_cipher };
 }
 
-/// AES under a key of 256 bits, with 14 rounds (FIPS 197, section 5).
+/// AES under a key of 256 bits, with 14 rounds (FIPS 197 section 5).
 #[derive(Drop)]
 pub struct Aes256 {
     round_keys: [u8; 240],
@@ -94,7 +94,7 @@ pub struct Aes256 {
 }
 
 impl Aes256 {
-    /// The cipher under the key, whose round keys are made once here (section 5.2).
+    /// The cipher under the key. The round keys are made here, once (section 5.2).
     pub fn new(key: &[u8; 32]) -> Aes256
         ensures encrypts { (b : List ℕ)
             → ⟦<Aes256 as Block>⟧.encrypted result b ≡ encrypted_block 8 key.now b }

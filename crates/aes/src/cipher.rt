@@ -1,4 +1,4 @@
-//! The rounds and their inverse (FIPS 197, sections 5.1 and 5.3), over the round keys of any size of key.
+//! The rounds and their inverse (FIPS 197 sections 5.1 and 5.3), over the round keys of any size of key.
 ghost use Rattle.std.specs.Prelude.{◌≡◌, ◌+◌, ◌*◌, ◌≤◌, ◌<◌, length};
 ghost use Rattle.aes.specs.Cipher.{cipher};
 ghost use Rattle.aes.specs.InverseCipher.{inverse_cipher};

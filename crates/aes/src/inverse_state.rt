@@ -1,4 +1,4 @@
-//! The inverse steps of a round (FIPS 197, section 5.3). The sum with a round's key is its own inverse.
+//! The inverse steps of a round (FIPS 197 section 5.3). The sum with a round's key is its own inverse.
 ghost use Rattle.std.specs.Prelude.{◌≡◌, ℕ, ◌+◌, ◌-◌, ◌*◌, ◌%◌, ◌≤◌, ◌<◌, bit_xor, [], ◌∷◌, length, slice_index};
 ghost use Rattle.aes.specs.InverseCipher.{inverse_s_box, inverse_sub_bytes, inverse_shift_rows, inverse_mix_columns};
 ghost use Rattle.aes.specs.Octet.{octet_product};
@@ -9,7 +9,7 @@ ghost use Rattle.aes.specs.Words.{octet, block_of};
 use crate::state::turned_sum;
 use crate::tables::{inverse_mix, unsubstitute};
 
-/// The inverse of the S-box on a column whose octets stand in these four.
+/// The inverse of the S-box on the column of octet 0 of `a`, 1 of `b`, 2 of `c` and 3 of `d`.
 fn unsubstitute_column(a: u32, b: u32, c: u32, d: u32) -> u32
     ensures { (r : ℕ) → r < 4 → octet result r ≡ inverse_s_box (octet (slice_index (a ∷ b ∷ c ∷ d ∷ []) r) r) }
 {
@@ -38,8 +38,8 @@ pub(crate) fn inverse_shift_sub(state: [u32; 4]) -> [u32; 4]
     ]
 }
 
-/// A column whose octets stand in these four words: the inverse of the S-box on each octet, the sum with word i of the
-/// round keys, and the inverse matrix.
+/// On the column of octet 0 of `a`, 1 of `b`, 2 of `c` and 3 of `d`: the inverse of the S-box, the sum with word i of
+/// the round keys, and the inverse matrix.
 fn inverse_round_column(round_keys: &[u8], i: usize, a: u32, b: u32, c: u32, d: u32) -> u32
     requires { 4 * i + 4 ≤ length round_keys.now }
     ensures { (r : ℕ) → r < 4
@@ -62,8 +62,8 @@ fn inverse_round_column(round_keys: &[u8], i: usize, a: u32, b: u32, c: u32, d: 
     )
 }
 
-/// Each row turned to the right by its number and the inverse of the S-box on each octet, the sum with the key words of a
-/// round (section 5.1.4), and each column multiplied by the inverse matrix (section 5.3.3).
+/// `inverse_shift_sub`, then the sum with the key words of a round (section 5.1.4), and then each column multiplied by the
+/// inverse matrix (section 5.3.3).
 pub(crate) fn inverse_round(round_keys: &[u8], round: usize, state: [u32; 4]) -> [u32; 4]
     requires { 16 * round + 16 ≤ length round_keys.now }
     ensures { block_of result

@@ -1,5 +1,5 @@
-//! The key expansion (FIPS 197, section 5.2), for a key of `nk` words of four octets. The round keys are a list of
-//! words too, four for each, and are made an octet at a time.
+//! The key expansion (FIPS 197 section 5.2), for a key of `nk` words of four octets. A round key is four words. The
+//! round keys are one list, which is made octet by octet.
 ghost use Rattle.std.specs.Prelude.{◌≡◌, ◌+◌, ◌-◌, ◌*◌, ◌/◌, ◌≤◌, ◌<◌, length};
 ghost use Rattle.aes.specs.KeyExpansion.{power_of_x, transformed, next_word, key_expansion};
 ghost use Rattle.aes.specs.Octet.{octet_product};
@@ -19,7 +19,7 @@ fn multiply_by_x(a: u8) -> u8
     }
 }
 
-/// The octet of round constant j that is not zero: x^(j - 1).
+/// The one octet of round constant j that is not zero: x^(j - 1).
 fn round_constant(j: usize) -> u8
     requires { 0 < j }
     ensures { result ≡ power_of_x (j - 1) }
@@ -31,7 +31,7 @@ fn round_constant(j: usize) -> u8
     power
 }
 
-/// Octet r of what is made of the word before place i.
+/// Octet r of the word before place i, transformed for place i.
 fn transform(nk: usize, round_keys: &[u8], i: usize, r: usize) -> u8
     requires size { 0 < nk }
     requires place { nk ≤ i }
@@ -64,7 +64,7 @@ fn next_octet(nk: usize, round_keys: &[u8], i: usize, r: usize) -> u8
     round_keys[4 * (i - nk) + r] ^ transform(nk, round_keys, i, r)
 }
 
-/// Writes all round keys: the key's own words, and those that follow.
+/// Writes all round keys: the words of the key, and those that follow.
 pub(crate) fn key_expansion(nk: usize, key: &[u8], round_keys: &mut [u8])
     requires size { (0 < nk) × (nk ≤ 8) }
     requires key { length key.now ≡ 4 * nk }

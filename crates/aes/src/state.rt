@@ -1,5 +1,5 @@
-//! The state and the steps of a round (FIPS 197, sections 3.4, 3.5 and 5.1). A state is held as four words, one for each
-//! column; the octet in the first row is the lowest.
+//! The state and the steps of a round (FIPS 197 sections 3.4, 3.5 and 5.1). A state is held as four words, one for each
+//! column. The octet in the first row is the lowest.
 ghost use Rattle.std.specs.Prelude.{◌≡◌, ℕ, ◌+◌, ◌-◌, ◌*◌, ◌%◌, ◌≤◌, ◌<◌, [], ◌∷◌, length, slice_index};
 ghost use Rattle.aes.specs.Octet.{octet_product};
 ghost use Rattle.aes.specs.Polynomial.{polynomial_sum};
@@ -62,7 +62,7 @@ pub(crate) fn turned_sum(a: u32, b: u32, c: u32, d: u32) -> u32
     a ^ b.rotate_left(8) ^ c.rotate_left(16) ^ d.rotate_left(24)
 }
 
-/// The S-box on a column whose octets stand in these four.
+/// The S-box on the column of octet 0 of `a`, 1 of `b`, 2 of `c` and 3 of `d`.
 fn substitute_column(a: u32, b: u32, c: u32, d: u32) -> u32
     ensures { (r : ℕ) → r < 4 → octet result r ≡ s_box (octet (slice_index (a ∷ b ∷ c ∷ d ∷ []) r) r) }
 {
@@ -91,7 +91,7 @@ pub(crate) fn sub_shift(state: [u32; 4]) -> [u32; 4]
     ]
 }
 
-/// The S-box and the matrix of the cipher on a column whose octets stand in these four.
+/// The S-box and the matrix of the cipher on the column of octet 0 of `a`, 1 of `b`, 2 of `c` and 3 of `d`.
 fn substitute_and_mix_column(a: u32, b: u32, c: u32, d: u32) -> u32
     ensures { (r : ℕ) → r < 4
         → octet result r
@@ -111,7 +111,7 @@ fn substitute_and_mix_column(a: u32, b: u32, c: u32, d: u32) -> u32
     )
 }
 
-/// The same, and each column multiplied by the matrix of the cipher (section 5.1.3).
+/// `sub_shift`, and then each column multiplied by the matrix of the cipher (section 5.1.3).
 pub(crate) fn sub_shift_mix(state: [u32; 4]) -> [u32; 4]
     ensures { block_of result ≡ mix_columns (shift_rows (sub_bytes (block_of state))) }
 {

@@ -1,5 +1,5 @@
-//! The tables of the rounds: an octet's place in a table is its own number. Each entry is proved to be what the field
-//! of octets gives (FIPS 197, sections 4 and 5), and no column is mixed but by these tables.
+//! The tables of the rounds, with one entry for each octet. Each entry is proved to be the octet or column of FIPS 197
+//! (sections 4 and 5). Columns are mixed by these tables only.
 ghost use Rattle.std.specs.Prelude.{◌≡◌, [], ◌∷◌};
 ghost use Rattle.aes.specs.SBox.{s_box};
 ghost use Rattle.aes.specs.InverseCipher.{inverse_s_box};
@@ -81,7 +81,7 @@ const MIXED_S_BOX: [u32; 256] = [
     0xc3414182, 0xb0999929, 0x772d2d5a, 0x110f0f1e, 0xcbb0b07b, 0xfc5454a8, 0xd6bbbb6d, 0x3a16162c,
 ];
 
-/// The first column of the matrix of section 5.3.3 (14, 9, 13, 11) times the octet, likewise.
+/// The first column of the matrix of section 5.3.3 (14, 9, 13, 11) times the octet; the first row is the lowest octet.
 const INVERSE_MIX: [u32; 256] = [
     0x00000000, 0x0b0d090e, 0x161a121c, 0x1d171b12, 0x2c342438, 0x27392d36, 0x3a2e3624, 0x31233f2a,
     0x58684870, 0x5365417e, 0x4e725a6c, 0x457f5362, 0x745c6c48, 0x7f516546, 0x62467e54, 0x694b775a,
@@ -117,21 +117,21 @@ const INVERSE_MIX: [u32; 256] = [
     0x92b479a7, 0x99b970a9, 0x84ae6bbb, 0x8fa362b5, 0xbe805d9f, 0xb58d5491, 0xa89a4f83, 0xa397468d,
 ];
 
-/// The octet that the S-box has for `x`.
+/// The S-box of `x`.
 pub(crate) fn substitute(x: u8) -> u8
     ensures { result ≡ s_box x }
 {
     S_BOX[x as usize]
 }
 
-/// The octet that the inverse of the S-box has for `y`.
+/// The inverse of the S-box of `y`.
 pub(crate) fn unsubstitute(y: u8) -> u8
     ensures { result ≡ inverse_s_box y }
 {
     INVERSE_S_BOX[y as usize]
 }
 
-/// The first column of the cipher's matrix times what the S-box has for `x`.
+/// The first column of the cipher's matrix times the S-box of `x`.
 pub(crate) fn substitute_and_mix(x: u8) -> u32
     ensures { IsColumnTimes (2 ∷ 1 ∷ 1 ∷ 3 ∷ []) (s_box x) result }
 {

@@ -25,14 +25,14 @@ fn first<const N: usize>() -> [u8; N]
     key
 }
 
-// What generic code gets from the law of `Block`.
+// Generic code may use the law of `Block`.
 fn decrypt_encrypted<B: Block>(cipher: &B, b: &[u8; 16]) -> [u8; 16]
     ensures { result ≡ b.now }
 {
     cipher.decrypt(&cipher.encrypt(b))
 }
 
-// The cipher sends the block of appendix C to the text, and the text to the block.
+// The block of appendix C encrypts to the text, and the text decrypts to the block.
 fn expect_both_ways<B: Block>(rt: &impl Abort, cipher: &B, text: [u8; 16]) {
     assert_eq!(rt; cipher.encrypt(&BLOCK), text);
     assert_eq!(rt; cipher.decrypt(&text), BLOCK);
@@ -58,7 +58,7 @@ fn fips197_appendix_c(rt: HostRuntime) {
     expect_both_ways(&rt, &Aes256::new(&first()), text);
 }
 
-// Whether this word stands at this place.
+// Whether this word is at this place.
 fn has_word(words: &[u8], i: u8, word: &[u8; 4]) -> bool {
     let at = 4 * i as usize;
     at <= words.len() && words[at..].starts_with(word)
