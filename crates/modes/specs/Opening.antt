@@ -13,7 +13,7 @@ before iv c (suc i) = block c i
 unfoldable pub opened_block : (List ℕ → List ℕ) → List ℕ → List ℕ → ℕ → List ℕ
 opened_block d iv c i = xor_octets (d (block c i)) (before iv c i)
 
--- all of them
+-- all blocks of the padded plaintext
 unfoldable pub opened_blocks : (List ℕ → List ℕ) → List ℕ → List ℕ → List ℕ
 opened_blocks d iv c = concat (map (opened_block d iv c) (range_with_len 0 (length c / 16)))
 

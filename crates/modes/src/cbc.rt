@@ -1,4 +1,4 @@
-//! CBC with padding, of a text that comes in pieces (SP 800-38A, section 6.2; RFC 5652, section 6.3).
+//! CBC with padding, of a text that comes in pieces (SP 800-38A section 6.2; RFC 5652 section 6.3).
 ghost use Rattle.std.specs.Prelude.{◌≡◌, ℕ, ◌+◌, ◌-◌, ◌*◌, ◌/◌, ◌%◌, ◌<◌, ◌≤◌, List, [], ◌++◌, length, take};
 ghost use Rattle.modes.specs.Cbc.{cbc, cbc_blocks, chained};
 
@@ -6,7 +6,7 @@ use crate::partial_block::PartialBlock;
 use aes::Block;
 use octets::{PIECE, SEALED_PIECE, xor_into};
 
-/// An encryption whose plaintext comes in pieces.
+/// An encryption by CBC whose plaintext comes in pieces.
 #[derive(Drop)]
 pub struct Cbc<B> {
     cipher: B,
@@ -17,7 +17,7 @@ pub struct Cbc<B> {
 impl<B: Block> Cbc<B> {
     ghost use Rattle.modes.specs.Views.{HoldsCbc};
 
-    /// No octet was fed yet.
+    /// An encryption that was fed nothing yet.
     pub fn start(cipher: B, iv: &[u8; 16]) -> Cbc<B>
         ensures { HoldsCbc B.encrypted result (B.encrypted cipher) iv.now [] }
     {
@@ -28,8 +28,8 @@ impl<B: Block> Cbc<B> {
         }
     }
 
-    /// Takes the next piece, of at most 4,096 octets. Writes the ciphertext of the blocks that are whole now to the
-    /// front of `out`, and answers its length.
+    /// Feeds the next piece, of at most `PIECE` octets. Writes the ciphertext of the blocks that are whole now to the
+    /// front of `out` and returns its length.
     pub fn feed(&mut self, piece: &[u8], out: &mut [u8; SEALED_PIECE]) -> usize
         requires { length piece.now ≤ PIECE }
         ensures within { result ≤ SEALED_PIECE }
@@ -60,7 +60,7 @@ impl<B: Block> Cbc<B> {
         16 + whole
     }
 
-    /// Pads what waits, and writes the last block of the ciphertext.
+    /// Pads the octets that wait and returns the last block of the ciphertext.
     pub fn finish(mut self, out: &mut [u8; 16])
         ensures { (e : List ℕ → List ℕ) (iv p : List ℕ) → HoldsCbc B.encrypted self e iv p
             → cbc e iv p ≡ cbc_blocks e iv p ++ out.new }

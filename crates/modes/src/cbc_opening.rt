@@ -7,8 +7,8 @@ ghost use Rattle.octets.specs.Octets.{IsOctets, xor_octets};
 use aes::Block;
 use octets::xor_into;
 
-/// Opens the ciphertext in `buf` to the plaintext at its front, and answers that one's length. Answers `None`, and leaves
-/// `buf` as it was, where no plaintext has this ciphertext (RFC 5652, section 6.3).
+/// Opens the ciphertext in `buf` to the plaintext at its front and returns the length of the plaintext. Returns `None`,
+/// with `buf` unchanged, if no plaintext has this ciphertext (SP 800-38A section 6.2, RFC 5652 section 6.3).
 pub fn cbc_open<B: Block>(cipher: &B, iv: &[u8; 16], buf: &mut [u8]) -> Option<usize>
     ensures opened { IfSome result (λ n. (n ≤ length buf.old)
         × (cbc (B.encrypted cipher.now) iv.now (take n buf.new) ≡ buf.old)) }
@@ -28,7 +28,7 @@ pub fn cbc_open<B: Block>(cipher: &B, iv: &[u8; 16], buf: &mut [u8]) -> Option<u
     Some(buf.len() - padding)
 }
 
-/// How many octets the padding has that the block ends in, where it ends in one.
+/// The length of the padding at the end of the block, if there is one.
 fn padding_of(last: &[u8; 16]) -> Option<usize>
     ensures padding { IfSome result (λ n. IsPadded last.now n) }
     ensures nothing { IfNone result ((n : ℕ) → IsPadded last.now n → ⊥) }
@@ -62,7 +62,7 @@ fn open_block<B: Block>(cipher: &B, iv: &[u8; 16], buf: &[u8], i: usize) -> [u8;
     opened
 }
 
-/// All blocks of the padded plaintext, from the last to the first, each in the place of its ciphertext.
+/// Opens all blocks, from the last to the first, each in its place.
 fn open_blocks<B: Block>(cipher: &B, iv: &[u8; 16], buf: &mut [u8])
     requires some { 0 < length buf.old }
     requires whole { length buf.old % 16 ≡ 0 }
@@ -78,7 +78,7 @@ fn open_blocks<B: Block>(cipher: &B, iv: &[u8; 16], buf: &mut [u8])
     buf[..16].copy_from_slice(&block);
 }
 
-/// The blocks from `first` on and before `end`, at most sixteen, of which none is the first of all.
+/// Opens the blocks from `first` on and before `end`, at most sixteen. The first of all blocks is not among them.
 fn open_later_blocks<B: Block>(cipher: &B, buf: &mut [u8], first: usize, end: usize)
     requires later { 0 < first }
     requires few { end ≤ first + 16 }

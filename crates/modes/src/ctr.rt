@@ -1,4 +1,4 @@
-//! Counter mode, of a text that comes in pieces (SP 800-38D, section 6.5).
+//! Counter mode of a text that comes in pieces (SP 800-38D section 6.5).
 ghost use Rattle.std.specs.Prelude.{◌≡◌, ℕ, ◌+◌, ◌-◌, ◌<◌, ◌≤◌, List, [], ◌++◌, length, take, drop};
 ghost use Rattle.modes.specs.Cbc.{block};
 ghost use Rattle.modes.specs.Ctr.{counter_block, ctr};
@@ -6,7 +6,7 @@ ghost use Rattle.modes.specs.Ctr.{counter_block, ctr};
 use aes::Block;
 use octets::{PIECE, SEALED_PIECE, xor_into};
 
-/// Counter mode from a first counter block, whose last four octets count.
+/// Counter mode from a first counter block, whose last four octets are the counter.
 #[derive(Drop)]
 pub struct Ctr32<B> {
     cipher: B,
@@ -16,7 +16,7 @@ pub struct Ctr32<B> {
 impl<B: Block> Ctr32<B> {
     ghost use Rattle.modes.specs.Views.{HoldsCtr};
 
-    /// No octet was fed yet.
+    /// Counter mode that was fed nothing yet.
     pub fn start(cipher: B, first: &[u8; 16]) -> Ctr32<B>
         ensures { HoldsCtr B.encrypted result (B.encrypted cipher) first.now [] }
     {
@@ -26,8 +26,8 @@ impl<B: Block> Ctr32<B> {
         }
     }
 
-    /// Takes the next piece, of at most 4,096 octets. Writes as many octets of the result to the front of `out`, and
-    /// answers their number.
+    /// Feeds the next piece, of at most `PIECE` octets. Writes as many octets of the result to the front of `out` and
+    /// returns their number.
     pub fn feed(&mut self, piece: &[u8], out: &mut [u8; SEALED_PIECE]) -> usize
         requires { length piece.now ≤ PIECE }
         ensures len { result ≡ length piece.now }
@@ -46,7 +46,7 @@ impl<B: Block> Ctr32<B> {
     pub fn finish(self) {}
 }
 
-/// The key stream behind a text: the next counter block, and the last sixteen blocks of the stream with how many of their
+/// The key stream after a text: the next counter block, the last sixteen blocks of the stream, and how many of their
 /// octets are used.
 #[derive(Drop)]
 pub(crate) struct KeyStream {
@@ -59,7 +59,7 @@ pub(crate) struct KeyStream {
 impl KeyStream {
     ghost use Rattle.modes.specs.Views.{HoldsKeyStream};
 
-    /// Behind no text.
+    /// The key stream before any text.
     pub(crate) fn start(first: &[u8; 16]) -> KeyStream
         ensures { (e : List ℕ → List ℕ) → HoldsKeyStream result e first.now [] }
     {
@@ -72,7 +72,7 @@ impl KeyStream {
         }
     }
 
-    /// Adds the next octets of the stream to these, in their place.
+    /// Xors the next octets of the stream into these.
     pub(crate) fn apply<B: Block>(&mut self, cipher: &B, octets: &mut [u8])
         ensures fed { (f p : List ℕ) → HoldsKeyStream self.old (B.encrypted cipher.now) f p
             → HoldsKeyStream self.new (B.encrypted cipher.now) f (p ++ octets.old) }
@@ -85,7 +85,7 @@ impl KeyStream {
         }
     }
 
-    /// Adds what is left of the blocks of the stream to the front of the octets, and answers to how many.
+    /// Xors the unused octets of the blocks into the front of the octets and returns how many.
     fn apply_front<B: Block>(&mut self, cipher: &B, octets: &mut [u8]) -> usize
         requires { 0 < length octets.old }
         ensures some { (0 < result) × (result ≤ length octets.old) }
@@ -103,7 +103,7 @@ impl KeyStream {
         n
     }
 
-    /// Sees that an octet of the stream is left: where all are used, makes the blocks for so many octets, or sixteen.
+    /// Makes sure that an unused octet is there: if all are used, makes the blocks for `len` octets, at most sixteen.
     fn prepare<B: Block>(&mut self, cipher: &B, len: usize)
         requires { 0 < len }
         ensures left { self.new.used < 256 }

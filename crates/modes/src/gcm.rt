@@ -1,5 +1,5 @@
-//! GCM, of a text that comes in pieces, and its opening in place (SP 800-38D, sections 7.1 and 7.2). The steps are those
-//! of section 7.1: H and J0, the ciphertext from the counter block after J0, S, and the tag.
+//! GCM of a text that comes in pieces, and its opening in place (SP 800-38D sections 7.1 and 7.2). The steps are those of
+//! section 7.1: H and J0, the ciphertext from the counter block after J0, S, and the tag.
 ghost use Rattle.std.specs.Prelude.{◌≡◌, ◌↔◌, ℕ, ◌*◌, ◌%◌, ◌^◌, ◌<◌, ◌≤◌, List, [], ◌∷◌, ◌++◌, length, take, IfOk, IfErr, IsErr, OnOk, OnErr, IfSome, IfNone};
 ghost use Rattle.modes.specs.Gcm.{hash_subkey, pre_counter_block, gcm_ciphertext, gcm_tag, longest, IsGcmOpening};
 ghost use Rattle.modes.specs.Ghash.{zero_filled, ghash};
@@ -15,7 +15,7 @@ use octets::{PIECE, Refusal, SEALED_PIECE, same_octets, xor_into};
 /// The length of the longest plaintext in octets (section 5.2.1.1).
 const LONGEST: u64 = (1 << 36) - 32;
 
-/// An encryption whose plaintext comes in pieces.
+/// An encryption by GCM whose plaintext comes in pieces.
 #[derive(Drop)]
 pub struct Gcm<B> {
     ctr: Ctr32<B>,
@@ -26,7 +26,7 @@ pub struct Gcm<B> {
 }
 
 impl<B: Block> Gcm<B> {
-    /// No octet of the plaintext was fed yet.
+    /// An encryption that was fed nothing of the plaintext yet.
     pub fn start(cipher: B, iv: &[u8; 12], aad: &[u8]) -> Gcm<B>
         ensures { HoldsGcm B.encrypted result (B.encrypted cipher) iv.now aad.now [] }
     {
@@ -41,8 +41,8 @@ impl<B: Block> Gcm<B> {
         }
     }
 
-    /// Takes the next piece, of at most 4,096 octets. Writes as many octets of the ciphertext to the front of `out`, and
-    /// answers their number; `Limit`, and nothing is taken, where the plaintext would be longer than 2^36 - 32 octets.
+    /// Feeds the next piece, of at most `PIECE` octets. Writes as many octets of the ciphertext to the front of `out` and
+    /// returns their number. Refuses with `Limit`, and takes nothing, if the plaintext would be longer than 2^36 - 32 octets.
     pub fn feed(&mut self, piece: &[u8], out: &mut [u8; SEALED_PIECE]) -> Result<usize, Refusal>
         requires { length piece.now ≤ PIECE }
         ensures len { IfOk result (λ n. n ≡ length piece.now) }
@@ -82,8 +82,8 @@ impl<B: Block> Gcm<B> {
     }
 }
 
-/// Opens the ciphertext in `buf` to the plaintext, and answers that one's length, which is the same. Answers `None`, and
-/// leaves `buf` as it was, where no plaintext has this ciphertext and tag.
+/// Opens the ciphertext in `buf` to the plaintext and returns the length of the plaintext, which is the same. Returns
+/// `None`, with `buf` unchanged, if no plaintext has this ciphertext and tag (section 7.2).
 pub fn gcm_open<B: Block>(
     cipher: &B,
     iv: &[u8; 12],
@@ -115,7 +115,7 @@ pub fn gcm_open<B: Block>(
     Some(buf.len())
 }
 
-/// The counter block of the IV and this number: J0 has 1, and the ciphertext is made from 2 on (step 2).
+/// The counter block of the IV and this number. J0 has 1, and the ciphertext starts with 2 (steps 2 and 3).
 fn counter_block(iv: &[u8; 12], number: u8) -> [u8; 16]
     ensures { result ≡ iv.now ++ 0 ∷ 0 ∷ 0 ∷ number ∷ [] }
 {
@@ -125,7 +125,7 @@ fn counter_block(iv: &[u8; 12], number: u8) -> [u8; 16]
     block
 }
 
-/// The number of bits of so many octets, in eight octets.
+/// The number of bits of `len` octets, as eight octets.
 fn bit_length(len: u64) -> [u8; 8]
     ensures { result ≡ to_be_bytes w64 (len * 8 % 2 ^ 64) }
 {
@@ -142,14 +142,14 @@ fn aad_hash<B: Block>(cipher: &B, aad: &[u8]) -> Ghash
     hash
 }
 
-/// The cipher of J0, to which S is added (step 6).
+/// The encryption of J0, to which S is added (step 6).
 fn tag_mask<B: Block>(cipher: &B, iv: &[u8; 12]) -> [u8; 16]
     ensures { result ≡ B.encrypted cipher.now (pre_counter_block iv.now) }
 {
     cipher.encrypt(&counter_block(iv, 1))
 }
 
-/// The tag: S, which is the hash so far with both lengths behind it, and the mask (steps 5 and 6).
+/// The tag: the sum of the mask and S, which is the hash so far with both lengths after it (steps 5 and 6).
 fn tag_of(
     mut hash: Ghash,
     aad_bits: &[u8; 8],

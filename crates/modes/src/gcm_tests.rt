@@ -1,4 +1,4 @@
-//! GCM: test cases of its specification (McGrew and Viega), texts that are cut, and what does not open.
+//! GCM: test cases of its specification (McGrew and Viega), texts that are cut, and texts that do not open.
 ghost use Rattle.std.specs.Prelude.{◌<◌};
 
 use crate::tests::{expect_octets, expect_same};
@@ -16,7 +16,7 @@ const AAD: &[u8; 20] =
 const PLAINTEXT: &[u8; 60] =
     b"\xd9\x31\x32\x25\xf8\x84\x06\xe5\xa5\x59\x09\xc5\xaf\xf5\x26\x9a\x86\xa7\xa9\x53\x15\x34\xf7\xda\x2e\x4c\x30\x3d\x8a\x31\x8a\x72\x1c\x3c\x0c\x95\x95\x68\x09\x53\x2f\xcf\x0e\x24\x49\xa6\xb5\x25\xb1\x6a\xed\xf5\xaa\x0d\xe6\x57\xba\x63\x7b\x39";
 
-// The GCM ciphertext of the text in pieces of so many octets and an empty one, and the tag.
+// The GCM ciphertext and tag of the text in pieces of `step` octets and an empty one.
 pub(crate) fn gcm<B: Block>(
     rt: &impl Abort,
     alloc: Global,
@@ -40,7 +40,7 @@ pub(crate) fn gcm<B: Block>(
     Ok((all, gcm.finish()))
 }
 
-// What opening answers, and what then stands in the place of the text.
+// The result of opening, and the buffer after it.
 fn expect_opening<B: Block>(
     rt: &impl Abort,
     cipher: &B,
@@ -56,7 +56,7 @@ fn expect_opening<B: Block>(
     expect_octets(rt, text, left);
 }
 
-// The plaintext becomes the ciphertext and the tag, and comes back. With another tag the ciphertext stays.
+// The plaintext encrypts to the ciphertext and the tag, which open to it. With another tag the ciphertext stays.
 fn expect_both_ways<B: Block>(
     rt: &impl Abort,
     alloc: Global,
@@ -172,7 +172,7 @@ fn a_cut_changes_nothing(rt: HostRuntime) -> Result<(), Fail> {
     Ok(())
 }
 
-// The GCM ciphertext and the tag of 50 octets that are cut into two pieces after so many.
+// The GCM ciphertext and the tag of 50 octets in two pieces, cut at `cut`.
 fn gcm_in_two(rt: &impl Abort, alloc: Global, cut: usize) -> Result<(Vec<u8>, [u8; 16]), AllocError>
     requires { cut < 51 }
 {

@@ -1,4 +1,4 @@
-//! GHASH of a text that comes in pieces (SP 800-38D, sections 6.3 and 6.4).
+//! GHASH of a text that comes in pieces (SP 800-38D sections 6.3 and 6.4).
 ghost use Rattle.std.specs.Prelude.{◌≡◌, ℕ, ◌+◌, ◌%◌, ◌<◌, List, [], ◌∷◌, ◌++◌, length, take};
 ghost use Rattle.modes.specs.Ghash.{ghash_number, numbers, zero_filled, ghash};
 
@@ -6,7 +6,7 @@ use crate::hash_subkey::HashSubkey;
 use crate::partial_block::PartialBlock;
 use aes::laws::polynomial_laws;
 
-/// A sum whose blocks come in pieces.
+/// A hash whose text comes in pieces.
 #[derive(Drop)]
 pub struct Ghash {
     subkey: HashSubkey,
@@ -17,7 +17,7 @@ pub struct Ghash {
 impl Ghash {
     ghost use Rattle.modes.specs.Views.{HoldsGhash};
 
-    /// No octet was fed yet.
+    /// A hash under `h` that was fed nothing yet.
     pub fn start(h: &[u8; 16]) -> Ghash
         ensures { HoldsGhash result h.now [] }
     {
@@ -28,7 +28,7 @@ impl Ghash {
         }
     }
 
-    /// Takes the next piece.
+    /// Feeds the next piece.
     pub fn feed(&mut self, octets: &[u8])
         ensures { (h x : List ℕ) → HoldsGhash self.old h x → HoldsGhash self.new h (x ++ octets.now) }
     {
@@ -56,7 +56,7 @@ impl Ghash {
         }
     }
 
-    /// The sum of the blocks, the last of which is filled with zero octets.
+    /// The hash of the blocks, the last of which is filled with zero octets.
     pub fn finish(mut self) -> [u8; 16]
         ensures { (h x : List ℕ) → HoldsGhash self h x → result ≡ ghash h (zero_filled x) }
     {

@@ -1,12 +1,12 @@
-//! The product of a block and the hash subkey, four bits a look-up (SP 800-38D, section 6.3).
+//! The product of a block and the hash subkey, with four bits for each look-up (SP 800-38D section 6.3).
 ghost use Rattle.std.specs.Prelude.{◌≡◌, ℕ, ◌*◌, ◌%◌, ◌^◌, ◌<◌, slice_index};
 ghost use Rattle.modes.specs.Ghash.{block_product, shifted};
 
 use crate::unreduced::Unreduced;
 use aes::laws::polynomial_laws;
 
-/// The hash subkey H, with its products by the sixteen polynomials of degree below 4: multiple n is that by the block
-/// whose first four bits are n, and whose others are 0.
+/// The hash subkey H, with its products by the sixteen polynomials of degree below 4. Multiple n is the product by the
+/// block whose first four bits are n and whose other bits are 0.
 #[derive(Drop)]
 pub(crate) struct HashSubkey {
     h: u128,
@@ -45,8 +45,8 @@ impl HashSubkey {
         HashSubkey { h, multiples }
     }
 
-    /// The product of the block and H by Horner's rule, over both halves of the block at once: its groups of four bits with
-    /// an even number are one chain, and those with an odd number, which is four bits on, another. Both are reduced once.
+    /// The product of the block and H, by Horner's rule over both halves of the block at once. Its groups of four bits with
+    /// even numbers are one chain, and those with odd numbers, four bits further on, another. Their sum is reduced once.
     pub(crate) fn times(&self, block: u128) -> u128
         ensures { result ≡ block_product block self.now.h }
     {
@@ -64,7 +64,7 @@ impl HashSubkey {
         even.plus(odd.shifted_right(4)).reduced()
     }
 
-    /// The product of H and the block whose first four bits are the last of these, and whose others are 0.
+    /// The product of H and the block whose first four bits are the last four of `bits` and whose other bits are 0.
     fn multiple(&self, bits: u64) -> u128
         ensures { result ≡ block_product (bits % 16 * 2 ^ 124) self.now.h }
     {

@@ -9,7 +9,7 @@ const IV: [u8; 16] = [9; 16];
 
 const GCM_IV: [u8; 12] = [9; 12];
 
-// Octets of which few follow another as they do elsewhere.
+// Octets in which few pairs of neighbours repeat.
 fn content(alloc: Global) -> Result<Vec<u8>, AllocError> {
     let mut octets = Vec::new(alloc);
     for i in 0..70_001_u32 {

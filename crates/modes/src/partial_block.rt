@@ -3,7 +3,7 @@ ghost use Rattle.std.specs.Prelude.{◌≡◌, ◌+◌, ◌<◌, [], ◌++◌, l
 
 use std::marker::Model;
 
-/// Fewer than sixteen octets of a block. It is seen as these octets.
+/// Fewer than sixteen octets of a block. Contracts see these octets.
 #[derive(Drop)]
 pub(crate) struct PartialBlock {
     octets: [u8; 16],
@@ -21,7 +21,7 @@ impl Model for PartialBlock {
 }
 
 impl PartialBlock {
-    /// No octet.
+    /// A block without octets.
     pub(crate) fn new() -> PartialBlock
         ensures { result ≡ [] }
     {
@@ -39,7 +39,7 @@ impl PartialBlock {
         16 - self.len
     }
 
-    /// Takes octets that do not fill the block.
+    /// Adds octets that do not fill the block.
     pub(crate) fn push(&mut self, octets: &[u8])
         requires { length self.old + length octets.now < 16 }
         ensures { self.new ≡ self.old ++ octets.now }
@@ -49,7 +49,7 @@ impl PartialBlock {
         self.len = end;
     }
 
-    /// The block that these octets fill. No octet is left.
+    /// The block, which these octets fill. No octet is left.
     pub(crate) fn complete(&mut self, octets: &[u8]) -> [u8; 16]
         requires { length self.old + length octets.now ≡ 16 }
         ensures block { result ≡ self.old ++ octets.now }

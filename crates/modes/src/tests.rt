@@ -10,7 +10,7 @@ use std::fmt::Debug;
 use std::process::Abort;
 use std::test::Fail;
 
-// A cipher of no worth: octet i of a block's text is octet i + 1 modulo 16 of the block, plus 1.
+// An insecure cipher: octet i of a block's text is octet i + 1 modulo 16 of the block, xor 1.
 #[derive(Drop)]
 pub(crate) struct Toy {
     ghost is_cipher: { IsCipher (turned 1) (turned 15) },
@@ -38,7 +38,7 @@ impl Block for Toy {
     ghost is_cipher = { λ k. k.is_cipher };
 }
 
-// Each octet is the one n places further on, plus 1.
+// Each octet is the one n places further on, xor 1.
 fn turn(b: &[u8; 16], n: usize) -> [u8; 16]
     requires { n < 16 }
     ensures { result ≡ turned n b.now }
@@ -65,7 +65,7 @@ pub(crate) fn expect_octets(rt: &impl Abort, found: &[u8], wanted: &[u8]) {
     assert_eq!(rt; *found, *wanted);
 }
 
-// The two are the same; where they are not, the message says at what. An `assert_eq!` at each place would be proved anew.
+// The two are the same. If not, the message says at what. An `assert_eq!` at each place would be proved each time.
 pub(crate) fn expect_same<T: PartialEq + Debug + Drop, N: Debug + Drop>(
     rt: &impl Abort,
     found: T,
@@ -75,7 +75,7 @@ pub(crate) fn expect_same<T: PartialEq + Debug + Drop, N: Debug + Drop>(
     assert_eq!(rt; found, wanted, "at {at:?}");
 }
 
-// The CBC ciphertext of the text in pieces of so many octets and an empty one.
+// The CBC ciphertext of the text in pieces of `step` octets and an empty one.
 pub(crate) fn cbc<B: Block>(
     rt: &impl Abort,
     alloc: Global,
@@ -101,7 +101,7 @@ pub(crate) fn cbc<B: Block>(
     Ok(all)
 }
 
-// The text in counter mode, in pieces of so many octets and an empty one.
+// The text in counter mode, in pieces of `step` octets and an empty one.
 pub(crate) fn ctr<B: Block>(
     rt: &impl Abort,
     alloc: Global,
@@ -125,7 +125,7 @@ pub(crate) fn ctr<B: Block>(
     Ok(all)
 }
 
-// The sum of the text in pieces of so many octets.
+// The hash of the text in pieces of `step` octets.
 pub(crate) fn ghash(rt: &impl Abort, h: &[u8; 16], text: &[u8], step: usize) -> [u8; 16] {
     assert!(rt; step > 0);
     let mut ghash = Ghash::start(h);
@@ -148,7 +148,7 @@ fn a_toy_cipher_encrypts(rt: HostRuntime) -> Result<(), Fail> {
     Ok(())
 }
 
-// What opening answers, and what then begins the place of the text.
+// The result of opening, and the front of the buffer after it.
 fn expect_opening(rt: &impl Abort, text: &[u8; 16], answer: Option<usize>, front: &[u8]) {
     let mut place = *text;
     let opened = cbc_open(&Toy::new(), &ZERO, &mut place);
@@ -327,7 +327,7 @@ fn sp800_38a_appendix_f5_1(rt: HostRuntime) -> Result<(), Fail> {
     Ok(())
 }
 
-// The CBC ciphertext of 50 octets that are cut into two pieces after so many.
+// The CBC ciphertext of 50 octets in two pieces, cut at `cut`.
 fn cbc_in_two(alloc: Global, cut: usize) -> Result<Vec<u8>, AllocError>
     requires { cut < 51 }
 {
@@ -359,7 +359,7 @@ fn ctr_in_two(alloc: Global, cut: usize) -> Result<Vec<u8>, AllocError>
     Ok(all)
 }
 
-// Their sum, cut so.
+// Their hash, cut so.
 fn ghash_in_two(cut: usize) -> [u8; 16]
     requires { cut < 51 }
 {
