@@ -18,7 +18,7 @@ pub enum HashAlg {
     S512,
 }
 
-/// Writes the digest of the octets to the front of `out`, answers its length, and leaves the rest of `out` as it was.
+/// Writes the digest of the octets to the front of `out` and returns its length. The rest of `out` is unchanged.
 pub fn digest(hash: HashAlg, octets: &[u8], out: &mut [u8; 64]) -> usize
     ensures digest { take result out.new ≡ digest_of hash octets.now }
     ensures len { result ≡ digest_len hash }

@@ -8,8 +8,8 @@ const INNER_PAD: u8 = 0x36;
 
 const OUTER_PAD: u8 = 0x5c;
 
-/// A message authentication code whose text comes in pieces: the inner hash, of the key and the
-/// text so far, and the outer hash, of the key.
+/// An HMAC whose text comes in pieces: the inner hash, of the key and the text so far, and the outer
+/// hash, of the key.
 #[derive(Drop)]
 pub struct Hmac<H: Hash> {
     inner: H,
@@ -19,7 +19,7 @@ pub struct Hmac<H: Hash> {
 impl<H: Hash> Hmac<H> {
     ghost use Rattle.prf.specs.Views.{HoldsHmac};
 
-    /// The code of the empty text, under a key of any length. The standards ask for a key at least
+    /// The HMAC of the empty text, under a key of any length. The standards ask for a key at least
     /// as long as the digest.
     pub fn new(key: &[u8]) -> Hmac<H>
         ensures { HoldsHmac H.function H.holds result key.now [] }
@@ -32,7 +32,7 @@ impl<H: Hash> Hmac<H> {
         }
     }
 
-    /// Takes the next piece of the text.
+    /// Feeds the next piece of the text.
     pub fn update(&mut self, piece: &[u8])
         ensures { (key text : List ℕ) → HoldsHmac H.function H.holds self.old key text
             → HoldsHmac H.function H.holds self.new key (text ++ piece.now) }
@@ -40,7 +40,7 @@ impl<H: Hash> Hmac<H> {
         self.inner.update(piece);
     }
 
-    /// A copy of the state, which spares a second text under the key the work on that one.
+    /// A copy of the state, which saves the work on the key for another text.
     pub fn fork(&self) -> Hmac<H>
         ensures { (key text : List ℕ) → HoldsHmac H.function H.holds self.now key text
             → HoldsHmac H.function H.holds result key text }
@@ -51,8 +51,8 @@ impl<H: Hash> Hmac<H> {
         }
     }
 
-    /// Writes the code of the text to the front of `out`, answers its length, which is the hash's,
-    /// and leaves the rest of `out` as it was.
+    /// Writes the HMAC of the text to the front of `out` and returns its length, which is that of the
+    /// hash. The rest of `out` is unchanged.
     pub fn finish(self, out: &mut [u8; 64]) -> usize
         ensures code { (key text : List ℕ) → HoldsHmac H.function H.holds self key text
             → take result out.new ≡ hmac H.function key text }
@@ -66,7 +66,7 @@ impl<H: Hash> Hmac<H> {
     }
 }
 
-/// Writes the key, or its hash where it is longer than a block, to the front of zero octets.
+/// Writes the key, or its hash if it is longer than a block, to the front of a block of zero octets.
 fn put_key<H: Hash>(key: &[u8], block: &mut [u8; 128])
     requires { block.old ≡ replicate 128 0 }
     ensures { take H.function.block_len block.new ≡ key_block H.function key.now }
@@ -82,7 +82,7 @@ fn put_key<H: Hash>(key: &[u8], block: &mut [u8; 128])
     }
 }
 
-/// The state that has taken the key's block with each octet xor the pad's.
+/// The state that was fed the key's block, each octet xor that of the pad.
 fn padded_state<H: Hash>(block: &[u8; 128], pad: u8) -> H
     ensures { H.holds result (xor_each pad (take H.function.block_len block.now)) }
 {
@@ -93,7 +93,7 @@ fn padded_state<H: Hash>(block: &[u8; 128], pad: u8) -> H
     state
 }
 
-/// Changes each octet to it xor the pad's.
+/// Xors the octet of the pad into each octet.
 fn xor_with(block: &mut [u8; 128], pad: u8)
     ensures { block.new ≡ xor_each pad block.old }
 {
@@ -102,7 +102,7 @@ fn xor_with(block: &mut [u8; 128], pad: u8)
     }
 }
 
-/// Puts the octets at the front of a block.
+/// Copies the octets to the front of a block.
 fn put_front(octets: &[u8], block: &mut [u8; 128])
     requires { length octets.now ≤ 128 }
     ensures { block.new ≡ octets.now ++ drop (length octets.now) block.old }

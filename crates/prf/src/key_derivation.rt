@@ -8,8 +8,8 @@ use crate::hash::Hash;
 use crate::hmac::Hmac;
 use octets::xor_into;
 
-/// PBKDF2 with HMAC. Fills `out`, of at most 64 octets, with a key derived from the password, the salt, which is both
-/// parts together, and the count of iterations. Answers the number of HMAC calls, which is what the work is counted in.
+/// PBKDF2 with HMAC. Fills `out`, of at most 64 octets, with the key derived by `count` iterations from the password and
+/// the salt, which is both parts joined. Returns the number of HMAC calls.
 pub fn pbkdf2<H: Hash>(password: &[u8], salt: [&[u8]; 2], count: u32, out: &mut [u8]) -> u64
     requires iterated { 1 ≤ count }
     requires fits { length out.old ≤ 64 }
@@ -28,7 +28,7 @@ pub fn pbkdf2<H: Hash>(password: &[u8], salt: [&[u8]; 2], count: u32, out: &mut 
     u64::from(count) * block_count as u64
 }
 
-/// Writes the sum of the first `count` iterates of block `i`, which is as long as a digest.
+/// Writes block `i`, which is the sum of its first `count` iterates and as long as a digest.
 fn derive_block<H: Hash>(keyed: &Hmac<H>, salt: [&[u8]; 2], count: u32, i: u32, block: &mut [u8])
     requires iterated { 1 ≤ count }
     requires fits { length block.old ≡ H.function.output_len }

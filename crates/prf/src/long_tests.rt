@@ -1,11 +1,11 @@
-//! A content of 70,001 octets, in one piece and in many. The expected values are another program's (Python's hashlib).
+//! A content of 70,001 octets, in one piece and in many. The expected values are those of another program, Python's hashlib.
 use crate::tests::{expect_end, expect_front};
 use crate::{Hash, HashAlg, Hmac, Sha256, Sha384, Sha512, digest};
 use std::alloc::{AllocError, Global};
 use std::process::Abort;
 use std::test::Fail;
 
-/// Octets of which few follow another as they do elsewhere.
+/// Octets in which few pairs of neighbours repeat.
 fn content(alloc: Global) -> Result<Vec<u8>, AllocError> {
     let mut octets = Vec::new(alloc);
     for i in 0..70_001_u32 {
@@ -44,7 +44,7 @@ fn digests_of_a_long_content(rt: HostRuntime) -> Result<(), Fail> {
     Ok(())
 }
 
-/// The code of the content under the key of RFC 4231's case 2, in pieces of so many octets.
+/// The HMAC of the content under the key of RFC 4231's case 2, in pieces of `step` octets.
 fn expect_code_in_steps<H: Hash>(rt: &impl Abort, content: &[u8], step: usize, code: &[u8]) {
     assert!(rt; step > 0);
     let mut mac = Hmac::<H>::new(b"Jefe");
@@ -54,7 +54,7 @@ fn expect_code_in_steps<H: Hash>(rt: &impl Abort, content: &[u8], step: usize, c
     expect_end(rt, mac, code);
 }
 
-/// The same code in one piece and in many.
+/// The same HMAC in one piece and in many.
 fn expect_code<H: Hash>(rt: &impl Abort, content: &[u8], code: &[u8]) {
     expect_code_in_steps::<H>(rt, content, 70_001, code);
     expect_code_in_steps::<H>(rt, content, 4_096, code);

@@ -1,4 +1,4 @@
-//! PBKDF2 beside another program's: 100 cases of each hash, by Python's `hashlib.pbkdf2_hmac`.
+//! PBKDF2 compared with another program's: 100 cases of each hash, by Python's `hashlib.pbkdf2_hmac`.
 use crate::tests::expect_front;
 use crate::{Hash, Sha256, Sha384, Sha512, pbkdf2};
 use octets::{Refusal, b64_decode};
@@ -17,8 +17,8 @@ fn all_octets() -> [u8; 256] {
     octets
 }
 
-/// Cases, each in base64url: five octets, which are where the password begins in all octets and its length, where the salt begins
-/// and its length, and the count; and the key. One text is proved much sooner than a list.
+/// Cases, each in base64url: five octets and the key. The octets are the start and the length of the password in all octets, the
+/// start and the length of the salt, and the count. One text is proved much sooner than a list.
 const SHA_256: &str = "\
     EQDLAAH3zgtlPS1ypBCM9avpEv_dd3YW27snpw6CBPOuLQ9vrYn2j0gR0eh7zDvXQAqf_SkJTwGEY5V085rloTFSF7zX \
     bgGRCAKf \
@@ -325,13 +325,13 @@ const SHA_512: &str = "\
     JpMiPBGZah43nOthZqsMR_dJli-40TTDjZATVA \
     V6aqNRWrFIeWUhhIlx7o";
 
-/// So many of the octets from there on.
+/// `len` of the octets, from `start` on.
 fn part<'o>(rt: &impl Abort, octets: &'o [u8], start: u8, len: u8) -> &'o [u8] {
     let (start, len) = (usize::from(start), usize::from(len));
     octets.get(start..start + len).expect(rt, "as many octets")
 }
 
-/// The key of the case.
+/// The case has its key.
 fn expect_case<H: Hash>(rt: &impl Abort, octets: &[u8], case: &[u8]) {
     let (&[start, len, salt_start, salt_len, count], key) = case
         .split_first_chunk::<5>()
@@ -349,7 +349,7 @@ fn expect_case<H: Hash>(rt: &impl Abort, octets: &[u8], case: &[u8]) {
     expect_front(rt, &out, key.len(), key);
 }
 
-/// The keys of the cases.
+/// The cases have their keys.
 fn expect_cases<H: Hash>(rt: &impl Abort, alloc: Global, cases: &str) -> Result<(), Refusal> {
     let octets = all_octets();
     for case in cases.split(' ') {

@@ -1,23 +1,23 @@
-//! Outside vectors.
+//! Vectors from outside.
 ghost use Rattle.std.specs.Prelude.{◌≤◌, length};
 
 use crate::{Hash, HashAlg, Hmac, Sha256, Sha384, Sha512, digest, pbkdf2};
 use std::process::Abort;
 
-/// The octets begin with so many that are these.
+/// The first `len` octets are these.
 pub(crate) fn expect_front(rt: &impl Abort, octets: &[u8; 64], len: usize, wanted: &[u8]) {
     assert!(rt; len <= 64);
     assert_eq!(rt; octets[..len], *wanted);
 }
 
-/// The code of what was taken is this one.
+/// The HMAC of what was fed is this one.
 pub(crate) fn expect_end<H: Hash>(rt: &impl Abort, mac: Hmac<H>, code: &[u8]) {
     let mut out = [0u8; 64];
     let len = mac.finish(&mut out);
     expect_front(rt, &out, len, code);
 }
 
-/// The code of both pieces together is this one.
+/// The HMAC of both pieces joined is this one.
 fn expect_code_of_two<H: Hash>(
     rt: &impl Abort,
     key: &[u8],
@@ -31,7 +31,7 @@ fn expect_code_of_two<H: Hash>(
     expect_end(rt, mac, code);
 }
 
-/// The code of the text, whole and in two pieces, is this one.
+/// The HMAC of the text, whole and in two pieces, is this one.
 fn expect_code<H: Hash>(rt: &impl Abort, key: &[u8], text: &[u8], code: &[u8]) {
     expect_code_of_two::<H>(rt, key, text, b"", code);
     let (first, second) = text.split_at(text.len() / 3);
@@ -57,7 +57,7 @@ const CASES: [(&[u8], &[u8]); 6] = [
     ),
 ];
 
-/// The cases have these codes.
+/// The cases have these HMACs.
 fn expect_codes<H: Hash>(rt: &impl Abort, codes: [&[u8]; 6]) {
     for i in 0..6_usize {
         let (key, text) = CASES[i];
@@ -161,7 +161,7 @@ fn fips_180_4_digests(rt: HostRuntime) {
     }
 }
 
-/// The key of this password and salt in two parts, and how many HMAC calls it takes.
+/// The key of the password and a salt in two parts, and how many HMAC calls it needs.
 fn expect_key_of_two<H: Hash>(rt: &impl Abort, salt: [&[u8]; 2], count: u32, key: &[u8], calls: u64)
     requires iterated { 1 ≤ count }
     requires fits { length key.now ≤ 64 }
@@ -172,7 +172,7 @@ fn expect_key_of_two<H: Hash>(rt: &impl Abort, salt: [&[u8]; 2], count: u32, key
     expect_front(rt, &out, key.len(), key);
 }
 
-/// The same key however the salt is cut in two, where that does not take long.
+/// The same key wherever the salt is cut in two, with more cuts if the count is small.
 fn expect_key<H: Hash>(rt: &impl Abort, count: u32, key: &[u8], calls: u64)
     requires iterated { 1 ≤ count }
     requires fits { length key.now ≤ 64 }
