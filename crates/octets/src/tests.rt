@@ -81,7 +81,7 @@ fn a_text_is_appended(rt: HostRuntime) -> Result<(), Fail> {
     Ok(())
 }
 
-/// The characters of the values 0 to 63 in order (RFC 4648, table 2).
+/// The characters of the values 0 to 63 in order (RFC 4648 table 2).
 #[test]
 fn the_alphabet_is_url_safe(rt: HostRuntime) -> Result<(), Fail> {
     let text = b"ABCDEFGHIJKLMNOPQRSTUVWXYZabcdefghijklmnopqrstuvwxyz0123456789-_";
