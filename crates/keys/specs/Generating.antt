@@ -1,4 +1,4 @@
--- Making keys: a template's members, and random octets (this profile's own rules).
+-- Making keys from the members of a template and random octets (this profile's own rules).
 use Rattle.std.specs.Prelude.{ℕ, ◌&&◌, Bool, true, List, [], ◌∷◌, length, take, codes, nat_le, is_some, is_none, if◌then◌else◌, Option, Some, None, option_and_then, Result, Ok, Err}
 use Rattle.std.specs.Ordering.{nat_cmp, match_ordering}
 use Rattle.std.specs.Str.{bytes_eq}
@@ -19,7 +19,7 @@ use Rattle.keys.specs.Operations.{operation_name}
 
 -- ---- the template (docs/SPECIFICATION.md "Making keys")
 
--- members of another key, or of a set
+-- the members are not those of a key or a set
 abbrev pub is_fresh : Members → Bool
 is_fresh members = is_none (get_member (codes "k") members) && is_none (get_member (codes "keys") members)
 
@@ -39,7 +39,7 @@ abbrev pub len_if_there : Option Data → Result (Option ℕ) Refusal
 len_if_there None = Ok None
 len_if_there (Some value) = positive (option_and_then as_u64 (as_number value))
 
--- the members of a template, typed as those of a key, and the length that it asks for
+-- the algorithm and the length that a template asks for; its members are typed as those of a key
 pub record KeyTemplate : Type 0 where
   pub alg : Option (List ℕ)
   pub bytes : Option ℕ
@@ -56,7 +56,7 @@ key_template value members = do
   bytes ← len_if_there (get_member (codes "bytes") members)
   Ok (record { alg = alg; bytes = bytes })
 
--- ---- how long the key is (docs/SPECIFICATION.md "Making keys" 1 to 3)
+-- ---- the length of the key (docs/SPECIFICATION.md "Making keys" 1 to 3)
 
 abbrev pub is_within_limit : Limits → Option ℕ → Bool
 is_within_limit limits None = true
@@ -66,7 +66,7 @@ abbrev pub some_alg : Option NamedAlg → Result (Option NamedAlg) Refusal
 some_alg None = Err Unsupported
 some_alg (Some alg) = Ok (Some alg)
 
--- the algorithm that `alg` names, where it is there
+-- the algorithm that `alg` names, if it is there
 abbrev pub alg_if_there : Option (List ℕ) → Result (Option NamedAlg) Refusal
 alg_if_there None = Ok None
 alg_if_there (Some name) = some_alg (named_alg_of name)
@@ -88,7 +88,7 @@ len_if_taken alg (Some n) = if takes_len alg n then Ok n else Err KeyDoesNotFit
 unfoldable pub fitting_len : Option NamedAlg → Option ℕ → Result ℕ Refusal
 fitting_len alg bytes = len_if_taken alg (asked_len bytes alg)
 
--- ---- its members beside `k` (docs/SPECIFICATION.md "Making keys")
+-- ---- its members except `k` (docs/SPECIFICATION.md "Making keys")
 
 -- the members without the one of this name
 abbrev pub without : List ℕ → Members → Members
@@ -103,7 +103,7 @@ string_items (text ∷ texts) = item (string text) (string_items texts)
 abbrev pub key_ops_of : NamedAlg → List (List ℕ)
 key_ops_of alg = operation_name (operations alg).0 ∷ operation_name (operations alg).1 ∷ []
 
--- the operations of the algorithm, where the template does not say them, nor a `use`
+-- with the operations of the algorithm, if the template has neither `key_ops` nor `use`
 abbrev pub with_operations : Option NamedAlg → Members → Members
 with_operations None members = members
 with_operations (Some alg) members =
@@ -116,12 +116,12 @@ completed alg members = put (codes "kty") (string (codes "oct")) (with_operation
 
 -- ---- the key (docs/SPECIFICATION.md "Making keys")
 
--- its length, and its members beside `k`
+-- its length, and its members except `k`
 pub record MadeKey : Type 0 where
   pub len : ℕ
   pub members : Members
 
--- what the members of a template make
+-- the key that the members of a template ask for
 unfoldable pub made_of : Limits → Data → Members → Result MadeKey Refusal
 made_of limits value members = do
   template ← key_template value members
@@ -135,7 +135,7 @@ abbrev pub made_if_object : Limits → Data → Option Members → Result MadeKe
 made_if_object limits value None = Err Key
 made_if_object limits value (Some members) = made_of limits value members
 
--- what a template's text makes
+-- the key that the text of a template asks for
 unfoldable pub made_key : Limits → List ℕ → Result MadeKey Refusal
 made_key limits text = do
   value ← json_value text
@@ -145,7 +145,7 @@ made_key limits text = do
 abbrev pub key_text : MadeKey → List ℕ → List ℕ
 key_text made octets = compact_text (object (put (codes "k") (string (base64url octets)) made.members))
 
--- the key's text, of the first octets of a random input
+-- the key's text, with the first octets of a random input
 unfoldable pub gen_answer : Limits → List ℕ → List ℕ → Result (List ℕ) Refusal
 gen_answer limits template random = do
   made ← made_key limits template

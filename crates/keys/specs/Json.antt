@@ -13,7 +13,7 @@ use Rattle.keys.specs.Texts.{is_among}
 
 -- ---- reading (docs/SPECIFICATION.md "Octets and texts")
 
--- what UTF-8 octets read as (RFC 8259 sections 2 and 8.1)
+-- the value of a JSON text in UTF-8 (RFC 8259 sections 2 and 8.1)
 unfoldable pub json_reading : List ℕ → Result Data Refusal
 json_reading octets = if is_utf8 octets then ok_or (read octets) Json else Err Json
 
@@ -39,7 +39,7 @@ abbrev mutual
   member_numbers_are_whole no_members = true
   member_numbers_are_whole (member k d ms) = numbers_are_whole d && member_numbers_are_whole ms
 
--- the value of a text, all of whose numbers are whole
+-- the value of a text whose numbers are all whole
 unfoldable pub json_value : List ℕ → Result Data Refusal
 json_value octets = do
   value ← json_reading octets
@@ -66,7 +66,7 @@ has_only names (object members) = members_have_only names members
 
 -- ---- values without floats (docs/SPECIFICATION.md "Octets and texts")
 
--- Members whose numbers are whole have no float. A value without floats has none in a member, and its members have none where one
+-- Members whose numbers are whole have no float. A value without floats has none in its members, and these have none after a value
 -- without floats is put in.
 pub record KeepFloatsOut : Type 0 where
   pub whole : (members : Members) → member_numbers_are_whole members ≡ true → members_have_float members ≡ false

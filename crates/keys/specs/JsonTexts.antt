@@ -1,4 +1,4 @@
--- The values that JSON texts have, and their compact texts.
+-- The values of JSON texts, and their compact texts.
 use Rattle.std.specs.Prelude.{◌≡◌, ℕ, ◌^◌, ◌<◌, ◌≤◌, max, List, [], ◌∷◌, ◌++◌, true, false, pos, negsuc, Some, Ok, Err, ⊤}
 use Rattle.std.specs.Cmp.Lexicographic.{slice_cmp}
 use Rattle.std.specs.List.{AllByRecursion}
@@ -55,7 +55,7 @@ CompactTextReadsBack = (d : Data) → IsJson d → depth d ≤ 127 → json_valu
 abbrev pub DeepTextsAreRefused : Type 0
 DeepTextsAreRefused = (d : Data) → IsJson d → 127 < depth d → json_value (compact_text d) ≡ Err Json
 
--- what a text reads as is a value as above, and at most 127 deep
+-- a text reads as a value that is as above and at most 127 deep
 abbrev pub ReadsJson : Type 0
 ReadsJson = (text : List ℕ) (d : Data) → json_value text ≡ Ok d → IsJson d × (depth d ≤ 127)
 

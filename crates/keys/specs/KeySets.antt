@@ -20,7 +20,7 @@ abbrev pub items_count : Items → ℕ
 items_count no_items = 0
 items_count (item value values) = suc (items_count values)
 
--- those of the member `keys`, or the value itself where it has no such member
+-- the items of the member `keys`, or the value itself if it has no such member
 abbrev pub objects_at : Data → Option Data → Result Items Refusal
 objects_at value None = Ok (item value no_items)
 objects_at value (Some list) = do
@@ -37,7 +37,7 @@ abbrev pub before : OctetKey → Result (List OctetKey) Refusal → Result (List
 before key (Ok keys) = Ok (key ∷ keys)
 before key (Err refusal) = Err refusal
 
--- a bad key is refused where that is asked for, and otherwise passed over
+-- with `strict` a bad key is refused, and otherwise it is passed over
 abbrev pub unless_bad : Bool → Result OctetKey Refusal → Result (List OctetKey) Refusal → Result (List OctetKey) Refusal
 unless_bad strict (Ok key) keys = before key keys
 unless_bad true (Err refusal) keys = Err refusal
@@ -48,7 +48,7 @@ abbrev pub octet_keys : Limits → Bool → Items → Result (List OctetKey) Ref
 octet_keys limits strict no_items = Ok []
 octet_keys limits strict (item value values) = unless_bad strict (octet_key limits value) (octet_keys limits strict values)
 
--- the good octet keys of a value, of which there is one at least; with `strict` all its objects are good
+-- the good octet keys of a value, at least one; with `strict` all its objects must be good
 unfoldable pub value_keys : Limits → Data → Bool → Result (List OctetKey) Refusal
 value_keys limits value strict = do
   objects ← key_objects value

@@ -16,7 +16,7 @@ use Rattle.keys.specs.Texts.{is_among}
 use Rattle.keys.specs.Algorithms.{key_names, key_len, has_len}
 use Rattle.keys.specs.Operations.{operation_names, operation_use}
 
--- what is kept of a key: its octets, and its `alg`, `use` and `key_ops` where they are there (RFC 7517 sections 4.2 to 4.4)
+-- what is kept of a key: its octets, and its `alg`, `use` and `key_ops` if they are there (RFC 7517 sections 4.2 to 4.4)
 pub record OctetKey : Type 0 where
   pub octets : List ℕ
   pub alg : Option (List ℕ)
@@ -29,7 +29,7 @@ AreOctetKeys keys = AllByRecursion (λ key. IsOctets key.octets) keys
 
 -- ---- reading (RFC 7517 section 4.1, RFC 7518 section 6.4.1, docs/SPECIFICATION.md "Keys" 2)
 
--- where a key is asked for, a bad text is a bad key
+-- a key with a bad base64url text is a bad key
 abbrev pub or_key : Result (List ℕ) Refusal → Result (List ℕ) Refusal
 or_key (Ok octets) = Ok octets
 or_key (Err refusal) = Err Key
@@ -51,7 +51,7 @@ constrained_key octets value = do
   key_ops ← optional_strings_member (codes "key_ops") value
   Ok (record { octets = octets; alg = alg; key_use = key_use; key_ops = key_ops })
 
--- the octet key that an object is
+-- the octet key of an object
 unfoldable pub octet_key : Limits → Data → Result OctetKey Refusal
 octet_key limits value = do
   kty ← string_member (codes "kty") value
@@ -69,7 +69,7 @@ abbrev pub is_absent_or_among : Option (List ℕ) → List (List ℕ) → Bool
 is_absent_or_among None names = true
 is_absent_or_among (Some found) names = is_among names found
 
--- some name of the list is among these
+-- there is no list, or some name of it is among these
 abbrev pub is_absent_or_meets : Option (List (List ℕ)) → List (List ℕ) → Bool
 is_absent_or_meets None names = true
 is_absent_or_meets (Some found) names = list_any (is_among names) found
@@ -80,6 +80,6 @@ allows key operation = is_absent_or_text key.key_use (operation_use operation) &
 
 -- ---- algorithms (RFC 7517 section 4.4, docs/SPECIFICATION.md "Keys" 5)
 
--- the key has a length that the algorithm takes, and its `alg` names no other
+-- the key has a length that the algorithm allows, and its `alg` names no other algorithm
 unfoldable pub fits : OctetKey → Algorithm → Bool
 fits key algorithm = is_absent_or_among key.alg (key_names algorithm) && has_len (key_len algorithm) (length key.octets)

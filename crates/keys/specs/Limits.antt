@@ -1,15 +1,15 @@
--- The limits of this profile, and the algorithms that it has. A definition that tests one takes them, so that a law can speak of two
--- values.
+-- The limits of this profile, and its algorithms. They are an argument of the definitions that test them, so that a law can compare
+-- two versions.
 use Rattle.std.specs.Prelude.{ℕ, Bool, nat_le, List}
 use Rattle.keys.specs.declared.algorithm.KeyManagementAlg.{KeyManagementAlg}
 use Rattle.keys.specs.Algorithms.{management_algs}
 
 -- the numbers of docs/SPECIFICATION.md "Keys" 1 and 2, "Making keys" 4, "Objects" 2, "Decrypting" 2, and "Encrypting" 5 and 7
 pub record Limits : Type 0 where
-  -- the most keys of a set, the good and the others, and the most octets of a key
+  -- the most keys of a set, good or bad, and the most octets of a key
   pub keys : ℕ
   pub key_octets : ℕ
-  -- how deep a header or a key that is written may nest
+  -- the greatest depth of a header or a key that is written
   pub depth : ℕ
   -- the most recipients, or signatures, of an object
   pub recipients : ℕ
@@ -23,7 +23,7 @@ pub record Limits : Type 0 where
   -- the algorithms of key management
   pub management : List KeyManagementAlg
 
--- those of this profile (docs/SPECIFICATION.md "Keys" to "Encrypting")
+-- the limits of this profile (docs/SPECIFICATION.md "Keys" to "Encrypting")
 abbrev pub limits : Limits
 limits = record {
   keys = 64;

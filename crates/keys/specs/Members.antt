@@ -1,4 +1,4 @@
--- The members of a key (RFC 7517 section 4) that are texts and lists of texts. One of another type is a bad key.
+-- The members of a key (RFC 7517 section 4) that are texts and lists of texts. A key with a member of another type is bad.
 use Rattle.std.specs.Prelude.{ℕ, List, [], ◌∷◌, Option, Some, None, option_map, option_and_then, Result, Ok, Err}
 use Rattle.std.specs.Option.{ok_or}
 use Rattle.serde_json.specs.Data.{Data, Items, no_items, item}

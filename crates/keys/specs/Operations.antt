@@ -14,7 +14,7 @@ operation_name UnwrapKey = codes "unwrapKey"
 operation_name WrapByPassword = codes "wrapKey"
 operation_name UnwrapByPassword = codes "unwrapKey"
 
--- a key that another is derived from may be named by the derivation (RFC 7517 section 4.3, docs/SPECIFICATION.md "Keys" 4)
+-- the names of the derivation by which a password wraps (RFC 7517 section 4.3, docs/SPECIFICATION.md "Keys" 4)
 abbrev pub derivation_names : Operation → List (List ℕ)
 derivation_names Sign = []
 derivation_names Verify = []
@@ -29,7 +29,7 @@ derivation_names UnwrapByPassword = codes "deriveKey" ∷ codes "deriveBits" ∷
 abbrev pub operation_names : Operation → List (List ℕ)
 operation_names operation = operation_name operation ∷ derivation_names operation
 
--- the `use` that goes with the operation (RFC 7517 section 4.2)
+-- the `use` that allows the operation (RFC 7517 section 4.2)
 abbrev pub operation_use : Operation → List ℕ
 operation_use Sign = codes "sig"
 operation_use Verify = codes "sig"

@@ -1,4 +1,4 @@
-//! Making keys (RFC 7517 section 4, and this profile's own rules). It is given a template and a random input.
+//! Making keys from a template and a random input (RFC 7517 section 4, and this profile's own rules).
 ghost use Rattle.std.specs.Prelude.{◌≡◌, ◌≤◌, ℕ, List, [], ◌∷◌, false, length, map, nat_le, IfErr, IfOk, OnOk, Ok, Err, Some, is_some, string_bytes};
 ghost use Rattle.std.specs.Option.{ok_or};
 ghost use Rattle.serde_json.specs.Data.{object, depth};
@@ -21,7 +21,7 @@ use octets::{Input, Refusal, b64_encode, draw, needs};
 use serde_json::{Map, Value};
 use std::alloc::{AllocError, Global};
 
-/// A key to be made: its length, and its members beside `k`.
+/// A key to be made: its length, and its members except `k`.
 #[derive(Drop)]
 struct KeyPlan {
     len: usize,
@@ -30,23 +30,23 @@ struct KeyPlan {
 
 /// The JSON text of a new octet key, made as the template asks from octets of the random input.
 ///
-/// The template is a JSON object, and no key: it has no `k` and no `keys`, and its other members are
-/// typed as those of a key. `bytes` is the key's length in octets, from 1 to 4,096; without it the
-/// `alg` implies one. The key has the template's members but `bytes`, `k`, `kty` "oct", and where the
-/// template has an `alg` but neither `use` nor `key_ops`, the `key_ops` of this `alg`. Exactly the
-/// octets of `k` are read.
+/// The template is a JSON object without `k` and `keys`. Its other members are typed as those of a key.
+/// `bytes` is the key's length in octets, from 1 to `MOST_KEY_OCTETS`; without it the `alg` implies
+/// one. The key has the template's members except `bytes`, and `k` and `kty` "oct". If the template has
+/// an `alg` but neither `use` nor `key_ops`, the key has the `key_ops` of this `alg`. Exactly the octets
+/// of `k` are read.
 ///
-/// Refused, in this order, with `Json`; `Number`; `Key` where the template is bad; `Limit` where
-/// `bytes` is above 4,096; `Unsupported` where `alg` names no algorithm; `NoAlgorithm` where nothing
-/// says the length; `KeyDoesNotFit` where `bytes` does not fit the `alg`; `Limit` where the key nests
-/// more than 64 deep; and then with `Read` where the random input fails, and `Random` where it ends
-/// too early.
+/// Refuses, in this order, with `Json`; `Number`; `Key` if the template is bad; `Limit` if `bytes` is
+/// above `MOST_KEY_OCTETS`; `Unsupported` if `alg` names no algorithm; `NoAlgorithm` if nothing says
+/// the length; `KeyDoesNotFit` if `bytes` does not fit the `alg`; `Limit` if the key nests deeper than
+/// `MOST_DEPTH`; `Read` if the random input fails; and `Random` if it ends too early. May fail with
+/// `Memory`.
 pub fn generate<R: Input>(alloc: Global, template: &[u8], random: &mut R) -> Result<String, Refusal>
     ensures answer { (octets : List ℕ)
         → IsPossibleInput (observed R.consumed R.is_at_end random.old random.new) octets
         → GivesUnlessExternal string_bytes result (gen_answer limits template.now octets) }
 
-    // Exactly the key's octets are read, and none for a refused template.
+    // Exactly the key's octets are read, and none if the template is refused.
     ensures drawn { OnOk result ((made : MadeKey) → made_key limits template.now ≡ Ok made
         → length (appended (R.consumed random.old) (R.consumed random.new)) ≡ made.len) }
     ensures at_most { (made : MadeKey) → made_key limits template.now ≡ Ok made
@@ -61,7 +61,7 @@ pub fn generate<R: Input>(alloc: Global, template: &[u8], random: &mut R) -> Res
     key_text(alloc, plan, octets)
 }
 
-/// What the template's text makes.
+/// The key that the template's text asks for.
 #[tactic(auto, unfolding(crate::specs::Generating::made_key, crate::specs::Generating::made_of))]
 fn plan_key(alloc: Global, template: &[u8]) -> Result<KeyPlan, Refusal>
     ensures exact { AgreesUnlessMemory plan_view result (made_key limits template.now) }
@@ -89,8 +89,8 @@ fn into_members(value: Value) -> Result<Map<String, Value>, Refusal>
     }
 }
 
-/// The members of a key beside `k`: those of the template but `bytes`, with `key_ops` where these are to
-/// be added, and `kty`.
+/// The members of a key except `k`: those of the template except `bytes`, with `kty`, and with `key_ops`
+/// if these are to be added.
 fn completed(
     alloc: Global,
     mut members: Map<String, Value>,
@@ -111,7 +111,7 @@ fn completed(
     Ok(members)
 }
 
-/// Adds the `key_ops` of the algorithm, where there is neither this member nor `use`.
+/// Adds the `key_ops` of the algorithm, if there is neither this member nor `use`.
 fn add_operations(
     alloc: Global,
     members: &mut Map<String, Value>,

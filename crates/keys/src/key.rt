@@ -1,7 +1,7 @@
 //! A good octet key.
 ghost use Rattle.octets.specs.Octets.{IsOctets};
 
-/// A good octet key, of 1 to 4,096 octets (RFC 7518 section 6.4).
+/// A good octet key, of 1 to `MOST_KEY_OCTETS` octets (RFC 7518 section 6.4).
 #[derive(Drop)]
 pub struct Key {
     pub(crate) octets: Vec<u8>,

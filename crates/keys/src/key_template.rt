@@ -23,8 +23,8 @@ pub(crate) struct Asked<'v> {
     pub(crate) bytes: Option<usize>,
 }
 
-/// What a template asks for. It is refused with `Key` where it is no object, where it is a key or a
-/// set of keys, and where a member is not typed as that of a key.
+/// What a template asks for. Refuses with `Key` if it is no object, if it is a key or a set of keys, or
+/// if a member is not typed as that of a key.
 #[tactic(auto, unfolding(crate::specs::Generating::key_template))]
 pub(crate) fn read_template<'v>(alloc: Global, value: &'v Value) -> Result<Asked<'v>, Refusal>
     ensures object { (members : Members) → view value.now ≡ object members
@@ -44,7 +44,7 @@ pub(crate) fn read_template<'v>(alloc: Global, value: &'v Value) -> Result<Asked
     Ok(Asked { alg, bytes })
 }
 
-/// The type of key, where it is there, is an octet key.
+/// The `kty` is absent or "oct".
 fn is_oct_if_there(kty: Option<&str>) -> bool
     ensures { result ≡ is_oct_if_there (option_map (λ t. t.now) kty.entry) }
 {
@@ -54,7 +54,7 @@ fn is_oct_if_there(kty: Option<&str>) -> bool
     }
 }
 
-/// The member `bytes`, which is a whole number from 1 where it is there.
+/// The member `bytes`, which is a whole number from 1, or absent.
 fn len_if_there(value: &Value) -> Result<Option<usize>, Refusal>
     ensures { Agrees (λ len. len) result
         (len_if_there (get (codes "bytes") (view value.now))) }
@@ -68,7 +68,7 @@ fn len_if_there(value: &Value) -> Result<Option<usize>, Refusal>
     }
 }
 
-/// A template asks for no more octets than a key may have.
+/// Whether a template asks for no more octets than a key may have.
 pub(crate) fn is_within_limit(bytes: Option<usize>) -> bool
     ensures { result ≡ is_within_limit limits bytes }
 {
@@ -78,7 +78,7 @@ pub(crate) fn is_within_limit(bytes: Option<usize>) -> bool
     }
 }
 
-/// The algorithm that `alg` names, where it is there. Refused with `Unsupported` where it names none.
+/// The algorithm that `alg` names, if it is there. Refuses with `Unsupported` if it names none.
 pub(crate) fn alg_if_there(alg: Option<&str>) -> Result<Option<NamedAlg>, Refusal>
     ensures { Agrees (λ alg. alg) result (alg_if_there (option_map (λ name. name.now) alg.entry)) }
 {
@@ -91,8 +91,8 @@ pub(crate) fn alg_if_there(alg: Option<&str>) -> Result<Option<NamedAlg>, Refusa
     }
 }
 
-/// The length that is asked for, or the usual one of the algorithm. Refused with `NoAlgorithm` where there
-/// is neither, and with `KeyDoesNotFit` where the algorithm takes no such length.
+/// The length that is asked for, or the usual one of the algorithm. Refuses with `NoAlgorithm` if there is
+/// neither, and with `KeyDoesNotFit` if the algorithm does not allow the length.
 #[tactic(auto, unfolding(crate::specs::Generating::fitting_len))]
 pub(crate) fn fitting_len(alg: Option<NamedAlg>, asked: Option<usize>) -> Result<usize, Refusal>
     ensures len { Agrees (λ len. len) result (fitting_len alg asked) }

@@ -1,5 +1,5 @@
 //! JSON texts, octet keys and their sets, thumbprints, and the making of keys (RFC 7517, RFC 7638).
-//! It may be given key texts and other JSON texts, and never sees an object or its content.
+//! The crate reads key texts and other JSON texts, but no objects and no content.
 //!
 //! ```rust
 //! let text = b"{\"kty\":\"oct\",\"k\":\"AAECAwQFBgcICQoLDA0ODw\"}";

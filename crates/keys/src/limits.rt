@@ -1,6 +1,6 @@
 //! The limits of this profile.
 
-/// The most keys of a set, the good and the others.
+/// The most keys of a set, good or bad.
 pub const MOST_KEYS: usize = 64;
 
 /// The most octets of a key.
@@ -21,6 +21,6 @@ pub const GREATEST_P2C: u64 = 2_000_000;
 
 pub const USUAL_P2C: u64 = 100_000;
 
-/// The greatest sum of these counts over the passwords that an object is encrypted to, and over the pairs of a recipient and a
-/// key that are tried.
+/// The greatest sum of these counts, both over the passwords that an object is encrypted to, and over the pairs of a recipient
+/// and a key that are tried.
 pub const MOST_ITERATIONS: u64 = 16_000_000;

@@ -1,5 +1,5 @@
-//! The members of a key or a template (RFC 7517 section 4), which are texts and lists of texts. One of another type is a
-//! bad key.
+//! The members of a key or a template (RFC 7517 section 4) that are texts and lists of texts. A member of another type is
+//! refused with `Key`.
 ghost use Rattle.std.specs.Prelude.{option_map, map, string_bytes};
 ghost use Rattle.std.specs.Option.{ok_or};
 ghost use Rattle.serde_json.specs.View.{view, items_view};
@@ -19,7 +19,7 @@ pub(crate) fn string_member<'v>(value: &'v Value, name: &str) -> Result<&'v str,
     value.get(name).and_then(Value::as_str).ok_or(Refusal::Key)
 }
 
-/// The text of the member, which may be absent and is a string where it is there.
+/// The text of the member, which is a string or absent.
 #[tactic(auto, unfolding(crate::specs::Members::optional_string_member))]
 pub(crate) fn optional_string_member<'v>(
     value: &'v Value,
@@ -37,7 +37,7 @@ pub(crate) fn optional_string_member<'v>(
     }
 }
 
-/// The texts of the member, which may be absent and is a list of strings where it is there.
+/// The texts of the member, which is a list of strings or absent.
 #[tactic(auto, unfolding(crate::specs::Members::optional_strings_member))]
 pub(crate) fn optional_strings_member(
     alloc: Global,

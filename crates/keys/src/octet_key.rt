@@ -1,5 +1,5 @@
-//! Octet keys (RFC 7517 section 4, RFC 7518 section 6.4). It is given a key's JSON value, and sees no
-//! header and no content.
+//! Octet keys (RFC 7517 section 4, RFC 7518 section 6.4), read from the JSON value of a key. No header
+//! and no content is seen here.
 ghost use Rattle.std.specs.Prelude.{◌≡◌, IfOk, option_map, map, string_bytes};
 ghost use Rattle.std.specs.List.{list_any};
 ghost use Rattle.serde_json.specs.View.{view};
@@ -30,7 +30,7 @@ impl Key {
         &self.octets
     }
 
-    /// The key's `alg`, where it is there (RFC 7517 section 4.4).
+    /// The key's `alg`, if it is there (RFC 7517 section 4.4).
     pub fn alg(&self) -> Option<&str>
         ensures { option_map (λ name. name.now) result ≡ (key_view self.now).alg }
     {
@@ -40,7 +40,8 @@ impl Key {
         }
     }
 
-    /// The key's `use` and `key_ops` allow the operation. Each of them allows all where it is absent.
+    /// Whether the key's `use` and `key_ops` allow the operation (RFC 7517 sections 4.2 and 4.3). An absent
+    /// one allows all.
     #[tactic(auto, unfolding(crate::specs::Keys::allows))]
     pub fn allows(&self, operation: Operation) -> bool
         ensures { result ≡ allows (key_view self.now) operation }
@@ -49,8 +50,8 @@ impl Key {
             && is_absent_or_allows(&self.key_ops, operation)
     }
 
-    /// The key has a length that the algorithm takes, and its `alg` names no other. For direct
-    /// encryption `alg` may name the content encryption algorithm instead.
+    /// Whether the key has a length that the algorithm allows, and its `alg` names no other algorithm. For
+    /// direct encryption `alg` may name the content encryption algorithm instead.
     #[tactic(auto, unfolding(crate::specs::Keys::fits))]
     pub fn fits(&self, algorithm: Algorithm) -> bool
         ensures { result ≡ fits (key_view self.now) algorithm }
@@ -59,9 +60,9 @@ impl Key {
     }
 }
 
-/// The key that an object is. Refused with `Key` where it is no good octet key: `kty` is "oct", `k`
-/// is the base64url text of 1 to 4,096 octets, and where they are there `alg`, `use` and `kid` are
-/// strings and `key_ops` is a list of strings. Other members are ignored.
+/// The key of an object. Refuses with `Key` unless it is a good octet key: `kty` is "oct", `k` is the
+/// base64url text of 1 to `MOST_KEY_OCTETS` octets, `alg`, `use` and `kid` are strings or absent, and
+/// `key_ops` is a list of strings or absent. Other members are ignored.
 #[tactic(auto, unfolding(crate::specs::Keys::octet_key))]
 pub(crate) fn read_key(alloc: Global, value: &Value) -> Result<Key, Refusal>
     ensures { AgreesUnlessMemory key_view result (octet_key limits (view value.now)) }
@@ -86,7 +87,7 @@ fn read_key_octets(alloc: Global, value: &Value) -> Result<Vec<u8>, Refusal>
     Ok(octets)
 }
 
-/// The octets of a base64url text, which is a bad key where it is a bad text.
+/// The octets of a base64url text. A bad text is refused with `Key`.
 fn decode_key(alloc: Global, text: &[u8]) -> Result<Vec<u8>, Refusal>
     ensures { AgreesUnlessMemory (λ octets. octets.items) result (or_key (decoded text.now)) }
 {
@@ -124,7 +125,7 @@ fn owned(alloc: Global, text: Option<&str>) -> Result<Option<String>, AllocError
     }
 }
 
-/// The `alg` is not there, or it is a name that the algorithm lets a key have.
+/// The `alg` is absent, or a name that a key of the algorithm may have.
 fn is_absent_or_names(found: Option<&str>, algorithm: Algorithm) -> bool
     ensures { result ≡ is_absent_or_among (option_map (λ t. t.now) found.entry) (key_names algorithm) }
 {
@@ -142,7 +143,7 @@ fn is_absent_or_names(found: Option<&str>, algorithm: Algorithm) -> bool
     }
 }
 
-/// The member is not there, or it is this text.
+/// The member is absent, or is this text.
 fn is_absent_or_text(found: &Option<String>, text: &str) -> bool
     ensures { result ≡ is_absent_or_text (option_map string_bytes found.now) text.now }
 {
@@ -152,7 +153,7 @@ fn is_absent_or_text(found: &Option<String>, text: &str) -> bool
     }
 }
 
-/// The member is not there, or a name in its list allows the operation.
+/// The member is absent, or a name in its list allows the operation.
 #[tactic(auto, using(crate::proofs::Strings::any_text))]
 fn is_absent_or_allows(found: &Option<Vec<String>>, operation: Operation) -> bool
     ensures { result ≡ is_absent_or_meets (option_map (λ texts. map string_bytes texts.items) found.now) (operation_names operation) }

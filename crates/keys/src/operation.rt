@@ -1,4 +1,4 @@
-//! The operations that a key may be used for (RFC 7517 section 4.3). It sees no key and no JSON.
+//! The operations that a key may be used for (RFC 7517 section 4.3).
 ghost use Rattle.std.specs.Prelude.{◌≡◌, map};
 ghost use Rattle.keys.specs.Operations.{operation_name, derivation_names, operation_names, operation_use};
 ghost use Rattle.keys.specs.Texts.{is_among};
@@ -39,7 +39,7 @@ impl Operation {
         }
     }
 
-    /// The names in `key_ops` of the derivation that it begins with.
+    /// The names in `key_ops` of the derivation by which a password wraps.
     fn derivation_names(self) -> &'static [&'static str]
         ensures { map (λ name. name.now) result.now ≡ derivation_names self }
     {
@@ -49,14 +49,14 @@ impl Operation {
         }
     }
 
-    /// This name in `key_ops` allows it.
+    /// Whether this name in `key_ops` allows it.
     pub(crate) fn is_allowed_by(self, name: &str) -> bool
         ensures { result ≡ is_among (operation_names self) name.now }
     {
         self.name() == name || is_among(self.derivation_names(), name)
     }
 
-    /// The `use` that goes with it (RFC 7517 section 4.2).
+    /// The `use` that allows it (RFC 7517 section 4.2).
     pub(crate) fn key_use(self) -> &'static str
         ensures { result.now ≡ operation_use self }
     {

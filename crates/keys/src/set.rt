@@ -1,4 +1,4 @@
-//! Keys and sets of keys (RFC 7517 section 5). It is given a key text.
+//! Keys and sets of keys (RFC 7517 section 5), read from a key text.
 ghost use Rattle.std.specs.Prelude.{◌≡◌, ◌≤◌, IfOk, length, map};
 ghost use Rattle.serde_json.specs.View.{view, items_view};
 ghost use Rattle.octets.specs.Outcomes.{Agrees, AgreesUnlessMemory};
@@ -17,7 +17,7 @@ use std::alloc::Global;
 use std::marker::Model;
 use std::slice;
 
-/// The good octet keys of a text, in order. There is one at least.
+/// The good octet keys of a text, in order: from one to `MOST_KEYS`.
 #[derive(Drop)]
 pub struct KeySet {
     keys: Vec<Key>,
@@ -37,10 +37,10 @@ impl Model for KeySet {
 }
 
 impl KeySet {
-    /// The keys of a JSON text: one key, or a set with its member `keys`. Refused, in this order, with
-    /// `Json` and `Number`; with `Key` where the text is no object, or its `keys` no list of objects;
-    /// with `Limit` where these are more than 64; and with `Key` where one is no good octet key and
-    /// `strict` asks for all of them to be, or none is.
+    /// Reads the keys of a JSON text: one key, or a set with the member `keys`. With `strict` all of
+    /// them must be good octet keys. Refuses, in this order, with `Json`; `Number`; `Key` if the text is
+    /// no object, or its `keys` is no list of objects; `Limit` if there are more than `MOST_KEYS`; and
+    /// `Key` if no key is good, or one is bad with `strict`. May fail with `Memory`.
     #[tactic(auto, unfolding(crate::specs::KeySets::key_set))]
     pub fn read(alloc: Global, text: &[u8], strict: bool) -> Result<KeySet, Refusal>
         ensures { AgreesUnlessMemory (λ set. set) result (key_set limits text.now strict) }
@@ -61,7 +61,7 @@ impl KeySet {
     }
 }
 
-/// The good octet keys of the value. There is one at least.
+/// The good octet keys of the value, at least one.
 #[tactic(auto, unfolding(crate::specs::KeySets::value_keys), using(crate::proofs::KeyLists::items_counted, crate::proofs::KeyLists::keys_counted))]
 fn value_keys(alloc: Global, value: &Value, strict: bool) -> Result<Vec<Key>, Refusal>
     ensures exact { AgreesUnlessMemory (λ keys. map key_view keys.items) result (value_keys limits (view value.now) strict) }
@@ -74,7 +74,7 @@ fn value_keys(alloc: Global, value: &Value, strict: bool) -> Result<Vec<Key>, Re
     Ok(keys)
 }
 
-/// The objects of the text: those of its member `keys`, or the value itself where it has none.
+/// The objects of the text: those of its member `keys`, or the value itself if it has none.
 #[tactic(auto, unfolding(crate::specs::KeySets::key_objects))]
 fn key_objects(value: &Value) -> Result<&[Value], Refusal>
     ensures { Agrees (λ values. items_view values.now) result (key_objects (view value.now)) }
@@ -102,7 +102,7 @@ pub fn are_objects(values: &[Value]) -> bool
     true
 }
 
-/// The keys that the objects are. A bad one is refused where that is asked for, and otherwise passed over.
+/// The keys of the objects. With `strict` a bad one is refused, and otherwise it is passed over.
 fn read_keys(alloc: Global, objects: &[Value], strict: bool) -> Result<Vec<Key>, Refusal>
     ensures exact { AgreesUnlessMemory (λ keys. map key_view keys.items) result (octet_keys limits strict (items_view objects.now)) }
     ensures count { IfOk result (λ keys. length keys.items ≤ length objects.now) }

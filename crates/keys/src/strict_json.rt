@@ -1,4 +1,4 @@
-//! JSON texts, and what their values are. It sees octets and values, and never what they are for.
+//! JSON texts and their values, whatever they are for.
 ghost use Rattle.std.specs.Prelude.{◌≡◌, false, IfOk, map, nat_le, suc};
 ghost use Rattle.serde_json.specs.View.{view, items_view, members_view};
 ghost use Rattle.serde_json.specs.Data.{depth as depth_of, items_depth, members_depth};
@@ -11,9 +11,9 @@ use octets::{Refusal, needs};
 use serde_json::{Map, Value};
 use std::alloc::Global;
 
-/// The value of a JSON text (RFC 8259). Refused with `Json` where the octets are not UTF-8 or no
-/// JSON that nests at most 127 deep, and then with `Number` where it holds a number that is no
-/// whole number of 64 bits, with a sign or without: `1.0` and `-0` are none.
+/// The value of a JSON text (RFC 8259). Refuses with `Json` if the octets are no JSON in UTF-8, or nest
+/// deeper than 127. Then refuses with `Number` if a number is not whole or not of 64 bits, with or
+/// without a sign: `1.0` and `-0` are refused. May fail with `Memory`.
 #[tactic(auto, unfolding(crate::specs::Json::json_value))]
 pub fn read_json(alloc: Global, octets: &[u8]) -> Result<Value, Refusal>
     ensures exact { AgreesUnlessMemory view result (json_value octets.now) }
@@ -24,7 +24,7 @@ pub fn read_json(alloc: Global, octets: &[u8]) -> Result<Value, Refusal>
     Ok(value)
 }
 
-/// What the octets read as.
+/// The value of a JSON text, with any numbers.
 #[tactic(auto, unfolding(crate::specs::Json::json_reading))]
 fn read_value(alloc: Global, octets: &[u8]) -> Result<Value, Refusal>
     ensures { AgreesUnlessMemory view result (json_reading octets.now) }
@@ -36,7 +36,7 @@ fn read_value(alloc: Global, octets: &[u8]) -> Result<Value, Refusal>
     }
 }
 
-/// Each number in the value has an `as_i64` or an `as_u64`.
+/// Whether each number in the value has an `as_i64` or an `as_u64`.
 #[cycle(numbers)]
 fn has_whole_numbers(value: &Value) -> bool
     ensures { result ≡ numbers_are_whole (view value.now) }
@@ -61,7 +61,7 @@ fn items_have_whole_numbers(items: &Vec<Value>) -> bool
     true
 }
 
-/// Each number in an object with these members has an `as_i64` or an `as_u64`.
+/// Whether each number in these members has an `as_i64` or an `as_u64`.
 #[cycle(numbers)]
 pub fn members_have_whole_numbers(members: &Map<String, Value>) -> bool
     ensures { result ≡ member_numbers_are_whole (members_view members.now.entries) }
@@ -74,14 +74,14 @@ pub fn members_have_whole_numbers(members: &Map<String, Value>) -> bool
     true
 }
 
-/// The value is an object.
+/// Whether the value is an object.
 pub fn is_object(value: &Value) -> bool
     ensures { result ≡ is_object (view value.now) }
 {
     value.is_object()
 }
 
-/// The value nests at most so deep. An object or a list that holds no object or list is one deep.
+/// Whether the value nests at most `depth` deep. An object or a list without objects and lists is 1 deep.
 #[cycle(depth)]
 pub fn nests_at_most(value: &Value, depth: usize) -> bool
     ensures { result ≡ nat_le (depth_of (view value.now)) depth }
@@ -93,7 +93,7 @@ pub fn nests_at_most(value: &Value, depth: usize) -> bool
     }
 }
 
-/// The object with these members nests at most so deep.
+/// Whether the object with these members nests at most `depth` deep.
 #[cycle(depth)]
 pub fn object_nests_at_most(members: &Map<String, Value>, depth: usize) -> bool
     ensures { result ≡ nat_le (suc (members_depth (members_view members.now.entries))) depth }
@@ -125,7 +125,7 @@ fn members_nest_at_most(members: &Map<String, Value>, depth: usize) -> bool
     true
 }
 
-/// Each member of an object has one of these names.
+/// Whether each member of an object has one of these names. Other values have no members.
 pub fn has_only(value: &Value, names: &[&str]) -> bool
     ensures { result ≡ has_only (map (λ n. n.now) names.now) (view value.now) }
 {

@@ -1,4 +1,4 @@
-//! Lists of texts. It sees characters, and never what they are for.
+//! Lists of texts, whatever they are for.
 ghost use Rattle.std.specs.Prelude.{◌≡◌, map};
 ghost use Rattle.std.specs.List.{list_any};
 ghost use Rattle.std.specs.Str.{bytes_eq};

@@ -1,4 +1,4 @@
-//! Thumbprints of keys (RFC 7638). It is given a key, and sees no other text.
+//! Thumbprints of keys (RFC 7638).
 ghost use Rattle.std.specs.Prelude.{◌≡◌, IfOk, IfErr, string_bytes};
 ghost use Rattle.keys.specs.Views.{key_view};
 ghost use Rattle.keys.specs.Thumbprints.{required_members as required, thumbprint_of};
@@ -8,8 +8,8 @@ use octets::{Refusal, b64_append, b64_encode};
 use prf::{HashAlg, digest};
 use std::alloc::Global;
 
-/// The thumbprint of a key: the base64url text of the hash of its required members (RFC 7638 section
-/// 3). It is refused for want of memory alone.
+/// The thumbprint of a key: the base64url text of the hash of its required members (RFC 7638
+/// section 3). Fails only with `Memory`.
 #[tactic(auto, unfolding(crate::specs::Thumbprints::thumbprint_of))]
 pub fn thumbprint(alloc: Global, key: &Key, hash: HashAlg) -> Result<String, Refusal>
     ensures text { IfOk result (λ text. string_bytes text ≡ thumbprint_of (key_view key.now) hash) }
@@ -21,7 +21,7 @@ pub fn thumbprint(alloc: Global, key: &Key, hash: HashAlg) -> Result<String, Ref
     b64_encode(alloc, &octets[..len])
 }
 
-/// The JSON text of the members `k` and `kty` alone.
+/// The JSON text of the members `k` and `kty` (RFC 7638 sections 3.2 and 3.3).
 #[tactic(auto, unfolding(crate::specs::Thumbprints::required_members))]
 fn required_members(alloc: Global, key: &Key) -> Result<String, Refusal>
     ensures text { IfOk result (λ text. string_bytes text ≡ required (key_view key.now)) }
