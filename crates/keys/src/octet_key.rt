@@ -1,5 +1,4 @@
-//! Octet keys (RFC 7517 section 4, RFC 7518 section 6.4), read from the JSON value of a key. No header
-//! and no content is seen here.
+//! Octet keys (RFC 7517 section 4, RFC 7518 section 6.4), read from the JSON value of a key.
 ghost use Rattle.std.specs.Prelude.{◌≡◌, IfOk, option_map, map, string_bytes};
 ghost use Rattle.std.specs.List.{list_any};
 ghost use Rattle.serde_json.specs.View.{view};
