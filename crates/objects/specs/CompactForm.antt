@@ -12,13 +12,13 @@ use Rattle.objects.specs.Jws.{Signature, SignedObject, jws_compact_text}
 abbrev pub HasText : Result (List ℕ) Refusal → Type 0
 HasText compact = (text : List ℕ) × (compact ≡ Ok text)
 
--- the part of the content: its base64url text, or nothing where it is detached (RFC 7515 appendix F)
+-- the part of the content: its base64url text, or nothing if it is detached (RFC 7515 appendix F)
 abbrev pub content_part : Bool → List ℕ → List ℕ
 content_part detach content = if detach then [] else base64url content
 
 -- ---- signed objects (RFC 7515 section 7.1)
 
--- It is the object's one signature, and has no unprotected header.
+-- s is the only signature of the object, and has no unprotected header.
 pub record IsOnlySignature (o : SignedObject) (s : Signature) : Type 0 where
   pub alone : o.signatures ≡ s ∷ []
   pub header : s.header ≡ no_members
@@ -27,11 +27,11 @@ pub record IsOnlySignature (o : SignedObject) (s : Signature) : Type 0 where
 abbrev pub HasOnlySignature : SignedObject → Type 0
 HasOnlySignature o = (s : Signature) × IsOnlySignature o s
 
--- the protected header, the payload and the signature, with dots between them
+-- the protected header, the payload and the signature, joined by dots
 abbrev pub jws_parts_text : Bool → SignedObject → Signature → List ℕ
 jws_parts_text detach o s = s.protected ++ byte "." ∷ (content_part detach o.payload ++ byte "." ∷ base64url s.signature)
 
--- A signed object has a compact text exactly where it has one signature and no unprotected header. The text is its three parts between
+-- A signed object has a compact text exactly if it has one signature and no unprotected header. The text is its three parts, joined by
 -- dots. Every other object is refused with NotCompact.
 pub record JwsCompactFormIsExact : Type 0 where
   pub exists : (detach : Bool) (o : SignedObject) → HasText (jws_compact_text detach o) ↔ HasOnlySignature o
@@ -40,24 +40,24 @@ pub record JwsCompactFormIsExact : Type 0 where
 
 -- ---- encrypted objects (RFC 7516 section 7.1)
 
--- It is the object's one recipient. Neither has an unprotected header, and the object has no additional data.
+-- r is the only recipient of the object. Neither has an unprotected header, and the object has no additional data.
 pub record IsOnlyRecipient (o : EncryptedObject) (r : Recipient) : Type 0 where
   pub alone : o.recipients ≡ r ∷ []
   pub header : r.header ≡ no_members
   pub unprotected : o.unprotected ≡ no_members
   pub aad : o.aad ≡ []
 
--- The object has one recipient, no header but the protected one, and no additional data.
+-- The object has one recipient, only a protected header, and no additional data.
 abbrev pub HasOnlyRecipient : EncryptedObject → Type 0
 HasOnlyRecipient o = (r : Recipient) × IsOnlyRecipient o r
 
--- the protected header, the encrypted key, the initialization vector, the ciphertext and the tag, with dots between them
+-- the protected header, the encrypted key, the initialization vector, the ciphertext and the tag, joined by dots
 abbrev pub jwe_parts_text : Bool → EncryptedObject → Recipient → List ℕ
 jwe_parts_text detach o r =
     o.protected ++ byte "." ∷ (base64url r.encrypted_key ++ byte "." ∷ (base64url o.iv ++ byte "." ∷ (content_part detach o.ciphertext ++ byte "." ∷ base64url o.tag)))
 
--- An encrypted object has a compact text exactly where it has one recipient, no header but the protected one, and no additional data. The
--- text is its five parts between dots. Every other object is refused with NotCompact.
+-- An encrypted object has a compact text exactly if it has one recipient, only a protected header, and no additional data. The text is
+-- its five parts, joined by dots. Every other object is refused with NotCompact.
 pub record JweCompactFormIsExact : Type 0 where
   pub exists : (detach : Bool) (o : EncryptedObject) → HasText (jwe_compact_text detach o) ↔ HasOnlyRecipient o
   pub text : (detach : Bool) (o : EncryptedObject) (r : Recipient) → IsOnlyRecipient o r → jwe_compact_text detach o ≡ Ok (jwe_parts_text detach o r)

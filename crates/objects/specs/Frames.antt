@@ -1,4 +1,4 @@
--- The texts that stand round a content, and round the signatures or the tag after it, so that these can be written as they come.
+-- The texts around a content, and around the signatures or the tag after it, so that these can be written as they come.
 use Rattle.std.specs.Prelude.{◌≡◌, ℕ, ◌+◌, Bool, true, false, List, [], ◌∷◌, ◌++◌, length, map, nat_le, if◌then◌else◌, Result, Ok}
 use Rattle.std.specs.List.{AllByRecursion}
 use Rattle.octets.specs.declared.refusal.Refusal.{Refusal}
@@ -9,13 +9,13 @@ use Rattle.objects.specs.Jws.{Signature, SignedObject, jws_written, jws_text}
 use Rattle.objects.specs.Jwe.{EncryptedObject, jwe_written, jwe_text}
 use Rattle.objects.specs.Writing.{all_texts}
 
--- with values in the places between the texts
+-- the texts, with values in the places between them
 abbrev pub filled : List (List ℕ) → List (List ℕ) → List ℕ
 filled [] values = []
 filled (text ∷ rest) [] = text
 filled (text ∷ rest) (value ∷ values) = text ++ (value ++ filled rest values)
 
--- the texts of a content and of what follows it; a content that is detached has no place
+-- the base64url texts of a content and of what follows it; a detached content has no place
 abbrev pub in_places : Bool → List ℕ → List (List ℕ) → List (List ℕ)
 in_places true content others = map base64url others
 in_places false content others = base64url content ∷ map base64url others
@@ -28,7 +28,7 @@ first_text r = []
 
 -- ---- signed objects (RFC 7515 section 7)
 
--- the texts round the payload and the signatures, in the form that is asked for
+-- the texts around the payload and the signatures, in the form that is asked for
 abbrev pub jws_frame : Bool → Bool → SignedObject → Result (List (List ℕ)) Refusal
 jws_frame compact detach o = do
   w ← jws_written true compact detach o
@@ -43,7 +43,7 @@ with_octets (s ∷ rest) (octets ∷ more) = record { protected = s.protected; p
 abbrev pub signed_with : SignedObject → List ℕ → List (List ℕ) → SignedObject
 signed_with o payload signatures = record { payload = payload; signatures = with_octets o.signatures signatures }
 
--- Round any payload, and as many signatures as the object has, the texts make the text of the object with these in place of its own.
+-- With any payload, and as many signatures as the object has, the texts are the text of the object with these in place of its own.
 pub record IsJwsFrame (compact detach : Bool) (o : SignedObject) (texts : List (List ℕ)) : Type 0 where
   pub places : length texts ≡ (if detach then 1 else 2) + length o.signatures
   pub filled : (payload : List ℕ) (signatures : List (List ℕ)) → IsOctets payload → AllByRecursion IsOctets signatures → length signatures ≡ length o.signatures
@@ -51,7 +51,7 @@ pub record IsJwsFrame (compact detach : Bool) (o : SignedObject) (texts : List (
 
 -- ---- encrypted objects (RFC 7516 section 7)
 
--- the texts round the ciphertext and the tag, in the form that is asked for
+-- the texts around the ciphertext and the tag, in the form that is asked for
 abbrev pub jwe_frame : Bool → Bool → EncryptedObject → Result (List (List ℕ)) Refusal
 jwe_frame compact detach o = do
   w ← jwe_written true compact detach o
@@ -70,7 +70,7 @@ sealed_with o ciphertext tag = record {
   recipients = o.recipients;
 }
 
--- Round any ciphertext and any tag that is not empty the texts make the text of the object with these in place of its own.
+-- With any ciphertext, and any tag that is not empty, the texts are the text of the object with these in place of its own.
 pub record IsJweFrame (compact detach : Bool) (o : EncryptedObject) (texts : List (List ℕ)) : Type 0 where
   pub places : length texts ≡ (if detach then 2 else 3)
   pub filled : (ciphertext tag : List ℕ) → IsOctets ciphertext → IsOctets tag → nat_le 1 (length tag) ≡ true

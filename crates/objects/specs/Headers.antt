@@ -19,7 +19,7 @@ abbrev pub members_if_there : Option Data → Result Members Refusal
 members_if_there None = Ok no_members
 members_if_there (Some value) = some_members (as_object value)
 
--- the members of a member that is an object, and none where it is absent
+-- the members of a header, which is an object, or absent and then without members
 unfoldable pub header_at : List ℕ → Data → Result Members Refusal
 header_at name value = members_if_there (get name value)
 
@@ -29,24 +29,24 @@ abbrev pub object_members : Option Members → Result Members Refusal
 object_members None = Err Header
 object_members (Some members) = Ok members
 
--- the members of the object that octets are as JSON
+-- the members of a JSON object, read from its text
 unfoldable pub members_of_json : List ℕ → Result Members Refusal
 members_of_json octets = do
   value ← json_value octets
   object_members (as_object value)
 
--- the members of a protected header; no octets are a header with no members
+-- the members of a protected header; one of no octets has no members
 unfoldable pub protected_members : List ℕ → Result Members Refusal
 protected_members octets = if nat_le (length octets) 0 then Ok no_members else members_of_json octets
 
 -- ---- the joint header (RFC 7515 section 5.2, step 4, and RFC 7516 section 5.2, step 4)
 
--- some name stands in both
+-- some name is in both
 abbrev pub overlap : Members → Members → Bool
 overlap no_members other = false
 overlap (member name value rest) other = is_some (get_member name other) || overlap rest other
 
--- the members of both; those of the first stand in place of others with their names
+-- the members of both; if both have a name, the member of the first counts
 abbrev pub union : Members → Members → Members
 union no_members other = other
 union (member name value rest) other = put name value (union rest other)
@@ -58,14 +58,14 @@ are_disjoint protected unprotected per_recipient = not (overlap protected unprot
 abbrev pub all_members : Members → Members → Members → Members
 all_members protected unprotected per_recipient = union protected (union unprotected per_recipient)
 
--- The JOSE Header of a recipient or a signature is the union of the parts: of the protected header, of the shared unprotected header,
--- and of the unprotected header of this one recipient (RFC 7516 section 4) or signature (RFC 7515 section 4). No name stands in two of them.
+-- The JOSE Header of a recipient or a signature is the union of the protected header, the shared unprotected header, and the unprotected
+-- header of this recipient (RFC 7516 section 4) or signature (RFC 7515 section 4). No name is in two of them.
 unfoldable pub joint_header : Members → Members → Members → Result Members Refusal
 joint_header protected unprotected per_recipient = do
   apart ← needs (are_disjoint protected unprotected per_recipient) Header
   Ok (all_members protected unprotected per_recipient)
 
--- Where no name stands in two parts, the joint header has the members of each part, and no others.
+-- If no name is in two parts, the joint header has the members of each part and no others.
 pub record HasAllMembers (protected unprotected per_recipient : Members) : Type 0 where
   pub of_protected : (name : List ℕ) (value : Data) → get_member name protected ≡ Some value → get_member name (all_members protected unprotected per_recipient) ≡ Some value
   pub of_unprotected : (name : List ℕ) (value : Data) → get_member name unprotected ≡ Some value → get_member name (all_members protected unprotected per_recipient) ≡ Some value
@@ -81,7 +81,7 @@ abbrev pub required : {X : Type 0} → Option X → Result (Option X) Refusal
 required None = Err Header
 required (Some x) = Ok (Some x)
 
--- what is there must be read
+-- a parameter that is there must be read
 abbrev pub if_there : {X : Type 0} → (Data → Option X) → Option Data → Result (Option X) Refusal
 if_there read None = Ok None
 if_there read (Some value) = required (read value)
@@ -90,7 +90,7 @@ if_there read (Some value) = required (read value)
 unfoldable pub string_parameter : List ℕ → Members → Result (Option (List ℕ)) Refusal
 string_parameter name header = if_there as_str (get_member name header)
 
--- one that must be there
+-- a string that must be there
 unfoldable pub string_there : List ℕ → Members → Result (List ℕ) Refusal
 string_there name header = do
   found ← string_parameter name header

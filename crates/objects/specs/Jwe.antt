@@ -39,7 +39,7 @@ pub record JweParts : Type 0 where
 
 -- ---- the members of a text (RFC 7516 section 5.2, step 1, and section 7)
 
--- what all recipients share beside the content: headers, and additional data
+-- what all recipients share except the content: headers and additional data
 pub record EncodedShared : Type 0 where
   pub protected : List ℕ
   pub unprotected : Members
@@ -80,13 +80,14 @@ encoded_content detached value = do
   tag ← text_at (codes "tag") value
   Ok (record { iv = iv; ciphertext = ciphertext; tag = tag })
 
--- nothing of a recipient stands there; it may, where it is empty
+-- the object has no members of a recipient, other than empty ones
 unfoldable pub no_recipient_at : Data → Result (Unit {0}) Refusal
 no_recipient_at value = do
   own ← encoded_recipient value
   needs (not (has_text own.encrypted_key) && not (has_members own.header)) Form
 
--- The object itself where it is flattened (section 7.2.2), or those of the list of a general one (section 7.2.1), beside which nothing of a recipient may stand.
+-- The object itself if it is flattened (section 7.2.2), or the items of its list if it is general (section 7.2.1). Next to a list it may
+-- have no members of a recipient.
 abbrev pub recipients_by : Data → Option Data → Result Items Refusal
 recipients_by value None = Ok (item value no_items)
 recipients_by value (Some list) = do
@@ -104,7 +105,7 @@ encoded_in_json detached value = do
   content ← encoded_content detached value
   Ok (record { shared = shared; recipients = recipients; content = content })
 
--- exactly five parts between dots (section 7.1)
+-- exactly five parts with dots between them (section 7.1)
 unfoldable pub encoded_in_compact : Option (List ℕ) → List ℕ → Result EncodedJwe Refusal
 encoded_in_compact detached text = do
   protected ← split_at_dot text
@@ -117,11 +118,11 @@ encoded_in_compact detached text = do
     content = record { iv = content.0; ciphertext = ciphertext; tag = content.2 };
   })
 
--- Those of a JSON text, or of a compact text, with a line end or without. The ciphertext may have been handed in beside it.
+-- The members of a JSON text, or of a compact text with or without a line end. The ciphertext may have been handed in.
 unfoldable pub encoded_jwe : Option (List ℕ) → List ℕ → Result EncodedJwe Refusal
 encoded_jwe detached text = if is_json_form text then (json_value text >>= encoded_in_json detached) else encoded_in_compact detached (without_line_end text)
 
--- the octets that they are the base64url texts of, the text of the protected header aside (RFC 7516 section 5.2, step 2)
+-- the octets of the base64url texts of the members, except the protected header (RFC 7516 section 5.2, step 2)
 unfoldable pub decoded_recipient : EncodedRecipient → Result RecipientParts Refusal
 decoded_recipient texts = do
   encrypted_key ← decoded texts.encrypted_key
@@ -154,7 +155,7 @@ pub record Recipient : Type 0 where
   pub enc : List ℕ
   pub management : KeyManagement
 
--- An encrypted object. Beside the text of its protected header stand the members that this holds.
+-- An encrypted object: its members, and the members of its protected header.
 pub record EncryptedObject : Type 0 where
   pub protected : List ℕ
   pub protected_members : Members
@@ -165,7 +166,7 @@ pub record EncryptedObject : Type 0 where
   pub tag : List ℕ
   pub recipients : List Recipient
 
--- the same object, but for its ciphertext
+-- the object without its ciphertext
 abbrev pub without_ciphertext : EncryptedObject → EncryptedObject
 without_ciphertext o = record {
   protected = o.protected;
@@ -193,7 +194,7 @@ recipient_of algs protected unprotected parts = do
   header ← joint_header protected unprotected parts.header
   recipient_by algs header parts
 
--- all of them, in order
+-- the recipients, in order
 abbrev pub recipients_of : List KeyManagementAlg → Members → Members → List RecipientParts → Result (List Recipient) Refusal
 recipients_of algs protected unprotected parts = each (recipient_of algs protected unprotected) parts
 
@@ -217,7 +218,7 @@ recipients_of_one_enc algs protected unprotected parts = do
 abbrev pub has_no_crit_or_zip : Members → Bool
 has_no_crit_or_zip header = has_no_crit header && is_none (get_member (codes "zip") header)
 
--- in no part of a header (RFC 7516 section 5.2, step 5, and docs/SPECIFICATION.md "Objects" 4)
+-- no part of a header has one (RFC 7516 section 5.2, step 5, and docs/SPECIFICATION.md "Objects" 4)
 abbrev pub have_no_crit_or_zip : Members → Members → List RecipientParts → Bool
 have_no_crit_or_zip protected unprotected recipients = has_no_crit_or_zip protected && (has_no_crit_or_zip unprotected && list_all (λ r. has_no_crit_or_zip r.header) recipients)
 
@@ -229,7 +230,7 @@ encrypted_object algs octets parts = do
   plain ← needs (have_no_crit_or_zip protected parts.unprotected parts.recipients) Unsupported
   Ok (record { protected = parts.protected; protected_members = protected; unprotected = parts.unprotected; iv = parts.iv; aad = parts.aad; ciphertext = parts.ciphertext; tag = parts.tag; recipients = recipients })
 
--- the object whose members have these texts; it has not too many recipients (RFC 7516 section 5.2, steps 2 to 5)
+-- the object whose members have these texts, if it has not too many recipients (RFC 7516 section 5.2, steps 2 to 5)
 unfoldable pub decoded_object : Limits → EncodedJwe → Result EncryptedObject Refusal
 decoded_object limits texts = do
   few ← needs (are_few limits (length texts.recipients)) Limit
@@ -237,7 +238,7 @@ decoded_object limits texts = do
   parts ← decoded_members texts
   encrypted_object limits.management octets parts
 
--- the object of a text, and of a ciphertext where one was handed in, or the first refusal (RFC 7516 section 5.2, steps 1 to 5)
+-- the object of a text, and of a ciphertext if one was handed in, or the first refusal (RFC 7516 section 5.2, steps 1 to 5)
 unfoldable pub jwe_of : Limits → Option (List ℕ) → List ℕ → Result EncryptedObject Refusal
 jwe_of limits detached text = do
   texts ← encoded_jwe detached text
@@ -255,7 +256,7 @@ headers_are_shallow parts = nat_le (depth (object parts.unprotected)) header_dep
 abbrev pub have_whole_numbers : JweParts → Bool
 have_whole_numbers parts = member_numbers_are_whole parts.unprotected && list_all (λ r. member_numbers_are_whole r.header) parts.recipients
 
--- the object with these members, or what their JSON text is refused with
+-- the object with these members, or the refusal of their JSON text
 unfoldable pub built : Limits → JweParts → Result EncryptedObject Refusal
 built limits parts = do
   shallow ← needs (headers_are_shallow parts) Json
@@ -271,7 +272,7 @@ built limits parts = do
 abbrev pub with_recipient : RecipientParts → Written → Written
 with_recipient r w = with_header (codes "header") r.header (with_text (codes "encrypted_key") (base64url r.encrypted_key) w)
 
--- one recipient stands beside the other members (section 7.2.2)
+-- one recipient is next to the other members (section 7.2.2)
 abbrev pub with_flattened : List RecipientParts → Written → Written
 with_flattened [] w = w
 with_flattened (r ∷ []) w = with_recipient r w
@@ -283,7 +284,7 @@ with_general [] w = with_list (codes "recipients") with_recipient [] w
 with_general (r ∷ []) w = w
 with_general (r ∷ (other ∷ rest)) w = with_list (codes "recipients") with_recipient (r ∷ (other ∷ rest)) w
 
--- a place for the tag, or its text where it is not empty
+-- a place for the tag, or its text if it is not empty
 abbrev pub with_tag : List ℕ → Written → Written
 with_tag tag w = if w.places || nat_le 1 (length tag) then with_place (codes "tag") tag w else w
 
@@ -299,7 +300,7 @@ with_members ciphertext parts w =
     with_content (codes "ciphertext") ciphertext (
     with_text (codes "aad") (base64url parts.aad) w)))))))
 
--- Their JSON text: flattened where there is one recipient, and else general. A detached ciphertext has no place in it.
+-- Their JSON text: flattened if there is one recipient, and else general. A detached ciphertext is not in it.
 abbrev pub jwe_json : Bool → Bool → JweParts → Written
 jwe_json places detach parts = closed (codes "}") (with_members (inside detach parts.ciphertext) parts (opened (codes "{") (nothing_written places)))
 
@@ -338,20 +339,20 @@ with_compact ciphertext parts w =
     with_part (key_of_first parts.recipients) (
     pushed parts.protected w))))
 
--- all of the object stands in a compact text: its one recipient has no per-recipient header, and there is nothing that is shared but not protected
+-- a compact text can hold the object: it has one recipient, only a protected header, and no additional data
 abbrev pub is_compact : EncryptedObject → List Recipient → Bool
 is_compact o [] = false
 is_compact o (r ∷ []) = not (has_members o.unprotected) && (not (has_members r.header) && (length o.aad == 0))
 is_compact o (r ∷ (other ∷ rest)) = false
 
--- the compact text, where it can hold the object, or the JSON text
+-- the compact text, if it can hold the object, or the JSON text
 abbrev pub jwe_written : Bool → Bool → Bool → EncryptedObject → Result Written Refusal
 jwe_written places true detach o = do
   fits ← needs (is_compact o o.recipients) NotCompact
   Ok (with_compact (inside detach o.ciphertext) (parts_of o) (nothing_written places))
 jwe_written places false detach o = Ok (jwe_json places detach (parts_of o))
 
--- the compact text, where it can hold the object; the part of a detached ciphertext is empty
+-- the compact text, if it can hold the object; the part of a detached ciphertext is empty
 unfoldable pub jwe_compact_text : Bool → EncryptedObject → Result (List ℕ) Refusal
 jwe_compact_text detach o = do
   w ← jwe_written false true detach o
@@ -364,7 +365,7 @@ jwe_text false detach o = Ok (json_text detach o)
 
 -- ---- what is written is read, and what is read can be written (docs/SPECIFICATION.md "Objects")
 
--- The texts and headers are as JSON has them, so their numbers are whole, and the others are octets.
+-- Texts and headers are JSON values, so their numbers are whole. The other members are octets.
 pub record AreMembers (parts : JweParts) : Type 0 where
   pub protected : IsUtf8 parts.protected
   pub unprotected : AreJsonMembers parts.unprotected
@@ -374,21 +375,21 @@ pub record AreMembers (parts : JweParts) : Type 0 where
   pub tag : IsOctets parts.tag
   pub recipients : AllByRecursion (λ r. AreJsonMembers r.header × IsOctets r.encrypted_key) parts.recipients
 
--- An object is made of members, or refused, as their JSON text is read; a detached ciphertext is handed in beside it. It is never refused
--- with Number, since the numbers of such members are whole.
+-- Making an object of members is the same as reading their JSON text, with a detached ciphertext handed in. It never refuses with Number,
+-- since the numbers of these members are whole.
 abbrev pub BuildingIsReading : Type 0
 BuildingIsReading = (limits : Limits) (parts : JweParts) → AreMembers parts → (detach : Bool) → built limits parts ≡ jwe_of limits (handed_in detach parts.ciphertext) (members_text detach parts)
 
--- The JSON text of members is the compact text of the value that it is read as: nothing stands between its tokens, and no name twice.
+-- The JSON text of members is the compact text of the value that it reads as: it has nothing between its tokens, and no name twice.
 abbrev pub JsonTextsAreCompact : Type 0
 JsonTextsAreCompact = (detach : Bool) (parts : JweParts) (value : Data) → AreMembers parts → json_value (members_text detach parts) ≡ Ok value → members_text detach parts ≡ compact_text value
 
--- the object can be made of members, as each that is read can
+-- the object can be made of members
 abbrev pub IsMade : Limits → EncryptedObject → Type 0
 IsMade limits o = (parts : JweParts) × (AreMembers parts × (built limits parts ≡ Ok o))
 
--- An object that is made of its members is what its JSON text spells, and its compact text where it has one; a detached ciphertext is
--- handed in beside them.
+-- The JSON text of an object that is made of its members reads as this object, and so does its compact text, if it has one. A detached
+-- ciphertext is handed in.
 abbrev pub TextsSpellObjects : Type 0
 TextsSpellObjects = (limits : Limits) (parts : JweParts) (o : EncryptedObject) → AreMembers parts → built limits parts ≡ Ok o → (detach : Bool)
     → (jwe_of limits (handed_in detach o.ciphertext) (json_text detach o) ≡ Ok o)
@@ -399,7 +400,7 @@ abbrev pub ObjectsAreMade : Type 0
 ObjectsAreMade = (limits : Limits) (detached : Option (List ℕ)) (text : List ℕ) (o : EncryptedObject) → AreOctetsHandedIn detached → IsOctets text → jwe_of limits detached text ≡ Ok o
     → IsMade limits o
 
--- A compact text that is read is the compact text of the object, but for a line end.
+-- A compact text that is read is the compact text of the object, except for a line end.
 abbrev pub CompactTextsAreExact : Type 0
 CompactTextsAreExact = (limits : Limits) (detached : Option (List ℕ)) (text : List ℕ) (o : EncryptedObject) → AreOctetsHandedIn detached → IsOctets text → is_json_form text ≡ false
     → jwe_of limits detached text ≡ Ok o → jwe_compact_text (is_some detached) o ≡ Ok (without_line_end text)

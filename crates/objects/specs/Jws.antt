@@ -44,7 +44,7 @@ pub record EncodedJws : Type 0 where
   pub payload : List ℕ
   pub signatures : List EncodedSignature
 
--- the signature must be there
+-- the members of a signature; `signature` must be there
 unfoldable pub encoded_signature : Data → Result EncodedSignature Refusal
 encoded_signature value = do
   protected ← text_at (codes "protected") value
@@ -52,14 +52,15 @@ encoded_signature value = do
   signature ← required_text (codes "signature") value
   Ok (record { protected = protected; header = header; signature = signature })
 
--- nothing of a signature stands there; its headers may be, where they are empty
+-- the object has no members of a signature, other than empty headers
 unfoldable pub no_signature_at : Data → Result (Unit {0}) Refusal
 no_signature_at value = do
   protected ← text_at (codes "protected") value
   header ← header_at (codes "header") value
   needs (not (has_text protected) && (not (has_members header) && is_none (get (codes "signature") value))) Form
 
--- The object itself where it is flattened (section 7.2.2), or those of the list of a general one (section 7.2.1), beside which nothing of a signature may stand.
+-- The object itself if it is flattened (section 7.2.2), or the items of its list if it is general (section 7.2.1). Next to a list it may
+-- have no members of a signature.
 abbrev pub signatures_by : Data → Option Data → Result Items Refusal
 signatures_by value None = Ok (item value no_items)
 signatures_by value (Some list) = do
@@ -76,21 +77,20 @@ encoded_in_json detached value = do
   signatures ← each_item encoded_signature objects
   Ok (record { payload = payload; signatures = signatures })
 
--- exactly three parts between dots (section 7.1)
+-- exactly three parts with dots between them (section 7.1)
 unfoldable pub encoded_in_compact : Option (List ℕ) → List ℕ → Result EncodedJws Refusal
 encoded_in_compact detached text = do
   parts ← three_parts text
   payload ← content_by detached parts.1
   Ok (record { payload = payload; signatures = record { protected = parts.0; header = no_members; signature = parts.2 } ∷ [] })
 
--- Those of a JSON text, or of a compact text, with a line end or without. The payload may have been handed in beside it.
+-- The members of a JSON text, or of a compact text with or without a line end. The payload may have been handed in.
 unfoldable pub encoded_jws : Option (List ℕ) → List ℕ → Result EncodedJws Refusal
 encoded_jws detached text = if is_json_form text then (json_value text >>= encoded_in_json detached) else encoded_in_compact detached (without_line_end text)
 
 -- ---- the object (RFC 7515 section 3)
 
--- A signature: its members, and the `alg` of its joint header (section 4.1.1). Beside the text of its protected header stand the
--- members that this holds.
+-- A signature: its members, the members of its protected header, and the `alg` of its joint header (section 4.1.1).
 pub record Signature : Type 0 where
   pub protected : List ℕ
   pub protected_members : Members
@@ -107,31 +107,31 @@ pub record DecodedSignature : Type 0 where
   pub octets : List ℕ
   pub parts : SignatureParts
 
--- and with the members that these are
+-- a signature, with the members of its protected header
 pub record HeadedSignature : Type 0 where
   pub members : Members
   pub parts : SignatureParts
 
--- its protected header is a base64url text (RFC 7515 section 5.2, step 2)
+-- a signature whose protected header is a base64url text (RFC 7515 section 5.2, step 2)
 unfoldable pub decoded_part : SignatureParts → Result DecodedSignature Refusal
 decoded_part parts = do
   octets ← decoded parts.protected
   Ok (record { octets = octets; parts = parts })
 
--- one whose members have these texts (RFC 7515 section 5.2, steps 2 and 7)
+-- a signature whose members have these texts (RFC 7515 section 5.2, steps 2 and 7)
 unfoldable pub decoded_signature : EncodedSignature → Result DecodedSignature Refusal
 decoded_signature texts = do
   signature ← decoded texts.signature
   decoded_part (record { protected = texts.protected; header = texts.header; signature = signature })
 
--- its protected header is the text of a JSON object (RFC 7515 section 5.2, step 3)
+-- a signature whose protected header is the text of a JSON object (RFC 7515 section 5.2, step 3)
 unfoldable pub headed_signature : DecodedSignature → Result HeadedSignature Refusal
 headed_signature s = do
   members ← protected_members s.octets
   Ok (record { members = members; parts = s.parts })
 
--- Its headers have no name in common, and name the algorithm together. Where that is one of key management, they have the parameters
--- that it reads. See RFC 7515 section 5.2, step 4, and docs/SPECIFICATION.md "Objects" 3.
+-- Its headers have no name in common, and one of them names the algorithm. If that is one of key management, they have its parameters.
+-- See RFC 7515 section 5.2, step 4, and docs/SPECIFICATION.md "Objects" 3.
 unfoldable pub signature_by : List KeyManagementAlg → HeadedSignature → Result Signature Refusal
 signature_by algs s = do
   header ← joint_header s.members no_members s.parts.header
@@ -143,7 +143,7 @@ signature_by algs s = do
 abbrev pub headers_have_no_crit : HeadedSignature → Bool
 headers_have_no_crit s = has_no_crit s.members && has_no_crit s.parts.header
 
--- Each step is taken for every signature before the next. See RFC 7515 section 5.2, steps 3 to 5 and 9.
+-- Each step is done for every signature before the next step. See RFC 7515 section 5.2, steps 3 to 5 and 9.
 unfoldable pub signatures_of : List KeyManagementAlg → List DecodedSignature → Result (List Signature) Refusal
 signatures_of algs decoded = do
   headed ← each headed_signature decoded
@@ -157,7 +157,7 @@ signed_object algs payload decoded = do
   signatures ← signatures_of algs decoded
   Ok (record { payload = payload; signatures = signatures })
 
--- the object whose members have these texts; it has not too many signatures (RFC 7515 section 5.2, steps 2 to 7)
+-- the object whose members have these texts, if it has not too many signatures (RFC 7515 section 5.2, steps 2 to 7)
 unfoldable pub decoded_object : Limits → EncodedJws → Result SignedObject Refusal
 decoded_object limits texts = do
   few ← needs (are_few limits (length texts.signatures)) Limit
@@ -165,7 +165,7 @@ decoded_object limits texts = do
   signatures ← each decoded_signature texts.signatures
   signed_object limits.management payload signatures
 
--- the object of a text, and of a payload where one was handed in, or the first refusal (RFC 7515 section 5.2, steps 1 to 7)
+-- the object of a text, and of a payload if one was handed in, or the first refusal (RFC 7515 section 5.2, steps 1 to 7)
 unfoldable pub jws_of : Limits → Option (List ℕ) → List ℕ → Result SignedObject Refusal
 jws_of limits detached text = do
   texts ← encoded_jws detached text
@@ -179,7 +179,7 @@ nest_at_most n signatures = list_all (λ s. nat_le (depth (object s.header)) n) 
 abbrev pub have_whole_numbers : List SignatureParts → Bool
 have_whole_numbers signatures = list_all (λ s. member_numbers_are_whole s.header) signatures
 
--- the object with these members, or what their JSON text is refused with
+-- the object with these members, or the refusal of their JSON text
 unfoldable pub built : Limits → JwsParts → Result SignedObject Refusal
 built limits parts = do
   shallow ← needs (nest_at_most (depth_of_each (length parts.signatures)) parts.signatures) Json
@@ -191,7 +191,7 @@ built limits parts = do
 
 -- ---- its texts (RFC 7515 section 7, docs/SPECIFICATION.md "Objects" 5)
 
--- a signature, and the payload where it stands beside it
+-- a signature, and the payload if it is next to it
 abbrev pub with_signature : Option (List ℕ) → SignatureParts → Written → Written
 with_signature payload s w =
     with_place (codes "signature") s.signature (
@@ -203,14 +203,14 @@ with_signature payload s w =
 abbrev pub with_general : Option (List ℕ) → List SignatureParts → Written → Written
 with_general payload signatures w = with_list (codes "signatures") (with_signature None) signatures (with_content (codes "payload") payload w)
 
--- one signature stands beside the payload (section 7.2.2); several, or none, are a list
+-- one signature is next to the payload (section 7.2.2); several, or none, are a list
 abbrev pub with_signatures : Option (List ℕ) → List SignatureParts → Written → Written
 with_signatures payload [] w = with_general payload [] w
 with_signatures payload (s ∷ []) w = with_signature payload s w
 with_signatures payload (s ∷ (other ∷ rest)) w = with_general payload (s ∷ (other ∷ rest)) w
 
--- The JSON text of members, which stand in byte order of their names: flattened where there is one signature, and else general. A detached
--- payload has no place in it.
+-- The JSON text of members, in byte order of their names: flattened if there is one signature, and else general. A detached payload is
+-- not in it.
 abbrev pub jws_json : Bool → Bool → JwsParts → Written
 jws_json places detach parts = closed (codes "}") (with_signatures (inside detach parts.payload) parts.signatures (opened (codes "{") (nothing_written places)))
 
@@ -233,20 +233,20 @@ abbrev pub with_compact : Option (List ℕ) → List SignatureParts → Written 
 with_compact payload [] w = w
 with_compact payload (s ∷ rest) w = with_place_part s.signature (with_content_part payload (pushed s.protected w))
 
--- all of the object stands in a compact text: its one signature has no unprotected header
+-- a compact text can hold the object: it has one signature, and no unprotected header
 abbrev pub is_compact : List Signature → Bool
 is_compact [] = false
 is_compact (s ∷ []) = not (has_members s.header)
 is_compact (s ∷ (other ∷ rest)) = false
 
--- the compact text, where it can hold the object, or the JSON text
+-- the compact text, if it can hold the object, or the JSON text
 abbrev pub jws_written : Bool → Bool → Bool → SignedObject → Result Written Refusal
 jws_written places true detach o = do
   fits ← needs (is_compact o.signatures) NotCompact
   Ok (with_compact (inside detach o.payload) (parts_of o).signatures (nothing_written places))
 jws_written places false detach o = Ok (jws_json places detach (parts_of o))
 
--- the compact text, where it can hold the object; the part of a detached payload is empty
+-- the compact text, if it can hold the object; the part of a detached payload is empty
 unfoldable pub jws_compact_text : Bool → SignedObject → Result (List ℕ) Refusal
 jws_compact_text detach o = do
   w ← jws_written false true detach o
@@ -259,26 +259,26 @@ jws_text false detach o = Ok (json_text detach o)
 
 -- ---- what is written is read, and what is read can be written (docs/SPECIFICATION.md "Objects")
 
--- The texts and headers are as JSON has them, so their numbers are whole, and the others are octets.
+-- Texts and headers are JSON values, so their numbers are whole. The other members are octets.
 pub record AreMembers (parts : JwsParts) : Type 0 where
   pub payload : IsOctets parts.payload
   pub signatures : AllByRecursion (λ s. IsUtf8 s.protected × (AreJsonMembers s.header × IsOctets s.signature)) parts.signatures
 
--- An object is made of members, or refused, as their JSON text is read; a detached payload is handed in beside it. It is never refused
--- with Number, since the numbers of such members are whole.
+-- Making an object of members is the same as reading their JSON text, with a detached payload handed in. It never refuses with Number,
+-- since the numbers of these members are whole.
 abbrev pub BuildingIsReading : Type 0
 BuildingIsReading = (limits : Limits) (parts : JwsParts) → AreMembers parts → (detach : Bool) → built limits parts ≡ jws_of limits (handed_in detach parts.payload) (members_text detach parts)
 
--- The JSON text of members is the compact text of the value that it is read as: nothing stands between its tokens, and no name twice.
+-- The JSON text of members is the compact text of the value that it reads as: it has nothing between its tokens, and no name twice.
 abbrev pub JsonTextsAreCompact : Type 0
 JsonTextsAreCompact = (detach : Bool) (parts : JwsParts) (value : Data) → AreMembers parts → json_value (members_text detach parts) ≡ Ok value → members_text detach parts ≡ compact_text value
 
--- the object can be made of members, as each that is read can
+-- the object can be made of members
 abbrev pub IsMade : Limits → SignedObject → Type 0
 IsMade limits o = (parts : JwsParts) × (AreMembers parts × (built limits parts ≡ Ok o))
 
--- An object that is made of its members is what its JSON text spells, and its compact text where it has one; a detached payload is
--- handed in beside them.
+-- The JSON text of an object that is made of its members reads as this object, and so does its compact text, if it has one. A detached
+-- payload is handed in.
 abbrev pub TextsSpellObjects : Type 0
 TextsSpellObjects = (limits : Limits) (parts : JwsParts) (o : SignedObject) → AreMembers parts → built limits parts ≡ Ok o → (detach : Bool)
     → (jws_of limits (handed_in detach o.payload) (json_text detach o) ≡ Ok o)
@@ -289,7 +289,7 @@ abbrev pub ObjectsAreMade : Type 0
 ObjectsAreMade = (limits : Limits) (detached : Option (List ℕ)) (text : List ℕ) (o : SignedObject) → AreOctetsHandedIn detached → IsOctets text → jws_of limits detached text ≡ Ok o
     → IsMade limits o
 
--- A compact text that is read is the compact text of the object, but for a line end.
+-- A compact text that is read is the compact text of the object, except for a line end.
 abbrev pub CompactTextsAreExact : Type 0
 CompactTextsAreExact = (limits : Limits) (detached : Option (List ℕ)) (text : List ℕ) (o : SignedObject) → AreOctetsHandedIn detached → IsOctets text → is_json_form text ≡ false
     → jws_of limits detached text ≡ Ok o → jws_compact_text (is_some detached) o ≡ Ok (without_line_end text)

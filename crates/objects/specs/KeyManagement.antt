@@ -1,5 +1,5 @@
--- The management of keys (RFC 7518 section 4): how a recipient's key delivers the content encryption key, by the algorithm and the
--- parameters of a joint header.
+-- Key management (RFC 7518 section 4): how a recipient's key delivers the content encryption key, by the algorithm and the parameters
+-- of a joint header.
 use Rattle.std.specs.Prelude.{ℕ, ◌&&◌, Bool, true, false, nat_le, List, length, codes, Option, Some, None, Result, Ok}
 use Rattle.std.specs.Option.{ok_or}
 use Rattle.serde_json.specs.Data.{Members}
@@ -14,7 +14,7 @@ use Rattle.objects.specs.Headers.{number_parameter, salt_parameter, octets_param
 
 -- How a recipient's key delivers the content encryption key, with the header parameters that its algorithm reads. See RFC 7518 section 4.1.
 pub data KeyManagement : Type 0 where
-  -- an algorithm that is not known, of which nothing is read
+  -- an algorithm that is not known; none of its parameters is read
   Unknown : KeyManagement
   -- the key is the content encryption key (section 4.5)
   Direct : KeyManagement
@@ -44,27 +44,27 @@ gcm_management header = do
   tag ← ok_or tag_if_there Header
   Ok (GcmKeyWrap iv tag)
 
--- what a header says where its algorithm delivers so (RFC 7518 sections 4.4, 4.5, 4.7.1 and 4.8.1)
+-- what a header says, by the mode of its algorithm (RFC 7518 sections 4.4, 4.5, 4.7.1 and 4.8.1)
 abbrev pub management_in : KeyManagementMode → Members → Result KeyManagement Refusal
 management_in mode.Direct header = Ok Direct
 management_in mode.KeyWrap header = Ok KeyWrap
 management_in mode.Password header = password_management header
 management_in mode.GcmKeyWrap header = gcm_management header
 
--- by its algorithm (RFC 7518 section 4.1)
+-- what a header says, by its algorithm (RFC 7518 section 4.1)
 abbrev pub management_by : Option KeyManagementAlg → Members → Result KeyManagement Refusal
 management_by None header = Ok Unknown
 management_by (Some alg) header = management_in (mode_of alg) header
 
--- by the name of this, among the algorithms that are known (RFC 7518 section 4.1, docs/SPECIFICATION.md "Objects" 3)
+-- what a header says, by the name of its algorithm among those that are known (RFC 7518 section 4.1, docs/SPECIFICATION.md "Objects" 3)
 abbrev pub key_management : List KeyManagementAlg → List ℕ → Members → Result KeyManagement Refusal
 key_management algs alg header = management_by (management_alg_among algs alg) header
 
--- the salt input and the count are as they have to be
+-- the salt input and the count are as RFC 7518 section 4.8.1 requires
 abbrev pub are_password_parameters : List ℕ → ℕ → Bool
 are_password_parameters p2s p2c = nat_le 8 (length p2s) && nat_le 1 p2c
 
--- it is one of an algorithm that delivers so
+-- the management is of an algorithm of this mode
 abbrev pub is_management_in : KeyManagementMode → KeyManagement → Bool
 is_management_in mode.Direct Direct = true
 is_management_in mode.KeyWrap KeyWrap = true
@@ -72,7 +72,7 @@ is_management_in mode.Password (Password p2s p2c) = are_password_parameters p2s 
 is_management_in mode.GcmKeyWrap (GcmKeyWrap iv tag) = true
 is_management_in m management = false
 
--- it is that of the algorithm
+-- the management is of the algorithm
 abbrev pub is_management_of : Option KeyManagementAlg → KeyManagement → Bool
 is_management_of (Some alg) management = is_management_in (mode_of alg) management
 is_management_of None Unknown = true

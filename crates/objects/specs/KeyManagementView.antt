@@ -1,4 +1,4 @@
--- What contracts see of the management of a key. It stands apart from the other views, which are of types that it is an invariant of.
+-- What contracts see of key management. It is apart from the other views, because it is in invariants of their types.
 use Rattle.objects.specs.KeyManagement as management
 use Rattle.objects.specs.declared.key_management.KeyManagement.{KeyManagement}
 use Rattle.objects.specs.declared.key_management.KeyManagement.TheVariants.{Unknown, Direct, KeyWrap, Password, GcmKeyWrap}

@@ -1,5 +1,5 @@
--- The texts of JWS and JWE objects (RFC 7515 section 7, RFC 7516 section 7) as they are read: which form they have, the parts of a compact
--- text, and the members of a JSON text.
+-- Reading the texts of JWS and JWE objects (RFC 7515 section 7, RFC 7516 section 7): their form, the parts of a compact text, and the
+-- members of a JSON text.
 use Rattle.std.specs.Prelude.{ℕ, ◌+◌, ◌==◌, ◌||◌, ◌&&◌, Bool, true, false, not, List, [], ◌∷◌, take, drop, is_none, position, nat_le, if◌then◌else◌, Option, Some, None, option_and_then, IfSome, Result, Ok, Err}
 use Rattle.std.specs.List.{find}
 use Rattle.std.specs.Option.{ok_or}
@@ -16,7 +16,7 @@ use Rattle.keys.specs.KeySets.{are_objects}
 
 -- ---- each of a list (docs/SPECIFICATION.md "Objects", the order of causes)
 
--- what each is read as, in order, or the first refusal
+-- the results of reading each, in order, or the first refusal
 abbrev pub each : {X Y : Type 0} → (X → Result Y Refusal) → List X → Result (List Y) Refusal
 each read [] = Ok []
 each read (x ∷ rest) = do
@@ -24,7 +24,7 @@ each read (x ∷ rest) = do
   others ← each read rest
   Ok (first ∷ others)
 
--- what each item is read as
+-- the same for the items of a JSON list
 abbrev pub each_item : {Y : Type 0} → (Data → Result Y Refusal) → Items → Result (List Y) Refusal
 each_item read no_items = Ok []
 each_item read (item x rest) = do
@@ -42,7 +42,7 @@ abbrev pub is_brace : Option ℕ → Bool
 is_brace None = false
 is_brace (Some c) = c == byte "{"
 
--- the text is in JSON form: but for white space it begins with a brace
+-- the text is in JSON form: it begins with a brace, after any white space
 unfoldable pub is_json_form : List ℕ → Bool
 is_json_form text = is_brace (find (λ c. not (is_json_space c)) text)
 
@@ -55,7 +55,7 @@ abbrev pub parts_at : List ℕ → Option ℕ → Result (List ℕ × List ℕ) 
 parts_at text None = Err Form
 parts_at text (Some i) = Ok (take i text, drop (i + 1) text)
 
--- what stands before and after the first dot
+-- the texts before and after the first dot
 unfoldable pub split_at_dot : List ℕ → Result (List ℕ × List ℕ) Refusal
 split_at_dot text = parts_at text (position is_dot text)
 
@@ -73,7 +73,7 @@ abbrev pub text_if_there : Option Data → Result (List ℕ) Refusal
 text_if_there None = Ok []
 text_if_there (Some value) = ok_or (as_str value) Form
 
--- a string, and the empty text where it is absent
+-- a string, or the empty text if it is absent
 unfoldable pub text_at : List ℕ → Data → Result (List ℕ) Refusal
 text_at name value = text_if_there (get name value)
 
@@ -87,34 +87,34 @@ has_text (c ∷ text) = true
 
 -- ---- a base64url text
 
--- the octets that it means
+-- the octets of the text, if it is a base64url text
 abbrev pub meaning : List ℕ → List ℕ
 meaning text = result_unwrap_or (decoded text) []
 
--- ---- the content, which may be handed in beside the object (RFC 7515 appendix F)
+-- ---- the content, which may be handed in with the object (RFC 7515 appendix F)
 
--- what stands in its place: its own text; or nothing, and then the content that was handed in counts as its text
+-- the text of a content: that of the object, or of the content that was handed in, and then the object must have none
 abbrev pub content_by : Option (List ℕ) → List ℕ → Result (List ℕ) Refusal
 content_by None text = Ok text
 content_by (Some content) text = do
   empty ← needs (not (has_text text)) Form
   Ok (base64url content)
 
--- a member, which must be there where no content was handed in
+-- the text of a content in a member, which must be there if no content was handed in
 abbrev pub content_text : Option (List ℕ) → List ℕ → Data → Result (List ℕ) Refusal
 content_text None name value = required_text name value
 content_text (Some content) name value = text_at name value >>= content_by (Some content)
 
--- the content that is handed in beside an object, where it is detached
+-- the content that is handed in with an object, if it is detached
 abbrev pub handed_in : Bool → List ℕ → Option (List ℕ)
 handed_in false content = None
 handed_in true content = Some content
 
--- which is octets
+-- a content that is handed in is octets
 abbrev pub AreOctetsHandedIn : Option (List ℕ) → Type 0
 AreOctetsHandedIn detached = IfSome detached IsOctets
 
--- what goes out beside the text
+-- the content that is written apart from the text, if it is detached
 abbrev pub handed_out : Bool → List ℕ → List ℕ
 handed_out false content = []
 handed_out true content = content
@@ -138,14 +138,14 @@ has_members (member k d rest) = true
 
 -- ---- how deep a header may nest (docs/SPECIFICATION.md "Octets and texts")
 
--- A text is read where it nests at most 127 deep, and so is a header in it where that nests one less deep.
+-- A text may nest 127 deep, and so a header in it one less.
 abbrev pub header_depth : ℕ
 header_depth = 126
 
--- one in a list of objects stands two deeper
+-- a header in a list of objects is two deeper in the text
 abbrev pub listed_header_depth : ℕ
 listed_header_depth = 124
 
--- that of each of so many
+-- the depth for each of n headers
 abbrev pub depth_of_each : ℕ → ℕ
 depth_of_each n = if nat_le n 1 then header_depth else listed_header_depth

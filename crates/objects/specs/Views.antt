@@ -55,12 +55,12 @@ header_view h = all_members (part_view h.protected) (part_view h.unprotected) (p
 
 -- ---- the content
 
--- what stands for its text
+-- the text of the content
 abbrev pub content_text_view : Content → List ℕ
 content_text_view (Text text) = text.now
 content_text_view (Octets octets) = base64url octets.items
 
--- a content is held as its text, and not as octets
+-- the content is held as its text, and not as octets
 abbrev pub content_is_text : Content → Bool
 content_is_text (Text text) = true
 content_is_text (Octets octets) = false

@@ -1,4 +1,4 @@
--- How a text is written: with values in their places at once, or with places left for them. It knows no kind of object.
+-- How a text is written: with its values, or with places left for them. This is the same for both kinds of objects.
 use Rattle.std.specs.Prelude.{ℕ, Bool, true, false, List, [], ◌∷◌, ◌++◌, codes, if◌then◌else◌, Option, Some, None}
 use Rattle.serde_json.specs.Data.{Data, string, object, Members}
 use Rattle.serde_json.specs.Written.{compact_text}
@@ -28,21 +28,21 @@ abbrev pub slot_by : Bool → List ℕ → Written → Written
 slot_by true octets w = record { finished = w.finished ++ w.text ∷ []; text = []; later = w.later; places = w.places }
 slot_by false octets w = pushed (base64url octets) w
 
--- a place, or in it the base64url text of the octets
+-- a place, or the base64url text of the octets
 abbrev pub with_slot : List ℕ → Written → Written
 with_slot octets w = slot_by w.places octets w
 
 -- ---- objects and lists (docs/SPECIFICATION.md "Octets and texts")
 
--- a bracket behind which nothing stands yet
+-- a bracket with nothing after it yet
 abbrev pub opened : List ℕ → Written → Written
 opened bracket w = record { finished = w.finished; text = w.text ++ bracket; later = false; places = w.places }
 
--- a text behind which a member or an item stands
+-- a text after which the object or list is not empty
 abbrev pub closed : List ℕ → Written → Written
 closed bracket w = record { finished = w.finished; text = w.text ++ bracket; later = true; places = w.places }
 
--- a comma, where something stands before
+-- a comma, if the object or list is not empty
 abbrev pub comma_by : Bool → Written → Written
 comma_by true w = pushed (codes ",") w
 comma_by false w = w
@@ -59,20 +59,20 @@ named name w = closed (codes "\":") (pushed name (pushed (codes "\"") (separated
 abbrev pub with_value : List ℕ → Data → Written → Written
 with_value name value w = pushed (compact_text value) (named name w)
 
--- a text that is not empty
+-- a member that is a text, unless it is empty
 abbrev pub with_text : List ℕ → List ℕ → Written → Written
 with_text name [] w = w
 with_text name (c ∷ text) w = with_value name (string (c ∷ text)) w
 
--- a header that has members
+-- a member that is a header, unless it has no members
 abbrev pub with_header : List ℕ → Members → Written → Written
 with_header name header w = if has_members header then with_value name (object header) w else w
 
--- the base64url text of the octets, which needs no escape, or a place for it
+-- a member that is the base64url text of the octets, which needs no escape, or a place for it
 abbrev pub with_place : List ℕ → List ℕ → Written → Written
 with_place name octets w = pushed (codes "\"") (with_slot octets (pushed (codes "\"") (named name w)))
 
--- the same, where it is in the text
+-- the same of a content, if it is in the text
 abbrev pub with_content : List ℕ → Option (List ℕ) → Written → Written
 with_content name None w = w
 with_content name (Some content) w = with_place name content w
@@ -82,7 +82,7 @@ abbrev pub inside : Bool → List ℕ → Option (List ℕ)
 inside false content = Some content
 inside true content = None
 
--- each as an object in a list
+-- the items of a list, each as an object
 abbrev pub with_items : {X : Type 0} → (X → Written → Written) → List X → Written → Written
 with_items with_one [] w = w
 with_items with_one (x ∷ rest) w = with_items with_one rest (closed (codes "}") (with_one x (opened (codes "{") (separated w))))
@@ -92,7 +92,7 @@ with_list name with_one xs w = closed (codes "]") (with_items with_one xs (opene
 
 -- ---- parts of a compact text (RFC 7515 section 7.1, RFC 7516 section 7.1)
 
--- the base64url text of octets behind a dot
+-- a dot and the base64url text of the octets
 abbrev pub with_part : List ℕ → Written → Written
 with_part octets w = pushed (base64url octets) (pushed (codes ".") w)
 
@@ -100,7 +100,7 @@ with_part octets w = pushed (base64url octets) (pushed (codes ".") w)
 abbrev pub with_place_part : List ℕ → Written → Written
 with_place_part octets w = with_slot octets (pushed (codes ".") w)
 
--- that of a content, which is empty where it is not in the text
+-- the part of a content, which is empty if the content is not in the text
 abbrev pub with_content_part : Option (List ℕ) → Written → Written
 with_content_part None w = pushed (codes ".") w
 with_content_part (Some content) w = with_place_part content w

@@ -1,5 +1,5 @@
-//! The parts of a compact text between its dots (RFC 7515 section 7.1, RFC 7516 section 7.1). It decodes nothing, and knows no kind
-//! of object.
+//! The parts of a compact text between its dots (RFC 7515 section 7.1, RFC 7516 section 7.1), not decoded, for both kinds of
+//! objects.
 ghost use Rattle.octets.specs.Outcomes.{Agrees};
 ghost use Rattle.objects.specs.Texts.{split_at_dot as parts_at_dot, three_parts};
 
@@ -8,7 +8,7 @@ mod dots;
 use crate::compact::dots::first_dot;
 use octets::{Refusal, needs};
 
-/// The three parts between dots.
+/// The three parts of a text with two dots. Refuses any other text with `Form`.
 #[tactic(auto, unfolding(crate::specs::Texts::three_parts))]
 pub(crate) fn three_parts_of(text: &[u8]) -> Result<(&[u8], &[u8], &[u8]), Refusal>
     ensures { Agrees (λ parts. (parts.0.now, parts.1.now, parts.2.now)) result
@@ -20,7 +20,7 @@ pub(crate) fn three_parts_of(text: &[u8]) -> Result<(&[u8], &[u8], &[u8]), Refus
     Ok((first, second, third))
 }
 
-/// What stands before and after the first dot.
+/// The texts before and after the first dot. Refuses a text without a dot with `Form`.
 #[tactic(auto, unfolding(crate::specs::Texts::split_at_dot))]
 pub(crate) fn split_at_dot(text: &[u8]) -> Result<(&[u8], &[u8]), Refusal>
     ensures { Agrees (λ parts. (parts.0.now, parts.1.now)) result

@@ -1,4 +1,4 @@
-//! The content of an object, which stands in its text or is handed in beside it (RFC 7515 appendix F).
+//! The content of an object, which is in its text or is handed in (RFC 7515 appendix F).
 ghost use Rattle.std.specs.Prelude.{◌≡◌, is_none, option_map, IfOk};
 ghost use Rattle.serde_json.specs.View.{view};
 ghost use Rattle.octets.specs.Base64url.{decoded};
@@ -17,7 +17,7 @@ use octets::{Refusal, b64_decode, needs};
 use serde_json::Value;
 use std::alloc::Global;
 
-/// The text that an object has of its content, or the octets that were handed in.
+/// The text of the content in an object, or the octets that were handed in.
 #[derive(Drop)]
 pub(crate) enum Content<'t> {
     Text(&'t [u8]),
@@ -25,7 +25,7 @@ pub(crate) enum Content<'t> {
 }
 
 impl<'t> Content<'t> {
-    /// The content of an object with this part. Refused with `Form` where one was handed in and the part is not empty.
+    /// The content of an object with this part. Refuses with `Form` if one was handed in and the part is not empty.
     pub(crate) fn of_part(part: &'t [u8], detached: Option<Vec<u8>>) -> Result<Content<'t>, Refusal>
         ensures exact { Agrees content_text_view result (content_by (option_map (λ c. c.items) detached) part.now) }
         ensures form { IfOk result (λ content. content_is_text content ≡ is_none detached) }
@@ -39,8 +39,8 @@ impl<'t> Content<'t> {
         }
     }
 
-    /// The content of an object with this member, if it is there. Refused with `Form` where the member is no string, where it
-    /// is absent and no content was handed in, and where one was and it is not empty.
+    /// The content of an object with this member. Refuses with `Form` if the member is no string, if it is absent and no content
+    /// was handed in, or if one was handed in and the member is not empty.
     pub(crate) fn of_member(
         value: &'t Value,
         name: &str,
@@ -54,7 +54,7 @@ impl<'t> Content<'t> {
         }
     }
 
-    /// Its octets. Refused with `Base64` where its text is no base64url text.
+    /// Its octets. Refuses with `Base64` if its text is no base64url text.
     #[tactic(auto, using(octets::proofs::Lemmas::meaning_of_text))]
     pub(crate) fn octets(self, alloc: Global) -> Result<Vec<u8>, Refusal>
         ensures { AgreesUnlessMemory (λ octets. octets.items) result (decoded (content_text_view self.entry)) }
@@ -68,7 +68,7 @@ impl<'t> Content<'t> {
         }
     }
 
-    /// The payload that it is, without memory. Refused with `Base64` where its text is no base64url text.
+    /// The payload, made without memory. Refuses with `Base64` if its text is no base64url text.
     #[tactic(auto, using(octets::proofs::Lemmas::meaning_of_text))]
     pub(crate) fn payload(self) -> Result<Payload<'t>, Refusal>
         ensures exact { Agrees payload_view result (decoded (content_text_view self.entry)) }

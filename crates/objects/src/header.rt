@@ -1,4 +1,4 @@
-//! JOSE headers (RFC 7515 section 4, RFC 7516 section 4). It sees their members alone.
+//! JOSE headers (RFC 7515 section 4, RFC 7516 section 4): their members.
 ghost use Rattle.std.specs.Prelude.{◌≡◌, true, false, IfErr, Some, codes, is_some, option_map, string_bytes};
 ghost use Rattle.std.specs.Option.{ok_or};
 ghost use Rattle.octets.specs.Base64url.{decoded};
@@ -17,9 +17,9 @@ use octets::{Refusal, b64_decode, needs};
 use serde_json::{Map, Value};
 use std::alloc::Global;
 
-/// The JOSE Header of a signature or a recipient (RFC 7515 section 4, RFC 7516 section 4): the union of the
-/// members of its parts, no two of which have a name in common. `per_recipient` is the part that is not
-/// protected and belongs to this one recipient, or to this one signature; its member in JSON form is `header`.
+/// The JOSE Header of a signature or a recipient (RFC 7515 section 4, RFC 7516 section 4): the union of its
+/// parts, no two of which have a name in common. `per_recipient` is the unprotected part of this one
+/// recipient or signature: the member `header` in JSON form.
 #[derive(Clone, Copy)]
 pub struct Header<'m> {
     pub(crate) protected: Option<&'m Map<String, Value>>,
@@ -28,9 +28,9 @@ pub struct Header<'m> {
 }
 
 impl<'m> Header<'m> {
-    /// The JOSE Header that is the union of these parts: the protected header, the shared unprotected
-    /// header, and the unprotected header of one recipient or signature. An absent part has no members.
-    /// Refused with `Header` where a name stands in two parts.
+    /// The union of these parts: the protected header, the shared unprotected header, and the unprotected
+    /// header of one recipient or signature. An absent part has no members. Refuses with `Header` if a name
+    /// is in two parts.
     #[tactic(auto, unfolding(crate::specs::Headers::joint_header))]
     pub fn joint(
         protected: Option<&'m Map<String, Value>>,
@@ -61,14 +61,14 @@ impl<'m> Header<'m> {
             .or(part_member(self.per_recipient, name))
     }
 
-    /// The header has a member of this name, whatever it holds.
+    /// Whether the header has a member of this name, of any value.
     pub fn has(&self, name: &str) -> bool
         ensures { result ≡ is_some (get_member name.now (header_view self.now)) }
     {
         self.get(name).is_some()
     }
 
-    /// `alg`, where it is there (RFC 7515 section 4.1.1). Refused with `Header` where it is no string.
+    /// `alg`, if it is there (RFC 7515 section 4.1.1). Refuses with `Header` if it is no string.
     pub fn alg(&self) -> Result<Option<&'m str>, Refusal>
         ensures exact { Agrees (option_map (λ s. s.now)) result
             (string_parameter (codes "alg") (header_view self.now)) }
@@ -77,7 +77,7 @@ impl<'m> Header<'m> {
         self.string("alg")
     }
 
-    /// `enc`, where it is there (RFC 7516 section 4.1.2). Refused with `Header` where it is no string.
+    /// `enc`, if it is there (RFC 7516 section 4.1.2). Refuses with `Header` if it is no string.
     pub fn enc(&self) -> Result<Option<&'m str>, Refusal>
         ensures exact { Agrees (option_map (λ s. s.now)) result
             (string_parameter (codes "enc") (header_view self.now)) }
@@ -86,8 +86,8 @@ impl<'m> Header<'m> {
         self.string("enc")
     }
 
-    /// `p2s`, the salt input, where it is there (RFC 7518 section 4.8.1.1). Refused with `Header` where
-    /// it is not the base64url text of at least 8 octets.
+    /// `p2s`, the salt input, if it is there (RFC 7518 section 4.8.1.1). Refuses with `Header` if it is not
+    /// the base64url text of at least 8 octets. May fail with `Memory`.
     #[tactic(auto, unfolding(crate::specs::Headers::salt_parameter))]
     pub fn p2s(&self, alloc: Global) -> Result<Option<Vec<u8>>, Refusal>
         ensures { AgreesUnlessMemory (option_map (λ octets. octets.items)) result
@@ -99,8 +99,8 @@ impl<'m> Header<'m> {
         }
     }
 
-    /// `p2c`, the count of iterations, where it is there (RFC 7518 section 4.8.1.2). Refused with
-    /// `Header` where it is no whole number from 0.
+    /// `p2c`, the count of iterations, if it is there (RFC 7518 section 4.8.1.2). Refuses with `Header` if
+    /// it is no whole number from 0.
     #[tactic(auto, unfolding(crate::specs::Headers::number_parameter))]
     pub fn p2c(&self) -> Result<Option<u64>, Refusal>
         ensures exact { Agrees (λ count. count) result
@@ -113,8 +113,8 @@ impl<'m> Header<'m> {
         }
     }
 
-    /// `iv`, the initialization vector of a key wrap by AES in GCM, where it is there (RFC 7518 section
-    /// 4.7.1.1). Refused with `Header` where it is no base64url text.
+    /// `iv`, the initialization vector of AES-GCM key wrap, if it is there (RFC 7518 section 4.7.1.1).
+    /// Refuses with `Header` if it is no base64url text. May fail with `Memory`.
     pub fn iv(&self, alloc: Global) -> Result<Option<Vec<u8>>, Refusal>
         ensures { AgreesUnlessMemory (option_map (λ octets. octets.items)) result
             (octets_parameter (codes "iv") (header_view self.now)) }
@@ -122,8 +122,8 @@ impl<'m> Header<'m> {
         self.octets(alloc, "iv")
     }
 
-    /// `tag`, the tag of a key wrap by AES in GCM, where it is there (RFC 7518 section 4.7.1.2). Refused
-    /// with `Header` where it is no base64url text.
+    /// `tag`, the tag of AES-GCM key wrap, if it is there (RFC 7518 section 4.7.1.2). Refuses with `Header`
+    /// if it is no base64url text. May fail with `Memory`.
     pub fn tag(&self, alloc: Global) -> Result<Option<Vec<u8>>, Refusal>
         ensures { AgreesUnlessMemory (option_map (λ octets. octets.items)) result
             (octets_parameter (codes "tag") (header_view self.now)) }
@@ -131,8 +131,7 @@ impl<'m> Header<'m> {
         self.octets(alloc, "tag")
     }
 
-    /// The octets whose text is this member, where it is there. Refused with `Header` where it is no
-    /// base64url text.
+    /// The octets of this member, if it is there. Refuses with `Header` if it is no base64url text.
     #[tactic(auto, unfolding(crate::specs::Headers::octets_parameter))]
     fn octets(&self, alloc: Global, name: &str) -> Result<Option<Vec<u8>>, Refusal>
         ensures { AgreesUnlessMemory (option_map (λ octets. octets.items)) result
@@ -144,7 +143,7 @@ impl<'m> Header<'m> {
         }
     }
 
-    /// The text of this member, where it is there. Refused with `Header` where it is no string.
+    /// The text of this member, if it is there. Refuses with `Header` if it is no string.
     #[tactic(auto, unfolding(crate::specs::Headers::string_parameter))]
     fn string(&self, name: &str) -> Result<Option<&'m str>, Refusal>
         ensures exact { Agrees (option_map (λ s. s.now)) result
@@ -158,7 +157,7 @@ impl<'m> Header<'m> {
     }
 }
 
-/// Some name stands in both parts.
+/// Whether some name is in both parts.
 fn parts_overlap(part: Option<&Map<String, Value>>, other: Option<&Map<String, Value>>) -> bool
     ensures { result ≡ overlap_of (part_view part.entry) (part_view other.entry) }
 {
@@ -173,7 +172,7 @@ fn parts_overlap(part: Option<&Map<String, Value>>, other: Option<&Map<String, V
     false
 }
 
-/// The octets of a salt's text, of which there are at least 8.
+/// The octets of the text of a salt, at least 8.
 fn read_salt(alloc: Global, text: &[u8]) -> Result<Vec<u8>, Refusal>
     ensures { AgreesUnlessMemory (λ octets. Some octets.items) result (salt (decoded text.now)) }
 {
@@ -182,7 +181,7 @@ fn read_salt(alloc: Global, text: &[u8]) -> Result<Vec<u8>, Refusal>
     Ok(octets)
 }
 
-/// The octets of a parameter's text.
+/// The octets of the text of a parameter.
 fn read_octets(alloc: Global, text: &[u8]) -> Result<Vec<u8>, Refusal>
     ensures { AgreesUnlessMemory (λ octets. Some octets.items) result (parameter_octets (decoded text.now)) }
 {

@@ -1,5 +1,5 @@
-//! The members of an object's JSON text that are texts, and its lists of objects (RFC 7515 section 7.2, RFC 7516 section 7.2). It
-//! decodes nothing, and knows no kind of object.
+//! The members of an object's JSON text that are texts, not decoded, and its lists of objects, for both kinds of objects (RFC 7515
+//! section 7.2, RFC 7516 section 7.2).
 ghost use Rattle.std.specs.Prelude.{◌≡◌, ◌&&◌, false, IfOk, IfErr};
 ghost use Rattle.serde_json.specs.View.{view, items_view};
 ghost use Rattle.serde_json.specs.Written.{has_float, items_have_float};
@@ -10,7 +10,7 @@ use keys::are_objects;
 use octets::{Refusal, needs};
 use serde_json::Value;
 
-/// The text of a member that is a string, and none where it is absent. Refused with `Form` where it is no string.
+/// The text of a member, which is empty if the member is absent. Refuses with `Form` if it is no string.
 #[tactic(auto, unfolding(crate::specs::Texts::text_at))]
 pub fn text_at<'v>(value: &'v Value, name: &str) -> Result<&'v [u8], Refusal>
     ensures exact { Agrees (λ text. text.now) result (text_at name.now (view value.now)) }
@@ -25,7 +25,7 @@ pub fn text_at<'v>(value: &'v Value, name: &str) -> Result<&'v [u8], Refusal>
     }
 }
 
-/// The text of a member that must be there and be a string.
+/// The text of a member, which must be there and be a string. Refuses with `Form`.
 #[tactic(auto, unfolding(crate::specs::Texts::required_text))]
 pub(crate) fn required_text<'v>(value: &'v Value, name: &str) -> Result<&'v [u8], Refusal>
     ensures { Agrees (λ text. text.now) result (required_text name.now (view value.now)) }
@@ -36,7 +36,7 @@ pub(crate) fn required_text<'v>(value: &'v Value, name: &str) -> Result<&'v [u8]
     }
 }
 
-/// The items of a list of at least one object.
+/// The items of a list of at least one object. Refuses with `Form`.
 #[tactic(auto, unfolding(crate::specs::Texts::object_list), using(crate::proofs::Items::some_items))]
 pub(crate) fn object_list(value: &Value) -> Result<&[Value], Refusal>
     ensures exact { Agrees (λ items. items_view items.now) result (object_list (view value.now)) }

@@ -1,4 +1,4 @@
-//! Encrypted objects (RFC 7516). It is given an object's text or its members, and sees no key.
+//! Encrypted objects (RFC 7516), made of a text or of members.
 ghost use Rattle.std.specs.Prelude.{◌≡◌, ◌≤◌, length, map, option_map, IfOk};
 ghost use Rattle.std.specs.List.{list_all};
 ghost use Rattle.serde_json.specs.View.{members_view};
@@ -31,7 +31,7 @@ use serde_json::{Map, Value};
 use std::alloc::Global;
 use std::mem::replace;
 
-/// An encrypted object. It has 256 recipients at most.
+/// An encrypted object. It has at most `MOST_RECIPIENTS` recipients.
 #[derive(Drop)]
 pub struct Jwe {
     protected: String,
@@ -45,13 +45,15 @@ pub struct Jwe {
 }
 
 impl Jwe {
-    /// The object of a text in compact form, with an LF or a CR LF at its end or without, or in JSON form, general or
-    /// flattened (RFC 7516 section 7). A detached ciphertext is handed in; then the text's own has to be absent or empty.
-    /// Refused, in the order of causes that docs/SPECIFICATION.md has under "Objects", each over the whole text before the next,
-    /// with `Json` or `Number`, `Form`, `Limit` where there are more than 256 recipients, `Base64`, `Json`, `Number` or `Header`
-    /// where the protected header is no object, `Header` where a joint header is none, its `alg` or `enc` is absent or no string,
-    /// it lacks what its `alg` reads, or `enc` is not the same for all, and `Unsupported` where a header has a `crit` or a `zip`.
-    /// Whether the algorithms are supported is not asked.
+    /// Reads the object of a text in compact form, with or without an LF or a CR LF at its end, or in JSON form, general or
+    /// flattened (RFC 7516 section 7). A detached ciphertext is handed in, and then that of the text must be absent or empty.
+    /// The algorithms may be unsupported.
+    ///
+    /// Refuses, each cause over the whole text before the next (docs/SPECIFICATION.md "Objects"), with `Json` or `Number`;
+    /// `Form`; `Limit` if there are more than `MOST_RECIPIENTS`; `Base64`; `Json`, `Number` or `Header` if the protected header
+    /// is no object; `Header` if a name is in two headers of a recipient, its `alg` or `enc` is absent or no string, a
+    /// parameter of its `alg` is missing or wrong, or `enc` is not the same for all; and `Unsupported` if a header has a `crit`
+    /// or a `zip`. May fail with `Memory`.
     #[tactic(auto, using(crate::proofs::MadeJwe::objects_are_made))]
     pub fn read(alloc: Global, text: &[u8], detached: Option<Vec<u8>>) -> Result<Jwe, Refusal>
         ensures exact { AgreesUnlessMemory jwe_view result (jwe_of limits (option_map (λ c. c.items) detached) text.now) }
@@ -83,7 +85,7 @@ impl Jwe {
         &self.iv
     }
 
-    /// The additional data beside the protected header.
+    /// The additional data without the protected header: the member `aad`.
     pub fn aad(&self) -> &[u8]
         ensures { result.now ≡ (jwe_view self.now).aad }
     {
@@ -103,7 +105,7 @@ impl Jwe {
         &self.tag
     }
 
-    /// Takes the ciphertext out, and leaves none.
+    /// Takes the ciphertext out of the object, which then has none.
     pub fn take_ciphertext(&mut self, alloc: Global) -> Vec<u8>
         ensures taken { result.items ≡ (jwe_view self.old).ciphertext }
         ensures left { jwe_view self.new ≡ without_ciphertext (jwe_view self.old) }
@@ -119,8 +121,7 @@ impl Jwe {
         &self.recipients.list
     }
 
-    /// The JOSE Header of one of its recipients (RFC 7516 section 4): the members of the three headers, no two of which have a
-    /// name in common.
+    /// The JOSE Header of one of its recipients (RFC 7516 section 4): the members of three headers without a name in common.
     pub fn joint_header<'j>(&'j self, recipient: &'j Recipient) -> Header<'j>
         ensures { header_view result ≡ all_members (jwe_view self.now).protected_members (jwe_view self.now).unprotected (recipient_view recipient.now).header }
     {
@@ -132,7 +133,7 @@ impl Jwe {
     }
 }
 
-/// The object of a text, in the form that it has.
+/// The object of a text in either form.
 #[tactic(auto, unfolding(crate::specs::Jwe::jwe_of, crate::specs::Jwe::encoded_jwe))]
 fn object_of_text(alloc: Global, text: &[u8], detached: Option<Vec<u8>>) -> Result<Jwe, Refusal>
     ensures { AgreesUnlessMemory jwe_view result (jwe_of limits (option_map (λ c. c.items) detached) text.now) }
@@ -198,7 +199,7 @@ pub(crate) fn encrypted_object(
     })
 }
 
-/// No part of a header has a member that is refused.
+/// Whether no part of a header has a member that is refused.
 #[tactic(auto, using(crate::proofs::Each::views))]
 fn have_no_crit_or_zip(
     protected: &Map<String, Value>,
@@ -212,7 +213,7 @@ fn have_no_crit_or_zip(
         && recipients_have_no_crit_or_zip(recipients)
 }
 
-/// No per-recipient header has such a member.
+/// Whether no per-recipient header has a member that is refused.
 fn recipients_have_no_crit_or_zip(recipients: &[RecipientMembers]) -> bool
     ensures { result ≡ list_all (λ r. has_no_crit_or_zip_header (recipient_members_view r).header) recipients.now }
 {

@@ -1,4 +1,4 @@
-//! Signed objects (RFC 7515). It is given an object's text or its members, and sees no key.
+//! Signed objects (RFC 7515), made of a text or of members.
 ghost use Rattle.std.specs.Prelude.{◌≡◌, ◌≤◌, ◌&&◌, ◌++◌, false, is_none, length, map, not, option_map, Err, IfOk, IfErr, OnOk, OnErr};
 ghost use Rattle.octets.specs.Devices.{next_count, AppendsPrefixOf, IsFinishedOnce};
 ghost use Rattle.octets.specs.Outcomes.{AgreesUnlessMemory};
@@ -28,7 +28,7 @@ use octets::laws::are_octets;
 use octets::{Output, Refusal, needs, without_line_end};
 use std::alloc::Global;
 
-/// A signed object. It has 256 signatures at most. The payload of a compact text stands in the text that was read.
+/// A signed object. It has at most `MOST_RECIPIENTS` signatures. The payload of a compact text is not copied from the text.
 #[derive(Drop)]
 pub struct Jws<'t> {
     payload: Payload<'t>,
@@ -36,14 +36,15 @@ pub struct Jws<'t> {
 }
 
 impl<'t> Jws<'t> {
-    /// The object of a text in compact form, with an LF or a CR LF at its end or without, or in JSON form, general or
-    /// flattened (RFC 7515 section 7). A detached payload (RFC 7515 appendix F) is handed in; then the text's own has to be
-    /// absent or empty. Nothing is verified, and whether the algorithms are supported is not asked.
+    /// Reads the object of a text in compact form, with or without an LF or a CR LF at its end, or in JSON form, general or
+    /// flattened (RFC 7515 section 7). A detached payload (RFC 7515 appendix F) is handed in, and then that of the text must be
+    /// absent or empty. Nothing is verified, and the algorithms may be unsupported.
     ///
-    /// Refused, in the order of causes that docs/SPECIFICATION.md has under "Objects", each over the whole text before the next,
-    /// with `Json` or `Number`, `Form`, `Limit` where there are more than 256 signatures, `Base64`, `Json`, `Number` or `Header`
-    /// where a protected header is no object, `Header` where a joint header is none, its `alg` is absent or no string or it lacks
-    /// what that reads, and `Unsupported` where a header has a `crit` (RFC 7515 section 4.1.11).
+    /// Refuses, each cause over the whole text before the next (docs/SPECIFICATION.md "Objects"), with `Json` or `Number`;
+    /// `Form`; `Limit` if there are more than `MOST_RECIPIENTS` signatures; `Base64`; `Json`, `Number` or `Header` if a protected
+    /// header is no object; `Header` if a name is in both headers of a signature, its `alg` is absent or no string, or a
+    /// parameter of its `alg` is missing or wrong; and `Unsupported` if a header has a `crit` (RFC 7515 section 4.1.11). May
+    /// fail with `Memory`.
     #[tactic(auto, using(crate::proofs::MadeJws::objects_are_made))]
     pub fn read(
         alloc: Global,
@@ -59,7 +60,7 @@ impl<'t> Jws<'t> {
         object_of_text(alloc, text, detached)
     }
 
-    /// A copy of the octets of the payload.
+    /// A copy of the octets of the payload. Fails only with `Memory`.
     pub fn payload(&self, alloc: Global) -> Result<Vec<u8>, Refusal>
         ensures copy { IfOk result (λ octets. octets.items ≡ (jws_view self.now).payload) }
         ensures memory { IfErr result (λ e. e ≡ Refusal.Memory) }
@@ -67,7 +68,7 @@ impl<'t> Jws<'t> {
         self.payload.octets(alloc)
     }
 
-    /// The payload as it is held: as its base64url text if the object was read from a compact text that has it, and otherwise as octets.
+    /// The payload as it is held: as its base64url text if the object was read from a compact text with it, and otherwise as octets.
     pub fn held_payload(&self) -> HeldContent<'_>
         ensures octets { held_view result ≡ (jws_view self.now).payload }
         ensures form { is_text result ≡ holds_text self.now }
@@ -75,8 +76,8 @@ impl<'t> Jws<'t> {
         self.payload.held()
     }
 
-    /// Writes the octets of the payload, and finishes. It asks for no memory. Where the output fails a beginning of them
-    /// stands.
+    /// Writes the octets of the payload and finishes the output, without memory. Refuses with `Write` if the output fails, and
+    /// then a beginning of them is written.
     pub fn write_payload<O: Output>(&self, out: &mut O) -> Result<(), Refusal>
         ensures all { OnOk result (O.written out.new ≡ O.written out.old ++ (jws_view self.now).payload) }
         ensures finished { OnOk result (IsFinishedOnce O.is_finished O.endings out.old out.new) }
@@ -98,7 +99,7 @@ impl<'t> Jws<'t> {
     }
 }
 
-/// The object of a text, in the form that it has.
+/// The object of a text in either form.
 #[tactic(auto, unfolding(crate::specs::Jws::jws_of, crate::specs::Jws::encoded_jws))]
 fn object_of_text<'t>(
     alloc: Global,
@@ -118,7 +119,7 @@ fn object_of_text<'t>(
     }
 }
 
-/// The object whose members have these texts, which it does not keep.
+/// The object whose members have these texts. It keeps none of the texts.
 #[tactic(auto, unfolding(crate::specs::Jws::decoded_object))]
 fn decoded_object<'t>(alloc: Global, texts: EncodedJws<'_>) -> Result<Jws<'t>, Refusal>
     ensures exact { AgreesUnlessMemory jws_view result (decoded_jws limits (encoded_jws_view texts.entry)) }
@@ -134,7 +135,7 @@ fn decoded_object<'t>(alloc: Global, texts: EncodedJws<'_>) -> Result<Jws<'t>, R
     signed_object(alloc, Payload::Octets(payload), signatures)
 }
 
-/// The same, whose payload stands in its text.
+/// The same, but the object keeps the text of the payload.
 #[tactic(auto, unfolding(crate::specs::Jws::decoded_object))]
 fn object_of_received_texts<'t>(alloc: Global, texts: EncodedJws<'t>) -> Result<Jws<'t>, Refusal>
     ensures exact { AgreesUnlessMemory jws_view result (decoded_jws limits (encoded_jws_view texts.entry)) }

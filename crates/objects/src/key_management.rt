@@ -1,4 +1,4 @@
-//! How a recipient's key delivers the content encryption key (RFC 7518 section 4), as a joint header says it. It sees no key.
+//! How a recipient's key delivers the content encryption key (RFC 7518 section 4), as a joint header says.
 ghost use Rattle.std.specs.Prelude.{◌≡◌, true, IfOk};
 ghost use Rattle.octets.specs.Outcomes.{AgreesUnlessMemory};
 ghost use Rattle.keys.specs.Algorithms.{management_alg_of};
@@ -18,7 +18,7 @@ use std::alloc::Global;
 /// algorithm reads.
 #[derive(Drop)]
 pub enum KeyManagement {
-    /// An algorithm that is not known, of which nothing is read.
+    /// An algorithm that is not known; none of its parameters is read.
     Unknown,
     /// The key is the content encryption key (section 4.5).
     Direct,
@@ -33,14 +33,14 @@ pub enum KeyManagement {
     },
     /// Key wrap by AES in GCM (section 4.7).
     GcmKeyWrap {
-        /// The initialization vector, of any length (section 4.7.1.1). One that is not of 12 octets delivers nothing.
+        /// The initialization vector, of any length (section 4.7.1.1). It delivers nothing unless it has 12 octets.
         iv: Vec<u8>,
-        /// The tag, of any length (section 4.7.1.2). One that is not of 16 octets delivers nothing.
+        /// The tag, of any length (section 4.7.1.2). It delivers nothing unless it has 16 octets.
         tag: Vec<u8>,
     },
 }
 
-/// What a header says by the algorithm of this name.
+/// What a header says, by the name of its algorithm.
 pub(crate) fn read_key_management(
     alloc: Global,
     alg: &str,
@@ -52,7 +52,7 @@ pub(crate) fn read_key_management(
     read_management(alloc, KeyManagementAlg::named(alg), header)
 }
 
-/// What a header says by an algorithm.
+/// What a header says, by its algorithm.
 fn read_management(
     alloc: Global,
     alg: Option<KeyManagementAlg>,
@@ -66,7 +66,7 @@ fn read_management(
     }
 }
 
-/// What a header says where its algorithm delivers so.
+/// What a header says, by the mode of its algorithm.
 fn management_in(
     alloc: Global,
     mode: KeyManagementMode,
@@ -93,7 +93,7 @@ fn read_password(alloc: Global, header: Header<'_>) -> Result<KeyManagement, Ref
     Ok(KeyManagement::Password { p2s, p2c })
 }
 
-/// The parameters of a key wrap by AES in GCM (section 4.7.1).
+/// The parameters of AES-GCM key wrap (section 4.7.1).
 #[tactic(auto, unfolding(crate::specs::KeyManagement::gcm_management))]
 fn read_gcm_key_wrap(alloc: Global, header: Header<'_>) -> Result<KeyManagement, Refusal>
     ensures { AgreesUnlessMemory management_view result (gcm_management (header_view header.entry)) }

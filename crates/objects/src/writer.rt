@@ -1,5 +1,5 @@
-//! The texts of an object as they are written (RFC 7515 section 7, RFC 7516 section 7): as one text, with values in it, or as
-//! the texts round places that are left for values. It knows no kind of object.
+//! Writing the text of an object of either kind (RFC 7515 section 7, RFC 7516 section 7): as one text with its values, or as the
+//! texts around places that are left for values.
 ghost use Rattle.std.specs.Prelude.{◌≡◌, ◌++◌, true, false, map, option_map, Err, Ok, IfOk, IfErr, OnOk, OnErr, string_bytes};
 ghost use Rattle.serde_json.specs.Data.{object};
 ghost use Rattle.serde_json.specs.View.{view, members_view};
@@ -17,27 +17,27 @@ use serde_json::Value;
 use std::alloc::Global;
 use std::mem;
 
-/// Texts that are being written. In JSON form their members are written in byte order of their names.
+/// Texts that are being written. In JSON form the members are written in byte order of their names.
 #[derive(Drop)]
 pub(crate) struct TextWriter {
     /// The texts before the places that were left.
     pub(crate) finished: Vec<String>,
-    /// What was written behind the last place.
+    /// The text after the last place.
     pub(crate) text: String,
-    /// A member or an item stands before, in the object or list that is written.
+    /// The object or list that is written is not empty.
     pub(crate) later: bool,
-    /// Places are left for values, which are else written.
+    /// Places are left for values. Otherwise the values are written.
     pub(crate) places: bool,
 }
 
-/// What stands in a list as an object of its own.
+/// An item of a list, which is written as an object.
 pub(crate) trait Listed {
     /// What contracts see of it.
     ghost Seen: { Type 0 };
 
     ghost seen: { Self → Seen };
 
-    /// With its members.
+    /// What was written, and then its members.
     ghost with_one: { Seen → Written → Written };
 
     /// Writes its members.
@@ -59,7 +59,7 @@ impl TextWriter {
         }
     }
 
-    /// The texts, of which there is one more than places.
+    /// The texts, one more than there are places.
     pub(crate) fn into_texts(self) -> Result<Vec<String>, Refusal>
         ensures texts { IfOk result (λ texts. map string_bytes texts.items ≡ all_texts (written_view self)) }
         ensures memory { IfErr result (λ e. e ≡ Refusal.Memory) }
@@ -70,7 +70,7 @@ impl TextWriter {
         Ok(texts)
     }
 
-    /// The text, where no places were left.
+    /// The text, if no places were left.
     pub(crate) fn into_text(self) -> String
         ensures { string_bytes result ≡ (written_view self).text }
     {
@@ -78,7 +78,7 @@ impl TextWriter {
         text
     }
 
-    /// Adds a text, as it is.
+    /// Adds a text as it is.
     pub(crate) fn push(&mut self, text: &str) -> Result<(), Refusal>
         ensures written { OnOk result (written_view self.new ≡ pushed text.now (written_view self.old)) }
         ensures memory { OnErr result (result ≡ Err Refusal.Memory) }
@@ -119,7 +119,7 @@ impl TextWriter {
         Ok(())
     }
 
-    /// Writes a comma where something stands before.
+    /// Writes a comma if the object or list is not empty.
     pub(crate) fn separate(&mut self) -> Result<(), Refusal>
         ensures written { OnOk result (written_view self.new ≡ separated (written_view self.old)) }
         ensures memory { OnErr result (result ≡ Err Refusal.Memory) }
@@ -130,7 +130,7 @@ impl TextWriter {
         Ok(())
     }
 
-    /// Begins a member by its name, which needs no escape.
+    /// Begins a member with its name, which needs no escape.
     pub(crate) fn name(&mut self, name: &str) -> Result<(), Refusal>
         ensures written { OnOk result (written_view self.new ≡ named name.now (written_view self.old)) }
         ensures memory { OnErr result (result ≡ Err Refusal.Memory) }
@@ -152,7 +152,7 @@ impl TextWriter {
         self.push(&text)
     }
 
-    /// Writes a member whose text is not empty.
+    /// Writes a member that is a text, unless it is empty.
     pub(crate) fn text(&mut self, alloc: Global, name: &str, text: String) -> Result<(), Refusal>
         ensures written { OnOk result (written_view self.new ≡ with_text name.now (string_bytes text) (written_view self.old)) }
         ensures memory { OnErr result (result ≡ Err Refusal.Memory) }
@@ -163,7 +163,7 @@ impl TextWriter {
         self.value(alloc, name, &Value::String(text))
     }
 
-    /// Writes the base64url text of the octets, unless there are none.
+    /// Writes a member that is the base64url text of the octets, unless there are none.
     pub(crate) fn octets(&mut self, alloc: Global, name: &str, octets: &[u8]) -> Result<(), Refusal>
         ensures written { OnOk result (written_view self.new ≡ with_text name.now (base64url octets.now) (written_view self.old)) }
         ensures memory { OnErr result (result ≡ Err Refusal.Memory) }
@@ -172,7 +172,7 @@ impl TextWriter {
         self.text(alloc, name, text)
     }
 
-    /// Writes a header that has members.
+    /// Writes a member that is a header, unless it has no members.
     pub(crate) fn header(
         &mut self,
         alloc: Global,
@@ -205,7 +205,7 @@ impl TextWriter {
         self.push("\"")
     }
 
-    /// The same of a content that is in the text.
+    /// The same of a content, if it is in the text.
     pub(crate) fn content(
         &mut self,
         alloc: Global,
@@ -221,7 +221,7 @@ impl TextWriter {
         }
     }
 
-    /// Writes a list, each of it as an object.
+    /// Writes a list, each item as an object.
     pub(crate) fn list<T: Listed>(
         &mut self,
         alloc: Global,
@@ -237,7 +237,7 @@ impl TextWriter {
         self.end("]")
     }
 
-    /// Writes these one after another.
+    /// Writes the items, one after another.
     fn items<T: Listed>(&mut self, alloc: Global, items: &[T]) -> Result<(), Refusal>
         ensures written { OnOk result (written_view self.new ≡ with_items T.with_one (map T.seen items.now) (written_view self.old)) }
         ensures memory { OnErr result (result ≡ Err Refusal.Memory) }
@@ -251,7 +251,7 @@ impl TextWriter {
         Ok(())
     }
 
-    /// Writes a part of a compact text behind a dot.
+    /// Writes a dot and a part of a compact text.
     pub(crate) fn part(&mut self, octets: &[u8]) -> Result<(), Refusal>
         ensures written { OnOk result (written_view self.new ≡ with_part octets.now (written_view self.old)) }
         ensures memory { OnErr result (result ≡ Err Refusal.Memory) }
@@ -260,7 +260,7 @@ impl TextWriter {
         b64_append(&mut self.text, octets)
     }
 
-    /// Writes such a part, or leaves a place for it.
+    /// Writes a dot and a part of a compact text, or leaves a place for the part.
     pub(crate) fn place_part(
         &mut self,
         alloc: Global,
@@ -273,7 +273,7 @@ impl TextWriter {
         self.slot(alloc, content)
     }
 
-    /// The same of a content, whose part is empty where it is not in the text.
+    /// The same of a content, whose part is empty if it is not in the text.
     pub(crate) fn content_part(
         &mut self,
         alloc: Global,
@@ -296,7 +296,7 @@ pub(crate) fn inside(detach: bool, content: HeldContent<'_>) -> Option<HeldConte
     if detach { None } else { Some(content) }
 }
 
-/// Adds the base64url text of the content to the end of a text.
+/// Appends the base64url text of the content to a text.
 fn append(text: &mut String, content: HeldContent<'_>) -> Result<(), Refusal>
     ensures text { OnOk result (string_bytes text.new ≡ string_bytes text.old ++ base64url (held_view content.entry)) }
     ensures memory { OnErr result (result ≡ Err Refusal.Memory) }
@@ -307,7 +307,7 @@ fn append(text: &mut String, content: HeldContent<'_>) -> Result<(), Refusal>
     }
 }
 
-/// Adds a text that was received.
+/// Appends a text that was received.
 #[tactic(auto, using(crate::proofs::Spelling::spelled_is_json))]
 fn append_received(text: &mut String, received: &ReceivedText<'_>) -> Result<(), Refusal>
     ensures text { OnOk result (string_bytes text.new ≡ string_bytes text.old ++ base64url (received_view received.now)) }

@@ -1,11 +1,11 @@
-//! Where the dots of a compact text stand (RFC 7515 section 7.1, RFC 7516 section 7.1), found 32 octets at a time.
+//! The places of the dots in a compact text (RFC 7515 section 7.1, RFC 7516 section 7.1), found 32 octets at a time.
 ghost use Rattle.std.specs.Prelude.{◌≡◌, ◌≤◌, nat_lt, length, position};
 ghost use Rattle.std.specs.List.{position_or_len};
 ghost use Rattle.objects.specs.Texts.{is_dot};
 
 use std::simd::prelude::*;
 
-/// Where the first dot stands.
+/// The place of the first dot.
 pub(crate) fn first_dot(text: &[u8]) -> Option<usize>
     ensures { result ≡ position is_dot text.now }
 {
@@ -21,8 +21,8 @@ fn first_dot_by_octets(text: &[u8]) -> Option<usize>
     text.iter().position(|c| *c == b'.')
 }
 
-/// A count of octets at the front of the text, none of which is a dot: those before the first block with a dot, or before the last
-/// octets, which are no block.
+/// A number of octets at the front of the text without a dot: those before the first block with a dot, or before the last octets,
+/// which are no block.
 fn without_dots(text: &[u8]) -> usize
     ensures none { result ≤ position_or_len is_dot text.now }
     ensures within { result ≤ length text.now }
@@ -36,7 +36,7 @@ fn without_dots(text: &[u8]) -> usize
     32 * blocks.len()
 }
 
-/// There is a dot in the block.
+/// Whether there is a dot in the block.
 fn has_dot(block: &[u8; 32]) -> bool
     ensures { result ≡ nat_lt (position_or_len is_dot block.now) 32 }
 {

@@ -30,7 +30,7 @@ pub enum HeldContent<'c> {
 }
 
 impl<'t> ReceivedText<'t> {
-    /// Refused with `Base64` where the text is no base64url text.
+    /// A text that was received. Refuses with `Base64` if it is no base64url text.
     #[tactic(auto, using(octets::proofs::Lemmas::octets_of_meaning, crate::proofs::TextOctets::text_is))]
     pub(crate) fn read(text: &'t [u8]) -> Result<ReceivedText<'t>, Refusal>
         ensures { Agrees received_view result (decoded text.entry.now) }
@@ -72,7 +72,7 @@ impl<'t> Payload<'t> {
 }
 
 impl HeldContent<'_> {
-    /// Writes the octets, and finishes. It asks for no memory. Where the output fails a beginning of them stands.
+    /// Writes the octets and finishes the output, without memory. If the output fails, a beginning of them is written.
     pub fn write<O: Output>(&self, out: &mut O) -> Result<(), Refusal>
         ensures all { OnOk result (O.written out.new ≡ O.written out.old ++ held_view self.now) }
         ensures finished { OnOk result (IsFinishedOnce O.is_finished O.endings out.old out.new) }
@@ -89,7 +89,7 @@ impl HeldContent<'_> {
     }
 }
 
-/// Refused with `Base64` where the text is no base64url text.
+/// Refuses with `Base64` if the text is no base64url text.
 fn check(text: &[u8]) -> Result<(), Refusal>
     ensures { Agrees (λ done. meaning text.now) result (decoded text.now) }
 {
@@ -104,7 +104,7 @@ fn check(text: &[u8]) -> Result<(), Refusal>
     Ok(())
 }
 
-/// Writes the octets that the text means, and finishes.
+/// Writes the octets of the text and finishes the output.
 fn write_meaning<O: Output>(text: &ReceivedText<'_>, out: &mut O) -> Result<(), Refusal>
     ensures all { OnOk result (O.written out.new ≡ O.written out.old ++ received_view text.now) }
     ensures finished { OnOk result (IsFinishedOnce O.is_finished O.endings out.old out.new) }
@@ -129,7 +129,7 @@ fn write_meaning<O: Output>(text: &ReceivedText<'_>, out: &mut O) -> Result<(), 
     emit(out, octets)
 }
 
-/// The octets that the text means.
+/// The octets of the text.
 #[tactic(auto, using(octets::proofs::Lemmas::meaning_of_text))]
 fn meant(alloc: Global, text: &ReceivedText<'_>) -> Result<Vec<u8>, Refusal>
     ensures meaning { IfOk result (λ octets. octets.items ≡ received_view text.now) }

@@ -1,10 +1,10 @@
-//! A base64url text that was received, and stands where it was received.
+//! A base64url text that was received and is not copied.
 ghost use Rattle.std.specs.Prelude.{◌≡◌};
 ghost use Rattle.octets.specs.Base64url.{base64url};
 ghost use Rattle.octets.specs.Octets.{IsOctets};
 ghost use Rattle.objects.specs.Texts.{meaning};
 
-/// A text that means octets.
+/// A text that is a base64url text.
 #[derive(Clone, Copy)]
 pub struct ReceivedText<'t> {
     pub(crate) text: &'t [u8],

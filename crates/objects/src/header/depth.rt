@@ -1,14 +1,14 @@
-//! How deep the headers of an object may nest.
+//! The greatest depth of the headers of an object.
 ghost use Rattle.std.specs.Prelude.{◌≡◌};
 ghost use Rattle.objects.specs.Texts.{depth_of_each};
 
-/// How deep a header of an object may nest: its text nests one deeper, and is read up to 127 deep.
+/// The greatest depth of a header of an object. The object's text is one deeper, and may be 127 deep.
 pub(crate) const HEADER_DEPTH: usize = 126;
 
-/// How deep one may nest that stands in a list of objects.
+/// The greatest depth of a header in a list of objects.
 const LISTED_HEADER_DEPTH: usize = 124;
 
-/// How deep the header of each may nest, where there are so many.
+/// The greatest depth of the header of each of `n` signatures or recipients.
 pub(crate) fn depth_of_each(n: usize) -> usize
     ensures { result ≡ depth_of_each n }
 {

@@ -1,4 +1,4 @@
-//! The parts of a joint header: how each is read, and what members it has (RFC 7515 section 4, RFC 7516 section 4).
+//! The parts of a joint header: reading them, and their members (RFC 7515 section 4, RFC 7516 section 4).
 ghost use Rattle.std.specs.Prelude.{◌≡◌, true, false, IfOk, IfErr, Some, option_map};
 ghost use Rattle.octets.specs.Outcomes.{Agrees, AgreesUnlessMemory};
 ghost use Rattle.serde_json.specs.Data.{no_members};
@@ -17,8 +17,8 @@ use octets::Refusal;
 use serde_json::{Map, Value};
 use std::alloc::Global;
 
-/// The header that a member of the value is (RFC 7515 section 7.2.1, RFC 7516 section 7.2.1). It may be absent.
-/// Refused with `Form` where the member is no object.
+/// The header in a member of the value, if it is there (RFC 7515 section 7.2.1, RFC 7516 section 7.2.1).
+/// Refuses with `Form` if the member is no object.
 #[tactic(auto, unfolding(crate::specs::Headers::header_at), using(keys::proofs::Lemmas::no_float_in_member, keys::proofs::Lemmas::no_float_members_of))]
 pub fn header_at<'v>(
     value: &'v Value,
@@ -38,8 +38,8 @@ pub fn header_at<'v>(
     }
 }
 
-/// A copy of the header that a member of the value is. An absent one has no members. Refused with `Form` where the member is
-/// no object.
+/// A copy of the header in a member of the value. An absent one has no members. Refuses with `Form` if the member is no
+/// object.
 pub(crate) fn owned_header_at(
     alloc: Global,
     value: &Value,
@@ -72,7 +72,7 @@ pub(crate) fn no_members(alloc: Global) -> HeaderMembers
     }
 }
 
-/// The header has members.
+/// Whether the header has members.
 #[tactic(auto, using(crate::proofs::HeaderMembers::some_members))]
 pub(crate) fn has_members(header: &Map<String, Value>) -> bool
     ensures { result ≡ has_members (members_view header.now.entries) }
@@ -80,7 +80,7 @@ pub(crate) fn has_members(header: &Map<String, Value>) -> bool
     !header.is_empty()
 }
 
-/// The part is there, and has members.
+/// Whether the part is there and has members.
 pub(crate) fn has_some_members(part: Option<&Map<String, Value>>) -> bool
     ensures { result ≡ has_members (part_view part.entry) }
 {
@@ -90,7 +90,7 @@ pub(crate) fn has_some_members(part: Option<&Map<String, Value>>) -> bool
     }
 }
 
-/// A copy of a header. An absent one has no members.
+/// A copy of a header. An absent one has no members. Fails only with `Memory`.
 #[tactic(auto, using(crate::proofs::HeaderMembers::copied_members))]
 pub fn copy_header(
     alloc: Global,
@@ -105,8 +105,8 @@ pub fn copy_header(
     }
 }
 
-/// The members of a protected header's octets (RFC 7515 section 5.2, step 3). No octets stand for a header
-/// with no members. Refused with `Json`, `Number`, and then with `Header` where it is no object.
+/// The members of a protected header's octets (RFC 7515 section 5.2, step 3). A header of no octets has no
+/// members. Refuses with `Json`, `Number`, and then with `Header` if it is no object. May fail with `Memory`.
 #[tactic(auto, unfolding(crate::specs::Headers::protected_members))]
 pub fn read_protected(alloc: Global, octets: &[u8]) -> Result<Map<String, Value>, Refusal>
     ensures { AgreesUnlessMemory (λ members. members_view members.entries) result
@@ -119,7 +119,7 @@ pub fn read_protected(alloc: Global, octets: &[u8]) -> Result<Map<String, Value>
     }
 }
 
-/// The members of the object that the octets are as JSON.
+/// The members of the JSON object.
 #[tactic(auto, unfolding(crate::specs::Headers::members_of_json))]
 fn read_members(alloc: Global, octets: &[u8]) -> Result<Map<String, Value>, Refusal>
     ensures { AgreesUnlessMemory (λ members. members_view members.entries) result
@@ -138,7 +138,7 @@ pub(crate) fn part_member<'m>(part: Option<&'m Map<String, Value>>, name: &str) 
     part?.get(name)
 }
 
-/// The header has no `crit`, whatever it would hold: no extension is known (RFC 7515 section 4.1.11).
+/// Whether the header has no `crit`, of any value: no extension is known (RFC 7515 section 4.1.11).
 pub(crate) fn has_no_crit(header: &Map<String, Value>) -> bool
     ensures { result ≡ has_no_crit (members_view header.now.entries) }
 {

@@ -1,4 +1,4 @@
-//! Encrypted objects that are made of their members. It sees no text of an object.
+//! Encrypted objects that are made of their members.
 ghost use Rattle.std.specs.Prelude.{◌≡◌, true, map, nat_le, suc, IfOk, IfErr};
 ghost use Rattle.std.specs.List.{list_all};
 ghost use Rattle.serde_json.specs.Data.{members_depth};
@@ -17,10 +17,10 @@ use octets::{Refusal, b64_decode, needs};
 use std::alloc::Global;
 
 impl Jwe {
-    /// The object with these members. Refused as its JSON text would be, in the order of `Jwe::read`: `Json` where that nests
-    /// more than 127 deep; `Number` where a header holds a number that is no whole number of 64 bits, as `-0`; `Form` where there is
-    /// no recipient; `Limit` where there are more than 256; `Base64` where the text of the protected header is no base64url text;
-    /// and then for the headers.
+    /// The object with these members. Refuses as `Jwe::read` refuses its JSON text, in the same order: `Json` if that nests
+    /// deeper than 127; `Number` if a header has a number that is not whole or not of 64 bits, as `-0`; `Form` if there is no
+    /// recipient; `Limit` if there are more than `MOST_RECIPIENTS`; `Base64` if the text of the protected header is no base64url
+    /// text; and then for the headers.
     pub fn build(alloc: Global, parts: JweParts) -> Result<Jwe, Refusal>
         ensures exact { AgreesUnlessMemory jwe_view result (built limits (jwe_parts_view parts)) }
         ensures made { IfOk result (λ jwe. AreMembers (jwe_parts_view parts) → IsMade limits (jwe_view jwe)) }
@@ -43,7 +43,7 @@ fn object_of_parts(alloc: Global, parts: JweParts) -> Result<Jwe, Refusal>
     encrypted_object(alloc, &protected, members)
 }
 
-/// No header is too deep for the JSON text.
+/// Whether no header is too deep for the JSON text.
 #[tactic(auto, using(crate::proofs::Each::views))]
 fn headers_are_shallow(parts: &JweParts) -> bool
     ensures { result ≡ headers_are_shallow_of (jwe_parts_view parts.now) }
@@ -60,7 +60,7 @@ fn headers_nest_at_most(recipients: &[RecipientParts], depth: usize) -> bool
         .all(|recipient| object_nests_at_most(&recipient.header, depth))
 }
 
-/// No header holds a number that is not whole.
+/// Whether all numbers of the headers are whole.
 #[tactic(auto, using(crate::proofs::Each::views))]
 fn have_whole_numbers(parts: &JweParts) -> bool
     ensures { result ≡ have_whole_numbers_parts (jwe_parts_view parts.now) }

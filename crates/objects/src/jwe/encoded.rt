@@ -1,5 +1,5 @@
-//! The members of an encrypted object as texts, by its compact or its JSON serialization (RFC 7516 section 7). It decodes
-//! them, and reads no header.
+//! The members of an encrypted object as texts, from its compact or its JSON serialization (RFC 7516 section 7), and their
+//! decoding. The protected header is not read.
 ghost use Rattle.std.specs.Prelude.{◌≡◌, false, length, map, option_map, IfOk};
 ghost use Rattle.serde_json.specs.View.{view, items_view};
 ghost use Rattle.serde_json.specs.Written.{has_float, items_have_float};
@@ -28,7 +28,7 @@ pub(crate) struct EncodedJwe<'t> {
     content: EncodedContent<'t>,
 }
 
-/// What all recipients share beside the content: headers, and additional data.
+/// What all recipients share except the content: headers and additional data.
 #[derive(Drop)]
 struct EncodedShared<'t> {
     protected: &'t [u8],
@@ -58,9 +58,9 @@ impl<'t> EncodedJwe<'t> {
     }
 }
 
-/// The members of an object in JSON form (RFC 7516 section 7.2). Refused with `Form` where one has a wrong type, `ciphertext`
-/// is there and not empty and was handed in too, or is neither, or what is there of recipients is neither one nor a list of at least
-/// one.
+/// The members of an object in JSON form (RFC 7516 section 7.2). Refuses with `Form` if one has a wrong type, if `ciphertext` is
+/// not empty although it was handed in, or is absent although it was not, or if the recipients are neither one nor a list of at
+/// least one.
 #[tactic(auto, unfolding(crate::specs::Jwe::encoded_in_json))]
 pub(crate) fn encoded_in_json(
     alloc: Global,
@@ -96,7 +96,7 @@ fn encoded_shared(alloc: Global, value: &Value) -> Result<EncodedShared<'_>, Ref
     })
 }
 
-/// The objects that the recipients are: the value itself, or those of its list, beside which nothing of one may stand.
+/// The objects of the recipients: the value itself, or the items of its list, and then it has no members of a recipient.
 #[tactic(auto, unfolding(crate::specs::Jwe::recipient_objects), using(keys::proofs::Lemmas::no_float_in_member))]
 fn recipient_objects(value: &Value) -> Result<&[Value], Refusal>
     requires { has_float (view value.now) ≡ false }
@@ -112,7 +112,7 @@ fn recipient_objects(value: &Value) -> Result<&[Value], Refusal>
     }
 }
 
-/// Refused with `Form` where something of a recipient stands in the object.
+/// Refuses with `Form` if the object has members of a recipient that are not empty.
 #[tactic(auto, unfolding(crate::specs::Jwe::no_recipient_at, crate::specs::Jwe::encoded_recipient))]
 fn no_recipient_at(value: &Value) -> Result<(), Refusal>
     ensures { Agrees (λ done. done) result (no_recipient_at (view value.now)) }
@@ -125,7 +125,7 @@ fn no_recipient_at(value: &Value) -> Result<(), Refusal>
     )
 }
 
-/// What the objects hold of recipients.
+/// The members of the recipients.
 #[tactic(auto, using(crate::proofs::Items::reading))]
 fn encoded_recipients(
     alloc: Global,
@@ -168,7 +168,7 @@ fn encoded_content(value: &Value, detached: Option<Vec<u8>>) -> Result<EncodedCo
     })
 }
 
-/// The five parts of a compact text (RFC 7516 section 7.1). Refused with `Form` where there are more or fewer, or a ciphertext
+/// The five parts of a compact text (RFC 7516 section 7.1). Refuses with `Form` if there are more or fewer, or if a ciphertext
 /// was handed in and its part is not empty.
 #[tactic(auto, unfolding(crate::specs::Jwe::encoded_in_compact))]
 pub(crate) fn encoded_in_compact(
@@ -204,8 +204,8 @@ pub(crate) fn encoded_in_compact(
     })
 }
 
-/// The octets that the texts of the members mean, where those of the protected header's text are known. Refused with
-/// `Base64` where a text is no base64url text.
+/// The octets of the members' texts, except for the protected header, whose text is kept. Refuses with `Base64` if a text is
+/// no base64url text.
 #[tactic(auto, unfolding(crate::specs::Jwe::decoded_members))]
 pub(crate) fn decoded_members(
     alloc: Global,
@@ -247,7 +247,7 @@ pub(crate) fn decoded_members(
     })
 }
 
-/// What the texts of the recipients' members mean.
+/// The octets of the texts of the recipients' members.
 #[tactic(auto, using(crate::proofs::Each::reading))]
 fn decoded_recipients(
     alloc: Global,

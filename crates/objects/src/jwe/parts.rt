@@ -1,4 +1,4 @@
-//! What an encrypted object holds: its members, as they are given and as they are kept.
+//! The members of an encrypted object, as they are passed and as they are kept.
 
 use crate::header::members::HeaderMembers;
 use serde_json::{Map, Value};
@@ -12,7 +12,7 @@ pub struct JweParts {
     pub unprotected: Map<String, Value>,
     /// The initialization vector.
     pub iv: Vec<u8>,
-    /// The additional data beside the protected header.
+    /// The additional data without the protected header: the member `aad`.
     pub aad: Vec<u8>,
     pub ciphertext: Vec<u8>,
     /// The authentication tag.
@@ -20,7 +20,7 @@ pub struct JweParts {
     pub recipients: Vec<RecipientParts>,
 }
 
-/// The same, whose headers have compact texts.
+/// The same, with headers that have compact texts.
 #[derive(Drop)]
 pub(crate) struct JweMembers {
     pub(crate) protected: String,
@@ -32,16 +32,16 @@ pub(crate) struct JweMembers {
     pub(crate) recipients: Vec<RecipientMembers>,
 }
 
-/// What an object holds of a recipient. An absent member is empty.
+/// The members of a recipient. An absent one is empty.
 #[derive(Drop)]
 pub struct RecipientParts {
     /// The per-recipient unprotected header (RFC 7516 section 7.2.1): the member `header`.
     pub header: Map<String, Value>,
-    /// The encrypted key, of no octets where the key is the content encryption key.
+    /// The encrypted key, which is empty if the key is the content encryption key.
     pub encrypted_key: Vec<u8>,
 }
 
-/// The same, whose header has a compact text.
+/// The same, with a header that has a compact text.
 #[derive(Drop)]
 pub(crate) struct RecipientMembers {
     pub(crate) header: HeaderMembers,

@@ -1,4 +1,4 @@
-//! The recipients of an encrypted object (RFC 7516). It sees their headers, and no key.
+//! The recipients of an encrypted object (RFC 7516), by their headers.
 ghost use Rattle.std.specs.Prelude.{◌≡◌, true, length, map, IfOk};
 ghost use Rattle.serde_json.specs.View.{members_view};
 ghost use Rattle.octets.specs.Outcomes.{AgreesUnlessMemory};
@@ -31,10 +31,9 @@ pub struct Recipient {
     enc: String,
 }
 
-/// The recipient, by the other parts of its joint header. Refused with `Header` where a name stands in two parts;
-/// where `alg` or `enc` is absent or no string; where the algorithm derives a key from a password, where `p2s` is not the
-/// base64url text of at least 8 octets, or `p2c` no whole number from 1; and, where it wraps a key by AES in GCM, where
-/// `iv` or `tag` is no base64url text.
+/// The recipient, with the other parts of its joint header. Refuses with `Header` if a name is in two parts; if `alg` or
+/// `enc` is absent or no string; for PBES2 if `p2s` is not the base64url text of at least 8 octets or `p2c` is no whole
+/// number from 1; and for AES-GCM key wrap if `iv` or `tag` is no base64url text.
 #[tactic(auto, unfolding(crate::specs::Jwe::recipient_of, crate::specs::Jwe::recipient_by, crate::specs::Headers::string_there))]
 pub(crate) fn read_recipient(
     alloc: Global,
@@ -103,7 +102,7 @@ impl Recipient {
     }
 }
 
-/// The header has neither a `crit` nor a `zip`, whatever they hold: no extension is known (RFC 7515 section 4.1.11),
+/// Whether the header has neither a `crit` nor a `zip`, of any value: no extension is known (RFC 7515 section 4.1.11),
 /// and no content is compressed (RFC 7516 section 4.1.3).
 pub(crate) fn has_no_crit_or_zip(header: &Map<String, Value>) -> bool
     ensures { result ≡ has_no_crit_or_zip (members_view header.now.entries) }
@@ -111,7 +110,7 @@ pub(crate) fn has_no_crit_or_zip(header: &Map<String, Value>) -> bool
     has_no_crit(header) && part_member(Some(header), "zip").is_none()
 }
 
-/// The recipients, whose `enc` is the same for all.
+/// The recipients. Refuses with `Header` if `enc` is not the same for all.
 #[tactic(auto, unfolding(crate::specs::Jwe::recipients_of_one_enc), using(crate::proofs::Each::as_many_views))]
 pub(crate) fn recipients_of_one_enc(
     alloc: Global,
@@ -128,7 +127,7 @@ pub(crate) fn recipients_of_one_enc(
     Ok(recipients)
 }
 
-/// The recipients, in order, by the other parts of their joint headers.
+/// The recipients, in order, with the other parts of their joint headers.
 #[tactic(auto, using(crate::proofs::Each::reading))]
 fn read_recipients(
     alloc: Global,
@@ -146,7 +145,7 @@ fn read_recipients(
     Ok(recipients)
 }
 
-/// `enc` is the same for all.
+/// Whether `enc` is the same for all.
 #[tactic(auto, using(crate::proofs::Recipients::one_enc))]
 fn have_one_enc(recipients: &[Recipient]) -> bool
     ensures { result ≡ have_one_enc_of (map recipient_view recipients.now) }
@@ -157,7 +156,7 @@ fn have_one_enc(recipients: &[Recipient]) -> bool
     }
 }
 
-/// All have this `enc`.
+/// Whether all have this `enc`.
 fn have_enc(recipients: &[Recipient], enc: &str) -> bool
     ensures { result ≡ list_all (λ r. bytes_eq (recipient_view r).enc enc.now) recipients.now }
 {

@@ -4,7 +4,7 @@ ghost use Rattle.keys.specs.Limits.{limits};
 
 use crate::jwe::recipient::Recipient;
 
-/// The recipients of an object: 256 at most.
+/// The recipients of an object: at most `MOST_RECIPIENTS`.
 #[derive(Drop)]
 pub(crate) struct RecipientList {
     pub(crate) list: Vec<Recipient>,

@@ -1,5 +1,4 @@
-//! The texts of an encrypted object (RFC 7516 section 7). It composes what the object holds, and refuses only what a
-//! form cannot hold.
+//! The texts of an encrypted object (RFC 7516 section 7). An object is refused only if a form cannot hold it.
 ghost use Rattle.std.specs.Prelude.{◌≡◌, ◌≢◌, map, option_map, Err, Ok, IfOk, IfErr, OnOk, OnErr, string_bytes};
 ghost use Rattle.octets.specs.Outcomes.{AgreesUnlessMemory};
 ghost use Rattle.keys.specs.Limits.{limits};
@@ -17,8 +16,8 @@ use octets::{Refusal, needs};
 use std::alloc::Global;
 
 impl Jwe {
-    /// The JSON text, its members in byte order of their names: flattened where there is one recipient, and else general
-    /// (RFC 7516 section 7.2). An optional member that is empty is left out, and so is the ciphertext where it is detached.
+    /// The JSON text, with its members in byte order of their names: flattened if there is one recipient, and else general
+    /// (RFC 7516 section 7.2). Empty optional members are left out, and so is a detached ciphertext. Fails only with `Memory`.
     pub fn to_json(&self, alloc: Global, detach: bool) -> Result<String, Refusal>
         ensures exact { AgreesUnlessMemory string_bytes result (Ok (json_text detach (jwe_view self.now))) }
         ensures spells { IsMade limits (jwe_view self.now) → IfOk result (λ text. jwe_of limits (handed_in detach (jwe_view self.now).ciphertext) (string_bytes text) ≡ Ok (jwe_view self.now)) }
@@ -26,9 +25,8 @@ impl Jwe {
         self.to_text(alloc, false, detach)
     }
 
-    /// The compact text (RFC 7516 section 7.1), in which the part of a detached ciphertext is empty. Refused with
-    /// `NotCompact` where the object has more than one recipient, a header that is not protected, or additional data of its
-    /// own.
+    /// The compact text (RFC 7516 section 7.1), in which the part of a detached ciphertext is empty. Refuses with
+    /// `NotCompact` if the object has several recipients, a header that is not protected, or an `aad`. May fail with `Memory`.
     pub fn to_compact(&self, alloc: Global, detach: bool) -> Result<String, Refusal>
         ensures exact { AgreesUnlessMemory string_bytes result (jwe_compact_text detach (jwe_view self.now)) }
         ensures spells { IsMade limits (jwe_view self.now) → IfOk result (λ text. jwe_of limits (handed_in detach (jwe_view self.now).ciphertext) (string_bytes text) ≡ Ok (jwe_view self.now)) }
@@ -36,7 +34,7 @@ impl Jwe {
         self.to_text(alloc, true, detach)
     }
 
-    /// Its text in compact form where that is asked for, or else in JSON form, as `to_compact` and `to_json` have it.
+    /// Its text in compact form if that is asked for, as by `to_compact`, and else in JSON form, as by `to_json`.
     pub fn to_text(&self, alloc: Global, compact: bool, detach: bool) -> Result<String, Refusal>
         ensures exact { AgreesUnlessMemory string_bytes result (jwe_text compact detach (jwe_view self.now)) }
         ensures spells { IsMade limits (jwe_view self.now) → IfOk result (λ text. jwe_of limits (handed_in detach (jwe_view self.now).ciphertext) (string_bytes text) ≡ Ok (jwe_view self.now)) }
@@ -44,9 +42,9 @@ impl Jwe {
         Ok(self.written(alloc, false, compact, detach)?.into_text())
     }
 
-    /// The texts that stand before, between and after the base64url texts of a ciphertext, which has no place where it is
-    /// detached, and of the tag; in compact form where that is asked for, or else in JSON form. The object's own ciphertext
-    /// and tag do not matter. Refused with `NotCompact` as `to_compact` is.
+    /// The texts before, between and after the base64url texts of a ciphertext and a tag, in compact form if that is asked for,
+    /// and else in JSON form. A detached ciphertext has no place. The object's own ciphertext and tag do not matter. Refuses
+    /// with `NotCompact` as `to_compact` does. May fail with `Memory`.
     pub fn frame(&self, alloc: Global, compact: bool, detach: bool) -> Result<Vec<String>, Refusal>
         ensures exact { AgreesUnlessMemory (λ texts. map string_bytes texts.items) result (jwe_frame compact detach (jwe_view self.now)) }
         ensures texts { IfOk result (λ texts. IsJweFrame compact detach (jwe_view self.now) (map string_bytes texts.items)) }
@@ -55,7 +53,7 @@ impl Jwe {
         self.written(alloc, true, compact, detach)?.into_texts()
     }
 
-    /// What is written of it, with its ciphertext and tag or with places left for these.
+    /// Its text, with its ciphertext and tag or with places left for these.
     fn written(
         &self,
         alloc: Global,
@@ -167,7 +165,7 @@ impl Listed for Recipient {
     }
 }
 
-/// Leaves a place for the tag, or writes its text where it is not empty.
+/// Leaves a place for the tag, or writes its text if it is not empty.
 fn write_tag(alloc: Global, texts: &mut TextWriter, tag: &[u8]) -> Result<(), Refusal>
     ensures written { OnOk result (written_view texts.new ≡ with_tag tag.now (written_view texts.old)) }
     ensures memory { OnErr result (result ≡ Err Refusal.Memory) }
@@ -178,7 +176,7 @@ fn write_tag(alloc: Global, texts: &mut TextWriter, tag: &[u8]) -> Result<(), Re
     Ok(())
 }
 
-/// A compact text has room for all of the object.
+/// Whether a compact text can hold the object.
 fn is_compact(jwe: &Jwe) -> bool
     ensures { result ≡ is_compact_object (jwe_view jwe.now) (jwe_view jwe.now).recipients }
 {

@@ -1,4 +1,4 @@
-//! Signed objects that are made of their members. It sees no text of an object.
+//! Signed objects that are made of their members.
 ghost use Rattle.std.specs.Prelude.{◌≡◌, true, false, length, map, IfOk};
 ghost use Rattle.std.specs.List.{list_all};
 ghost use Rattle.octets.specs.Outcomes.{AgreesUnlessMemory};
@@ -18,10 +18,10 @@ use octets::{Refusal, b64_decode, needs};
 use std::alloc::Global;
 
 impl<'t> Jws<'t> {
-    /// The object with these members. Refused as its JSON text would be, in the order of `Jws::read`: `Json` where that nests
-    /// more than 127 deep; `Number` where a header holds a number that is no whole number of 64 bits, as `-0`; `Form` where there is
-    /// no signature; `Limit` where there are more than 256; `Base64` where the text of a protected header is no base64url text;
-    /// and then for the headers.
+    /// The object with these members. Refuses as `Jws::read` refuses its JSON text, in the same order: `Json` if that nests
+    /// deeper than 127; `Number` if a header has a number that is not whole or not of 64 bits, as `-0`; `Form` if there is no
+    /// signature; `Limit` if there are more than `MOST_RECIPIENTS`; `Base64` if the text of a protected header is no base64url
+    /// text; and then for the headers.
     pub fn build(alloc: Global, parts: JwsParts) -> Result<Jws<'t>, Refusal>
         ensures exact { AgreesUnlessMemory jws_view result (built limits (jws_parts_view parts)) }
         ensures made { IfOk result (λ jws. AreMembers (jws_parts_view parts) → IsMade limits (jws_view jws)) }
@@ -50,7 +50,7 @@ fn object_of_parts<'t>(alloc: Global, parts: JwsParts) -> Result<Jws<'t>, Refusa
     signed_object(alloc, Payload::Octets(payload), signatures)
 }
 
-/// No unprotected header nests deeper.
+/// Whether no unprotected header nests deeper.
 fn nest_at_most(signatures: &[SignatureParts], depth: usize) -> bool
     ensures { result ≡ nest_at_most_parts depth (map signature_parts_view signatures.now) }
 {
@@ -59,7 +59,7 @@ fn nest_at_most(signatures: &[SignatureParts], depth: usize) -> bool
         .all(|signature| object_nests_at_most(&signature.header, depth))
 }
 
-/// No unprotected header holds a number that is not whole.
+/// Whether all numbers of the unprotected headers are whole.
 fn have_whole_numbers(signatures: &[SignatureParts]) -> bool
     ensures whole { result ≡ have_whole_numbers_parts (map signature_parts_view signatures.now) }
     ensures each { result ≡ list_all (λ s. member_numbers_are_whole (signature_parts_view s).header) signatures.now }
@@ -69,7 +69,7 @@ fn have_whole_numbers(signatures: &[SignatureParts]) -> bool
         .all(|signature| members_have_whole_numbers(&signature.header))
 }
 
-/// With the octets of their protected headers. Refused with `Base64` where the text of one is no base64url text.
+/// The signatures with the octets of their protected headers. Refuses with `Base64` if the text of one is no base64url text.
 #[tactic(auto, using(crate::proofs::Each::reading))]
 fn decoded_parts(
     alloc: Global,

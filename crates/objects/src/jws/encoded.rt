@@ -1,5 +1,5 @@
-//! The members of a signed object as texts, by its compact or its JSON serialization (RFC 7515 section 7). It decodes them, and
-//! reads no header.
+//! The members of a signed object as texts, from its compact or its JSON serialization (RFC 7515 section 7), and their decoding.
+//! The protected headers are not read.
 ghost use Rattle.std.specs.Prelude.{◌≡◌, false, is_none, length, map, option_map, IfOk};
 ghost use Rattle.serde_json.specs.View.{view, items_view};
 ghost use Rattle.serde_json.specs.Written.{has_float, items_have_float};
@@ -26,7 +26,7 @@ pub(crate) struct EncodedJws<'t> {
     pub(crate) signatures: Vec<EncodedSignature<'t>>,
 }
 
-/// Those of a signature. An absent one is empty.
+/// The members of a signature, with the texts that they have. An absent one is empty.
 #[derive(Drop)]
 pub(crate) struct EncodedSignature<'t> {
     protected: &'t [u8],
@@ -34,8 +34,8 @@ pub(crate) struct EncodedSignature<'t> {
     signature: &'t [u8],
 }
 
-/// The members of an object in JSON form (RFC 7515 section 7.2). Refused with `Form` where one has a wrong type, `payload` is
-/// there and not empty and was handed in too, or is neither, or what is there of signatures is neither one nor a list of at least
+/// The members of an object in JSON form (RFC 7515 section 7.2). Refuses with `Form` if one has a wrong type, if `payload` is not
+/// empty although it was handed in, or is absent although it was not, or if the signatures are neither one nor a list of at least
 /// one.
 #[tactic(auto, unfolding(crate::specs::Jws::encoded_in_json))]
 pub(crate) fn encoded_in_json(
@@ -55,7 +55,7 @@ pub(crate) fn encoded_in_json(
     })
 }
 
-/// The objects that the signatures are: the value itself, or those of its list, beside which nothing of one may stand.
+/// The objects of the signatures: the value itself, or the items of its list, and then it has no members of a signature.
 #[tactic(auto, unfolding(crate::specs::Jws::signature_objects), using(keys::proofs::Lemmas::no_float_in_member))]
 fn signature_objects(value: &Value) -> Result<&[Value], Refusal>
     requires { has_float (view value.now) ≡ false }
@@ -71,7 +71,7 @@ fn signature_objects(value: &Value) -> Result<&[Value], Refusal>
     }
 }
 
-/// Refused with `Form` where something of a signature stands in the object.
+/// Refuses with `Form` if the object has a `signature`, or a `protected` or `header` that is not empty.
 #[tactic(auto, unfolding(crate::specs::Jws::no_signature_at))]
 fn no_signature_at(value: &Value) -> Result<(), Refusal>
     ensures { Agrees (λ done. done) result (no_signature_at (view value.now)) }
@@ -84,7 +84,7 @@ fn no_signature_at(value: &Value) -> Result<(), Refusal>
     )
 }
 
-/// What the objects hold of signatures.
+/// The members of the signatures.
 #[tactic(auto, using(crate::proofs::Items::reading))]
 fn encoded_signatures(
     alloc: Global,
@@ -115,7 +115,7 @@ fn encoded_signature(alloc: Global, value: &Value) -> Result<EncodedSignature<'_
     })
 }
 
-/// The three parts of a compact text (RFC 7515 section 7.1). Refused with `Form` where there are more or fewer, or a payload
+/// The three parts of a compact text (RFC 7515 section 7.1). Refuses with `Form` if there are more or fewer, or if a payload
 /// was handed in and its part is not empty.
 #[tactic(auto, unfolding(crate::specs::Jws::encoded_in_compact))]
 pub(crate) fn encoded_in_compact(
@@ -140,7 +140,7 @@ pub(crate) fn encoded_in_compact(
     })
 }
 
-/// What the texts of the signatures' members mean. Refused with `Base64` where one is no base64url text.
+/// The octets of the texts of the signatures' members. Refuses with `Base64` if one is no base64url text.
 #[tactic(auto, using(crate::proofs::Each::reading))]
 pub(crate) fn decoded_signatures(
     alloc: Global,

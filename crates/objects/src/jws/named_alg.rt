@@ -4,7 +4,7 @@ ghost use Rattle.keys.specs.Algorithms.{signature_alg_of};
 
 use keys::SignatureAlg;
 
-/// The name that a joint header gives, and its algorithm, if it is supported.
+/// The `alg` of a joint header, and its algorithm, if it is supported.
 #[derive(Drop)]
 pub(crate) struct NamedSignatureAlg {
     pub(crate) name: String,

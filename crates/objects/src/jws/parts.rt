@@ -1,9 +1,9 @@
-//! What a signed object holds: its members, as they are given, as they are kept, and with the octets of a protected header.
+//! The members of a signed object, as they are passed, as they are kept, and with the octets of a protected header.
 
 use crate::header::members::HeaderMembers;
 use serde_json::{Map, Value};
 
-/// What an object holds of a signature. An absent member is empty.
+/// The members of a signature. An absent one is empty.
 #[derive(Drop)]
 pub struct SignatureParts {
     /// The text of the protected header.
@@ -20,7 +20,7 @@ pub struct JwsParts {
     pub signatures: Vec<SignatureParts>,
 }
 
-/// What an object holds of a signature, whose unprotected header has a compact text.
+/// The members of a signature, with an unprotected header that has a compact text.
 #[derive(Drop)]
 pub(crate) struct SignatureMembers {
     pub(crate) protected: String,
@@ -28,7 +28,7 @@ pub(crate) struct SignatureMembers {
     pub(crate) signature: Vec<u8>,
 }
 
-/// With the octets of its protected header.
+/// The members of a signature, with the octets of its protected header.
 #[derive(Drop)]
 pub(crate) struct DecodedSignature {
     pub(crate) octets: Vec<u8>,

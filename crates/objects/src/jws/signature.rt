@@ -1,4 +1,4 @@
-//! The signatures of an object, by their headers (RFC 7515 section 4). It sees no key.
+//! The signatures of an object, by their headers (RFC 7515 section 4).
 ghost use Rattle.std.specs.Prelude.{◌≡◌, length, map, IfOk};
 ghost use Rattle.std.specs.List.{list_all};
 ghost use Rattle.serde_json.specs.Data.{no_members};
@@ -23,7 +23,7 @@ use octets::{Refusal, needs};
 use serde_json::{Map, Value};
 use std::alloc::Global;
 
-/// With the members of its protected header.
+/// The members of a signature, with the members of its protected header.
 #[derive(Drop)]
 struct HeadedSignature {
     protected: Map<String, Value>,
@@ -55,7 +55,7 @@ impl Signature {
         &self.header.map
     }
 
-    /// The JOSE Header (RFC 7515 section 4): the members of both headers, which have no name in common.
+    /// The JOSE Header (RFC 7515 section 4): the members of both headers, without a name in common.
     pub fn joint_header(&self) -> Header<'_>
         ensures { header_view result ≡ all_members (signature_view self.now).protected_members no_members (signature_view self.now).header }
     {
@@ -88,7 +88,7 @@ impl Signature {
     }
 }
 
-/// The signatures, by their headers. Each step is taken for all before the next.
+/// The signatures, by their headers. Each step is done for all before the next step.
 #[tactic(auto, unfolding(crate::specs::Jws::signatures_of))]
 pub(crate) fn read_signatures(
     alloc: Global,
@@ -104,7 +104,7 @@ pub(crate) fn read_signatures(
     Ok(signatures)
 }
 
-/// With the members of their protected headers, in order.
+/// The signatures with the members of their protected headers, in order.
 #[tactic(auto, using(crate::proofs::Each::reading))]
 fn with_headers(
     alloc: Global,
@@ -131,7 +131,7 @@ fn with_header(alloc: Global, decoded: DecodedSignature) -> Result<HeadedSignatu
     })
 }
 
-/// No header has a `crit`.
+/// Whether no header has a `crit`.
 fn have_no_crit(headed: &[HeadedSignature]) -> bool
     ensures { result ≡ list_all headers_have_no_crit (map headed_signature_view headed.now) }
 {
@@ -146,7 +146,7 @@ fn headers_have_no_crit(headed: &HeadedSignature) -> bool
     has_no_crit(&headed.protected) && has_no_crit(&headed.members.header.map)
 }
 
-/// With the algorithms that their joint headers name, and have the parameters of.
+/// The signatures with the algorithms of their joint headers, which must have the parameters of these.
 #[tactic(auto, using(crate::proofs::Each::reading))]
 fn by_headers(alloc: Global, headed: Vec<HeadedSignature>) -> Result<Vec<Signature>, Refusal>
     ensures exact { AgreesUnlessMemory (λ signatures. map signature_view signatures.items) result (each (signature_by limits.management) (map headed_signature_view headed.items)) }

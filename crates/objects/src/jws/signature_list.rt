@@ -4,7 +4,7 @@ ghost use Rattle.keys.specs.Limits.{limits};
 
 use crate::jws::signature::Signature;
 
-/// The signatures of an object: 256 at most.
+/// The signatures of an object: at most `MOST_RECIPIENTS`.
 #[derive(Drop)]
 pub(crate) struct SignatureList {
     pub(crate) list: Vec<Signature>,

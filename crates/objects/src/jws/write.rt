@@ -1,5 +1,4 @@
-//! The texts of a signed object (RFC 7515 section 7). It composes what the object holds, and refuses only what a form cannot
-//! hold.
+//! The texts of a signed object (RFC 7515 section 7). An object is refused only if a form cannot hold it.
 ghost use Rattle.std.specs.Prelude.{◌≡◌, ◌≢◌, map, option_map, Err, Ok, IfOk, IfErr, OnOk, OnErr, string_bytes};
 ghost use Rattle.octets.specs.Outcomes.{AgreesUnlessMemory};
 ghost use Rattle.keys.specs.Limits.{limits};
@@ -17,8 +16,8 @@ use octets::{Refusal, needs};
 use std::alloc::Global;
 
 impl Jws<'_> {
-    /// The JSON text, its members in byte order of their names: flattened where there is one signature, and else general
-    /// (RFC 7515 section 7.2). An optional member that is empty is left out, and so is the payload where it is detached.
+    /// The JSON text, with its members in byte order of their names: flattened if there is one signature, and else general
+    /// (RFC 7515 section 7.2). Empty optional members are left out, and so is a detached payload. Fails only with `Memory`.
     pub fn to_json(&self, alloc: Global, detach: bool) -> Result<String, Refusal>
         ensures exact { AgreesUnlessMemory string_bytes result (Ok (json_text detach (jws_view self.now))) }
         ensures spells { IsMade limits (jws_view self.now) → IfOk result (λ text. jws_of limits (handed_in detach (jws_view self.now).payload) (string_bytes text) ≡ Ok (jws_view self.now)) }
@@ -26,8 +25,8 @@ impl Jws<'_> {
         self.to_text(alloc, false, detach)
     }
 
-    /// The compact text (RFC 7515 section 7.1), in which the part of a detached payload is empty. Refused with `NotCompact`
-    /// where the object has more than one signature, or a header that is not protected.
+    /// The compact text (RFC 7515 section 7.1), in which the part of a detached payload is empty. Refuses with `NotCompact` if
+    /// the object has several signatures, or a header that is not protected. May fail with `Memory`.
     pub fn to_compact(&self, alloc: Global, detach: bool) -> Result<String, Refusal>
         ensures exact { AgreesUnlessMemory string_bytes result (jws_compact_text detach (jws_view self.now)) }
         ensures spells { IsMade limits (jws_view self.now) → IfOk result (λ text. jws_of limits (handed_in detach (jws_view self.now).payload) (string_bytes text) ≡ Ok (jws_view self.now)) }
@@ -35,7 +34,7 @@ impl Jws<'_> {
         self.to_text(alloc, true, detach)
     }
 
-    /// Its text in compact form where that is asked for, or else in JSON form, as `to_compact` and `to_json` have it.
+    /// Its text in compact form if that is asked for, as by `to_compact`, and else in JSON form, as by `to_json`.
     pub fn to_text(&self, alloc: Global, compact: bool, detach: bool) -> Result<String, Refusal>
         ensures exact { AgreesUnlessMemory string_bytes result (jws_text compact detach (jws_view self.now)) }
         ensures spells { IsMade limits (jws_view self.now) → IfOk result (λ text. jws_of limits (handed_in detach (jws_view self.now).payload) (string_bytes text) ≡ Ok (jws_view self.now)) }
@@ -43,9 +42,9 @@ impl Jws<'_> {
         Ok(self.written(alloc, false, compact, detach)?.into_text())
     }
 
-    /// The texts that stand before, between and after the base64url texts of a payload, which has no place where it is
-    /// detached, and of the signatures in order; in compact form where that is asked for, or else in JSON form. The object's
-    /// own payload and signatures do not matter. Refused with `NotCompact` as `to_compact` is.
+    /// The texts before, between and after the base64url texts of a payload and of the signatures in order, in compact form if
+    /// that is asked for, and else in JSON form. A detached payload has no place. The object's own payload and signatures do
+    /// not matter. Refuses with `NotCompact` as `to_compact` does. May fail with `Memory`.
     pub fn frame(&self, alloc: Global, compact: bool, detach: bool) -> Result<Vec<String>, Refusal>
         ensures exact { AgreesUnlessMemory (λ texts. map string_bytes texts.items) result (jws_frame compact detach (jws_view self.now)) }
         ensures texts { IfOk result (λ texts. IsJwsFrame compact detach (jws_view self.now) (map string_bytes texts.items)) }
@@ -54,7 +53,7 @@ impl Jws<'_> {
         self.written(alloc, true, compact, detach)?.into_texts()
     }
 
-    /// What is written of it, with its payload and signatures or with places left for these.
+    /// Its text, with its payload and signatures or with places left for these.
     fn written(
         &self,
         alloc: Global,
@@ -98,7 +97,7 @@ fn write_compact(
     }
 }
 
-/// Writes the payload, and the one signature beside it, or a list of several or none.
+/// Writes the payload, and next to it the one signature, or a list of several or none.
 fn write_signatures(
     alloc: Global,
     texts: &mut TextWriter,
@@ -114,7 +113,7 @@ fn write_signatures(
     }
 }
 
-/// Writes the members of a signature, and the payload where it stands beside them.
+/// Writes the members of a signature, and the payload if it is next to them.
 fn write_flattened(
     alloc: Global,
     texts: &mut TextWriter,
@@ -169,7 +168,7 @@ impl Listed for Signature {
     }
 }
 
-/// A compact text has room for all of the signatures.
+/// Whether a compact text can hold the signatures.
 fn is_compact(signatures: &[Signature]) -> bool
     ensures { result ≡ is_compact_object (map signature_view signatures.now) }
 {

@@ -1,4 +1,4 @@
-//! The management of a recipient's key, with the name of its algorithm.
+//! Key management with the name of its algorithm.
 ghost use Rattle.std.specs.Prelude.{◌≡◌, true, string_bytes};
 ghost use Rattle.keys.specs.Algorithms.{management_alg_of};
 ghost use Rattle.objects.specs.KeyManagement.{is_management_of};
@@ -6,7 +6,7 @@ ghost use Rattle.objects.specs.KeyManagementView.{management_view};
 
 use crate::KeyManagement;
 
-/// The name of an algorithm, and what a joint header says by it.
+/// The name of an algorithm, and what a joint header says of it.
 #[derive(Drop)]
 pub(crate) struct NamedManagement {
     pub(crate) alg: String,
