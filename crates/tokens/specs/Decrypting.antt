@@ -1,4 +1,4 @@
--- Decrypting (RFC 7516 section 5.2): the pairs of a recipient and a key that are tried, what they open, and what that takes.
+-- Decrypting (RFC 7516 section 5.2): the pairs of a recipient and a key that are tried, what they open, and the work.
 use Rattle.std.specs.Prelude.{ℕ, ◌+◌, ◌*◌, ◌≤◌, ◌&&◌, Bool, true, false, nat_le, List, [], ◌∷◌, ◌++◌, map, is_some, if◌then◌else◌, Option, Some, None, option_and_then, Result, Ok, Err}
 use Rattle.std.specs.List.{filter, list_all, list_any}
 use Rattle.std.specs.Option.{ok_or, option_or}
@@ -27,11 +27,11 @@ algorithms_by None enc = None
 algorithms_by (Some alg) None = None
 algorithms_by (Some alg) (Some enc) = Some (record { management = alg; encryption = enc })
 
--- the algorithms of a recipient, where both are supported
+-- the algorithms of a recipient, if both are supported
 unfoldable pub algorithms_of : List KeyManagementAlg → Recipient → Option Algorithms
 algorithms_of algs r = algorithms_by (management_alg_among algs r.alg) (encryption_alg_of r.enc)
 
--- the key allows what the recipient does, and fits
+-- the key may decrypt by the algorithms, and fits
 unfoldable pub is_candidate : Algorithms → OctetKey → Bool
 is_candidate a key = allows key (management_operations a.management).1 && fits key (Encryption a.management a.encryption)
 
@@ -40,7 +40,7 @@ pub record Pair : Type 0 where
   pub algorithms : Algorithms
   pub key : OctetKey
 
--- a recipient's by its algorithms: the keys in order
+-- the pairs of a recipient with these algorithms, by the keys in order
 abbrev pub pairs_with : Recipient → Algorithms → List OctetKey → List Pair
 pairs_with r a keys = map (λ key. record { recipient = r; algorithms = a; key = key }) (filter (is_candidate a) keys)
 
@@ -51,7 +51,7 @@ pairs_by keys r (Some a) = pairs_with r a keys
 abbrev pub pairs_of : List KeyManagementAlg → List OctetKey → Recipient → List Pair
 pairs_of algs keys r = pairs_by keys r (algorithms_of algs r)
 
--- of the recipients in order
+-- the pairs of the recipients, in order
 abbrev pub all_pairs : List KeyManagementAlg → List OctetKey → List Recipient → List Pair
 all_pairs algs keys [] = []
 all_pairs algs keys (r ∷ recipients) = pairs_of algs keys r ++ all_pairs algs keys recipients
@@ -60,7 +60,7 @@ abbrev pub has_pairs : List Pair → Bool
 has_pairs [] = false
 has_pairs (pair ∷ pairs) = true
 
--- how many iterations of PBKDF2 a recipient's key takes (RFC 7518 section 4.8.1.2): none, but where it is a password
+-- the iterations of PBKDF2 for a recipient (RFC 7518 section 4.8.1.2), which are 0 unless its key is a password
 abbrev pub iterations_by : KeyManagement → ℕ
 iterations_by Unknown = 0
 iterations_by Direct = 0
@@ -68,7 +68,7 @@ iterations_by KeyWrap = 0
 iterations_by (Password p2s p2c) = p2c
 iterations_by (GcmKeyWrap iv tag) = 0
 
--- and a pair
+-- the iterations for a pair
 abbrev pub iterations_of : Pair → ℕ
 iterations_of pair = iterations_by pair.recipient.management
 
@@ -76,12 +76,12 @@ abbrev pub all_iterations : List Pair → ℕ
 all_iterations [] = 0
 all_iterations (pair ∷ pairs) = iterations_of pair + all_iterations pairs
 
--- those of each pair, and of all together, are within the limits
+-- the iterations of each pair, and of all together, are within the limits
 abbrev pub are_within : Limits → List Pair → Bool
 are_within limits pairs =
     list_all (λ pair. nat_le (iterations_of pair) limits.greatest_p2c_read) pairs && nat_le (all_iterations pairs) limits.p2c_sum
 
--- some recipient's algorithms are supported; then some key is a candidate; then the work is within the limits
+-- the pairs, if some recipient's algorithms are supported, some key is a candidate, and the iterations are within the limits
 unfoldable pub pairs_to_try : Limits → List OctetKey → List Recipient → Result (List Pair) Refusal
 pairs_to_try limits keys recipients = do
   supported ← needs (list_any (λ r. is_some (algorithms_of limits.management r)) recipients) Unsupported
@@ -91,12 +91,12 @@ pairs_to_try limits keys recipients = do
 
 -- ---- what a pair opens (RFC 7516 section 5.2, steps 9 to 18, and docs/SPECIFICATION.md "Decrypting" 3 and 4)
 
--- the text of the protected header, and after a dot that of the other additional data, where there are some (step 15)
+-- the text of the protected header and, if there is an `aad`, a dot and its base64url text (step 15)
 abbrev pub additional_authenticated_data : List ℕ → List ℕ → List ℕ
 additional_authenticated_data protected [] = protected
 additional_authenticated_data protected (a ∷ aad) = protected ++ (byte "." ∷ base64url (a ∷ aad))
 
--- what an object holds of its content
+-- what an object has of its content
 pub record SealedContent : Type 0 where
   pub iv : List ℕ
   pub aad : List ℕ
@@ -111,11 +111,11 @@ unfoldable pub cek_of : Pair → Option (List ℕ)
 cek_of pair =
     delivered (key_alg pair.algorithms.management) (content_alg pair.algorithms.encryption) pair.key.octets (parameters_by pair.recipient.management) pair.recipient.encrypted_key
 
--- the plaintext under it (step 16)
+-- the plaintext under this key (step 16)
 unfoldable pub opened_by : SealedContent → Pair → Option (List ℕ)
 opened_by s pair = option_and_then (λ cek. opening (content_alg pair.algorithms.encryption) cek s.iv s.aad s.ciphertext s.tag) (cek_of pair)
 
--- that of the first pair that opens
+-- the plaintext of the first pair that opens
 abbrev pub first_opened : SealedContent → List Pair → Option (List ℕ)
 first_opened s [] = None
 first_opened s (pair ∷ pairs) = option_or (opened_by s pair) (first_opened s pairs)
@@ -137,7 +137,7 @@ pub record WorkCounts : Type 0 where
 abbrev pub no_work : WorkCounts
 no_work = record { iterations = 0; unwraps = 0; openings = 0 }
 
--- how many encrypted keys are unwrapped: none where the key is used directly
+-- how many encrypted keys are unwrapped: none if the key is used directly
 abbrev pub unwraps_in : KeyManagementMode → ℕ
 unwraps_in mode.Direct = 0
 unwraps_in mode.KeyWrap = 1
@@ -147,7 +147,7 @@ unwraps_in mode.GcmKeyWrap = 1
 abbrev pub unwraps_of : KeyManagementAlg → ℕ
 unwraps_of alg = unwraps_in (mode_of alg)
 
--- with one pair more, which opens or tries the content where a content encryption key is delivered
+-- with one pair more, which opens or tries the content if it delivers a content encryption key
 abbrev pub with_pair : WorkCounts → Pair → WorkCounts
 with_pair w pair = record {
   iterations = w.iterations + iterations_of pair;
@@ -155,18 +155,18 @@ with_pair w pair = record {
   openings = w.openings + (if is_some (cek_of pair) then 1 else 0);
 }
 
--- with the pairs up to and with the first that opens
+-- with the pairs up to and including the first that opens
 abbrev pub with_pairs : SealedContent → WorkCounts → List Pair → WorkCounts
 with_pairs s w [] = w
 with_pairs s w (pair ∷ pairs) = if is_some (opened_by s pair) then with_pair w pair else with_pairs s (with_pair w pair) pairs
 
--- What a result tells: that of all the pairs that were tried, and none where they are refused or memory ran out before.
+-- The work that is reported with a result: that of all pairs that were tried, or none if the pairs are refused or memory ran out.
 abbrev pub work_told : {X : Type 0} → EncryptedObject → Result (List Pair) Refusal → Result X Refusal → WorkCounts
 work_told o (Err r) result = no_work
 work_told o (Ok pairs) (Err Memory) = no_work
 work_told o (Ok pairs) result = with_pairs (sealed_content o) no_work pairs
 
--- within the limits of an object and a set
+-- the work is within the limits of an object and a set
 pub record IsBounded (w : WorkCounts) : Type 0 where
   pub iterations : w.iterations ≤ limits.p2c_sum
   pub unwraps : w.unwraps ≤ limits.keys * limits.recipients

@@ -11,15 +11,15 @@ use Rattle.tokens.specs.Choosing.{RecipientKey, EncryptionPlan}
 
 -- ---- what is drawn for the recipients (docs/SPECIFICATION.md "Encrypting" 6)
 
--- the octets of a salt input (RFC 7518 section 4.8.1.1)
+-- the length of a salt input in octets (RFC 7518 section 4.8.1.1)
 abbrev pub salt_len : ℕ
 salt_len = 16
 
--- those of the initialization vector of a key wrap by AES in GCM (section 4.7.1.1)
+-- the length of the initialization vector of AES-GCM key wrap in octets (RFC 7518 section 4.7.1.1)
 abbrev pub key_iv_len : ℕ
 key_iv_len = 12
 
--- how many octets are drawn for an algorithm: the salt input of a password, or the initialization vector of a key wrap by AES in GCM
+-- how many octets are drawn for an algorithm: those of a salt input for PBES2, or of an initialization vector for AES-GCM key wrap
 abbrev pub drawn_in : KeyManagementMode → ℕ
 drawn_in mode.Direct = 0
 drawn_in mode.KeyWrap = 0
@@ -29,11 +29,11 @@ drawn_in mode.GcmKeyWrap = key_iv_len
 abbrev pub drawn_by : KeyManagementAlg → ℕ
 drawn_by alg = drawn_in (mode_of alg)
 
--- for a recipient
+-- how many octets are drawn for a recipient
 abbrev pub drawn_for : RecipientKey → ℕ
 drawn_for r = drawn_by r.management
 
--- and for all of them
+-- how many octets are drawn for all recipients
 abbrev pub drawn_for_all : List RecipientKey → ℕ
 drawn_for_all [] = 0
 drawn_for_all (r ∷ rest) = drawn_for r + drawn_for_all rest
@@ -44,7 +44,7 @@ drawn_for_all (r ∷ rest) = drawn_for r + drawn_for_all rest
 abbrev pub parameters_with : List ℕ → ℕ → Parameters
 parameters_with drawn p2c = record { iv = drawn; tag = []; p2s = drawn; p2c = p2c }
 
--- how the recipient's key then delivers it, with the tag that was made
+-- how the recipient's key then delivers the content encryption key, with the tag that was made
 abbrev pub delivered_in : KeyManagementMode → List ℕ → ℕ → List ℕ → KeyManagement
 delivered_in mode.Direct drawn p2c tag = Direct
 delivered_in mode.KeyWrap drawn p2c tag = KeyWrap
@@ -60,7 +60,7 @@ pub record Delivery : Type 0 where
   pub management : KeyManagement
   pub encrypted_key : List ℕ
 
--- to a recipient, with the octets that are drawn for it
+-- the delivery to a recipient, with the octets that are drawn for it
 abbrev pub delivery_to : EncryptionPlan → List ℕ → RecipientKey → List ℕ → Delivery
 delivery_to e cek r drawn = record {
   alg = r.management;
@@ -68,7 +68,7 @@ delivery_to e cek r drawn = record {
   encrypted_key = encrypted_key_of (key_alg r.management) r.key.octets (parameters_with drawn e.p2c) cek;
 }
 
--- to recipients in order, whose octets follow one another
+-- the deliveries to recipients, in order; their octets follow one another
 abbrev pub deliveries_to : EncryptionPlan → List ℕ → List RecipientKey → List ℕ → List Delivery
 deliveries_to e cek [] drawn = []
 deliveries_to e cek (r ∷ rest) drawn = delivery_to e cek r (take (drawn_for r) drawn) ∷ deliveries_to e cek rest (drop (drawn_for r) drawn)

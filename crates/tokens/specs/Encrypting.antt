@@ -24,15 +24,15 @@ use Rattle.tokens.specs.Decrypting.{additional_authenticated_data, all_pairs, se
 use Rattle.tokens.specs.Delivering.{drawn_for_all, Delivery, deliveries_to}
 use Rattle.tokens.specs.Template.{header_text}
 
--- ---- what is drawn: what the recipients take in order, the content encryption key, unless a key is it, and the initialization vector
+-- ---- what is drawn: octets for the recipients in order, the content encryption key, unless a key is it, and the initialization vector
 -- of the content (RFC 7516 section 5.1, steps 2, 6 and 9, and docs/SPECIFICATION.md "Encrypting" 6)
 
--- the key that is used directly, if one is: it is the only one
+-- the key that is used directly, if there is one, and then it is the only key
 abbrev pub direct_key : List RecipientKey → Option (List ℕ)
 direct_key [] = None
 direct_key (r ∷ rest) = if is_direct r.management then Some r.key.octets else None
 
--- how many octets the content encryption key takes of them
+-- how many octets are drawn for the content encryption key
 abbrev pub drawn_cek : Option (List ℕ) → ℕ → ℕ
 drawn_cek None n = n
 drawn_cek (Some key) n = 0
@@ -60,7 +60,7 @@ deliveries_by e random = deliveries_to e (cek_by e random) e.recipient_keys (for
 
 -- ---- the headers (RFC 7516 section 5.1, steps 12 and 13, and docs/SPECIFICATION.md "Encrypting" 7)
 
--- with the parameters of key management, but for the iterations where the template gives them (RFC 7518 sections 4.7.1 and 4.8.1)
+-- the header with the parameters of key management, except the iterations if the template has them (RFC 7518 sections 4.7.1 and 4.8.1)
 abbrev pub with_management : Bool → KeyManagement → Members → Members
 with_management given Unknown header = header
 with_management given Direct header = header
@@ -68,20 +68,20 @@ with_management given KeyWrap header = header
 with_management given (Password p2s p2c) header = put (codes "p2s") (string (base64url p2s)) (with_p2c given p2c header)
 with_management given (GcmKeyWrap iv tag) header = put (codes "tag") (string (base64url tag)) (put (codes "iv") (string (base64url iv)) header)
 
--- with what is written of a delivery, unless the template gives it: the name of the algorithm, and the parameters
+-- the header with the algorithm's name and the parameters of a delivery, unless the template has them
 abbrev pub with_parameters : Given → Delivery → Members → Members
 with_parameters given d header = with_management given.p2c d.management (with_name given.alg (codes "alg") (management_name d.alg) header)
 
--- It is written into the protected header where there is one recipient, ..
+-- the protected header, with those of the delivery if there is one recipient
 abbrev pub protected_header : Given → Bool → List Delivery → Members → Members
 protected_header given alone [] header = header
 protected_header given alone (d ∷ rest) header = if alone then with_parameters given d header else header
 
--- .. and else into the header of each recipient.
+-- the header of a recipient, with those of its delivery if there are several recipients
 abbrev pub per_recipient_header : Given → Bool → Delivery → Members
 per_recipient_header given alone d = if alone then no_members else with_parameters given d no_members
 
--- the protected header with what is drawn
+-- the protected header, with what was drawn
 abbrev pub header_of : EncryptionPlan → List ℕ → Members
 header_of e random = protected_header e.given (is_alone e.recipient_keys) (deliveries_by e random) e.protected
 
@@ -101,7 +101,7 @@ recipients_by e random = map (recipient_parts_by e.given (is_alone e.recipient_k
 abbrev pub sealing_by : EncryptionPlan → List ℕ → Sealing
 sealing_by e random = sealing (content_alg e.encryption) (cek_by e random) (iv_by e random) (additional_authenticated_data (base64url (header_by e random)) e.aad)
 
--- what the plaintext becomes, where it is not too long (docs/SPECIFICATION.md "Encrypting" 7)
+-- the sealed plaintext, if it is not too long (docs/SPECIFICATION.md "Encrypting" 7)
 unfoldable pub sealed_by : Sealing → List ℕ → Result Sealed Refusal
 sealed_by s plaintext = do
   short ← needs (not (is_longer (length plaintext) s.longest)) Limit
@@ -129,13 +129,13 @@ encrypted limits e random plaintext = do
 abbrev pub unsealed : Sealed
 unsealed = record { ciphertext = []; tag = [] }
 
--- the texts that stand round its ciphertext and its tag
+-- the texts around its ciphertext and its tag
 abbrev pub frame_by : Limits → Bool → Bool → EncryptionPlan → List ℕ → Result (List (List ℕ)) Refusal
 frame_by limits compact detach e random = built limits (parts_by e random unsealed) >>= jwe_frame compact detach
 
 -- ---- its text (RFC 7516 section 5.1, step 19, and docs/SPECIFICATION.md "Commands", what is left after a refusal)
 
--- what stands before the ciphertext's text: the first text of the object's frame
+-- the text before that of the ciphertext: the first text of the object's frame
 abbrev pub text_before : Limits → Bool → EncryptionPlan → List ℕ → List ℕ
 text_before limits compact e random = first_text (frame_by limits compact false e random)
 
@@ -143,23 +143,23 @@ abbrev pub within_longest : Option ℕ → List ℕ → List ℕ
 within_longest None front = front
 within_longest (Some most) front = take most front
 
--- what is written of the object: its text, and the ciphertext beside it where it is detached
+-- what is written of the object: its text, and the ciphertext if it is detached
 abbrev pub written_of : Bool → Bool → EncryptedObject → Result OutputTexts Refusal
 written_of compact detach o = do
   text ← jwe_text compact detach o
   Ok (record { text = text; content = handed_out detach o.ciphertext })
 
--- what a beginning of the plaintext fixes of the ciphertext
+-- the ciphertext that a beginning of the plaintext fixes
 abbrev pub ciphertext_fixed : EncryptionPlan → List ℕ → List ℕ → List ℕ
 ciphertext_fixed e random front = (sealing_by e random).fixed (within_longest (sealing_by e random).longest front)
 
--- It fixes the text before the ciphertext, and whole groups of what it fixes of this; where it is detached, nothing of the text is
--- written before its end.
+-- It fixes the text before the ciphertext, and whole groups of this ciphertext. A text with a detached ciphertext is written only after
+-- the ciphertext.
 abbrev pub text_fixed : Limits → Bool → Bool → EncryptionPlan → List ℕ → List ℕ → List ℕ
 text_fixed _ compact true e random ciphertext = []
 text_fixed limits compact false e random ciphertext = text_before limits compact e random ++ base64url (whole_groups ciphertext)
 
--- what is written by the plaintext
+-- what is written for each plaintext
 abbrev pub plan_by : Limits → Bool → Bool → EncryptionPlan → List ℕ → Plan OutputTexts
 plan_by limits compact detach e random = record {
   whole = λ plaintext. encrypted limits e random plaintext >>= written_of compact detach;
@@ -174,21 +174,21 @@ enc_plan limits compact detach keys text = do
 
 -- ---- what it fixes, and what it makes (docs/SPECIFICATION.md "Encrypting" 7)
 
--- What a beginning of the plaintext fixes of both texts goes on as more is read, and begins the whole texts.
+-- What a beginning of the plaintext fixes of both texts grows as more is read, and is a beginning of the whole texts.
 abbrev pub EncryptingGrows : Type 0
 EncryptingGrows = (compact detach : Bool) (keys : List OctetKey) (template random : List ℕ) (plan : Plan OutputTexts) → AreOctetKeys keys → IsOctets random
     → plan_from (enc_plan limits compact detach keys template) random ≡ Ok plan → BothGrow plan
 
--- What keys and a template settle makes an object of every plaintext that is not too long, and its texts: no refusal comes after the
--- random octets but Limit.
+-- If keys and a template are accepted, every plaintext that is not too long has an object and its texts: after the random octets the
+-- only refusal is Limit.
 abbrev pub EncryptingMakesTexts : Type 0
 EncryptingMakesTexts = (compact detach : Bool) (keys : List OctetKey) (template random plaintext : List ℕ) (plan : Plan OutputTexts) → are_few limits (length keys) ≡ true
     → AreOctetKeys keys → IsOctets random → plan_from (enc_plan limits compact detach keys template) random ≡ Ok plan → IfErr (plan.whole plaintext) (λ refusal. refusal ≡ Limit)
 
 -- ---- what is encrypted is decrypted (docs/SPECIFICATION.md "Encrypting" and "Decrypting")
 
--- Limits under which what is written may be read: a header may stand in a text among those of several recipients, a count of iterations is
--- not 0, a number of JSON and no more than may be read, and the algorithms are those that may be chosen.
+-- Limits under which what is written may be read: a header is not too deep for a list of recipients, a count of iterations is at least 1,
+-- a JSON number, and at most the greatest that is read, and the algorithms are those that may be chosen.
 pub record AreSound (limits : Limits) : Type 0 where
   pub depth : limits.depth ≤ listed_header_depth
   pub some : 1 ≤ limits.least_p2c
@@ -207,8 +207,8 @@ abbrev pub OpensNoOther : ℕ → OctetKey → EncryptedObject → List ℕ → 
 OpensNoOther n key o plaintext =
     AllByRecursion (λ pair. (other : List ℕ) → opened_by (sealed_content o) pair ≡ Some other → other ≡ plaintext) (all_pairs management_algs (key ∷ []) (take n o.recipients))
 
--- Where a plaintext is encrypted to keys, what is written is an object, which each of the keys, alone, decrypts to the plaintext,
--- where it may decrypt and opens nothing else at the recipient of a key before it.
+-- What is written for a plaintext and keys is an object. Each of the keys alone decrypts it to the plaintext, if the key may decrypt and
+-- opens nothing else at the recipient of an earlier key.
 abbrev pub EncryptedDecrypts : Limits → Type 0
 EncryptedDecrypts limits = (compact detach : Bool) (keys : List OctetKey) (template random plaintext : List ℕ) (texts : OutputTexts) → AreOctetKeys keys → IsOctets random → IsOctets plaintext
     → planned (plan_from (enc_plan limits compact detach keys template) random) plaintext ≡ Ok texts

@@ -57,8 +57,8 @@ abbrev pub encryption_asked : Option (List ℕ) → Result (Option ContentEncryp
 encryption_asked None = Ok None
 encryption_asked (Some name) = supported_encryption (encryption_alg_of name)
 
--- The parameters that are drawn or made for a recipient are left to encryption, whatever the algorithm: the salt input of a password, and
--- the initialization vector and the tag of a key wrap by AES in GCM (RFC 7518 sections 4.8.1.1, 4.7.1.1 and 4.7.1.2).
+-- The header has no parameters that are drawn or made for a recipient, whatever the algorithm: no salt input of a password, and no
+-- initialization vector and tag of AES-GCM key wrap (RFC 7518 sections 4.8.1.1, 4.7.1.1 and 4.7.1.2).
 abbrev pub leaves_parameters : Members → Bool
 leaves_parameters header =
     is_none (get_member (codes "p2s") header) && (is_none (get_member (codes "iv") header) && is_none (get_member (codes "tag") header))

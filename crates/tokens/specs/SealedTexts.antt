@@ -1,4 +1,4 @@
--- What is written of a content that is sealed as it is read: its ciphertext, with the tag that comes out at its end.
+-- What is written of a content that is sealed as it is read: its ciphertext, and the tag at its end.
 use Rattle.std.specs.Prelude.{◌≡◌, ℕ, Bool, List, [], ◌∷◌, length, if◌then◌else◌, Option, Some, None, Result, Ok}
 use Rattle.std.proofs.Common.{zero, suc, refl, ap, ◌∙◌, arith}
 use Rattle.std.proofs.lemmas.List.{nil_from_length}
@@ -17,14 +17,14 @@ use Rattle.tokens.specs.Encrypting.{sealing_by, sealed_by, within_longest, frame
 
 -- ---- the ciphertext
 
--- what is written by the plaintext, where this is the plan by the ciphertext
+-- the plan for each plaintext, by a plan for each ciphertext
 abbrev pub sealed_plan : Plan (List ℕ) → Sealing → Plan (List ℕ)
 sealed_plan plan s = record {
   whole = λ plaintext. sealed_by s plaintext >>= λ sealed. plan.whole sealed.ciphertext;
   fixed = λ front. plan.fixed (s.fixed (within_longest s.longest front));
 }
 
--- no plaintext fixes no text
+-- an empty plaintext fixes no text
 within_nothing : (longest : Option ℕ) → within_longest longest [] ≡ []
 within_nothing None = refl
 within_nothing (Some zero) = refl
@@ -34,22 +34,22 @@ pub nothing_starts : (plan : Plan (List ℕ)) (s : Sealing) → KeepsPace s [] �
 nothing_starts plan s pace none =
     ap (λ front. plan.fixed (s.fixed front)) (within_nothing s.longest) ∙ ap plan.fixed (nil_from_length (s.fixed []) (omega (arith, pace.within))) ∙ none
 
--- This was fed, and is not too long.
+-- The sealing was fed p, which is not too long.
 pub record IsFed {X : Type 0} (is_sealing : X → Sealing → List ℕ → Type 0) (x : X) (s : Sealing) (p : List ℕ) : Type 0 where
   pub holds : is_sealing x s p
   pub short : IsTooLong s p → ⊥
 
--- and the octets after the whole groups of what it fixes of the ciphertext wait
+-- the same, and the octets after the whole groups of the fixed ciphertext wait
 abbrev pub IsSealingText : {X : Type 0} → (X → Sealing → List ℕ → Type 0) → X → List ℕ → Sealing → List ℕ → Type 0
 IsSealingText is_sealing x waiting s p = IsFed is_sealing x s p × (waiting ≡ part_group (s.fixed p))
 
--- one value is one
+-- the count of one value is 1
 pub one_value : {values : List (List ℕ)} {value : List ℕ} → values ≡ value ∷ [] → length values ≡ 1
 one_value is = ap length is
 
 -- ---- the object
 
--- The sealing of what the plan is of was started, and the texts are those of its frame. Round the ciphertext and the tag of every
+-- The sealing of the plan's encryption was started, and the texts are those of its frame. With the ciphertext and the tag of any
 -- plaintext they are what is written of its object.
 pub record IsUnsealed {S : Type 0} (is_sealing : S → Sealing → List ℕ → Type 0) (compact detach : Bool) (plan : Result (Plan OutputTexts) Refusal) (sealer : S) (texts : List (List ℕ)) : Type 0 where
   pub encryption : EncryptionPlan

@@ -1,4 +1,4 @@
--- Signing inputs that are taken in pieces (RFC 7515 section 5.1).
+-- Signing inputs that are fed in pieces (RFC 7515 section 5.1).
 use Rattle.std.specs.Prelude.{◌≡◌, ℕ, Bool, List, [], ◌∷◌, ◌++◌, length, map, codes, ⊤, Result, Ok}
 use Rattle.std.proofs.Common.{refl, ap, ◌∙◌, arith}
 use Rattle.std.proofs.lemmas.List.{length-map}
@@ -18,7 +18,7 @@ use Rattle.objects.specs.Jws.{Signature, SignedObject}
 use Rattle.tokens.specs.Signatures.{signature_hash}
 use Rattle.tokens.specs.Signing.{Signer, Signing, protected_by, unsigned_by, plan_by}
 
--- what is said of the one code that there is
+-- a statement on the HMAC of this variant
 abbrev pub on_hmac_input : HmacInput → (Hmac Sha256 → Type 0) → (Hmac Sha384 → Type 0) → (Hmac Sha512 → Type 0) → Type 0
 on_hmac_input (Hs256 mac) a b c = a mac
 on_hmac_input (Hs384 mac) a b c = b mac
@@ -30,7 +30,7 @@ pub record InputStart : Type 0 where
   pub key : List ℕ
   pub protected : List ℕ
 
--- Each input was started with its start and a dot, and has then taken this text.
+-- Each input was started with its start and a dot, and was then fed this text.
 abbrev pub HoldEach : {S : Type 0} → (S → HashFunction → List ℕ → List ℕ → Type 0) → List S → List InputStart → List ℕ → Type 0
 HoldEach has_taken [] [] text = ⊤
 HoldEach has_taken [] (s ∷ starts) text = ⊥
@@ -38,7 +38,7 @@ HoldEach has_taken (x ∷ inputs) [] text = ⊥
 HoldEach has_taken (x ∷ inputs) (s ∷ starts) text =
     has_taken x (signature_hash s.alg) s.key ((s.protected ++ codes ".") ++ text) × HoldEach has_taken inputs starts text
 
--- They have taken the text of the whole groups of what was read of the payload, and the octets after these wait.
+-- They were fed the text of the whole groups of the payload so far, and the octets after these wait.
 abbrev pub HaveTaken : {S : Type 0} → (S → HashFunction → List ℕ → List ℕ → Type 0) → List S → List ℕ → List InputStart → List ℕ → Type 0
 HaveTaken has_taken inputs waiting starts p = HoldEach has_taken inputs starts (base64url (whole_groups p)) × (waiting ≡ part_group p)
 
@@ -46,14 +46,14 @@ HaveTaken has_taken inputs waiting starts p = HoldEach has_taken inputs starts (
 abbrev pub signature_text : List ℕ → InputStart → List ℕ
 signature_text text s = base64url (hmac (signature_hash s.alg) s.key ((s.protected ++ codes ".") ++ text))
 
--- The inputs give the texts of the signatures over a text that they have taken.
+-- The values are the texts of the signatures over the text that the inputs were fed.
 pub record GiveSignatures {S : Type 0} (has_taken : S → HashFunction → List ℕ → List ℕ → Type 0) (inputs : List S) (values : List (List ℕ)) : Type 0 where
   pub starts : List InputStart
   pub text : List ℕ
   pub hold : HoldEach has_taken inputs starts text
   pub are : values ≡ map (signature_text text) starts
 
--- as many as there are inputs
+-- there are as many starts as inputs
 hold_count : {S : Type 0} (has_taken : S → HashFunction → List ℕ → List ℕ → Type 0) (inputs : List S) (starts : List InputStart) (text : List ℕ) → HoldEach has_taken inputs starts text → length starts ≡ length inputs
 hold_count has_taken [] [] text h = refl
 hold_count has_taken [] (s ∷ starts) text h = absurd h
@@ -73,7 +73,7 @@ start_of s = record { alg = s.alg; key = s.key.octets; protected = protected_by 
 abbrev pub unsigned_protected : List Signature → List (List ℕ)
 unsigned_protected signatures = map (λ s. s.protected) signatures
 
--- The texts are those of the frame of what the plan is of, and the inputs were started for its signers.
+-- The texts are those of the frame of the plan's object, and the inputs were started for its signers.
 pub record IsFramed {S : Type 0} (has_taken : S → HashFunction → List ℕ → List ℕ → Type 0) (compact detach : Bool) (plan : Result (Plan OutputTexts) Refusal) (inputs : List S) (texts : List (List ℕ)) : Type 0 where
   pub signing : Signing
   pub object : SignedObject

@@ -20,7 +20,7 @@ pub record SignatureTemplate : Type 0 where
   pub per_signature : Members
   pub alg : Option SignatureAlg
 
--- an object with no member but `protected` and `header`, each an object
+-- an object with no members other than `protected` and `header`, which are objects
 unfoldable pub template_headers : Data → Result (Members × Members) Refusal
 template_headers value = do
   an_object ← needs (is_object value) Form
@@ -39,7 +39,7 @@ abbrev pub supported_if_there : Option (List ℕ) → Result (Option SignatureAl
 supported_if_there None = Ok None
 supported_if_there (Some name) = supported (signature_alg_of name)
 
--- the algorithm that two headers name together, which have no `crit`
+-- the algorithm that two headers without a `crit` name, if they do
 unfoldable pub named_alg : Members → Members → Result (Option SignatureAlg) Refusal
 named_alg protected per_signature = do
   header ← joint_header protected no_members per_signature
@@ -56,7 +56,7 @@ template_of value = do
 
 -- ---- the headers that are written (RFC 7515 section 5.1, steps 3 and 4, and docs/SPECIFICATION.md "Signing" 4 and 5)
 
--- the protected header, with the algorithm where the template names none
+-- the protected header, with the algorithm if the template names none
 abbrev pub with_alg : SignatureTemplate → SignatureAlg → Members
 with_alg template alg = if is_some template.alg then template.protected else put (codes "alg") (string (signature_name alg)) template.protected
 
@@ -65,7 +65,7 @@ abbrev pub header_text : Members → List ℕ
 header_text no_members = []
 header_text (member name value rest) = compact_text (object (member name value rest))
 
--- no deeper than a header may nest
+-- the header is not too deep
 abbrev pub is_shallow : Limits → Members → Bool
 is_shallow limits members = nat_le (depth (object members)) limits.depth
 

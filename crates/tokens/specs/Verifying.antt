@@ -28,7 +28,7 @@ is_candidate alg key = allows key Verify && fits key (SignedWith alg)
 abbrev pub is_signed : SignatureAlg → List ℕ → Signature → OctetKey → Bool
 is_signed alg payload s key = bytes_eq s.signature (signature_of alg key.octets s.protected payload)
 
--- the algorithm of a candidate pair: that of the signature, where it is supported, and the key may verify by it and fits
+-- the algorithm of a candidate pair: that of the signature, if it is supported and the key may verify by it and fits
 abbrev pub candidate_by : Option SignatureAlg → OctetKey → Option SignatureAlg
 candidate_by None key = None
 candidate_by (Some alg) key = if is_candidate alg key then Some alg else None
@@ -50,7 +50,7 @@ verifies payload s key = verifies_by (candidate_alg s key) payload s key
 
 -- ---- the object (RFC 7515 section 5.2, steps 9 and 10, and docs/SPECIFICATION.md "Verifying" 2 and 3)
 
--- each key made a signature, where that is asked for, or else some key made some
+-- each key made a signature, if that is asked for, or else some key made one
 abbrev pub are_verified : Bool → List OctetKey → SignedObject → Bool
 are_verified true keys o = list_all (λ key. list_any (λ s. verifies o.payload s key) o.signatures) keys
 are_verified false keys o = list_any (λ s. list_any (verifies o.payload s) keys) o.signatures
@@ -63,7 +63,7 @@ verified_payload all keys o = do
   verified ← needs (are_verified all keys o) NotOpened
   Ok o.payload
 
--- what is written: the payload, where it is asked for
+-- what is written: the payload, if it is asked for
 unfoldable pub verifying_by : Bool → Bool → List OctetKey → SignedObject → Result (List ℕ) Refusal
 verifying_by all wanted keys o = do
   payload ← verified_payload all keys o
@@ -71,8 +71,7 @@ verifying_by all wanted keys o = do
 
 -- ---- what is signed is verified (docs/SPECIFICATION.md "Signing" and "Verifying" 3)
 
--- Where keys sign as the template asks, what is written is an object, which each of the keys that may verify, alone, verifies, and
--- gives the payload.
+-- What keys sign as a template asks is an object. Each of the keys alone verifies it and returns the payload, if the key may verify.
 abbrev pub SignedVerifies : Type 0
 SignedVerifies = (compact detach : Bool) (keys : List OctetKey) (template payload : List ℕ) (texts : OutputTexts) → IsOctets payload
     → planned (sig_plan limits compact detach keys template) payload ≡ Ok texts

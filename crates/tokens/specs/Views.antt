@@ -41,7 +41,7 @@ algorithms_view a = record { management = a.management; encryption = a.encryptio
 abbrev pub pair_view : CodePair → Pair
 pair_view p = record { recipient = recipient_view p.recipient.now; algorithms = algorithms_view p.algorithms; key = key_view p.key.now }
 
--- with the ciphertext, which stands elsewhere
+-- with the ciphertext, which is elsewhere
 abbrev pub sealed_with_view : SealedWith → List ℕ → SealedContent
 sealed_with_view s ciphertext = record { iv = s.iv.now; aad = s.aad.now; ciphertext = ciphertext; tag = s.tag.now }
 

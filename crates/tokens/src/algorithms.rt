@@ -1,5 +1,4 @@
-//! The algorithms of encrypted objects, and the parameters of key management, for the ciphers that have them. It sees names and
-//! no key.
+//! The algorithms of encrypted objects and the parameters of key management, for the ciphers.
 ghost use Rattle.std.specs.Prelude.{◌≡◌, ◌≤◌, option_map};
 ghost use Rattle.ciphers.specs.Views.{parameters_view};
 ghost use Rattle.keys.specs.Limits.{limits};
@@ -20,7 +19,7 @@ pub(crate) struct Algorithms {
 }
 
 impl Algorithms {
-    /// Those that are named, where both are.
+    /// The named algorithms, if both are known.
     pub(crate) fn named(
         management: Option<KeyManagementAlg>,
         encryption: Option<ContentEncryptionAlg>,
@@ -66,7 +65,7 @@ pub(crate) fn key_alg(alg: KeyManagementAlg) -> KeyAlg
     }
 }
 
-/// Where an algorithm reads no parameters.
+/// For an algorithm that reads no parameters.
 pub(crate) const NO_PARAMETERS: KeyParameters<'static> = KeyParameters {
     iv: &[],
     tag: &[],
@@ -74,7 +73,7 @@ pub(crate) const NO_PARAMETERS: KeyParameters<'static> = KeyParameters {
     p2c: 0,
 };
 
-/// What a recipient's header gives of key management (RFC 7518 section 4).
+/// The parameters of key management in a recipient's header (RFC 7518 section 4).
 pub(crate) fn parameters(management: &KeyManagement) -> KeyParameters<'_>
     requires { iterations_by (management_view management.now) ≤ limits.greatest_p2c_read }
     ensures { parameters_view result ≡ parameters_by (management_view management.now) }
@@ -94,7 +93,7 @@ pub(crate) fn parameters(management: &KeyManagement) -> KeyParameters<'_>
     }
 }
 
-/// How many encrypted keys are unwrapped: none where the key is used directly.
+/// How many encrypted keys are unwrapped: none if the key is used directly.
 pub(crate) fn unwraps(alg: KeyManagementAlg) -> u64
     ensures count { result ≡ unwraps_of alg }
     ensures bound { result ≤ 1 }

@@ -26,7 +26,7 @@ use octets::laws::are_octets;
 use octets::{Output, Refusal, emit};
 use std::alloc::Global;
 
-/// What was done to open an object, over the pairs of a recipient and a key that were tried.
+/// The work of opening an object, over all pairs of a recipient and a key that were tried.
 #[derive(Clone, Copy, Debug, PartialEq, Eq)]
 pub struct Work {
     /// Iterations of PBKDF2.
@@ -37,7 +37,7 @@ pub struct Work {
     pub openings: u64,
 }
 
-/// What a content was sealed with, its ciphertext aside.
+/// What a content was sealed with, without its ciphertext.
 #[derive(Clone, Copy)]
 struct SealedWith<'j> {
     iv: &'j [u8],
@@ -45,14 +45,14 @@ struct SealedWith<'j> {
     tag: &'j [u8],
 }
 
-/// Decrypts the object with the keys (RFC 7516 section 5.2), and writes its plaintext. The recipients are tried in order,
-/// and for each the keys in order that may decrypt by its algorithms and fit: the first pair decides whose encrypted key
-/// unwraps, and under whose content encryption key the tag is right.
+/// Decrypts the object with the keys (RFC 7516 section 5.2) and writes its plaintext. The recipients are tried in order,
+/// and for each the keys in order that may decrypt by its algorithms and fit. The plaintext is that of the first pair whose
+/// encrypted key unwraps to a content encryption key under which the tag is right.
 ///
-/// Refused, in this order, with `Unsupported` where no recipient's algorithms are supported; `KeyDoesNotFit` where no key
-/// may decrypt and fits; `Limit` where a pair takes more than 2,000,000 iterations of PBKDF2 or all of them more than
-/// 16,000,000; `NotOpened` where no pair opens; and then with `Write` where the output fails. `Work` is what was done: nothing
-/// where the refusal is another one than the last two.
+/// Refuses, in this order, with `Unsupported` if no recipient's algorithms are supported; `KeyDoesNotFit` if no key may
+/// decrypt and fits; `Limit` if a pair needs more than `GREATEST_P2C_READ` iterations of PBKDF2, or all pairs more than
+/// `MOST_ITERATIONS`; `NotOpened` if no pair opens; and `Write` if the output fails. May fail with `Memory`. `Work` is 0
+/// after every refusal except `NotOpened` and `Write`.
 pub fn jwe_decrypt<O: Output>(
     alloc: Global,
     keys: &KeySet,
@@ -61,7 +61,7 @@ pub fn jwe_decrypt<O: Output>(
 ) -> (Work, Result<(), Refusal>)
     ensures answer { AgreesUnlessExternal (decrypted limits keys.now (jwe_view jwe)) (appended (O.written out.old) (O.written out.new)) result.1 }
 
-    // The output is not touched before a pair has opened.
+    // The output is not touched before a pair opens.
     ensures held_back { IfErr result.1 (λ refusal. refusal ≢ Refusal.Write → out.new ≡ out.old) }
     ensures beginning { OnErr result.1 (AppendsPrefixOf (result_unwrap_or (decrypted limits keys.now (jwe_view jwe)) [])
         (O.written out.old) (O.written out.new)) }
@@ -69,7 +69,7 @@ pub fn jwe_decrypt<O: Output>(
     ensures unfinished { OnErr result.1 (O.endings out.new ≡ O.endings out.old) }
     ensures faults { TellsFaults [] (counts O.failures out.old out.new ∷ []) result.1 }
 
-    // The work is that of the pairs up to and with the first that opens.
+    // The work is that of the pairs up to and including the first that opens.
     ensures work { work_view result.0 ≡ work_told (jwe_view jwe) (pairs_to_try limits keys.now (jwe_view jwe).recipients) result.1 }
     ensures bound { IsBounded (work_view result.0) }
 {
@@ -148,8 +148,8 @@ fn open_pairs(
     None
 }
 
-/// Opens the ciphertext by a pair, after others that do not open it. If one of those is the same, the content is not gone over once more.
-/// Where the pair does not open it, the octets are as they were.
+/// Opens the ciphertext by a pair, after others that did not open it. If one of these is the same, the content is not tried again. If
+/// the pair does not open it, the octets are unchanged.
 #[tactic(auto, unfolding(crate::specs::Decrypting::opened_by))]
 fn open_pair(
     pair: &Pair<'_>,
@@ -184,7 +184,7 @@ fn open_pair(
     enc.open(cek, sealed.iv, sealed.aad, octets, sealed.tag)
 }
 
-/// The content encryption key that a pair delivers, and the number of iterations of PBKDF2 that were made for it.
+/// The content encryption key that a pair delivers, and the number of iterations of PBKDF2 for it.
 #[tactic(auto, unfolding(crate::specs::Decrypting::cek_of), using(crate::proofs::AlgorithmCases::is_key_of, crate::proofs::AlgorithmCases::counts, crate::proofs::AlgorithmCases::iterations_made))]
 fn deliver(pair: &Pair<'_>) -> (Option<Cek>, u64)
     requires { iterations_of (pair_view pair.now) ≤ limits.greatest_p2c_read }

@@ -50,31 +50,29 @@ use std::alloc::Global;
 /// The most octets that are drawn: for each key a salt input, a content encryption key of 64, and an initialization vector of 16.
 const MOST_DRAWN: usize = MOST_KEYS * SALT_LEN + 80;
 
-/// Encrypts all that the content gives to each key in order (RFC 7516 section 5.1), as the template asks, and writes the
-/// object's text: its compact text (RFC 7516 section 7.1) where that is asked for, or else its JSON text, flattened where there
-/// is one key (RFC 7516 section 7.2). Where there is an output for it the ciphertext is detached: the text is without it, and
-/// it is written there as it is, before the text.
+/// Reads the content to its end, encrypts it to each key in order (RFC 7516 section 5.1), as the template asks, and writes the
+/// object's text: with `compact` its compact text (section 7.1), and else its JSON text (section 7.2), flattened if there is one
+/// key. If there is an output for it, the ciphertext is detached: it is written there as plain octets, before the text, and the
+/// text is without it.
 ///
-/// The template is a JSON object with no member but `protected` and `unprotected`, each an object, and `aad`, a base64url text.
-/// The algorithm of key management is the one of the headers' `alg`; or else the one of the key's `alg`, where a content
-/// encryption means direct use; or else A128KW, A192KW or A256KW by the key's length. That of content encryption is the one of
-/// the headers' `enc`; or else, of a key that is used directly, the one of its `alg` or the CBC one of its length; or else the
-/// CBC one that goes with the key management of the first key. For a password `p2c` is that of the headers, or else 100,000,
-/// and `p2s`, of 16 octets, is drawn; for AES-GCM key wrap `iv`, of 12 octets, is drawn, and `tag` is made
-/// with the encrypted key.
+/// The template is a JSON object with no members other than `protected` and `unprotected`, which are objects, and `aad`, a
+/// base64url text. The algorithm of key management is the `alg` of the headers; else the key's `alg`, where a content encryption
+/// means direct use; else A128KW, A192KW or A256KW by the key's length. The algorithm of content encryption is the `enc` of the
+/// headers; else, if a key is used directly, its `alg` or the CBC algorithm of its length; else the CBC algorithm that goes with
+/// the key management of the first key. For a password `p2c` is that of the headers, or else `USUAL_P2C`, and `p2s`, of 16
+/// octets, is drawn. For AES-GCM key wrap `iv`, of 12 octets, is drawn, and `tag` is made with the encrypted key.
 ///
-/// What the headers do not give is written: `enc` into the protected header; `alg`, `p2c`, `p2s`, `iv` and `tag` into the
-/// protected header where there is one key, and else into the header of each recipient.
+/// What the headers do not have is added: `enc` to the protected header; `alg`, `p2c`, `p2s`, `iv` and `tag` to the protected
+/// header if there is one key, and else to the header of each recipient.
 ///
-/// The random input gives the `p2s` or the `iv` of each key that takes one, in order, the content encryption key, unless a key
-/// is it, and then the initialization vector, and exactly these octets are read, after every refusal that the template and the
-/// keys give.
+/// Exactly these octets of the random input are read, after every refusal for the template and the keys: the `p2s` or the `iv`
+/// of each key that needs one, in order; the content encryption key, unless a key is it; and the initialization vector.
 ///
-/// Refused, in the order that docs/SPECIFICATION.md has under "Encrypting", each step for every key before the next, with `Json`,
-/// `Number`, `Form`, `Base64`, `Header` or `Unsupported` for the template; `NoAlgorithm`, `KeyDoesNotFit` or `Header` for the
-/// keys and the algorithms; `Limit` for a header that is too deep, or for iterations; `NotCompact` where a compact text cannot hold
-/// what they give; then with `Read` where the random input fails, and `Random` where it ends too early; then with `Read` where the
-/// content fails, and `Limit` where it is too long; and with `Write` where an output fails.
+/// Refuses, each step for every key before the next (docs/SPECIFICATION.md "Encrypting"), with `Json`, `Number`, `Form`,
+/// `Base64`, `Header` or `Unsupported` for the template; `NoAlgorithm`, `KeyDoesNotFit` or `Header` for the keys and the
+/// algorithms; `Limit` for a header that is too deep, or for iterations; `NotCompact` if compact form cannot hold the object;
+/// `Read` if the random input fails, and `Random` if it ends too early; `Read` if the content fails, and `Limit` if it is too
+/// long; and `Write` if an output fails. May fail with `Memory`, before the content is read.
 #[tactic(auto, unfolding(crate::specs::Encrypting::enc_plan))]
 pub fn jwe_encrypt<I: Input, O: Output>(
     alloc: Global,
@@ -93,7 +91,7 @@ pub fn jwe_encrypt<I: Input, O: Output>(
         → AgreesUnlessExternal (planned (plan_from (enc_plan limits compact (is_some detached.entry) keys.now template.now) octets) plaintext)
         (record { text = appended (O.written out.old) (O.written out.new); content = wrote_on O.written (lent detached.entry detached.exit) }) result }
 
-    // Exactly the octets of the recipients, the key and the vector are read of the random input, and no more before a refusal.
+    // Exactly the octets for the recipients, the key and the vector are read of the random input, and no more before a refusal.
     ensures drawn { OnOk result (length (appended (I.consumed random.old) (I.consumed random.new))
         ≡ drawn_of (enc_plan limits compact (is_some detached.entry) keys.now template.now)) }
     ensures at_most { length (appended (I.consumed random.old) (I.consumed random.new))
@@ -107,13 +105,13 @@ pub fn jwe_encrypt<I: Input, O: Output>(
     ensures finished { OnOk result (IsFinishedOnce O.is_finished O.endings out.old out.new × IfLent (lent detached.entry detached.exit) (IsFinishedOnce O.is_finished O.endings)) }
     ensures unfinished { OnErr result (O.endings out.new ≡ O.endings out.old) }
 
-    // Where the content fails, what stands is at most 4,160 octets behind what was read of it.
+    // If the content fails, what was written is at most `most_behind` octets behind what was read.
     ensures keeps_up { result ≡ Err Refusal.Read → appended (I.consumed content.old) (I.consumed content.new) ≢ []
         → KeepsUp (λ front. (fixed_by (plan_from (enc_plan limits compact (is_some detached.entry) keys.now template.now) (appended (I.consumed random.old) (I.consumed random.new))) front).text) (appended (I.consumed content.old) (I.consumed content.new)) (O.written out.old) (O.written out.new)
         × IfLent (lent detached.entry detached.exit) (λ old new.
         KeepsUp (λ front. (fixed_by (plan_from (enc_plan limits compact (is_some detached.entry) keys.now template.now) (appended (I.consumed random.old) (I.consumed random.new))) front).content) (appended (I.consumed content.old) (I.consumed content.new)) (O.written old) (O.written new)) }
 
-    // What the template and the keys refuse is refused before anything is drawn, and the content is touched once all is drawn.
+    // The template and the keys are judged before anything is drawn, and the content is touched only after all is drawn.
     ensures content_last { (refusal : Refusal) → enc_plan limits compact (is_some detached.entry) keys.now template.now ≡ Err refusal
         → (random.new ≡ random.old) × (content.new ≡ content.old) }
     ensures random_first { length (appended (I.consumed random.old) (I.consumed random.new))
@@ -128,8 +126,8 @@ pub fn jwe_encrypt<I: Input, O: Output>(
         × (O.written new ≡ O.written old ++ (begun (plan_from (enc_plan limits compact (is_some detached.entry) keys.now template.now) (appended (I.consumed random.old) (I.consumed random.new)))
         (observed I.consumed I.is_at_end content.old content.new)).content)))) }
 
-    // All memory is taken before the content is touched, and an output that did not fail is as it was where nothing of it could be
-    // read.
+    // All memory is allocated before the content is touched. If nothing of the content could be read, an output that did not fail
+    // is unchanged.
     ensures memory_first { IfErr result (λ refusal. refusal ≡ Refusal.Memory → content.new ≡ content.old) }
     ensures unread { IfErr result (λ refusal. appended (I.consumed content.old) (I.consumed content.new) ≡ []
         → (DidNotFail refusal (counts O.failures out.old out.new) → out.new ≡ out.old)
@@ -153,15 +151,15 @@ pub fn jwe_encrypt<I: Input, O: Output>(
     }
 }
 
-/// What is settled before there is a plaintext: the texts round the ciphertext and the tag, and the sealing, started.
+/// What is settled before there is a plaintext: the texts around the ciphertext and the tag, and the sealing, started.
 #[derive(Drop)]
 struct PreparedEncryption {
     texts: Vec<String>,
     sealer: ContentSealer,
 }
 
-/// All that is settled before the plaintext is read. Refused, but for want of memory or where the random input fails, as the plan
-/// is with every plaintext.
+/// All that is settled before the plaintext is read. Apart from `Memory` and failures of the random input, it is refused exactly
+/// when the plan is refused for every plaintext.
 #[tactic(auto, unfolding(crate::specs::Encrypting::enc_plan))]
 fn prepare<I: Input>(
     alloc: Global,
@@ -195,7 +193,7 @@ fn prepare<I: Input>(
     begin_sealing(alloc, encryption, drawn, compact, detach)
 }
 
-/// The texts and the sealing of an encryption by the octets that were drawn, before there is a plaintext.
+/// The texts and the sealing of an encryption with the octets that were drawn, before there is a plaintext.
 fn begin_sealing(
     alloc: Global,
     encryption: EncryptionPlan<'_>,
@@ -259,7 +257,7 @@ fn random_len(encryption: &EncryptionPlan<'_>) -> usize
     for_recipients + cek_drawn(encryption) + content_alg(encryption.encryption).iv_len()
 }
 
-/// How many of them the content encryption key takes.
+/// How many octets are drawn for the content encryption key.
 fn cek_drawn(encryption: &EncryptionPlan<'_>) -> usize
     ensures count { result ≡ cek_drawn (encryption_plan_view encryption.now) }
     ensures bound { result ≤ 64 }
@@ -270,7 +268,7 @@ fn cek_drawn(encryption: &EncryptionPlan<'_>) -> usize
     }
 }
 
-/// The key that is used directly, if one is: it is the only one.
+/// The key that is used directly, if there is one, and then it is the only key.
 fn direct_key<'k>(recipient_keys: &[RecipientKey<'k>]) -> Option<&'k [u8]>
     ensures { option_map (λ key. key.now) result ≡ direct_key (map recipient_key_view recipient_keys.now) }
 {

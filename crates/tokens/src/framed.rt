@@ -1,5 +1,5 @@
-//! A content that is written as it is read, inside the texts of an object's frame or beside them, and the values that follow it
-//! in their places: the signatures, or the tag. It sees no object.
+//! A content that is written as it is read, inside the texts of an object's frame or apart from them, and the values that follow
+//! it in their places: the signatures, or the tag.
 ghost use Rattle.std.specs.Prelude.{◌≡◌, ◌≢◌, ◌⊎◌, ◌+◌, ◌++◌, ℕ, List, [], ◌∷◌, true, false, length, map, string_bytes, Err, IfErr, IsTrue, OnOk, OnErr};
 ghost use Rattle.std.specs.Iterator.{IsFinite};
 ghost use Rattle.octets.specs.Devices.{appended, observed, IsPossibleInput, AppendsPrefixOf, IsFinishedOnce};
@@ -13,15 +13,15 @@ ghost use Rattle.tokens.specs.Framing.{FillsFrame};
 
 use octets::{Input, Output, Refusal, Transform, pump};
 
-/// The values that follow a content in the places of a frame, once all of it was read.
+/// The values that follow a content in the places of a frame, after all of it was read.
 pub(crate) trait Values: Drop {
-    /// It gives the values that have these texts, in order.
+    /// It has the values with these texts, in order.
     ghost gives: { Self → List (List ℕ) → Type 0 };
 
-    /// So many.
+    /// The number of its values.
     ghost count: { Self → ℕ };
 
-    /// Writes the first text, and then each value and the text after it, and finishes.
+    /// Writes the first text, and then each value and the text after it, and finishes the output.
     fn write<O: Output>(self, texts: &[String], out: &mut O) -> Result<(), Refusal>
         requires { length texts.now ≡ 1 + count self }
         ensures all { (values : List (List ℕ)) → gives self values
@@ -33,12 +33,12 @@ pub(crate) trait Values: Drop {
         ensures cause { OnErr result (result ≡ Err Refusal.Write) }
         ensures faults { TellsFaults [] (counts O.failures out.old out.new ∷ []) result };
 
-    /// As many as it gives.
+    /// The number is that of the values that it has.
     ghost as_many: { (x : Self) (values : List (List ℕ)) → gives x values → length values ≡ count x };
 }
 
-/// Writes the content inside the texts: the first text, what the transform gives of the content as it is read, and then each other
-/// text behind a value. Fails with `Read` if the content fails, as the transform refuses, and with `Write`.
+/// Writes the content inside the texts: the first text, what the transform returns of the content as it is read, and then each other
+/// text after a value. Refuses with `Read` if the content fails, as the transform does, and with `Write`.
 pub(crate) fn write_inside<I: Input, T: Transform, O: Output>(
     content: &mut I,
     transform: T,
@@ -72,8 +72,8 @@ where
     rest.write(others, out)
 }
 
-/// Writes what the transform gives of the content as it is read to an output of its own, and finishes that; and then the texts, with a
-/// value between each two. Fails with `Read` if the content fails, as the transform refuses, and with `Write`.
+/// Writes what the transform returns of the content as it is read to an output of its own, and finishes that. Then writes the texts,
+/// with a value between each two. Refuses with `Read` if the content fails, as the transform does, and with `Write`.
 pub(crate) fn write_beside<I: Input, T: Transform, O: Output>(
     content: &mut I,
     transform: T,

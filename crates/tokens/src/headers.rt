@@ -1,4 +1,4 @@
-//! Headers that are written, as templates of both kinds of object share them. It sees no key and no content.
+//! Headers that are written, for both kinds of objects.
 ghost use Rattle.std.specs.Prelude.{◌≡◌, false, IfOk, string_bytes};
 ghost use Rattle.serde_json.specs.View.{members_view};
 ghost use Rattle.serde_json.specs.Written.{members_have_float};
@@ -11,7 +11,7 @@ use keys::{MOST_DEPTH, object_nests_at_most};
 use serde_json::{Map, Value};
 use std::alloc::{AllocError, Global};
 
-/// The header nests at most 64 deep.
+/// Whether the header nests at most `MOST_DEPTH` deep.
 pub(crate) fn is_shallow(part: Option<&Map<String, Value>>) -> bool
     ensures { result ≡ is_shallow limits (part_view part.entry) }
 {
@@ -21,7 +21,7 @@ pub(crate) fn is_shallow(part: Option<&Map<String, Value>>) -> bool
     }
 }
 
-/// The header has no members.
+/// Whether the header has no members.
 #[tactic(auto, using(crate::proofs::HeaderMembers::empty_members))]
 pub(crate) fn is_empty(part: Option<&Map<String, Value>>) -> bool
     ensures { result ≡ is_empty (part_view part.entry) }
@@ -45,7 +45,7 @@ pub(crate) fn header_text(alloc: Global, members: Map<String, Value>) -> Result<
     }
 }
 
-/// The header with a parameter, where the template does not name its algorithm.
+/// The header with a parameter, unless the template names its algorithm.
 #[tactic(auto, using(keys::proofs::Lemmas::no_float_put_in))]
 pub(crate) fn with_name(
     alloc: Global,

@@ -1,4 +1,4 @@
-//! Laws of the definitions, each the contract of a function that does nothing.
+//! Laws of the definitions. Each is the contract of a function that does nothing.
 ghost use Rattle.std.specs.Prelude.{◌≡◌, ◌++◌, List};
 ghost use Rattle.keys.specs.declared.algorithm.KeyManagementAlg.{KeyManagementAlg};
 ghost use Rattle.keys.specs.declared.algorithm.ContentEncryptionAlg.{ContentEncryptionAlg};
@@ -17,25 +17,25 @@ use ciphers::laws::{
 };
 use objects::laws::{jwe_texts_spell_objects, jws_texts_spell_objects};
 
-/// What a beginning of the payload fixes of the text of a signed object goes on as more is read, and begins the whole text.
+/// What a beginning of the payload fixes of a signed object's text grows as more is read, and is a beginning of the whole text.
 pub fn signing_grows()
     ensures { SigningGrows }
 {}
 
-/// What keys and a template settle makes an object of every payload, and its text.
+/// If keys and a template are accepted, every payload has an object and its text.
 pub fn signing_makes_texts()
     ensures { SigningMakesTexts }
 {}
 
-/// What keys sign as a template asks verifies with each key alone that may verify, and gives the payload back.
+/// What keys sign as a template asks verifies with each of these keys alone that may verify, and the result is the payload.
 pub fn what_is_signed_verifies()
     ensures { SignedVerifies }
 {
     jws_texts_spell_objects();
 }
 
-/// What a beginning of the plaintext fixes of the text of an encrypted object goes on as more is read, and begins the whole
-/// text.
+/// What a beginning of the plaintext fixes of an encrypted object's text grows as more is read, and is a beginning of the
+/// whole text.
 pub fn encrypting_grows()
     ensures { EncryptingGrows }
 {
@@ -43,7 +43,7 @@ pub fn encrypting_grows()
     what_delivers_is_octets();
 }
 
-/// What keys and a template settle makes an object of every plaintext that is not too long, and its text.
+/// If keys and a template are accepted, every plaintext that is not too long has an object and its text.
 pub fn encrypting_makes_texts()
     ensures { EncryptingMakesTexts }
 {
@@ -51,9 +51,9 @@ pub fn encrypting_makes_texts()
     what_delivers_is_octets();
 }
 
-/// What is encrypted to keys as a template asks is decrypted with each key alone, where it may decrypt, to the plaintext, unless
-/// the key opens something else at the recipient of a key before it: under all limits under which what is written may be read, and
-/// so under those of this profile.
+/// What is encrypted to keys as a template asks is decrypted to the plaintext with each of these keys alone, if the key may
+/// decrypt and opens nothing else at the recipient of an earlier key. This holds under all limits under which what is written may
+/// be read, and so under those of this profile.
 pub fn what_is_encrypted_decrypts()
     ensures all { (limits : Limits) → AreSound limits → EncryptedDecrypts limits }
     ensures here { EncryptedDecrypts limits }
@@ -65,9 +65,9 @@ pub fn what_is_encrypted_decrypts()
     jwe_texts_spell_objects();
 }
 
-/// Where further algorithms of key management are known, the objects whose names are those of algorithms that were known before, or
-/// of none of the further ones, are read as before, and the encrypted ones are decrypted as before. So it is of all others with
-/// the three of key wrap by AES in GCM, which with them are the algorithms of the limits.
+/// With further algorithms of key management, objects are read as before, and encrypted ones are decrypted as before, if their
+/// names are those of algorithms that were known before, or of none of the further ones. So it is with the three of AES-GCM key
+/// wrap and all others before them, which together are the algorithms of the limits.
 pub fn more_algorithms_open_alike()
     ensures all { (limits : Limits) (known further : List KeyManagementAlg) → OpensAlike limits known further }
     ensures gcm { OpensAlike limits earlier_management_algs gcm_management_algs

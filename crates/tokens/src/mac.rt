@@ -1,4 +1,4 @@
-//! The authentication code of a message by HMAC, which is a signature (RFC 7518 section 3.2).
+//! The HMAC of a message, which is a signature (RFC 7518 section 3.2).
 ghost use Rattle.std.specs.Prelude.{◌≡◌, ℕ, List};
 ghost use Rattle.prf.specs.Hmac.{hmac};
 ghost use Rattle.prf.specs.Views.{HoldsHmac};
@@ -6,10 +6,10 @@ ghost use Rattle.prf.specs.Views.{HoldsHmac};
 use prf::{Hash, Hmac};
 use std::marker::Model;
 
-/// How many characters the base64url text of the longest code has, which is of 64 octets.
+/// The length of the base64url text of the longest HMAC, which has 64 octets.
 pub(crate) const MAC_TEXT: usize = 86;
 
-/// A whole HMAC. It is seen as its octets.
+/// A whole HMAC. Contracts see its octets.
 #[derive(Drop)]
 pub(crate) struct Mac {
     octets: [u8; 64],
@@ -27,7 +27,7 @@ impl Model for Mac {
 }
 
 impl Mac {
-    /// The code of all that was taken.
+    /// The HMAC of all that was fed.
     pub(crate) fn finish<H: Hash>(mac: Hmac<H>) -> Mac
         ensures { (key text : List ℕ) → HoldsHmac H.function H.holds mac key text → result ≡ hmac H.function key text }
     {

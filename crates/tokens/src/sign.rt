@@ -33,19 +33,19 @@ use objects::{Jws, JwsParts, SignatureParts, copy_header};
 use octets::{Input, Output, Refusal, b64_encode};
 use std::alloc::Global;
 
-/// Signs all that the content gives with each key in order (RFC 7515 section 5.1), as the template asks, and writes the
-/// object's text: its compact text (RFC 7515 section 7.1) where that is asked for, or else its JSON text, flattened where there
-/// is one key (RFC 7515 section 7.2). Where there is an output for it the payload is detached (RFC 7515 appendix F): the text
-/// is without it, and it is written there as it is, before the text.
+/// Reads the content to its end, signs it with each key in order (RFC 7515 section 5.1), as the template asks, and writes the
+/// object's text: with `compact` its compact text (section 7.1), and else its JSON text (section 7.2), flattened if there is one
+/// key. If there is an output for it, the payload is detached (appendix F): it is written there as it is, before the text, and the
+/// text is without it.
 ///
-/// The template is a JSON object with no member but `protected` and `header`, each an object, and serves every signature. The
-/// algorithm is the one of their `alg`; or else the one of the key's `alg`; or else the one with the longest hash that the key
-/// is long enough for. The protected header that is written names it, where the template does not.
+/// The template is a JSON object with no members other than `protected` and `header`, which are objects. It is used for every
+/// signature. The algorithm is the `alg` of these headers; else the key's `alg`; else the one with the longest hash that the key
+/// is long enough for. If the template does not name it, the written protected header does.
 ///
-/// Refused, in the order that docs/SPECIFICATION.md has under "Signing", each step for every key before the next, with `Json`,
-/// `Number`, `Form`, `Header` or `Unsupported` for the template; `NoAlgorithm` or `KeyDoesNotFit` for a key; `Limit` for a header
-/// that is too deep; `NotCompact` where a compact text cannot hold what they give; and then with `Read` where the content fails,
-/// and `Write` where an output fails.
+/// Refuses, each step for every key before the next (docs/SPECIFICATION.md "Signing"), with `Json`, `Number`, `Form`, `Header` or
+/// `Unsupported` for the template; `NoAlgorithm` or `KeyDoesNotFit` for a key; `Limit` for a header that is too deep; `NotCompact`
+/// if compact form cannot hold the object; `Read` if the content fails; and `Write` if an output fails. May fail with `Memory`,
+/// before the content is read.
 #[tactic(auto, unfolding(crate::specs::Signing::sig_plan))]
 pub fn jws_sign<I: Input, O: Output>(
     alloc: Global,
@@ -67,14 +67,14 @@ pub fn jws_sign<I: Input, O: Output>(
     ensures finished { OnOk result (IsFinishedOnce O.is_finished O.endings out.old out.new × IfLent (lent detached.entry detached.exit) (IsFinishedOnce O.is_finished O.endings)) }
     ensures unfinished { OnErr result (O.endings out.new ≡ O.endings out.old) }
 
-    // Where the content fails, what stands is at most 4,160 octets behind what was read of it.
+    // If the content fails, what was written is at most `most_behind` octets behind what was read.
     ensures keeps_up { result ≡ Err Refusal.Read → appended (I.consumed content.old) (I.consumed content.new) ≢ []
         → KeepsUp (λ front. (fixed_by (sig_plan limits compact (is_some detached.entry) keys.now template.now) front).text) (appended (I.consumed content.old) (I.consumed content.new)) (O.written out.old) (O.written out.new)
         × IfLent (lent detached.entry detached.exit) (λ old new.
         KeepsUp (λ front. (fixed_by (sig_plan limits compact (is_some detached.entry) keys.now template.now) front).content) (appended (I.consumed content.old) (I.consumed content.new)) (O.written old) (O.written new)) }
 
-    // What the template and the keys refuse is refused before the content is touched; an output on which nothing was
-    // written is as it was, unless it failed.
+    // The template and the keys are judged before the content is touched. An output to which nothing was written is
+    // unchanged, unless it failed.
     ensures content_last { (refusal : Refusal) → sig_plan limits compact (is_some detached.entry) keys.now template.now ≡ Err refusal
         → content.new ≡ content.old }
     ensures uncut { IfErr result (λ refusal.
@@ -86,8 +86,8 @@ pub fn jws_sign<I: Input, O: Output>(
         ((out.new ≡ out.old) × (O.endings new ≡ O.endings old)) ⊎ (IsTrue (I.is_at_end content.new) × IsFinishedOnce O.is_finished O.endings old new
         × (O.written new ≡ O.written old ++ (begun (sig_plan limits compact (is_some detached.entry) keys.now template.now) (observed I.consumed I.is_at_end content.old content.new)).content)))) }
 
-    // All memory is taken before the content is touched, and an output that did not fail is as it was where nothing of it could be
-    // read.
+    // All memory is allocated before the content is touched. If nothing of the content could be read, an output that did not fail
+    // is unchanged.
     ensures memory_first { IfErr result (λ refusal. refusal ≡ Refusal.Memory → content.new ≡ content.old) }
     ensures unread { IfErr result (λ refusal. appended (I.consumed content.old) (I.consumed content.new) ≡ []
         → (DidNotFail refusal (counts O.failures out.old out.new) → out.new ≡ out.old)
@@ -107,14 +107,15 @@ pub fn jws_sign<I: Input, O: Output>(
     }
 }
 
-/// The texts that stand round the payload and the signatures, and the signing input of each signer, started.
+/// The texts around the payload and the signatures, and the signing input of each signer, started.
 #[derive(Drop)]
 struct PreparedSigning {
     texts: Vec<String>,
     inputs: Vec<HmacInput>,
 }
 
-/// All that is settled before the payload is read. Refused, but for want of memory, as the plan is with every payload.
+/// All that is settled before the payload is read. Apart from `Memory`, it is refused exactly when the plan is refused for every
+/// payload.
 fn prepare(
     alloc: Global,
     keys: &KeySet,
@@ -148,7 +149,7 @@ fn unsigned(alloc: Global, signing: &Signing<'_>) -> Result<Jws<'static>, Refusa
     )
 }
 
-/// What is known of each signature before the payload is.
+/// What is known of each signature before the payload is known.
 fn unsigned_parts(alloc: Global, signing: &Signing<'_>) -> Result<Vec<SignatureParts>, Refusal>
     ensures parts { IfOk result (λ parts. map signature_parts_view parts.items
         ≡ map (unsigned_part_by (members_view signing.now.header.entries)) (map signer_view signing.now.signers.items)) }
@@ -166,7 +167,7 @@ fn unsigned_parts(alloc: Global, signing: &Signing<'_>) -> Result<Vec<SignatureP
     Ok(parts)
 }
 
-/// The signing input of each signer, of which the text before the payload's is taken.
+/// The signing input of each signer, which was fed the text before that of the payload.
 fn signing_inputs(
     alloc: Global,
     signers: &[Signer<'_>],

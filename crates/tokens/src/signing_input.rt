@@ -17,22 +17,22 @@ use objects::HeldContent;
 use octets::{B64Writer, Input, PIECE, PIECE_TEXT, Refusal};
 use prf::{Hash, Hmac, Sha256, Sha384, Sha512};
 
-/// A signing input that is taken in pieces.
+/// A signing input that is fed in pieces.
 pub(crate) trait SigningInput: Drop {
-    /// It was started for an HMAC by this hash under this key, and has taken this text.
+    /// It was started for an HMAC by this hash under this key, and was fed this text.
     ghost has_taken: { Self → HashFunction → List ℕ → List ℕ → Type 0 };
 
-    /// Takes the next piece.
+    /// Feeds the next piece.
     fn take(&mut self, piece: &[u8])
         ensures { (f : HashFunction) (key text : List ℕ) → has_taken self.old f key text
             → has_taken self.new f key (text ++ piece.now) };
 
-    /// The signature of all that was taken.
+    /// The signature of all that was fed.
     fn sign(self) -> Mac
         ensures { (f : HashFunction) (key text : List ℕ) → has_taken self f key text → result ≡ hmac f key text };
 }
 
-/// One by any of the signature algorithms.
+/// A signing input for any of the signature algorithms.
 #[derive(Drop)]
 pub(crate) enum HmacInput {
     Hs256(Hmac<Sha256>),
@@ -41,7 +41,7 @@ pub(crate) enum HmacInput {
 }
 
 impl HmacInput {
-    /// Begins with the text of the protected header, and a dot.
+    /// A signing input that was fed the text of the protected header and a dot.
     pub(crate) fn start(alg: SignatureAlg, key: &[u8], protected: &[u8]) -> HmacInput
         ensures { ⟦<HmacInput as SigningInput>⟧.has_taken result (signature_hash alg) key.now (protected.now ++ codes ".") }
     {
@@ -78,7 +78,7 @@ impl SigningInput for HmacInput {
     }
 }
 
-/// A code that has taken the text of the protected header, and a dot.
+/// An HMAC that was fed the text of the protected header and a dot.
 fn started<H: Hash>(key: &[u8], protected: &[u8]) -> Hmac<H>
     ensures { HoldsHmac H.function H.holds result key.now (protected.now ++ codes ".") }
 {
@@ -102,7 +102,7 @@ pub(crate) fn signature_of(
     input.sign()
 }
 
-/// Takes the base64url text of the octets, in pieces.
+/// Feeds the base64url text of the octets, in pieces.
 fn take_encoded<S: SigningInput>(input: &mut S, octets: &[u8])
     ensures { (f : HashFunction) (key text : List ℕ) → S.has_taken input.old f key text
         → S.has_taken input.new f key (text ++ base64url octets.now) }
@@ -118,7 +118,7 @@ fn take_encoded<S: SigningInput>(input: &mut S, octets: &[u8])
     input.take(&last[..len]);
 }
 
-/// Takes the base64url text of the payload: as it was received, or of its octets.
+/// Feeds the base64url text of the payload: as it was received, or of its octets.
 pub(crate) fn take_payload<S: SigningInput>(input: &mut S, payload: HeldContent<'_>)
     ensures { (f : HashFunction) (key text : List ℕ) → S.has_taken input.old f key text
         → S.has_taken input.new f key (text ++ base64url (held_view payload.entry)) }
@@ -129,7 +129,7 @@ pub(crate) fn take_payload<S: SigningInput>(input: &mut S, payload: HeldContent<
     }
 }
 
-/// Each takes the next piece.
+/// Feeds the next piece to each.
 pub(crate) fn take_each<S: SigningInput>(inputs: &mut [S], piece: &[u8])
     ensures len { length inputs.new ≡ length inputs.old }
     ensures taken { (starts : List InputStart) (text : List ℕ) → HoldEach S.has_taken inputs.old starts text
@@ -140,7 +140,7 @@ pub(crate) fn take_each<S: SigningInput>(inputs: &mut [S], piece: &[u8])
     }
 }
 
-/// Each takes the base64url text of all that the content gives, up to its end. Fails with `Read` if the content fails.
+/// Reads the content to its end, and feeds its base64url text to each. Refuses with `Read` if the content fails.
 pub(crate) fn take_content<S: SigningInput, I: Input>(
     inputs: &mut [S],
     content: &mut I,

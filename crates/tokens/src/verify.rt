@@ -19,12 +19,12 @@ use keys::{Algorithm, Key, KeySet, Operation, SignatureAlg};
 use objects::{HeldContent, Jws, Signature};
 use octets::{Output, Refusal, needs, same_octets};
 
-/// Verifies the object with the keys (RFC 7515 section 5.2), and writes its payload where there is an output. Some key that may
-/// verify by the algorithm of a signature, and fits, must have made this signature; with `all`, each key must have made one.
+/// Verifies the object with the keys (RFC 7515 section 5.2), and writes its payload if there is an output. Some key that may
+/// verify by the algorithm of a signature, and fits, must have made this signature. With `all`, each key must have made one.
 ///
-/// Refused, in this order, with `Unsupported` where no signature's algorithm is supported; `KeyDoesNotFit` where for none of
-/// the others a key may verify and fits; `NotOpened` where none of those verifies, or with `all` for some key none does; and
-/// then with `Write` where the output fails.
+/// Refuses, in this order, with `Unsupported` if no signature's algorithm is supported; `KeyDoesNotFit` if no key may verify by
+/// a supported one and fits; `NotOpened` if no such pair of a signature and a key verifies, or with `all` none of some key; and
+/// `Write` if the output fails.
 #[tactic(auto, unfolding(crate::specs::Verifying::verifying_by))]
 pub fn jws_verify<O: Output>(
     keys: &KeySet,
@@ -34,7 +34,7 @@ pub fn jws_verify<O: Output>(
 ) -> Result<(), Refusal>
     ensures answer { AgreesUnlessExternal (verifying_by all (is_some out.entry) keys.now (jws_view jws.now)) (wrote_on O.written (lent out.entry out.exit)) result }
 
-    // The output is not touched before all is accepted.
+    // The output is not touched before the object is accepted.
     ensures held_back { IfErr result (λ refusal. refusal ≢ Refusal.Write → IfLent (lent out.entry out.exit) (λ old new. new ≡ old)) }
     ensures beginning { OnErr result (IfLent (lent out.entry out.exit) (λ old new. AppendsPrefixOf
         (result_unwrap_or (verifying_by all (is_some out.entry) keys.now (jws_view jws.now)) []) (O.written old) (O.written new))) }
@@ -52,8 +52,8 @@ pub fn jws_verify<O: Output>(
     }
 }
 
-/// The object verifies with some of the keys, or with all. Refused with `Unsupported` where no algorithm is
-/// supported, with `KeyDoesNotFit` where no key may verify and fits, and with `NotOpened` where it does not verify.
+/// The object verifies with some key, or with all. Refuses with `Unsupported` if no algorithm is supported, with
+/// `KeyDoesNotFit` if no key may verify and fits, and with `NotOpened` if it does not verify.
 fn verified(keys: &KeySet, jws: &Jws<'_>, all: bool) -> Result<(), Refusal>
     ensures exact { Agrees (λ done. (jws_view jws.now).payload) result (verified_payload all keys.now (jws_view jws.now)) }
 {
@@ -61,8 +61,8 @@ fn verified(keys: &KeySet, jws: &Jws<'_>, all: bool) -> Result<(), Refusal>
     verdict(keys, jws.signatures(), are_verified(all, keys, jws))
 }
 
-/// What verifying answers if the signatures are right, or if they are not. Refused with `Unsupported` if no algorithm is supported,
-/// with `KeyDoesNotFit` if no key may verify and fits, and with `NotOpened` if they are not right.
+/// The result of verifying, by whether the signatures are right. Refuses with `Unsupported` if no algorithm is supported, with
+/// `KeyDoesNotFit` if no key may verify and fits, and with `NotOpened` if the signatures are not right.
 #[tactic(auto, unfolding(crate::specs::Verifying::verified_payload), using(crate::proofs::Tests::views))]
 fn verdict(keys: &[Key], signatures: &[Signature], are_right: bool) -> Result<(), Refusal>
     ensures { (all : Bool) (payload : List ℕ) → are_right ≡ are_verified_by all (map key_view keys.now) (record { payload = payload; signatures = map signature_view signatures.now })
@@ -73,7 +73,7 @@ fn verdict(keys: &[Key], signatures: &[Signature], are_right: bool) -> Result<()
     needs(are_right, Refusal::NotOpened)
 }
 
-/// The algorithm of some signature is supported.
+/// Whether the algorithm of some signature is supported.
 fn has_supported(signatures: &[Signature]) -> bool
     ensures { result ≡ list_any (λ s. is_some (signature_alg_of (signature_view s).alg)) signatures.now }
 {
@@ -82,7 +82,7 @@ fn has_supported(signatures: &[Signature]) -> bool
         .any(|signature| signature.supported_alg().is_some())
 }
 
-/// For some signature a key may verify, and fits.
+/// Whether some key may verify some signature and fits.
 fn has_candidate(signatures: &[Signature], keys: &[Key]) -> bool
     ensures { result ≡ list_any (λ s. list_any (λ key. may_verify_pair (signature_view s) (key_view key)) keys.now) signatures.now }
 {
@@ -91,14 +91,14 @@ fn has_candidate(signatures: &[Signature], keys: &[Key]) -> bool
         .any(|signature| is_for_some(signature, keys))
 }
 
-/// For this one a key may verify, and fits.
+/// Whether some key may verify this signature and fits.
 fn is_for_some(signature: &Signature, keys: &[Key]) -> bool
     ensures { result ≡ list_any (λ key. may_verify_pair (signature_view signature.now) (key_view key)) keys.now }
 {
     keys.iter().any(|key| may_verify(signature, key))
 }
 
-/// Some signature verifies with some key, or for each key some does.
+/// Whether some signature verifies with some key, or with `all` some signature for each key.
 fn are_verified(all: bool, keys: &[Key], jws: &Jws<'_>) -> bool
     ensures { result ≡ are_verified_by all (map key_view keys.now) (jws_view jws.now) }
 {
@@ -111,14 +111,14 @@ fn are_verified(all: bool, keys: &[Key], jws: &Jws<'_>) -> bool
     }
 }
 
-/// Some key made the signature.
+/// Whether some key made the signature.
 fn is_verified(signature: &Signature, payload: HeldContent<'_>, keys: &[Key]) -> bool
     ensures { result ≡ list_any (λ key. verifies_pair (held_view payload.entry) (signature_view signature.now) (key_view key)) keys.now }
 {
     keys.iter().any(|key| verifies(signature, payload, key))
 }
 
-/// The key made one of the signatures.
+/// Whether the key made one of the signatures.
 fn has_signed(key: &Key, signatures: &[Signature], payload: HeldContent<'_>) -> bool
     ensures { result ≡ list_any (λ s. verifies_pair (held_view payload.entry) (signature_view s) (key_view key.now)) signatures.now }
 {
@@ -127,14 +127,14 @@ fn has_signed(key: &Key, signatures: &[Signature], payload: HeldContent<'_>) -> 
         .any(|signature| verifies(signature, payload, key))
 }
 
-/// The key may verify the signature by its algorithm, and fits.
+/// Whether the key may verify the signature by its algorithm, and fits.
 fn may_verify(signature: &Signature, key: &Key) -> bool
     ensures { result ≡ may_verify_pair (signature_view signature.now) (key_view key.now) }
 {
     candidate_alg(signature, key).is_some()
 }
 
-/// The key may verify the signature by its algorithm, fits, and made it.
+/// Whether the key may verify the signature by its algorithm, fits, and made the signature.
 fn verifies(signature: &Signature, payload: HeldContent<'_>, key: &Key) -> bool
     ensures { result ≡ verifies_pair (held_view payload.entry) (signature_view signature.now) (key_view key.now) }
 {
@@ -144,7 +144,7 @@ fn verifies(signature: &Signature, payload: HeldContent<'_>, key: &Key) -> bool
     }
 }
 
-/// The algorithm of the signature, where the key may verify by it, and fits.
+/// The algorithm of the signature, if the key may verify by it and fits.
 fn candidate_alg(signature: &Signature, key: &Key) -> Option<SignatureAlg>
     ensures { result ≡ candidate_alg (signature_view signature.now) (key_view key.now) }
 {
@@ -156,14 +156,14 @@ fn candidate_alg(signature: &Signature, key: &Key) -> Option<SignatureAlg>
     }
 }
 
-/// The key may verify by the algorithm, and fits.
+/// Whether the key may verify by the algorithm and fits.
 fn is_candidate(key: &Key, alg: SignatureAlg) -> bool
     ensures { result ≡ is_candidate_key alg (key_view key.now) }
 {
     key.allows(Operation::Verify) && key.fits(Algorithm::Signature(alg))
 }
 
-/// The signature is that of the received text of the protected header and of the payload.
+/// Whether the signature is that of the received text of the protected header and of the payload.
 #[tactic(auto, unfolding(crate::specs::Signatures::signature_of))]
 fn is_signed(signature: &Signature, payload: HeldContent<'_>, key: &Key, alg: SignatureAlg) -> bool
     ensures { result ≡ is_signed_by alg (held_view payload.entry) (signature_view signature.now) (key_view key.now) }

@@ -1,4 +1,4 @@
-//! A recipient and a key that may have its content encryption key.
+//! A recipient, and a key that may deliver its content encryption key.
 ghost use Rattle.std.specs.Prelude.{◌≡◌, Some, true};
 ghost use Rattle.keys.specs.declared.algorithm.Algorithm.TheVariants.{Encryption};
 ghost use Rattle.keys.specs.Keys.{fits};

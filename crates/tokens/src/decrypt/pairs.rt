@@ -1,4 +1,4 @@
-//! The pairs of a recipient and a key that are tried (RFC 7516 section 5.2). It opens nothing.
+//! The pairs of a recipient and a key that are tried (RFC 7516 section 5.2).
 ghost use Rattle.std.specs.Prelude.{◌≡◌, ◌≤◌, ◌*◌, [], ◌∷◌, ◌++◌, true, length, map, is_some, option_map, Some, Err, IfSome, IfOk, IfErr, OnOk, OnErr};
 ghost use Rattle.std.specs.List.{list_any};
 ghost use Rattle.octets.specs.Outcomes.{AgreesUnlessMemory};
@@ -21,9 +21,9 @@ use objects::{KeyManagement, Recipient};
 use octets::{Refusal, needs};
 use std::alloc::Global;
 
-/// The pairs of a recipient and a key: the recipients in order, and for each of them the keys in order, those that may
-/// decrypt by its algorithms and fit. Refused with `Unsupported` where no recipient's algorithms are supported; then with
-/// `KeyDoesNotFit` where there is no pair; and then with `Limit` where a pair, or all of them, take too many iterations.
+/// The pairs of a recipient and a key: by the recipients in order, and for each by the keys in order that may decrypt by
+/// its algorithms and fit. Refuses with `Unsupported` if no recipient's algorithms are supported; then with
+/// `KeyDoesNotFit` if there is no pair; and then with `Limit` if a pair, or all of them, need too many iterations.
 #[tactic(auto, unfolding(crate::specs::Decrypting::pairs_to_try), using(crate::proofs::Tests::views, crate::proofs::PairLists::no_pairs, crate::proofs::PairLists::some_pairs))]
 pub(crate) fn pairs_to_try<'a>(
     alloc: Global,
@@ -42,7 +42,7 @@ pub(crate) fn pairs_to_try<'a>(
     Ok(pairs)
 }
 
-/// The iterations of each pair, and those of all together, are within the limits.
+/// Whether the iterations of each pair, and of all together, are within the limits.
 fn are_within(pairs: &[Pair<'_>]) -> bool
     ensures { result ≡ are_within limits (map pair_view pairs.now) }
 {
@@ -60,14 +60,14 @@ fn are_within(pairs: &[Pair<'_>]) -> bool
     true
 }
 
-/// How many iterations of PBKDF2 a pair takes.
+/// The iterations of PBKDF2 for a pair.
 fn iterations(pair: &Pair<'_>) -> u64
     ensures { result ≡ iterations_of (pair_view pair.now) }
 {
     iterations_by(pair.recipient.management())
 }
 
-/// How many iterations of PBKDF2 a recipient's key takes (RFC 7518 section 4.8.1.2): none, but where it is a password.
+/// The iterations of PBKDF2 for a recipient (RFC 7518 section 4.8.1.2), which are 0 unless its key is a password.
 fn iterations_by(management: &KeyManagement) -> u64
     ensures { result ≡ iterations_by (management_view management.now) }
 {
@@ -80,7 +80,7 @@ fn iterations_by(management: &KeyManagement) -> u64
     }
 }
 
-/// The algorithms of some recipient are supported.
+/// Whether the algorithms of some recipient are supported.
 fn has_supported(recipients: &[Recipient]) -> bool
     ensures { result ≡ list_any (λ r. is_some (algorithms_of limits.management (recipient_view r))) recipients.now }
 {
@@ -141,7 +141,7 @@ fn push_candidates<'a>(
     Ok(())
 }
 
-/// Adds the pair of a key, where it may decrypt by the algorithms and fits.
+/// Adds the pair of a key, if it may decrypt by the algorithms and fits.
 fn push_candidate<'a>(
     pairs: &mut Vec<Pair<'a>>,
     key: &'a Key,
@@ -163,7 +163,7 @@ fn push_candidate<'a>(
     Ok(())
 }
 
-/// The algorithms of a recipient, where both of its names are those of algorithms.
+/// The algorithms of a recipient, if both are supported.
 #[tactic(auto, unfolding(crate::specs::Decrypting::algorithms_of))]
 fn algorithms_of(recipient: &Recipient) -> Option<Algorithms>
     ensures named { option_map algorithms_view result ≡ algorithms_of limits.management (recipient_view recipient.now) }
@@ -175,7 +175,7 @@ fn algorithms_of(recipient: &Recipient) -> Option<Algorithms>
     )
 }
 
-/// The key may decrypt by the algorithms, and fits.
+/// Whether the key may decrypt by the algorithms and fits.
 #[tactic(auto, unfolding(crate::specs::Decrypting::is_candidate))]
 fn is_candidate(algorithms: Algorithms, key: &Key) -> bool
     ensures candidate { result ≡ is_candidate (algorithms_view algorithms) (key_view key.now) }

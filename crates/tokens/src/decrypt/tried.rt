@@ -1,4 +1,4 @@
-//! Pairs of a recipient and a key that open the same as one before them. It opens nothing.
+//! Pairs of a recipient and a key that open the same as an earlier one.
 ghost use Rattle.std.specs.Prelude.{◌≡◌, None, map, IsTrue};
 ghost use Rattle.objects.specs.KeyManagementView.{management_view};
 ghost use Rattle.tokens.specs.Decrypting.{SealedContent, opened_by, first_opened};
@@ -8,8 +8,8 @@ use crate::decrypt::pair::Pair;
 use objects::KeyManagement;
 use octets::same_octets;
 
-/// One of the pairs is the same as this one, so where they open nothing, this one does not. The last is looked at first, since a
-/// recipient that stands twice is often the one before.
+/// Whether one of the pairs is the same as this one, which then opens nothing if they open nothing. The last is compared first,
+/// since a repeated recipient often follows itself.
 pub(crate) fn was_tried(pairs: &[Pair<'_>], pair: &Pair<'_>) -> bool
     ensures { IsTrue result → (s : SealedContent) → first_opened s (map pair_view pairs.now) ≡ None → opened_by s (pair_view pair.now) ≡ None }
 {
@@ -21,7 +21,7 @@ pub(crate) fn was_tried(pairs: &[Pair<'_>], pair: &Pair<'_>) -> bool
     false
 }
 
-/// Both pairs have the same algorithms, parameters, encrypted key and key, and so open the same.
+/// Whether both pairs have the same algorithms, parameters, encrypted key and key, and so open the same.
 fn is_same(one: &Pair<'_>, other: &Pair<'_>) -> bool
     ensures { IsTrue result → (s : SealedContent) → opened_by s (pair_view one.now) ≡ opened_by s (pair_view other.now) }
 {
@@ -43,7 +43,7 @@ fn is_same(one: &Pair<'_>, other: &Pair<'_>) -> bool
     same_octets(one.key.octets(), other.key.octets())
 }
 
-/// Both deliver a content encryption key in the same way, with the same parameters.
+/// Whether both deliver a content encryption key in the same way, with the same parameters.
 fn has_same_parameters(one: &KeyManagement, other: &KeyManagement) -> bool
     ensures { IsTrue result → management_view one.now ≡ management_view other.now }
 {

@@ -1,4 +1,4 @@
-//! A content that is sealed as it is read (RFC 7516 section 5.1, steps 15 and 16). It sees no object.
+//! A content that is sealed as it is read (RFC 7516 section 5.1, steps 15 and 16).
 ghost use Rattle.std.specs.Prelude.{◌≡◌, ◌≤◌, ◌++◌, ◌∷◌, ℕ, length, take, List, []};
 ghost use Rattle.ciphers.specs.Sealing.{Sealing};
 ghost use Rattle.tokens.specs.SealedTexts.{sealed_plan, IsFed, IsSealingText};
@@ -10,10 +10,10 @@ use octets::{
 };
 use std::marker::Model;
 
-/// How many characters the base64url text of the longest tag has, which is of 32 octets.
+/// The length of the base64url text of the longest tag, which has 32 octets.
 const TAG_TEXT: usize = 43;
 
-/// The authentication tag. It is seen as its octets.
+/// The authentication tag. Contracts see its octets.
 #[derive(Drop)]
 pub(crate) struct Tag {
     octets: [u8; 32],
@@ -39,7 +39,7 @@ impl Tag {
     }
 }
 
-/// Ends a sealing: writes what is left of the ciphertext to the front of `last`, and answers its length and the tag.
+/// Ends a sealing: writes the rest of the ciphertext to the front of `last` and returns its length and the tag.
 fn end<S: Sealer>(sealer: S, last: &mut [u8; 16]) -> (usize, Tag)
     ensures within { result.0 ≤ 16 }
     ensures ciphertext { (s : Sealing) (p : List ℕ) → S.is_sealing sealer s p
@@ -51,7 +51,7 @@ fn end<S: Sealer>(sealer: S, last: &mut [u8; 16]) -> (usize, Tag)
     (last_len, Tag { octets, len })
 }
 
-/// A ciphertext that goes out as its base64url text.
+/// A ciphertext that is written as its base64url text.
 #[derive(Drop)]
 pub(crate) struct EncodedCiphertext<S: Sealer> {
     sealer: S,
@@ -59,7 +59,7 @@ pub(crate) struct EncodedCiphertext<S: Sealer> {
 }
 
 impl<S: Sealer> EncodedCiphertext<S> {
-    /// Nothing of the plaintext was read yet.
+    /// A sealing that was fed nothing of the plaintext yet.
     pub(crate) fn start(sealer: S) -> EncodedCiphertext<S>
         ensures { (s : Sealing) → S.is_sealing sealer s [] → IsSealingText S.is_sealing result.sealer result.writer s [] }
     {
@@ -110,14 +110,14 @@ impl<S: Sealer> Transform for EncodedCiphertext<S> {
     }
 }
 
-/// A ciphertext that goes out as it is.
+/// A ciphertext that is written as it is.
 #[derive(Drop)]
 pub(crate) struct Ciphertext<S: Sealer> {
     sealer: S,
 }
 
 impl<S: Sealer> Ciphertext<S> {
-    /// Nothing of the plaintext was read yet.
+    /// A sealing that was fed nothing of the plaintext yet.
     pub(crate) fn start(sealer: S) -> Ciphertext<S>
         ensures { (s : Sealing) → S.is_sealing sealer s [] → IsFed S.is_sealing result.sealer s [] }
     {

@@ -1,4 +1,4 @@
-//! The delivery of a content encryption key to recipients (RFC 7516 section 5.1, steps 4 to 6). It sees no header and no content.
+//! The delivery of a content encryption key to recipients (RFC 7516 section 5.1, steps 4 to 6).
 ghost use Rattle.std.specs.Prelude.{◌≡◌, ◌≤◌, ◌*◌, ◌||◌, true, not, nat_le, length, map, IfOk, IfErr};
 ghost use Rattle.std.specs.List.{AllByRecursion};
 ghost use Rattle.ciphers.specs.Sealing.{cek_len};
@@ -21,10 +21,10 @@ use objects::KeyManagement;
 use octets::Refusal;
 use std::alloc::Global;
 
-/// The octets of a salt input (RFC 7518 section 4.8.1.1).
+/// The length of a salt input in octets (RFC 7518 section 4.8.1.1).
 pub(crate) const SALT_LEN: usize = 16;
 
-/// The octets of the initialization vector of a key wrap by AES in GCM (RFC 7518 section 4.7.1.1).
+/// The length of the initialization vector of AES-GCM key wrap in octets (RFC 7518 section 4.7.1.1).
 const KEY_IV_LEN: usize = 12;
 
 /// An encrypted key, and how it delivers the content encryption key.
@@ -48,7 +48,7 @@ pub(crate) fn drawn_for_all(recipient_keys: &[RecipientKey<'_>]) -> usize
     count
 }
 
-/// How many of them are drawn for a recipient.
+/// How many octets are drawn for a recipient.
 fn drawn_for(recipient_key: &RecipientKey<'_>) -> usize
     ensures count { result ≡ drawn_for (recipient_key_view recipient_key.now) }
     ensures bound { result ≤ SALT_LEN }
@@ -56,8 +56,8 @@ fn drawn_for(recipient_key: &RecipientKey<'_>) -> usize
     drawn_by(recipient_key.management)
 }
 
-/// How many octets are drawn for an algorithm: the salt input of a password, or the initialization vector of a key wrap by AES
-/// in GCM.
+/// How many octets are drawn for an algorithm: those of a salt input for PBES2, or of an initialization vector for AES-GCM key
+/// wrap.
 fn drawn_by(alg: KeyManagementAlg) -> usize
     ensures count { result ≡ drawn_by alg }
     ensures bound { result ≤ SALT_LEN }
@@ -69,7 +69,7 @@ fn drawn_by(alg: KeyManagementAlg) -> usize
     }
 }
 
-/// Delivers the content encryption key to the recipients, in order, by the octets that were drawn for them.
+/// Delivers the content encryption key to the recipients, in order, with the octets that were drawn for them.
 pub(crate) fn deliver_to_all(
     alloc: Global,
     encryption: &EncryptionPlan<'_>,
@@ -93,7 +93,7 @@ pub(crate) fn deliver_to_all(
     Ok(list)
 }
 
-/// Delivers it to a recipient, by the octets that were drawn for it.
+/// Delivers it to a recipient, with the octets that were drawn for it.
 #[tactic(auto, using(crate::proofs::AlgorithmCases::is_key_of, crate::proofs::AlgorithmCases::counts_where_password, crate::proofs::AlgorithmCases::iv_of_drawn))]
 fn deliver(
     alloc: Global,

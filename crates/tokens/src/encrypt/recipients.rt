@@ -1,5 +1,5 @@
 //! What is written of the deliveries of a content encryption key: the header parameters of key management (RFC 7518 section 4),
-//! and the recipients of an object (RFC 7516 section 7.2.1). It sees no key and no content.
+//! and the recipients of an object (RFC 7516 section 7.2.1).
 ghost use Rattle.std.specs.Prelude.{◌≡◌, false, map, IfOk, IfErr};
 ghost use Rattle.serde_json.specs.Data.{string, put};
 ghost use Rattle.serde_json.specs.View.{members_view};
@@ -19,7 +19,7 @@ use octets::{Refusal, b64_encode};
 use serde_json::{Map, Value};
 use std::alloc::{AllocError, Global};
 
-/// The protected header, with what is written of the first delivery, if it is the only one.
+/// The protected header, with what is written of the first delivery if it is the only one.
 pub(crate) fn protected_header(
     alloc: Global,
     given: Given,
@@ -75,7 +75,7 @@ fn recipient(
     })
 }
 
-/// The header of a recipient: what is written of its delivery, where that is not the only one.
+/// The header of a recipient, with what is written of its delivery if it is not the only one.
 fn per_recipient_header(
     alloc: Global,
     given: Given,
@@ -93,7 +93,7 @@ fn per_recipient_header(
     with_parameters(alloc, given, delivery, header)
 }
 
-/// The header with what is written of a delivery, unless the template gives it: the name of the algorithm, and its parameters.
+/// The header with the algorithm's name and the parameters of a delivery, unless the template has them.
 fn with_parameters(
     alloc: Global,
     given: Given,
@@ -110,7 +110,7 @@ fn with_parameters(
     with_management(alloc, given.p2c, &delivery.management, header)
 }
 
-/// The header with the parameters of key management, but for the iterations where the template gives them (RFC 7518 sections
+/// The header with the parameters of key management, except the iterations if the template has them (RFC 7518 sections
 /// 4.7.1 and 4.8.1).
 fn with_management(
     alloc: Global,
@@ -137,7 +137,7 @@ fn with_management(
     }
 }
 
-/// The header with the iterations, unless the template gives them.
+/// The header with the iterations, unless the template has them.
 #[tactic(auto, using(keys::proofs::Lemmas::no_float_put_in))]
 fn with_p2c(
     alloc: Global,

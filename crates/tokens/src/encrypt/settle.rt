@@ -1,5 +1,4 @@
-//! The choice of algorithms by a template and keys, and all else that they settle before anything is drawn. It sees no
-//! content.
+//! The choice of algorithms by a template and keys, and all else that they settle before anything is drawn.
 ghost use Rattle.std.specs.Prelude.{◌≡◌, ◌≤◌, ◌==◌, ◌*◌, Some, true, false, is_some, length, map, option_map, IfOk, IfErr};
 ghost use Rattle.std.specs.List.{list_all, list_any};
 ghost use Rattle.serde_json.specs.Written.{members_have_float};
@@ -23,7 +22,7 @@ use objects::copy_header;
 use octets::{Refusal, needs};
 use std::alloc::Global;
 
-/// What the keys and the template's text settle. Refused as docs/SPECIFICATION.md says under "Encrypting", 1 to 5.
+/// What the keys and the template's text settle. Refuses as docs/SPECIFICATION.md "Encrypting" 1 to 5 says.
 #[tactic(auto, unfolding(crate::specs::Choosing::read_encryption))]
 pub(crate) fn read_encryption<'k>(
     alloc: Global,
@@ -38,7 +37,7 @@ pub(crate) fn read_encryption<'k>(
     settle_encryption(alloc, compact, keys.keys(), template)
 }
 
-/// What keys and a template settle. Refused as docs/SPECIFICATION.md says under "Encrypting", 2 to 5.
+/// What keys and a template settle. Refuses as docs/SPECIFICATION.md "Encrypting" 2 to 5 says.
 #[tactic(auto, unfolding(crate::specs::Choosing::settle_encryption))]
 fn settle_encryption<'k>(
     alloc: Global,
@@ -110,8 +109,8 @@ fn recipient_keys_by<'k>(
     Ok(recipient_keys)
 }
 
-/// The key with its algorithm of key management. Refused with `NoAlgorithm` where nothing says the algorithm of key management, and with
-/// `KeyDoesNotFit` where the key's `alg` is none of encryption.
+/// The key with its algorithm of key management. Refuses with `NoAlgorithm` if nothing says this algorithm, and with `KeyDoesNotFit`
+/// if the key's `alg` is no algorithm of encryption.
 #[tactic(auto, unfolding(crate::specs::Choosing::recipient_key_by))]
 fn recipient_key_by<'k>(
     asked: Option<KeyManagementAlg>,
@@ -123,7 +122,7 @@ fn recipient_key_by<'k>(
     Ok(RecipientKey { key, management })
 }
 
-/// The algorithm of key management of the template, or else that of the key.
+/// The key management algorithm of the template, or else that of the key.
 fn chosen_management(
     asked: Option<KeyManagementAlg>,
     key: &Key,
@@ -151,7 +150,7 @@ fn management_of_key(name: Option<&str>, len: usize) -> Result<KeyManagementAlg,
     }
 }
 
-/// The algorithm whose keys have so many octets.
+/// The algorithm whose keys have `len` octets.
 fn management_by_length(len: usize) -> Option<KeyManagementAlg>
     ensures { result ≡ management_by_length len }
 {
@@ -163,7 +162,7 @@ fn management_by_length(len: usize) -> Option<KeyManagementAlg>
     }
 }
 
-/// The algorithm of a name: that of content encryption asks for direct use.
+/// The algorithm of a name. The name of a content encryption asks for direct use.
 fn management_by_name(
     management: Option<KeyManagementAlg>,
     encryption: Option<ContentEncryptionAlg>,
@@ -177,14 +176,14 @@ fn management_by_name(
     }
 }
 
-/// A key that is used directly is the only one.
+/// Whether a key that is used directly, if there is one, is the only key.
 fn direct_key_is_alone(recipient_keys: &[RecipientKey<'_>]) -> bool
     ensures { result ≡ direct_key_is_alone (map recipient_key_view recipient_keys.now) }
 {
     recipient_keys.len() <= 1 || !any_is_direct(recipient_keys)
 }
 
-/// Some key is used directly.
+/// Whether some key is used directly.
 fn any_is_direct(recipient_keys: &[RecipientKey<'_>]) -> bool
     ensures { result ≡ list_any (λ r. is_direct r.management) (map recipient_key_view recipient_keys.now) }
 {
@@ -193,7 +192,7 @@ fn any_is_direct(recipient_keys: &[RecipientKey<'_>]) -> bool
         .any(|recipient_key| is_direct(recipient_key.management))
 }
 
-/// The key is used directly.
+/// Whether the key is used directly.
 pub(crate) fn is_direct(alg: KeyManagementAlg) -> bool
     ensures { result ≡ is_direct alg }
 {
@@ -204,7 +203,7 @@ pub(crate) fn is_direct(alg: KeyManagementAlg) -> bool
     }
 }
 
-/// The algorithm of content encryption of the template, or else the one that goes with the first recipient key.
+/// The content encryption algorithm of the template, or else the one that goes with the first recipient key.
 fn encryption_for(
     asked: Option<ContentEncryptionAlg>,
     recipient_keys: &[RecipientKey<'_>],
@@ -217,7 +216,7 @@ fn encryption_for(
     }
 }
 
-/// The algorithm of content encryption of the template, or else the one that goes with the key.
+/// The content encryption algorithm of the template, or else the one that goes with the key.
 fn chosen_encryption(
     asked: Option<ContentEncryptionAlg>,
     management: KeyManagementAlg,
@@ -245,7 +244,7 @@ fn encryption_by_management(management: KeyManagementAlg, key: &Key) -> Option<C
     }
 }
 
-/// The CBC algorithm whose AES key is as long as the key of the wrap, of so many octets.
+/// The CBC algorithm whose AES key is as long as the key of the wrap, of `len` octets.
 fn encryption_by_wrap(len: usize) -> Option<ContentEncryptionAlg>
     ensures { result ≡ encryption_by_wrap len }
 {
@@ -264,7 +263,7 @@ fn encryption_by_name(name: Option<&str>) -> Option<ContentEncryptionAlg>
     ContentEncryptionAlg::named(name?)
 }
 
-/// The algorithm whose key has so many octets, where the key is used directly.
+/// The algorithm whose key has `len` octets, for a key that is used directly.
 fn encryption_by_length(len: usize) -> Option<ContentEncryptionAlg>
     ensures { result ≡ encryption_by_length len }
 {
@@ -276,7 +275,7 @@ fn encryption_by_length(len: usize) -> Option<ContentEncryptionAlg>
     }
 }
 
-/// Each key may encrypt, and fits.
+/// Whether each key may encrypt and fits.
 fn all_may_encrypt(encryption: ContentEncryptionAlg, recipient_keys: &[RecipientKey<'_>]) -> bool
     ensures { result ≡ list_all (may_encrypt encryption) (map recipient_key_view recipient_keys.now) }
 {
@@ -285,7 +284,7 @@ fn all_may_encrypt(encryption: ContentEncryptionAlg, recipient_keys: &[Recipient
         .all(|recipient_key| may_encrypt(encryption, recipient_key))
 }
 
-/// The key may encrypt by the algorithms, and fits.
+/// Whether the key may encrypt by the algorithms and fits.
 fn may_encrypt(encryption: ContentEncryptionAlg, recipient_key: &RecipientKey<'_>) -> bool
     ensures { result ≡ may_encrypt encryption (recipient_key_view recipient_key.now) }
 {
@@ -307,7 +306,7 @@ fn password_count(recipient_keys: &[RecipientKey<'_>]) -> usize
     count
 }
 
-/// The iterations for so many passwords: those of the template, or else the usual number. There are none for no password.
+/// The iterations for so many passwords: those of the template, or else the usual number. Without passwords there are none.
 fn chosen_p2c(passwords: usize, asked: Result<Option<u64>, Refusal>) -> Result<u64, Refusal>
     requires { IfErr asked (λ e. e ≡ Refusal.Header) }
     ensures { Agrees (λ p2c. p2c) result (chosen_p2c limits passwords asked) }
@@ -321,7 +320,7 @@ fn chosen_p2c(passwords: usize, asked: Result<Option<u64>, Refusal>) -> Result<u
     }
 }
 
-/// The iterations are as many as may be written, and for so many passwords together not too many.
+/// Whether so many iterations may be written, and are not too many for all passwords together.
 fn p2c_may_be_written(passwords: usize, p2c: u64) -> bool
     requires { passwords ≤ limits.keys }
     ensures { result ≡ p2c_may_be_written limits passwords p2c }
@@ -330,7 +329,7 @@ fn p2c_may_be_written(passwords: usize, p2c: u64) -> bool
         || LEAST_P2C <= p2c && p2c <= GREATEST_P2C && passwords as u64 * p2c <= MOST_ITERATIONS
 }
 
-/// The template gives the iterations.
+/// Whether the template has the iterations.
 fn is_given(asked: Result<Option<u64>, Refusal>) -> bool
     ensures { result ≡ is_given asked }
 {
@@ -340,7 +339,7 @@ fn is_given(asked: Result<Option<u64>, Refusal>) -> bool
     }
 }
 
-/// The form has room for what the keys and the template give: a compact text holds one recipient, and a protected header alone.
+/// Whether the form can hold the object of the keys and the template: a compact text holds one recipient and only a protected header.
 fn compact_has_room(
     compact: bool,
     recipient_keys: &[RecipientKey<'_>],

@@ -1,4 +1,4 @@
-//! Templates of encrypted objects. It is given a template's value, and sees no key and no content.
+//! Templates of encrypted objects.
 ghost use Rattle.std.specs.Prelude.{◌≡◌, false, option_map, IfOk, IfErr};
 ghost use Rattle.serde_json.specs.View.{view};
 ghost use Rattle.serde_json.specs.Written.{has_float, members_have_float};
@@ -13,8 +13,8 @@ use octets::{Refusal, b64_decode, needs};
 use serde_json::{Map, Value};
 use std::alloc::Global;
 
-/// The algorithms that a template names, if it does, and the count of iterations that it gives, if it does, or its refusal,
-/// which matters to an algorithm that reads the count.
+/// The algorithms that a template names, if it does, and the count of iterations, if it has one. A bad count is refused only
+/// for an algorithm that reads it.
 #[derive(Clone, Copy)]
 pub(crate) struct AlgorithmsAsked {
     pub(crate) management: Option<KeyManagementAlg>,
@@ -39,7 +39,7 @@ struct TemplateTexts<'v> {
     aad: &'v [u8],
 }
 
-/// The template that a JSON value is. Refused as docs/SPECIFICATION.md says under "Encrypting", 1, from `Form` on.
+/// The template of a JSON value. Refuses as docs/SPECIFICATION.md "Encrypting" 1 says, from `Form` on.
 #[tactic(auto, unfolding(crate::specs::EncryptionTemplate::encryption_template))]
 pub(crate) fn read_encryption_template(
     alloc: Global,
@@ -86,7 +86,7 @@ fn template_texts(value: &Value) -> Result<TemplateTexts<'_>, Refusal>
     })
 }
 
-/// The algorithms that both headers name together, where they do.
+/// The algorithms that both headers together name, if they do.
 #[tactic(auto, unfolding(crate::specs::EncryptionTemplate::algorithms_asked))]
 fn algorithms_asked<'v>(
     protected: Option<&'v Map<String, Value>>,
@@ -112,7 +112,7 @@ fn algorithms_asked<'v>(
     })
 }
 
-/// The parameters that are drawn or made for a recipient are left to encryption, whatever the algorithm (RFC 7518 sections 4.7.1
+/// Whether the header has no parameter that is drawn or made for a recipient, whatever the algorithm (RFC 7518 sections 4.7.1
 /// and 4.8.1.1).
 fn leaves_parameters(header: Header<'_>) -> bool
     ensures { result ≡ leaves_parameters (header_view header.entry) }
@@ -120,7 +120,7 @@ fn leaves_parameters(header: Header<'_>) -> bool
     !header.has("p2s") && !header.has("iv") && !header.has("tag")
 }
 
-/// The algorithm of key management of the name, where one is given: it must be supported.
+/// The key management algorithm of the name, if there is one. It must be supported.
 fn management_asked(name: Option<&str>) -> Result<Option<KeyManagementAlg>, Refusal>
     ensures { Agrees (λ alg. alg) result (management_asked (option_map (λ n. n.now) name.entry)) }
 {
@@ -139,7 +139,7 @@ fn supported_management(alg: Option<KeyManagementAlg>) -> Result<Option<KeyManag
     }
 }
 
-/// The algorithm of content encryption of the name, where one is given: it must be supported.
+/// The content encryption algorithm of the name, if there is one. It must be supported.
 fn encryption_asked(name: Option<&str>) -> Result<Option<ContentEncryptionAlg>, Refusal>
     ensures { Agrees (λ alg. alg) result (encryption_asked (option_map (λ n. n.now) name.entry)) }
 {

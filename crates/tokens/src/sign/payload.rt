@@ -1,5 +1,5 @@
-//! A payload that is signed as it is read (RFC 7515 section 5.1): each signing input takes its base64url text, and gives its signature at the
-//! end.
+//! A payload that is signed as it is read (RFC 7515 section 5.1): each signing input is fed its base64url text, and returns its
+//! signature at the end.
 ghost use Rattle.std.specs.Prelude.{List, [], length};
 ghost use Rattle.octets.specs.Base64url.{base64url};
 ghost use Rattle.tokens.specs.SigningInputs.{InputStart, HoldEach, HaveTaken};
@@ -9,7 +9,7 @@ use crate::mac::MAC_TEXT;
 use crate::signing_input::{SigningInput, take_each};
 use octets::{B64Writer, Output, PIECE_TEXT, Refusal, Transform, emit, encode_onto, write_whole};
 
-/// A payload that goes out as its base64url text.
+/// A payload that is written as its base64url text.
 #[derive(Drop)]
 pub(crate) struct EncodedPayload<S: SigningInput> {
     inputs: Vec<S>,
@@ -17,7 +17,7 @@ pub(crate) struct EncodedPayload<S: SigningInput> {
 }
 
 impl<S: SigningInput> EncodedPayload<S> {
-    /// None of it was read yet.
+    /// A payload of which nothing was read yet.
     pub(crate) fn start(inputs: Vec<S>) -> EncodedPayload<S>
         ensures { (starts : List InputStart) → HoldEach S.has_taken inputs.items starts []
             → HaveTaken S.has_taken result.inputs.items result.writer starts [] }
@@ -63,7 +63,7 @@ impl<S: SigningInput> Transform for EncodedPayload<S> {
     }
 }
 
-/// A payload that goes out as it is.
+/// A payload that is written as it is.
 #[derive(Drop)]
 pub(crate) struct Payload<S: SigningInput> {
     inputs: Vec<S>,
@@ -71,7 +71,7 @@ pub(crate) struct Payload<S: SigningInput> {
 }
 
 impl<S: SigningInput> Payload<S> {
-    /// None of it was read yet.
+    /// A payload of which nothing was read yet.
     pub(crate) fn start(inputs: Vec<S>) -> Payload<S>
         ensures { (starts : List InputStart) → HoldEach S.has_taken inputs.items starts []
             → HaveTaken S.has_taken result.inputs.items result.writer starts [] }
@@ -116,7 +116,7 @@ impl<S: SigningInput> Transform for Payload<S> {
     }
 }
 
-/// The signatures of what signing inputs took.
+/// The signatures of what was fed to signing inputs.
 impl<S: SigningInput> Values for Vec<S> {
     ghost use Rattle.tokens.specs.SigningInputs.{GiveSignatures, count_signatures};
 

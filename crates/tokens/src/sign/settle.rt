@@ -1,4 +1,4 @@
-//! What keys and a template settle of a signing: the algorithm and the protected header of each signature. It sees no payload.
+//! What keys and a template settle of a signing: the algorithm and the protected header of each signature.
 ghost use Rattle.std.specs.Prelude.{◌≡◌, false, length, map, option_map};
 ghost use Rattle.std.specs.List.{list_all};
 ghost use Rattle.serde_json.specs.Written.{members_have_float};
@@ -29,7 +29,7 @@ pub(crate) struct Signing<'k> {
     pub(crate) header: Map<String, Value>,
 }
 
-/// What keys and a template's text settle. Refused as docs/SPECIFICATION.md says under "Signing", 1 to 4.
+/// What keys and a template's text settle. Refuses as docs/SPECIFICATION.md "Signing" 1 to 4 says.
 #[tactic(auto, unfolding(crate::specs::Signing::read_signing))]
 pub(crate) fn read_signing<'k>(
     alloc: Global,
@@ -44,7 +44,7 @@ pub(crate) fn read_signing<'k>(
     settle_signing(alloc, keys.keys(), template, compact)
 }
 
-/// What keys and a template settle. Refused as docs/SPECIFICATION.md says under "Signing", 2 to 4.
+/// What keys and a template settle. Refuses as docs/SPECIFICATION.md "Signing" 2 to 4 says.
 #[tactic(auto, unfolding(crate::specs::Signing::settle_signing))]
 fn settle_signing<'k>(
     alloc: Global,
@@ -65,7 +65,7 @@ fn settle_signing<'k>(
     Ok(Signing { signers, header })
 }
 
-/// The signers that the keys make by a template.
+/// The signers of keys and a template.
 #[tactic(auto, using(objects::proofs::Lemmas::reading))]
 fn signers_by<'k>(
     alloc: Global,
@@ -82,8 +82,8 @@ fn signers_by<'k>(
     Ok(signers)
 }
 
-/// The signer that a key makes by a template. Refused with `NoAlgorithm` where neither the template, nor the key's `alg` or
-/// length says the algorithm, and with `KeyDoesNotFit` where the key's `alg` is no signature's.
+/// The signer of a key and a template. Refuses with `NoAlgorithm` if neither the template nor the key's `alg` or length says
+/// the algorithm, and with `KeyDoesNotFit` if the key's `alg` is no signature algorithm.
 #[tactic(auto, unfolding(crate::specs::Signing::signer_by))]
 fn signer_by<'k>(alloc: Global, template: Template<'_>, key: &'k Key) -> Result<Signer<'k>, Refusal>
     requires { members_have_float (template_view template).protected ≡ false }
@@ -98,7 +98,7 @@ fn signer_by<'k>(alloc: Global, template: Template<'_>, key: &'k Key) -> Result<
     })
 }
 
-/// Each key may sign, and fits.
+/// Whether each key may sign and fits.
 fn all_may_sign(signers: &[Signer<'_>]) -> bool
     ensures { result ≡ list_all may_sign_key (map signer_view signers.now) }
 {
@@ -111,7 +111,7 @@ fn may_sign(signer: &Signer<'_>) -> bool
     signer.key.allows(Operation::Sign) && signer.key.fits(Algorithm::Signature(signer.alg))
 }
 
-/// Each protected header nests at most 64 deep.
+/// Whether each protected header nests at most `MOST_DEPTH` deep.
 fn are_shallow(signers: &[Signer<'_>]) -> bool
     ensures { result ≡ list_all (λ s. is_shallow_header limits s.protected) (map signer_view signers.now) }
 {
@@ -138,7 +138,7 @@ fn alg_of_key(name: Option<&str>, len: usize) -> Result<SignatureAlg, Refusal>
     }
 }
 
-/// The algorithm with the longest hash that a key of so many octets is long enough for.
+/// The algorithm with the longest hash that a key of `len` octets is long enough for.
 fn alg_by_length(len: usize) -> Option<SignatureAlg>
     ensures { result ≡ alg_by_length len }
 {

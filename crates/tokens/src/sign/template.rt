@@ -1,4 +1,4 @@
-//! Templates of signatures. It is given a template's value, and sees no key and no content.
+//! Templates of signatures.
 ghost use Rattle.std.specs.Prelude.{◌≡◌, false, option_map, IfOk, IfErr};
 ghost use Rattle.serde_json.specs.View.{view, members_view};
 ghost use Rattle.serde_json.specs.Written.{has_float, members_have_float};
@@ -21,7 +21,7 @@ pub(crate) struct Template<'v> {
     pub(crate) alg: Option<SignatureAlg>,
 }
 
-/// The template that a JSON value is. Refused as docs/SPECIFICATION.md says under "Signing", 1, from `Form` on.
+/// The template of a JSON value. Refuses as docs/SPECIFICATION.md "Signing" 1 says, from `Form` on.
 #[tactic(auto, unfolding(crate::specs::Template::template_of))]
 pub(crate) fn read_template(value: &Value) -> Result<Template<'_>, Refusal>
     ensures exact { Agrees template_view result (template_of (view value.now)) }
@@ -37,7 +37,7 @@ pub(crate) fn read_template(value: &Value) -> Result<Template<'_>, Refusal>
     })
 }
 
-/// The headers of a template: an object with no member but `protected` and `header`, each an object.
+/// The headers of a template: an object with no members other than `protected` and `header`, which are objects.
 #[tactic(auto, unfolding(crate::specs::Template::template_headers))]
 fn template_headers(
     value: &Value,
@@ -53,7 +53,7 @@ fn template_headers(
     Ok((protected, per_signature))
 }
 
-/// The algorithm that the two headers name together, where they do.
+/// The algorithm that the two headers together name, if they do.
 #[tactic(auto, unfolding(crate::specs::Template::named_alg))]
 fn named_alg<'v>(
     protected: Option<&'v Map<String, Value>>,
@@ -67,7 +67,7 @@ fn named_alg<'v>(
     supported_if_there(name)
 }
 
-/// The algorithm of the name, where one is given: it must be supported.
+/// The algorithm of the name, if there is one. It must be supported.
 fn supported_if_there(name: Option<&str>) -> Result<Option<SignatureAlg>, Refusal>
     ensures { Agrees (λ alg. alg) result (supported_if_there (option_map (λ n. n.now) name.entry)) }
 {
@@ -80,7 +80,7 @@ fn supported_if_there(name: Option<&str>) -> Result<Option<SignatureAlg>, Refusa
     }
 }
 
-/// The protected header of a template, with the algorithm where the template names none.
+/// The protected header of a template, with the algorithm if the template names none.
 #[tactic(auto, using(keys::proofs::Lemmas::no_float_put_in))]
 pub(crate) fn with_alg(
     alloc: Global,

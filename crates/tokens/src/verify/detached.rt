@@ -1,4 +1,4 @@
-//! Verifying an object whose payload is read beside it, in one pass (RFC 7515 section 5.2 and appendix F).
+//! Verifying an object whose detached payload is read once (RFC 7515 section 5.2 and appendix F).
 ghost use Rattle.std.specs.Prelude.{◌≡◌, ℕ, false, List, [], ◌∷◌, ◌++◌, map, Err, IfOk, IfErr, OnOk, OnErr, IsTrue};
 ghost use Rattle.std.specs.Iterator.{IsFinite};
 ghost use Rattle.std.specs.List.{list_any};
@@ -22,14 +22,14 @@ use octets::{Input, Refusal, same_octets};
 use std::alloc::Global;
 use std::vec::IntoIter;
 
-/// Verifies the object with the keys (RFC 7515 section 5.2). Its payload is all that the content gives, whatever payload the object
-/// was read with. Some key that may verify by the algorithm of a signature, and fits, must have made this signature; with `all`,
-/// each key must have made one. The content is read once, in pieces of 4,096 octets, and is not held: an HMAC is started for each pair
-/// of a key and a signature that it may verify, and each of them takes each piece.
+/// Verifies the object with the keys (RFC 7515 section 5.2). The payload is the content, whatever payload the object was read with.
+/// Some key that may verify by the algorithm of a signature, and fits, must have made this signature. With `all`, each key must have
+/// made one. The content is read once, in pieces of at most `PIECE` octets, and is not held: each piece is fed to one HMAC for each
+/// pair of a key and a signature that it may verify.
 ///
-/// Fails with `Memory` before the content is read, or with `Read` if the content fails. Once the content was read to its end, refused,
-/// in this order, with `Unsupported` where no signature's algorithm is supported; `KeyDoesNotFit` where for none of the others a key
-/// may verify and fits; and `NotOpened` where none of those verifies, or with `all` for some key none does.
+/// Fails with `Memory` before the content is read, or with `Read` if the content fails. After the content was read to its end, refuses,
+/// in this order, with `Unsupported` if no signature's algorithm is supported; `KeyDoesNotFit` if no key may verify by a supported one
+/// and fits; and `NotOpened` if no such pair of a signature and a key verifies, or with `all` none of some key.
 pub fn jws_verify_detached<I: Input>(
     alloc: Global,
     keys: &KeySet,
@@ -42,11 +42,11 @@ pub fn jws_verify_detached<I: Input>(
         → IsPossibleInput (observed I.consumed I.is_at_end content.old content.new) payload
         → AgreesUnlessExternal (verifying_by all false keys.now (with_payload payload (jws_view jws.now))) [] result }
 
-    // Nothing is told of the object before the content is at its end.
+    // Nothing is reported of the object before the content is at its end.
     ensures ends { OnOk result (IsTrue (I.is_at_end content.new)) }
     ensures ends_first { IfErr result (λ refusal. is_external refusal ≡ false → IsTrue (I.is_at_end content.new)) }
 
-    // All memory is taken before the content is touched.
+    // All memory is allocated before the content is touched.
     ensures memory_first { IfErr result (λ refusal. refusal ≡ Refusal.Memory → content.new ≡ content.old) }
     ensures faults { TellsFaults (counts I.failures content.old content.new ∷ []) [] result }
 {
@@ -58,7 +58,7 @@ pub fn jws_verify_detached<I: Input>(
     verdict(keys, signatures, are_right)
 }
 
-/// The signing input of each pair of a key and a signature that it may verify. Each has taken the text before the payload's.
+/// The signing input of each pair of a key and a signature that it may verify. Each was fed the text before that of the payload.
 fn signing_inputs(
     alloc: Global,
     keys: &[Key],
@@ -75,7 +75,7 @@ fn signing_inputs(
     Ok(inputs)
 }
 
-/// Adds those of a key.
+/// Adds the signing inputs of a key.
 fn push_inputs(
     inputs: &mut Vec<HmacInput>,
     key: &Key,
@@ -92,7 +92,7 @@ fn push_inputs(
     Ok(())
 }
 
-/// Adds that of a key and a signature, if the key may verify the signature.
+/// Adds the signing input of a key and a signature, if the key may verify the signature.
 fn push_input(inputs: &mut Vec<HmacInput>, key: &Key, signature: &Signature) -> Result<(), Refusal>
     ensures pushed { (starts : List InputStart) → HoldEach ⟦<HmacInput as SigningInput>⟧.has_taken inputs.old.items starts []
         → OnOk result (HoldEach ⟦<HmacInput as SigningInput>⟧.has_taken inputs.new.items
@@ -130,7 +130,7 @@ fn are_signed<S: SigningInput>(
     all
 }
 
-/// The key made one of the signatures. It takes its signing inputs from the front.
+/// Whether the key made one of the signatures. Takes the signing inputs of the key from the front.
 fn has_signed<S: SigningInput>(
     key: &Key,
     signatures: &[Signature],
@@ -149,7 +149,7 @@ fn has_signed<S: SigningInput>(
     signed
 }
 
-/// The key may verify the signature, and made it. It takes their signing input, if there is one, from the front.
+/// Whether the key may verify the signature and made it. Takes their signing input, if there is one, from the front.
 fn verifies<S: SigningInput>(key: &Key, signature: &Signature, inputs: &mut IntoIter<S>) -> bool
     ensures { (later : List InputStart) (payload : List ℕ)
         → HoldEach S.has_taken (into_iter_items inputs.old) (starts_for_pair (signature_view signature.now) (key_view key.now) ++ later) (base64url payload)
