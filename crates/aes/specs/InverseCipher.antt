@@ -1,5 +1,4 @@
--- The inverse steps (FIPS 197 section 5.3), by which `decrypt` computes. They are no second definition of the cipher: `IsCipher`
--- fixes the result of `decrypt`, as the inverse of `encrypt`.
+-- The inverse steps (FIPS 197 section 5.3), by which `decrypt` computes. Its result is fixed by `IsCipher`, not by this page.
 use Rattle.std.specs.Prelude.{ℕ, zero, suc, ◌+◌, ◌-◌, ◌*◌, ◌%◌, ◌^◌, List, [], ◌∷◌}
 use Rattle.std.specs.Int.{bit_at}
 use Rattle.aes.specs.Polynomial.{polynomial_sum}

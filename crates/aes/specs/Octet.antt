@@ -6,7 +6,7 @@ use Rattle.aes.specs.Polynomial.{polynomial_product, polynomial_remainder}
 unfoldable pub octet_product : ℕ → ℕ → ℕ
 octet_product a b = polynomial_remainder 8 0x11b 7 (polynomial_product 8 a b)
 
--- the y below n with x * y = 1, or 0 if there is none (section 4.4; in the edition of 2001 section 4.2)
+-- the y below n with x * y = 1, or 0 if there is none (section 4.4)
 unfoldable pub inverse_below : ℕ → ℕ → ℕ
 inverse_below zero x = 0
 inverse_below (suc n) x = if octet_product x n == 1 then n else inverse_below n x

@@ -1,4 +1,4 @@
--- Laws of the sums, products and remainders of polynomials over two elements (FIPS 197 sections 4.1 and 4.2).
+-- Laws of polynomials over two elements.
 use Rattle.std.specs.Prelude.{◌≡◌, ℕ, suc, ◌+◌, ◌*◌, ◌^◌, ◌<◌, bit_xor}
 use Rattle.std.specs.Int.{bit_at}
 use Rattle.aes.specs.Polynomial.{polynomial_sum, polynomial_product, polynomial_remainder}

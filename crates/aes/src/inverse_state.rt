@@ -38,8 +38,7 @@ pub(crate) fn inverse_shift_sub(state: [u32; 4]) -> [u32; 4]
     ]
 }
 
-/// On the column of octet 0 of `a`, 1 of `b`, 2 of `c` and 3 of `d`: the inverse of the S-box, the sum with word i of
-/// the round keys, and the inverse matrix.
+/// On the same column: the inverse of the S-box, the sum with word i of the round keys, and the inverse matrix.
 fn inverse_round_column(round_keys: &[u8], i: usize, a: u32, b: u32, c: u32, d: u32) -> u32
     requires { 4 * i + 4 ≤ length round_keys.now }
     ensures { (r : ℕ) → r < 4

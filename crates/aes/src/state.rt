@@ -91,7 +91,7 @@ pub(crate) fn sub_shift(state: [u32; 4]) -> [u32; 4]
     ]
 }
 
-/// The S-box and the matrix of the cipher on the column of octet 0 of `a`, 1 of `b`, 2 of `c` and 3 of `d`.
+/// The S-box and the matrix of the cipher on the same column.
 fn substitute_and_mix_column(a: u32, b: u32, c: u32, d: u32) -> u32
     ensures { (r : ℕ) → r < 4
         → octet result r

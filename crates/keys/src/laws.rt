@@ -1,4 +1,4 @@
-//! Laws of the definitions. Each is the contract of a function that does nothing.
+//! Laws of the definitions, as contracts of functions that do nothing.
 ghost use Rattle.keys.specs.Json.{KeepFloatsOut};
 ghost use Rattle.keys.specs.JsonTexts.{CompactTextReadsBack, DeepTextsAreRefused, KeepJson, ReadsJson, UrlTextsAreJson};
 ghost use Rattle.keys.specs.Keys.{AreOctetKeys};

@@ -11,12 +11,12 @@ block p i = take 16 (drop (16 * i) p)
 unfoldable pub pad : List ℕ → List ℕ
 pad p = p ++ replicate (16 - length p % 16) (16 - length p % 16)
 
--- C_i (SP 800-38A section 6.2): C_0 is the IV, and C_(i + 1) is e of block i of p xor C_i
+-- C_i (section 6.2): C_0 is the IV, and C_(i + 1) is e of block i of p xor C_i
 unfoldable pub chained : (List ℕ → List ℕ) → List ℕ → List ℕ → ℕ → List ℕ
 chained e iv p zero = iv
 chained e iv p (suc i) = e (xor_octets (block p i) (chained e iv p i))
 
--- C_1 || C_2 || .., for the whole blocks of p (SP 800-38A section 6.2)
+-- C_1 || C_2 || .., for the whole blocks of p (section 6.2)
 unfoldable pub cbc_blocks : (List ℕ → List ℕ) → List ℕ → List ℕ → List ℕ
 cbc_blocks e iv p = concat (map (chained e iv p) (range_with_len 1 (length p / 16)))
 

@@ -7,10 +7,10 @@ use Rattle.std.specs.List.{range_with_len}
 unfoldable pub counter_block : List ℕ → ℕ → List ℕ
 counter_block f n = take 12 f ++ to_be_bytes w32 ((from_be_bytes w32 (drop 12 f) + n) % 2 ^ 32)
 
--- octet i of the key stream: e of each counter block, in order (section 6.5, steps 6 and 7)
+-- octet i of the key stream, e of each counter block (steps 6 and 7)
 abbrev pub stream_octet : (List ℕ → List ℕ) → List ℕ → ℕ → ℕ
 stream_octet e f i = slice_index (e (counter_block f (i / 16))) (i % 16)
 
--- each octet of p xor that of the key stream (section 6.5, steps 6 to 8)
+-- each octet of p xor that of the key stream (steps 6 to 8)
 unfoldable pub ctr : (List ℕ → List ℕ) → List ℕ → List ℕ → List ℕ
 ctr e f p = map (λ i. bit_xor (slice_index p i) (stream_octet e f i)) (range_with_len 0 (length p))

@@ -5,7 +5,7 @@ use Rattle.std.specs.List.{range_with_len}
 use Rattle.aes.specs.Polynomial.{polynomial_sum, polynomial_product, polynomial_remainder}
 use Rattle.modes.specs.Cbc.{block}
 
--- the polynomial of a block: the coefficient of x ^ i is bit 127 - i (section 6.3). It is also the block of a polynomial.
+-- the polynomial of a block, with bit 127 - i as the coefficient of x ^ i, and the block of a polynomial (section 6.3)
 unfoldable pub reflect : ℕ → ℕ
 reflect b = polynomial_sum (λ i. bit_at b (127 - i) * 2 ^ i) 128
 
@@ -31,7 +31,7 @@ unfoldable pub times_h : ℕ → ℕ → ℕ → ℕ
 times_h h zero x = x
 times_h h (suc n) x = block_product (times_h h n x) h
 
--- the sum of all blocks, of which block i of m (from 0) is multiplied by h, m - i times (section 6.4)
+-- the sum of m blocks, with block i (from 0) multiplied by h, m - i times (section 6.4)
 unfoldable pub ghash_number : ℕ → List ℕ → ℕ
 ghash_number h xs = polynomial_sum (λ i. times_h h (length xs - i) (slice_index xs i)) (length xs)
 
@@ -45,6 +45,6 @@ zero_filled x = x ++ replicate ((16 - length x % 16) % 16) 0
 unfoldable pub numbers : List ℕ → List ℕ
 numbers x = map (λ i. from_be_bytes w128 (block x i)) (range_with_len 0 (length x / 16))
 
--- GHASH of the whole blocks x under the block h (section 6.4)
+-- GHASH of whole blocks x under the block h (section 6.4)
 unfoldable pub ghash : List ℕ → List ℕ → List ℕ
 ghash h x = to_be_bytes w128 (ghash_number (from_be_bytes w128 h) (numbers x))

@@ -1,4 +1,4 @@
--- How a text is written: with its values, or with places left for them. This is the same for both kinds of objects.
+-- How the text of an object is written: with its values, or with places left for them.
 use Rattle.std.specs.Prelude.{ℕ, Bool, true, false, List, [], ◌∷◌, ◌++◌, codes, if◌then◌else◌, Option, Some, None}
 use Rattle.serde_json.specs.Data.{Data, string, object, Members}
 use Rattle.serde_json.specs.Written.{compact_text}
@@ -7,8 +7,8 @@ use Rattle.objects.specs.Texts.{has_members}
 
 -- ---- texts and places (docs/SPECIFICATION.md "Objects" 5)
 
--- What is written: the texts before the last place, and the text after it (`text`); whether the object or list that is written has a
--- member or an item already (`later`); and whether places are left for values (`places`), which are else written.
+-- What was written: the texts before the last place, and the text after it; `later`, if the object or list that is written is not empty;
+-- and `places`, if places are left for values.
 pub record Written : Type 0 where
   pub finished : List (List ℕ)
   pub text : List ℕ

@@ -8,7 +8,7 @@ mod dots;
 use crate::compact::dots::first_dot;
 use octets::{Refusal, needs};
 
-/// The three parts of a text with two dots. Refuses any other text with `Form`.
+/// The three parts between dots. Refuses with `Form`.
 #[tactic(auto, unfolding(crate::specs::Texts::three_parts))]
 pub(crate) fn three_parts_of(text: &[u8]) -> Result<(&[u8], &[u8], &[u8]), Refusal>
     ensures { Agrees (λ parts. (parts.0.now, parts.1.now, parts.2.now)) result
@@ -20,7 +20,7 @@ pub(crate) fn three_parts_of(text: &[u8]) -> Result<(&[u8], &[u8], &[u8]), Refus
     Ok((first, second, third))
 }
 
-/// The texts before and after the first dot. Refuses a text without a dot with `Form`.
+/// The texts before and after the first dot. Refuses with `Form`.
 #[tactic(auto, unfolding(crate::specs::Texts::split_at_dot))]
 pub(crate) fn split_at_dot(text: &[u8]) -> Result<(&[u8], &[u8]), Refusal>
     ensures { Agrees (λ parts. (parts.0.now, parts.1.now)) result

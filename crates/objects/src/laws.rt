@@ -1,4 +1,4 @@
-//! Laws of the definitions. Each is the contract of a function that does nothing.
+//! Laws of the definitions, as contracts of functions that do nothing.
 ghost use Rattle.objects.specs.CompactForm.{JweCompactFormIsExact, JwsCompactFormIsExact};
 ghost use Rattle.objects.specs.HandedIn.{PayloadIsHandedIn};
 ghost use Rattle.objects.specs.Headers.{JointHeaderHasAllMembers};

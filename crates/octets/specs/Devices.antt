@@ -26,7 +26,7 @@ ComesNearer old new n = IsFinite old → IsFinite new × (size new + n ≤ size 
 abbrev pub most_octets : ℕ
 most_octets = 2 ^ 62
 
--- ---- lists that grow: what an input has given, and what an output has taken (docs/SPECIFICATION.md "Devices")
+-- ---- octets that passed through a device (docs/SPECIFICATION.md "Devices")
 
 -- the part by which the list has grown
 abbrev pub appended : List ℕ → List ℕ → List ℕ

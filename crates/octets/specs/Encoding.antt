@@ -1,4 +1,4 @@
--- Contents that are encoded as base64url, and texts that are decoded: the whole result, and what a beginning of the input fixes of it.
+-- Contents that are encoded as base64url, and texts that are decoded: the whole result, and what a beginning fixes of it.
 use Rattle.std.specs.Prelude.{◌≡◌, ◌≤◌, ℕ, ◌%◌, List, [], ◌∷◌, ◌++◌, length, Result, Ok, Err}
 use Rattle.std.proofs.Common.{refl}
 use Rattle.octets.specs.declared.refusal.Refusal.{Refusal}
@@ -11,21 +11,23 @@ use Rattle.octets.specs.Plan.{Plan, Begins}
 abbrev pub encoding : Plan (List ℕ)
 encoding = record { whole = λ content. Ok (base64url content); fixed = λ front. base64url (whole_groups front) }
 
--- the octets of a group and then those of the groups after it, or none if the group is no text (docs/SPECIFICATION.md "Commands")
+-- ---- decoding (docs/SPECIFICATION.md "Octets and texts" and "Commands", what is left after a refusal)
+
+-- the octets of a group and of the groups after it, or none if the group is no text
 abbrev pub and_octets : Result (List ℕ) Refusal → List ℕ → List ℕ
 and_octets (Ok octets) more = octets ++ more
 and_octets (Err r) more = []
 
--- the octets of the groups of four characters, up to the first group that is no text (docs/SPECIFICATION.md "Commands")
+-- the octets of the groups of four characters, up to the first that is no text
 unfoldable pub octets_of_groups : List ℕ → List ℕ
 octets_of_groups (a ∷ b ∷ c ∷ d ∷ rest) = and_octets (decoded (a ∷ b ∷ c ∷ d ∷ [])) (octets_of_groups rest)
 octets_of_groups rest = []
 
--- the octets of a text, which may end in a line end; each good group of four characters fixes three octets ("Octets and texts")
+-- the octets of a text with or without a line end; each good group of four characters fixes three octets
 abbrev pub decoding : Plan (List ℕ)
 decoding = record { whole = λ text. decoded (without_line_end text); fixed = octets_of_groups }
 
--- the same octets, but a group is fixed only when two characters after it are known, which may be the line end
+-- the same octets, but a group is fixed only with two characters after it, which may be the line end
 abbrev pub settling : Plan (List ℕ)
 settling = record { whole = decoding.whole; fixed = λ front. octets_of_groups (settled front) }
 
@@ -33,14 +35,13 @@ pub settling_starts : settling.fixed [] ≡ []
 unfolding settled octets_of_groups
 settling_starts = refl
 
--- x is the longest string of whole groups of octets whose text begins the text (docs/SPECIFICATION.md "Commands", what is left after a
--- refusal).
+-- x is the longest string of whole groups of octets whose text begins the text.
 pub record IsLongestDecoded (text x : List ℕ) : Type 0 where
   pub octets : IsOctets x
   pub groups : length x % 3 ≡ 0
   pub begins : Begins (base64url x) text
   pub longest : (y : List ℕ) → IsOctets y → length y % 3 ≡ 0 → Begins (base64url y) text → length y ≤ length x
 
--- A beginning of a text fixes the longest such string (docs/SPECIFICATION.md "Commands", what is left after a refusal).
+-- A beginning of a text fixes this string.
 abbrev pub FixesLongest : Type 0
 FixesLongest = (text : List ℕ) → IsOctets text → IsLongestDecoded text (octets_of_groups text)

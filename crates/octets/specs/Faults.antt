@@ -4,27 +4,30 @@ use Rattle.octets.specs.declared.refusal.Refusal.{Refusal}
 use Rattle.octets.specs.declared.refusal.Refusal.TheVariants.{Read, Write}
 use Rattle.octets.specs.Devices.{greatest_count, next_count}
 
--- how often a device had failed before the call, and after it (docs/SPECIFICATION.md "Devices")
+-- ---- the counts (docs/SPECIFICATION.md "Devices")
+
+-- how often a device had failed before the call, and after it
 pub record Counts : Type 0 where
   pub old : ℕ
   pub new : ℕ
 
--- those of a device (docs/SPECIFICATION.md "Devices")
+-- the counts of a device
 abbrev pub counts : {D : Type 0} → (D → ℕ) → D → D → Counts
 counts failures old new = record { old = failures old; new = failures new }
 
--- no device failed in the call (docs/SPECIFICATION.md "Devices")
+-- no device failed in the call
 abbrev pub NoneFailed : List Counts → Type 0
 NoneFailed [] = ⊤
 NoneFailed (c ∷ cs) = (c.new ≡ c.old) × NoneFailed cs
 
--- some device failed in the call, once (docs/SPECIFICATION.md "Devices")
+-- some device failed in the call, once
 abbrev pub SomeFailed : List Counts → Type 0
 SomeFailed [] = ⊥
 SomeFailed (c ∷ cs) = (c.new ≡ next_count c.old) ⊎ SomeFailed cs
 
--- The result is Read exactly if an input failed in the call, and Write exactly if an output did: no success and no other refusal, as
--- Memory, hides a failure. See docs/SPECIFICATION.md "Refusals".
+-- ---- the results (docs/SPECIFICATION.md "Refusals")
+
+-- The result is Read exactly if an input failed in the call, and Write exactly if an output did. No other refusal hides a failure.
 pub record TellsFaults {X : Type 0} (inputs outputs : List Counts) (result : Result X Refusal) : Type 0 where
   pub works : OnOk result (NoneFailed inputs × NoneFailed outputs)
   pub read : IsErrOf result Read → SomeFailed inputs
@@ -32,6 +35,6 @@ pub record TellsFaults {X : Type 0} (inputs outputs : List Counts) (result : Res
   pub inputs_told : IfErr result (λ refusal. refusal ≢ Read → NoneFailed inputs)
   pub outputs_told : IfErr result (λ refusal. refusal ≢ Write → NoneFailed outputs)
 
--- If the refusal is Write, the output with these counts did not fail in the call, but another one did (docs/SPECIFICATION.md "Refusals").
+-- If the refusal is Write, the output with these counts did not fail in the call, but another one did.
 abbrev pub DidNotFail : Refusal → Counts → Type 0
 DidNotFail refusal c = refusal ≡ Write → (c.old < greatest_count) × (c.new ≡ c.old)

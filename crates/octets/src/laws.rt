@@ -1,4 +1,4 @@
-//! Laws of the definitions. Each is the contract of a function that does nothing.
+//! Laws of the definitions, as contracts of functions that do nothing.
 ghost use Rattle.std.specs.Prelude.{◌≡◌, ℕ, List, Ok};
 ghost use Rattle.octets.specs.Base64url.{decoded, TextsAreDistinct, DecodesExactly, SpellsSixBits, HasUrlCharacters};
 ghost use Rattle.octets.specs.Encoding.{encoding, decoding, FixesLongest};

@@ -8,8 +8,8 @@ pub record HashFunction : Type 0 where
   pub output_len : ℕ
   pub digest : List ℕ → List ℕ
 
--- Each digest is octets of the output length, which is from 1 to 64 and at most the block length, and this is at most 128. These are
--- the greatest lengths of FIPS 180-4 section 1.
+-- Each digest is octets. It has the output length, which is from 1 to 64 and at most the block length, and that is at most 128, as in
+-- FIPS 180-4 section 1.
 pub record IsHashFunction (f : HashFunction) : Type 0 where
   pub octets : (message : List ℕ) → IsOctets (f.digest message)
   pub digests : (message : List ℕ) → length (f.digest message) ≡ f.output_len

@@ -22,6 +22,6 @@ inner_key f key = xor_each 0x36 (key_block f key)
 abbrev pub outer_key : HashFunction → List ℕ → List ℕ
 outer_key f key = xor_each 0x5c (key_block f key)
 
--- H(K xor opad, H(K xor ipad, text)) (section 2, steps 3 to 7)
+-- H(K xor opad, H(K xor ipad, text)) (steps 3 to 7)
 unfoldable pub hmac : HashFunction → List ℕ → List ℕ → List ℕ
 hmac f key text = f.digest (outer_key f key ++ f.digest (inner_key f key ++ text))

@@ -1,4 +1,4 @@
--- The SHA-2 hash functions (FIPS 180-4).
+-- The SHA-2 hash functions.
 use Rattle.std.proofs.Common.{lit<, lit≤}
 use Rattle.sha2.specs.Sha256.{sha256}
 use Rattle.sha2.specs.Sha512.{sha384, sha512}
@@ -10,21 +10,20 @@ pub use Rattle.sha2.specs.declared.Sha256.{Sha256}
 pub use Rattle.sha2.specs.declared.Sha384.{Sha384}
 pub use Rattle.sha2.specs.declared.Sha512.{Sha512}
 
--- SHA-256 (FIPS 180-4 section 6.2), with blocks of 512 bits (section 5.2.1)
+-- ---- their lengths and digests (FIPS 180-4 sections 1, 6.2, 6.4 and 6.5)
+
 abbrev pub sha256_function : HashFunction
 sha256_function = record { block_len = 64; output_len = 32; digest = sha256 }
 
 pub sha256_is_hash_function : IsHashFunction sha256_function
 sha256_is_hash_function = record { octets = IsOctets-sha256; digests = length-sha256; some_output = lit< tt; output_fits = lit≤ tt; output_fits_block = lit≤ tt; block_fits = lit≤ tt }
 
--- SHA-384 (FIPS 180-4 section 6.5), with blocks of 1024 bits (section 5.2.2)
 abbrev pub sha384_function : HashFunction
 sha384_function = record { block_len = 128; output_len = 48; digest = sha384 }
 
 pub sha384_is_hash_function : IsHashFunction sha384_function
 sha384_is_hash_function = record { octets = IsOctets-sha384; digests = length-sha384; some_output = lit< tt; output_fits = lit≤ tt; output_fits_block = lit≤ tt; block_fits = lit≤ tt }
 
--- SHA-512 (FIPS 180-4 section 6.4), with blocks of 1024 bits (section 5.2.2)
 abbrev pub sha512_function : HashFunction
 sha512_function = record { block_len = 128; output_len = 64; digest = sha512 }
 

@@ -1,4 +1,4 @@
-//! Laws of the definitions. Each is the contract of a function that does nothing.
+//! Laws of the definitions, as contracts of functions that do nothing.
 ghost use Rattle.std.specs.Prelude.{◌≡◌, ◌++◌, List};
 ghost use Rattle.keys.specs.declared.algorithm.KeyManagementAlg.{KeyManagementAlg};
 ghost use Rattle.keys.specs.declared.algorithm.ContentEncryptionAlg.{ContentEncryptionAlg};

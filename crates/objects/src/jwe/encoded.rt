@@ -96,7 +96,7 @@ fn encoded_shared(alloc: Global, value: &Value) -> Result<EncodedShared<'_>, Ref
     })
 }
 
-/// The objects of the recipients: the value itself, or the items of its list, and then it has no members of a recipient.
+/// The objects of the recipients: the value itself, or the items of its list.
 #[tactic(auto, unfolding(crate::specs::Jwe::recipient_objects), using(keys::proofs::Lemmas::no_float_in_member))]
 fn recipient_objects(value: &Value) -> Result<&[Value], Refusal>
     requires { has_float (view value.now) ≡ false }
@@ -112,7 +112,7 @@ fn recipient_objects(value: &Value) -> Result<&[Value], Refusal>
     }
 }
 
-/// Refuses with `Form` if the object has members of a recipient that are not empty.
+/// Refuses with `Form` if the object has members of a recipient, other than empty ones.
 #[tactic(auto, unfolding(crate::specs::Jwe::no_recipient_at, crate::specs::Jwe::encoded_recipient))]
 fn no_recipient_at(value: &Value) -> Result<(), Refusal>
     ensures { Agrees (λ done. done) result (no_recipient_at (view value.now)) }

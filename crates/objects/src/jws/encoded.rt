@@ -26,7 +26,7 @@ pub(crate) struct EncodedJws<'t> {
     pub(crate) signatures: Vec<EncodedSignature<'t>>,
 }
 
-/// The members of a signature, with the texts that they have. An absent one is empty.
+/// Those of a signature. An absent one is empty.
 #[derive(Drop)]
 pub(crate) struct EncodedSignature<'t> {
     protected: &'t [u8],
@@ -55,7 +55,7 @@ pub(crate) fn encoded_in_json(
     })
 }
 
-/// The objects of the signatures: the value itself, or the items of its list, and then it has no members of a signature.
+/// The objects of the signatures: the value itself, or the items of its list.
 #[tactic(auto, unfolding(crate::specs::Jws::signature_objects), using(keys::proofs::Lemmas::no_float_in_member))]
 fn signature_objects(value: &Value) -> Result<&[Value], Refusal>
     requires { has_float (view value.now) ≡ false }
@@ -71,7 +71,7 @@ fn signature_objects(value: &Value) -> Result<&[Value], Refusal>
     }
 }
 
-/// Refuses with `Form` if the object has a `signature`, or a `protected` or `header` that is not empty.
+/// Refuses with `Form` if the object has members of a signature, other than empty headers.
 #[tactic(auto, unfolding(crate::specs::Jws::no_signature_at))]
 fn no_signature_at(value: &Value) -> Result<(), Refusal>
     ensures { Agrees (λ done. done) result (no_signature_at (view value.now)) }
