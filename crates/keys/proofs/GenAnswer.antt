@@ -1,4 +1,4 @@
--- What a key's making answers, held against the key of the whole random input.
+-- The result of making a key, compared with the key of the whole random input.
 use Rattle.std.proofs.Common.{◌≡◌, ◌<◌, ◌+◌, ℕ, List, ◌++◌, true, false, nat_le, length, take, Result, Ok, Err, IfOk, IfErr, String, Global, string_bytes, IsTrue, refl, ap, ◌∙◌, sym, arith, length-append}
 use Rattle.std.proofs.lemmas.Bool.{le-leb, lt-leb}
 use Rattle.std.proofs.lemmas.List.{take_at}
@@ -13,7 +13,7 @@ not_memory : (r : Refusal) → is_external r ≡ false → is_memory r ≡ false
 not_memory Memory h = cc h
 not_memory r h = refl
 
--- what the random octets make of what a template makes
+-- the text of a made key with the random octets
 abbrev made_of_octets : List ℕ → MadeKey → Result (List ℕ) Refusal
 made_of_octets octets made = needs (nat_le made.len (length octets)) Random >>= (λ enough. Ok (key_text made (take made.len octets)))
 

@@ -5,7 +5,7 @@ use Rattle.modes.specs.Cbc.{pad, chained, cbc_blocks, cbc}
 use Rattle.modes.proofs.Pieces.{whole_of, length-whole, whole_and_rest, length-waits, waits_short, longer, together, full, blocks, left, joined, sixteen, length-blocks, filled_whole, left_short}
 use Rattle.modes.proofs.Chaining.{none_alone, chained_front, chained_back, blocks_behind}
 
--- ---- a text p, of which w waits, and a piece x, by which the whole blocks t come and v waits
+-- ---- w waits after the text p; the piece x completes the whole blocks t, and then v waits
 
 module _ (e : List ℕ → List ℕ) (iv p previous w : List ℕ) (is : previous ≡ chained e iv p (length p / 16)) (waits : w ≡ drop (16 * (length p / 16)) p)
     (x t v : List ℕ) (k : ℕ) (same : w ++ x ≡ t ++ v) (whole : length t ≡ 16 * k) (short : length v < 16) where

@@ -51,10 +51,10 @@ numbers_behind m q n whole =
     ∙ ap (number q) (let e : i ≡ 0 + i = omega arith in e))
     ∙ sym (numbers_are q k refl))
 
--- ---- a text p, of which w waits
+-- ---- w waits after the text p
 
 module _ (p w : List ℕ) (waits : w ≡ drop (16 * (length p / 16)) p) where
-  -- by a piece x the whole blocks t come, and v waits
+  -- the piece x completes the whole blocks t, and then v waits
   pub fed_numbers : (x t v : List ℕ) (k : ℕ) → w ++ x ≡ t ++ v → length t ≡ 16 * k → length v < 16 → numbers (p ++ x) ≡ numbers p ++ numbers t
   fed_numbers x t v k same whole short =
       let n = length p / 16 in

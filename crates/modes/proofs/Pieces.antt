@@ -1,4 +1,4 @@
--- A text in pieces, of which what has no whole block yet waits.
+-- A text in pieces. Octets that are no whole block yet wait.
 use Rattle.std.proofs.Common.{◌≡◌, ℕ, ◌+◌, ◌-◌, ◌*◌, ◌/◌, ◌%◌, ◌<◌, List, ◌++◌, length, take, drop, sym, ap, ◌∙◌, arith, length-append, length-take, length-drop, append_assoc}
 use Rattle.std.proofs.lemmas.List.{drop_at, take_all, take-append-drop}
 
@@ -6,7 +6,7 @@ use Rattle.std.proofs.lemmas.List.{drop_at, take_all, take-append-drop}
 abbrev pub whole_of : List ℕ → List ℕ
 whole_of p = take (16 * (length p / 16)) p
 
--- ---- a text p, of which w waits, and a piece x, by which the whole blocks t come and v waits
+-- ---- w waits after the text p; the piece x completes the whole blocks t, and then v waits
 
 module _ (p w : List ℕ) (waits : w ≡ drop (16 * (length p / 16)) p) where
   pub length-whole : length (whole_of p) ≡ 16 * (length p / 16)
@@ -39,7 +39,7 @@ module _ (p w : List ℕ) (waits : w ≡ drop (16 * (length p / 16)) p) where
 -- ---- the piece fills the block that waits, and more
 
 module _ (w front rest : List ℕ) (fills : length w + length front ≡ 16) where
-  -- the block that is full, the whole blocks, and what waits then
+  -- the block that was filled, the whole blocks after it, and what waits then
   abbrev pub full : List ℕ
   full = w ++ front
 

@@ -1,4 +1,4 @@
--- An object has a compact text exactly where its members say so.
+-- An object has a compact text exactly if its members allow one.
 use Rattle.std.proofs.Common.{◌≡◌, ◌↔◌, ℕ, List, [], ◌∷◌, ◌&&◌, Bool, true, false, not, map, length, ◌==◌, Ok, Err, ◌++◌, refl, ap, ◌∙◌, eqb-true}
 use Rattle.std.proofs.lemmas.List.{nil_from_length}
 use Rattle.serde_json.specs.Data.{Members, no_members, member}
@@ -14,7 +14,7 @@ use Rattle.objects.proofs.DetachedContent.{kept}
 use Rattle.objects.proofs.ExactJwe as exact_jwe
 use Rattle.objects.proofs.ExactJws as exact_jws
 
--- what is written where a test is passed, and else refused, is there exactly where that holds which the test decides
+-- a text that is refused unless a test passes is there exactly if P holds, which the test decides
 decided : (fits : Bool) (P : Type 0) (w : Written) → (fits ≡ true → P) → (P → fits ≡ true)
     → (HasText ((needs fits NotCompact >>= λ _. Ok w) >>= λ (w : Written). Ok w.text) ↔ P)
     × (¬ P → ((needs fits NotCompact >>= λ _. Ok w) >>= λ (w : Written). Ok w.text) ≡ Err NotCompact)

@@ -1,4 +1,4 @@
--- A compact text of an encrypted object that is read is the compact text of the object, but for a line end.
+-- A compact text of an encrypted object that is read is the compact text of the object, except for a line end.
 use Rattle.std.proofs.Common.{◌≡◌, ℕ, List, [], ◌∷◌, ◌++◌, length, Bool, true, map, Option, Ok, is_some, refl, sym, ap, ◌∙◌, subst}
 use Rattle.std.specs.List.{AllByRecursion}
 use Rattle.octets.specs.declared.refusal.Refusal.TheVariants.{Limit}
@@ -19,7 +19,7 @@ use Rattle.objects.proofs.MadeJwe.{IsRecipient, AreSpelled, compact, compact_are
 use Rattle.objects.proofs.MadeOf.{object_is}
 use Rattle.objects.proofs.TextOctets.{text_is}
 
--- the texts of a compact text stand in it between dots: those of one recipient, no header but the protected one, and a part of which the ciphertext is read
+-- the texts of the parts of a compact text: those of one recipient, only a protected header, and the part from which the ciphertext is read
 pub record IsCompact (detached : Option (List ℕ)) (text : List ℕ) (t : EncodedJwe) : Type 0 where
   pub unprotected : t.shared.unprotected ≡ no_members
   pub aad : t.shared.aad ≡ []
@@ -31,7 +31,7 @@ pub record IsCompact (detached : Option (List ℕ)) (text : List ℕ) (t : Encod
   pub ciphertext : content_by detached part ≡ Ok t.content.ciphertext
   pub between_dots : text ≡ t.shared.protected ++ 46 ∷ (recipient.encrypted_key ++ 46 ∷ (t.content.iv ++ 46 ∷ (part ++ 46 ∷ t.content.tag)))
 
--- so they do where they are joined to the text
+-- so they are if the text is these parts joined
 of_parts : (detached : Option (List ℕ)) (text protected key iv part ciphertext tag : List ℕ) → IsOctets part → content_by detached part ≡ Ok ciphertext
     → text ≡ protected ++ 46 ∷ (key ++ 46 ∷ (iv ++ 46 ∷ (part ++ 46 ∷ tag))) → IsCompact detached text (compact protected key iv ciphertext tag)
 of_parts detached text protected key iv part ciphertext tag octets read whole = record {
@@ -75,7 +75,7 @@ object_spelled limits t o h =
     let c = steps (decoded_members t) _ o b.2 in
     parts_spelled t (parts_of o) (c.1 ∙ ap Ok (sym (object_is limits.management b.0 c.0 o c.2)))
 
--- one recipient without a header stands in a compact text, where nothing is shared that is not protected
+-- a compact text can hold one recipient without a header, if nothing is shared that is not protected
 pub compact_text_is : (detach : Bool) (o : EncryptedObject) (r : RecipientParts) → map recipient_parts_of o.recipients ≡ r ∷ [] → o.unprotected ≡ no_members → r.header ≡ no_members → o.aad ≡ []
     → jwe_compact_text detach o ≡ Ok (o.protected ++ 46 ∷ (base64url r.encrypted_key ++ 46 ∷ (base64url o.iv ++ 46 ∷ (kept detach (base64url o.ciphertext) ++ 46 ∷ base64url o.tag))))
 unfolding jwe_compact_text

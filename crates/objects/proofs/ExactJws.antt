@@ -1,4 +1,4 @@
--- A compact text of a signed object that is read is the compact text of the object, but for a line end.
+-- A compact text of a signed object that is read is the compact text of the object, except for a line end.
 use Rattle.std.proofs.Common.{◌≡◌, ℕ, List, [], ◌∷◌, ◌++◌, length, Bool, false, map, Option, Ok, is_some, refl, sym, ap, ◌∙◌, subst}
 use Rattle.std.specs.List.{AllByRecursion}
 use Rattle.octets.specs.declared.refusal.Refusal.TheVariants.{Limit}
@@ -20,7 +20,7 @@ use Rattle.objects.proofs.MadeOf.{signed_is}
 use Rattle.octets.proofs.Lemmas.{steps, same_answer}
 use Rattle.objects.proofs.TextOctets.{text_is}
 
--- the texts of a compact text stand in it between dots: those of one signature without an unprotected header, and a part of which the payload is read
+-- the texts of the parts of a compact text: those of one signature without an unprotected header, and the part from which the payload is read
 pub record IsCompact (detached : Option (List ℕ)) (text : List ℕ) (t : EncodedJws) : Type 0 where
   pub signature : EncodedSignature
   pub alone : t.signatures ≡ signature ∷ []
@@ -62,7 +62,7 @@ object_spelled limits t o h =
     let is = signed_is limits.management b.0 c.0 o c.2 in
     record { payload = b.1 ∙ ap Ok (sym is.payload); decoded_signatures = c.0; decodes = c.1; signatures = is.signatures }
 
--- one signature without an unprotected header stands in a compact text
+-- a compact text can hold one signature without an unprotected header
 pub compact_text_is : (detach : Bool) (o : SignedObject) (s : SignatureParts) → map signature_parts_of o.signatures ≡ s ∷ [] → s.header ≡ no_members
     → jws_compact_text detach o ≡ Ok (s.protected ++ 46 ∷ (kept detach (base64url o.payload) ++ 46 ∷ base64url s.signature))
 unfolding jws_compact_text

@@ -1,4 +1,4 @@
--- Dots that lanes show, and octets at the front of a text that are none.
+-- Dots that are found by lanes, and octets at the front of a text that are no dots.
 use Rattle.std.proofs.Common.{◌≡◌, ℕ, zero, suc, ◌+◌, ◌-◌, ◌*◌, ◌≤◌, nat_eq, nat_lt, Bool, true, false, not, cond, List, [], ◌∷◌, ◌++◌, map, length, take, drop, position, Some, None, option_map, refl, sym, ap, ◌∙◌, subst, arith, length-drop}
 use Rattle.std.proofs.lemmas.Bool.{ltb-true, ltb-false, lt-ltb, le-ltb}
 use Rattle.std.proofs.lemmas.List.{take-append-drop, take_all}
@@ -6,7 +6,7 @@ use Rattle.std.proofs.lemmas.List.Sums.{prefix_len-le-length}
 use Rattle.std.specs.List.{prefix_len, position_or_len}
 use lib.Lanes.{mask_l}
 
--- some bit of a mask is set where some lane passes
+-- some bit of a mask is set if some lane passes
 pub some_set : {X : Type 0} (p : X → Bool) (xs : List X) → not (nat_eq (mask_l (map p xs)) 0) ≡ nat_lt (position_or_len p xs) (length xs)
 some_set p [] = refl
 some_set p (x ∷ xs) = by_first (p x) (mask_l (map p xs)) (position_or_len p xs) (length xs) (some_set p xs)
@@ -24,7 +24,7 @@ front_passes p (x ∷ xs) ys = by_first (p x) (front_passes p xs ys)
     by_first true le = omega (arith, le)
     by_first false le = omega arith
 
--- where the first n pass, what passes is these and what passes behind them
+-- if the first n pass, the front that passes is these and the front of the rest that passes
 pub passed_on : {X : Type 0} (p : X → Bool) (xs : List X) (n : ℕ) → n ≤ prefix_len p xs → prefix_len p xs ≡ n + prefix_len p (drop n xs)
 passed_on p xs zero le = omega arith
 passed_on p [] (suc n) le = absurd (omega (arith, le))
@@ -35,14 +35,14 @@ passed_on p (x ∷ xs) (suc n) le = by_first (p x) (passed_on p xs n) le
     by_first true rest le = let later = rest (omega (arith, le)) in omega (arith, later)
     by_first false rest le = absurd (omega (arith, le))
 
--- so it is with a block behind them in which all pass
+-- the same with a block of k after them, all of which pass
 pub block_passed : {X : Type 0} (p : X → Bool) (xs : List X) (n k : ℕ) → n ≤ prefix_len p xs → k ≤ prefix_len p (take k (drop n xs)) → n + k ≤ prefix_len p xs
 block_passed p xs n k le block =
     let more : prefix_len p (take k (drop n xs)) ≤ prefix_len p (drop n xs) =
     subst (λ l. prefix_len p (take k (drop n xs)) ≤ prefix_len p l) (take-append-drop k (drop n xs)) (front_passes p (take k (drop n xs)) (drop k (drop n xs))) in
     omega (arith, passed_on p xs n le, block, more)
 
--- the first that is found behind them is the first of all
+-- if none is among the first n, the first in the rest is the first of all
 pub found_behind : {X : Type 0} (p : X → Bool) (xs : List X) (n : ℕ) → n ≤ position_or_len p xs → position p xs ≡ option_map (λ i. n + i) (position p (drop n xs))
 found_behind p xs n le =
     let at : position_or_len p xs ≡ n + position_or_len p (drop n xs) = passed_on (λ x. not (p x)) xs n le in
@@ -59,11 +59,11 @@ found_behind p xs n le =
         let more = ltb-false _ _ is in
         rw (le-ltb (position_or_len p xs) (length xs) (omega (arith, at, long, most, more))) refl
 
--- as what is left of the list, which is a part of it
+-- the same with the rest as a part of the list
 pub found_in_rest : {X : Type 0} (p : X → Bool) (xs : List X) (n : ℕ) → n ≤ position_or_len p xs → position p xs ≡ option_map (λ i. n + i) (position p (take (length xs - n) (drop n xs)))
 found_in_rest p xs n le =
     found_behind p xs n le ∙ ap (λ rest. option_map (λ i. n + i) (position p rest)) (sym (take_all (length xs - n) (drop n xs) (omega (arith, length-drop n xs))))
 
--- the octets that are known are in the text
+-- the first n are in the list
 pub known_within : {X : Type 0} (p : X → Bool) (xs : List X) (n : ℕ) → n ≤ position_or_len p xs → n ≤ length xs
 known_within p xs n le = omega (arith, le, prefix_len-le-length (λ x. not (p x)) xs)

@@ -1,4 +1,5 @@
--- The members of one beside the others, and those of several as a list of objects: they are read as they stand, and are as JSON has them.
+-- The members of one element next to others, and those of several as a list of objects: they are read as they were put in, and are JSON
+-- values.
 use Rattle.std.proofs.Common.{◌≡◌, ◌≤◌, ℕ, suc, List, [], ◌∷◌, ◌++◌, length, map, true, false, nat_le, Option, Some, None, Result, Ok, Err, IsUtf8, if◌then◌else◌, refl, ap, ◌∙◌, subst, arith}
 use Rattle.std.proofs.Math.Dec.{leb-suc-suc, leb-suc-zero}
 use Rattle.std.specs.List.{AllByRecursion}
@@ -20,7 +21,7 @@ abbrev pub listed : {T : Type 0} → (T → Entries) → List T → Items
 listed entries [] = no_items
 listed entries (t ∷ ts) = item (object (put_all (entries t))) (listed entries ts)
 
--- those of one, or under the name the list of several or of none
+-- the members of one, or a member with the list of several or none
 abbrev pub each_entries : {T : Type 0} → List ℕ → (T → Entries) → List T → Entries
 each_entries name entries [] = (name, Some (array no_items)) ∷ []
 each_entries name entries (t ∷ []) = entries t
@@ -28,14 +29,14 @@ each_entries name entries (t ∷ (other ∷ rest)) = (name, Some (array (listed 
 
 -- ---- what is read
 
--- under a name that neither the list has nor one, only what stands in front is found
+-- a name that is not that of the list, nor of a member of one, finds only a member in front
 pub in_front : {T : Type 0} (name : List ℕ) (entries : T → Entries) (ts : List T) (other : List ℕ) (d : Option Data) → bytes_eq other name ≡ false
     → ((t : T) → first_there other (entries t) ≡ None) → option_or d (first_there other (each_entries name entries ts)) ≡ option_or d None
 in_front name entries [] other d differs none = rw differs refl
 in_front name entries (t ∷ []) other d differs none = ap (option_or d) (none t)
 in_front name entries (t ∷ (second ∷ rest)) other d differs none = rw differs refl
 
--- where the object of each is read as it was made, so is the list
+-- if the object of each is read as it was made, so is the list
 items_read : {T : Type 0} (read : Data → Result T Refusal) (entries : T → Entries) → ((t : T) → read (object (put_all (entries t))) ≡ Ok t)
     → (ts : List T) → each_item read (listed entries ts) ≡ Ok ts
 items_read read entries reads [] = refl
@@ -50,12 +51,12 @@ list_read : {T : Type 0} (entries : T → Entries) (t : T) (ts : List T) → obj
 unfolding object_list
 list_read entries t ts = rw (objects_are_objects entries ts) refl
 
--- the objects of a value: itself, or those of its list, beside which nothing of one may stand
+-- the objects of a value: itself, or the items of its list, and then it has no members of one
 abbrev pub objects_by : (Data → Result (Unit {0}) Refusal) → Data → Option Data → Result Items Refusal
 objects_by nothing_at value None = Ok (item value no_items)
 objects_by nothing_at value (Some list) = nothing_at value >>= λ alone. object_list list
 
--- behind the members in front, those of one are read, and so is a list; and those of one are read alone, as they stand in a list
+-- With the members in front, one is read, and so is a list. One is also read alone, as in a list.
 pub record ReadsEach {T : Type 0} (name : List ℕ) (entries : T → Entries) (read : Data → Result T Refusal) (nothing_at : Data → Result (Unit {0}) Refusal) (front : Entries) : Type 0 where
   pub has_no_list : (t : T) → get name (object (put_all (front ++ entries t))) ≡ None
   pub beside : (t : T) → read (object (put_all (front ++ entries t))) ≡ Ok t
@@ -95,7 +96,7 @@ none_read name entries read nothing_at front is (t ∷ ts) none = cc none
 depth_of_several : (n : ℕ) → depth_of_each (suc (suc n)) ≡ listed_header_depth
 depth_of_several n = ap (λ few. if few then header_depth else listed_header_depth) (leb-suc-suc (suc n) 0 ∙ leb-suc-zero n)
 
--- where the members of each are as JSON has them, so is the list, which nests two deeper
+-- if the members of each are JSON values, so is the list, which nests two deeper
 items_json : {X T : Type 0} → (n : ℕ) (text : X → T) (entries : T → Entries) (xs : List X) → AllByRecursion (λ x. AreJsonEntries n (entries (text x))) xs
     → AreJsonItems (listed entries (map text xs)) × (items_depth (listed entries (map text xs)) ≤ suc n)
 items_json n text entries [] all = (tt, omega arith)
@@ -104,7 +105,7 @@ items_json n text entries (x ∷ xs) all =
     let others = items_json n text entries xs all.1 in
     ((first.0, others.0), omega (arith, first.1, others.1))
 
--- so the members of all nest no deeper than a header at the top may, where those of each nest no deeper than its header may
+-- if the members of each are no deeper than its header may be, those of all are no deeper than a header at the top may be
 pub each_json : {X T : Type 0} → (name : List ℕ) (text : X → T) (entries : T → Entries) (xs : List X) → IsUtf8 name
     → AllByRecursion (λ x. AreJsonEntries (depth_of_each (length xs)) (entries (text x))) xs → AreJsonEntries header_depth (each_entries name entries (map text xs))
 each_json name text entries [] named all = ((named, (tt, omega arith)), tt)
@@ -114,12 +115,12 @@ each_json name text entries (x ∷ (other ∷ rest)) named all =
     let items = items_json listed_header_depth text entries (x ∷ (other ∷ rest)) (subst deep (depth_of_several (length rest)) all) in
     ((named, (items.0, omega (arith, items.1))), tt)
 
--- what nests at most so deep nests at most two deeper
+-- a value that is at most n deep is at most two deeper
 deeper_if_there : (n : ℕ) (d : Option Data) → IsJsonIfThere n d → IsJsonIfThere (suc (suc n)) d
 deeper_if_there n None h = tt
 deeper_if_there n (Some d) h = (h.0, omega (arith, h.1))
 
--- where the members of each are as JSON has them, at most so deep, those of all nest at most two deeper
+-- if the members of each are JSON values, at most n deep, those of all are at most two deeper
 pub each_json_deeper : {X T : Type 0} → (n : ℕ) (name : List ℕ) (text : X → T) (entries : T → Entries) (xs : List X) → IsUtf8 name
     → AllByRecursion (λ x. AreJsonEntries n (entries (text x))) xs → AreJsonEntries (suc (suc n)) (each_entries name entries (map text xs))
 each_json_deeper n name text entries [] named all = ((named, (tt, omega arith)), tt)

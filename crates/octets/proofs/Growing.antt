@@ -45,7 +45,7 @@ groups_go_on (a ∷ b ∷ []) q = record { rest = octets_of_groups (a ∷ b ∷ 
 groups_go_on (a ∷ b ∷ c ∷ []) q = record { rest = octets_of_groups (a ∷ b ∷ c ∷ q); continues = refl }
 groups_go_on (a ∷ b ∷ c ∷ d ∷ rest) q = and_goes_on (decoded (a ∷ b ∷ c ∷ d ∷ [])) (octets_of_groups rest) (octets_of_groups (rest ++ q)) (groups_go_on rest q)
 
--- where a text is cut stands no character of a text with a meaning
+-- a line end is cut off at a character that no base64url text has
 cut_at : (text : List ℕ) → (n : ℕ) × (without_line_end text ≡ take n text) × (n < length text → is_url_character (slice_index text n) ≡ false)
 unfolding without_line_end
 cut_at text = by_tests (slice_index text (length text - 1) == 10) (slice_index text (length text - 2) == 13) refl refl
@@ -202,6 +202,6 @@ as_it_is_grows = record {
 
 -- ---- what is written once all is read
 
--- an output that nothing is written to before then keeps up
+-- an output to which nothing is written before then keeps up
 pub kept_up_by_none : (fixed : List ℕ → List ℕ) → ((q : List ℕ) → fixed q ≡ []) → (read old : List ℕ) → KeepsUp fixed read old old
 kept_up_by_none fixed none read old = omega (arith, ap length (none (take (length read - most_behind) read)))

@@ -23,7 +23,7 @@ pub is_there : {A : Type 0} (o : Option A) (refusal : Refusal) (x : A) → ok_or
 is_there None e x h = cc h
 is_there (Some y) e x h = ap Some (same_answer y x h)
 
--- where a test refuses one call, it refuses another with the same test
+-- a test that refuses one call refuses another with the same test
 pub refused_alike : {X Y : Type 0} (fits : Bool) (refusal e : Refusal) (x : X) (y : Y) → (needs fits refusal >>= λ _. Ok x) ≡ Err e
     → (e ≡ refusal) × ((needs fits refusal >>= λ _. Ok y) ≡ Err refusal)
 refused_alike true refusal e x y h = cc h

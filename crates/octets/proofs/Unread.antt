@@ -13,7 +13,7 @@ use Rattle.octets.specs.Base64url.{base64url}
 use Rattle.octets.proofs.Decoded.{decoded-nil}
 use Rattle.octets.proofs.Groups.{base64url-nil}
 
--- nothing stands written of it
+-- nothing was written of it
 abbrev pub FixesNothing : Plan (List ℕ) → Type 0
 FixesNothing plan = (ended : Bool) → beginning_of plan (record { octets = []; ended = ended }) ≡ []
 
@@ -32,7 +32,7 @@ appended_nothing : (old new : List ℕ) → AppendsPrefixOf [] old new → new �
 appended_nothing old new part =
     sym part.1 ∙ ap (take (length new)) (append-nil old) ∙ take_all (length new) old part.0
 
--- So an output is as it was, where it is when nothing was written.
+-- So an output is unchanged, if it is unchanged when nothing was written.
 pub unread_untouched : {D : Type 0} (written : D → List ℕ) (old new : D) (plan : Plan (List ℕ)) (seen : Observed) (r : Result (Unit {0}) Refusal) → FixesNothing plan
     → OnErr r (AppendsPrefixOf (beginning_of plan seen) (written old) (written new)) → IfErr r (λ refusal. refusal ≢ Write → written new ≡ written old → new ≡ old)
     → IfErr r (λ refusal. seen.octets ≡ [] → refusal ≢ Write → new ≡ old)
