@@ -36,7 +36,7 @@ pub record Grows (plan : Plan (List ℕ)) : Type 0 where
   pub more : (p q : List ℕ) → Begins (plan.fixed p) (plan.fixed (p ++ q))
   pub whole : (p q w : List ℕ) → IsOctets (p ++ q) → plan.whole (p ++ q) ≡ Ok w → Begins (plan.fixed p) w
 
--- What may be written after this much of the content was read: the whole, if the end was found and the content is accepted.
+-- What may be written after this much was read: the whole, if the end was found and it is accepted, and else what this much fixes.
 abbrev pub beginning_of : {W : Type 0} → Plan W → Observed → W
 beginning_of plan seen =
     if seen.ended then result_unwrap_or (plan.whole seen.octets) (plan.fixed seen.octets) else plan.fixed seen.octets

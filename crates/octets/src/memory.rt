@@ -88,8 +88,7 @@ impl<'a> Input for MemoryInput<'a> {
     }
 }
 
-/// An output that keeps what is written. It has the room that it was made with, and a write after that
-/// fails.
+/// An output that keeps what is written, up to the room that it was made with. A write without room fails.
 #[derive(Drop)]
 pub struct MemoryOutput {
     octets: Vec<u8>,

@@ -29,8 +29,8 @@ pub trait Transform: Drop {
     /// This is left of a transform that was started for this job, and was fed all of this content.
     ghost is_left: { Self.Rest → Job → List ℕ → Type 0 };
 
-    /// Feeds the next piece, of at most `PIECE` octets, and returns what it fixes now, which may be in `space`. Refuses if
-    /// every content that begins so is refused.
+    /// Feeds the next piece, of at most `PIECE` octets, and returns what it fixes now, which may be in `space`. Refuses only
+    /// if every content that begins so is refused.
     fn feed<'t>(
         &mut self,
         piece: &'t [u8],
@@ -45,7 +45,7 @@ pub trait Transform: Drop {
             → IfErr result (λ e. RefusesFrom (plan job) (p ++ piece.now) e) }
         ensures cause { IfErr result (λ e. is_external e ≡ false) };
 
-    /// Returns the rest of the text, which may be in `space`, and what is left. Refuses if the content is refused.
+    /// Returns the rest of the text, which may be in `space`, and what is left. Refuses as the plan refuses the content.
     fn finish<'t>(self, space: &'t mut [u8; PIECE_TEXT]) -> Result<(&'t [u8], Self::Rest), Refusal>
         ensures left { (job : Job) (p : List ℕ) → is_fed self job p → IsOctets p
             → IfOk result (λ end. is_left end.1 job p) }

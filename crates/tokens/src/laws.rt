@@ -66,8 +66,8 @@ pub fn what_is_encrypted_decrypts()
 }
 
 /// With further algorithms of key management, objects are read as before, and encrypted ones are decrypted as before, if their
-/// names are those of algorithms that were known before, or of none of the further ones. So it is with the three of AES-GCM key
-/// wrap and all others before them, which together are the algorithms of the limits.
+/// names are those of algorithms that were known before, or of none of the further ones. So it is when the three of AES-GCM key
+/// wrap are added to the earlier ones, which together are the algorithms of the limits.
 pub fn more_algorithms_open_alike()
     ensures all { (limits : Limits) (known further : List KeyManagementAlg) → OpensAlike limits known further }
     ensures gcm { OpensAlike limits earlier_management_algs gcm_management_algs

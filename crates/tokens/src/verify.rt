@@ -52,8 +52,7 @@ pub fn jws_verify<O: Output>(
     }
 }
 
-/// The object verifies with some key, or with all. Refuses with `Unsupported` if no algorithm is supported, with
-/// `KeyDoesNotFit` if no key may verify and fits, and with `NotOpened` if it does not verify.
+/// The object verifies with some key, or with all. Refuses as `jws_verify` does.
 fn verified(keys: &KeySet, jws: &Jws<'_>, all: bool) -> Result<(), Refusal>
     ensures exact { Agrees (λ done. (jws_view jws.now).payload) result (verified_payload all keys.now (jws_view jws.now)) }
 {
@@ -61,8 +60,7 @@ fn verified(keys: &KeySet, jws: &Jws<'_>, all: bool) -> Result<(), Refusal>
     verdict(keys, jws.signatures(), are_verified(all, keys, jws))
 }
 
-/// The result of verifying, by whether the signatures are right. Refuses with `Unsupported` if no algorithm is supported, with
-/// `KeyDoesNotFit` if no key may verify and fits, and with `NotOpened` if the signatures are not right.
+/// The result of verifying, by whether the signatures are right. Refuses as `jws_verify` does.
 #[tactic(auto, unfolding(crate::specs::Verifying::verified_payload), using(crate::proofs::Tests::views))]
 fn verdict(keys: &[Key], signatures: &[Signature], are_right: bool) -> Result<(), Refusal>
     ensures { (all : Bool) (payload : List ℕ) → are_right ≡ are_verified_by all (map key_view keys.now) (record { payload = payload; signatures = map signature_view signatures.now })

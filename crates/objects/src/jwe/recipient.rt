@@ -31,9 +31,8 @@ pub struct Recipient {
     enc: String,
 }
 
-/// The recipient, with the other parts of its joint header. Refuses with `Header` if a name is in two parts; if `alg` or
-/// `enc` is absent or no string; for PBES2 if `p2s` is not the base64url text of at least 8 octets or `p2c` is no whole
-/// number from 1; and for AES-GCM key wrap if `iv` or `tag` is no base64url text.
+/// The recipient, with the other parts of its joint header. Refuses with `Header` if a name is in two parts, `alg` or `enc`
+/// is absent or no string, or a parameter of the `alg` is missing or wrong (docs/SPECIFICATION.md "Objects" 3).
 #[tactic(auto, unfolding(crate::specs::Jwe::recipient_of, crate::specs::Jwe::recipient_by, crate::specs::Headers::string_there))]
 pub(crate) fn read_recipient(
     alloc: Global,
