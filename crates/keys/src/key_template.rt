@@ -44,7 +44,7 @@ pub(crate) fn read_template<'v>(alloc: Global, value: &'v Value) -> Result<Asked
     Ok(Asked { alg, bytes })
 }
 
-/// The `kty` is absent or "oct".
+/// Whether the `kty` is absent or "oct".
 fn is_oct_if_there(kty: Option<&str>) -> bool
     ensures { result ≡ is_oct_if_there (option_map (λ t. t.now) kty.entry) }
 {

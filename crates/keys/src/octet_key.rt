@@ -124,7 +124,7 @@ fn owned(alloc: Global, text: Option<&str>) -> Result<Option<String>, AllocError
     }
 }
 
-/// The `alg` is absent, or a name that a key of the algorithm may have.
+/// Whether the `alg` is absent, or a name that a key of the algorithm may have.
 fn is_absent_or_names(found: Option<&str>, algorithm: Algorithm) -> bool
     ensures { result ≡ is_absent_or_among (option_map (λ t. t.now) found.entry) (key_names algorithm) }
 {
@@ -142,7 +142,7 @@ fn is_absent_or_names(found: Option<&str>, algorithm: Algorithm) -> bool
     }
 }
 
-/// The member is absent, or is this text.
+/// Whether the member is absent or this text.
 fn is_absent_or_text(found: &Option<String>, text: &str) -> bool
     ensures { result ≡ is_absent_or_text (option_map string_bytes found.now) text.now }
 {
@@ -152,7 +152,7 @@ fn is_absent_or_text(found: &Option<String>, text: &str) -> bool
     }
 }
 
-/// The member is absent, or a name in its list allows the operation.
+/// Whether the member is absent, or a name in its list allows the operation.
 #[tactic(auto, using(crate::proofs::Strings::any_text))]
 fn is_absent_or_allows(found: &Option<Vec<String>>, operation: Operation) -> bool
     ensures { result ≡ is_absent_or_meets (option_map (λ texts. map string_bytes texts.items) found.now) (operation_names operation) }
@@ -163,7 +163,7 @@ fn is_absent_or_allows(found: &Option<Vec<String>>, operation: Operation) -> boo
     }
 }
 
-/// One of the names allows the operation.
+/// Whether one of the names allows the operation.
 fn allow(names: &Vec<String>, operation: Operation) -> bool
     ensures { result ≡ list_any (λ name. is_among (operation_names operation) (string_bytes name)) names.now.items }
 {

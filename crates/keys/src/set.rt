@@ -90,7 +90,7 @@ fn key_objects(value: &Value) -> Result<&[Value], Refusal>
     }
 }
 
-/// Each value is an object.
+/// Whether each value is an object.
 pub fn are_objects(values: &[Value]) -> bool
     ensures { result ≡ are_objects (items_view values.now) }
 {

@@ -4,7 +4,7 @@ ghost use Rattle.std.specs.List.{list_any};
 ghost use Rattle.std.specs.Str.{bytes_eq};
 ghost use Rattle.keys.specs.Texts.{is_among};
 
-/// The text is one of these names.
+/// Whether the text is one of these names.
 #[tactic(auto, using(crate::proofs::Strings::any_name))]
 pub(crate) fn is_among(names: &[&str], text: &str) -> bool
     ensures { result ≡ is_among (map (λ n. n.now) names.now) text.now }

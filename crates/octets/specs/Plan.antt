@@ -31,7 +31,7 @@ pub record Begins (front all : List ℕ) : Type 0 where
   pub rest : List ℕ
   pub continues : all ≡ front ++ rest
 
--- What a beginning fixes grows as more is read, and is a beginning of what is written for the whole content.
+-- The text that a beginning of the content fixes grows as more is read, and is a beginning of the whole text.
 pub record Grows (plan : Plan (List ℕ)) : Type 0 where
   pub more : (p q : List ℕ) → Begins (plan.fixed p) (plan.fixed (p ++ q))
   pub whole : (p q w : List ℕ) → IsOctets (p ++ q) → plan.whole (p ++ q) ≡ Ok w → Begins (plan.fixed p) w
@@ -48,7 +48,7 @@ plan_map f plan = record {
   fixed = λ front. f (plan.fixed front);
 }
 
--- What a beginning fixes grows so for both outputs.
+-- The texts of both outputs grow so.
 pub record BothGrow (plan : Plan OutputTexts) : Type 0 where
   pub text : Grows (plan_map (λ texts. texts.text) plan)
   pub content : Grows (plan_map (λ texts. texts.content) plan)

@@ -20,7 +20,7 @@ RefusesFrom plan p e = (rest : List ℕ) → IsOctets (p ++ rest) → plan.whole
 abbrev pub most_behind : ℕ
 most_behind = 4160
 
--- What was written is at least as long as what the octets read fix without the last `most_behind`. See docs/SPECIFICATION.md "Commands".
+-- The written text is at least as long as that fixed by the octets read except the last `most_behind`. See docs/SPECIFICATION.md "Commands".
 abbrev pub KeepsUp : (List ℕ → List ℕ) → List ℕ → List ℕ → List ℕ → Type 0
 KeepsUp fixed read old new = length old + length (fixed (take (length read - most_behind) read)) ≤ length new
 

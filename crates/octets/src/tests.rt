@@ -320,7 +320,7 @@ impl<'a> Write for Slow<'a> {
     }
 }
 
-/// So many times the same octets, and then others.
+/// The octets `times` times, and then `last`.
 pub(crate) fn repeated(
     alloc: Global,
     octets: &[u8],

@@ -174,7 +174,7 @@ enc_plan limits compact detach keys text = do
 
 -- ---- what it fixes, and what it makes (docs/SPECIFICATION.md "Encrypting" 7)
 
--- What a beginning of the plaintext fixes of both texts grows as more is read, and is a beginning of the whole texts.
+-- The texts that a beginning of the plaintext fixes grow as more is read, and are beginnings of the whole texts.
 abbrev pub EncryptingGrows : Type 0
 EncryptingGrows = (compact detach : Bool) (keys : List OctetKey) (template random : List ℕ) (plan : Plan OutputTexts) → AreOctetKeys keys → IsOctets random
     → plan_from (enc_plan limits compact detach keys template) random ≡ Ok plan → BothGrow plan
@@ -207,8 +207,8 @@ abbrev pub OpensNoOther : ℕ → OctetKey → EncryptedObject → List ℕ → 
 OpensNoOther n key o plaintext =
     AllByRecursion (λ pair. (other : List ℕ) → opened_by (sealed_content o) pair ≡ Some other → other ≡ plaintext) (all_pairs management_algs (key ∷ []) (take n o.recipients))
 
--- What is written for a plaintext and keys is an object. Each of the keys alone decrypts it to the plaintext, if the key may decrypt and
--- opens nothing else at the recipient of an earlier key.
+-- A text that is encrypted to keys is an object. Each of the keys alone decrypts it to the plaintext, if the key may decrypt and opens
+-- nothing else at the recipient of an earlier key.
 abbrev pub EncryptedDecrypts : Limits → Type 0
 EncryptedDecrypts limits = (compact detach : Bool) (keys : List OctetKey) (template random plaintext : List ℕ) (texts : OutputTexts) → AreOctetKeys keys → IsOctets random → IsOctets plaintext
     → planned (plan_from (enc_plan limits compact detach keys template) random) plaintext ≡ Ok texts

@@ -71,7 +71,7 @@ verifying_by all wanted keys o = do
 
 -- ---- what is signed is verified (docs/SPECIFICATION.md "Signing" and "Verifying" 3)
 
--- What keys sign as a template asks is an object. Each of the keys alone verifies it and returns the payload, if the key may verify.
+-- A text that keys sign is an object. Each of the keys alone verifies it and returns the payload, if the key may verify.
 abbrev pub SignedVerifies : Type 0
 SignedVerifies = (compact detach : Bool) (keys : List OctetKey) (template payload : List ℕ) (texts : OutputTexts) → IsOctets payload
     → planned (sig_plan limits compact detach keys template) payload ≡ Ok texts

@@ -17,7 +17,7 @@ use ciphers::laws::{
 };
 use objects::laws::{jwe_texts_spell_objects, jws_texts_spell_objects};
 
-/// What a beginning of the payload fixes of a signed object's text grows as more is read, and is a beginning of the whole text.
+/// The text of a signed object that a beginning of the payload fixes grows as more is read, and is a beginning of the whole text.
 pub fn signing_grows()
     ensures { SigningGrows }
 {}
@@ -27,14 +27,14 @@ pub fn signing_makes_texts()
     ensures { SigningMakesTexts }
 {}
 
-/// What keys sign as a template asks verifies with each of these keys alone that may verify, and the result is the payload.
+/// An object that keys sign verifies with each of these keys alone, if the key may verify, and the result is the payload.
 pub fn what_is_signed_verifies()
     ensures { SignedVerifies }
 {
     jws_texts_spell_objects();
 }
 
-/// What a beginning of the plaintext fixes of an encrypted object's text grows as more is read, and is a beginning of the
+/// The text of an encrypted object that a beginning of the plaintext fixes grows as more is read, and is a beginning of the
 /// whole text.
 pub fn encrypting_grows()
     ensures { EncryptingGrows }
@@ -51,9 +51,9 @@ pub fn encrypting_makes_texts()
     what_delivers_is_octets();
 }
 
-/// What is encrypted to keys as a template asks is decrypted to the plaintext with each of these keys alone, if the key may
-/// decrypt and opens nothing else at the recipient of an earlier key. This holds under all limits under which what is written may
-/// be read, and so under those of this profile.
+/// An object that is encrypted to keys is decrypted to the plaintext with each of these keys alone, if the key may decrypt and
+/// opens nothing else at the recipient of an earlier key. This holds under all limits under which what is written may be read,
+/// and so under those of this profile.
 pub fn what_is_encrypted_decrypts()
     ensures all { (limits : Limits) → AreSound limits → EncryptedDecrypts limits }
     ensures here { EncryptedDecrypts limits }
