@@ -123,7 +123,7 @@ PLACES = [
     # Comparisons, in the crates that compare tags and signatures.
     ("octets/src/lanes.rt", "same_octets", "fn same_octets(a: &[u8], b: &[u8]) -> bool", "the declaration"),
     ("modes/src/gcm.rt", "gcm_open", "if !same_octets(&expected, tag) { return None; }", "the tag of GCM"),
-    ("ciphers/src/cbc_hmac.rt", "open", "if !same_octets(&expected[..len], tag) { return None; }", "the tag of AES-CBC with HMAC"),
+    ("ciphers/src/cbc_hmac.rt", "open_cbc_hmac", "if !same_octets(&expected[..len], tag) { return None; }", "the tag of AES-CBC with HMAC"),
     ("tokens/src/verify.rt", "is_signed", "same_octets(mac.octets(), signature.signature())", "the signature"),
     ("tokens/src/verify/detached.rt", "verifies", "Some(input) => same_octets(input.sign().octets(), signature.signature()),", "the signature"),
     ("tokens/src/verify/detached.rt", "are_signed", "if signed != all { return signed; }", "whether a key signed, and whether each has to"),

@@ -51,7 +51,7 @@ IsIvIn family iv = ⊤
 abbrev pub IsIvOf : KeyAlg → List ℕ → Type 0
 IsIvOf alg = IsIvIn (key_family alg)
 
--- ---- the ways of delivery
+-- ---- the ways of delivery (sections 4.4, 4.5, 4.7 and 4.8)
 
 -- the key that PBES2 derives from a password: the salt is the algorithm's name, a zero octet and p2s (section 4.8.1.1)
 unfoldable pub derived_key : HashFunction → List ℕ → ℕ → List ℕ → List ℕ → ℕ → List ℕ
@@ -81,9 +81,9 @@ way_in (pbes2 f name nk) key p = by_wrap (encrypted_block nk (derived_key f name
 abbrev pub way_of : KeyAlg → List ℕ → Parameters → Way
 way_of alg = way_in (key_family alg)
 
--- ---- the encrypted key and its tag
+-- ---- the encrypted key and its tag (sections 4.4, 4.5 and 4.7)
 
--- the encrypted key of a content encryption key: none where the key is used directly
+-- the encrypted key of a content encryption key, which is empty if the key is used directly
 abbrev pub encrypted_by : Way → Parameters → List ℕ → List ℕ
 encrypted_by directly p cek = []
 encrypted_by (by_wrap e) p cek = wrapped e cek
@@ -92,7 +92,7 @@ encrypted_by (by_gcm e) p cek = gcm_ciphertext e p.iv cek
 unfoldable pub encrypted_key_of : KeyAlg → List ℕ → Parameters → List ℕ → List ℕ
 encrypted_key_of alg key p = encrypted_by (way_of alg key p) p
 
--- its authentication tag, without additional data (section 4.7): none but in GCM
+-- its authentication tag in GCM, without additional data (section 4.7); otherwise it is empty
 abbrev pub tag_by : Way → Parameters → List ℕ → List ℕ
 tag_by (by_gcm e) p cek = gcm_tag e p.iv [] (gcm_ciphertext e p.iv cek)
 tag_by way p cek = []
@@ -102,13 +102,13 @@ key_tag_of alg key p = tag_by (way_of alg key p) p
 
 -- ---- the delivery (RFC 7516 section 5.2, steps 9 to 11)
 
--- what else is asked of cek: it is the key that is used directly, or the IV has its length and the tag is right
+-- It is the key that is used directly (section 4.5), or in GCM the IV has its length and the tag is right (section 4.7).
 abbrev pub agrees_by : Way → List ℕ → Parameters → List ℕ → Bool
 agrees_by directly key p cek = bytes_eq cek key
 agrees_by (by_wrap e) key p cek = true
 agrees_by (by_gcm e) key p cek = length p.iv == key_iv_len && bytes_eq (tag_by (by_gcm e) p cek) p.tag
 
--- cek has the length that the content encryption takes, and the encrypted key is the one that was received
+-- cek has the length that the content encryption takes, and is encrypted to the encrypted key (RFC 7516 section 5.2, steps 9 to 11)
 abbrev pub is_delivered_by : Way → ContentAlg → List ℕ → Parameters → List ℕ → List ℕ → Bool
 is_delivered_by way enc key p encrypted cek = length cek == cek_len enc && (bytes_eq (encrypted_by way p cek) encrypted && agrees_by way key p cek)
 

@@ -1,4 +1,4 @@
--- AES key wrap (RFC 3394, section 2.2), over any function e of blocks.
+-- AES key wrap (RFC 3394 section 2.2), over any function e of blocks.
 use Rattle.std.specs.Prelude.{◌≡◌, ℕ, zero, suc, ◌*◌, ◌/◌, ◌%◌, ◌≤◌, ◌==◌, if◌then◌else◌, bit_xor, List, ◌++◌, length, take, drop, map, replicate}
 use Rattle.std.specs.Int.{w64, from_be_bytes, to_be_bytes}
 use Rattle.std.specs.List.{range_with_len, concat}
@@ -8,11 +8,11 @@ use Rattle.octets.specs.Octets.{IsOctets}
 abbrev pub initial_value : List ℕ
 initial_value = replicate 8 0xa6
 
--- A ^ t, of eight octets a and the number t
+-- A ^ t, of the eight octets a and the number t (section 2.2.1)
 unfoldable pub xor_count : ℕ → List ℕ → List ℕ
 xor_count t a = to_be_bytes w64 (bit_xor (from_be_bytes w64 a) t)
 
--- part i of eight octets, from 0
+-- part i of eight octets, counted from 0: P[i + 1] (section 2.2)
 abbrev pub part : List ℕ → ℕ → List ℕ
 part p i = take 8 (drop (8 * i) p)
 
@@ -25,17 +25,17 @@ table e p (suc t) zero = xor_count (suc t) (take 8 (e (table e p t 0 ++ table e 
 table e p (suc t) (suc i) =
     if i == t % (length p / 8) then drop 8 (e (table e p t 0 ++ table e p t (suc i))) else table e p t (suc i)
 
--- Wrap(K, P) for P of n parts: A(6 n), R(6 n, 1) .. R(6 n, n)
+-- Wrap(K, P) for P of n parts: A(6 n), R(6 n, 1) .. R(6 n, n) (section 2.2.1, step 3)
 unfoldable pub wrapped : (List ℕ → List ℕ) → List ℕ → List ℕ
 wrapped e p = concat (map (table e p (6 * (length p / 8))) (range_with_len 0 (suc (length p / 8))))
 
--- what can be wrapped (section 2): octets, in two parts or more
+-- key data that can be wrapped: octets, in two parts or more (section 2)
 pub record IsKeyData (p : List ℕ) : Type 0 where
   pub octets : IsOctets p
   pub parts : length p % 8 ≡ 0
   pub two : 16 ≤ length p
 
--- p is the unwrapping of c
+-- p is the unwrapping of c: the key data whose wrapping it is (section 2.2.2)
 pub record IsUnwrapping (e : List ℕ → List ℕ) (c p : List ℕ) : Type 0 where
   pub key_data : IsKeyData p
   pub wraps : wrapped e p ≡ c

@@ -1,5 +1,4 @@
--- Opening a content and unwrapping a key as functions (RFC 7516 section 5.2): what is asked for is the one octet string that
--- sealing, or encrypting a key, takes to what was received.
+-- Decryption as functions (RFC 7516 section 5.2). Each gives the one octet string that encryption turns into the octets that were received.
 use Rattle.std.specs.Prelude.{◌≡◌, ◌↔◌, ℕ, ◌==◌, ◌&&◌, Bool, true, false, not, List, length, nat_lt, if◌then◌else◌, Option, Some, None}
 use Rattle.std.specs.Str.{bytes_eq}
 use Rattle.octets.specs.Octets.{IsOctets}
@@ -9,13 +8,13 @@ use Rattle.ciphers.specs.Sealing.{Sealing, sealing, cek_len, iv_len, IsOpening}
 use Rattle.ciphers.specs.declared.content_alg.ContentAlg.{ContentAlg}
 use Rattle.ciphers.specs.declared.key_alg.KeyAlg.{KeyAlg}
 
--- ---- contents
+-- ---- contents (RFC 7516 section 5.2, step 16)
 
 abbrev pub is_longer : ℕ → Option ℕ → Bool
 is_longer n None = false
 is_longer n (Some most) = nat_lt most n
 
--- p is sealed to the ciphertext and the tag
+-- p is encrypted to the ciphertext and the tag
 abbrev pub is_sealed_to : Sealing → List ℕ → List ℕ → List ℕ → Bool
 is_sealed_to s c tag p = not (is_longer (length p) s.longest) && (bytes_eq (s.sealed p).ciphertext c && bytes_eq (s.sealed p).tag tag)
 
@@ -31,7 +30,7 @@ abbrev pub OpensExactly : Type 0
 OpensExactly = (alg : ContentAlg) (cek iv aad c tag p : List ℕ) → IsOctets cek → IsOctets iv
     → (opening alg cek iv aad c tag ≡ Some p) ↔ IsOpening alg cek iv aad c tag p
 
--- ---- content encryption keys
+-- ---- content encryption keys (RFC 7516 section 5.2, steps 9 to 11)
 
 -- the content encryption key that is delivered
 unfoldable pub delivered : KeyAlg → ContentAlg → List ℕ → Parameters → List ℕ → Option (List ℕ)

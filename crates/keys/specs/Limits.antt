@@ -38,6 +38,6 @@ limits = record {
   management = management_algs;
 }
 
--- so many recipients, or signatures, are not too many for an object (docs/SPECIFICATION.md "Objects" 2)
+-- n recipients or signatures are not too many for an object (docs/SPECIFICATION.md "Objects" 2)
 abbrev pub are_few : Limits → ℕ → Bool
 are_few limits n = nat_le n limits.recipients

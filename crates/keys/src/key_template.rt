@@ -1,4 +1,4 @@
-//! Templates of keys: what they may hold, what they ask for, and how long the key is. It is given a template's JSON value.
+//! Templates of keys: the members they may have, what they ask for, and the length of the key.
 ghost use Rattle.std.specs.Prelude.{◌≡◌, ◌≤◌, true, codes, option_map, None, Err, IfOk};
 ghost use Rattle.serde_json.specs.Data.{Members, object};
 ghost use Rattle.serde_json.specs.Find.{get, as_object};

@@ -12,7 +12,7 @@ use Rattle.octets.proofs.Lemmas.{IsOctets-nil}
 use Rattle.prf.specs.HashFunction.{HashFunction, IsHashFunction}
 use Rattle.prf.specs.Sha2.{sha256_is_hash_function, sha384_is_hash_function, sha512_is_hash_function}
 use Rattle.ciphers.specs.Algorithms.{KeyFamily, direct, aes_key_wrap, aes_gcm_key_wrap, pbes2, key_family}
-use Rattle.ciphers.specs.Delivery.{IsKeyIn, IsKeyOf, IsCountIn, IsCountOf, IsIvIn, IsIvOf, iterations_in, iteration_count, way_in, encrypted_by, tag_by, is_delivered_by, key_tag_of, encrypted_key_of}
+use Rattle.ciphers.specs.Delivery.{Parameters, agrees_by, IsKeyIn, IsKeyOf, IsCountIn, IsCountOf, IsIvIn, IsIvOf, iterations_in, iteration_count, way_in, encrypted_by, tag_by, is_delivered_by, key_tag_of, encrypted_key_of}
 use Rattle.ciphers.specs.Sealing as ciphers
 use Rattle.ciphers.specs.declared.content_alg.ContentAlg.{ContentAlg}
 use Rattle.ciphers.proofs.Lemmas.{decided}
@@ -96,25 +96,27 @@ encryption_name_is name enc h = found_by_name encryption_name name enc encryptio
 -- what a test finds so of all algorithms is so of each that is found
 passes : {A : Type 0} (test is : A → Bool) (algs : List A) (a : A) → list_all test algs ≡ true → find is algs ≡ Some a → test a ≡ true
 passes test is [] a all found = cc found
-passes test is (first ∷ others) a all found = by_test (is first) found
+passes test is (first ∷ others) a all found =
+    let both = and_parts (test first) (list_all test others) all in
+    by_test (is first) both.0 (passes test is others a both.1) found
   where
-    by_test : (b : Bool) → (if b then Some first else find is others) ≡ Some a → test a ≡ true
-    by_test true found = let same : first ≡ a = cc found in ap test (sym same) ∙ (and_parts (test first) (list_all test others) all).0
-    by_test false found = passes test is others a (and_parts (test first) (list_all test others) all).1 found
+    by_test : (b : Bool) → test first ≡ true → (find is others ≡ Some a → test a ≡ true) → (if b then Some first else find is others) ≡ Some a → test a ≡ true
+    by_test true this later found = let same : first ≡ a = cc found in ap test (sym same) ∙ this
+    by_test false this later found = later found
 
 of_signature : (test : SignatureAlg → Bool) → list_all test signature_algs ≡ true → (alg : SignatureAlg) → test alg ≡ true
 unfolding signature_alg_of
-of_signature test all alg = passes test _ signature_algs alg all (signature_named alg)
+of_signature test all alg = passes test (λ x. bytes_eq (signature_name alg) (signature_name x)) signature_algs alg all (signature_named alg)
 
 of_management : (test : KeyManagementAlg → Bool) → list_all test management_algs ≡ true → (alg : KeyManagementAlg) → test alg ≡ true
 unfolding management_alg_among
-of_management test all alg = passes test _ management_algs alg all (management_named alg)
+of_management test all alg = passes test (λ x. bytes_eq (management_name alg) (management_name x)) management_algs alg all (management_named alg)
 
 of_encryption : (test : ContentEncryptionAlg → Bool) → list_all test encryption_algs ≡ true → (enc : ContentEncryptionAlg) → test enc ≡ true
 unfolding encryption_alg_of
-of_encryption test all enc = passes test _ encryption_algs enc all (encryption_named enc)
+of_encryption test all enc = passes test (λ x. bytes_eq (encryption_name enc) (encryption_name x)) encryption_algs enc all (encryption_named enc)
 
-is_ascii : List ℕ → Bool
+abbrev is_ascii : List ℕ → Bool
 is_ascii text = list_all (λ c. nat_lt c 128) text
 
 -- ASCII characters are text
@@ -273,18 +275,31 @@ module _ (enc : ContentAlg) (key drawn : List ℕ) (p2c : ℕ) (cek : List ℕ) 
       by_row (λ m n k. IsOctets (parameters_by (delivered_in m drawn p2c tag)).iv) IsOctets-nil (λ nk. IsOctets-nil) (λ f name nk. IsOctets-nil) (λ nk. octets) alg
 
   -- what is encrypted with the octets that are drawn is delivered by the parameters that are written
+  abbrev given : Parameters
+  given = parameters_with drawn p2c
+
+  abbrev written : KeyManagementMode → KeyFamily → Parameters
+  written m k = parameters_by (delivered_in m drawn p2c (tag_by (way_in k key given) given cek))
+
+  abbrev IsDeliveredIn : KeyManagementMode → KeyFamily → Type 0
+  IsDeliveredIn m k = is_delivered_by (way_in k key (written m k)) enc key (written m k) (encrypted_by (way_in k key given) given cek) cek ≡ true
+
+  delivered_as : (m : KeyManagementMode) (k : KeyFamily) → length cek ≡ ciphers.cek_len enc
+      → encrypted_by (way_in k key (written m k)) (written m k) cek ≡ encrypted_by (way_in k key given) given cek
+      → agrees_by (way_in k key (written m k)) key (written m k) cek ≡ true → IsDeliveredIn m k
+  delivered_as m k fits same agrees = (decided enc key (written m k) (encrypted_by (way_in k key given) given cek) (way_in k key (written m k)) cek).1 (fits, (same, agrees))
+
   pub is_delivered : (alg : KeyManagementAlg) → length cek ≡ ciphers.cek_len enc → (is_direct alg ≡ true → cek ≡ key) → length drawn ≡ drawn_by alg
       → (let q = parameters_with drawn p2c in
       let p = parameters_by (management_with alg drawn p2c (key_tag_of (key_alg alg) key q cek)) in
       is_delivered_by (way_in (key_family (key_alg alg)) key p) enc key p (encrypted_key_of (key_alg alg) key q cek) cek ≡ true)
   unfolding key_tag_of encrypted_key_of
   is_delivered alg fits =
-      by_row (λ m n k. (is_direct_in m ≡ true → cek ≡ key) → length drawn ≡ drawn_in m
-      → (let q = parameters_with drawn p2c in
-      let p = parameters_by (delivered_in m drawn p2c (tag_by (way_in k key q) q cek)) in
-      is_delivered_by (way_in k key p) enc key p (encrypted_by (way_in k key q) q cek) cek ≡ true))
-      (λ is long. (decided enc key _ _ _ cek).1 (fits, (refl, (bytes_eq-Decides cek key).1 (is refl))))
-      (λ nk is long. (decided enc key _ _ _ cek).1 (fits, (refl, refl)))
-      (λ f name nk is long. (decided enc key _ _ _ cek).1 (fits, (refl, refl)))
-      (λ nk is long. (decided enc key _ _ _ cek).1 (fits, (refl, (Decides-and _ _ (Decides-eqb (length drawn) 12) (bytes_eq-Decides _ _)).1 (long, refl))))
+      by_row (λ m n k. (is_direct_in m ≡ true → cek ≡ key) → length drawn ≡ drawn_in m → IsDeliveredIn m k)
+      (λ is long. delivered_as mode.Direct direct fits refl ((bytes_eq-Decides cek key).1 (is refl)))
+      (λ nk is long. delivered_as mode.KeyWrap (aes_key_wrap nk) fits refl refl)
+      (λ f name nk is long. delivered_as mode.Password (pbes2 f name nk) fits refl refl)
+      (λ nk is long.
+      let tag : List ℕ = tag_by (way_in (aes_gcm_key_wrap nk) key given) given cek in
+      delivered_as mode.GcmKeyWrap (aes_gcm_key_wrap nk) fits refl ((Decides-and _ _ (Decides-eqb (length drawn) 12) (bytes_eq-Decides tag tag)).1 (long, refl)))
       alg

@@ -80,10 +80,7 @@ module _ (compact : Bool) (keys : List OctetKey) (template : List ℕ) (e : Encr
         laws.opened (content_alg e.encryption) (cek_by e random) (iv_by e random) (additional_authenticated_data (base64url (header_by e random)) e.aad) _ _ p cek iv (record {
           cek_fits = cek_fits;
           iv_fits = length-drop (cek_drawn e) later ∙ omega (arith, after_long e random long);
-          octets = octets;
-          short = short;
-          ciphertext = refl;
-          is_tag = refl;
+          opens = record { octets = octets; short = short; ciphertext = refl; is_tag = refl };
         })
 
     -- they are what is written of it

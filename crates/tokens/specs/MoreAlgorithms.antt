@@ -1,5 +1,5 @@
--- What stays as it is where more algorithms of key management are known: every object whose recipients name none of the further ones, or
--- whose names are known without them.
+-- What stays as it is if more algorithms of key management are known: every object whose recipients name none of the further ones, or
+-- name algorithms that are known without them.
 use Rattle.std.specs.Prelude.{◌≡◌, ◌↔◌, ◌||◌, ℕ, not, is_some, true, Bool, List, [], ◌∷◌, ◌++◌, Option, Ok}
 use Rattle.std.specs.List.{list_all}
 use Rattle.keys.specs.declared.algorithm.KeyManagementAlg.{KeyManagementAlg}
@@ -11,7 +11,9 @@ use Rattle.objects.specs.Jwe.{EncryptedObject, jwe_of}
 use Rattle.objects.specs.Jws.{SignedObject, jws_of}
 use Rattle.tokens.specs.Decrypting.{decrypted}
 
--- the limits before 2.0.0, with the algorithms of this profile
+-- ---- the numbers and algorithms before 2.0.0 (today's: docs/SPECIFICATION.md "Keys")
+
+-- the numbers, with the algorithms of today
 abbrev pub earlier_limits : Limits
 earlier_limits = record {
   keys = 64;
@@ -26,12 +28,14 @@ earlier_limits = record {
   management = management_algs;
 }
 
--- the algorithms of this profile before 2.0.0, and those that came with it: key wrap by AES in GCM (RFC 7518 section 4.7)
+-- the algorithms, and those that came with 2.0.0: key wrap by AES in GCM (RFC 7518 section 4.7)
 abbrev pub earlier_management_algs : List KeyManagementAlg
 earlier_management_algs = Dir ∷ A128Kw ∷ A192Kw ∷ A256Kw ∷ Pbes2Hs256A128Kw ∷ Pbes2Hs384A192Kw ∷ Pbes2Hs512A256Kw ∷ []
 
 abbrev pub gcm_management_algs : List KeyManagementAlg
 gcm_management_algs = A128GcmKw ∷ A192GcmKw ∷ A256GcmKw ∷ []
+
+-- ---- what more algorithms leave as it is (docs/SPECIFICATION.md "Objects" 3)
 
 -- the same limits, with these algorithms
 abbrev pub knowing : Limits → List KeyManagementAlg → Limits

@@ -1,4 +1,4 @@
--- The rows of an algorithm of key management in `keys` and in `ciphers`, which know nothing of one another, are one (RFC 7518 section 4.1).
+-- An algorithm of key management has one row in `keys` and one in `ciphers`. Neither crate uses the other, and a law says that the rows agree.
 use Rattle.std.specs.Prelude.{◌≡◌, ℕ, ◌*◌, List, ⊤}
 use Rattle.ciphers.specs.Algorithms.{KeyFamily, direct, aes_key_wrap, aes_gcm_key_wrap, pbes2, key_family}
 use Rattle.keys.specs.declared.algorithm.KeyManagementAlg.{KeyManagementAlg}
@@ -6,6 +6,8 @@ use Rattle.keys.specs.declared.algorithm.KeyManagementMode.{KeyManagementMode}
 use Rattle.keys.specs.declared.algorithm.KeyManagementMode.TheVariants as mode
 use Rattle.keys.specs.Algorithms.{management_name, mode_of, kek_len}
 use Rattle.tokens.specs.Algorithms.{key_alg}
+
+-- ---- the row of an algorithm in `keys`, by that of its cipher (RFC 7518 sections 4.4, 4.5, 4.7 and 4.8)
 
 abbrev pub mode_in : KeyFamily → KeyManagementMode
 mode_in direct = mode.Direct
@@ -24,6 +26,7 @@ abbrev pub IsNamedIn : KeyFamily → List ℕ → Type 0
 IsNamedIn (pbes2 f salted nk) name = salted ≡ name
 IsNamedIn family name = ⊤
 
+-- the row in `keys` is the one that the cipher has
 pub record HasOneRow (alg : KeyManagementAlg) : Type 0 where
   pub mode : mode_in (key_family (key_alg alg)) ≡ mode_of alg
   pub kek_len : kek_len_in (key_family (key_alg alg)) ≡ kek_len alg

@@ -100,9 +100,9 @@ parts_by s payload = record { payload = payload; signatures = map (signature_by 
 unfoldable pub signed : Limits → Signing → List ℕ → Result SignedObject Refusal
 signed limits s payload = built limits (parts_by s payload)
 
--- ---- the object before there is a payload
+-- ---- the object before there is a payload (RFC 7515 section 5.1, steps 3 and 4)
 
--- what is known of a signature
+-- a signature without its octets
 abbrev pub unsigned_part_by : Members → Signer → SignatureParts
 unsigned_part_by header s = record { protected = protected_by s; header = header; signature = [] }
 

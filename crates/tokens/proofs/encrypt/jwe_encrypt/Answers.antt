@@ -1,6 +1,6 @@
 use Rattle.std.proofs.Common.{rules, map, string_bytes, ap, refl}
 use Rattle.octets.proofs.Lemmas.{not_begun, AppendsPrefixOf-kept, at_refusal, seen_possible}
-use Rattle.ciphers.specs.contracts.sealer.ContentSealerSealer.TheImpl.{is_sealing-value}
+use Rattle.ciphers.specs.contracts.content_alg.ContentSealerSealer.TheImpl.{is_sealing-value}
 use Rattle.tokens.proofs.StandingCiphertexts.{fills_inside, fills_beside}
 use Rattle.tokens.proofs.encrypt.jwe_encrypt.Goals as goal
 

@@ -2,7 +2,7 @@ use Rattle.std.proofs.Common.{◌≡◌, ◌++◌, true, length, map, string_byt
 use Rattle.std.proofs.lemmas.Bool.{le-leb}
 use Rattle.std.proofs.lemmas.List.{length-map}
 use Rattle.keys.specs.Limits.{limits, are_few}
-use Rattle.ciphers.specs.contracts.sealer.ContentSealerSealer.TheImpl.{is_sealing-value}
+use Rattle.ciphers.specs.contracts.content_alg.ContentSealerSealer.TheImpl.{is_sealing-value}
 use Rattle.octets.specs.Devices.{appended}
 use Rattle.octets.proofs.Lemmas.{appended-append}
 use Rattle.tokens.specs.Encrypting.{random_len}
