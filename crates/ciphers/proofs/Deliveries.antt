@@ -1,5 +1,5 @@
 -- The delivery of content encryption keys, by the way that the code goes.
-use Rattle.std.proofs.Common.{◌≡◌, ◌≤◌, ℕ, ◌%◌, ◌&&◌, ◌==◌, Bool, true, List, [], length, refl, sym, ap, ap₂, ◌∙◌, subst, Option, Some, None, IfSome, IfNone, arith}
+use Rattle.std.proofs.Common.{◌≡◌, ◌≤◌, ℕ, ◌%◌, true, List, [], length, refl, sym, ap, ap₂, ◌∙◌, subst, Option, Some, None, IfSome, IfNone, arith}
 use Rattle.std.specs.Bool.{Decides}
 use Rattle.std.proofs.lemmas.Bool.Decides.{Decides-eqb, Decides-and}
 use Rattle.std.proofs.lemmas.Slice.Eq.{bytes_eq-Decides}

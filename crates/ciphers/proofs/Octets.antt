@@ -14,7 +14,6 @@ use Rattle.ciphers.proofs.Deliveries.{decided, gcm_opening}
 use Rattle.ciphers.proofs.Rows.{HasHash, content_row, IsKeyRow, key_row}
 use Rattle.ciphers.proofs.Table.{table_is_half}
 use Rattle.modes.specs.Cbc.{cbc}
-use Rattle.modes.specs.Gcm.{gcm_ciphertext, gcm_tag}
 use Rattle.modes.proofs.Lemmas.{joined_octets, cbc_octets, gcm_ciphertext_octets, gcm_tag_octets}
 use Rattle.octets.specs.Octets.{IsOctets}
 use Rattle.octets.proofs.Lemmas.{IsOctets-nil, IsOctets-take, IsOctets-drop}

@@ -3,7 +3,7 @@ use Rattle.std.proofs.Common.{◌<◌, ◌≡◌, ◌≢◌, ℕ, ◌≤◌, Lis
 use Rattle.std.proofs.lemmas.Bool.{cases_lt}
 use Rattle.std.proofs.lemmas.List.{places}
 use Rattle.octets.specs.Octets.{IsOctets}
-use Rattle.ciphers.specs.Sealing.{Sealing, cbc_tag, cbc_hmac, gcm, Opens}
+use Rattle.ciphers.specs.Sealing.{cbc_tag, cbc_hmac, gcm, Opens}
 use Rattle.ciphers.specs.Views.{HoldsGcmSealing}
 use Rattle.modes.specs.Cbc.{cbc}
 use Rattle.modes.specs.Ctr.{ctr}

@@ -1,5 +1,5 @@
 -- The facts of each row that the laws need: the lengths of content encryption keys, and the hash functions.
-use Rattle.std.proofs.Common.{◌≡◌, ℕ, ◌%◌, ◌≤◌, refl, lit≤}
+use Rattle.std.proofs.Common.{◌≡◌, ◌%◌, ◌≤◌, refl, lit≤}
 use Rattle.std.specs.Bool.{⊤}
 use Rattle.ciphers.specs.Algorithms.{ContentFamily, aes_cbc_hmac, aes_gcm, content_family, KeyFamily, pbes2, key_family}
 use Rattle.ciphers.specs.Sealing.{cek_len_in}

@@ -1,5 +1,5 @@
 -- Content encryption (RFC 7518 sections 5.2 and 5.3).
-use Rattle.std.specs.Prelude.{◌≡◌, ℕ, ◌+◌, ◌*◌, ◌/◌, ◌<◌, ◌≤◌, Option, None, Some, List, ◌++◌, length, take, drop}
+use Rattle.std.specs.Prelude.{◌≡◌, ℕ, ◌*◌, ◌/◌, ◌<◌, Option, None, Some, List, ◌++◌, length, take, drop}
 use Rattle.std.specs.Option.{IsSomeAnd}
 use Rattle.aes.specs.Cipher.{encrypted_block}
 use Rattle.ciphers.specs.Algorithms.{ContentFamily, aes_cbc_hmac, aes_gcm, content_family}

@@ -5,7 +5,7 @@ use Rattle.std.proofs.lemmas.Bool.{lt-leb, not-true, or_parts}
 use Rattle.std.specs.List.{AllByRecursion, list_any}
 use Rattle.std.specs.Option.{unwrap_or}
 use Rattle.octets.specs.Octets.{IsOctets}
-use Rattle.ciphers.specs.Delivery.{key_tag_of, IsDelivered}
+use Rattle.ciphers.specs.Delivery.{IsDelivered}
 use Rattle.octets.proofs.Lemmas.{IsOctets-take, IsOctets-drop}
 use Rattle.ciphers.specs.Sealing.{cek_len, iv_len}
 use Rattle.keys.specs.declared.algorithm.Algorithm.TheVariants.{Encryption as EncryptionWith}
@@ -14,7 +14,7 @@ use Rattle.keys.specs.Keys.{OctetKey, AreOctetKeys, fits}
 use Rattle.objects.proofs.Lemmas.{all_then, all_both}
 use Rattle.tokens.specs.Algorithms.{content_alg, key_alg, parameters_by}
 use Rattle.tokens.specs.Choosing.{RecipientKey, is_direct, is_alone, direct_key_is_alone, EncryptionPlan}
-use Rattle.tokens.specs.Delivering.{drawn_for, drawn_for_all, parameters_with, Delivery, delivery_to, deliveries_to}
+use Rattle.tokens.specs.Delivering.{drawn_for, drawn_for_all, Delivery, delivery_to, deliveries_to}
 use Rattle.tokens.specs.Encrypting.{direct_key, drawn_cek, cek_drawn, random_len, for_recipients, after_recipients, cek_by}
 use Rattle.tokens.proofs.AlgorithmCases.{direct_key_fits, iv_is_octets, is_delivered}
 use Rattle.tokens.proofs.SettledEncryptions.{Receives, Settles}

@@ -1,5 +1,5 @@
 -- The signing that keys and a template settle, and the object that it makes of every payload.
-use Rattle.std.proofs.Common.{◌≡◌, lit≤, ℕ, ◌&&◌, nat_le, Bool, true, List, length, map, None, Ok, refl, sym, ap, ◌∙◌, subst}
+use Rattle.std.proofs.Common.{◌≡◌, lit≤, ℕ, ◌&&◌, nat_le, Bool, true, List, length, map, Ok, refl, sym, ap, ◌∙◌, subst}
 use Rattle.std.proofs.lemmas.Bool.{and_parts, and_from}
 use Rattle.std.proofs.lemmas.List.{length-map}
 use Rattle.std.specs.List.{AllByRecursion, list_all}
@@ -8,9 +8,8 @@ use Rattle.octets.specs.declared.refusal.Refusal.TheVariants.{KeyDoesNotFit, Lim
 use Rattle.octets.specs.Outcomes.{needs}
 use Rattle.octets.specs.Plan.{OutputTexts}
 use Rattle.octets.proofs.Lemmas.{meaning_of_text, steps, passed, same_answer}
-use Rattle.keys.specs.declared.algorithm.SignatureAlg.{SignatureAlg}
 use Rattle.tokens.proofs.AlgorithmCases.{no_management}
-use Rattle.keys.specs.Algorithms.{signature_name, management_alg_among, management_alg_of}
+use Rattle.keys.specs.Algorithms.{signature_name}
 use Rattle.keys.specs.Json.{json_value, member_numbers_are_whole}
 use Rattle.keys.specs.JsonTexts.{AreJsonMembers}
 use Rattle.keys.specs.Keys.{OctetKey}

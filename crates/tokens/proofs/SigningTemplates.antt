@@ -1,11 +1,9 @@
 -- What the text of a template of signatures says, and what it settles of each signer.
-use Rattle.std.proofs.Common.{◌≡◌, ℕ, ◌||◌, Bool, true, false, cond, List, [], ◌∷◌, length, codes, if◌then◌else◌, Option, Some, None, is_some, is_none, Ok, IsUtf8, Ordering, Less, Equal, Greater, nat_cmp, refl, sym, ◌∙◌, ap, subst, arith}
+use Rattle.std.proofs.Common.{◌≡◌, ℕ, ◌||◌, true, false, List, [], ◌∷◌, length, codes, if◌then◌else◌, Option, Some, None, is_some, is_none, Ok, Ordering, Less, Equal, Greater, nat_cmp, refl, sym, ◌∙◌, ap, subst, arith}
 use Rattle.std.proofs.lemmas.Bool.{or_from, or_parts, not-true}
-use Rattle.std.proofs.lemmas.Slice.Eq.{bytes_eq-Decides}
 use Rattle.std.specs.Cmp.Lexicographic.{slice_cmp}
 use Rattle.std.specs.Option.{option_or}
 use Rattle.std.specs.Ordering.{match_ordering}
-use Rattle.std.specs.Str.{bytes_eq}
 use Rattle.serde_json.specs.Data.{Data, Members, no_members, member, string, put}
 use Rattle.serde_json.specs.Find.{get_member, as_str}
 use Rattle.serde_json.proofs.Views.{get_member-put, get_member-put_other}
@@ -22,7 +20,7 @@ use Rattle.objects.proofs.Lemmas.{get_member-all_members, name_is_json}
 use Rattle.octets.proofs.Lemmas.{steps, passed, same_answer}
 use Rattle.tokens.specs.Template.{SignatureTemplate, template_headers, template_of, named_alg, supported, supported_if_there, with_alg}
 use Rattle.tokens.specs.Signing.{Signer, chosen_alg, signer_by}
-use Rattle.tokens.proofs.AlgorithmCases.{signature_named, signature_name_is, signature_is_text}
+use Rattle.tokens.proofs.AlgorithmCases.{signature_name_is, signature_is_text}
 use Rattle.tokens.proofs.HeaderTexts.{members_json}
 
 -- ---- what the headers of a template say
