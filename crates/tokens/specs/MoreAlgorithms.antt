@@ -1,10 +1,12 @@
 -- What stays as it is if more algorithms of key management are known: every object whose recipients name none of the further ones, or
 -- name algorithms that are known without them.
-use Rattle.std.specs.Prelude.{◌≡◌, ◌↔◌, ◌||◌, ℕ, not, is_some, true, Bool, List, [], ◌∷◌, ◌++◌, Option, Ok}
-use Rattle.std.specs.List.{list_all}
+use Rattle.std.specs.Prelude.{◌≡◌, ◌↔◌, ◌||◌, ℕ, not, is_some, true, false, Bool, List, [], ◌∷◌, ◌++◌, Option, Ok}
+use Rattle.std.specs.List.{filter, list_all}
 use Rattle.keys.specs.declared.algorithm.KeyManagementAlg.{KeyManagementAlg}
-use Rattle.keys.specs.declared.algorithm.KeyManagementAlg.TheVariants.{Dir, A128Kw, A192Kw, A256Kw, Pbes2Hs256A128Kw, Pbes2Hs384A192Kw, Pbes2Hs512A256Kw, A128GcmKw, A192GcmKw, A256GcmKw}
-use Rattle.keys.specs.Algorithms.{management_algs, management_alg_among}
+use Rattle.keys.specs.declared.algorithm.KeyManagementAlg.TheVariants.{Dir, A128Kw, A192Kw, A256Kw, Pbes2Hs256A128Kw, Pbes2Hs384A192Kw, Pbes2Hs512A256Kw}
+use Rattle.keys.specs.declared.algorithm.KeyManagementMode.{KeyManagementMode}
+use Rattle.keys.specs.declared.algorithm.KeyManagementMode.TheVariants.{GcmKeyWrap}
+use Rattle.keys.specs.Algorithms.{management_algs, management_alg_among, mode_of}
 use Rattle.keys.specs.Keys.{OctetKey}
 use Rattle.keys.specs.Limits.{Limits}
 use Rattle.objects.specs.Jwe.{EncryptedObject, jwe_of}
@@ -28,12 +30,17 @@ earlier_limits = record {
   management = management_algs;
 }
 
--- the algorithms, and those that came with 2.0.0: key wrap by AES in GCM (RFC 7518 section 4.7)
+-- the algorithms
 abbrev pub earlier_management_algs : List KeyManagementAlg
 earlier_management_algs = Dir ∷ A128Kw ∷ A192Kw ∷ A256Kw ∷ Pbes2Hs256A128Kw ∷ Pbes2Hs384A192Kw ∷ Pbes2Hs512A256Kw ∷ []
 
+-- those that came with 2.0.0: key wrap by AES in GCM (RFC 7518 section 4.7)
+abbrev pub is_gcm_key_wrap : KeyManagementMode → Bool
+is_gcm_key_wrap GcmKeyWrap = true
+is_gcm_key_wrap mode = false
+
 abbrev pub gcm_management_algs : List KeyManagementAlg
-gcm_management_algs = A128GcmKw ∷ A192GcmKw ∷ A256GcmKw ∷ []
+gcm_management_algs = filter (λ alg. is_gcm_key_wrap (mode_of alg)) management_algs
 
 -- ---- what more algorithms leave as it is (docs/SPECIFICATION.md "Objects" 3)
 
