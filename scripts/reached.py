@@ -20,7 +20,7 @@ It reads words and not meanings, so it may take the name of a variable for a def
 import collections, glob, os, re, shutil, sys
 
 sys.dont_write_bytecode = True
-from sources import ROOT, block_end, text_at, tokens_of
+from lib.sources import ROOT, block_end, text_at, tokens_of
 
 RUN = "jose/src/run.rt"
 ORDER, NUMBERS, OTHERS = "The pages in reading order", "Tables and numbers", "What need not be read"

@@ -1,7 +1,7 @@
 """What the scripts share that try the program and what is written of it: where these stand, and the counts of what passed and failed."""
 import os, pathlib, sys
 
-TOP = pathlib.Path(__file__).resolve().parent.parent
+TOP = pathlib.Path(__file__).resolve().parents[2]
 PROGRAM = TOP / "crates/jose/out/jose"
 # Where the lines go.
 out = sys.stdout

@@ -1,6 +1,6 @@
 # What the scripts share that try the program: where it stands, a new folder, $work, which goes when the script ends, and the counts
 # of what passed and failed. A script sources this before it changes its folder.
-top=$(cd "$(dirname "${BASH_SOURCE[0]}")/.." && pwd)
+top=$(cd "$(dirname "${BASH_SOURCE[0]}")/../.." && pwd)
 jose=$top/crates/jose/out/jose
 work=$(mktemp -d)
 trap 'rm -rf "$work"' EXIT

@@ -3,8 +3,8 @@ None where it is nothing to this text.
 """
 import functools, json, re
 
-import answers
-from answers import Members, Raw, Refused, b64
+from lib import answers
+from lib.answers import Members, Raw, Refused, b64
 
 # No text grows beyond this.
 MOST = 4 << 20

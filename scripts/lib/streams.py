@@ -1,7 +1,7 @@
 #!/usr/bin/env python3
 """Runs a command with a standard stream that no shell makes, and ends with its status.
 
-usage: scripts/streams.py HOW COUNT FILE COMMAND..
+usage: scripts/lib/streams.py HOW COUNT FILE COMMAND..
 
 Standard input gives the first COUNT octets of the file, and then fails: `hung-up` is a terminal that is hung up; `unready` a non-blocking
 pipe whose writer is there and writes no more; `reset` a socket that its other end has reset, which fails in one read and is at its end in

@@ -3,7 +3,7 @@ without tests, which are the modules under `#[cfg(test)]`.
 """
 import collections, os, re
 
-ROOT = os.path.dirname(os.path.dirname(os.path.abspath(__file__)))
+ROOT = os.path.dirname(os.path.dirname(os.path.dirname(os.path.abspath(__file__))))
 Token = collections.namedtuple("Token", "text line")
 # A function with its signature, or all that is outside of functions in a file, whose function is then "".
 Part = collections.namedtuple("Part", "path function tokens")

@@ -2,7 +2,7 @@
 file of the repository, so it cannot compare one."""
 import collections, re, subprocess, sys
 
-from trial import TOP
+from lib.trial import TOP
 
 # What an option takes (`flag`, `required`, `optional` or `default`), its default, and what its value names (`input`, `output` or `neither`).
 Option = collections.namedtuple("Option", "kind default role")

@@ -21,7 +21,7 @@ What it cannot see:
 """
 import collections, os
 
-from sources import ROOT, block_end, parts, text_at, tokens_of
+from lib.sources import ROOT, block_end, parts, text_at, tokens_of
 
 COMPARING = ("modes", "ciphers", "tokens")
 PASSING = ("crates/octets/src/streams", "crates/jose/src/files", "crates/jose/src/system")
@@ -309,12 +309,12 @@ def compare(crates, fault):
     for (path, function), codes in lost.items():
         for code in codes:
             shown = code if len(code) <= 160 else code[:158] + ".."
-            fault(f"{path}, {function or 'outside of functions'}: the code of a row in scripts/origins.py is there {rows[path, function][code]} times, "
+            fault(f"{path}, {function or 'outside of functions'}: the code of a row in scripts/lib/origins.py is there {rows[path, function][code]} times, "
                   f"and not once: `{shown}`; put it back, or change the row")
     for part, line, advice, found in without:
         # What is still there of such a row is no fault of its own.
         here = spelled(it for it in part.tokens if it.line == line)
         if not any(here in spelled(tokens_of(code)) for code in lost.get((part.path, part.function), [])):
             fault(f"{part.path}, line {line}, {part.function or 'outside of functions'}: `{line_of(part.path, line)}` uses {', '.join(dict.fromkeys(found))} "
-                  f"without a row in scripts/origins.py: {ADVICE[advice]}")
+                  f"without a row in scripts/lib/origins.py: {ADVICE[advice]}")
     return len(PLACES)

@@ -1,0 +1,1 @@
+"""What only other scripts use."""
