@@ -1,84 +1,188 @@
-#!/usr/bin/env python3
-"""Runs a command with a standard stream that no shell makes, and ends with its status.
+"""Ways to run a command with standard streams that no redirection makes.
 
-usage: scripts/lib/streams.py HOW COUNT FILE COMMAND..
-
-Standard input gives the first COUNT octets of the file, and then fails: `hung-up` is a terminal that is hung up; `unready` a non-blocking
-pipe whose writer is there and writes no more; `reset` a socket that its other end has reset, which fails in one read and is at its end in
-the next. `ended` is the pipe without a writer, which ends. `full` is a standard output that is a non-blocking pipe with room for COUNT
-octets, and `cut-off` one that is a connection which its other end has reset; the file is not read for these two. What the command wrote to
-the pipe is written to standard output.
+Each is a function of `start`, which starts the command with the given streams in place of its usual ones. It returns the octets that came
+from the command, by the name of the file to which lib/rows.py writes them.
 """
-import os, socket, struct, subprocess, sys
+import os, socket, struct, subprocess, time, tty
 
-how, count, path, *command = sys.argv[1:]
-
-
-def beginning():
-    with open(path, "rb") as file:
-        return file.read(int(count))
+PIPE = os.O_NONBLOCK | os.O_CLOEXEC
 
 
-def run(**streams):
-    return subprocess.run(command, **streams).returncode
+def as_usual(start):
+    start()
 
 
-def hung_up():
-    import tty
+def beginning(file, count):
+    with open(file, "rb") as it:
+        return it.read(count)
+
+
+def rest_of(descriptor):
+    """What can be read until the end, after which the descriptor is closed."""
+    with open(descriptor, "rb") as it:
+        return it.read()
+
+
+# ---- standard inputs that fail after the first octets of a file
+
+
+def hung_up(start, file, count):
+    """A terminal that is hung up."""
     terminal, line = os.openpty()
     tty.setraw(line)
-    with subprocess.Popen(command, stdin=terminal) as running:
-        rest = beginning()
-        while rest:
-            rest = rest[os.write(line, rest):]
-        os.close(line)
-    return running.returncode
+    start(stdin=terminal)
+    rest = beginning(file, count)
+    while rest:
+        rest = rest[os.write(line, rest):]
+    os.close(line)
+    os.close(terminal)
 
 
-def piped(ends):
-    reading, writing = os.pipe2(os.O_NONBLOCK | os.O_CLOEXEC)
-    octets = beginning()
-    if os.write(writing, octets) != len(octets):
-        sys.exit("the pipe has too little room")
-    if ends:
-        os.close(writing)
-    return run(stdin=reading)
+def unready(start, file, count):
+    """A non-blocking pipe whose writer is there and writes no more."""
+    reading, writing = os.pipe2(PIPE)
+    os.write(writing, beginning(file, count))
+    start(stdin=reading).wait()
+    os.close(writing)
+    os.close(reading)
 
 
-def reset():
+def ended(start, file, count):
+    """A non-blocking pipe without a writer, which ends and does not fail."""
+    reading, writing = os.pipe2(PIPE)
+    os.write(writing, beginning(file, count))
+    os.close(writing)
+    start(stdin=reading)
+    os.close(reading)
+
+
+def reset(start, file, count):
+    """A socket that its other end has reset. One read fails, and the next one is at the end."""
     near, far = socket.socketpair()
-    far.sendall(beginning())
+    far.sendall(beginning(file, count))
     # Closing an end with octets that it did not read resets the other.
     near.send(b"unread")
     far.close()
-    return run(stdin=near)
+    start(stdin=near)
+    near.close()
 
 
-def full():
-    reading, writing = os.pipe2(os.O_NONBLOCK | os.O_CLOEXEC)
+# ---- standard outputs
+
+
+def full(start, room):
+    """A non-blocking pipe with room for so many octets."""
+    reading, writing = os.pipe2(PIPE)
     before = 0
     try:
         while True:
             before += os.write(writing, bytes(4096))
     except BlockingIOError:
         pass
-    if int(count):
-        before -= len(os.read(reading, int(count)))
-    status = run(stdout=writing)
+    if room:
+        before -= len(os.read(reading, room))
+    start(stdout=writing).wait()
     os.close(writing)
-    with open(reading, "rb") as pipe:
-        sys.stdout.buffer.write(pipe.read()[before:])
-    return status
+    return {"out": rest_of(reading)[before:]}
 
 
-def cut_off():
+def cut_off(start):
+    """A connection that its other end has reset."""
     with socket.create_server(("127.0.0.1", 0)) as server:
         near = socket.create_connection(server.getsockname())
         far, _ = server.accept()
     far.setsockopt(socket.SOL_SOCKET, socket.SO_LINGER, struct.pack("ii", 1, 0))
     far.close()
-    return run(stdout=near)
+    start(stdout=near)
+    near.close()
 
 
-ways = {"hung-up": hung_up, "unready": lambda: piped(False), "ended": lambda: piped(True), "reset": reset, "full": full, "cut-off": cut_off}
-sys.exit(ways[how]())
+def to_pipe(start):
+    """A pipe that is read to its end."""
+    with start(stdout=subprocess.PIPE) as process:
+        return {"out": process.stdout.read()}
+
+
+def to_short_pipe(start, count):
+    """A pipe whose reader goes after so many octets."""
+    with start(stdout=subprocess.PIPE) as process:
+        return {"out": process.stdout.read(count)}
+
+
+def to_no_reader(start):
+    """A pipe whose reader has gone."""
+    reading, writing = os.pipe()
+    os.close(reading)
+    start(stdout=writing)
+    os.close(writing)
+
+
+def on_terminal(start):
+    """A terminal as all three standard streams."""
+    terminal, line = os.openpty()
+    start(stdin=line, stdout=line, stderr=line, has_terminal=True)
+    os.close(line)
+    came = b""
+    try:
+        while piece := os.read(terminal, 4096):
+            came += piece
+    except OSError:
+        # A terminal that no process has open fails, and does not end.
+        pass
+    os.close(terminal)
+    return {"out": came}
+
+
+# ---- standard inputs that others read too, and files and pipes that change meanwhile
+
+
+def leaving(start, file):
+    """A file, of which the command leaves the rest."""
+    reading = os.open(file, os.O_RDONLY)
+    start(stdin=reading).wait()
+    return {"left": rest_of(reading)}
+
+
+def leaving_pipe(start, file, times=1):
+    """A pipe with the octets of the file, of which the command, or several runs of it, leaves the rest."""
+    reading, writing = os.pipe()
+    with open(file, "rb") as it:
+        os.write(writing, it.read())
+    os.close(writing)
+    for _ in range(times):
+        if start(stdin=reading).wait():
+            break
+    return {"left": rest_of(reading)}
+
+
+def by_named_pipes(start, file=None):
+    """The pipe `into` has the octets of the file meanwhile, and what the command writes to the pipe `outof` is what came."""
+    feeder = subprocess.Popen(["timeout", "20", "sh", "-c", 'exec cat "$1" >into', "-", file]) if file else None
+    with subprocess.Popen(["timeout", "20", "cat", "outof"], stdout=subprocess.PIPE) as reader:
+        start()
+        came = reader.stdout.read()
+    if feeder:
+        feeder.wait()
+    return {"out": came}
+
+
+def cutting(start, file, length):
+    """The file is cut to this length after its first octet came through the pipe that is standard output."""
+    with start(stdout=subprocess.PIPE, bufsize=0) as process:
+        first = process.stdout.read(1)
+        os.truncate(file, length)
+        return {"out": first + b"".join(iter(lambda: process.stdout.read(1 << 16), b""))}
+
+
+def while_open(start, octets, output):
+    """The named pipe `pipe` has these octets. What the output holds while the pipe is still open is what came."""
+    writing = os.open("pipe", os.O_RDWR)
+    os.write(writing, octets)
+    start()
+    for _ in range(100):
+        if os.path.exists(output) and os.path.getsize(output):
+            break
+        time.sleep(0.1)
+    came = beginning(output, 1) if os.path.exists(output) else b""
+    os.close(writing)
+    return {"out": came}
