@@ -20,7 +20,7 @@ It reads words and not meanings, so it may take the name of a variable for a def
 import collections, glob, os, re, shutil, sys
 
 sys.dont_write_bytecode = True
-from lib.sources import ROOT, block_end, text_at, tokens_of
+from lib.sources import CRATES, ROOT, block_end, fault, faults, text_at, tokens_of
 
 RUN = "jose/src/run.rt"
 ORDER, NUMBERS, OTHERS = "The pages in reading order", "Tables and numbers", "What need not be read"
@@ -313,13 +313,9 @@ def reach(library, roots):
 # ---- the promises, and docs/AUDIT.md
 
 
-def crates():
-    return re.findall(r"^([a-z]+):", read(os.path.join(ROOT, "crates.txt")), re.M)
-
-
 def promises(library):
     """What the contract of `run` names, and what the laws do."""
-    laws = (f"{crate}/src/laws.rt" for crate in crates())
+    laws = (f"{crate}/src/laws.rt" for crate in CRATES)
     return library.contracts(RUN), set().union(*(library.contracts(it) for it in laws if library.find(it)))
 
 
@@ -343,7 +339,7 @@ def page_text(name):
     return read(path) if os.path.exists(path) else ""
 
 
-def compare_pages(text, reached, others, fault):
+def compare_pages(text, reached, others):
     rows = [it for line in section(text, ORDER).split("\n") if line.startswith("|") for it in re.findall(r"`(\w+/\w+)`", line)]
     left_out = set(re.findall(r"`(\w+/\w+)`", section(text, OTHERS)))
     for page in sorted(reached | others | set(rows) | left_out):
@@ -363,7 +359,7 @@ def cells(text, heading, column):
     return " ".join(row[column] for row in rows if len(row) > column)
 
 
-def compare_names(library, fault):
+def compare_names(library):
     """Each definition, law and test that the pages name is there."""
     laws_and_tests = set()
     for path in glob.glob(os.path.join(ROOT, "crates/*/src/**/*.rt"), recursive=True):
@@ -375,21 +371,21 @@ def compare_names(library, fault):
     for name in re.findall(r"`(\w+_\w+)`", cells(audit, ORDER, 4) + cells(audit, NUMBERS, 2)):
         if name not in laws_and_tests:
             fault(f"docs/AUDIT.md names {name}, which is no law and no test")
-    for crate, page, name in re.findall(rf"`({'|'.join(crates())})/(\w+)\.([^\s`]+)`", audit + page_text("STEPS")):
+    for crate, page, name in re.findall(rf"`({'|'.join(CRATES)})/(\w+)\.([^\s`]+)`", audit + page_text("STEPS")):
         target = library.target(f"{crate}.specs.{page}", name)
         if target != ("definition", f"{crate}.specs.{page}", name):
             fault(f"docs/AUDIT.md or docs/STEPS.md names {crate}/{page}.{name}, which is not there")
 
 
-def compare(fault):
+def compare():
     """Compares docs/AUDIT.md with the promises, and counts; it gives a line of the counts."""
     library = Library(os.path.join(ROOT, "crates"))
     by_run, by_laws = promises(library)
     reached = reach(library, by_run | by_laws)
     pages = {f"{it.split('/')[-3]}/{it.split('/')[-1][:-len('.antt')]}" for it in glob.glob(os.path.join(ROOT, "crates/*/specs/*.antt"))}
     reached_pages = {module.replace(".specs.", "/") for module, _ in reached}
-    compare_pages(page_text("AUDIT"), reached_pages, {it for it in pages - reached_pages if not it.endswith("/Lib")}, fault)
-    compare_names(library, fault)
+    compare_pages(page_text("AUDIT"), reached_pages, {it for it in pages - reached_pages if not it.endswith("/Lib")})
+    compare_names(library)
     definitions = [(module, library.page(module).definitions[name]) for module, name in reached]
     cites = citation()
     bare = [module for module, it in definitions if not cites.search(it.comment) and not cites.search(it.group)]
@@ -430,13 +426,7 @@ def main():
         return show()
     if sys.argv[1:] == ["--kit"]:
         return show_kit()
-    faults = []
-
-    def fault(what):
-        faults.append(what)
-        print(f"FAILED: {what}")
-
-    print(compare(fault))
+    print(compare())
     sys.exit(1 if faults else 0)
 
 

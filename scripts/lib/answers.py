@@ -5,6 +5,8 @@ no cipher here: what an encrypted object opens to is looked up by all that goes 
 """
 import base64, collections, hashlib, hmac, json, re
 
+from lib.texts import b64
+
 NAMES = {
     1: "Usage", 2: "Read", 3: "Write", 4: "Memory", 5: "Random", 6: "Base64", 7: "Json", 8: "Number", 9: "Key", 10: "Form", 11: "Header",
     12: "Unsupported", 13: "NoAlgorithm", 14: "KeyDoesNotFit", 15: "Limit", 16: "NotCompact", 17: "NotOpened",
@@ -59,10 +61,6 @@ def needs(holds, number):
 
 
 # ---- octets and texts
-
-def b64(octets):
-    return base64.urlsafe_b64encode(octets).rstrip(b"=")
-
 
 def octets_of(text):
     """The octets of a base64url text."""

@@ -4,7 +4,8 @@ None where it is nothing to this text.
 import functools, json, re
 
 from lib import answers
-from lib.answers import Members, Raw, Refused, b64
+from lib.answers import Members, Raw, Refused
+from lib.texts import b64
 
 # No text grows beyond this.
 MOST = 4 << 20

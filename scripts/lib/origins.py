@@ -21,7 +21,7 @@ What it cannot see:
 """
 import collections, os
 
-from lib.sources import ROOT, block_end, parts, text_at, tokens_of
+from lib.sources import CRATES, ROOT, block_end, fault, parts, text_at, tokens_of
 
 COMPARING = ("modes", "ciphers", "tokens")
 PASSING = ("crates/octets/src/streams", "crates/jose/src/files", "crates/jose/src/system")
@@ -290,12 +290,12 @@ def line_of(path, number):
         return file.read().split("\n")[number - 1].strip()
 
 
-def compare(crates, fault):
+def compare():
     """Reports each row whose code is not there once, and each place without a row; answers how many rows there are."""
     rows, without = collections.defaultdict(dict), []
     for path, function, code, _ in PLACES:
         rows[f"crates/{path}", function][code] = 0
-    for part in (it for crate in crates for it in parts(crate)):
+    for part in (it for crate in CRATES for it in parts(crate)):
         covered, counts, left = set(), rows.get((part.path, part.function), {}), collections.defaultdict(list)
         for code in counts:
             places, count = found_in(part, code)

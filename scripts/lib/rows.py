@@ -2,9 +2,9 @@
 import dataclasses, fcntl, os, re, resource, shutil, signal, subprocess, sys, termios
 
 from lib import streams
-from lib.trial import PROGRAM, check
+from lib.trial import check, program
 
-JOSE = os.path.abspath(sys.argv[1]) if sys.argv[1:] else str(PROGRAM)
+JOSE = program(sys.argv[1:])
 FLAGS = {"<": os.O_RDONLY, ">": os.O_WRONLY | os.O_CREAT | os.O_TRUNC, ">>": os.O_WRONLY | os.O_CREAT | os.O_APPEND, "<>": os.O_RDWR | os.O_CREAT}
 
 

@@ -3,7 +3,10 @@ without tests, which are the modules under `#[cfg(test)]`.
 """
 import collections, os, re
 
-ROOT = os.path.dirname(os.path.dirname(os.path.dirname(os.path.abspath(__file__))))
+from lib.trial import TOP
+
+ROOT = str(TOP)
+CRATES = re.findall(r"^([a-z]+):", (TOP / "crates.txt").read_text(), re.M)
 Token = collections.namedtuple("Token", "text line")
 # A function with its signature, or all that is outside of functions in a file, whose function is then "".
 Part = collections.namedtuple("Part", "path function tokens")
@@ -19,6 +22,15 @@ TOKEN = re.compile(r"""
 OPENING, CLOSING = "([{", ")]}"
 # The attributes that are left out, since they make no code.
 HINTS = {"cfg", "cycle", "inline", "tactic"}
+
+
+# What was found to be wrong.
+faults = []
+
+
+def fault(what):
+    faults.append(what)
+    print(f"FAILED: {what}")
 
 
 def tokens_of(text):

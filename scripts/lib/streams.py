@@ -38,22 +38,21 @@ def hung_up(start, file, count):
     os.close(terminal)
 
 
-def unready(start, file, count):
+def unready(start, file, count, ends=False):
     """A non-blocking pipe whose writer is there and writes no more."""
     reading, writing = os.pipe2(PIPE)
     os.write(writing, beginning(file, count))
+    if ends:
+        os.close(writing)
     start(stdin=reading).wait()
-    os.close(writing)
     os.close(reading)
+    if not ends:
+        os.close(writing)
 
 
 def ended(start, file, count):
-    """A non-blocking pipe without a writer, which ends and does not fail."""
-    reading, writing = os.pipe2(PIPE)
-    os.write(writing, beginning(file, count))
-    os.close(writing)
-    start(stdin=reading)
-    os.close(reading)
+    """The same pipe without a writer. It ends, and does not fail."""
+    unready(start, file, count, True)
 
 
 def reset(start, file, count):

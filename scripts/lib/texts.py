@@ -15,8 +15,12 @@ def octets_of(text):
     return base64.urlsafe_b64decode(text + b"=" * (-len(text) % 4))
 
 
-def oct_key(octets):
-    return b'{"kty":"oct","k":"%s"}' % b64(octets)
+def oct_key(octets, **members):
+    return json.dumps({"kty": "oct", "k": b64(octets).decode()} | members, separators=(",", ":")).encode()
+
+
+def key_set(*keys):
+    return b'{"keys":[%s]}' % b",".join(keys)
 
 
 def thumbprint(key):

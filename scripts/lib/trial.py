@@ -1,5 +1,5 @@
 """What the scripts share that try the program and what is written of it: where these stand, and the counts of what passed and failed."""
-import os, pathlib, sys
+import os, pathlib, subprocess, sys
 
 TOP = pathlib.Path(__file__).resolve().parents[2]
 PROGRAM = TOP / "crates/jose/out/jose"
@@ -12,6 +12,21 @@ def needs(program):
     """Ends the script where the program is not built."""
     if not os.access(program, os.X_OK):
         sys.exit("run make build first")
+
+
+def program(words):
+    """The path in the first of these words, or that of the program that `make build` made. Ends the script if there is none."""
+    path = os.path.abspath(words[0]) if words else str(PROGRAM)
+    needs(path)
+    return path
+
+
+def works(function, *arguments):
+    """Whether the machine lets this be done."""
+    try:
+        return bool(function(*arguments))
+    except (OSError, subprocess.SubprocessError):
+        return False
 
 
 def tell(line):

@@ -1,19 +1,11 @@
-"""What scripts/interop asks of jwcrypto: a JSON request in each line of standard input, a JSON answer in each line of standard output."""
-import base64
+"""What scripts/interop asks of jwcrypto."""
 import json
-import sys
 
 from jwcrypto import jwe, jwk, jws
 
+from peer import octets, serve, text_of
+
 ALGORITHMS = jwe.default_allowed_algs
-
-
-def octets(text):
-    return base64.urlsafe_b64decode(text + '=' * (-len(text) % 4))
-
-
-def text_of(some):
-    return base64.urlsafe_b64encode(some).rstrip(b'=').decode()
 
 
 def key(k):
@@ -65,10 +57,4 @@ def decrypt(ask):
     return text_of(token.payload)
 
 
-for line in sys.stdin:
-    asked = json.loads(line)
-    try:
-        answer = {'ok': globals()[asked['do']](asked)}
-    except Exception as error:
-        answer = {'refused': repr(error)}
-    print(json.dumps(answer), flush=True)
+serve(globals())
