@@ -282,6 +282,16 @@ def pairs(tree):
     return [pair for one in objects(tree) for pair in one]
 
 
+class NothingThere(Exception):
+    """A change finds nothing in this text that it could change."""
+
+
+def one_of(rng, found):
+    if not found:
+        raise NothingThere
+    return rng.choice(found)
+
+
 def of_tree(change):
     """A change of a JSON text, by a function that changes its tree and gives True, or gives the text itself, or None."""
 
@@ -290,7 +300,10 @@ def of_tree(change):
         tree = tree_of(text)
         if not isinstance(tree, list) or not places(tree):
             return None
-        done = change(rng, tree)
+        try:
+            done = change(rng, tree)
+        except NothingThere:
+            return None
         return None if done is None else (dump(tree) if done is True else done).encode()
 
     return changed
@@ -313,10 +326,7 @@ def put(rng, tree, value):
 
 @of_tree
 def member_doubled(rng, tree):
-    holders = [one for one in objects(tree) if one]
-    if not holders:
-        return None
-    holder = rng.choice(holders)
+    holder = one_of(rng, [one for one in objects(tree) if one])
     name, old = rng.choice(holder)
     holder.insert(rng.randrange(len(holder) + 1), [name, rng.choice([old, any_value(rng, old)])])
     return True
@@ -324,10 +334,7 @@ def member_doubled(rng, tree):
 
 @of_tree
 def member_dropped(rng, tree):
-    holders = [one for one in objects(tree) if one]
-    if not holders:
-        return None
-    holder = rng.choice(holders)
+    holder = one_of(rng, [one for one in objects(tree) if one])
     holder.pop(rng.randrange(len(holder)))
     return True
 
@@ -352,18 +359,14 @@ def tree_is_finite(tree):
 
 @of_tree
 def member_renamed(rng, tree):
-    if not pairs(tree):
-        return None
-    pair = rng.choice(pairs(tree))
+    pair = one_of(rng, pairs(tree))
     pair[0] = rng.choice([rng.choice(MEMBER_NAMES), pair[0] + "x", pair[0][:-1], pair[0].upper(), pair[0] + "\0"])
     return True
 
 
 @of_tree
 def member_added(rng, tree):
-    if not objects(tree):
-        return None
-    holder = rng.choice(objects(tree))
+    holder = one_of(rng, objects(tree))
     holder.insert(rng.randrange(len(holder) + 1), [rng.choice(MEMBER_NAMES), any_value(rng)])
     return True
 
@@ -407,9 +410,7 @@ def iterations_put(rng, tree):
 
 @of_tree
 def long_name(rng, tree):
-    if not objects(tree):
-        return None
-    holder = rng.choice(objects(tree))
+    holder = one_of(rng, objects(tree))
     name = rng.choice(["A", "\u00e9", "\0"]) * (rng.choice(LENGTHS) // 6)
     if holder and rng.random() < 0.5:
         rng.choice(holder)[0] = name
@@ -443,10 +444,7 @@ def half_of_a_surrogate_pair(rng, tree):
 
 @of_tree
 def word_changed(rng, tree):
-    found = [pair for pair in pairs(tree) if pair[0] in WORDS]
-    if not found:
-        return None
-    pair = rng.choice(found)
+    pair = one_of(rng, [pair for pair in pairs(tree) if pair[0] in WORDS])
     pair[1] = rng.choice(WORDS[pair[0]])
     return True
 
@@ -466,10 +464,7 @@ def header_of(value):
 def moved(rng, tree):
     """A member of one header goes to another."""
     found = [(pair, header_of(pair[1])) for pair in pairs(tree) if pair[0] in HEADERS]
-    sources = [(pair, members) for pair, members in found if members]
-    if not sources:
-        return None
-    source, members = rng.choice(sources)
+    source, members = one_of(rng, [(pair, members) for pair, members in found if members])
     others = [(pair, one) for pair, one in found if pair is not source and one is not None]
     target, other = rng.choice(others) if others else ([rng.choice([name for name in HEADERS if name != source[0]]), Members()], Members())
     if not others:
@@ -548,10 +543,7 @@ def escaped(rng, tree):
 
 @of_tree
 def repeated_before(rng, tree):
-    holders = [one for one in objects(tree) if one]
-    if not holders:
-        return None
-    holder = rng.choice(holders)
+    holder = one_of(rng, [one for one in objects(tree) if one])
     place = rng.randrange(len(holder))
     holder.insert(rng.randrange(place + 1), [holder[place][0], any_value(rng)])
     return True
