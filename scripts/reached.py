@@ -20,7 +20,7 @@ It reads words and not meanings, so it may take the name of a variable for a def
 import collections, glob, os, re, shutil, sys
 
 sys.dont_write_bytecode = True
-from lib.sources import CRATES, ROOT, block_end, fault, faults, text_at, tokens_of
+from lib.sources import CRATES, ROOT, block_end, fault, faults, read, text_at, tokens_of
 
 RUN = "jose/src/run.rt"
 ORDER, NUMBERS, OTHERS = "The pages in reading order", "Tables and numbers", "What need not be read"
@@ -32,11 +32,6 @@ Page = collections.namedtuple("Page", "path head names aliases definitions")
 WORD = re.compile(r'"(?:\\.|[^"\\])*"|[(){}\[\];,λ∷.]|[^\s(){}\[\];,λ∷."]+')
 DECLARED_BY = ("struct", "enum", "trait", "type")
 KEYWORDS = {"abbrev", "opaque", "unfoldable", "pub", "record", "data", "where", "mutual", "let", "in", "unfolding"}
-
-
-def read(path):
-    with open(path, encoding="utf-8") as file:
-        return file.read()
 
 
 # ---- pages of definitions

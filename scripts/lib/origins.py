@@ -21,7 +21,7 @@ What it cannot see:
 """
 import collections, os
 
-from lib.sources import CRATES, ROOT, block_end, fault, parts, text_at, tokens_of
+from lib.sources import CRATES, ROOT, block_end, fault, parts, read, text_at, tokens_of
 
 COMPARING = ("modes", "ciphers", "tokens")
 PASSING = ("crates/octets/src/streams", "crates/jose/src/files", "crates/jose/src/system")
@@ -286,8 +286,7 @@ def found_in(part, code):
 
 
 def line_of(path, number):
-    with open(os.path.join(ROOT, path), encoding="utf-8") as file:
-        return file.read().split("\n")[number - 1].strip()
+    return read(os.path.join(ROOT, path)).split("\n")[number - 1].strip()
 
 
 def compare():

@@ -33,6 +33,11 @@ def fault(what):
     print(f"FAILED: {what}")
 
 
+def read(path):
+    with open(path, encoding="utf-8") as file:
+        return file.read()
+
+
 def tokens_of(text):
     """All tokens of a text, but for white space and comments."""
     found, line, at = [], 1, 0
@@ -134,8 +139,7 @@ def parts(crate):
     for path in sorted(paths, key=lambda it: (it.count("/"), not it.endswith(("/lib.rt", "/main.rt", "/mod.rt")), it)):
         if any(path == f"{it}.rt" or path.startswith(f"{it}/") for it in tests):
             continue
-        with open(path, encoding="utf-8") as file:
-            code, of_tests = code_of(tokens_of(file.read()))
+        code, of_tests = code_of(tokens_of(read(path)))
         room = path[:-len(".rt")] if not path.endswith(("/lib.rt", "/main.rt", "/mod.rt")) else os.path.dirname(path)
         tests += [os.path.join(room, it) for it in of_tests]
         yield from parts_of(os.path.relpath(path, ROOT), code)

@@ -96,20 +96,14 @@ def cut_off(start):
     near.close()
 
 
-def to_pipe(start):
-    """A pipe that is read to its end."""
-    with start(stdout=subprocess.PIPE) as process:
-        return {"out": process.stdout.read()}
-
-
-def to_short_pipe(start, count):
-    """A pipe whose reader goes after so many octets."""
+def to_pipe(start, count=-1):
+    """A pipe that is read to its end, or whose reader goes away after so many octets."""
     with start(stdout=subprocess.PIPE) as process:
         return {"out": process.stdout.read(count)}
 
 
 def to_no_reader(start):
-    """A pipe whose reader has gone."""
+    """A pipe whose reader has gone away."""
     reading, writing = os.pipe()
     os.close(reading)
     start(stdout=writing)

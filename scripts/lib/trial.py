@@ -1,15 +1,15 @@
-"""What the scripts share that try the program and what is written of it: where these stand, and the counts of what passed and failed."""
+"""What the Python scripts share: the paths of the repository and of the program, and the counts of what passed and failed."""
 import os, pathlib, subprocess, sys
 
 TOP = pathlib.Path(__file__).resolve().parents[2]
 PROGRAM = TOP / "crates/jose/out/jose"
-# Where the lines go.
+# Where the lines are written.
 out = sys.stdout
 passed = failed = 0
 
 
 def needs(program):
-    """Ends the script where the program is not built."""
+    """Ends the script if the program is not built."""
     if not os.access(program, os.X_OK):
         sys.exit("run make build first")
 
@@ -46,16 +46,16 @@ def fails(what):
 
 
 def check(what, problems):
-    """Counts whether something holds; the problems say why not."""
+    """Counts this as passed, or as failed if there are problems."""
     fails(f"{what}: {'; '.join(problems)}") if problems else passes(what)
 
 
 def left_out(what, why):
-    """Says what is not tried on this machine, which is no failure."""
+    """Prints that this is not tried on this machine, which is no failure."""
     tell(f"left out: {what}, since {why}")
 
 
 def end():
-    """The last line of the script, and its status."""
+    """Prints the last line of the script, and ends it."""
     tell(f"{passed} passed, {failed} failed")
     sys.exit(failed != 0)
