@@ -1,0 +1,99 @@
+"""Compares the limits that the pages, the documents and the recipes state with the code's.
+
+A limit is found by the words around it, those of `STATED`. A number of three digits or more that is a limit's and stands in other words fails
+too: then its words belong to `STATED`, or to `OTHERS` if it is no limit. docs/PERFORMANCE.md, docs/DECISIONS.md and CHANGELOG.md are not
+compared, since they say what was measured, chosen and changed.
+"""
+import re
+
+from lib.manual import plain
+from lib.trial import TOP, check
+
+TEXTS = ["README.md", "SECURITY.md", "docs/SPECIFICATION.md", "docs/LIBRARY.md", "docs/FROM-LATCHSET.md", "docs/ARCHITECTURE.md", "docs/PROOFS.md"]
+NUMBER = r"\d+(?:,\d{3})*"
+# Before and behind a number there is no word, name, power or longer number that it belongs to.
+BEFORE, BEHIND = r"(?<![\w^,.-])", r"(?![\w,.]*\d)"
+
+# How a limit is stated, as a pattern in which its name stands for its number.
+STATED = [
+    "(at most|more than|1 to|and) {MOST_KEYS} keys",
+    "at most {MOST_KEYS} objects",
+    "if there are more than {MOST_KEYS};",
+    "(more than|up to) {MOST_KEYS} hosts",
+    "split -l {MOST_KEYS}",
+    "{MOST_RECIPIENTS} (recipients|signatures)",
+    "{MOST_RECIPIENTS} times {MOST_KEYS}",
+    "{MOST_RECIPIENTS} times over",
+    "{PAIRS} (pairs|HMACs|of each other)",
+    "[Aa] key has at most {MOST_KEY_OCTETS} octets",
+    "(text of|each of|in octets, from) 1 to {MOST_KEY_OCTETS}",
+    "(bytes is|Key;) above {MOST_KEY_OCTETS}",
+    "nests? (at most|more than) {MOST_DEPTH} deep",
+    "deeper than {DEPTH_READ}",
+    "JSON that is read at most {DEPTH_READ}",
+    "JSON value at most {DEPTH_READ} deep",
+    "((jwe enc|ours) writes|says, from|template, from|is outside) {LEAST_P2C} to {GREATEST_P2C}",
+    "by default, and up to {GREATEST_P2C}",
+    "{USUAL_P2C} (by default|is little)",
+    "(gets|takes) {USUAL_P2C} iterations",
+    "(guessing:|a p2c of) {USUAL_P2C}",
+    "(dec reads|a pair has) at most {GREATEST_P2C_READ}",
+    "and reads 1 to {GREATEST_P2C_READ}",
+    "that fits asks for more than {GREATEST_P2C_READ}",
+    "p2c above {GREATEST_P2C_READ}",
+    "(all together have|one call take|bound:) at most {MOST_ITERATIONS}",
+    "(pairs together for|neither does) more than {MOST_ITERATIONS}",
+    "(sum is|sum over them|or) above {MOST_ITERATIONS}",
+    "may ask for {MOST_ITERATIONS} iterations",
+    "{MOST_ITERATIONS} iterations,? took",
+    "at most {MOST_ITERATIONS} in a call",
+    "pieces of( at most| PIECE,)? {PIECE} octets",
+    "holds? {PIECE} octets",
+    "(reader takes up to|feed\\(piece, out\\) takes at most) {PIECE}",
+    "at most its last {MOST_BEHIND} octets",
+    "at most {MOST_BEHIND} octets are missing",
+]
+# Where the same number is no limit.
+OTHERS = [
+    "jose2go read 2,000,000",
+    "[Tt]heirs writes 1,000",
+    "(token of|now has all|Parts have) 100,000 octets",
+]
+
+
+def number_in(path, line):
+    return int(re.search(line, (TOP / path).read_text(), re.M)[1].replace("_", ""))
+
+
+def limits():
+    """The limits by their names. That those of `keys` are the definition's, keys/specs/Limits.antt, is proved."""
+    found = {name: int(value.replace("_", "")) for name, value in re.findall(r"^pub const (\w+): \w+ = ([\d_]+);", (TOP / "crates/keys/src/limits.rt").read_text(), re.M)}
+    found["PAIRS"] = found["MOST_RECIPIENTS"] * found["MOST_KEYS"]
+    found["DEPTH_READ"] = number_in("crates/keys/specs/JsonTexts.antt", r"^ReadsJson = .*depth d ≤ (\d+)")
+    found["PIECE"] = number_in("crates/octets/src/sizes.rt", r"^pub const PIECE: usize = (\d+);")
+    found["MOST_BEHIND"] = number_in("crates/octets/specs/Pumps.antt", r"^most_behind = (\d+)")
+    return found
+
+
+def words_of(path):
+    """The text in one line, without fonts, code marks and the marks of comments."""
+    text = path.read_text()
+    return re.sub(r"\s+(# )?", " ", plain(text) if path.suffix == ".1" else text.replace("`", ""))
+
+
+def compare():
+    wanted = {name: f"{value:,}" for name, value in limits().items()}
+    stated = {name: [] for name in wanted}
+    for path in [*sorted((TOP / "man").glob("*.1")), *(TOP / name for name in TEXTS), *sorted((TOP / "examples").glob("*.sh"))]:
+        file, text = path.relative_to(TOP), words_of(path)
+        left = text
+        for words in STATED + OTHERS:
+            pattern = BEFORE + words.replace("{", "(?P<").replace("}", f">{NUMBER})") + BEHIND
+            for one in re.finditer(pattern, text):
+                for name, number in one.groupdict().items():
+                    stated[name].append((number, f'{file} has "{one[0]}"'))
+            left = re.sub(pattern, "..", left)
+        others = [one for one in re.finditer(BEFORE + NUMBER + BEHIND, left) if len(one[0]) > 2 and one[0] in wanted.values()]
+        check(f"{file}: each limit that it states is compared", [f'"{left[max(0, one.start() - 40):one.end() + 20]}"' for one in others])
+    for name, value in wanted.items():
+        check(f"{name} is {value} wherever it is stated", [where for number, where in stated[name] if number != value] or ["it is stated nowhere"] * (not stated[name]))
