@@ -376,17 +376,18 @@ def compare():
     """Compares docs/AUDIT.md with the promises, and counts; it gives a line of the counts."""
     library = Library(os.path.join(ROOT, "crates"))
     by_run, by_laws = promises(library)
-    reached = reach(library, by_run | by_laws)
+    run, reached = reach(library, by_run), reach(library, by_run | by_laws)
     pages = {f"{it.split('/')[-3]}/{it.split('/')[-1][:-len('.antt')]}" for it in glob.glob(os.path.join(ROOT, "crates/*/specs/*.antt"))}
     reached_pages = {module.replace(".specs.", "/") for module, _ in reached}
     compare_pages(page_text("AUDIT"), reached_pages, {it for it in pages - reached_pages if not it.endswith("/Lib")})
     compare_names(library)
-    definitions = [(module, library.page(module).definitions[name]) for module, name in reached]
+    definitions = {(module, name): library.page(module).definitions[name] for module, name in reached}
     cites = citation()
-    bare = [module for module, it in definitions if not cites.search(it.comment) and not cites.search(it.group)]
-    lines, unheaded = sum(lines_of(it) for _, it in definitions), sum(not cites.search(library.page(it).head) for it in bare)
-    return (f"{len(reached_pages)} pages with {len(reached)} definitions that the promises reach, of {lines} lines; {len(bare)} cite no section, "
-            f"step or heading in front of them or of their group, {unheaded} of these on pages that cite none in their head")
+    bare = [module for (module, _), it in definitions.items() if not cites.search(it.comment) and not cites.search(it.group)]
+    lines, of_run = sum(map(lines_of, definitions.values())), sum(lines_of(definitions[it]) for it in run)
+    unheaded = sum(not cites.search(library.page(it).head) for it in bare)
+    return (f"{len(reached_pages)} pages with {len(reached)} definitions that the promises reach, of {lines} lines, {of_run} of them by `run`; "
+            f"{len(bare)} cite no section, step or heading in front of them or of their group, {unheaded} of these on pages that cite none in their head")
 
 
 def show():
