@@ -4,7 +4,7 @@ import collections, re, subprocess, sys
 
 from lib.trial import TOP
 
-# What an option takes (`flag`, `required`, `optional` or `default`), its default, and what its value names (`input`, `output` or `neither`).
+# What an option takes (`flag`, `required`, `optional` or `default`), its default, and what its value names (`input`, `output`, `hash` or `nothing`).
 Option = collections.namedtuple("Option", "kind default role")
 
 TEST = "tests::table::the_table_is_printed"

@@ -1,21 +1,21 @@
 -- What a command promises follows from what its steps promise.
-use Rattle.std.proofs.Common.{◌≡◌, ◌≢◌, ◌⊎◌, ◌<◌, ◌≤◌, ℕ, List, [], ◌∷◌, length, Bool, true, false, not, ◌&&◌, ◌||◌, cond, IsTrue, Option, option_map, Result, Ok, Err, OnOk, OnErr, IfErr, IsErrOf, IsErrAnd, inl, inr, refl, sym, ap, subst, ◌∙◌, arith}
+use Rattle.std.proofs.Common.{◌≡◌, ◌<◌, ◌≤◌, ℕ, List, [], length, Bool, true, false, ◌&&◌, cond, IsTrue, Option, option_map, Result, Ok, Err, OnOk, IfErr, IsErrAnd, inl, inr, refl, sym, ap, subst, ◌∙◌, arith}
 use Rattle.std.proofs.Math.Seq.{drop-length}
 use Rattle.octets.specs.declared.refusal.Refusal.{Refusal}
-use Rattle.octets.specs.declared.refusal.Refusal.TheVariants.{Read, Write, Memory}
-use Rattle.octets.specs.Devices.{Observed, appended, observed, IsPossibleInput}
-use Rattle.octets.specs.Faults.{Counts, TellsFaults, NoneFailed, SomeFailed}
-use Rattle.octets.specs.Outcomes.{is_external, is_memory, AgreesUnlessExternal}
-use Rattle.octets.specs.Plan.{OutputTexts, Draft, drawn_of, plan_from, planned, planned_beginning, begun}
-use Rattle.octets.proofs.Lemmas.{AppendsPrefixOf-kept, kept_up_by_none, on_success, on_refusal, seen_possible}
+use Rattle.octets.specs.declared.refusal.Refusal.TheVariants.{Read, Write}
+use Rattle.octets.specs.Devices.{Observed, appended, IsPossibleInput}
+use Rattle.octets.specs.Faults.{Counts, TellsFaults}
+use Rattle.octets.specs.Outcomes.{is_external, AgreesUnlessExternal}
+use Rattle.octets.specs.Plan.{OutputTexts, drawn_of}
+use Rattle.octets.proofs.Lemmas.{AppendsPrefixOf-kept, on_success, on_refusal, seen_possible}
 use Rattle.objects.specs.Texts.{handed_in}
 use Rattle.jose.specs.declared.commands.WholeInputs.{WholeInputs}
 use Rattle.jose.specs.declared.ports.Inputs.{Inputs}
 use Rattle.jose.specs.declared.ports.Outputs.{Outputs}
 use Rattle.jose.specs.Invocations.{InvocationView}
-use Rattle.jose.specs.Ports.{InputTexts, ObservedInputs, ArePossibleInputs, formed, input_counts, output_counts, written_texts}
+use Rattle.jose.specs.Ports.{InputTexts, ObservedInputs, ArePossibleInputs, formed, input_counts, written_texts}
 use Rattle.jose.specs.Meanings.{the_content, none, of_object, spec_of}
-use Rattle.jose.specs.Answer.{answer, draft_of, content_of, content_seen, beginning, others_read, was_read, has_template, has_text_input, has_keys_input, has_content_input, has_random_input, has_text_output, has_content_output, AreSpared, DrawsAll, DrawsNoMore, IsContentFirst}
+use Rattle.jose.specs.Answer.{answer, draft_of, content_of, content_seen, beginning, others_read, was_read, has_template, has_text_input, has_keys_input, has_content_input, has_text_output, has_content_output}
 use Rattle.jose.specs.Doing.{InputMembers, OutputMembers, seen_of, Does, ReadsInputs, WritesWhole, where_read}
 use Rattle.jose.proofs.Draws.{nothing_drawn, none_drawn}
 use Rattle.jose.proofs.Objects.{beside_ended, begun_of_object, drawn_of_object, has_template_beside, planned_of_object, refused_alone}

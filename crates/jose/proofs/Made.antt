@@ -1,5 +1,5 @@
 -- What `jwk gen` promises follows from the making of a key and the writing of its text.
-use Rattle.std.proofs.Common.{◌≡◌, ◌≢◌, ◌≤◌, ℕ, List, [], ◌∷◌, length, true, false, IsTrue, Result, Ok, Err, OnOk, OnErr, IfErr, inl, inr, refl, sym, ap, subst, ◌∙◌}
+use Rattle.std.proofs.Common.{◌≡◌, ◌≢◌, ◌≤◌, ℕ, List, [], ◌∷◌, length, true, false, Result, Ok, Err, OnOk, OnErr, IfErr, inl, inr, refl, subst}
 use Rattle.std.proofs.Math.Seq.{drop-length}
 use Rattle.octets.specs.declared.refusal.Refusal.{Refusal}
 use Rattle.octets.specs.declared.refusal.Refusal.TheVariants.{Write}
@@ -14,10 +14,10 @@ use Rattle.jose.specs.declared.commands.WholeInputs.{WholeInputs}
 use Rattle.jose.specs.declared.ports.Inputs.{Inputs}
 use Rattle.jose.specs.declared.ports.Outputs.{Outputs}
 use Rattle.jose.specs.declared.words.table.Command.TheVariants.{JwkGen}
-use Rattle.jose.specs.Answer.{beginning, others_read}
+use Rattle.jose.specs.Answer.{beginning}
 use Rattle.jose.specs.Invocations.{Settings}
 use Rattle.jose.specs.Jwk.{making}
-use Rattle.jose.specs.Ports.{as_text, input_counts, output_counts}
+use Rattle.jose.specs.Ports.{as_text}
 use Rattle.jose.specs.Doing.{InputMembers, OutputMembers, seen_of, Does, ReadsInputs}
 use Rattle.jose.proofs.Agreement.{agrees_as_text, begun_by_text, plan_of_making}
 use Rattle.jose.proofs.Doing.{if_always, if_weaker}

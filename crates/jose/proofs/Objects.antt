@@ -6,9 +6,9 @@ use Rattle.octets.specs.declared.refusal.Refusal.{Refusal}
 use Rattle.octets.specs.declared.refusal.Refusal.TheVariants.{Random}
 use Rattle.octets.specs.Devices.{Observed}
 use Rattle.octets.specs.Outcomes.{◌>>=◌, needs}
-use Rattle.octets.specs.Plan.{OutputTexts, nothing, Plan, plan_from, planned, begun, placed, by_text, without_random, without_content, drawn_of, accepted}
+use Rattle.octets.specs.Plan.{OutputTexts, nothing, Plan, plan_from, planned, begun, by_text, without_random, without_content, drawn_of}
 use Rattle.objects.specs.Texts.{handed_in}
-use Rattle.jose.specs.Ports.{formed, as_content}
+use Rattle.jose.specs.Ports.{formed}
 use Rattle.jose.specs.Meanings.{the_content, none, of_object}
 use Rattle.jose.specs.Answer.{content_of, has_template}
 

@@ -3,7 +3,7 @@ use Rattle.std.proofs.Common.{◌≡◌, ◌&&◌, ℕ, List, [], ◌∷◌, tru
 use Rattle.std.proofs.Math.Seq.{drop-length}
 use Rattle.octets.specs.declared.refusal.Refusal.{Refusal}
 use Rattle.octets.specs.Devices.{observed, IsPossibleInput}
-use Rattle.octets.specs.Faults.{Counts, counts, TellsFaults, SomeFailed}
+use Rattle.octets.specs.Faults.{Counts, counts, TellsFaults}
 use Rattle.octets.specs.Outcomes.{is_external, AgreesUnlessExternal}
 use Rattle.octets.proofs.Lemmas.{AppendsPrefixOf-kept}
 use Rattle.keys.specs.Limits.{limits}
@@ -11,7 +11,6 @@ use Rattle.jose.specs.declared.ports.Inputs.{Inputs}
 use Rattle.jose.specs.declared.ports.Outputs.{Outputs}
 use Rattle.jose.specs.Jws.{ver_answer}
 use Rattle.jose.specs.Ports.{on_content, output_counts}
-use Rattle.jose.specs.Answer.{others_read}
 use Rattle.jose.specs.Doing.{InputMembers, OutputMembers, seen_of, Does}
 use Rattle.jose.specs.Invocations.{InvocationView}
 use Rattle.jose.proofs.Agreement.{agrees_as_content}

@@ -1,6 +1,6 @@
 -- Of which kind each command is.
 use Prim.Native.String.{String}
-use Rattle.std.proofs.Common.{◌≡◌, ℕ, List, Bool, true, false, is_some, Option, Some, None, Result, Ok, refl, ap}
+use Rattle.std.proofs.Common.{◌≡◌, Bool, true, false, is_some, Result, Ok, refl, ap}
 use Rattle.std.specs.Option.{ok_or}
 use Rattle.std.specs.Str.{byte}
 use Rattle.prf.specs.declared.digests.HashAlg.{HashAlg}

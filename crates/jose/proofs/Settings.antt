@@ -4,7 +4,7 @@ use Rattle.std.specs.List.{find}
 use Rattle.clap.specs.Words.{Text}
 use Rattle.jose.specs.declared.words.table.Kind.TheVariants.{Flag}
 use Rattle.jose.specs.declared.words.table.OptionRow.{OptionRow}
-use Rattle.jose.specs.declared.words.table.Role.TheVariants.{Input}
+use Rattle.jose.specs.declared.words.table.Role.TheVariants.{Json}
 use Rattle.jose.specs.declared.words.invocation.Setting.{Setting}
 use Rattle.jose.specs.Invocations.{settings_view, value_at}
 use Rattle.jose.specs.Reading.{setting_before}
@@ -26,4 +26,4 @@ setting_before-append letter (Some v) more = refl
 
 -- what a read of a command's options gives past their end
 abbrev pub no_option : OptionRow
-no_option = record { 0 = 0; 1 = record { ref_ptr = (0, 0); now = [] }; 2 = Flag; 3 = Input }
+no_option = record { 0 = 0; 1 = record { ref_ptr = (0, 0); now = [] }; 2 = Flag; 3 = Json }

@@ -1,5 +1,5 @@
 -- Of which outputs a command says that nothing was done to them.
-use Rattle.std.proofs.Common.{◌≡◌, ◌≢◌, ℕ, List, [], ◌∷◌, Result, Ok, Err, IfErr, ap}
+use Rattle.std.proofs.Common.{◌≢◌, ℕ, List, [], ◌∷◌, Result, Ok, Err, IfErr, ap}
 use Rattle.octets.specs.declared.refusal.Refusal.{Refusal}
 use Rattle.octets.specs.declared.refusal.Refusal.TheVariants.{Write}
 use Rattle.octets.specs.Faults.{Counts, counts, DidNotFail, TellsFaults}

@@ -1,5 +1,5 @@
 -- What a command promises that reads its text and its keys whole, and then its content as it writes.
-use Rattle.std.proofs.Common.{◌≡◌, ◌≢◌, ◌⊎◌, ◌<◌, ◌≤◌, ◌++◌, ℕ, List, [], ◌∷◌, length, Bool, true, false, not, ◌&&◌, ◌||◌, IsTrue, Option, Some, None, is_some, MutBor, Result, Ok, Err, OnOk, OnErr, IfErr, IsErrAnd, inl, inr, refl, sym, ap, subst, ◌∙◌}
+use Rattle.std.proofs.Common.{◌≡◌, ◌≢◌, ◌⊎◌, ◌<◌, ◌≤◌, ◌++◌, ℕ, List, [], ◌∷◌, length, Bool, true, false, IsTrue, Option, Some, None, is_some, MutBor, Result, Ok, Err, OnOk, OnErr, IfErr, IsErrAnd, inl, inr, refl, sym, ap, subst, ◌∙◌}
 use Rattle.std.proofs.Math.Seq.{drop-length}
 use Rattle.octets.specs.declared.refusal.Refusal.{Refusal}
 use Rattle.octets.specs.declared.refusal.Refusal.TheVariants.{Read, Write, Memory}
@@ -14,9 +14,8 @@ use Rattle.jose.specs.declared.commands.WholeInputs.{WholeInputs}
 use Rattle.jose.specs.declared.ports.Inputs.{Inputs}
 use Rattle.jose.specs.declared.ports.Outputs.{Outputs}
 use Rattle.jose.specs.Invocations.{InvocationView}
-use Rattle.jose.specs.Ports.{InputTexts, ObservedInputs, ArePossibleInputs, input_counts, output_counts}
 use Rattle.jose.specs.Meanings.{the_content, spec_of}
-use Rattle.jose.specs.Answer.{draft_of, content_of, content_seen, beginning, others_read, has_content_input, has_random_input, has_text_output, has_content_output}
+use Rattle.jose.specs.Answer.{draft_of, beginning, others_read, has_content_input, has_random_input, has_text_output, has_content_output}
 use Rattle.jose.specs.Doing.{InputMembers, OutputMembers, seen_of, Does, ReadsInputs}
 use Rattle.jose.proofs.Agreement.{both_on_refusal, not_memory}
 use Rattle.jose.proofs.Doing.{IsReader, ends_early, others_are, if_always, if_weaker}

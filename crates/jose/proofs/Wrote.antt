@@ -1,14 +1,13 @@
 -- What is written of an answer on the output of the content alone.
-use Rattle.std.proofs.Common.{◌≡◌, ◌≢◌, ◌⊎◌, ◌++◌, ℕ, List, [], ◌∷◌, Bool, true, false, Result, Ok, Err, OnOk, OnErr, IfErr, IsErrAnd, inl, inr, refl, sym, ap, subst, ◌∙◌}
+use Rattle.std.proofs.Common.{◌≡◌, ◌≢◌, ℕ, List, [], ◌∷◌, true, false, Result, Ok, Err, OnOk, OnErr, IfErr, inl, inr, refl}
 use Rattle.std.proofs.Math.Seq.{drop-length}
 use Rattle.std.specs.Result.{result_unwrap_or}
 use Rattle.octets.specs.declared.refusal.Refusal.{Refusal}
 use Rattle.octets.specs.declared.refusal.Refusal.TheVariants.{Write}
 use Rattle.octets.specs.Devices.{appended, AppendsPrefixOf, IsFinishedOnce}
 use Rattle.octets.specs.Faults.{Counts, counts, TellsFaults}
-use Rattle.octets.specs.Outcomes.{AgreesUnlessExternal, is_external, is_memory}
-use Rattle.octets.specs.Plan.{OutputTexts}
-use Rattle.octets.proofs.Lemmas.{AppendsPrefixOf-kept, AppendsPrefixOf-none, on_success, on_refusal}
+use Rattle.octets.specs.Outcomes.{AgreesUnlessExternal}
+use Rattle.octets.proofs.Lemmas.{AppendsPrefixOf-none, on_success, on_refusal}
 use Rattle.jose.specs.declared.ports.Outputs.{Outputs}
 use Rattle.jose.specs.Ports.{as_content, formed, on_content}
 use Rattle.jose.specs.Doing.{OutputMembers, WritesWhole}

@@ -1,12 +1,12 @@
 -- The commands of the program, in one table: their words, and what each option takes and names.
 use Prim.Native.String.{String}
-use Rattle.std.specs.Prelude.{ℕ, ◌==◌, ◌&&◌, Bool, List, [], ◌∷◌, Option, is_some, find, codes}
+use Rattle.std.specs.Prelude.{ℕ, ◌==◌, ◌&&◌, Bool, true, false, List, [], ◌∷◌, map, Option, is_some, find, codes}
 use Rattle.std.specs.Str.{byte, bytes_eq}
 use Rattle.clap.specs.Words.{Text}
 use Rattle.jose.specs.declared.words.table.Command.{Command}
 use Rattle.jose.specs.declared.words.table.Command.TheVariants.{JwkGen, JwkThp, B64Enc, B64Dec, JwsSig, JwsVer, JwsFmt, JweEnc, JweDec, JweFmt}
 use Rattle.jose.specs.declared.words.table.Role.{Role}
-use Rattle.jose.specs.declared.words.table.Role.TheVariants.{Input, Output, Neither}
+use Rattle.jose.specs.declared.words.table.Role.TheVariants.{Json, Keys, Streamed, Octets, Output, Secret, MadeKey, Hash, Nothing}
 
 -- what an option takes: nothing, a value that has to be given, a value, or a value with a default (docs/SPECIFICATION.md "Commands")
 pub data Takes : Type 0 where
@@ -34,111 +34,106 @@ option letter name takes role = record { letter = byte letter; name = codes name
 abbrev pub else_value : String → Takes
 else_value text = default (codes text)
 
--- ---- the options of each command (docs/SPECIFICATION.md "Commands")
+-- ---- the row of each command (docs/SPECIFICATION.md "Commands")
 
-abbrev pub jwk_gen_options : List OptionEntry
-jwk_gen_options =
-    option "i" "template" required Input ∷
-    option "o" "key" (else_value "-") Output ∷
-    option "R" "random" optional Input ∷ []
+abbrev pub row : Command → String → String → List OptionEntry → CommandEntry
+row command noun verb options = record { command = command; noun = codes noun; verb = codes verb; options = options }
 
-abbrev pub jwk_thp_options : List OptionEntry
-jwk_thp_options =
-    option "i" "keys" (else_value "-") Input ∷
-    option "a" "hash" (else_value "S256") Neither ∷
-    option "o" "thumbprints" (else_value "-") Output ∷ []
-
-abbrev pub b64_enc_options : List OptionEntry
-b64_enc_options =
-    option "I" "octets" (else_value "-") Input ∷
-    option "o" "text" (else_value "-") Output ∷ []
-
-abbrev pub b64_dec_options : List OptionEntry
-b64_dec_options =
-    option "i" "text" (else_value "-") Input ∷
-    option "O" "octets" (else_value "-") Output ∷ []
-
-abbrev pub jws_sig_options : List OptionEntry
-jws_sig_options =
-    option "s" "template" (else_value "{}") Input ∷
-    option "I" "payload" (else_value "-") Input ∷
-    option "k" "keys" required Input ∷
+abbrev pub row_of : Command → CommandEntry
+row_of JwkGen = row JwkGen "jwk" "gen" (
+    option "i" "template" required Json ∷
+    option "o" "key" (else_value "-") MadeKey ∷
+    option "R" "random" optional Octets ∷ [])
+row_of JwkThp = row JwkThp "jwk" "thp" (
+    option "i" "keys" (else_value "-") Keys ∷
+    option "a" "hash" (else_value "S256") Hash ∷
+    option "o" "thumbprints" (else_value "-") Output ∷ [])
+row_of B64Enc = row B64Enc "b64" "enc" (
+    option "I" "octets" (else_value "-") Streamed ∷
+    option "o" "text" (else_value "-") Output ∷ [])
+row_of B64Dec = row B64Dec "b64" "dec" (
+    option "i" "text" (else_value "-") Streamed ∷
+    option "O" "octets" (else_value "-") Output ∷ [])
+row_of JwsSig = row JwsSig "jws" "sig" (
+    option "s" "template" (else_value "{}") Json ∷
+    option "I" "payload" (else_value "-") Streamed ∷
+    option "k" "keys" required Keys ∷
     option "o" "object" (else_value "-") Output ∷
     option "O" "detached" optional Output ∷
-    option "c" "compact" flag Neither ∷ []
-
-abbrev pub jws_ver_options : List OptionEntry
-jws_ver_options =
-    option "i" "object" (else_value "-") Input ∷
-    option "I" "detached" optional Input ∷
-    option "k" "keys" required Input ∷
-    option "a" "all" flag Neither ∷
-    option "O" "payload" optional Output ∷ []
-
-abbrev pub jws_fmt_options : List OptionEntry
-jws_fmt_options =
-    option "i" "object" (else_value "-") Input ∷
-    option "I" "detached" optional Input ∷
+    option "c" "compact" flag Nothing ∷ [])
+row_of JwsVer = row JwsVer "jws" "ver" (
+    option "i" "object" (else_value "-") Json ∷
+    option "I" "detached" optional Octets ∷
+    option "k" "keys" required Keys ∷
+    option "a" "all" flag Nothing ∷
+    option "O" "payload" optional Output ∷ [])
+row_of JwsFmt = row JwsFmt "jws" "fmt" (
+    option "i" "object" (else_value "-") Json ∷
+    option "I" "detached" optional Octets ∷
     option "o" "text" (else_value "-") Output ∷
     option "O" "payload" optional Output ∷
-    option "c" "compact" flag Neither ∷ []
-
-abbrev pub jwe_enc_options : List OptionEntry
-jwe_enc_options =
-    option "i" "template" (else_value "{}") Input ∷
-    option "I" "plaintext" (else_value "-") Input ∷
-    option "k" "keys" required Input ∷
+    option "c" "compact" flag Nothing ∷ [])
+row_of JweEnc = row JweEnc "jwe" "enc" (
+    option "i" "template" (else_value "{}") Json ∷
+    option "I" "plaintext" (else_value "-") Streamed ∷
+    option "k" "keys" required Keys ∷
     option "o" "object" (else_value "-") Output ∷
     option "O" "detached" optional Output ∷
-    option "c" "compact" flag Neither ∷
-    option "R" "random" optional Input ∷ []
-
-abbrev pub jwe_dec_options : List OptionEntry
-jwe_dec_options =
-    option "i" "object" (else_value "-") Input ∷
-    option "I" "detached" optional Input ∷
-    option "k" "keys" required Input ∷
-    option "O" "plaintext" (else_value "-") Output ∷ []
-
-abbrev pub jwe_fmt_options : List OptionEntry
-jwe_fmt_options =
-    option "i" "object" (else_value "-") Input ∷
-    option "I" "detached" optional Input ∷
+    option "c" "compact" flag Nothing ∷
+    option "R" "random" optional Octets ∷ [])
+row_of JweDec = row JweDec "jwe" "dec" (
+    option "i" "object" (else_value "-") Json ∷
+    option "I" "detached" optional Octets ∷
+    option "k" "keys" required Keys ∷
+    option "O" "plaintext" (else_value "-") Secret ∷ [])
+row_of JweFmt = row JweFmt "jwe" "fmt" (
+    option "i" "object" (else_value "-") Json ∷
+    option "I" "detached" optional Octets ∷
     option "o" "text" (else_value "-") Output ∷
     option "O" "ciphertext" optional Output ∷
-    option "c" "compact" flag Neither ∷ []
-
-abbrev pub options_of : Command → List OptionEntry
-options_of JwkGen = jwk_gen_options
-options_of JwkThp = jwk_thp_options
-options_of B64Enc = b64_enc_options
-options_of B64Dec = b64_dec_options
-options_of JwsSig = jws_sig_options
-options_of JwsVer = jws_ver_options
-options_of JwsFmt = jws_fmt_options
-options_of JweEnc = jwe_enc_options
-options_of JweDec = jwe_dec_options
-options_of JweFmt = jwe_fmt_options
-
-abbrev pub entry : Command → String → String → CommandEntry
-entry command noun verb = record { command = command; noun = codes noun; verb = codes verb; options = options_of command }
+    option "c" "compact" flag Nothing ∷ [])
 
 unfoldable pub commands : List CommandEntry
-commands =
-    entry JwkGen "jwk" "gen" ∷
-    entry JwkThp "jwk" "thp" ∷
-    entry B64Enc "b64" "enc" ∷
-    entry B64Dec "b64" "dec" ∷
-    entry JwsSig "jws" "sig" ∷
-    entry JwsVer "jws" "ver" ∷
-    entry JwsFmt "jws" "fmt" ∷
-    entry JweEnc "jwe" "enc" ∷
-    entry JweDec "jwe" "dec" ∷
-    entry JweFmt "jwe" "fmt" ∷ []
+commands = map row_of (JwkGen ∷ JwkThp ∷ B64Enc ∷ B64Dec ∷ JwsSig ∷ JwsVer ∷ JwsFmt ∷ JweEnc ∷ JweDec ∷ JweFmt ∷ [])
+
+-- ---- what a role says
+
+abbrev pub is_input : Role → Bool
+is_input Json = true
+is_input Keys = true
+is_input Streamed = true
+is_input Octets = true
+is_input other = false
+
+abbrev pub is_output : Role → Bool
+is_output Output = true
+is_output Secret = true
+is_output MadeKey = true
+is_output other = false
+
+abbrev pub is_keys : Role → Bool
+is_keys Keys = true
+is_keys other = false
+
+abbrev pub is_streamed : Role → Bool
+is_streamed Streamed = true
+is_streamed other = false
+
+-- JSON may stand in the words
+abbrev pub may_be_json : Role → Bool
+may_be_json Json = true
+may_be_json Keys = true
+may_be_json other = false
+
+-- ---- look-ups
 
 -- the option of a command with this letter
 abbrev pub option_at : String → Command → Option OptionEntry
-option_at letter command = find (λ entry. entry.letter == byte letter) (options_of command)
+option_at letter command = find (λ entry. entry.letter == byte letter) (row_of command).options
+
+-- the first option of a command with such a role
+abbrev pub option_for : (Role → Bool) → Command → Option OptionEntry
+option_for is command = find (λ entry. is entry.role) (row_of command).options
 
 abbrev pub has_option : String → Command → Bool
 has_option letter command = is_some (option_at letter command)

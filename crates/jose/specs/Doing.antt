@@ -1,5 +1,5 @@
 -- What a command promises of its devices, and what its steps promise, from which that follows.
-use Rattle.std.specs.Prelude.{◌≡◌, ◌⊎◌, ◌++◌, ◌&&◌, ℕ, Bool, true, false, List, [], if◌then◌else◌, Option, option_map, Result, Ok, Err, OnOk, OnErr, IfOk, IfErr, IsTrue}
+use Rattle.std.specs.Prelude.{◌≡◌, ◌⊎◌, ◌++◌, ◌&&◌, ℕ, Bool, true, false, List, [], if◌then◌else◌, option_map, Result, Err, OnOk, OnErr, IfOk, IfErr, IsTrue}
 use Rattle.octets.specs.declared.refusal.Refusal.{Refusal}
 use Rattle.octets.specs.declared.refusal.Refusal.TheVariants.{Read}
 use Rattle.octets.specs.Devices.{IsPossibleInput, IsFinishedOnce}

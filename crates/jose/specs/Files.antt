@@ -1,5 +1,5 @@
 -- Sources and sinks as clauses see them, which of them the value of an option means, and the devices of a run.
-use Rattle.std.specs.Prelude.{◌≡◌, ℕ, ◌&&◌, ◌==◌, Bool, true, false, List, [], ◌∷◌, map, drop, Option, None, Some, IsSome, IsNone, Result, codes, slice_index, option_map, if◌then◌else◌, ⊤}
+use Rattle.std.specs.Prelude.{◌≡◌, ℕ, ◌&&◌, ◌==◌, Bool, false, List, [], ◌∷◌, map, drop, Option, None, Some, IsSome, IsNone, Result, codes, slice_index, option_map, if◌then◌else◌, ⊤}
 use Rattle.std.specs.declared.io.Error.{Error}
 use Rattle.std.specs.Option.{option_and_then, option_or}
 use Rattle.std.specs.Iterator.{at_most}
@@ -9,8 +9,8 @@ use Rattle.octets.specs.declared.streams.ReaderInput.{ReaderInput}
 use Rattle.octets.specs.declared.streams.WriterOutput.{WriterOutput}
 use Rattle.octets.specs.Devices.{most_octets}
 use Rattle.octets.specs.Views.{reader_of, consumed_of, is_at_end_of, remaining_of, read_failures_of, writer_of, written_of, is_finished_of, endings_of, write_failures_of}
-use Rattle.jose.specs.declared.words.table.Command.{Command}
-use Rattle.jose.specs.declared.words.table.Command.TheVariants.{JwkGen, JwkThp, B64Enc, B64Dec, JwsSig, JweEnc, JweDec}
+use Rattle.jose.specs.declared.words.table.Role.{Role}
+use Rattle.jose.specs.declared.words.table.Role.TheVariants as role
 use Rattle.jose.specs.declared.files.Apart.{Apart}
 use Rattle.jose.specs.declared.files.Purpose.{Purpose}
 use Rattle.jose.specs.declared.files.Purpose.TheVariants.{Public, Secret, Key}
@@ -20,6 +20,7 @@ use Rattle.jose.specs.declared.files.Sink.{Sink}
 use Rattle.jose.specs.declared.files.Sink.TheVariants as sink
 use Rattle.jose.specs.declared.ports.Inputs.{Inputs}
 use Rattle.jose.specs.declared.ports.Outputs.{Outputs}
+use Rattle.jose.specs.Commands.{OptionEntry, option_at, option_for, is_keys, is_streamed, may_be_json}
 use Rattle.jose.specs.Invocations.{Settings, InvocationView, value_at}
 use Rattle.jose.specs.System.{name_of, MayBeSynchronized}
 
@@ -60,11 +61,16 @@ IsUnopenedSource other = ⊤
 -- What an option's value means: no value no octets, `-` standard input, a text that begins with `{` itself
 -- where JSON may stand in the words, and each other text the file of this name.
 abbrev pub origin_named : Bool → Option Text → Origin
-origin_named may_be_json None = words []
-origin_named may_be_json (Some text) =
+origin_named is_json None = words []
+origin_named is_json (Some text) =
     if bytes_eq text (codes "-") then standard_input
-    else if may_be_json && (slice_index text 0 == byte "{") then words text
+    else if is_json && (slice_index text 0 == byte "{") then words text
     else input_file text
+
+-- what is read of an option: nothing, where the command has none
+abbrev pub origin_at : Option OptionEntry → Settings → Origin
+origin_at None settings = words []
+origin_at (Some option) settings = origin_named (may_be_json option.role) (value_at option.letter settings)
 
 -- the files of the standard streams
 abbrev pub standard_input_file : Text
@@ -78,11 +84,6 @@ abbrev pub file_of : Origin → Option Text
 file_of (words octets) = None
 file_of standard_input = Some standard_input_file
 file_of (input_file name) = Some name
-
--- the text of `b64 dec` is never JSON
-abbrev pub text_may_be_json : Command → Bool
-text_may_be_json B64Dec = false
-text_may_be_json other = true
 
 -- the file of random octets where `-R` names none
 abbrev pub system_random : Text
@@ -140,35 +141,25 @@ abbrev pub destination_named : Purpose → List (Option Text) → Option Text �
 destination_named purpose others None = nowhere
 destination_named purpose others (Some text) = if bytes_eq text (codes "-") then standard_output else output_file text purpose others
 
--- a made key, and what is decrypted
-abbrev pub text_purpose : Command → Purpose
-text_purpose JwkGen = Key
-text_purpose other = Public
+abbrev pub purpose_of : Role → Purpose
+purpose_of role.Secret = Secret
+purpose_of role.MadeKey = Key
+purpose_of other = Public
 
-abbrev pub content_purpose : Command → Purpose
-content_purpose JweDec = Secret
-content_purpose other = Public
+-- where an option is written to: nowhere, where the command has none
+abbrev pub destination_at : Option OptionEntry → List (Option Text) → Settings → Destination
+destination_at None others settings = nowhere
+destination_at (Some option) others settings = destination_named (purpose_of option.role) others (value_at option.letter settings)
 
 -- ---- the files that an output must not be
 
--- the content that a command reads while it writes: of the four that do, the octets, the text, the payload or the plaintext
-abbrev pub streamed_value : Command → Settings → Option Text
-streamed_value B64Enc options = value_at (byte "I") options
-streamed_value B64Dec options = value_at (byte "i") options
-streamed_value JwsSig options = value_at (byte "I") options
-streamed_value JweEnc options = value_at (byte "I") options
-streamed_value other options = None
-
+-- that of the content which is read while an output is written
 abbrev pub streamed_file : InvocationView → Option Text
-streamed_file invocation = file_of (origin_named false (streamed_value invocation.command invocation.options))
+streamed_file invocation = file_of (origin_at (option_for is_streamed invocation.command) invocation.options)
 
--- the keys that a command reads: the text of `jwk thp`, and of the others those of `-k`
-abbrev pub keys_value : Command → Settings → Option Text
-keys_value JwkThp options = value_at (byte "i") options
-keys_value other options = value_at (byte "k") options
-
+-- that of the keys
 abbrev pub keys_file : InvocationView → Option Text
-keys_file invocation = file_of (origin_named true (keys_value invocation.command invocation.options))
+keys_file invocation = file_of (origin_at (option_for is_keys invocation.command) invocation.options)
 
 -- the file of an output that an option's value names
 abbrev pub file_written : Option Text → Option Text
@@ -203,12 +194,12 @@ pub record IsNewOutput {R F D : Type 0} (destination : Destination) (device : Wr
 
 -- each input is the one that its option names, the text that of `-i` or else `-s`, and the random one that of `-R` or else `/dev/urandom`
 pub record AreNewInputs {R F D : Type 0} (invocation : InvocationView) (inputs : Inputs (ReaderInput (Source R F D))) : Type 0 where
-  pub text : IsNewInput (origin_named (text_may_be_json invocation.command) (option_or (value_at (byte "i") invocation.options) (value_at (byte "s") invocation.options))) inputs.text
-  pub content : IsNewInput (origin_named false (value_at (byte "I") invocation.options)) inputs.content
-  pub keys : IsNewInput (origin_named true (value_at (byte "k") invocation.options)) inputs.keys
+  pub text : IsNewInput (origin_at (option_or (option_at "i" invocation.command) (option_at "s" invocation.command)) invocation.options) inputs.text
+  pub content : IsNewInput (origin_at (option_at "I" invocation.command) invocation.options) inputs.content
+  pub keys : IsNewInput (origin_at (option_at "k" invocation.command) invocation.options) inputs.keys
   pub random : IsNewInput (origin_named false (option_or (value_at (byte "R") invocation.options) (Some system_random))) inputs.random
 
 -- each output is the one that its option names, for its purpose, and apart from the files that it must not be
 pub record AreNewOutputs {R F D : Type 0} (invocation : InvocationView) (outputs : Outputs (WriterOutput (Sink R F D))) : Type 0 where
-  pub text : IsNewOutput (destination_named (text_purpose invocation.command) (text_others invocation) (value_at (byte "o") invocation.options)) outputs.text
-  pub content : IsNewOutput (destination_named (content_purpose invocation.command) (content_others invocation) (value_at (byte "O") invocation.options)) outputs.content
+  pub text : IsNewOutput (destination_at (option_at "o" invocation.command) (text_others invocation) invocation.options) outputs.text
+  pub content : IsNewOutput (destination_at (option_at "O" invocation.command) (content_others invocation) invocation.options) outputs.content

@@ -27,7 +27,7 @@ invocation_view invocation = record { command = invocation.command; options = se
 abbrev pub value_at : ℕ → Settings → Option Text
 value_at letter settings = option_map (λ setting. setting.1) (find (λ setting. setting.0 == letter) settings)
 
--- ---- the hash that `-a` names (docs/SPECIFICATION.md "Commands", `jwk thp`)
+-- ---- the hash that `-a` names (docs/SPECIFICATION.md "Commands")
 
 abbrev pub hash_name : HashAlg → Text
 hash_name S224 = codes "S224"

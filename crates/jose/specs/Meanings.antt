@@ -1,5 +1,5 @@
 -- What each command means, in one record for each.
-use Rattle.std.specs.Prelude.{ℕ, Bool, true, false, List, [], is_some, if◌then◌else◌, Option, Some, None, Result, Ok}
+use Rattle.std.specs.Prelude.{ℕ, Bool, true, false, List, is_some, if◌then◌else◌, Option, Some, None, Result, Ok}
 use Rattle.std.specs.Option.{ok_or}
 use Rattle.std.specs.Str.{byte}
 use Rattle.octets.specs.declared.refusal.Refusal.{Refusal}
@@ -56,95 +56,65 @@ is_compact_asked settings = is_some (value_at (byte "c") settings)
 abbrev pub is_all_asked : Settings → Bool
 is_all_asked settings = is_some (value_at (byte "a") settings)
 
-abbrev pub jwk_gen : CommandSpec
-jwk_gen = record {
+abbrev pub spec_of : Command → CommandSpec
+spec_of JwkGen = record {
   content = λ settings. none;
   holds_back = true;
   takes_memory = true;
   draft = λ settings text keys. placed as_text (making text);
 }
-
-abbrev pub jwk_thp : CommandSpec
-jwk_thp = record {
+spec_of JwkThp = record {
   content = λ settings. none;
   holds_back = true;
   takes_memory = true;
   draft = λ settings text keys. by_text (ok_or (hash_asked settings) Usage >>= λ hash. on_text (thp_answer hash text));
 }
-
-abbrev pub b64_enc : CommandSpec
-b64_enc = record {
+spec_of B64Enc = record {
   content = λ settings. the_content;
   holds_back = false;
   takes_memory = false;
   draft = λ settings text keys. placed as_text (by_plan (Ok encoding));
 }
-
-abbrev pub b64_dec : CommandSpec
-b64_dec = record {
+spec_of B64Dec = record {
   content = λ settings. the_text;
   holds_back = false;
   takes_memory = false;
   draft = λ settings text keys. placed as_content (by_plan (Ok decoding));
 }
-
-abbrev pub jws_sig : CommandSpec
-jws_sig = record {
+spec_of JwsSig = record {
   content = λ settings. the_content;
   holds_back = false;
   takes_memory = true;
   draft = λ settings text keys. by_plan (sig_answer limits (is_compact_asked settings) (is_content_wanted settings) keys text);
 }
-
-abbrev pub jws_ver : CommandSpec
-jws_ver = record {
+spec_of JwsVer = record {
   content = content_beside;
   holds_back = true;
   takes_memory = true;
   draft = λ settings text keys.
       of_object (is_content_given settings) (λ detached. on_content (ver_answer limits (is_all_asked settings) (is_content_wanted settings) keys detached text));
 }
-
-abbrev pub jws_fmt : CommandSpec
-jws_fmt = record {
+spec_of JwsFmt = record {
   content = content_beside;
   holds_back = true;
   takes_memory = true;
   draft = λ settings text keys. of_object (is_content_given settings) (λ detached. jws_fmt_answer limits (is_compact_asked settings) (is_content_wanted settings) detached text);
 }
-
-abbrev pub jwe_enc : CommandSpec
-jwe_enc = record {
+spec_of JweEnc = record {
   content = λ settings. the_content;
   holds_back = false;
   takes_memory = true;
   draft = λ settings text keys. enc_answer limits (is_compact_asked settings) (is_content_wanted settings) keys text;
 }
-
-abbrev pub jwe_dec : CommandSpec
-jwe_dec = record {
+spec_of JweDec = record {
   content = content_beside;
   holds_back = true;
   takes_memory = true;
   draft = λ settings text keys. of_object (is_content_given settings) (λ detached. on_content (dec_answer limits keys detached text));
 }
-
-abbrev pub jwe_fmt : CommandSpec
-jwe_fmt = record {
+spec_of JweFmt = record {
   content = content_beside;
   holds_back = true;
   takes_memory = true;
   draft = λ settings text keys. of_object (is_content_given settings) (λ detached. jwe_fmt_answer limits (is_compact_asked settings) (is_content_wanted settings) detached text);
 }
-
-abbrev pub spec_of : Command → CommandSpec
-spec_of JwkGen = jwk_gen
-spec_of JwkThp = jwk_thp
-spec_of B64Enc = b64_enc
-spec_of B64Dec = b64_dec
-spec_of JwsSig = jws_sig
-spec_of JwsVer = jws_ver
-spec_of JwsFmt = jws_fmt
-spec_of JweEnc = jwe_enc
-spec_of JweDec = jwe_dec
-spec_of JweFmt = jwe_fmt

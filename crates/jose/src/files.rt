@@ -7,14 +7,15 @@ ghost use Rattle.std.specs.Result.{result_unwrap_or};
 ghost use Rattle.std.specs.Io.{ReadsAtMost, WritesAtMost};
 ghost use Rattle.std.specs.Io.KnownBytes.{Keeps, ReadConsumes, WriteAppends};
 ghost use Rattle.jose.specs.Invocations.{invocation_view};
-ghost use Rattle.jose.specs.Files.{words, origin_of, origin_named, after_read, source_remaining, IsOpenSource, IsUnopenedSource, file_of, AreNewInputs};
+ghost use Rattle.jose.specs.Rows.{entry_of};
+ghost use Rattle.jose.specs.Files.{words, origin_of, origin_named, origin_at, after_read, source_remaining, IsOpenSource, IsUnopenedSource, file_of, AreNewInputs};
 ghost use Rattle.jose.specs.System.{MayBeOne, IsApart, IsNotApart, MayBeSynchronized, CannotBeSynchronized, name_of};
-ghost use Rattle.jose.specs.Files.{nowhere, destination_of, destination_named, sink_contents, IsOpenSink, IsUnopenedSink, IsKept, mode_for, others_of, file_written, streamed_file, keys_file, AreNewOutputs};
+ghost use Rattle.jose.specs.Files.{nowhere, destination_of, destination_named, destination_at, sink_contents, IsOpenSink, IsUnopenedSink, IsKept, mode_for, purpose_of, others_of, file_written, AreNewOutputs};
 
 use crate::ports::{Inputs, Outputs};
 use crate::system::System;
 use crate::words::invocation::Invocation;
-use crate::words::table::Command;
+use crate::words::table::{OptionRow, Role};
 use octets::{ReaderInput, WriterOutput};
 use std::fs::File;
 use std::io;
@@ -255,8 +256,7 @@ fn are_one_file<R: System>(files: &R, path: &str, other: Option<&str>) -> bool
     }
 }
 
-/// The inputs that the options name. JSON may stand in the words for `-i`, `-s` and `-k`, but for the
-/// text of `b64 dec`. Where `-R` is not given random octets are those of the system.
+/// The inputs that the options name. Where `-R` is not given random octets are those of the system.
 pub(crate) fn inputs<'a, R: Files>(
     files: &'a R,
     standard: Stdin,
@@ -264,14 +264,38 @@ pub(crate) fn inputs<'a, R: Files>(
 ) -> Inputs<ReaderInput<Source<'a, R>>>
     ensures { AreNewInputs (invocation_view invocation.now) result }
 {
-    let text = invocation.value('i').or(invocation.value('s'));
-    let may_be_json = invocation.command != Command::B64Dec;
+    let command = invocation.command;
+    let text = command.option('i').or(command.option('s'));
+    let content = command.option('I');
+    let keys = command.option('k');
     let random = invocation.value('R').or(Some(SYSTEM_RANDOM));
     Inputs {
-        text: ReaderInput::new(source_of(files, standard, text, may_be_json)),
-        content: ReaderInput::new(source_of(files, standard, invocation.value('I'), false)),
-        keys: ReaderInput::new(source_of(files, standard, invocation.value('k'), true)),
+        text: ReaderInput::new(input_of(files, standard, text, invocation)),
+        content: ReaderInput::new(input_of(files, standard, content, invocation)),
+        keys: ReaderInput::new(input_of(files, standard, keys, invocation)),
         random: ReaderInput::new(source_of(files, standard, random, false)),
+    }
+}
+
+/// The input that the option names, where the command has it.
+fn input_of<'a, R: Files>(
+    files: &'a R,
+    standard: Stdin,
+    option: Option<&OptionRow>,
+    invocation: &'a Invocation,
+) -> Source<'a, R>
+    ensures named { origin_of result
+        ≡ origin_at (entry_of option.entry) (invocation_view invocation.now).options }
+    ensures unopened { IsUnopenedSource result }
+{
+    match option {
+        Some(OptionRow(letter, _, _, role)) => source_of(
+            files,
+            standard,
+            invocation.value(*letter),
+            role.may_be_json(),
+        ),
+        None => Source::Words(&[]),
     }
 }
 
@@ -297,8 +321,8 @@ fn source_of<'a, R: Files>(
     }
 }
 
-/// The outputs that the options name. A made key and what is decrypted are secrets. Both outputs are kept apart from the content
-/// that is read while they are written and from the keys, and the text from the content beside it, which is written before.
+/// The outputs that the options name. Both are kept apart from the content that is read while they are written and from the keys,
+/// and the text from the content beside it, which is written before.
 pub(crate) fn outputs<'a, R: System>(
     files: &'a R,
     standard: Stdout,
@@ -306,76 +330,72 @@ pub(crate) fn outputs<'a, R: System>(
 ) -> Outputs<WriterOutput<Sink<'a, R>>>
     ensures { AreNewOutputs (invocation_view invocation.now) result }
 {
-    let text_purpose = match invocation.command {
-        Command::JwkGen => Purpose::Key,
-        _ => Purpose::Public,
-    };
-    let content_purpose = match invocation.command {
-        Command::JweDec => Purpose::Secret,
-        _ => Purpose::Public,
-    };
-    let content = streamed_file(invocation);
-    let keys = keys_file(invocation);
-    let beside = file_written(invocation.value('O'));
-    let text_apart = Apart {
-        content,
-        keys,
-        beside,
-    };
+    let command = invocation.command;
+    let text = command.option('o');
+    let content = command.option('O');
     let content_apart = Apart {
-        content,
-        keys,
+        content: file_read(command.streamed(), invocation),
+        keys: file_read(command.keys(), invocation),
         beside: None,
     };
+    let text_apart = Apart {
+        beside: file_written(invocation.value('O')),
+        ..content_apart
+    };
     Outputs {
-        text: WriterOutput::new(sink_of(
-            files,
-            standard,
-            invocation.value('o'),
-            text_purpose,
-            text_apart,
-        )),
-        content: WriterOutput::new(sink_of(
-            files,
-            standard,
-            invocation.value('O'),
-            content_purpose,
-            content_apart,
-        )),
+        text: WriterOutput::new(output_of(files, standard, text, invocation, text_apart)),
+        content: WriterOutput::new(output_of(files, standard, content, invocation, content_apart)),
     }
 }
 
-/// The file of the content that the command reads while it writes.
-fn streamed_file(invocation: &Invocation) -> Option<&str>
-    ensures { name_of result ≡ streamed_file (invocation_view invocation.now) }
+/// The output that the option names, where the command has it.
+fn output_of<'a, R: Files>(
+    files: &'a R,
+    standard: Stdout,
+    option: Option<&OptionRow>,
+    invocation: &'a Invocation,
+    apart: Apart<'a>,
+) -> Sink<'a, R>
+    ensures named { destination_of result
+        ≡ destination_at (entry_of option.entry) (others_of apart.entry) (invocation_view invocation.now).options }
+    ensures unopened { IsUnopenedSink result }
 {
-    let value = match invocation.command {
-        Command::B64Dec => invocation.value('i'),
-        Command::B64Enc | Command::JwsSig | Command::JweEnc => invocation.value('I'),
-        _ => None,
+    let Some(OptionRow(letter, _, _, role)) = option else {
+        return Sink::Nowhere;
     };
-    file_read(value, false)
+    match invocation.value(*letter) {
+        None => Sink::Nowhere,
+        Some("-") => Sink::Standard(standard),
+        Some(path) => Sink::File(OutputFile {
+            files,
+            path,
+            purpose: purpose_of(*role),
+            apart,
+            opened: None,
+        }),
+    }
 }
 
-/// The file of the keys that the command reads.
-fn keys_file(invocation: &Invocation) -> Option<&str>
-    ensures { name_of result ≡ keys_file (invocation_view invocation.now) }
+fn purpose_of(role: Role) -> Purpose
+    ensures { result ≡ purpose_of role }
 {
-    let value = match invocation.command {
-        Command::JwkThp => invocation.value('i'),
-        _ => invocation.value('k'),
-    };
-    file_read(value, true)
+    match role {
+        Role::Secret => Purpose::Secret,
+        Role::MadeKey => Purpose::Key,
+        _ => Purpose::Public,
+    }
 }
 
-/// The file of an input that has this value. JSON in the words has none.
-fn file_read(value: Option<&str>, may_be_json: bool) -> Option<&str>
-    ensures { name_of result ≡ file_of (origin_named may_be_json (name_of value.entry)) }
+/// The file of the input that the option names. JSON in the words has none.
+fn file_read<'a>(option: Option<&OptionRow>, invocation: &'a Invocation) -> Option<&'a str>
+    ensures { name_of result
+        ≡ file_of (origin_at (entry_of option.entry) (invocation_view invocation.now).options) }
 {
-    match value {
+    let OptionRow(letter, _, _, role) = *option?;
+    match invocation.value(letter) {
         None => None,
         Some("-") => Some(STANDARD_INPUT),
-        Some(text) if may_be_json && text.starts_with('{') => None,
+        Some(text) if role.may_be_json() && text.starts_with('{') => None,
         Some(path) => Some(path),
     }
 }
@@ -387,29 +407,5 @@ fn file_written(value: Option<&str>) -> Option<&str>
     match value {
         Some("-") => Some(STANDARD_OUTPUT),
         named => named,
-    }
-}
-
-fn sink_of<'a, R: Files>(
-    files: &'a R,
-    standard: Stdout,
-    value: Option<&'a str>,
-    purpose: Purpose,
-    apart: Apart<'a>,
-) -> Sink<'a, R>
-    ensures named { destination_of result
-        ≡ destination_named purpose (others_of apart.entry) (name_of value.entry) }
-    ensures unopened { IsUnopenedSink result }
-{
-    match value {
-        None => Sink::Nowhere,
-        Some("-") => Sink::Standard(standard),
-        Some(path) => Sink::File(OutputFile {
-            files,
-            path,
-            purpose,
-            apart,
-            opened: None,
-        }),
     }
 }

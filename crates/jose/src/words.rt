@@ -3,21 +3,23 @@ ghost use Rattle.std.specs.Prelude.{◌≡◌, map, string_bytes};
 ghost use Rattle.octets.specs.Outcomes.{AgreesUnlessMemory};
 ghost use Rattle.jose.specs.Rows.{option_entry};
 ghost use Rattle.jose.specs.Invocations.{invocation_view};
-ghost use Rattle.jose.specs.Words.{invocation_of, standard_count, names_standard, is_served as served};
+ghost use Rattle.jose.specs.Commands.{is_input, is_output};
+ghost use Rattle.jose.specs.Words.{invocation_of, standard_count, is_served, are_served};
 
 pub(crate) mod invocation;
 mod options;
 pub(crate) mod table;
 
 use crate::Invocation;
+use crate::words::invocation::hash_named;
 use crate::words::options::read_options;
-use crate::words::table::{Command, OptionRow, Role, command_row};
+use crate::words::table::{OptionRow, Role, command_row};
 use octets::{Refusal, needs};
 use std::alloc::Global;
 
 /// What the words, without the program's name, ask for. `Usage` where they pick no command, where
-/// `clap` refuses the rest, where the `-a` of `jwk thp` names none of the four hashes, and where two inputs or two outputs would
-/// be the same standard stream.
+/// `clap` refuses the rest, where an option for a hash names none of the four, and where two inputs or two outputs would be the
+/// same standard stream.
 #[tactic(auto, unfolding(crate::specs::Words::invocation_of))]
 pub fn parse(alloc: Global, words: &[String]) -> Result<Invocation, Refusal>
     ensures { AgreesUnlessMemory invocation_view result (invocation_of (map string_bytes words.now)) }
@@ -30,38 +32,51 @@ pub fn parse(alloc: Global, words: &[String]) -> Result<Invocation, Refusal>
         command: row.command,
         options: read_options(alloc, row.options, rest)?,
     };
-    let inputs = count_standard(row.options, Role::Input, &invocation);
+    let inputs = count_standard_inputs(row.options, &invocation);
     needs(inputs <= 1, Refusal::Usage)?;
-    let outputs = count_standard(row.options, Role::Output, &invocation);
+    let outputs = count_standard_outputs(row.options, &invocation);
     needs(outputs <= 1, Refusal::Usage)?;
-    needs(is_served(&invocation), Refusal::Usage)?;
+    needs(are_served(row.options, &invocation), Refusal::Usage)?;
     Ok(invocation)
 }
 
-/// How many options of this role name the standard stream.
-fn count_standard(options: &[OptionRow], role: Role, invocation: &Invocation) -> usize
+/// How many inputs are standard input.
+fn count_standard_inputs(options: &[OptionRow], invocation: &Invocation) -> usize
     ensures { result
-        ≡ standard_count role (map option_entry options.now) (invocation_view invocation.now).options }
+        ≡ standard_count is_input (map option_entry options.now) (invocation_view invocation.now).options }
 {
     options
         .iter()
-        .filter(|option| is_standard(option, role, invocation))
+        .filter(|option| option.3.is_input() && invocation.value(option.0) == Some("-"))
         .count()
 }
 
-fn is_standard(option: &OptionRow, role: Role, invocation: &Invocation) -> bool
-    ensures { result ≡ names_standard role (invocation_view invocation.now).options (option_entry option.now) }
+/// How many outputs are standard output.
+fn count_standard_outputs(options: &[OptionRow], invocation: &Invocation) -> usize
+    ensures { result
+        ≡ standard_count is_output (map option_entry options.now) (invocation_view invocation.now).options }
 {
-    let OptionRow(letter, _, _, of) = *option;
-    of == role && invocation.value(letter) == Some("-")
+    options
+        .iter()
+        .filter(|option| option.3.is_output() && invocation.value(option.0) == Some("-"))
+        .count()
 }
 
-/// Of `jwk thp` the four hashes are served.
-fn is_served(invocation: &Invocation) -> bool
-    ensures { result ≡ served invocation.now.command (invocation_view invocation.now).options }
+/// Each option for a hash names one of the four.
+fn are_served(options: &[OptionRow], invocation: &Invocation) -> bool
+    ensures { result
+        ≡ are_served (map option_entry options.now) (invocation_view invocation.now).options }
 {
-    match invocation.command {
-        Command::JwkThp => invocation.hash().is_some(),
+    options.iter().all(|option| is_served(option, invocation))
+}
+
+fn is_served(option: &OptionRow, invocation: &Invocation) -> bool
+    ensures { result ≡ is_served (invocation_view invocation.now).options (option_entry option.now) }
+{
+    let OptionRow(letter, _, _, role) = *option;
+    match (role, invocation.value(letter)) {
+        (Role::Hash, Some(name)) => hash_named(name).is_some(),
+        (Role::Hash, None) => false,
         _ => true,
     }
 }

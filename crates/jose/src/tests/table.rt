@@ -41,9 +41,10 @@ fn kind_words(kind: Kind) -> (&'static str, &'static str) {
 
 fn role_word(role: Role) -> &'static str {
     match role {
-        Role::Input => "input",
-        Role::Output => "output",
-        Role::Neither => "neither",
+        Role::Json | Role::Keys | Role::Streamed | Role::Octets => "input",
+        Role::Output | Role::Secret | Role::MadeKey => "output",
+        Role::Hash => "hash",
+        Role::Nothing => "nothing",
     }
 }
 

@@ -52,7 +52,7 @@ impl Invocation {
 
 /// The hash of this name: S224, S256, S384 or S512.
 #[tactic(auto, unfolding(crate::specs::Invocations::hash_named))]
-fn hash_named(name: &str) -> Option<HashAlg>
+pub(crate) fn hash_named(name: &str) -> Option<HashAlg>
     ensures { result ≡ hash_named name.now }
 {
     match name {

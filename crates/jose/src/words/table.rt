@@ -1,8 +1,8 @@
 //! The commands of the program, in one table: their words, and what each option takes and names.
-ghost use Rattle.std.specs.Prelude.{◌≡◌, find, map, option_map, true, IfSome};
+ghost use Rattle.std.specs.Prelude.{◌≡◌, ◌==◌, find, map, option_map, true, IfSome};
 ghost use Rattle.clap.specs.Words.{is_simple_and_free};
-ghost use Rattle.jose.specs.Commands.{commands, command_named, has_words};
-ghost use Rattle.jose.specs.Rows.{command_entry, option_entry};
+ghost use Rattle.jose.specs.Commands.{commands, command_named, has_words, row_of, option_for, is_input, is_output, is_keys, is_streamed, may_be_json};
+ghost use Rattle.jose.specs.Rows.{command_entry, entry_of, option_entry};
 ghost use Rattle.jose.specs.Reading.{app_for};
 
 /// What the program can be asked to do.
@@ -43,15 +43,27 @@ pub(crate) enum Kind {
     Default(&'static str),
 }
 
-/// What the value of an option names.
-#[derive(Clone, Copy, PartialEq, Eq)]
+/// What the value of an option names. An input or an output is a file, or `-` for a standard stream.
+#[derive(Clone, Copy)]
 pub(crate) enum Role {
-    /// An input: a file, or `-` for standard input.
-    Input,
-    /// An output: a file, or `-` for standard output.
+    /// An input of JSON, which may also stand in the words.
+    Json,
+    /// The same, of keys. No output may be their file.
+    Keys,
+    /// An input of octets that is read while an output is written. No output may be its file.
+    Streamed,
+    /// An input of octets that is read before any output is written.
+    Octets,
+    /// An output that others may read.
     Output,
-    /// Neither.
-    Neither,
+    /// An output for its owner alone.
+    Secret,
+    /// The same, of a made key, which is on the disk at the end.
+    MadeKey,
+    /// One of the four hashes.
+    Hash,
+    /// Nothing. It is a flag.
+    Nothing,
 }
 
 /// An option: its letter, a name for what it is for, what it takes, and what its value names.
@@ -79,9 +91,9 @@ static COMMANDS: [CommandRow; 10] = [
         noun: "jwk",
         verb: "gen",
         options: &[
-            OptionRow('i', "template", Kind::Required, Role::Input),
-            OptionRow('o', "key", Kind::Default("-"), Role::Output),
-            OptionRow('R', "random", Kind::Optional, Role::Input),
+            OptionRow('i', "template", Kind::Required, Role::Json),
+            OptionRow('o', "key", Kind::Default("-"), Role::MadeKey),
+            OptionRow('R', "random", Kind::Optional, Role::Octets),
         ],
     },
     CommandRow {
@@ -89,8 +101,8 @@ static COMMANDS: [CommandRow; 10] = [
         noun: "jwk",
         verb: "thp",
         options: &[
-            OptionRow('i', "keys", Kind::Default("-"), Role::Input),
-            OptionRow('a', "hash", Kind::Default("S256"), Role::Neither),
+            OptionRow('i', "keys", Kind::Default("-"), Role::Keys),
+            OptionRow('a', "hash", Kind::Default("S256"), Role::Hash),
             OptionRow('o', "thumbprints", Kind::Default("-"), Role::Output),
         ],
     },
@@ -99,7 +111,7 @@ static COMMANDS: [CommandRow; 10] = [
         noun: "b64",
         verb: "enc",
         options: &[
-            OptionRow('I', "octets", Kind::Default("-"), Role::Input),
+            OptionRow('I', "octets", Kind::Default("-"), Role::Streamed),
             OptionRow('o', "text", Kind::Default("-"), Role::Output),
         ],
     },
@@ -108,7 +120,7 @@ static COMMANDS: [CommandRow; 10] = [
         noun: "b64",
         verb: "dec",
         options: &[
-            OptionRow('i', "text", Kind::Default("-"), Role::Input),
+            OptionRow('i', "text", Kind::Default("-"), Role::Streamed),
             OptionRow('O', "octets", Kind::Default("-"), Role::Output),
         ],
     },
@@ -117,12 +129,12 @@ static COMMANDS: [CommandRow; 10] = [
         noun: "jws",
         verb: "sig",
         options: &[
-            OptionRow('s', "template", Kind::Default("{}"), Role::Input),
-            OptionRow('I', "payload", Kind::Default("-"), Role::Input),
-            OptionRow('k', "keys", Kind::Required, Role::Input),
+            OptionRow('s', "template", Kind::Default("{}"), Role::Json),
+            OptionRow('I', "payload", Kind::Default("-"), Role::Streamed),
+            OptionRow('k', "keys", Kind::Required, Role::Keys),
             OptionRow('o', "object", Kind::Default("-"), Role::Output),
             OptionRow('O', "detached", Kind::Optional, Role::Output),
-            OptionRow('c', "compact", Kind::Flag, Role::Neither),
+            OptionRow('c', "compact", Kind::Flag, Role::Nothing),
         ],
     },
     CommandRow {
@@ -130,10 +142,10 @@ static COMMANDS: [CommandRow; 10] = [
         noun: "jws",
         verb: "ver",
         options: &[
-            OptionRow('i', "object", Kind::Default("-"), Role::Input),
-            OptionRow('I', "detached", Kind::Optional, Role::Input),
-            OptionRow('k', "keys", Kind::Required, Role::Input),
-            OptionRow('a', "all", Kind::Flag, Role::Neither),
+            OptionRow('i', "object", Kind::Default("-"), Role::Json),
+            OptionRow('I', "detached", Kind::Optional, Role::Octets),
+            OptionRow('k', "keys", Kind::Required, Role::Keys),
+            OptionRow('a', "all", Kind::Flag, Role::Nothing),
             OptionRow('O', "payload", Kind::Optional, Role::Output),
         ],
     },
@@ -142,11 +154,11 @@ static COMMANDS: [CommandRow; 10] = [
         noun: "jws",
         verb: "fmt",
         options: &[
-            OptionRow('i', "object", Kind::Default("-"), Role::Input),
-            OptionRow('I', "detached", Kind::Optional, Role::Input),
+            OptionRow('i', "object", Kind::Default("-"), Role::Json),
+            OptionRow('I', "detached", Kind::Optional, Role::Octets),
             OptionRow('o', "text", Kind::Default("-"), Role::Output),
             OptionRow('O', "payload", Kind::Optional, Role::Output),
-            OptionRow('c', "compact", Kind::Flag, Role::Neither),
+            OptionRow('c', "compact", Kind::Flag, Role::Nothing),
         ],
     },
     CommandRow {
@@ -154,13 +166,13 @@ static COMMANDS: [CommandRow; 10] = [
         noun: "jwe",
         verb: "enc",
         options: &[
-            OptionRow('i', "template", Kind::Default("{}"), Role::Input),
-            OptionRow('I', "plaintext", Kind::Default("-"), Role::Input),
-            OptionRow('k', "keys", Kind::Required, Role::Input),
+            OptionRow('i', "template", Kind::Default("{}"), Role::Json),
+            OptionRow('I', "plaintext", Kind::Default("-"), Role::Streamed),
+            OptionRow('k', "keys", Kind::Required, Role::Keys),
             OptionRow('o', "object", Kind::Default("-"), Role::Output),
             OptionRow('O', "detached", Kind::Optional, Role::Output),
-            OptionRow('c', "compact", Kind::Flag, Role::Neither),
-            OptionRow('R', "random", Kind::Optional, Role::Input),
+            OptionRow('c', "compact", Kind::Flag, Role::Nothing),
+            OptionRow('R', "random", Kind::Optional, Role::Octets),
         ],
     },
     CommandRow {
@@ -168,10 +180,10 @@ static COMMANDS: [CommandRow; 10] = [
         noun: "jwe",
         verb: "dec",
         options: &[
-            OptionRow('i', "object", Kind::Default("-"), Role::Input),
-            OptionRow('I', "detached", Kind::Optional, Role::Input),
-            OptionRow('k', "keys", Kind::Required, Role::Input),
-            OptionRow('O', "plaintext", Kind::Default("-"), Role::Output),
+            OptionRow('i', "object", Kind::Default("-"), Role::Json),
+            OptionRow('I', "detached", Kind::Optional, Role::Octets),
+            OptionRow('k', "keys", Kind::Required, Role::Keys),
+            OptionRow('O', "plaintext", Kind::Default("-"), Role::Secret),
         ],
     },
     CommandRow {
@@ -179,11 +191,11 @@ static COMMANDS: [CommandRow; 10] = [
         noun: "jwe",
         verb: "fmt",
         options: &[
-            OptionRow('i', "object", Kind::Default("-"), Role::Input),
-            OptionRow('I', "detached", Kind::Optional, Role::Input),
+            OptionRow('i', "object", Kind::Default("-"), Role::Json),
+            OptionRow('I', "detached", Kind::Optional, Role::Octets),
             OptionRow('o', "text", Kind::Default("-"), Role::Output),
             OptionRow('O', "ciphertext", Kind::Optional, Role::Output),
-            OptionRow('c', "compact", Kind::Flag, Role::Neither),
+            OptionRow('c', "compact", Kind::Flag, Role::Nothing),
         ],
     },
 ];
@@ -193,6 +205,66 @@ impl CommandRow {
         ensures { result ≡ has_words noun.now verb.now (command_entry self.now) }
     {
         self.noun == noun && self.verb == verb
+    }
+}
+
+impl Role {
+    pub(crate) fn is_input(self) -> bool
+        ensures { result ≡ is_input self }
+    {
+        matches!(
+            self,
+            Role::Json | Role::Keys | Role::Streamed | Role::Octets
+        )
+    }
+
+    pub(crate) fn is_output(self) -> bool
+        ensures { result ≡ is_output self }
+    {
+        matches!(self, Role::Output | Role::Secret | Role::MadeKey)
+    }
+
+    /// Whether JSON may stand in the words.
+    pub(crate) fn may_be_json(self) -> bool
+        ensures { result ≡ may_be_json self }
+    {
+        matches!(self, Role::Json | Role::Keys)
+    }
+}
+
+impl Command {
+    /// Its option with this letter.
+    pub(crate) fn option(self, letter: char) -> Option<&'static OptionRow>
+        ensures { entry_of result ≡ find (λ entry. entry.letter == letter) (row_of self).options }
+    {
+        self.options().iter().find(|option| option.0 == letter)
+    }
+
+    /// Its option for keys.
+    pub(crate) fn keys(self) -> Option<&'static OptionRow>
+        ensures { entry_of result ≡ option_for is_keys self }
+    {
+        self.options()
+            .iter()
+            .find(|option| matches!(option.3, Role::Keys))
+    }
+
+    /// Its option for what is read while an output is written.
+    pub(crate) fn streamed(self) -> Option<&'static OptionRow>
+        ensures { entry_of result ≡ option_for is_streamed self }
+    {
+        self.options()
+            .iter()
+            .find(|option| matches!(option.3, Role::Streamed))
+    }
+
+    fn options(self) -> &'static [OptionRow]
+        ensures { map option_entry result.now ≡ (row_of self).options }
+    {
+        match table().iter().find(|row| row.command == self) {
+            Some(row) => row.options,
+            None => unreachable!(),
+        }
     }
 }
 

@@ -1,4 +1,4 @@
-use Rattle.std.proofs.Common.{◌≡◌, List, ℕ, Ok, refl, rules}
+use Rattle.std.proofs.Common.{Ok, refl, rules}
 use Rattle.std.proofs.Math.Seq.{drop-length}
 use Rattle.octets.specs.Devices.{appended, observed}
 use Rattle.octets.specs.Encoding.{decoding}

@@ -1,17 +1,15 @@
-use Rattle.std.proofs.Common.{◌≡◌, Bool, is_some, ◌∙◌, Ok, None, Some, false, refl, sym, true, arith}
+use Rattle.std.proofs.Common.{◌≡◌, Bool, is_some, ◌∙◌, Ok, None, Some, false, refl, sym, true}
 use Rattle.keys.specs.KeySets.{key_set}
 use Rattle.keys.specs.Limits.{limits}
 use Rattle.octets.specs.Devices.{appended}
 use Rattle.octets.specs.Plan.{plan_from}
-use Rattle.octets.proofs.Lemmas.{on_success, plan_from-by_plan}
 use Rattle.tokens.specs.Encrypting.{enc_plan}
 use Rattle.jose.specs.Doing.{input_members, output_members}
 use Rattle.jose.specs.Invocations.{settings_view}
 use Rattle.jose.proofs.Doing.{not_read}
-use Rattle.jose.proofs.Draws.{by_plan_drawn, by_plan_refused, none_drawn, nothing_drawn}
 use Rattle.jose.proofs.Fixed.{encrypted_inside}
 use Rattle.jose.proofs.Rows.{enc_is, is_given}
-use Rattle.jose.proofs.Streamed.{StreamsLent, keys_refused, streamed, unlent_call, told_unread}
+use Rattle.jose.proofs.Streamed.{StreamsLent, keys_refused, streamed, unlent_call}
 use Rattle.jose.proofs.commands.jwe.encrypt.Goals as goal
 
 pub returns-in_err-template : goal.returns-in_err-template

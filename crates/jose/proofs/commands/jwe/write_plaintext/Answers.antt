@@ -1,4 +1,4 @@
-use Rattle.std.proofs.Common.{◌≡◌, ◌∙◌, Ok, false, ap, option_map, sym}
+use Rattle.std.proofs.Common.{◌≡◌, Ok, false}
 use Rattle.objects.specs.Views.{jwe_view}
 use Rattle.keys.specs.KeySets.{key_set}
 use Rattle.keys.specs.Limits.{limits}

@@ -1,7 +1,6 @@
 use Rattle.std.proofs.Common.{◌≡◌, Bool, is_some, ◌∙◌, Ok, None, Some, false, refl, sym, true, arith}
 use Rattle.keys.specs.KeySets.{key_set}
 use Rattle.keys.specs.Limits.{limits}
-use Rattle.octets.specs.Devices.{appended}
 use Rattle.octets.specs.Plan.{by_plan}
 use Rattle.octets.proofs.Lemmas.{on_success, plan_from-by_plan}
 use Rattle.tokens.specs.Signing.{sig_plan}

@@ -1,4 +1,4 @@
-use Rattle.std.proofs.Common.{◌≡◌, ◌∙◌, ◌++◌, [], length, sym, subst}
+use Rattle.std.proofs.Common.{◌≡◌, ◌∙◌, [], length, sym, subst}
 use Rattle.octets.specs.Devices.{appended}
 use Rattle.octets.specs.Octets.{IsOctets}
 use Rattle.octets.specs.Outcomes.{AgreesUnlessExternal}
