@@ -110,7 +110,7 @@ PLACES = [
     ("jose/src/files.rt", "synchronize", "match files.sync(file) { Err(e) if e.kind() == io::ErrorKind::InvalidInput || e.kind() == io::ErrorKind::Unsupported => { Ok(()) } "
      "result => result, }", "what the system answers; that a pipe or a terminal cannot be synchronized is no failure"),
     ("jose/src/system.rt", "HostRuntime::id", "match metadata(self, path) { Ok(found) => file_id(&found), Err(_) => None,", "a file that can't be looked at is not the same"),
-    ("jose/src/files.rt", "inputs", "let text = invocation.value('i').or(invocation.value('s'));", "options of the command"),
+    ("jose/src/files.rt", "inputs", "let text = command.option_at('i').or(command.option_at('s'));", "options of the command"),
     ("jose/src/files.rt", "inputs", "let random = invocation.value('R').or(Some(SYSTEM_RANDOM));", "options of the command"),
 
     # Memory that is asked for by a number, or in a loop that does not go through a list.

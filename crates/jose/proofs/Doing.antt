@@ -14,11 +14,11 @@ use Rattle.jose.specs.declared.ports.Inputs.{Inputs}
 use Rattle.jose.specs.declared.ports.Outputs.{Outputs}
 use Rattle.jose.specs.Invocations.{InvocationView}
 use Rattle.jose.specs.Ports.{InputTexts, ObservedInputs, ArePossibleInputs, formed, input_counts, written_texts}
-use Rattle.jose.specs.Meanings.{the_content, none, of_object, spec_of}
-use Rattle.jose.specs.Answer.{answer, draft_of, content_of, content_seen, beginning, others_read, was_read, has_template, has_text_input, has_keys_input, has_content_input, has_text_output, has_content_output}
+use Rattle.jose.specs.Meanings.{of_object}
+use Rattle.jose.specs.Answer.{holds_back, takes_memory, answer, draft_of, content_seen, beginning, others_read, was_read, has_template, has_text_input, has_keys_input, has_content_input, has_text_output, has_content_output}
 use Rattle.jose.specs.Doing.{InputMembers, OutputMembers, seen_of, Does, ReadsInputs, WritesWhole, where_read}
 use Rattle.jose.proofs.Draws.{nothing_drawn, none_drawn}
-use Rattle.jose.proofs.Objects.{beside_ended, begun_of_object, drawn_of_object, has_template_beside, planned_of_object, refused_alone}
+use Rattle.jose.proofs.Objects.{beside_ended, begun_of_object, drawn_of_object, planned_of_object, refused_alone}
 
 -- ---- what was seen of the inputs
 
@@ -45,19 +45,19 @@ pub record IsReader (v : InvocationView) (has_keys given : Bool) : Type 0 where
   pub text : has_text_input v.command ≡ true
   pub keys : has_keys_input v.command ≡ has_keys
   pub content : has_content_input v ≡ false → given ≡ false
-  pub template : (has : Bool) → has_template ((spec_of v.command).content v.options) has ≡ has
-  pub memory : (spec_of v.command).takes_memory ≡ true
+  pub template : has_template v ≡ true
+  pub memory : takes_memory v.command ≡ true
   -- Where the content is handed in, the text and the keys alone refuse nothing, and draw nothing.
   pub refuses : (text keys : List ℕ) (refusal : Refusal) → draft_of v text keys ≡ Err refusal → given ≡ false
   pub draws : given ≡ true → (text keys : List ℕ) → drawn_of (draft_of v text keys) ≡ 0
   -- A command that writes as it reads reads its content so.
-  pub streams : (spec_of v.command).holds_back ≡ false → given ≡ false
-  pub streamed : (spec_of v.command).holds_back ≡ false → (spec_of v.command).content v.options ≡ the_content
+  pub streams : holds_back v.command ≡ false → given ≡ false
+  pub streamed : holds_back v.command ≡ false → has_content_input v ≡ true
 
 -- the inputs beside the content were read
 pub others_are : {v : InvocationView} {has_keys given : Bool} → IsReader v has_keys given → (seen : ObservedInputs)
     → others_read v seen ≡ (was_read has_keys seen.keys && seen.text.ended)
-others_are {v} is seen = rw (is.keys, is.template (has_text_input v.command), is.text) refl
+others_are {v} is seen = rw (is.keys, is.template) refl
 
 pub drawn_for_none : {D : Type 0} (consumed : D → List ℕ) (old new : D) (most : ℕ) → new ≡ old → length (appended (consumed old) (consumed new)) ≤ most
 drawn_for_none consumed old new most same = subst (λ d. length (appended (consumed old) (consumed d)) ≤ most) (sym same) (none_drawn (consumed old) most)
@@ -75,7 +75,7 @@ not_short {v} {has_keys} {given} is P n text keys untouched short = by_given giv
 -- Memory or an input failed, or what was read whole is refused.
 pub ends_early : {D E X : Type 0} {input : InputMembers D} {v : InvocationView} {has_keys given : Bool} {old new : Inputs D} {e : Refusal} {res : Result WholeInputs Refusal} (output : OutputMembers E) (outs : Outputs E)
     → IsReader v has_keys given → ReadsInputs input has_keys given old new res → TellsFaults {X = X} (input_counts input.failures old new) [] (Err e)
-    → (is_external e ≡ false → IsTrue (others_read v (seen_of input old new)) × ((spec_of v.command).holds_back ≡ false)
+    → (is_external e ≡ false → IsTrue (others_read v (seen_of input old new)) × (holds_back v.command ≡ false)
     × ((text keys : List ℕ) → IsPossibleInput (seen_of input old new).text text → IsPossibleInput (seen_of input old new).keys keys → draft_of v text keys ≡ Err e))
     → (r : Result (Unit {0}) Refusal) → IsErrAnd r (λ refusal. refusal ≡ e) → Does input output v old new outs outs r
 ends_early output outs is read told refused (Ok done) same = absurd same
@@ -90,11 +90,9 @@ ends_early {D} {E} {X} {input} {v} {has_keys} {given} {old} {new} {e} output out
       held_back = λ holds. record { text = λ spared. refl; content = λ others. refl };
       uncut = record { text = λ spared same. refl; content = λ others same. refl };
       unread = λ streams nothing. record { text = λ spared. refl; content = λ others. refl };
-      keeps_up = λ told streams some. absurd (some (
-          ap (λ which. (content_of which seen.text seen.content (record { octets = []; ended = true })).octets) (is.streamed streams)
-          ∙ ap (λ d. appended (input.consumed old.content) (input.consumed d)) (read.no_content (is.streams streams))
-          ∙ drop-length (input.consumed old.content)
-          ));
+      keeps_up = λ told streams some. absurd (some (rw (is.streamed streams) (
+          ap (λ d. appended (input.consumed old.content) (input.consumed d)) (read.no_content (is.streams streams)) ∙ drop-length (input.consumed old.content)
+          )));
       content_first = inl (refl, refl);
       in_order = record {
         keys = λ unread. read.keys_in_order (rw is.text at unread);
@@ -153,10 +151,9 @@ told_both inputs outputs x (Err e) i o = record { works = tt; read = λ told. ab
 pub record IsWhole (v : InvocationView) (has_keys given has_text has_content : Bool) (answer : List ℕ → List ℕ → Option (List ℕ) → Result OutputTexts Refusal) : Type 0 where
   pub text : has_text_input v.command ≡ true
   pub keys : has_keys_input v.command ≡ has_keys
-  pub content : has_content_input v ≡ false → given ≡ false
-  pub memory : (spec_of v.command).takes_memory ≡ true
-  pub holds : (spec_of v.command).holds_back ≡ true
-  pub content_is : (spec_of v.command).content v.options ≡ cond given the_content none
+  pub content : has_content_input v ≡ given
+  pub memory : takes_memory v.command ≡ true
+  pub holds : holds_back v.command ≡ true
   pub draft : (text keys : List ℕ) → draft_of v text keys ≡ of_object given (answer text (where_read has_keys keys))
   pub text_out : has_text_output v ≡ has_text
   pub content_out : has_content_output v ≡ has_content
@@ -166,8 +163,8 @@ pub reader_of : {v : InvocationView} {has_keys given has_text has_content : Bool
 reader_of {v} {has_keys} {given} {has_text} {has_content} {answer} is = record {
   text = is.text;
   keys = is.keys;
-  content = is.content;
-  template = λ has. subst (λ which. has_template which has ≡ has) (sym is.content_is) (has_template_beside given has);
+  content = λ none. sym is.content ∙ none;
+  template = rw (is.text, is.holds) refl;
   memory = is.memory;
   refuses = λ text keys refusal refused. refused_alone given (answer text (where_read has_keys keys)) refusal (sym (is.draft text keys) ∙ refused);
   draws = λ there text keys. ap drawn_of (is.draft text keys) ∙ drawn_of_object given (answer text (where_read has_keys keys));
@@ -179,10 +176,9 @@ keys_were_read : (has_keys ended : Bool) (octets : List ℕ) → (IsTrue has_key
 keys_were_read true ended octets ends = ends refl
 keys_were_read false ended octets ends = refl
 
-beside_seen : (given : Bool) (text content : List ℕ) (text_ended content_ended : Bool) → (IsTrue given → IsTrue content_ended)
-    → (content_of {A = Observed} (cond given the_content none) (record { octets = text; ended = text_ended }) (record { octets = content; ended = content_ended }) (record { octets = []; ended = true })).ended ≡ true
-beside_seen true text content text_ended content_ended ends = ends refl
-beside_seen false text content text_ended content_ended ends = refl
+beside_seen : (given : Bool) (content : Observed) → (IsTrue given → IsTrue content.ended) → (cond given content (record { octets = []; ended = true })).ended ≡ true
+beside_seen true content ends = ends refl
+beside_seen false content ends = refl
 
 pub wrote_whole : {D E : Type 0} {input : InputMembers D} {output : OutputMembers E} {v : InvocationView} {has_keys given has_text has_content : Bool}
     {answer : List ℕ → List ℕ → Option (List ℕ) → Result OutputTexts Refusal} {old new : Inputs D} {before after : Outputs E} {read : WholeInputs} (r : Result (Unit {0}) Refusal)
@@ -196,14 +192,14 @@ wrote_whole {D} {E} {input} {output} {v} {has_keys} {given} {has_text} {has_cont
     let read_as : (inputs : InputTexts) → ArePossibleInputs seen inputs → by inputs.text (where_read has_keys inputs.keys) (handed_in given inputs.content) ≡ all
     = λ inputs may. rw (read.text inputs.text may.text, read.keys inputs.keys may.keys, read.content inputs.content may.content) refl in
     let answered : (inputs : InputTexts) → ArePossibleInputs seen inputs → answer v inputs ≡ all
-    = λ inputs may. rw (is.draft inputs.text inputs.keys, is.content_is)
-    (planned_of_object given (by inputs.text (where_read has_keys inputs.keys)) inputs.random inputs.text inputs.content ∙ read_as inputs may) in
+    = λ inputs may. rw (is.draft inputs.text inputs.keys, is.content, is.holds)
+    (planned_of_object given (by inputs.text (where_read has_keys inputs.keys)) inputs.random inputs.content ∙ read_as inputs may) in
     let others : others_read v seen ≡ true = others_are reader seen ∙ rw (keys_were_read has_keys seen.keys.ended seen.keys.octets read.keys_end, read.text_ends) refl in
     let ended : (content_seen v seen).ended ≡ true
-    = rw is.content_is (beside_seen given seen.text.octets seen.content.octets seen.text.ended seen.content.ended read.content_ends) in
+    = rw (is.content, is.holds) (beside_seen given seen.content read.content_ends) in
     let stands : beginning v seen ≡ formed all true
-    = rw (others, is.draft seen.text.octets seen.keys.octets, is.content_is)
-    (begun_of_object given true (by seen.text.octets (where_read has_keys seen.keys.octets)) seen.random.octets seen.text seen.content
+    = rw (others, is.draft seen.text.octets seen.keys.octets, is.content, is.holds)
+    (begun_of_object given true (by seen.text.octets (where_read has_keys seen.keys.octets)) seen.random.octets seen.content
     ∙ rw (read_as (seen_texts input old new) (all_possible input old new), beside_ended given seen.content.ended read.content_ends) refl) in
     record {
       answer = λ inputs may. subst (λ a. AgreesUnlessExternal a (written_texts output.written before after) r) (sym (answered inputs may)) wrote.agrees;
@@ -225,7 +221,7 @@ wrote_whole {D} {E} {input} {output} {v} {has_keys} {given} {has_text} {has_cont
         random = λ unread. read.no_random;
         content = λ unread. read.content_in_order (sym (others_are reader seen) ∙ unread);
       };
-      reads_first = if_always r _ (λ e inside usage. rw (others, is.holds, ended) refl);
+      reads_first = if_always r _ (λ e inside usage. rw (others, ended, is.holds) refl);
       random_first = not_short reader (new.content ≡ old.content) _ _ _ read.no_content;
       memory_first = if_always r _ (λ e memory. (is.memory, λ streams. read.no_content (reader.streams streams)));
       content_last = λ refusal refused. (read.no_random, read.no_content (reader.refuses _ _ refusal refused));
@@ -233,7 +229,7 @@ wrote_whole {D} {E} {input} {output} {v} {has_keys} {given} {has_text} {has_cont
       unfinished = on_refusal r wrote.unfinished (λ same. (same.0, λ none. same.1 (sym is.text_out ∙ none)));
       untouched = record {
         text = λ none. let some = is.text in cc;
-        content = λ none. read.no_content (is.content none);
+        content = λ none. read.no_content (sym is.content ∙ none);
         keys = λ none. read.no_keys (sym is.keys ∙ none);
         random = λ none. read.no_random;
         text_out = λ none. wrote.no_text (sym is.text_out ∙ none);

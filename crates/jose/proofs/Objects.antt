@@ -9,8 +9,7 @@ use Rattle.octets.specs.Outcomes.{◌>>=◌, needs}
 use Rattle.octets.specs.Plan.{OutputTexts, nothing, Plan, plan_from, planned, begun, by_text, without_random, without_content, drawn_of}
 use Rattle.objects.specs.Texts.{handed_in}
 use Rattle.jose.specs.Ports.{formed}
-use Rattle.jose.specs.Meanings.{the_content, none, of_object}
-use Rattle.jose.specs.Answer.{content_of, has_template}
+use Rattle.jose.specs.Meanings.{of_object}
 
 -- ---- what is beside it
 
@@ -18,11 +17,6 @@ use Rattle.jose.specs.Answer.{content_of, has_template}
 pub beside_ended : (given ended : Bool) → (IsTrue given → IsTrue ended) → (not given || ended) ≡ true
 beside_ended true ended read = read refl
 beside_ended false ended read = refl
-
--- the text of an object is read before what is beside it
-pub has_template_beside : (given has : Bool) → has_template (cond given the_content none) has ≡ has
-has_template_beside true has = refl
-has_template_beside false has = refl
 
 -- ---- what is written of it
 
@@ -36,11 +30,11 @@ planned_by_text (Ok texts) random = ap (λ plan. planned plan []) (drawing_nothi
 planned_by_text (Err r) random = refl
 
 -- the answer of an object is that by what is handed in
-pub planned_of_object : (given : Bool) (answer : Option (List ℕ) → Result OutputTexts Refusal) (random text content : List ℕ)
-    → planned (plan_from (of_object given answer) random) (content_of (cond given the_content none) text content []) ≡ answer (handed_in given content)
-planned_of_object true answer random text content =
+pub planned_of_object : (given : Bool) (answer : Option (List ℕ) → Result OutputTexts Refusal) (random content : List ℕ)
+    → planned (plan_from (of_object given answer) random) (cond given content []) ≡ answer (handed_in given content)
+planned_of_object true answer random content =
     ap (λ plan. planned plan content) (drawing_nothing (record { whole = λ whole. answer (Some whole); fixed = λ front. nothing }) random)
-planned_of_object false answer random text content = planned_by_text (answer None) random
+planned_of_object false answer random content = planned_by_text (answer None) random
 
 formed_unread : (a : Result OutputTexts Refusal) → nothing ≡ formed a false
 formed_unread (Ok texts) = refl
@@ -56,14 +50,14 @@ formed_by_text (Ok texts) random = ap (λ plan. begun plan (record { octets = []
 formed_by_text (Err r) random = refl
 
 -- What may stand of it is all of the answer, and nothing before what is handed in was read.
-pub begun_of_object : (given others : Bool) (answer : Option (List ℕ) → Result OutputTexts Refusal) (random : List ℕ) (text content : Observed)
-    → cond others (begun (plan_from (of_object given answer) random) (content_of (cond given the_content none) text content (record { octets = []; ended = true }))) nothing
+pub begun_of_object : (given others : Bool) (answer : Option (List ℕ) → Result OutputTexts Refusal) (random : List ℕ) (content : Observed)
+    → cond others (begun (plan_from (of_object given answer) random) (cond given content (record { octets = []; ended = true }))) nothing
     ≡ formed (answer (handed_in given content.octets)) (others && (not given || content.ended))
-begun_of_object given false answer random text content = formed_unread (answer (handed_in given content.octets))
-begun_of_object true true answer random text content =
+begun_of_object given false answer random content = formed_unread (answer (handed_in given content.octets))
+begun_of_object true true answer random content =
     ap (λ plan. begun plan content) (drawing_nothing (record { whole = λ whole. answer (Some whole); fixed = λ front. nothing }) random)
     ∙ formed_by_content (answer (Some content.octets)) content.ended
-begun_of_object false true answer random text content = formed_by_text (answer None) random
+begun_of_object false true answer random content = formed_by_text (answer None) random
 
 drawn_by_text : {W : Type 0} (a : Result W Refusal) → drawn_of (by_text a) ≡ 0
 drawn_by_text (Ok texts) = refl

@@ -50,7 +50,7 @@ verified_in_one_pass {D} {E} {input} {v} {old} {text} {keys} {content} all outpu
     let reader = reader_of is in
     let by = λ (text keys : List ℕ) (detached : Option (List ℕ)). on_content (ver_answer limits all false keys detached text) in
     record {
-      answer = λ inputs may. rw (is.draft inputs.text inputs.keys, is.content_is, planned_of_object true (by inputs.text inputs.keys) inputs.random inputs.text inputs.content, drop-length (output.written outs.text), drop-length (output.written outs.content))
+      answer = λ inputs may. rw (is.draft inputs.text inputs.keys, is.content, planned_of_object true (by inputs.text inputs.keys) inputs.random inputs.content, drop-length (output.written outs.text), drop-length (output.written outs.content))
           (agrees_as_content (ver_answer limits all false inputs.keys (Some inputs.content) inputs.text) [] [] r refl (answers inputs.text inputs.keys inputs.content may.text may.keys may.content));
       drawn = if_done r (λ inputs may. nothing_drawn (input.consumed old.random) ∙ sym (reader.draws refl inputs.text inputs.keys));
       at_most = λ inputs may. none_drawn (input.consumed old.random) _;
@@ -65,7 +65,7 @@ verified_in_one_pass {D} {E} {input} {v} {old} {text} {keys} {content} all outpu
         random = λ unread. refl;
         content = λ unread. in_order.1 (sym (others_are reader seen) ∙ unread);
       };
-      reads_first = if_weaker r _ _ reads_first (λ e ended inside usage. let all = ended inside in rw (others_are reader seen, is.holds, is.content_is, all.0, all.1, all.2) refl);
+      reads_first = if_weaker r _ _ reads_first (λ e ended inside usage. let all = ended inside in rw (others_are reader seen, is.content, is.holds, all.0, all.1, all.2) refl);
       random_first = λ short. let none = reader.draws refl seen.text.octets seen.keys.octets in absurd (omega (arith, none, short));
       memory_first = if_always r _ (λ e memory. (is.memory, λ streams. let holds = is.holds in cc));
       content_last = λ refusal refused. let given = reader.refuses _ _ refusal refused in cc;
@@ -73,7 +73,7 @@ verified_in_one_pass {D} {E} {input} {v} {old} {text} {keys} {content} all outpu
       unfinished = if_always r _ (λ e. (refl, λ none. refl));
       untouched = record {
         text = λ none. let some = is.text in cc;
-        content = λ none. let given = is.content none in cc;
+        content = λ none. let given = is.content in cc;
         keys = λ none. let some = is.keys in cc;
         random = λ none. refl;
         text_out = λ none. refl;

@@ -14,8 +14,7 @@ use Rattle.jose.specs.declared.commands.WholeInputs.{WholeInputs}
 use Rattle.jose.specs.declared.ports.Inputs.{Inputs}
 use Rattle.jose.specs.declared.ports.Outputs.{Outputs}
 use Rattle.jose.specs.Invocations.{InvocationView}
-use Rattle.jose.specs.Meanings.{the_content, spec_of}
-use Rattle.jose.specs.Answer.{draft_of, beginning, others_read, has_content_input, has_random_input, has_text_output, has_content_output}
+use Rattle.jose.specs.Answer.{holds_back, draft_of, beginning, others_read, has_content_input, has_random_input, has_text_output, has_content_output}
 use Rattle.jose.specs.Doing.{InputMembers, OutputMembers, seen_of, Does, ReadsInputs}
 use Rattle.jose.proofs.Agreement.{both_on_refusal, not_memory}
 use Rattle.jose.proofs.Doing.{IsReader, ends_early, others_are, if_always, if_weaker}
@@ -114,7 +113,7 @@ told_after failures l before after is text content content' keys random random' 
 
 pub record IsStreamer (v : InvocationView) (detach : Bool) : Type 0 where
   pub reader : IsReader v true false
-  pub streams : (spec_of v.command).holds_back ≡ false
+  pub streams : holds_back v.command ≡ false
   pub content : has_content_input v ≡ true
   pub text_out : has_text_output v ≡ true
   pub content_out : has_content_output v ≡ detach
@@ -140,10 +139,9 @@ streamed {D} {E} {input} {output} {v} {draft} {plan} {old} {mid} {random} {conte
     let seen_settled : draft_of v seen.text.octets seen.keys.octets ≡ draft
     = settled _ _ (seen_possible input.consumed input.is_at_end old.text new.text) (seen_possible input.consumed input.is_at_end old.keys new.keys) in
     let others : others_read v seen ≡ true = others_are is.reader seen ∙ rw (read.keys_end refl, read.text_ends) refl in
-    let which : (spec_of v.command).content v.options ≡ the_content = is.reader.streamed is.streams in
-    let stands : beginning v seen ≡ begun (plan seen.random.octets) seen.content = rw (others, seen_settled, which, plans seen.random.octets) refl in
+    let stands : beginning v seen ≡ begun (plan seen.random.octets) seen.content = rw (others, seen_settled, is.content, plans seen.random.octets) refl in
     record {
-      answer = λ inputs may. rw (settled inputs.text inputs.keys may.text may.keys, which, plans inputs.random)
+      answer = λ inputs may. rw (settled inputs.text inputs.keys may.text may.keys, is.content, plans inputs.random)
           (rw (wrote_is output.written l before.content after.content beside) at (s.answer inputs.random inputs.content may.random may.content));
       drawn = on_success r s.drawn (λ drawn inputs may. rw (settled inputs.text inputs.keys may.text may.keys) drawn);
       at_most = λ inputs may. rw (settled inputs.text inputs.keys may.text may.keys) s.at_most;
@@ -156,11 +154,11 @@ streamed {D} {E} {input} {output} {v} {draft} {plan} {old} {mid} {random} {conte
         text = uncut.0;
         content = lent_or l (λ old new. e ≢ Write → output.written new ≡ output.written old → new ≡ old) before.content after.content beside (λ none others same. refl) uncut.1;
       });
-      unread = if_weaker r _ _ s.unread (λ e unread streams nothing. let u = unread (rw which at nothing) in record {
+      unread = if_weaker r _ _ s.unread (λ e unread streams nothing. let u = unread (rw is.content at nothing) in record {
         text = u.0;
         content = lent_or l (λ old new. e ≢ Write → new ≡ old) before.content after.content beside (λ none others. refl) u.1;
       });
-      keeps_up = λ told streams some. let u = s.keeps_up told (rw which at some) in rw (seen_settled, which, plans seen.random.octets) (
+      keeps_up = λ told streams some. let u = s.keeps_up told (rw is.content at some) in rw (seen_settled, is.content, plans seen.random.octets) (
         u.0,
         lent_or l (λ old new. KeepsUp (λ front. (fixed_by (plan seen.random.octets) front).content) seen.content.octets (output.written old) (output.written new)) before.content after.content beside
             (λ none. kept_up_by_none _ (inside_it none) seen.content.octets (output.written before.content)) u.1,
@@ -168,7 +166,7 @@ streamed {D} {E} {input} {output} {v} {draft} {plan} {old} {mid} {random} {conte
       content_first = on_refusal r s.content_first (λ first. elim (
           which_lent l (after.text ≡ before.text) output.endings (λ old new. IsTrue seen.content.ended × IsFinishedOnce output.is_finished output.endings old new
           × (output.written new ≡ output.written old ++ (begun (plan seen.random.octets) seen.content).content)) before.content after.content beside first
-          ) [ inl same ↦ inl same | inr wrote ↦ inr (λ has. rw (stands, which) (wrote (sym is.content_out ∙ has))) ]);
+          ) [ inl same ↦ inl same | inr wrote ↦ inr (λ has. rw (stands, is.content) (wrote (sym is.content_out ∙ has))) ]);
       in_order = record {
         keys = λ unread. read.keys_in_order (rw is.reader.text at unread);
         random = λ unread. cc;

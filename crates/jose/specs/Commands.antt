@@ -8,13 +8,16 @@ use Rattle.jose.specs.declared.words.table.Command.TheVariants.{JwkGen, JwkThp, 
 use Rattle.jose.specs.declared.words.table.Role.{Role}
 use Rattle.jose.specs.declared.words.table.Role.TheVariants.{Json, Keys, Streamed, Octets, Output, Secret, MadeKey, Hash, Nothing}
 
--- what an option takes: nothing, a value that has to be given, a value, or a value with a default (docs/SPECIFICATION.md "Commands")
+-- ---- what a row says (docs/SPECIFICATION.md "Commands")
+
+-- what an option takes: nothing, a value that has to be given, a value, or a value with a default
 pub data Takes : Type 0 where
   flag : Takes
   required : Takes
   optional : Takes
   default : Text → Takes
 
+-- its letter, a name for what it is for, what it takes, and what its value names, of which crates/jose/src/words/table.rt says more
 pub record OptionEntry : Type 0 where
   pub letter : ℕ
   pub name : Text
@@ -96,7 +99,19 @@ row_of JweFmt = row JweFmt "jwe" "fmt" (
 unfoldable pub commands : List CommandEntry
 commands = map row_of (JwkGen ∷ JwkThp ∷ B64Enc ∷ B64Dec ∷ JwsSig ∷ JwsVer ∷ JwsFmt ∷ JweEnc ∷ JweDec ∷ JweFmt ∷ [])
 
--- ---- what a role says
+-- ---- what a role says (docs/SPECIFICATION.md "Commands" 1 to 3)
+
+abbrev pub same_role : Role → Role → Bool
+same_role Json Json = true
+same_role Keys Keys = true
+same_role Streamed Streamed = true
+same_role Octets Octets = true
+same_role Output Output = true
+same_role Secret Secret = true
+same_role MadeKey MadeKey = true
+same_role Hash Hash = true
+same_role Nothing Nothing = true
+same_role role other = false
 
 abbrev pub is_input : Role → Bool
 is_input Json = true
@@ -111,29 +126,21 @@ is_output Secret = true
 is_output MadeKey = true
 is_output other = false
 
-abbrev pub is_keys : Role → Bool
-is_keys Keys = true
-is_keys other = false
+-- it is JSON, which may stand in the words
+abbrev pub is_json : Role → Bool
+is_json Json = true
+is_json Keys = true
+is_json other = false
 
-abbrev pub is_streamed : Role → Bool
-is_streamed Streamed = true
-is_streamed other = false
-
--- JSON may stand in the words
-abbrev pub may_be_json : Role → Bool
-may_be_json Json = true
-may_be_json Keys = true
-may_be_json other = false
-
--- ---- look-ups
+-- ---- look-ups (docs/SPECIFICATION.md "Commands")
 
 -- the option of a command with this letter
 abbrev pub option_at : String → Command → Option OptionEntry
 option_at letter command = find (λ entry. entry.letter == byte letter) (row_of command).options
 
--- the first option of a command with such a role
-abbrev pub option_for : (Role → Bool) → Command → Option OptionEntry
-option_for is command = find (λ entry. is entry.role) (row_of command).options
+-- the first option of a command with this role
+abbrev pub option_with : Role → Command → Option OptionEntry
+option_with role command = find (λ entry. same_role entry.role role) (row_of command).options
 
 abbrev pub has_option : String → Command → Bool
 has_option letter command = is_some (option_at letter command)

@@ -20,7 +20,7 @@ use Rattle.jose.specs.declared.files.Sink.{Sink}
 use Rattle.jose.specs.declared.files.Sink.TheVariants as sink
 use Rattle.jose.specs.declared.ports.Inputs.{Inputs}
 use Rattle.jose.specs.declared.ports.Outputs.{Outputs}
-use Rattle.jose.specs.Commands.{OptionEntry, option_at, option_for, is_keys, is_streamed, may_be_json}
+use Rattle.jose.specs.Commands.{OptionEntry, option_at, option_with, is_json}
 use Rattle.jose.specs.Invocations.{Settings, InvocationView, value_at}
 use Rattle.jose.specs.System.{name_of, MayBeSynchronized}
 
@@ -61,16 +61,16 @@ IsUnopenedSource other = ⊤
 -- What an option's value means: no value no octets, `-` standard input, a text that begins with `{` itself
 -- where JSON may stand in the words, and each other text the file of this name.
 abbrev pub origin_named : Bool → Option Text → Origin
-origin_named is_json None = words []
-origin_named is_json (Some text) =
+origin_named may_be_json None = words []
+origin_named may_be_json (Some text) =
     if bytes_eq text (codes "-") then standard_input
-    else if is_json && (slice_index text 0 == byte "{") then words text
+    else if may_be_json && (slice_index text 0 == byte "{") then words text
     else input_file text
 
 -- what is read of an option: nothing, where the command has none
 abbrev pub origin_at : Option OptionEntry → Settings → Origin
 origin_at None settings = words []
-origin_at (Some option) settings = origin_named (may_be_json option.role) (value_at option.letter settings)
+origin_at (Some option) settings = origin_named (is_json option.role) (value_at option.letter settings)
 
 -- the files of the standard streams
 abbrev pub standard_input_file : Text
@@ -155,11 +155,11 @@ destination_at (Some option) others settings = destination_named (purpose_of opt
 
 -- that of the content which is read while an output is written
 abbrev pub streamed_file : InvocationView → Option Text
-streamed_file invocation = file_of (origin_at (option_for is_streamed invocation.command) invocation.options)
+streamed_file invocation = file_of (origin_at (option_with role.Streamed invocation.command) invocation.options)
 
 -- that of the keys
 abbrev pub keys_file : InvocationView → Option Text
-keys_file invocation = file_of (origin_at (option_for is_keys invocation.command) invocation.options)
+keys_file invocation = file_of (origin_at (option_with role.Keys invocation.command) invocation.options)
 
 -- the file of an output that an option's value names
 abbrev pub file_written : Option Text → Option Text

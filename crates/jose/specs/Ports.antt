@@ -10,7 +10,7 @@ use Rattle.objects.specs.Texts.{handed_out}
 use Rattle.jose.specs.declared.ports.Inputs.{Inputs}
 use Rattle.jose.specs.declared.ports.Outputs.{Outputs}
 
--- ---- whole lists
+-- ---- whole lists (docs/SPECIFICATION.md "Commands")
 
 -- all octets of each input
 pub record InputTexts : Type 0 where
@@ -20,6 +20,7 @@ pub record InputTexts : Type 0 where
   pub random : List ℕ
 
 -- what may stand written of an answer, as a whole: nothing before its inputs are read and accepted
+-- (docs/SPECIFICATION.md "Commands", "What is left after a refusal")
 abbrev pub formed : Result OutputTexts Refusal → Bool → OutputTexts
 formed (Ok texts) true = texts
 formed answer read = nothing
@@ -40,11 +41,11 @@ on_text answer = answer >>= λ octets. Ok (as_text octets)
 abbrev pub on_content : Result (List ℕ) Refusal → Result OutputTexts Refusal
 on_content answer = answer >>= λ octets. Ok (as_content octets)
 
--- the text of an object, and its content beside it where that is detached
+-- the text of an object, and its content beside it where that is detached (docs/SPECIFICATION.md "Commands" 4)
 abbrev pub object_texts : Bool → List ℕ → List ℕ → OutputTexts
 object_texts detach content text = record { text = text; content = handed_out detach content }
 
--- ---- what a run read
+-- ---- what a run read (docs/SPECIFICATION.md "Devices")
 
 pub record ObservedInputs : Type 0 where
   pub text : Observed
@@ -73,7 +74,7 @@ pub record AreFinite {D : Type 0} (remaining : D → Count) (inputs : Inputs D) 
   pub content : IsFinite (remaining inputs.content)
   pub keys : IsFinite (remaining inputs.keys)
 
--- ---- what a run wrote
+-- ---- what a run wrote (docs/SPECIFICATION.md "Devices")
 
 abbrev pub written_texts : {D : Type 0} → (D → List ℕ) → Outputs D → Outputs D → OutputTexts
 written_texts written old new = record {
@@ -81,12 +82,12 @@ written_texts written old new = record {
   content = appended (written old.content) (written new.content);
 }
 
--- each output has grown by a beginning of its text
+-- each output has grown by a beginning of its text (docs/SPECIFICATION.md "Commands", "What is left after a refusal")
 pub record AppendPrefixesOf {D : Type 0} (written : D → List ℕ) (texts : OutputTexts) (old new : Outputs D) : Type 0 where
   pub text : AppendsPrefixOf texts.text (written old.text) (written new.text)
   pub content : AppendsPrefixOf texts.content (written old.content) (written new.content)
 
--- ---- failures
+-- ---- failures (docs/SPECIFICATION.md "Devices")
 
 -- the counts of the inputs, and of the outputs
 abbrev pub input_counts : {D : Type 0} → (D → ℕ) → Inputs D → Inputs D → List Counts

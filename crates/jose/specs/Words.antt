@@ -1,6 +1,5 @@
 -- What the program's arguments ask for.
-use Rattle.std.specs.Prelude.{ℕ, ◌&&◌, Bool, true, false, nat_le, List, ◌∷◌, Option, count_by, is_some, codes, Result, Ok, Err}
-use Rattle.std.specs.List.{list_all}
+use Rattle.std.specs.Prelude.{ℕ, ◌&&◌, Bool, true, false, not, nat_eq, nat_le, List, ◌∷◌, Option, count_by, is_some, codes, Result, Ok, Err}
 use Rattle.std.specs.Option.{ok_or, option_and_then, option_map_or}
 use Rattle.std.specs.Str.{bytes_eq}
 use Rattle.clap.specs.Words.{Text}
@@ -27,16 +26,13 @@ standard_count is options settings = count_by (names_standard is settings) optio
 
 -- ---- the words
 
-abbrev pub is_served_as : Role → Option Text → Bool
-is_served_as Hash value = is_some (option_and_then hash_named value)
-is_served_as other value = true
+-- the value of an option for a hash names one of the four
+abbrev pub is_served : Role → Option Text → Bool
+is_served Hash value = is_some (option_and_then hash_named value)
+is_served other value = true
 
--- where the option is for a hash, it names one of the four
-abbrev pub is_served : Settings → OptionEntry → Bool
-is_served settings option = is_served_as option.role (value_at option.letter settings)
-
-abbrev pub are_served : List OptionEntry → Settings → Bool
-are_served options settings = list_all (is_served settings) options
+abbrev pub unserved_count : List OptionEntry → Settings → ℕ
+unserved_count options settings = count_by (λ option. not (is_served option.role (value_at option.letter settings))) options
 
 -- Two words pick the command, and the others are its options. At most one input is standard input,
 -- and at most one output is standard output.
@@ -46,6 +42,6 @@ invocation_of (noun ∷ (verb ∷ words)) = do
   settings ← settings_read entry.options words
   ok ← needs (nat_le (standard_count is_input entry.options settings) 1) Usage
   ok ← needs (nat_le (standard_count is_output entry.options settings) 1) Usage
-  ok ← needs (are_served entry.options settings) Usage
+  ok ← needs (nat_eq (unserved_count entry.options settings) 0) Usage
   Ok (record { command = entry.command; options = settings })
 invocation_of words = Err Usage

@@ -10,7 +10,7 @@ ghost use Rattle.jose.specs.Invocations.{invocation_view};
 ghost use Rattle.jose.specs.Rows.{entry_of};
 ghost use Rattle.jose.specs.Files.{words, origin_of, origin_named, origin_at, after_read, source_remaining, IsOpenSource, IsUnopenedSource, file_of, AreNewInputs};
 ghost use Rattle.jose.specs.System.{MayBeOne, IsApart, IsNotApart, MayBeSynchronized, CannotBeSynchronized, name_of};
-ghost use Rattle.jose.specs.Files.{nowhere, destination_of, destination_named, destination_at, sink_contents, IsOpenSink, IsUnopenedSink, IsKept, mode_for, purpose_of, others_of, file_written, AreNewOutputs};
+ghost use Rattle.jose.specs.Files.{nowhere, destination_of, destination_at, sink_contents, IsOpenSink, IsUnopenedSink, IsKept, mode_for, purpose_of, others_of, file_written, AreNewOutputs};
 
 use crate::ports::{Inputs, Outputs};
 use crate::system::System;
@@ -265,9 +265,9 @@ pub(crate) fn inputs<'a, R: Files>(
     ensures { AreNewInputs (invocation_view invocation.now) result }
 {
     let command = invocation.command;
-    let text = command.option('i').or(command.option('s'));
-    let content = command.option('I');
-    let keys = command.option('k');
+    let text = command.option_at('i').or(command.option_at('s'));
+    let content = command.option_at('I');
+    let keys = command.option_at('k');
     let random = invocation.value('R').or(Some(SYSTEM_RANDOM));
     Inputs {
         text: ReaderInput::new(input_of(files, standard, text, invocation)),
@@ -293,7 +293,7 @@ fn input_of<'a, R: Files>(
             files,
             standard,
             invocation.value(*letter),
-            role.may_be_json(),
+            role.is_json(),
         ),
         None => Source::Words(&[]),
     }
@@ -331,11 +331,11 @@ pub(crate) fn outputs<'a, R: System>(
     ensures { AreNewOutputs (invocation_view invocation.now) result }
 {
     let command = invocation.command;
-    let text = command.option('o');
-    let content = command.option('O');
+    let text = command.option_at('o');
+    let content = command.option_at('O');
     let content_apart = Apart {
-        content: file_read(command.streamed(), invocation),
-        keys: file_read(command.keys(), invocation),
+        content: file_read(command.option_with(Role::Streamed), invocation),
+        keys: file_read(command.option_with(Role::Keys), invocation),
         beside: None,
     };
     let text_apart = Apart {
@@ -395,7 +395,7 @@ fn file_read<'a>(option: Option<&OptionRow>, invocation: &'a Invocation) -> Opti
     match invocation.value(letter) {
         None => None,
         Some("-") => Some(STANDARD_INPUT),
-        Some(text) if role.may_be_json() && text.starts_with('{') => None,
+        Some(text) if role.is_json() && text.starts_with('{') => None,
         Some(path) => Some(path),
     }
 }

@@ -2,9 +2,9 @@
 ghost use Rattle.std.specs.Prelude.{◌≡◌, map, string_bytes};
 ghost use Rattle.octets.specs.Outcomes.{AgreesUnlessMemory};
 ghost use Rattle.jose.specs.Rows.{option_entry};
-ghost use Rattle.jose.specs.Invocations.{invocation_view};
+ghost use Rattle.jose.specs.Invocations.{invocation_view, value_at};
 ghost use Rattle.jose.specs.Commands.{is_input, is_output};
-ghost use Rattle.jose.specs.Words.{invocation_of, standard_count, is_served, are_served};
+ghost use Rattle.jose.specs.Words.{invocation_of, is_dash, standard_count, is_served, unserved_count};
 
 pub(crate) mod invocation;
 mod options;
@@ -36,7 +36,8 @@ pub fn parse(alloc: Global, words: &[String]) -> Result<Invocation, Refusal>
     needs(inputs <= 1, Refusal::Usage)?;
     let outputs = count_standard_outputs(row.options, &invocation);
     needs(outputs <= 1, Refusal::Usage)?;
-    needs(are_served(row.options, &invocation), Refusal::Usage)?;
+    let unserved = count_unserved(row.options, &invocation);
+    needs(unserved == 0, Refusal::Usage)?;
     Ok(invocation)
 }
 
@@ -47,7 +48,7 @@ fn count_standard_inputs(options: &[OptionRow], invocation: &Invocation) -> usiz
 {
     options
         .iter()
-        .filter(|option| option.3.is_input() && invocation.value(option.0) == Some("-"))
+        .filter(|option| option.3.is_input() && is_standard(option, invocation))
         .count()
 }
 
@@ -58,25 +59,35 @@ fn count_standard_outputs(options: &[OptionRow], invocation: &Invocation) -> usi
 {
     options
         .iter()
-        .filter(|option| option.3.is_output() && invocation.value(option.0) == Some("-"))
+        .filter(|option| option.3.is_output() && is_standard(option, invocation))
         .count()
 }
 
-/// Each option for a hash names one of the four.
-fn are_served(options: &[OptionRow], invocation: &Invocation) -> bool
+/// How many options for a hash name none of the four.
+fn count_unserved(options: &[OptionRow], invocation: &Invocation) -> usize
     ensures { result
-        ≡ are_served (map option_entry options.now) (invocation_view invocation.now).options }
+        ≡ unserved_count (map option_entry options.now) (invocation_view invocation.now).options }
 {
-    options.iter().all(|option| is_served(option, invocation))
+    options
+        .iter()
+        .filter(|option| !is_served(option, invocation))
+        .count()
+}
+
+fn is_standard(option: &OptionRow, invocation: &Invocation) -> bool
+    ensures { result ≡ is_dash (value_at (option_entry option.now).letter (invocation_view invocation.now).options) }
+{
+    let OptionRow(letter, _, _, _) = *option;
+    invocation.value(letter) == Some("-")
 }
 
 fn is_served(option: &OptionRow, invocation: &Invocation) -> bool
-    ensures { result ≡ is_served (invocation_view invocation.now).options (option_entry option.now) }
+    ensures { result
+        ≡ is_served (option_entry option.now).role (value_at (option_entry option.now).letter (invocation_view invocation.now).options) }
 {
     let OptionRow(letter, _, _, role) = *option;
-    match (role, invocation.value(letter)) {
-        (Role::Hash, Some(name)) => hash_named(name).is_some(),
-        (Role::Hash, None) => false,
+    match role {
+        Role::Hash => invocation.value(letter).and_then(hash_named).is_some(),
         _ => true,
     }
 }

@@ -1,7 +1,7 @@
 //! The commands of the program, in one table: their words, and what each option takes and names.
 ghost use Rattle.std.specs.Prelude.{◌≡◌, ◌==◌, find, map, option_map, true, IfSome};
 ghost use Rattle.clap.specs.Words.{is_simple_and_free};
-ghost use Rattle.jose.specs.Commands.{commands, command_named, has_words, row_of, option_for, is_input, is_output, is_keys, is_streamed, may_be_json};
+ghost use Rattle.jose.specs.Commands.{commands, command_named, has_words, row_of, option_with, is_input, is_output, is_json};
 ghost use Rattle.jose.specs.Rows.{command_entry, entry_of, option_entry};
 ghost use Rattle.jose.specs.Reading.{app_for};
 
@@ -44,7 +44,7 @@ pub(crate) enum Kind {
 }
 
 /// What the value of an option names. An input or an output is a file, or `-` for a standard stream.
-#[derive(Clone, Copy)]
+#[derive(Clone, Copy, PartialEq, Eq)]
 pub(crate) enum Role {
     /// An input of JSON, which may also stand in the words.
     Json,
@@ -224,9 +224,9 @@ impl Role {
         matches!(self, Role::Output | Role::Secret | Role::MadeKey)
     }
 
-    /// Whether JSON may stand in the words.
-    pub(crate) fn may_be_json(self) -> bool
-        ensures { result ≡ may_be_json self }
+    /// Whether it is JSON, which may stand in the words.
+    pub(crate) fn is_json(self) -> bool
+        ensures { result ≡ is_json self }
     {
         matches!(self, Role::Json | Role::Keys)
     }
@@ -234,28 +234,17 @@ impl Role {
 
 impl Command {
     /// Its option with this letter.
-    pub(crate) fn option(self, letter: char) -> Option<&'static OptionRow>
+    pub(crate) fn option_at(self, letter: char) -> Option<&'static OptionRow>
         ensures { entry_of result ≡ find (λ entry. entry.letter == letter) (row_of self).options }
     {
         self.options().iter().find(|option| option.0 == letter)
     }
 
-    /// Its option for keys.
-    pub(crate) fn keys(self) -> Option<&'static OptionRow>
-        ensures { entry_of result ≡ option_for is_keys self }
+    /// Its first option with this role.
+    pub(crate) fn option_with(self, role: Role) -> Option<&'static OptionRow>
+        ensures { entry_of result ≡ option_with role self }
     {
-        self.options()
-            .iter()
-            .find(|option| matches!(option.3, Role::Keys))
-    }
-
-    /// Its option for what is read while an output is written.
-    pub(crate) fn streamed(self) -> Option<&'static OptionRow>
-        ensures { entry_of result ≡ option_for is_streamed self }
-    {
-        self.options()
-            .iter()
-            .find(|option| matches!(option.3, Role::Streamed))
+        self.options().iter().find(|option| option.3 == role)
     }
 
     fn options(self) -> &'static [OptionRow]

@@ -3,7 +3,7 @@ use Rattle.std.proofs.lemmas.Iterator.{YieldsList-from_slice}
 use Rattle.std.proofs.lemmas.Iterator.Search.{find_from_yields_List}
 use Rattle.jose.specs.Rows.{option_entry}
 use Rattle.jose.proofs.Finding.{found_mapped}
-use Rattle.jose.proofs.words.table.Command.option.Goals as goal
+use Rattle.jose.proofs.words.table.Command.option_at.Goals as goal
 
 pub returns : goal.returns
 returns c =
