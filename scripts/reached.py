@@ -2,7 +2,7 @@
 """Computes which definitions of crates/*/specs the promises reach, and compares docs/AUDIT.md with their pages.
 
 usage: scripts/reached.py           compares and counts; scripts/calls does the same
-       scripts/reached.py --list    prints the reached definitions by page, and marks those whose comment cites nothing
+       scripts/reached.py --list    prints the reached definitions by page, and marks those that cite nothing
        scripts/reached.py --kit     prints the pages of the kit that they use, all the way down, with their lines
 
 The promises are the contract of `run` (crates/jose/src/run.rt), with the traits of its devices, and the laws of each crate (src/laws.rt).
@@ -13,7 +13,8 @@ types of the code, which reach the types of their fields and what their invarian
 docs/AUDIT.md names pages as `crate/Page`. These fail:
 - a page with reached definitions that is in no row of its section "The pages in reading order", or in two, and a row of any other page;
 - another page that is not in its section "What need not be read";
-- a name that is not there: a law or a test in the tables of docs/AUDIT.md; a definition, written `crate/Page.name`, in it or in docs/STEPS.md.
+- a name that is not there: a law or a test in the tables of docs/AUDIT.md; a definition, written `crate/Page.name`, in it or in docs/STEPS.md;
+- a reached definition without a section, a step or a heading of docs/SPECIFICATION.md in the comment above it or above its group.
 
 It reads words and not meanings, so it may take the name of a variable for a definition, and then asks for a page too many.
 """
@@ -383,11 +384,11 @@ def compare():
     compare_names(library)
     definitions = {(module, name): library.page(module).definitions[name] for module, name in reached}
     cites = citation()
-    bare = [module for (module, _), it in definitions.items() if not cites.search(it.comment) and not cites.search(it.group)]
+    for (module, name), it in sorted(definitions.items()):
+        if not cites.search(it.comment) and not cites.search(it.group):
+            fault(f"{module.replace('.specs.', '/')}.{name} cites no section, step or heading in the comment above it or its group")
     lines, of_run = sum(map(lines_of, definitions.values())), sum(lines_of(definitions[it]) for it in run)
-    unheaded = sum(not cites.search(library.page(it).head) for it in bare)
-    return (f"{len(reached_pages)} pages with {len(reached)} definitions that the promises reach, of {lines} lines, {of_run} of them by `run`; "
-            f"{len(bare)} cite no section, step or heading in front of them or of their group, {unheaded} of these on pages that cite none in their head")
+    return f"{len(reached_pages)} pages with {len(reached)} definitions that the promises reach, of {lines} lines, {of_run} of them by `run`"
 
 
 def show():

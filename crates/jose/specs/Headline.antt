@@ -16,15 +16,15 @@ use Rattle.tokens.specs.Encrypting.{MayDecrypt, OpensNoOther}
 use Rattle.jose.specs.Jwe.{enc_answer, dec_answer}
 use Rattle.jose.specs.Jws.{sig_answer, ver_answer}
 
--- ---- `jwe enc` and `jwe dec`
+-- ---- `jwe enc` and `jwe dec` (RFC 7516 sections 5.1 and 5.2)
 
 -- the key text holds this key alone, as a key or as a set
 abbrev pub HoldsAlone : Limits → OctetKey → List ℕ → Type 0
 HoldsAlone limits key text = key_set limits text false ≡ Ok (key ∷ [])
 
--- Where a plaintext is encrypted under the limits of one profile, what is written is the text of an object under those of another. Every
--- text that spells this object, with the ciphertext in it or beside it, is decrypted to the plaintext under these with a text of one of
--- the keys, which may decrypt and opens nothing else at the recipient of a key before it.
+-- If `jwe enc` writes texts under some limits, these are the text of an object under other limits. Every text that spells this object, with
+-- the ciphertext inside or detached, is decrypted to the plaintext with a text of one of the keys alone. The key may decrypt, and opens
+-- nothing else at the recipient of a key before it.
 abbrev pub EncryptedIsDecrypted : Limits → Limits → Type 0
 EncryptedIsDecrypted writing reading =
     (compact detach : Bool) (keys template random plaintext : List ℕ) (texts : OutputTexts) → IsOctets random → IsOctets plaintext
@@ -36,15 +36,15 @@ EncryptedIsDecrypted writing reading =
     → jwe_of reading detached text ≡ Ok o
     → dec_answer reading key_text detached text ≡ Ok plaintext))
 
--- ---- `jws sig` and `jws ver`
+-- ---- `jws sig` and `jws ver` (RFC 7515 sections 5.1 and 5.2)
 
 -- the key text holds some of these keys and no others, each of which may verify
 abbrev pub HoldsSome : List OctetKey → List ℕ → Type 0
 HoldsSome keys text =
     (held : List OctetKey) × ((key_set limits text false ≡ Ok held) × AllByRecursion (λ key. Contains keys key × (allows key Verify ≡ true)) held)
 
--- Where keys sign a payload, what is written is the text of an object. Every text that spells this object, with the payload in it or
--- beside it, is verified with a text of some of the keys, with `-a` and without, and the payload is written where it is asked for.
+-- If `jws sig` writes texts, these are the text of an object. Every text that spells this object, with the payload inside or detached, is
+-- verified with a text of some of the keys, with `-a` and without. The payload is written if it is asked for.
 abbrev pub SignedIsVerified : Type 0
 SignedIsVerified = (compact detach : Bool) (keys template payload : List ℕ) (texts : OutputTexts) → IsOctets payload
     → planned (sig_answer limits compact detach keys template) payload ≡ Ok texts
@@ -54,17 +54,17 @@ SignedIsVerified = (compact detach : Bool) (keys template payload : List ℕ) (t
     → jws_of limits detached text ≡ Ok o
     → ver_answer limits all wanted key_text detached text ≡ Ok (if wanted then payload else [])))
 
--- ---- `jws fmt` and `jwe fmt`
+-- ---- `jws fmt` and `jwe fmt` (RFC 7515 section 7 and RFC 7516 section 7)
 
--- What is read as an object is written in compact form exactly where the object fits, with the content in the text or beside it. Where it
--- does not fit, the refusal is NotCompact.
+-- An object that is read is written in compact form exactly if it fits, with the content inside or detached. If it does not fit, the refusal
+-- is NotCompact.
 abbrev pub GoesToCompactForm : {O : Type 0} → (Option (List ℕ) → List ℕ → Result O Refusal) → (O → Type 0) → (Bool → Bool → Option (List ℕ) → List ℕ → Result OutputTexts Refusal) → Type 0
 GoesToCompactForm {O} read Fits fmt = (beside : Bool) (detached : Option (List ℕ)) (text : List ℕ) (o : O) → read detached text ≡ Ok o
     → (((compact : OutputTexts) × (fmt true beside detached text ≡ Ok compact)) ↔ Fits o)
     × (¬ Fits o → fmt true beside detached text ≡ Err NotCompact)
 
--- What is written in JSON form, then from this in compact form, and from this in JSON form again is the same as at first, with the content
--- in each text or beside it.
+-- An object that is written in JSON form, then in compact form and then in JSON form again has the same text as at first, with the content
+-- inside each text or detached.
 abbrev pub FormatsGoBack : (Bool → Bool → Option (List ℕ) → List ℕ → Result OutputTexts Refusal) → Type 0
 FormatsGoBack fmt = (beside_json beside_compact : Bool) (detached : Option (List ℕ)) (text : List ℕ) (json compact : OutputTexts) → AreOctetsHandedIn detached → IsOctets text
     → fmt false beside_json detached text ≡ Ok json

@@ -9,6 +9,8 @@ use Rattle.jose.specs.declared.words.table.Command.{Command}
 use Rattle.jose.specs.declared.words.invocation.Setting.{Setting}
 use Rattle.jose.specs.declared.words.invocation.Invocation.{Invocation}
 
+-- ---- the options of an invocation (docs/SPECIFICATION.md "Commands")
+
 -- the letter and the value of each option that was given or has a default
 abbrev pub Settings : Type 0
 Settings = List (ℕ × Text)

@@ -14,7 +14,9 @@ use Rattle.tokens.specs.EncryptionTemplate.{EncryptionTemplate, encryption_templ
 use Rattle.jose.specs.Jwe.{enc_answer, dec_answer, jwe_fmt_answer}
 use Rattle.jose.specs.Jws.{ver_answer, jws_fmt_answer}
 
--- The second limits allow what the first do. Those of keys and of depth, and the algorithms, are the same.
+-- ---- the limits (docs/SPECIFICATION.md "Keys", "Objects", "Encrypting" and "Decrypting")
+
+-- The second limits allow all that the first allow. Those of keys and of depth, and the algorithms, are the same.
 pub record AreWider (narrower wider : Limits) : Type 0 where
   pub keys : wider.keys ≡ narrower.keys
   pub key_octets : wider.key_octets ≡ narrower.key_octets
@@ -26,11 +28,13 @@ pub record AreWider (narrower wider : Limits) : Type 0 where
   pub p2c_sum : narrower.p2c_sum ≤ wider.p2c_sum
   pub management : wider.management ≡ narrower.management
 
--- an answer that is not Limit stays
+-- ---- what wider limits leave as it is (docs/SPECIFICATION.md "Refusals")
+
+-- an answer other than Limit stays as it is
 abbrev pub StaysUnlessLimit : {X : Type 0} → Result X Refusal → Result X Refusal → Type 0
 StaysUnlessLimit narrower wider = narrower ≢ Err Limit → wider ≡ narrower
 
--- what is read of an object by `jwe dec`, `jws ver` and both `fmt`, of all keys and objects
+-- the answers of `jwe dec`, `jws ver` and both `fmt`, for all keys and objects
 pub record ReadsAsBefore (narrower wider : Limits) : Type 0 where
   pub dec : (keys : List ℕ) (detached : Option (List ℕ)) (text : List ℕ) → StaysUnlessLimit (dec_answer narrower keys detached text) (dec_answer wider keys detached text)
   pub ver : (all wanted : Bool) (keys : List ℕ) (detached : Option (List ℕ)) (text : List ℕ)
@@ -40,13 +44,13 @@ pub record ReadsAsBefore (narrower wider : Limits) : Type 0 where
   pub jwe_fmt : (compact detach : Bool) (detached : Option (List ℕ)) (text : List ℕ)
       → StaysUnlessLimit (jwe_fmt_answer narrower compact detach detached text) (jwe_fmt_answer wider compact detach detached text)
 
--- no receiver is a password, or the template gives the iterations
+-- no recipient key is a password, or the template gives the iterations
 abbrev pub IsCounted : List OctetKey → List ℕ → Type 0
 IsCounted keys text =
-    (value : Data) (template : EncryptionTemplate) (receivers : List RecipientKey) → json_value text ≡ Ok value → encryption_template value ≡ Ok template
-    → each (recipient_key_by template.asked.management) keys ≡ Ok receivers → (password_count receivers == 0 || is_given template.asked.p2c) ≡ true
+    (value : Data) (template : EncryptionTemplate) (recipient_keys : List RecipientKey) → json_value text ≡ Ok value → encryption_template value ≡ Ok template
+    → each (recipient_key_by template.asked.management) keys ≡ Ok recipient_keys → (password_count recipient_keys == 0 || is_given template.asked.p2c) ≡ true
 
--- what `jwe enc` writes, and how many random octets it takes
+-- the answer of `jwe enc`, and how many random octets it draws
 abbrev pub EncryptsAsBefore : Limits → Limits → Type 0
 EncryptsAsBefore narrower wider =
     (compact detach : Bool) (keys : List ℕ) (template random plaintext : List ℕ) → ((set : List OctetKey) → key_set narrower keys true ≡ Ok set → IsCounted set template)

@@ -1,4 +1,4 @@
-//! Prints the table of commands and the refusals, which scripts/table.py reads: the pages, the documents and the
+//! Prints the table of commands and the refusals, which scripts/lib/table.py reads: the pages, the documents and the
 //! completions are compared with them.
 use crate::files::SYSTEM_RANDOM;
 use crate::words::table::{Kind, OptionRow, Role, table};
