@@ -28,7 +28,7 @@ ORDER, NUMBERS, OTHERS = "The pages in reading order", "Tables and numbers", "Wh
 
 Definition = collections.namedtuple("Definition", "lines comment group cases")
 # Names of other modules, by import and by alias, and the definitions.
-Page = collections.namedtuple("Page", "path head names aliases definitions")
+Page = collections.namedtuple("Page", "path names aliases definitions")
 
 WORD = re.compile(r'"(?:\\.|[^"\\])*"|[(){}\[\];,λ∷.]|[^\s(){}\[\];,λ∷."]+')
 DECLARED_BY = ("struct", "enum", "trait", "type")
@@ -89,8 +89,7 @@ def page_of(path):
     for definition in definitions.values():
         if re.match(r"(pub )?data ", definition.lines[0]):
             definition.cases.extend(it for line in definition.lines[1:] for it in re.findall(r"^\s+([^\s:]+) :", line))
-    head = re.match(r"(?:--.*\n)*", text).group(0)
-    return Page(path, head, *imports(text, r"(?m:^)(?:pub )?use"), definitions)
+    return Page(path, *imports(text, r"(?m:^)(?:pub )?use"), definitions)
 
 
 def bracket_names(words, at):
