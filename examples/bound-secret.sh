@@ -1,7 +1,7 @@
 #!/bin/sh
 # Secrets for several hosts that share one key: each object names its host in `aad`, and a host opens only an object that names it.
-# The name cannot be changed without the key. But an unchanged object of another host opens too, so each reader has to ask for its own
-# name. Hosts that have a key each need none of this.
+# The name cannot be changed without the key. But an unchanged object of another host opens too, so each reader must compare the name
+# with its own. Hosts that have a key each need none of this.
 set -eu
 umask 077
 jose jwk gen -i '{"alg":"A256KW","kid":"hosts"}' -o hosts.jwk
@@ -27,8 +27,8 @@ open_for() (
 [ "$(open_for host-7 host-7/secret)" = 'correct horse' ]
 [ "$(open_for host-8 host-8/secret)" = 'battery staple' ]
 
-# put_in NAME OBJECT: the same in another way. The object is built again with this name in the place of its own, and jose refuses it if
-# it was made for another: the refusal is 17 NotOpened.
+# put_in NAME OBJECT: the same in another way. The object is built again with this name in the place of its own. If it was made for
+# another host, jose refuses it with 17 NotOpened.
 put_in() (
     name=$(printf %s "$1" | jose b64 enc)
     object=$(jose jwe fmt -i "$2") || exit
@@ -51,7 +51,7 @@ cp host-7/secret host-8/secret
 refused open_for host-8 host-8/secret
 refused put_in host-8 host-8/secret
 
-# They write the name of host-8 over that of host-7, beside it, or under another name of a member.
+# They write the name of host-8 over that of host-7, next to it, or into another member.
 own=$(printf host-8 | jose b64 enc)
 sed "s/^{\"aad\":\"[^\"]*/{\"aad\":\"$own/" host-7/secret > changed
 sed "s/^{/{\"aad\":\"$own\",/" host-7/secret > twice

@@ -1,5 +1,5 @@
-# Three functions for scripts that use jose. Read them in by `. ./jose-functions.sh`, or by the full path: dash, busybox and `bash --posix`
-# look for a name without a slash in the folders of PATH only.
+# Three functions for scripts that use jose. Read them in with `. ./jose-functions.sh`, or with the full path: dash, busybox and
+# `bash --posix` look for a name without a slash in the folders of PATH only.
 
 # jose_set FILE..: one set of all keys in these files, on standard output. A file holds a key or a set. A file that holds anything but
 # good keys is refused, with its name and the refusal, and nothing is written. So `jose_set all.jwks >/dev/null` says whether each key of a
@@ -34,7 +34,7 @@ jose_set() (
 )
 
 # jose_ver_all NUMBER KEYS WORD..: runs `jose jws ver -a -k KEYS WORD..`, if the file KEYS holds exactly NUMBER different good keys.
-# By itself -a passes over bad keys, and takes one signature for two keys that are the same. KEYS is read twice, so it is no pipe.
+# By itself -a passes over bad keys, and takes one signature for two keys that are the same. KEYS is read twice, so it is not a pipe.
 # Use only keys that `jose jwk gen` made. HMAC pads a short key with zero octets, so a key and the same key with zero octets after it make
 # the same signatures, as do a key that is longer than a block and its hash. Such keys are counted as different.
 jose_ver_all() (
@@ -50,8 +50,8 @@ jose_ver_all() (
     jose jws ver -a -k "$jose_keys" "$@"
 )
 
-# jose_password [PROMPT]: a password that is typed, as a key for PBES2-HS256+A128KW, on standard output. It stands in no words that
-# others can see, and is not shown.
+# jose_password [PROMPT]: a password that is typed, as a key for PBES2-HS256+A128KW, on standard output. It is in no words that others
+# can see, and is not shown.
 jose_password() {
     printf '%s' "${1-Password: }" >&2
     if [ -t 0 ]; then

@@ -1,6 +1,6 @@
 #!/bin/sh
-# A folder has keys by their names. The script finds the key for an object by the `kid` in its header. jose does not look at a kid, and
-# anyone can write one: the key alone decides whether the object verifies.
+# A folder has a file for each key, with its name. The script finds the key for an object by the `kid` in its header. jose does not look
+# at a kid, and anyone can write one: the key alone decides whether the object verifies.
 set -eu
 umask 077
 mkdir -p ring

@@ -1,6 +1,6 @@
 #!/bin/sh
-# look.sh FILE..: what an object says without a key: whether it is signed or encrypted, and its headers. Nobody has verified any of it: it
-# helps to find the right key or the cause of a refusal, and decides nothing. Without FILE it tries some objects that it makes itself.
+# look.sh FILE..: what an object says without a key: whether it is signed or encrypted, and its headers. Nobody has verified any of it. It
+# helps to find the right key or the cause of a refusal, and decides nothing. Without FILE the script tries objects that it makes itself.
 set -eu
 umask 077
 
@@ -74,7 +74,7 @@ grep -q '^encrypted$' told
 grep -q '"unprotected":{"kid":"box"}' told
 grep -q '^{.*"enc":"A256GCM".*}$' told
 
-# Objects that jose does not read, because of `crit` in one and `zip` in the other: their headers say why.
+# The headers of objects that jose refuses, one because of `crit` and one because of `zip`, say why.
 printf '%s.cGF5bG9hZA.AAAA' "$(printf '{"alg":"HS256","b64":false,"crit":["b64"]}' | jose b64 enc)" > crit.jws
 look crit.jws > told
 printf 'jose: 12 Unsupported\n{"alg":"HS256","b64":false,"crit":["b64"]}\n' | cmp - told

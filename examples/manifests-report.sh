@@ -34,7 +34,7 @@ report() {
 }
 report > report.txt
 
-# Four of them are no longer good: one was changed, one has no signature, one has an empty one, and one is signed with a key for HS512.
+# Four of them are no longer good: one was changed, one has no signature, one an empty signature, and one that of a key for HS512.
 echo 'image: evil' > manifests/mail.yaml
 rm manifests/db.sig
 : > manifests/web.sig

@@ -7,7 +7,7 @@ set -eu
 umask 077
 jose jwk gen -i '{"alg":"HS256","kid":"2026"}' -o 2026.jwk
 
-# The builder writes a signature beside each release: one line of text.
+# The builder writes a signature next to each release: one line of text.
 echo 'replicas: 3' > manifest.yaml
 jose jws sig -c -k 2026.jwk -I manifest.yaml -o manifest.sig -O /dev/null
 
@@ -15,7 +15,7 @@ jose jws sig -c -k 2026.jwk -I manifest.yaml -o manifest.sig -O /dev/null
 jose jws ver -i manifest.sig -I manifest.yaml -k 2026.jwk -O installed.yaml.new
 mv installed.yaml.new installed.yaml
 
-# A new key: first the hosts get both, then the builder signs with the new one, and at last the hosts drop the old one.
+# A new key: first the hosts get both, then the builder signs with the new one, and finally the hosts drop the old one.
 jose jwk gen -i '{"alg":"HS256","kid":"2027"}' -o 2027.jwk
 jose_set 2026.jwk 2027.jwk > trusted.jwks
 jose jws ver -i manifest.sig -I manifest.yaml -k trusted.jwks

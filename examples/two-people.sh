@@ -24,7 +24,7 @@ join() {
 }
 
 # The host. -a asks every good key of the set and passes over bad keys, so jose_ver_all counts the good keys too. It counts different
-# keys, not people: all of them have to come from `jwk gen`, as jose-functions.sh says.
+# keys, not people: all of them must come from `jwk gen`, as jose-functions.sh says.
 jose_set ann.jwk bob.jwk > people.jwks
 join release.ann release.bob > release.jws
 jose_ver_all 2 people.jwks -i release.jws -I release

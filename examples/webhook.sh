@@ -1,12 +1,12 @@
 #!/bin/sh
 # A webhook: the body of a request is plain JSON, and a header of the request has its signature. A service, here in Python and in bash,
-# verifies the octets that it received before it parses them. It writes neither of them to the disk.
+# verifies the octets that it received before it parses them. It writes neither body nor signature to the disk.
 set -eu
 umask 077
 jose jwk gen -i '{"alg":"HS256","kid":"hook"}' -o hook.jwk
 
-# The sender: a compact object without its payload, for a header such as `X-Signature: eyJ..`. The body has a number, because a request
-# verifies again if somebody sends it again. The service has to remember the numbers.
+# The sender: a compact object without its payload, for a header such as `X-Signature: eyJ..`. A request that is sent again verifies
+# again, so the body has a number. The service must remember the numbers.
 printf '{"number":41,"event":"paid"}' > body
 signature=$(jose jws sig -c -k hook.jwk -I body -O /dev/null)
 
