@@ -1,10 +1,10 @@
-//! The authentication of AES-CBC with HMAC (RFC 7518, section 5.2.2.1).
+//! The authentication of AES-CBC with HMAC (RFC 7518 section 5.2.2.1).
 ghost use Rattle.std.specs.Prelude.{◌≡◌, ℕ, ◌/◌, ◌≤◌, List, [], ◌++◌, length, take, drop};
 ghost use Rattle.ciphers.specs.Sealing.{cbc_tag};
 
 use prf::{Hash, Hmac};
 
-/// A tag whose ciphertext comes in pieces.
+/// The tag of a ciphertext that comes in pieces.
 #[derive(Drop)]
 pub(crate) struct Authentication<H: Hash> {
     mac: Hmac<H>,
@@ -14,7 +14,7 @@ pub(crate) struct Authentication<H: Hash> {
 impl<H: Hash> Authentication<H> {
     ghost use Rattle.ciphers.specs.Views.{HoldsAuthentication};
 
-    /// No octet of the ciphertext was fed yet.
+    /// Starts the tag, before any of the ciphertext.
     pub(crate) fn start(mac_key: &[u8], iv: &[u8], aad: &[u8]) -> Authentication<H>
         ensures { HoldsAuthentication H.function H.holds result mac_key.now iv.now aad.now [] }
     {
@@ -35,7 +35,7 @@ impl<H: Hash> Authentication<H> {
         self.mac.update(piece);
     }
 
-    /// Writes the tag to the front of `tag`, answers its length, and leaves the rest of `tag` as it was.
+    /// Writes the tag to the front of `tag` and returns its length. The rest of `tag` is unchanged.
     pub(crate) fn finish(self, tag: &mut [u8; 32]) -> usize
         ensures within { result ≤ 32 }
         ensures tag { (mac_key iv aad c : List ℕ) → HoldsAuthentication H.function H.holds self mac_key iv aad c

@@ -1,4 +1,4 @@
-//! AES-CBC with HMAC (RFC 7518, section 5.2), over any block cipher and hash function.
+//! AES-CBC with HMAC (RFC 7518 section 5.2), over any block cipher and hash function.
 ghost use Rattle.std.specs.Prelude.{◌≡◌, ℕ, ◌≤◌, List, [], ◌++◌, length, take, drop, IfSome, IfNone};
 ghost use Rattle.ciphers.specs.Sealing.{Sealing, cbc_hmac, Opens};
 
@@ -10,7 +10,7 @@ use modes::{Cbc, cbc_open};
 use octets::{Refusal, SEALED_PIECE, same_octets};
 use prf::Hash;
 
-/// A sealing whose plaintext comes in pieces.
+/// The encryption of a plaintext that comes in pieces.
 #[derive(Drop)]
 pub struct CbcHmac<B: Block, H: Hash> {
     cbc: Cbc<B>,
@@ -20,7 +20,7 @@ pub struct CbcHmac<B: Block, H: Hash> {
 impl<B: Block, H: Hash> CbcHmac<B, H> {
     ghost use Rattle.ciphers.specs.Views.{HoldsCbcHmac};
 
-    /// No octet of the plaintext was fed yet.
+    /// Starts the encryption, before any of the plaintext.
     pub(crate) fn start(cipher: B, mac_key: &[u8], iv: &[u8], aad: &[u8]) -> CbcHmac<B, H>
         requires { length iv.now ≡ 16 }
         ensures { HoldsCbcHmac B.encrypted H.function H.holds result (cbc_hmac (B.encrypted cipher) H.function mac_key.now iv.now aad.now) [] }
@@ -56,7 +56,7 @@ impl<B: Block, H: Hash> Sealer for CbcHmac<B, H> {
     ghost keeps_pace = { λ x s p r. r.pace };
 }
 
-/// Opens the ciphertext in `buf` where the tag is right (section 5.2.2.2).
+/// Decrypts the ciphertext in `buf` if the tag is right (section 5.2.2.2).
 pub(crate) fn open_cbc_hmac<B: Block, H: Hash>(
     cipher: &B,
     mac_key: &[u8],

@@ -3,7 +3,7 @@ ghost use Rattle.std.specs.Prelude.{◌≡◌, ◌≤◌, length};
 
 use std::marker::Model;
 
-/// A content encryption key, of at most 64 octets. It is seen as its octets.
+/// A content encryption key, of at most 64 octets. Contracts see it as its octets.
 #[derive(Drop)]
 pub struct Cek {
     octets: [u8; 64],

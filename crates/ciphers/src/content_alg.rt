@@ -1,4 +1,4 @@
-//! The content encryption algorithms (RFC 7518, section 5.1).
+//! The content encryption algorithms (RFC 7518 section 5.1).
 ghost use Rattle.std.specs.Prelude.{◌≡◌, ◌≤◌, ℕ, List, [], length, take, IfSome, IfNone};
 ghost use Rattle.ciphers.specs.Sealing.{cek_len, iv_len, sealing, Opens, IsOpening};
 
@@ -52,8 +52,8 @@ impl ContentAlg {
         }
     }
 
-    /// A sealing under the content encryption key, for the IV and the additional data. Both lengths are the caller's
-    /// condition.
+    /// Starts an encryption under the content encryption key, with the IV and the additional data. The caller must know that the key
+    /// and the IV have the lengths of the algorithm.
     pub fn seal(self, cek: &[u8], iv: &[u8], aad: &[u8]) -> ContentSealer
         requires cek_fits { length cek.now ≡ cek_len self }
         requires iv_fits { length iv.now ≡ iv_len self }
@@ -78,9 +78,8 @@ impl ContentAlg {
         }
     }
 
-    /// Opens the ciphertext in `buf` to the plaintext at its front, and answers that one's length. Answers `None`, and
-    /// leaves `buf` as it was, where there is no plaintext with this ciphertext and tag, as with a key or an IV of
-    /// another length.
+    /// Decrypts the ciphertext in `buf` to the plaintext at its front, and returns the length of the plaintext. Returns `None` and leaves
+    /// `buf` unchanged if no plaintext has this ciphertext and tag, for example under a key or an IV of another length.
     pub fn open(
         self,
         cek: &[u8],
@@ -100,7 +99,7 @@ impl ContentAlg {
         self.open_fitting(cek, iv, aad, buf, tag)
     }
 
-    /// The same under a key and an IV of their lengths.
+    /// Does the same under a key and an IV of the right lengths.
     fn open_fitting(
         self,
         cek: &[u8],
@@ -136,7 +135,7 @@ impl ContentAlg {
     }
 }
 
-/// A sealing under any of the content encryption algorithms.
+/// An encryption by any of the content encryption algorithms.
 #[derive(Drop)]
 pub enum ContentSealer {
     A128CbcHs256(CbcHmac<Aes128, Sha256>),
@@ -183,7 +182,7 @@ impl Sealer for ContentSealer {
     ghost keeps_pace = { λ x s p. on_each_sealer x (λ y r. r.pace) (λ y r. r.pace) (λ y r. r.pace) (λ y r. r.pace) (λ y r. r.pace) (λ y r. r.pace) };
 }
 
-/// The octets as an array of their length.
+/// Copies the octets into an array.
 pub(crate) fn array<const N: usize>(octets: &[u8]) -> [u8; N]
     requires { length octets.now ≡ N }
     ensures { result ≡ octets.now }

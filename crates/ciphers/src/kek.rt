@@ -1,11 +1,11 @@
-//! AES under a key encryption key, of any of its three lengths, and the ways of delivering a key with one or without.
+//! AES under a key encryption key of any length, and the ways to deliver a content encryption key.
 ghost use Rattle.std.specs.Prelude.{◌≡◌, ℕ, List, length};
 ghost use Rattle.aes.specs.Cipher.{encrypted_block};
 
 use crate::content_alg::array;
 use aes::{Aes128, Aes192, Aes256, Block};
 
-/// The cipher of a key wrap.
+/// AES under a key encryption key.
 #[derive(Drop)]
 pub(crate) enum Kek {
     A128(Aes128),
@@ -13,8 +13,8 @@ pub(crate) enum Kek {
     A256(Aes256),
 }
 
-/// How a content encryption key is delivered: the key is it, or the cipher wraps it, or encrypts it in GCM. The number with a
-/// key wrap is that of the HMAC calls that derived the cipher's key, which is 0 where no key was derived.
+/// How a content encryption key is delivered: it is the recipient's key, or the cipher wraps it, or the cipher encrypts it in GCM. The
+/// number next to a key wrap counts the HMAC calls that derived the cipher's key. It is 0 if no key was derived.
 #[derive(Drop)]
 pub(crate) enum Way {
     Direct,
@@ -50,7 +50,7 @@ impl Block for Kek {
     ghost is_cipher = { on_each_kek (λ k. k.is_cipher) (λ k. k.is_cipher) (λ k. k.is_cipher) };
 }
 
-/// AES-128 under these octets.
+/// AES-128 under this key.
 pub(crate) fn aes128(key: &[u8]) -> Aes128
     requires { length key.now ≡ 16 }
     ensures { ⟦<Aes128 as Block>⟧.encrypted result ≡ encrypted_block 4 key.now }
@@ -58,7 +58,7 @@ pub(crate) fn aes128(key: &[u8]) -> Aes128
     Aes128::new(&array(key))
 }
 
-/// AES-192 under these octets.
+/// AES-192 under this key.
 pub(crate) fn aes192(key: &[u8]) -> Aes192
     requires { length key.now ≡ 24 }
     ensures { ⟦<Aes192 as Block>⟧.encrypted result ≡ encrypted_block 6 key.now }
@@ -66,7 +66,7 @@ pub(crate) fn aes192(key: &[u8]) -> Aes192
     Aes192::new(&array(key))
 }
 
-/// AES-256 under these octets.
+/// AES-256 under this key.
 pub(crate) fn aes256(key: &[u8]) -> Aes256
     requires { length key.now ≡ 32 }
     ensures { ⟦<Aes256 as Block>⟧.encrypted result ≡ encrypted_block 8 key.now }

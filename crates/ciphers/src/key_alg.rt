@@ -1,4 +1,4 @@
-//! The algorithms of key management (RFC 7518, sections 4.4, 4.5, 4.7 and 4.8).
+//! The algorithms of key management (RFC 7518 sections 4.4, 4.5, 4.7 and 4.8).
 ghost use Rattle.std.specs.Prelude.{◌≡◌, ℕ, ◌*◌, ◌%◌, ◌≤◌, List, [], ◌∷◌, ◌++◌, length, take, drop, IfSome, IfNone};
 ghost use Rattle.ciphers.specs.Delivery.{IsKeyOf, IsCountOf, IsIvOf, iteration_count, derived_key, way_of, encrypted_key_of, key_tag_of, IsDelivered};
 ghost use Rattle.ciphers.specs.KeyWrap.{IsUnwrapping};
@@ -43,7 +43,7 @@ pub enum KeyAlg {
 
 /// The header parameters of a recipient that its algorithm reads: the initialization vector and the tag of an encryption in
 /// GCM (section 4.7.1), or the salt input p2s and the count p2c of a password (section 4.8.1). Those that it does not read may be
-/// anything, as the tag may be where a key is wrapped.
+/// anything. So may the tag when a key is wrapped.
 #[derive(Clone, Copy)]
 pub struct KeyParameters<'p> {
     pub iv: &'p [u8],
@@ -53,9 +53,9 @@ pub struct KeyParameters<'p> {
 }
 
 impl KeyAlg {
-    /// Encrypts the content encryption key, of 16 to 64 octets in parts of 8, to the front of `encrypted_key`, and answers that
-    /// one's length: 0 for `Dir`, where it has to be the key itself; its own, where it is encrypted in GCM; and else 8 octets
-    /// more. The second length is that of the tag at the front of `tag`: 16 in GCM, and else 0.
+    /// Encrypts the content encryption key, of 16 to 64 octets in parts of 8, to the front of `encrypted_key`. The first result is the
+    /// length of the encrypted key: 0 for `Dir`, where `cek` must be the key itself; the length of `cek` in GCM; otherwise 8 octets
+    /// more. The second result is the length of the tag at the front of `tag`: 16 in GCM, otherwise 0.
     pub fn wrap_cek(
         self,
         key: &[u8],
@@ -90,8 +90,8 @@ impl KeyAlg {
         }
     }
 
-    /// The content encryption key for `enc` that the encrypted key delivers, or `None` where it delivers none. The number is that
-    /// of the iterations of PBKDF2 that were made, and it is 0 unless the key is a password.
+    /// Returns the content encryption key for `enc` that the encrypted key delivers, or `None` if it delivers none. The number counts the
+    /// iterations of PBKDF2 that were made. It is 0 unless the key is a password.
     pub fn unwrap_cek(
         self,
         enc: ContentAlg,
@@ -116,7 +116,7 @@ impl KeyAlg {
         }
     }
 
-    /// How a content encryption key is delivered, with the cipher of the key wrap or of GCM, and the work of deriving its key.
+    /// How the key delivers a content encryption key, with the cipher and the work of deriving its key.
     fn way(self, key: &[u8], parameters: KeyParameters<'_>) -> Way
         requires key_fits { IsKeyOf self key.now }
         requires count_fits { IsCountOf self parameters.p2c }
@@ -159,7 +159,7 @@ impl KeyAlg {
     }
 }
 
-/// Encrypts the content encryption key in GCM to the front of `encrypted_key`, and answers its length, which is the same (section
+/// Encrypts the content encryption key in GCM to the front of `encrypted_key`, and returns the length, which is that of `cek` (section
 /// 4.7).
 fn encrypt_cek<B: Block>(
     kek: B,
@@ -185,7 +185,7 @@ fn encrypt_cek<B: Block>(
     len
 }
 
-/// What the encrypted key opens to in GCM, where that fits (section 4.7).
+/// Decrypts the encrypted key in GCM, if it has the right length (section 4.7).
 fn opened_cek<B: Block>(
     enc: ContentAlg,
     kek: &B,
@@ -212,7 +212,7 @@ fn opened_cek<B: Block>(
     Some(Cek::new(&octets[..n]))
 }
 
-/// The key that PBES2 derives from a password, for a salt with this prefix (section 4.8.1.1), and the number of HMAC calls.
+/// Derives a key from a password by PBES2, with a salt that begins with this prefix (section 4.8.1.1). The number counts the HMAC calls.
 fn derive_key<H: Hash, const N: usize>(
     prefix: &[u8],
     password: &[u8],
@@ -229,7 +229,7 @@ fn derive_key<H: Hash, const N: usize>(
     (key, calls)
 }
 
-/// The key itself, where it fits and there is no encrypted key (section 4.5).
+/// Returns the key itself, if it has the right length and the encrypted key is empty (section 4.5).
 fn direct_cek(enc: ContentAlg, key: &[u8], encrypted_key: &[u8]) -> Option<Cek>
     ensures delivers { IfSome result (λ cek. (cek ≡ key.now) × (length key.now ≡ cek_len enc)
         × (encrypted_key.now ≡ [])) }
@@ -241,7 +241,7 @@ fn direct_cek(enc: ContentAlg, key: &[u8], encrypted_key: &[u8]) -> Option<Cek>
     Some(Cek::new(key))
 }
 
-/// What the encrypted key unwraps to, where that fits (section 4.4).
+/// Unwraps the encrypted key, if it has the right length (section 4.4).
 fn unwrapped_cek<B: Block>(enc: ContentAlg, kek: &B, encrypted_key: &[u8]) -> Option<Cek>
     ensures delivers { IfSome result (λ cek. (length cek ≡ cek_len enc)
         × IsUnwrapping (B.encrypted kek.now) encrypted_key.now cek) }

@@ -1,4 +1,4 @@
-//! AES key wrap (RFC 3394), over any block cipher. The registers R[1] to R[n] stand in one slice, eight octets each.
+//! AES key wrap (RFC 3394), over any block cipher. The registers R[1] to R[n] are one slice, with eight octets each.
 ghost use Rattle.std.specs.Prelude.{◌≡◌, ℕ, ◌+◌, ◌*◌, ◌/◌, ◌%◌, ◌≤◌, List, ◌++◌, length, take, drop, IfNone, OnSome};
 ghost use Rattle.ciphers.specs.KeyWrap.{xor_count, wrapped, IsUnwrapping};
 ghost use Rattle.ciphers.specs.Views.{IsRow};
@@ -6,7 +6,7 @@ ghost use Rattle.octets.specs.Octets.{IsOctets};
 
 use aes::Block;
 
-/// What `wrap` puts before the registers, and `unwrap` looks for (section 2.2.3.1).
+/// The initial value of A, for which `unwrap` looks (section 2.2.3.1).
 const INITIAL_VALUE: [u8; 8] = [0xa6; 8];
 
 /// A ^ t, with t as eight octets (section 2.2.1).
@@ -78,7 +78,7 @@ fn unwrap_registers<B: Block>(kek: &B, a: &mut [u8; 8], r: &mut [u8])
     }
 }
 
-/// Wraps `key_data`, of 16 to 64 octets in parts of 8, into `out`, which is 8 octets longer (RFC 3394, section 2.2.1).
+/// Wraps `key_data`, of 16 to 64 octets in parts of 8, into `out`, which is 8 octets longer (RFC 3394 section 2.2.1).
 pub fn wrap<B: Block>(kek: &B, key_data: &[u8], out: &mut [u8])
     requires parts { length key_data.now % 8 ≡ 0 }
     requires size { (16 ≤ length key_data.now) × (length key_data.now ≤ 64) }
@@ -92,8 +92,8 @@ pub fn wrap<B: Block>(kek: &B, key_data: &[u8], out: &mut [u8])
     first.copy_from_slice(&a);
 }
 
-/// Unwraps `wrapped`, of 24 to 72 octets in parts of 8, into `out`, which is 8 octets shorter (RFC 3394, section
-/// 2.2.2). Answers `None`, and leaves `out` as it was, where nothing wraps to it.
+/// Unwraps `wrapped`, of 24 to 72 octets in parts of 8, into `out`, which is 8 octets shorter (RFC 3394 section
+/// 2.2.2). Returns `None` and leaves `out` unchanged if no key data wraps to it.
 pub fn unwrap<B: Block>(kek: &B, wrapped: &[u8], out: &mut [u8]) -> Option<()>
     requires parts { length wrapped.now % 8 ≡ 0 }
     requires size { (24 ≤ length wrapped.now) × (length wrapped.now ≤ 72) }

@@ -14,15 +14,15 @@ use modes::laws::{cbc_plaintext_is_unique, gcm_plaintext_is_unique};
 use octets::laws::search_finds_octets;
 use prf::laws::derived_key_is_octets;
 
-/// No two texts are wrapped to one of at most 72 octets, so what `unwrap` gives is what was wrapped (RFC 3394,
+/// No two key data have the same wrapping of at most 72 octets, so `unwrap` returns the key data that was wrapped (RFC 3394
 /// section 2.2).
 pub fn unwrapping_is_unique()
     ensures { (e d : List ℕ → List ℕ) (c p q : List ℕ) → IsCipher e d → length c ≤ 72
         → IsUnwrapping e c p → IsUnwrapping e c q → p ≡ q }
 {}
 
-/// A recipient's key, its header parameters and an encrypted key deliver at most one content encryption key, so what
-/// `KeyAlg::unwrap_cek` gives is what was delivered (RFC 7516, section 5.2).
+/// A recipient's key, its header parameters and an encrypted key deliver at most one content encryption key, so `KeyAlg::unwrap_cek`
+/// returns the one that was encrypted (RFC 7516 section 5.2).
 pub fn delivery_is_unique()
     ensures { (alg : KeyAlg) (enc : ContentAlg) (key : List ℕ) (p : Parameters) (encrypted cek other : List ℕ)
         → IsOctets key → IsDelivered alg enc key p encrypted cek
@@ -33,7 +33,7 @@ pub fn delivery_is_unique()
     gcm_plaintext_is_unique();
 }
 
-/// At most one plaintext opens a ciphertext and its tag, so what `ContentAlg::open` gives is what was sealed.
+/// At most one plaintext has a ciphertext and a tag, so `ContentAlg::open` returns the one that was encrypted.
 pub fn opening_is_unique()
     ensures { (alg : ContentAlg) (cek iv aad c tag p q : List ℕ) → IsOctets cek → IsOctets iv
         → IsOpening alg cek iv aad c tag p → IsOpening alg cek iv aad c tag q → p ≡ q }
@@ -43,7 +43,7 @@ pub fn opening_is_unique()
     gcm_plaintext_is_unique();
 }
 
-/// The function of opening gives exactly the plaintext that was sealed, and nothing where there is none.
+/// The function `opening` gives exactly the plaintext that was encrypted, and nothing if there is none.
 pub fn opens_exactly()
     ensures { OpensExactly }
 {
@@ -52,7 +52,7 @@ pub fn opens_exactly()
     opening_is_unique();
 }
 
-/// The function of delivery gives exactly the content encryption key that was delivered, and nothing where there is none.
+/// The function `delivered` gives exactly the content encryption key that was encrypted, and nothing if there is none.
 pub fn delivers_exactly()
     ensures { DeliversExactly }
 {
@@ -60,7 +60,7 @@ pub fn delivers_exactly()
     delivery_is_unique();
 }
 
-/// A ciphertext and a tag that an octet string opens are octets.
+/// The ciphertext and the tag of a plaintext of octets are octets.
 pub fn what_is_opened_is_octets()
     ensures { (alg : ContentAlg) (cek iv aad c tag p : List ℕ) → IsOctets cek → IsOctets iv
         → IsOpening alg cek iv aad c tag p → IsOctets c × IsOctets tag }
@@ -68,7 +68,7 @@ pub fn what_is_opened_is_octets()
     encrypted_block_is_cipher();
 }
 
-/// An encrypted key that delivers a content encryption key is octets, and so is the tag that is made with it.
+/// An encrypted key that delivers a content encryption key is octets, and so is its tag.
 pub fn what_delivers_is_octets()
     ensures { (alg : KeyAlg) (enc : ContentAlg) (key : List ℕ) (p : Parameters) (encrypted cek : List ℕ) → IsOctets key → IsOctets p.iv
         → IsDelivered alg enc key p encrypted cek → IsOctets encrypted × IsOctets (key_tag_of alg key p cek) }

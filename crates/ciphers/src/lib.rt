@@ -1,21 +1,20 @@
 //! The algorithms that a token names (RFC 7518), over the ciphers of `aes`.
 //!
-//! `ContentAlg` seals content that comes in pieces, and opens it in place. `KeyAlg` delivers a content encryption key to
-//! a recipient, by its key or under it. `wrap` and `unwrap` are AES key wrap (RFC 3394). Nothing here takes memory or
-//! reads a header.
+//! `ContentAlg` encrypts content that comes in pieces, and decrypts it in place. `KeyAlg` delivers a content encryption key to
+//! a recipient. `wrap` and `unwrap` are AES key wrap (RFC 3394). No call allocates memory or reads a header.
 //!
 //! ```rust
-//! // A recipient's encrypted key, and content that is sealed in pieces.
+//! // A recipient's encrypted key, and content that is encrypted in pieces.
 //! let (alg, enc) = (KeyAlg::A128Kw, ContentAlg::A128Gcm);
 //! let parameters = KeyParameters { iv: b"", tag: b"", p2s: b"", p2c: 0 };
 //! let (len, tag_len) = alg.wrap_cek(&key, parameters, &cek, &mut encrypted_key, &mut tag); // &encrypted_key[..len]
 //! let mut sealer = enc.seal(cek.octets(), &iv, aad);
-//! let n = sealer.feed(piece, &mut out)?; // &out[..n] is what the piece adds to the ciphertext
+//! let n = sealer.feed(piece, &mut out)?; // &out[..n] is the next part of the ciphertext
 //! let (end, tag_len) = sealer.finish(&mut last, &mut tag); // &last[..end] is its end
 //! ```
 //!
 //! ```rust
-//! // The content again, in the place of its ciphertext.
+//! // Decrypts the content in the place of its ciphertext.
 //! let (cek, iterations) = alg.unwrap_cek(enc, &key, parameters, encrypted_key);
 //! let cek = cek?;
 //! let n = enc.open(cek.octets(), &iv, aad, &mut buf, tag)?; // &buf[..n]

@@ -1,4 +1,4 @@
-//! Running sealings of content (RFC 7516, section 5.1, step 15).
+//! Encryptions of content that comes in pieces (RFC 7516 section 5.1, step 15).
 ghost use Rattle.std.specs.Prelude.{◌≡◌, ◌↔◌, ℕ, ◌≤◌, List, [], ◌++◌, length, take, drop, IfSome, IfNone, IfOk, IfErr, IsErr, OnOk, OnErr};
 ghost use Rattle.ciphers.specs.Views.{KeepsPace, HoldsGcmSealing};
 ghost use Rattle.ciphers.specs.Sealing.{Sealing, IsTooLong, gcm, Opens};
@@ -8,13 +8,13 @@ use aes::Block;
 use modes::{Gcm, gcm_open};
 use octets::{PIECE, Refusal, SEALED_PIECE};
 
-/// A sealing whose plaintext comes in pieces.
+/// The encryption of a plaintext that comes in pieces.
 pub trait Sealer: Drop {
-    /// It was started for this sealing, and has taken this plaintext so far.
+    /// Whether it was started for this sealing, and has taken this plaintext so far.
     ghost is_sealing: { Self → Sealing → List ℕ → Type 0 };
 
-    /// Takes the next piece, of at most 4,096 octets. Writes what of the ciphertext is fixed now to the front of `out`,
-    /// and answers its length; `Limit`, and nothing is taken, where the plaintext would be too long.
+    /// Takes the next piece, of at most `PIECE` octets. Writes the next part of the ciphertext to the front of `out`, and returns its
+    /// length. Refuses with `Limit` and takes nothing if the plaintext would be too long.
     fn feed(&mut self, piece: &[u8], out: &mut [u8; SEALED_PIECE]) -> Result<usize, Refusal>
         requires { length piece.now ≤ PIECE }
         ensures within { IfOk result (λ n. n ≤ SEALED_PIECE) }
@@ -28,8 +28,8 @@ pub trait Sealer: Drop {
         ensures unchanged { OnErr result (self.new ≡ self.old) }
         ensures place { OnErr result (out.new ≡ out.old) };
 
-    /// Writes what is left of the ciphertext to the front of `last`, and the tag to that of `tag`. Answers both lengths, and
-    /// leaves the rest of both places as it was.
+    /// Writes the rest of the ciphertext to the front of `last`, and the tag to the front of `tag`. Returns both lengths. The rest of
+    /// both buffers is unchanged.
     fn finish(self, last: &mut [u8; 16], tag: &mut [u8; 32]) -> (usize, usize)
         ensures within { (result.0 ≤ 16) × (result.1 ≤ 32) }
         ensures ciphertext { (s : Sealing) (p : List ℕ) → is_sealing self s p
@@ -38,11 +38,11 @@ pub trait Sealer: Drop {
             → (s.sealed p).tag ≡ take result.1 tag.new }
         ensures rest { (drop result.0 last.new ≡ drop result.0 last.old) × (drop result.1 tag.new ≡ drop result.1 tag.old) };
 
-    /// What was written is as long as what was taken, but for at most sixteen octets.
+    /// The ciphertext that was written is at most sixteen octets shorter than the plaintext that was taken.
     ghost keeps_pace: { (x : Self) (s : Sealing) (p : List ℕ) → is_sealing x s p → KeepsPace s p };
 }
 
-/// A sealing by AES-GCM, of which no octet of the plaintext was fed yet.
+/// Starts an encryption by AES-GCM, before any of the plaintext.
 pub(crate) fn start_gcm<B: Block>(cipher: B, iv: &[u8], aad: &[u8]) -> Gcm<B>
     requires { length iv.now ≡ 12 }
     ensures { HoldsGcmSealing B.encrypted result (gcm (B.encrypted cipher) iv.now aad.now) [] }
@@ -65,7 +65,7 @@ impl<B: Block> Sealer for Gcm<B> {
     ghost keeps_pace = { λ x s p r. r.pace };
 }
 
-/// Opens the ciphertext in `buf` where the tag is right (RFC 7518 section 5.3).
+/// Decrypts the ciphertext in `buf` if the tag is right (RFC 7518 section 5.3).
 pub(crate) fn open_gcm<B: Block>(
     cipher: &B,
     iv: &[u8],
