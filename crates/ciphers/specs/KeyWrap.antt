@@ -16,8 +16,8 @@ xor_count t a = to_be_bytes w64 (bit_xor (from_be_bytes w64 a) t)
 abbrev pub part : List ℕ → ℕ → List ℕ
 part p i = take 8 (drop (8 * i) p)
 
--- The table (section 2.2.1, by indexes instead of shifts): A(t) in column 0, and R(t, i) in column i, from 1 to the number n of parts. Step t + 1 is
--- that of A and of the register after t modulo n.
+-- The table (section 2.2.1, by indexes instead of shifts) has A(t) in column 0 and R(t, i) in column i, from 1 to the number n of parts.
+-- Step t + 1 changes A and the register in column (t modulo n) + 1.
 unfoldable pub table : (List ℕ → List ℕ) → List ℕ → ℕ → ℕ → List ℕ
 table e p zero zero = initial_value
 table e p zero (suc i) = part p i

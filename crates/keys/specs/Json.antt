@@ -39,7 +39,7 @@ abbrev mutual
   member_numbers_are_whole no_members = true
   member_numbers_are_whole (member k d ms) = numbers_are_whole d && member_numbers_are_whole ms
 
--- the value of a text whose numbers are all whole
+-- The value of a text, if all numbers in it are whole. A repeated name has its last value, and its earlier ones need not be whole.
 unfoldable pub json_value : List ℕ → Result Data Refusal
 json_value octets = do
   value ← json_reading octets

@@ -143,7 +143,7 @@ abbrev pub with_p2c : Bool → ℕ → Members → Members
 with_p2c true p2c header = header
 with_p2c false p2c header = put (codes "p2c") (number (unsigned p2c)) header
 
--- the template gives the iterations
+-- The template has a count of iterations. One that is no whole number counts too: it stays in the header, where no algorithm reads it.
 abbrev pub is_given : Result (Option ℕ) Refusal → Bool
 is_given (Ok p2c) = is_some p2c
 is_given (Err refusal) = true

@@ -40,7 +40,8 @@ drawn_for_all (r ∷ rest) = drawn_for r + drawn_for_all rest
 
 -- ---- the deliveries (RFC 7516 section 5.1, steps 4 to 6 and 8)
 
--- the parameters by which a recipient's key encrypts the content encryption key
+-- The parameters by which a recipient's key encrypts the content encryption key. What is drawn is the IV for AES-GCM key wrap and the salt
+-- input for PBES2, and each algorithm reads its own.
 abbrev pub parameters_with : List ℕ → ℕ → Parameters
 parameters_with drawn p2c = record { iv = drawn; tag = []; p2s = drawn; p2c = p2c }
 
