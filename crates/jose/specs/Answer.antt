@@ -59,8 +59,8 @@ holds_back command = is_none (option_with Streamed command)
 abbrev pub takes_memory : Command → Bool
 takes_memory command = list_any (λ option. is_json option.role) (row_of command).options
 
--- What belongs to the content: to what `-I` names, if that is there, and else to the text of a command that writes as it reads.
--- Any other command has none.
+-- Which of three values belongs to the content: that of what `-I` names, if that is there, and else that of the text, if the command
+-- writes as it reads. Any other command has no content.
 abbrev pub content_of : {A : Type 0} → InvocationView → A → A → A → A
 content_of invocation text content nil =
     if has_content_input invocation then content else if holds_back invocation.command then nil else text
@@ -119,8 +119,8 @@ beginning invocation seen =
     planned_beginning (others_read invocation seen) (plan_from (draft_of invocation seen.text.octets seen.keys.octets) seen.random.octets)
     (content_seen invocation seen)
 
--- The output of the text did not fail, or only its own failure tells of it; and none failed, for that of a content beside it, which
--- is written first.
+-- Text holds, unless the refusal is Write and the output of the text failed itself. Content holds, unless the refusal is Write: a content
+-- beside the text is written first, so the other output may have failed after it.
 pub record AreSpared {D : Type 0} (failures : D → ℕ) (old new : Outputs D) (refusal : Refusal) (Text Content : Type 0) : Type 0 where
   pub text : DidNotFail refusal (counts failures old.text new.text) → Text
   pub content : refusal ≢ Write → Content

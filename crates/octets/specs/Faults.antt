@@ -35,6 +35,7 @@ pub record TellsFaults {X : Type 0} (inputs outputs : List Counts) (result : Res
   pub inputs_told : IfErr result (λ refusal. refusal ≢ Read → NoneFailed inputs)
   pub outputs_told : IfErr result (λ refusal. refusal ≢ Write → NoneFailed outputs)
 
--- If the refusal is Write, the output with these counts did not fail in the call, but another one did.
+-- If the refusal is Write, the output with these counts did not fail in the call, but another one did. A count that is at its greatest
+-- value does not show this.
 abbrev pub DidNotFail : Refusal → Counts → Type 0
 DidNotFail refusal c = refusal ≡ Write → (c.old < greatest_count) × (c.new ≡ c.old)
