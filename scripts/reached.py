@@ -79,7 +79,7 @@ def page_of(path):
                 current.lines.append(re.sub(r"--.*", "", line))
         else:
             is_group = False
-            head = re.match(r"((?:abbrev |opaque |unfoldable |pub )*)((?:record |data )?)(◌?[^\s(){}:]*◌?)\s*(.?)", line)
+            head = re.match(r"((?:abbrev |opaque |unfoldable |pub )*)((?:record |data )?)(◌?[^\s(){}:]*◌?)(?: \{ℓ\})?\s*(.?)", line)
             if head.group(2) or head.group(4) == ":":
                 current = Definition([], " ".join(comment), group, [])
                 definitions[head.group(3)] = current
@@ -89,7 +89,7 @@ def page_of(path):
     for definition in definitions.values():
         if re.match(r"(pub )?data ", definition.lines[0]):
             definition.cases.extend(it for line in definition.lines[1:] for it in re.findall(r"^\s+([^\s:]+) :", line))
-    return Page(path, *imports(text, r"(?m:^)(?:pub )?use"), definitions)
+    return Page(path, *imports(text, r"(?m:^)(?:unfoldable )?(?:pub )?use"), definitions)
 
 
 def bracket_names(words, at):
@@ -403,9 +403,14 @@ def show():
                 print(f"  {mark} {name}{'' if (module, name) in run else ' (law)'}")
 
 
-def show_kit():
+def kit_folder():
+    """Where the kit has its crates."""
     program = shutil.which("rt") or sys.exit("this needs the kit: rt is not on the path")
-    kit = os.path.join(os.path.dirname(os.path.realpath(program)), "../rattle")
+    return os.path.join(os.path.dirname(os.path.realpath(program)), "../rattle")
+
+
+def show_kit():
+    kit = kit_folder()
     library = Library(os.path.join(ROOT, "crates"), kit)
     found = collections.defaultdict(dict)
     for module, name in reach(library, set().union(*promises(library))):
