@@ -4,7 +4,7 @@ PREFIX ?= /usr/local
 # Checks that the program is the one that `make build` made. A trial of installing sets this to `:` and takes any program.
 BUILT = scripts/built
 
-.PHONY: demo test edits build calls library ports long faults hostile bench pictures pages tour interop latchset dist dist-try install uninstall clean
+.PHONY: demo test edits build calls definitions library ports long faults hostile bench pictures pages tour interop latchset dist dist-try install uninstall clean
 
 # Signs and verifies a document, makes a key, encrypts and decrypts a secret, and shows what happens to changed texts and wrong keys.
 demo:
@@ -27,6 +27,11 @@ build:
 # sources. It also reads in the code that refusals for memory and devices come only from their errors, and how tags are compared.
 calls:
 	@scripts/calls
+
+# Computes the definitions in specs/ and compares them with values of the standards, of Python and, if it is installed, of its cryptography.
+# It finds a number that is wrong in a definition and in the code alike. It needs no build.
+definitions:
+	@scripts/definitions
 
 # Proves, builds and runs the two programs of examples/programs, which use the crates as docs/LIBRARY.md describes.
 library:
