@@ -105,7 +105,7 @@ by_depth limits parts members detach false deep = built_deep limits parts deep �
 
 pub building_is_reading : BuildingIsReading
 building_is_reading limits parts members detach =
-    by_depth limits parts members detach _ refl ∙ ap (jws_of limits (handed_in detach parts.payload)) (sym (members_are_written detach parts members))
+    by_depth limits parts members detach _ refl ∙ ap (jws_of limits (handed_in detach parts.payload)) (sym (members_are_written detach parts))
 
 -- ---- the text itself
 
@@ -122,5 +122,5 @@ read_as_written detach parts members value read =
 
 pub json_texts_are_compact : JsonTextsAreCompact
 json_texts_are_compact detach parts value members read =
-    let written = members_are_written detach parts members in
+    let written = members_are_written detach parts in
     written ∙ read_as_written detach parts members value (ap json_value (sym written) ∙ read)

@@ -4,7 +4,7 @@ use Rattle.std.proofs.lemmas.Bool.{eqb-true}
 use Rattle.std.specs.List.{AllByRecursion}
 use Rattle.octets.specs.Base64url.{is_url_character}
 use Rattle.octets.specs.LineEnds.{without_line_end}
-use Rattle.objects.specs.Texts.{is_json_space, is_json_form}
+use Rattle.objects.specs.Texts.{is_json_space, is_json_form, between_dots}
 
 -- letters, digits, `-` and `_` alone
 abbrev pub IsUrlText : List ℕ → Type 0
@@ -17,12 +17,6 @@ is_character c = is_url_character c || (c == 46)
 -- such characters alone
 abbrev pub HasCharacters : List ℕ → Type 0
 HasCharacters text = AllByRecursion (λ c. is_character c ≡ true) text
-
--- parts between dots
-abbrev pub between_dots : List (List ℕ) → List ℕ
-between_dots [] = []
-between_dots (part ∷ []) = part
-between_dots (part ∷ (next ∷ rest)) = part ++ 46 ∷ between_dots (next ∷ rest)
 
 -- a text without dots before one with such characters has them too
 url_then : (text rest : List ℕ) → IsUrlText text → HasCharacters rest → HasCharacters (text ++ rest)

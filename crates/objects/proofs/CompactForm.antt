@@ -5,25 +5,18 @@ use Rattle.serde_json.specs.Data.{Members, no_members, member}
 use Rattle.octets.specs.declared.refusal.Refusal.TheVariants.{NotCompact}
 use Rattle.octets.specs.Base64url.{base64url}
 use Rattle.octets.specs.Outcomes.{◌>>=◌, needs}
-use Rattle.objects.specs.CompactForm.{HasText, content_part, IsOnlySignature, HasOnlySignature, jws_parts_text, JwsCompactFormIsExact, IsOnlyRecipient, HasOnlyRecipient, jwe_parts_text, JweCompactFormIsExact}
+use Rattle.objects.specs.CompactForm.{HasText, IsOnlySignature, HasOnlySignature, jws_parts_text, JwsCompactFormIsExact, IsOnlyRecipient, HasOnlyRecipient, jwe_parts_text, JweCompactFormIsExact}
 use Rattle.objects.specs.Jwe as jwe
 use Rattle.objects.specs.Jws as jws
-use Rattle.objects.specs.Texts.{has_members}
-use Rattle.objects.specs.Writing.{Written, nothing_written, inside}
-use Rattle.objects.proofs.DetachedContent.{kept}
+use Rattle.objects.specs.Texts.{has_members, kept}
 use Rattle.objects.proofs.ExactJwe as exact_jwe
 use Rattle.objects.proofs.ExactJws as exact_jws
 
 -- a text that is refused unless a test passes is there exactly if P holds, which the test decides
-decided : (fits : Bool) (P : Type 0) (w : Written) → (fits ≡ true → P) → (P → fits ≡ true)
-    → (HasText ((needs fits NotCompact >>= λ _. Ok w) >>= λ (w : Written). Ok w.text) ↔ P)
-    × (¬ P → ((needs fits NotCompact >>= λ _. Ok w) >>= λ (w : Written). Ok w.text) ≡ Err NotCompact)
-decided true P w so is = ((λ text. so refl, λ p. (w.text, refl)), λ none. absurd (none (so refl)))
-decided false P w so is = ((λ text. cc text.1, λ p. cc (is p)), λ none. refl)
-
-part_kept : (detach : Bool) (content : List ℕ) → kept detach (base64url content) ≡ content_part detach content
-part_kept true content = refl
-part_kept false content = refl
+decided : (fits : Bool) (P : Type 0) (text : List ℕ) → (fits ≡ true → P) → (P → fits ≡ true)
+    → (HasText (needs fits NotCompact >>= λ _. Ok text) ↔ P) × (¬ P → (needs fits NotCompact >>= λ _. Ok text) ≡ Err NotCompact)
+decided true P text so is = ((λ there. so refl, λ p. (text, refl)), λ none. absurd (none (so refl)))
+decided false P text so is = ((λ there. cc there.1, λ p. cc (is p)), λ none. refl)
 
 no_members_in : (m : Members) → not (has_members m) ≡ true → m ≡ no_members
 no_members_in no_members h = refl
@@ -49,13 +42,12 @@ signature_fits o only = rw (only.1.alone, only.1.header) refl
 jws_decided : (detach : Bool) (o : jws.SignedObject) → (HasText (jws.jws_compact_text detach o) ↔ HasOnlySignature o) × (¬ HasOnlySignature o → jws.jws_compact_text detach o ≡ Err NotCompact)
 unfolding jws.jws_compact_text
 jws_decided detach o =
-    decided (jws.is_compact o.signatures) (HasOnlySignature o) (jws.with_compact (inside detach o.payload) (jws.parts_of o).signatures (nothing_written false))
+    decided (jws.is_compact o.signatures) (HasOnlySignature o) (jws.compact_parts detach o.payload (jws.parts_of o).signatures)
     (only_signature o.payload o.signatures) (signature_fits o)
 
 jws_text_is : (detach : Bool) (o : jws.SignedObject) (s : jws.Signature) → IsOnlySignature o s → jws.jws_compact_text detach o ≡ Ok (jws_parts_text detach o s)
 jws_text_is detach o s is =
     exact_jws.compact_text_is detach o (jws.signature_parts_of s) (ap (map jws.signature_parts_of) is.alone) is.header
-    ∙ ap (λ part. Ok (s.protected ++ 46 ∷ (part ++ 46 ∷ base64url s.signature))) (part_kept detach o.payload)
 
 pub jws_compact_form_is_exact : JwsCompactFormIsExact
 jws_compact_form_is_exact = record { exists = λ detach o. (jws_decided detach o).0; text = jws_text_is; refused = λ detach o. (jws_decided detach o).1 }
@@ -76,13 +68,12 @@ recipient_fits o only = rw (only.1.alone, only.1.unprotected, only.1.header, onl
 jwe_decided : (detach : Bool) (o : jwe.EncryptedObject) → (HasText (jwe.jwe_compact_text detach o) ↔ HasOnlyRecipient o) × (¬ HasOnlyRecipient o → jwe.jwe_compact_text detach o ≡ Err NotCompact)
 unfolding jwe.jwe_compact_text
 jwe_decided detach o =
-    decided (jwe.is_compact o o.recipients) (HasOnlyRecipient o) (jwe.with_compact (inside detach o.ciphertext) (jwe.parts_of o) (nothing_written false))
+    decided (jwe.is_compact o o.recipients) (HasOnlyRecipient o) (jwe.compact_parts detach (jwe.parts_of o))
     (only_recipient o o.recipients refl) (recipient_fits o)
 
 jwe_text_is : (detach : Bool) (o : jwe.EncryptedObject) (r : jwe.Recipient) → IsOnlyRecipient o r → jwe.jwe_compact_text detach o ≡ Ok (jwe_parts_text detach o r)
 jwe_text_is detach o r is =
     exact_jwe.compact_text_is detach o (jwe.recipient_parts_of r) (ap (map jwe.recipient_parts_of) is.alone) is.unprotected is.header is.aad
-    ∙ ap (λ part. Ok (o.protected ++ 46 ∷ (base64url r.encrypted_key ++ 46 ∷ (base64url o.iv ++ 46 ∷ (part ++ 46 ∷ base64url o.tag))))) (part_kept detach o.ciphertext)
 
 pub jwe_compact_form_is_exact : JweCompactFormIsExact
 jwe_compact_form_is_exact = record { exists = λ detach o. (jwe_decided detach o).0; text = jwe_text_is; refused = λ detach o. (jwe_decided detach o).1 }

@@ -9,19 +9,15 @@ use Rattle.octets.specs.Octets.{IsOctets}
 use Rattle.octets.specs.Outcomes.{needs}
 use Rattle.octets.proofs.Lemmas.{IsOctets-nil, decoded-nil, steps, passed, same_answer, decodes_exactly, octets_of_meaning}
 use Rattle.keys.specs.JsonTexts.{IsJson}
-use Rattle.objects.specs.Texts.{text_at, has_text, content_by, content_text, handed_in, AreOctetsHandedIn}
+use Rattle.objects.specs.Texts.{kept, text_at, has_text, content_by, content_text, handed_in, AreOctetsHandedIn}
+use Rattle.objects.specs.Values.{Entries, content_there}
 use Rattle.objects.proofs.Characters.{IsUrlText}
-use Rattle.objects.proofs.Members.{Entries, put_all, first_there, IsJsonIfThere}
+use Rattle.objects.proofs.Members.{put_all, first_there, IsJsonIfThere}
 use Rattle.objects.proofs.ReadJson.{text_octets, required_octets}
 use Rattle.objects.proofs.Spelling.{name_is_json, text_found, required_found, required_entry}
 use Rattle.objects.proofs.TextOctets.{text_is}
 
 -- ---- as a member of a JSON text
-
--- its text is there unless it is detached
-abbrev pub content_there : Bool → List ℕ → Option Data
-content_there false text = Some (string text)
-content_there true text = None
 
 -- it is as JSON has it
 pub content_entry : (detach : Bool) (n : ℕ) (name text : List ℕ) → list_all is_url_character name ≡ true → IsUtf8 text
@@ -41,11 +37,6 @@ handed_octets false content is = tt
 handed_octets true content is = is
 
 -- ---- as a part of a compact text
-
--- what is left of the text of a content in the text of the object
-abbrev pub kept : Bool → List ℕ → List ℕ
-kept false text = text
-kept true text = []
 
 -- no octets have the empty text
 pub no_octets : base64url [] ≡ []

@@ -10,11 +10,10 @@ use Rattle.octets.proofs.Lemmas.{decoded-nil, steps, same_answer}
 use Rattle.keys.specs.Limits.{Limits, are_few}
 use Rattle.serde_json.specs.Data.{no_members}
 use Rattle.objects.specs.Jwe.{recipient_parts_of, parts_of, EncodedRecipient, EncodedJwe, RecipientParts, EncryptedObject, encoded_in_compact, encoded_jwe, decoded_recipient, decoded_members, decoded_object, jwe_of, key_of_first, is_compact, jwe_compact_text, CompactTextsAreExact}
-use Rattle.objects.specs.Texts.{each, split_at_dot, three_parts, content_by, AreOctetsHandedIn, depth_of_each}
-use Rattle.objects.proofs.DetachedContent.{kept, part_is}
+use Rattle.objects.specs.Texts.{each, split_at_dot, three_parts, content_by, AreOctetsHandedIn, depth_of_each, kept}
+use Rattle.objects.proofs.DetachedContent.{part_is}
 use Rattle.objects.proofs.EachRead.{one_read, one_kept}
 use Rattle.objects.proofs.Joined.{joined_of_split, joined_of_three, split_octets, three_octets, line_octets}
-use Rattle.objects.proofs.JweWritten.{compact_is}
 use Rattle.objects.proofs.MadeJwe.{IsRecipient, AreSpelled, compact, compact_are, recipient_spelled, parts_spelled}
 use Rattle.objects.proofs.MadeOf.{object_is}
 use Rattle.objects.proofs.TextOctets.{text_is}
@@ -84,7 +83,7 @@ compact_text_is detach o r alone unprotected header aad =
     let no_header : one.0.header ≡ no_members = ap (λ (r : RecipientParts). r.header) one.2 ∙ header in
     let key : key_of_first (parts_of o).recipients ≡ r.encrypted_key = ap key_of_first alone in
     let fits : is_compact o o.recipients ≡ true = rw (one.1, unprotected, no_header, aad) refl in
-    rw fits (ap Ok (compact_is detach (parts_of o) ∙ ap (λ key. o.protected ++ 46 ∷ (base64url key ++ 46 ∷ (base64url o.iv ++ 46 ∷ (kept detach (base64url o.ciphertext) ++ 46 ∷ base64url o.tag)))) key))
+    rw fits (ap Ok (ap (λ key. o.protected ++ 46 ∷ (base64url key ++ 46 ∷ (base64url o.iv ++ 46 ∷ (kept detach (base64url o.ciphertext) ++ 46 ∷ base64url o.tag)))) key))
 
 -- its parts with dots between them are that text
 joined_is : (a b c d e part : List ℕ) (o : EncryptedObject) (r : RecipientParts) → o.protected ≡ a → b ≡ base64url r.encrypted_key → c ≡ base64url o.iv → d ≡ part → e ≡ base64url o.tag

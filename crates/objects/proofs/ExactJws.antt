@@ -8,13 +8,11 @@ use Rattle.octets.specs.Octets.{IsOctets}
 use Rattle.octets.specs.Outcomes.{◌>>=◌, needs}
 use Rattle.keys.specs.Limits.{Limits, are_few}
 use Rattle.serde_json.specs.Data.{no_members}
-use Rattle.objects.specs.Jws.{signature_parts_of, EncodedSignature, EncodedJws, SignatureParts, DecodedSignature, SignedObject, encoded_in_compact, encoded_jws, decoded_signature, decoded_object, jws_of, with_compact, jws_compact_text, CompactTextsAreExact}
-use Rattle.objects.specs.Texts.{each, three_parts, content_by, AreOctetsHandedIn, depth_of_each}
-use Rattle.objects.specs.Writing.{nothing_written, inside}
-use Rattle.objects.proofs.DetachedContent.{kept, part_is}
+use Rattle.objects.specs.Jws.{signature_parts_of, EncodedSignature, EncodedJws, SignatureParts, DecodedSignature, SignedObject, encoded_in_compact, encoded_jws, decoded_signature, decoded_object, jws_of, compact_parts, jws_compact_text, CompactTextsAreExact}
+use Rattle.objects.specs.Texts.{each, three_parts, content_by, AreOctetsHandedIn, depth_of_each, kept}
+use Rattle.objects.proofs.DetachedContent.{part_is}
 use Rattle.objects.proofs.EachRead.{one_read, one_kept}
 use Rattle.objects.proofs.Joined.{joined_of_three, three_octets, line_octets}
-use Rattle.objects.proofs.JwsWritten.{compact_is}
 use Rattle.objects.proofs.MadeJws.{IsSignature, compact_are, signature_spelled}
 use Rattle.objects.proofs.MadeOf.{signed_is}
 use Rattle.octets.proofs.Lemmas.{steps, same_answer}
@@ -70,7 +68,7 @@ compact_text_is detach o s alone header =
     let one = one_kept signature_parts_of o.signatures s alone in
     let no_header : one.0.header ≡ no_members = ap (λ (s : SignatureParts). s.header) one.2 ∙ header in
     rw (one.1, no_header)
-    (ap Ok (ap (λ s. (with_compact (inside detach o.payload) (s ∷ []) (nothing_written false)).text) one.2 ∙ compact_is detach o.payload s []))
+    (ap Ok (ap (λ s. compact_parts detach o.payload (s ∷ [])) one.2))
 
 -- its parts with dots between them are that text
 joined_is : (a b c part : List ℕ) (s : SignatureParts) → s.protected ≡ a → b ≡ part → c ≡ base64url s.signature → s.protected ++ 46 ∷ (part ++ 46 ∷ base64url s.signature) ≡ a ++ 46 ∷ (b ++ 46 ∷ c)

@@ -1,8 +1,9 @@
 -- What the crates above cite of these proofs, and nothing else.
+pub use Rattle.objects.specs.Values.{Entries}
 pub use Rattle.objects.proofs.Names.{get_member-all_members}
 pub use Rattle.objects.proofs.Each.{with_done, as_many, reading}
 pub use Rattle.objects.proofs.EachRead.{all_passed, all_then, all_both, all_images, each_keeps}
-pub use Rattle.objects.proofs.Members.{Entries, put_if_there, first_there, IsJsonIfThere, AreJsonEntries}
+pub use Rattle.objects.proofs.Members.{put_if_there, first_there, IsJsonIfThere, AreJsonEntries}
 pub use Rattle.objects.proofs.Spelling.{name_is_json}
 pub use Rattle.objects.proofs.SpellingJwe.{jwe_is_built}
 pub use Rattle.objects.proofs.JweWritten.{jwe_refused}

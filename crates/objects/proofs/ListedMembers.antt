@@ -13,13 +13,20 @@ use Rattle.octets.specs.Outcomes.{◌>>=◌}
 use Rattle.keys.specs.JsonTexts.{AreJsonItems}
 use Rattle.keys.specs.KeySets.{are_objects}
 use Rattle.objects.specs.Texts.{each_item, object_list, header_depth, listed_header_depth, depth_of_each}
+use Rattle.objects.specs.Values.{Entries, present, objects}
 use Rattle.objects.proofs.EachRead.{all_then}
-use Rattle.objects.proofs.Members.{Entries, put_all, first_there, IsJsonIfThere, AreJsonEntries, all_json}
+use Rattle.objects.proofs.Members.{put_all, first_there, IsJsonIfThere, AreJsonEntries, all_json}
 
 -- the members of each as an object
 abbrev pub listed : {T : Type 0} → (T → Entries) → List T → Items
 listed entries [] = no_items
 listed entries (t ∷ ts) = item (object (put_all (entries t))) (listed entries ts)
+
+-- they are the objects of these members, where each has the same members
+pub listed_is : {X T : Type 0} (entries : T → Entries) (text : X → T) (members : X → Entries) → ((x : X) → put_all (entries (text x)) ≡ present (members x)) → (xs : List X)
+    → listed entries (map text xs) ≡ objects members xs
+listed_is entries text members same [] = refl
+listed_is entries text members same (x ∷ xs) = rw (same x, listed_is entries text members same xs) refl
 
 -- the members of one, or a member with the list of several or none
 abbrev pub each_entries : {T : Type 0} → List ℕ → (T → Entries) → List T → Entries

@@ -9,10 +9,7 @@ use Rattle.serde_json.specs.Find.{get_member}
 use Rattle.serde_json.proofs.Views.{get_member-put, get_member-put_other}
 use Rattle.keys.specs.JsonTexts.{IsJson, AreJsonMembers}
 use Rattle.keys.proofs.Lemmas.{keep_json}
-
--- names, each with its value, if it is there
-abbrev pub Entries : Type 0
-Entries = List (List ℕ × Option Data)
+use Rattle.objects.specs.Values.{Entries}
 
 -- the members with one more, if it is there
 abbrev pub put_if_there : List ℕ → Option Data → Members → Members

@@ -4,8 +4,12 @@ use Rattle.std.proofs.lemmas.List.{length-map}
 use Rattle.serde_json.specs.Data.{Data, string, object, Members, no_members, member}
 use Rattle.serde_json.specs.Written.{compact_text}
 use Rattle.octets.specs.Base64url.{base64url}
+use Rattle.octets.specs.Octets.{IsOctets}
+use Rattle.octets.proofs.Lemmas.{has_url_characters}
+use Rattle.keys.proofs.Lemmas.{url_texts_are_json}
 use Rattle.objects.specs.Frames.{filled, in_places}
-use Rattle.objects.specs.Writing.{Written, nothing_written, all_texts, pushed, slot_by, with_slot, opened, closed, comma_by, separated, named, with_value, with_text, with_header, with_place, with_content, inside, with_part, with_place_part, with_content_part}
+use Rattle.objects.specs.Writing.{Written, nothing_written, all_texts, pushed, slot_by, with_slot, opened, closed, comma_by, separated, named, with_value, with_text, with_header, place_by, with_place, with_content, inside, with_part, with_place_part, with_content_part}
+use Rattle.objects.proofs.Characters.{IsUrlText}
 
 -- ---- values in places
 
@@ -64,18 +68,22 @@ pub fills_opened : (x : List ℕ) (w : Written) (values : List (List ℕ)) (v : 
 fills_opened x w values v f = let p = fills_pushed x w values v f in record { leaves = p.leaves; whole = p.whole; count = p.count; text = p.text; later = refl }
 
 -- a place takes the value
-fills_slot : (own octets : List ℕ) (w : Written) (values : List (List ℕ)) (v : Written) → Fills w values v → Fills (with_slot own w) (values ++ base64url octets ∷ []) (with_slot octets v)
-fills_slot own octets w values v f =
+fills_left : (own octets : List ℕ) (w : Written) (values : List (List ℕ)) (v : Written) → Fills w values v → Fills (slot_by true own w) (values ++ base64url octets ∷ []) (slot_by false octets v)
+fills_left own octets w values v f =
     let value : List ℕ = base64url octets in
-    let left : Fills (slot_by true own w) (values ++ value ∷ []) (slot_by false octets v) = record {
+    record {
       leaves = f.leaves;
       whole = f.whole;
       count = length-append w.finished (w.text ∷ []) ∙ ap (λ n. n + 1) f.count ∙ sym (length-append values (value ∷ []));
       text = append-nil _ ∙ front_more w.finished values w.text value f.count ∙ sym (append_assoc (front w.finished values) w.text value) ∙ ap (λ l. l ++ value) f.text;
       later = f.later;
-    } in
-    subst (λ b. Fills (slot_by b own w) (values ++ value ∷ []) (with_slot octets v)) (sym f.leaves)
-    (subst (λ b. Fills (slot_by true own w) (values ++ value ∷ []) (slot_by b octets v)) (sym f.whole) left)
+    }
+
+fills_slot : (own octets : List ℕ) (w : Written) (values : List (List ℕ)) (v : Written) → Fills w values v → Fills (with_slot own w) (values ++ base64url octets ∷ []) (with_slot octets v)
+fills_slot own octets w values v f =
+    let both : List (List ℕ) = values ++ base64url octets ∷ [] in
+    subst (λ b. Fills (slot_by b own w) both (with_slot octets v)) (sym f.leaves)
+    (subst (λ b. Fills (slot_by true own w) both (slot_by b octets v)) (sym f.whole) (fills_left own octets w values v f))
 
 -- ---- members
 
@@ -100,15 +108,41 @@ pub fills_header : (name : List ℕ) (header : Members) (w : Written) (values : 
 fills_header name no_members w values v f = f
 fills_header name (member k d header) w values v f = fills_value name (object (member k d header)) w values v f
 
-pub fills_place : (name own octets : List ℕ) (w : Written) (values : List (List ℕ)) (v : Written) → Fills w values v → Fills (with_place name own w) (values ++ base64url octets ∷ []) (with_place name octets v)
-fills_place name own octets w values v f =
-    fills_pushed (codes "\"") _ (values ++ base64url octets ∷ []) _ (fills_slot own octets _ values _ (fills_pushed (codes "\"") _ values _ (fills_named name w values v f)))
+-- between quotes the text of octets, which needs no escape, is the value
+quoted_text : (octets : List ℕ) (w : Written) → IsUrlText (base64url octets)
+    → pushed (codes "\"") (slot_by false octets (pushed (codes "\"") w)) ≡ pushed (compact_text (string (base64url octets))) w
+quoted_text octets w plain =
+    let text : List ℕ = base64url octets in
+    ap (λ (t : List ℕ). let x : Written = record { finished = w.finished; text = t; later = w.later; places = w.places } in x)
+    (append_assoc (w.text ++ codes "\"") text (codes "\"") ∙ append_assoc w.text (codes "\"") (text ++ codes "\"") ∙ ap (λ l. w.text ++ l) (sym (url_texts_are_json text plain).1))
+
+comma_places : (b : Bool) (w : Written) → (comma_by b w).places ≡ w.places
+comma_places true w = refl
+comma_places false w = refl
+
+-- so a member is written, or a place for it is left
+pub placed : (name octets : List ℕ) (w : Written) → IsOctets octets → pushed (codes "\"") (with_slot octets (pushed (codes "\"") (named name w))) ≡ with_place name octets w
+placed name octets w is = subst (λ b. pushed (codes "\"") (slot_by b octets (pushed (codes "\"") (named name w))) ≡ with_place name octets w) (sym (comma_places w.later w)) (by_places w.places)
+  where
+    by_places : (b : Bool) → pushed (codes "\"") (slot_by b octets (pushed (codes "\"") (named name w))) ≡ place_by b name octets w
+    by_places true = refl
+    by_places false = quoted_text octets (named name w) (has_url_characters octets is)
+
+pub fills_place : (name own octets : List ℕ) (w : Written) (values : List (List ℕ)) (v : Written) → IsOctets octets → Fills w values v
+    → Fills (with_place name own w) (values ++ base64url octets ∷ []) (with_place name octets v)
+fills_place name own octets w values v is f =
+    let both : List (List ℕ) = values ++ base64url octets ∷ [] in
+    let opened_text = fills_pushed (codes "\"") _ values _ (fills_named name w values v f) in
+    let left = fills_pushed (codes "\"") _ both _ (fills_left own octets _ values _ opened_text) in
+    subst (λ b. Fills (place_by b name own w) both (with_place name octets v)) (sym f.leaves)
+    (subst (λ b. Fills (place_by true name own w) both (place_by b name octets v)) (sym f.whole)
+    (subst (Fills (place_by true name own w) both) (quoted_text octets (named name v) (has_url_characters octets is)) left))
 
 -- that of a content stands before all others
-pub fills_content : (name : List ℕ) (detach : Bool) (own content : List ℕ) (w v : Written) → Fills w [] v
+pub fills_content : (name : List ℕ) (detach : Bool) (own content : List ℕ) (w v : Written) → IsOctets content → Fills w [] v
     → Fills (with_content name (inside detach own) w) (in_places detach content []) (with_content name (inside detach content) v)
-fills_content name true own content w v f = f
-fills_content name false own content w v f = fills_place name own content w [] v f
+fills_content name true own content w v is f = f
+fills_content name false own content w v is f = fills_place name own content w [] v is f
 
 -- ---- parts of a compact text
 

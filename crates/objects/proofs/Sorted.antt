@@ -3,17 +3,8 @@ use Rattle.std.proofs.Common.{◌≡◌, ℕ, List, [], ◌∷◌, Bool, true, f
 use Rattle.std.proofs.lemmas.Bool.{and_parts}
 use Rattle.std.specs.Cmp.Lexicographic.{slice_cmp}
 use Rattle.serde_json.specs.Data.{Data, Members, no_members, member, put}
-use Rattle.objects.proofs.Members.{Entries, put_if_there, put_all}
-
--- a member where it is there, and others behind it
-abbrev pub member_if_there : List ℕ → Option Data → Members → Members
-member_if_there name None rest = rest
-member_if_there name (Some d) rest = member name d rest
-
--- those that are there, as they stand
-abbrev pub present : Entries → Members
-present [] = no_members
-present (e ∷ rest) = member_if_there e.0 e.1 (present rest)
+use Rattle.objects.specs.Values.{Entries, member_if_there, present}
+use Rattle.objects.proofs.Members.{put_if_there, put_all}
 
 abbrev is_less : Ordering → Bool
 is_less Less = true

@@ -16,9 +16,10 @@ use Rattle.keys.specs.JsonTexts.{AreJsonMembers}
 use Rattle.keys.proofs.Lemmas.{reads_back, url_texts_are_json}
 use Rattle.objects.specs.Headers.{header_at, members_if_there}
 use Rattle.objects.specs.Texts.{is_json_form, text_if_there, text_at, required_text, has_members, header_depth}
+use Rattle.objects.specs.Values.{Entries, text_there, header_there}
 use Rattle.objects.proofs.Characters.{IsUrlText}
 use Rattle.objects.proofs.EachRead.{all_passed}
-use Rattle.objects.proofs.Members.{Entries, put_all, first_there, get_member-put_all, IsJsonIfThere, AreJsonEntries, all_json}
+use Rattle.objects.proofs.Members.{put_all, first_there, get_member-put_all, IsJsonIfThere, AreJsonEntries, all_json}
 
 -- ---- texts and headers that are put in
 
@@ -26,16 +27,6 @@ use Rattle.objects.proofs.Members.{Entries, put_all, first_there, get_member-put
 pub no_member : (header : Members) → not (has_members header) ≡ true → header ≡ no_members
 no_member no_members h = refl
 no_member (member name value rest) h = cc h
-
--- a text is there where it is not empty
-abbrev pub text_there : List ℕ → Option Data
-text_there [] = None
-text_there (c ∷ text) = Some (string (c ∷ text))
-
--- a header is there where it has members
-abbrev pub header_there : Members → Option Data
-header_there no_members = None
-header_there (member name value rest) = Some (object (member name value rest))
 
 -- ---- what is read
 

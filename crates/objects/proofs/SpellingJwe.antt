@@ -17,13 +17,14 @@ use Rattle.keys.specs.Limits.{Limits, are_few}
 use Rattle.objects.specs.Headers.{header_at}
 use Rattle.objects.specs.Jwe.{JweParts, RecipientParts, EncryptedObject, EncodedJwe, EncodedRecipient, encoded_shared, encoded_recipient, encoded_content, no_recipient_at, recipients_by, recipient_objects, encoded_in_json, decoded_recipient, decoded_members, encrypted_object, decoded_object, nest_at_most, headers_are_shallow, have_whole_numbers, built, parts_of, AreMembers}
 use Rattle.objects.specs.Texts.{handed_in, header_depth, depth_of_each}
+use Rattle.objects.specs.Values.{content_there, Entries, text_there, header_there}
 use Rattle.objects.proofs.Characters.{IsUrlText}
-use Rattle.objects.proofs.DetachedContent.{content_there, content_entry, content_found}
+use Rattle.objects.proofs.DetachedContent.{content_entry, content_found}
 use Rattle.objects.proofs.EachRead.{all_passed, all_both, all_images, bounded, each_alike, each_itself}
 use Rattle.objects.proofs.ListedMembers.{each_entries, in_front, objects_by, ReadsEach, each_read, none_read, each_json, each_json_deeper}
 use Rattle.objects.proofs.MadeOf.{object_is}
-use Rattle.objects.proofs.Members.{Entries, put_all, first_there, get_member-put_all, AreJsonEntries, all_json}
-use Rattle.objects.proofs.Spelling.{text_there, header_there, text_found, header_found, decoded_characters, name_is_json, spelled_is_json, text_entry, header_entry}
+use Rattle.objects.proofs.Members.{put_all, first_there, get_member-put_all, AreJsonEntries, all_json}
+use Rattle.objects.proofs.Spelling.{text_found, header_found, decoded_characters, name_is_json, spelled_is_json, text_entry, header_entry}
 use Rattle.octets.proofs.Lemmas.{steps, passed, decodes_exactly, has_url_characters}
 use Rattle.keys.proofs.Lemmas.{octets_of_utf8}
 

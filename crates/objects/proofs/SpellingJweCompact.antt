@@ -6,14 +6,12 @@ use Rattle.octets.specs.declared.refusal.Refusal.TheVariants.{NotCompact}
 use Rattle.octets.specs.Base64url.{base64url}
 use Rattle.octets.specs.Outcomes.{needs}
 use Rattle.keys.specs.Limits.{Limits}
-use Rattle.objects.specs.Jwe.{JweParts, Recipient, EncryptedObject, EncodedJwe, encoded_in_compact, encoded_jwe, decoded_object, jwe_of, built, members_text, recipient_parts_of, parts_of, json_text, is_compact, key_of_first, jwe_written, jwe_compact_text, jwe_text, AreMembers, IsMade, TextsSpellObjects}
-use Rattle.objects.specs.Texts.{has_members, handed_in}
-use Rattle.objects.specs.Writing.{Written}
+use Rattle.objects.specs.Jwe.{JweParts, Recipient, EncryptedObject, EncodedJwe, encoded_in_compact, encoded_jwe, decoded_object, jwe_of, built, members_text, recipient_parts_of, parts_of, json_text, is_compact, key_of_first, jwe_compact_text, jwe_text, AreMembers, IsMade, TextsSpellObjects}
+use Rattle.objects.specs.Texts.{has_members, handed_in, between_dots, kept}
 use Rattle.objects.proofs.BuildingJwe.{building_is_reading}
-use Rattle.objects.proofs.Characters.{between_dots, joined_characters, no_json_form, no_line_end}
+use Rattle.objects.proofs.Characters.{joined_characters, no_json_form, no_line_end}
 use Rattle.objects.proofs.CompactTexts.{all_no_dot, split_of_joined, three_of_joined}
-use Rattle.objects.proofs.DetachedContent.{kept, kept_read, kept_characters}
-use Rattle.objects.proofs.JweWritten.{compact_is}
+use Rattle.objects.proofs.DetachedContent.{kept_read, kept_characters}
 use Rattle.objects.proofs.MadeOf.{object_is}
 use Rattle.objects.proofs.Spelling.{no_member}
 use Rattle.objects.proofs.SpellingJwe.{spelled, parts_spelled, object_keeps, IsBuilt, jwe_is_built, object_read, HasUrlTexts, url_texts}
@@ -70,8 +68,7 @@ compact_text_spells : (limits : Limits) (parts : JweParts) (o : EncryptedObject)
     → (text : List ℕ) → jwe_compact_text detach o ≡ Ok text → jwe_of limits (handed_in detach o.ciphertext) text ≡ Ok o
 unfolding jwe_compact_text
 compact_text_spells limits parts o members is detach text h =
-    let w = steps (jwe_written false true detach o) _ text h in
-    let a = steps (needs (is_compact o o.recipients) NotCompact) _ w.0 w.1 in
+    let a = steps (needs (is_compact o o.recipients) NotCompact) _ text h in
     let protected : List ℕ = o.protected in
     let key : List ℕ = base64url (key_of_first (parts_of o).recipients) in
     let iv : List ℕ = base64url o.iv in
@@ -80,7 +77,7 @@ compact_text_spells limits parts o members is detach text h =
     let texts : parts_spelled parts ≡ compact protected key iv ciphertext tag =
     sym (object_keeps limits.management is.octets parts o is.made) ∙ only_recipient o o.recipients refl (passed _ NotCompact a.0 a.1) in
     let joined : text ≡ between_dots (protected ∷ key ∷ iv ∷ kept detach ciphertext ∷ tag ∷ []) =
-    sym (same_answer _ text w.2) ∙ ap (λ (w : Written). w.text) (sym (same_answer _ w.0 a.2)) ∙ compact_is detach (parts_of o) in
+    sym (same_answer _ text a.2) in
     ap (jwe_of limits (handed_in detach o.ciphertext)) joined
     ∙ read_compact limits detach protected key iv o.ciphertext tag o (subst HasUrlTexts texts (url_texts limits parts o members is))
     (ap (decoded_object limits) (sym texts) ∙ object_read limits parts o members is)

@@ -5,14 +5,12 @@ use Rattle.octets.specs.declared.refusal.Refusal.TheVariants.{NotCompact}
 use Rattle.octets.specs.Base64url.{base64url}
 use Rattle.octets.specs.Outcomes.{needs}
 use Rattle.keys.specs.Limits.{Limits}
-use Rattle.objects.specs.Jws.{JwsParts, Signature, SignedObject, EncodedJws, encoded_in_compact, encoded_jws, decoded_object, jws_of, built, members_text, signature_parts_of, json_text, with_compact, is_compact, jws_written, jws_compact_text, jws_text, AreMembers, IsMade, TextsSpellObjects}
-use Rattle.objects.specs.Texts.{handed_in}
-use Rattle.objects.specs.Writing.{Written, nothing_written, inside}
+use Rattle.objects.specs.Jws.{JwsParts, Signature, SignedObject, EncodedJws, encoded_in_compact, encoded_jws, decoded_object, jws_of, built, members_text, signature_parts_of, json_text, compact_parts, is_compact, jws_compact_text, jws_text, AreMembers, IsMade, TextsSpellObjects}
+use Rattle.objects.specs.Texts.{handed_in, between_dots, kept}
 use Rattle.objects.proofs.BuildingJws.{building_is_reading}
-use Rattle.objects.proofs.Characters.{between_dots, joined_characters, no_json_form, no_line_end}
+use Rattle.objects.proofs.Characters.{joined_characters, no_json_form, no_line_end}
 use Rattle.objects.proofs.CompactTexts.{all_no_dot, three_of_joined}
-use Rattle.objects.proofs.DetachedContent.{kept, kept_read, kept_characters}
-use Rattle.objects.proofs.JwsWritten.{compact_is}
+use Rattle.objects.proofs.DetachedContent.{kept_read, kept_characters}
 use Rattle.objects.proofs.Spelling.{no_member}
 use Rattle.objects.proofs.SpellingJws.{spelled, parts_spelled, parts_are, object_keeps, IsBuilt, jws_is_built, object_read, HasUrlTexts, url_texts}
 use Rattle.octets.proofs.Lemmas.{steps, passed, same_answer}
@@ -36,7 +34,7 @@ record IsAlone (detach : Bool) (o : SignedObject) (signatures : List Signature) 
   protected : List ℕ
   signature : List ℕ
   texts : spelled o ≡ compact protected (base64url o.payload) signature
-  text : (with_compact (inside detach o.payload) (map signature_parts_of signatures) (nothing_written false)).text ≡ between_dots (protected ∷ kept detach (base64url o.payload) ∷ signature ∷ [])
+  text : compact_parts detach o.payload (map signature_parts_of signatures) ≡ between_dots (protected ∷ kept detach (base64url o.payload) ∷ signature ∷ [])
 
 only_signature : (detach : Bool) (o : SignedObject) (signatures : List Signature) → o.signatures ≡ signatures → is_compact signatures ≡ true → IsAlone detach o signatures
 only_signature detach o [] is fits = cc fits
@@ -44,7 +42,7 @@ only_signature detach o (s ∷ []) is fits = record {
   protected = s.protected;
   signature = base64url s.signature;
   texts = rw (is, no_member s.header fits) refl;
-  text = compact_is detach o.payload (signature_parts_of s) [];
+  text = refl;
 }
 only_signature detach o (s ∷ (other ∷ rest)) is fits = cc fits
 
@@ -64,11 +62,10 @@ compact_text_spells : (limits : Limits) (parts : JwsParts) (o : SignedObject) �
     → (text : List ℕ) → jws_compact_text detach o ≡ Ok text → jws_of limits (handed_in detach o.payload) text ≡ Ok o
 unfolding jws_compact_text
 compact_text_spells limits parts o members is detach text h =
-    let w = steps (jws_written false true detach o) _ text h in
-    let a = steps (needs (is_compact o.signatures) NotCompact) _ w.0 w.1 in
+    let a = steps (needs (is_compact o.signatures) NotCompact) _ text h in
     let one = only_signature detach o o.signatures refl (passed _ NotCompact a.0 a.1) in
     let texts : parts_spelled parts ≡ compact one.protected (base64url o.payload) one.signature = sym (object_keeps limits parts o is) ∙ one.texts in
-    ap (jws_of limits (handed_in detach o.payload)) (sym (same_answer _ text w.2) ∙ ap (λ (w : Written). w.text) (sym (same_answer _ w.0 a.2)) ∙ one.text)
+    ap (jws_of limits (handed_in detach o.payload)) (sym (same_answer _ text a.2) ∙ one.text)
     ∙ read_compact limits detach one.protected o.payload one.signature o (subst HasUrlTexts texts (url_texts limits parts o members is))
     (ap (decoded_object limits) (sym texts) ∙ object_read limits parts o members is)
 

@@ -1,18 +1,14 @@
 -- Members that are written one after another, beside the compact text of the object that has them.
-use Rattle.std.proofs.Common.{◌≡◌, ℕ, List, [], ◌∷◌, ◌++◌, map, codes, Bool, true, false, refl, sym, ap, ◌∙◌, subst, append_assoc, append-nil}
-use Rattle.std.specs.List.{AllByRecursion, list_all}
+use Rattle.std.proofs.Common.{◌≡◌, ℕ, List, [], ◌∷◌, ◌++◌, codes, Bool, true, false, refl, sym, ap, ◌∙◌, subst, append_assoc, append-nil}
+use Rattle.std.specs.List.{list_all}
 use Rattle.serde_json.specs.Data.{Data, string, array, object, Members, no_members, member}
 use Rattle.serde_json.specs.Written.{comma_if, compact_text, members_text, items_text}
 use Rattle.octets.specs.Base64url.{base64url, is_url_character}
 use Rattle.keys.proofs.Lemmas.{url_texts_are_json}
-use Rattle.objects.specs.Writing.{Written, nothing_written, pushed, slot_by, with_slot, opened, closed, comma_by, named, with_value, with_text, with_header, with_place, with_content, inside, with_items, with_list}
+use Rattle.objects.specs.Writing.{Written, nothing_written, pushed, opened, closed, comma_by, named, with_value, with_text, with_header, place_by, with_place, with_content, inside, with_items, with_list}
+use Rattle.objects.specs.Values.{Entries, member_if_there, present, objects, text_there, header_there, content_there}
 use Rattle.objects.proofs.Characters.{IsUrlText}
-use Rattle.objects.proofs.DetachedContent.{content_there}
 use Rattle.objects.proofs.EachRead.{all_passed}
-use Rattle.objects.proofs.ListedMembers.{listed}
-use Rattle.objects.proofs.Members.{Entries, put_all}
-use Rattle.objects.proofs.Sorted.{member_if_there}
-use Rattle.objects.proofs.Spelling.{text_there, header_there}
 
 -- what is written, with no place left in it, and then the rest make all of a text
 pub record Begins (w : Written) (rest all : List ℕ) : Type 0 where
@@ -37,9 +33,6 @@ begins_closed x w rest all b = let p = begins_pushed x w rest all b in record { 
 
 pub begins_opened : (x : List ℕ) (w : Written) (rest all : List ℕ) → Begins w (x ++ rest) all → Begins (opened x w) rest all
 begins_opened x w rest all b = let p = begins_pushed x w rest all b in record { whole = p.whole; text = p.text }
-
-begins_slot : (octets : List ℕ) (w : Written) (rest all : List ℕ) → Begins w (base64url octets ++ rest) all → Begins (with_slot octets w) rest all
-begins_slot octets w rest all b = subst (λ p. Begins (slot_by p octets w) rest all) (sym b.whole) (begins_pushed (base64url octets) w rest all b)
 
 -- ---- names and values
 
@@ -83,59 +76,50 @@ pub begins_header : (name : List ℕ) (header ms : Members) (tail : List ℕ) (w
 begins_header name no_members ms tail w all is b = b
 begins_header name (member k d header) ms tail w all is b = begins_value name (object (member k d header)) ms tail w all is b
 
--- a place changes nothing of what stands before
-slot_later : (places : Bool) (octets : List ℕ) (w : Written) → (slot_by places octets w).later ≡ w.later
-slot_later true octets w = refl
-slot_later false octets w = refl
-
--- the text of octets stands between quotes
-pub begins_place : (name octets : List ℕ) (ms : Members) (tail : List ℕ) (w : Written) (all : List ℕ) → list_all is_url_character name ≡ true → IsUrlText (base64url octets)
+-- the text of octets is a value
+pub begins_place : (name octets : List ℕ) (ms : Members) (tail : List ℕ) (w : Written) (all : List ℕ) → list_all is_url_character name ≡ true
     → Begins w (members_text w.later (member name (string (base64url octets)) ms) ++ tail) all
     → Begins (with_place name octets w) (members_text (with_place name octets w).later ms ++ tail) all
-begins_place name octets ms tail w all is plain b =
-    let text : List ℕ = base64url octets in
-    let rest : List ℕ = members_text true ms ++ tail in
-    let value = at_rest (named name w) _ _ all (quoted text rest plain) (begins_named name (string text) ms tail w all is b) in
-    let before = begins_pushed (codes "\"") (named name w) (text ++ (codes "\"" ++ rest)) all value in
-    subst (λ later. Begins (with_place name octets w) (members_text later ms ++ tail) all) (sym (slot_later _ octets _))
-    (begins_pushed (codes "\"") _ rest all (begins_slot octets _ (codes "\"" ++ rest) all before))
+begins_place name octets ms tail w all is b =
+    subst (λ p. Begins (place_by p name octets w) (members_text (place_by p name octets w).later ms ++ tail) all) (sym b.whole)
+    (begins_value name (string (base64url octets)) ms tail w all is b)
 
 -- that of a content is there unless it is detached
 pub begins_content : (name : List ℕ) (detach : Bool) (content : List ℕ) (ms : Members) (tail : List ℕ) (w : Written) (all : List ℕ) → list_all is_url_character name ≡ true
-    → IsUrlText (base64url content) → Begins w (members_text w.later (member_if_there name (content_there detach (base64url content)) ms) ++ tail) all
+    → Begins w (members_text w.later (member_if_there name (content_there detach (base64url content)) ms) ++ tail) all
     → Begins (with_content name (inside detach content) w) (members_text (with_content name (inside detach content) w).later ms ++ tail) all
-begins_content name true content ms tail w all is plain b = b
-begins_content name false content ms tail w all is plain b = begins_place name content ms tail w all is plain b
+begins_content name true content ms tail w all is b = b
+begins_content name false content ms tail w all is b = begins_place name content ms tail w all is b
 
 -- ---- lists
 
--- one is written up to the brace behind its members
-abbrev pub WritesOne : {X T : Type 0} → (X → Written → Written) → (T → Entries) → (X → T) → X → Type 0
-WritesOne with_one entries text x = (tail : List ℕ) (w : Written) (all : List ℕ)
-    → Begins w (members_text w.later (put_all (entries (text x))) ++ tail) all → Begins (with_one x w) (codes "}" ++ tail) all
+-- each is written up to the brace behind its members
+abbrev pub WritesEach : {X : Type 0} → (X → Written → Written) → (X → Entries) → Type 0
+WritesEach {X} with_one members = (x : X) (tail : List ℕ) (w : Written) (all : List ℕ)
+    → Begins w (members_text w.later (present (members x)) ++ tail) all → Begins (with_one x w) (codes "}" ++ tail) all
 
-begins_items : {X T : Type 0} (with_one : X → Written → Written) (entries : T → Entries) (text : X → T) (xs : List X) → AllByRecursion (WritesOne with_one entries text) xs
-    → (tail : List ℕ) (w : Written) (all : List ℕ) → Begins w (items_text w.later (listed entries (map text xs)) ++ tail) all → Begins (with_items with_one xs w) (codes "]" ++ tail) all
-begins_items with_one entries text [] writes tail w all b = b
-begins_items with_one entries text (x ∷ xs) writes tail w all b =
-    let ms : Members = put_all (entries (text x)) in
-    let others : List ℕ = items_text true (listed entries (map text xs)) ++ tail in
-    let split : items_text w.later (listed entries (map text (x ∷ xs))) ++ tail ≡ comma_if w.later ++ (codes "{" ++ (members_text false ms ++ others)) =
+begins_items : {X : Type 0} (with_one : X → Written → Written) (members : X → Entries) (xs : List X) → WritesEach with_one members
+    → (tail : List ℕ) (w : Written) (all : List ℕ) → Begins w (items_text w.later (objects members xs) ++ tail) all → Begins (with_items with_one xs w) (codes "]" ++ tail) all
+begins_items with_one members [] writes tail w all b = b
+begins_items with_one members (x ∷ xs) writes tail w all b =
+    let ms : Members = present (members x) in
+    let others : List ℕ = items_text true (objects members xs) ++ tail in
+    let split : items_text w.later (objects members (x ∷ xs)) ++ tail ≡ comma_if w.later ++ (codes "{" ++ (members_text false ms ++ others)) =
     append_assoc (comma_if w.later) _ tail
-    ∙ ap (λ l. comma_if w.later ++ 123 ∷ l) (append_assoc (members_text false ms) (items_text true (listed entries (map text xs))) tail) in
+    ∙ ap (λ l. comma_if w.later ++ 123 ∷ l) (append_assoc (members_text false ms) (items_text true (objects members xs)) tail) in
     let brace = begins_comma w.later w (codes "{" ++ (members_text false ms ++ others)) all (at_rest w _ _ all split b) in
-    let one = writes.0 others _ all (begins_opened (codes "{") _ (members_text false ms ++ others) all brace) in
-    begins_items with_one entries text xs writes.1 tail _ all (begins_closed (codes "}") _ others all one)
+    let one = writes x others _ all (begins_opened (codes "{") _ (members_text false ms ++ others) all brace) in
+    begins_items with_one members xs writes tail _ all (begins_closed (codes "}") _ others all one)
 
-pub begins_list : {X T : Type 0} (name : List ℕ) (with_one : X → Written → Written) (entries : T → Entries) (text : X → T) (xs : List X)
-    → AllByRecursion (WritesOne with_one entries text) xs → (ms : Members) (tail : List ℕ) (w : Written) (all : List ℕ) → list_all is_url_character name ≡ true
-    → Begins w (members_text w.later (member name (array (listed entries (map text xs))) ms) ++ tail) all → Begins (with_list name with_one xs w) (members_text true ms ++ tail) all
-begins_list name with_one entries text xs writes ms tail w all is b =
-    let list = listed entries (map text xs) in
+pub begins_list : {X : Type 0} (name : List ℕ) (with_one : X → Written → Written) (members : X → Entries) (xs : List X)
+    → WritesEach with_one members → (ms : Members) (tail : List ℕ) (w : Written) (all : List ℕ) → list_all is_url_character name ≡ true
+    → Begins w (members_text w.later (member name (array (objects members xs)) ms) ++ tail) all → Begins (with_list name with_one xs w) (members_text true ms ++ tail) all
+begins_list name with_one members xs writes ms tail w all is b =
+    let list = objects members xs in
     let rest : List ℕ = members_text true ms ++ tail in
     let value = begins_named name (array list) ms tail w all is b in
     let items = begins_opened (codes "[") (named name w) (items_text false list ++ rest) all value in
-    begins_closed (codes "]") _ rest all (begins_items with_one entries text xs writes rest _ all items)
+    begins_closed (codes "]") _ rest all (begins_items with_one members xs writes rest _ all items)
 
 -- ---- the whole text
 

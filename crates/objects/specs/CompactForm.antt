@@ -1,20 +1,16 @@
 -- Which objects have a compact text, and which text it is (RFC 7515 section 7.1, RFC 7516 section 7.1).
-use Rattle.std.specs.Prelude.{◌≡◌, ◌↔◌, ℕ, Bool, List, [], ◌∷◌, ◌++◌, if◌then◌else◌, Result, Ok, Err}
-use Rattle.std.specs.Str.{byte}
+use Rattle.std.specs.Prelude.{◌≡◌, ◌↔◌, ℕ, Bool, List, [], ◌∷◌, Result, Ok, Err}
 use Rattle.serde_json.specs.Data.{no_members}
 use Rattle.octets.specs.declared.refusal.Refusal.{Refusal}
 use Rattle.octets.specs.declared.refusal.Refusal.TheVariants.{NotCompact}
 use Rattle.octets.specs.Base64url.{base64url}
 use Rattle.objects.specs.Jwe.{Recipient, EncryptedObject, jwe_compact_text}
 use Rattle.objects.specs.Jws.{Signature, SignedObject, jws_compact_text}
+use Rattle.objects.specs.Texts.{between_dots, kept}
 
 -- There is a compact text (RFC 7515 section 7.1, RFC 7516 section 7.1).
 abbrev pub HasText : Result (List ℕ) Refusal → Type 0
 HasText compact = (text : List ℕ) × (compact ≡ Ok text)
-
--- the part of the content: its base64url text, or nothing if it is detached (RFC 7515 appendix F)
-abbrev pub content_part : Bool → List ℕ → List ℕ
-content_part detach content = if detach then [] else base64url content
 
 -- ---- signed objects (RFC 7515 section 7.1)
 
@@ -29,7 +25,7 @@ HasOnlySignature o = (s : Signature) × IsOnlySignature o s
 
 -- the protected header, the payload and the signature, joined by dots
 abbrev pub jws_parts_text : Bool → SignedObject → Signature → List ℕ
-jws_parts_text detach o s = s.protected ++ byte "." ∷ (content_part detach o.payload ++ byte "." ∷ base64url s.signature)
+jws_parts_text detach o s = between_dots (s.protected ∷ kept detach (base64url o.payload) ∷ base64url s.signature ∷ [])
 
 -- A signed object has a compact text exactly if it has one signature and no unprotected header. The text is its three parts, joined by
 -- dots. Every other object is refused with NotCompact.
@@ -54,7 +50,7 @@ HasOnlyRecipient o = (r : Recipient) × IsOnlyRecipient o r
 -- the protected header, the encrypted key, the initialization vector, the ciphertext and the tag, joined by dots
 abbrev pub jwe_parts_text : Bool → EncryptedObject → Recipient → List ℕ
 jwe_parts_text detach o r =
-    o.protected ++ byte "." ∷ (base64url r.encrypted_key ++ byte "." ∷ (base64url o.iv ++ byte "." ∷ (content_part detach o.ciphertext ++ byte "." ∷ base64url o.tag)))
+    between_dots (o.protected ∷ base64url r.encrypted_key ∷ base64url o.iv ∷ kept detach (base64url o.ciphertext) ∷ base64url o.tag ∷ [])
 
 -- An encrypted object has a compact text exactly if it has one recipient, only a protected header, and no additional data. The text is
 -- its five parts, joined by dots. Every other object is refused with NotCompact.

@@ -5,8 +5,10 @@ use Rattle.octets.specs.declared.refusal.Refusal.{Refusal}
 use Rattle.octets.specs.Base64url.{base64url}
 use Rattle.octets.specs.Octets.{IsOctets}
 use Rattle.octets.specs.Outcomes.{◌>>=◌}
-use Rattle.objects.specs.Jws.{Signature, SignedObject, jws_written, jws_text}
-use Rattle.objects.specs.Jwe.{EncryptedObject, jwe_written, jwe_text}
+use Rattle.objects.specs.Jws.{Signature, SignedObject, jws_text}
+use Rattle.objects.specs.Jwe.{EncryptedObject, jwe_text}
+use Rattle.objects.specs.JweWriting.{jwe_written}
+use Rattle.objects.specs.JwsWriting.{jws_written}
 use Rattle.objects.specs.Writing.{all_texts}
 
 -- the texts, with values in the places between them

@@ -1,8 +1,8 @@
 -- JWE objects (RFC 7516): their compact texts (section 7.1) and their JSON texts, general and flattened (section 7.2).
-use Rattle.std.specs.Prelude.{◌≡◌, ℕ, ◌&&◌, ◌||◌, ◌==◌, Bool, true, false, not, List, [], ◌∷◌, length, map, codes, nat_le, is_some, is_none, if◌then◌else◌, Option, Some, None, Result, Ok}
+use Rattle.std.specs.Prelude.{◌≡◌, ℕ, ◌&&◌, ◌==◌, Bool, true, false, not, List, [], ◌∷◌, length, map, codes, nat_le, is_some, is_none, if◌then◌else◌, Option, Some, None, Result, Ok}
 use Rattle.std.specs.List.{AllByRecursion, list_all}
 use Rattle.std.specs.Str.{bytes_eq, IsUtf8}
-use Rattle.serde_json.specs.Data.{Data, Items, no_items, item, Members, no_members, object, depth}
+use Rattle.serde_json.specs.Data.{Data, Items, no_items, item, Members, no_members, array, object, depth}
 use Rattle.serde_json.specs.Find.{get, get_member}
 use Rattle.serde_json.specs.Written.{compact_text}
 use Rattle.octets.specs.declared.refusal.Refusal.{Refusal}
@@ -17,8 +17,8 @@ use Rattle.keys.specs.JsonTexts.{AreJsonMembers}
 use Rattle.keys.specs.Limits.{Limits, are_few}
 use Rattle.objects.specs.Headers.{header_at, protected_members, joint_header, string_there, has_no_crit}
 use Rattle.objects.specs.KeyManagement.{KeyManagement, key_management}
-use Rattle.objects.specs.Texts.{each, each_item, is_json_form, split_at_dot, three_parts, text_at, content_by, content_text, handed_in, AreOctetsHandedIn, object_list, has_text, has_members, header_depth, depth_of_each}
-use Rattle.objects.specs.Writing.{Written, nothing_written, pushed, opened, closed, with_text, with_header, with_place, with_content, inside, with_list, with_part, with_place_part, with_content_part}
+use Rattle.objects.specs.Texts.{each, each_item, is_json_form, split_at_dot, three_parts, text_at, content_by, content_text, handed_in, AreOctetsHandedIn, between_dots, kept, object_list, has_text, has_members, header_depth, depth_of_each}
+use Rattle.objects.specs.Values.{Entries, present, objects, text_there, header_there, content_there}
 
 -- ---- the members of an object (RFC 7516 section 7.2.1)
 
@@ -268,44 +268,43 @@ built limits parts = do
 
 -- ---- its texts (RFC 7516 section 7, docs/SPECIFICATION.md "Objects" 5)
 
--- the header and the encrypted key of a recipient
-abbrev pub with_recipient : RecipientParts → Written → Written
-with_recipient r w = with_header (codes "header") r.header (with_text (codes "encrypted_key") (base64url r.encrypted_key) w)
+-- the members of a recipient
+abbrev pub recipient_members : RecipientParts → Entries
+recipient_members r = (codes "encrypted_key", text_there (base64url r.encrypted_key)) ∷ (codes "header", header_there r.header) ∷ []
 
--- one recipient is next to the other members (section 7.2.2)
-abbrev pub with_flattened : List RecipientParts → Written → Written
-with_flattened [] w = w
-with_flattened (r ∷ []) w = with_recipient r w
-with_flattened (r ∷ (other ∷ rest)) w = w
+-- several recipients, or none, are a list (section 7.2.1)
+abbrev pub general_members : Option Data → JweParts → List RecipientParts → Entries
+general_members ciphertext p recipients =
+    (codes "aad", text_there (base64url p.aad))
+    ∷ (codes "ciphertext", ciphertext)
+    ∷ (codes "iv", text_there (base64url p.iv))
+    ∷ (codes "protected", text_there p.protected)
+    ∷ (codes "recipients", Some (array (objects recipient_members recipients)))
+    ∷ (codes "tag", text_there (base64url p.tag))
+    ∷ (codes "unprotected", header_there p.unprotected)
+    ∷ []
 
--- several, or none, are a list (section 7.2.1)
-abbrev pub with_general : List RecipientParts → Written → Written
-with_general [] w = with_list (codes "recipients") with_recipient [] w
-with_general (r ∷ []) w = w
-with_general (r ∷ (other ∷ rest)) w = with_list (codes "recipients") with_recipient (r ∷ (other ∷ rest)) w
+-- the members of one recipient are among the others (section 7.2.2)
+abbrev pub flattened_members : Option Data → JweParts → RecipientParts → Entries
+flattened_members ciphertext p r =
+    (codes "aad", text_there (base64url p.aad))
+    ∷ (codes "ciphertext", ciphertext)
+    ∷ (codes "encrypted_key", text_there (base64url r.encrypted_key))
+    ∷ (codes "header", header_there r.header)
+    ∷ (codes "iv", text_there (base64url p.iv))
+    ∷ (codes "protected", text_there p.protected)
+    ∷ (codes "tag", text_there (base64url p.tag))
+    ∷ (codes "unprotected", header_there p.unprotected)
+    ∷ []
 
--- a place for the tag, or its text if it is not empty
-abbrev pub with_tag : List ℕ → Written → Written
-with_tag tag w = if w.places || nat_le 1 (length tag) then with_place (codes "tag") tag w else w
+abbrev pub jwe_members : Option Data → JweParts → List RecipientParts → Entries
+jwe_members ciphertext p [] = general_members ciphertext p []
+jwe_members ciphertext p (r ∷ []) = flattened_members ciphertext p r
+jwe_members ciphertext p (r ∷ (other ∷ rest)) = general_members ciphertext p (r ∷ (other ∷ rest))
 
--- the members, in byte order of their names
-abbrev pub with_members : Option (List ℕ) → JweParts → Written → Written
-with_members ciphertext parts w =
-    with_header (codes "unprotected") parts.unprotected (
-    with_tag parts.tag (
-    with_general parts.recipients (
-    with_text (codes "protected") parts.protected (
-    with_text (codes "iv") (base64url parts.iv) (
-    with_flattened parts.recipients (
-    with_content (codes "ciphertext") ciphertext (
-    with_text (codes "aad") (base64url parts.aad) w)))))))
-
--- Their JSON text: flattened if there is one recipient, and else general. A detached ciphertext is not in it.
-abbrev pub jwe_json : Bool → Bool → JweParts → Written
-jwe_json places detach parts = closed (codes "}") (with_members (inside detach parts.ciphertext) parts (opened (codes "{") (nothing_written places)))
-
+-- the JSON text: the compact text of the object with these members
 unfoldable pub members_text : Bool → JweParts → List ℕ
-members_text detach parts = (jwe_json false detach parts).text
+members_text detach parts = compact_text (object (present (jwe_members (content_there detach (base64url parts.ciphertext)) parts parts.recipients)))
 
 -- the members of an object
 abbrev pub recipient_parts_of : Recipient → RecipientParts
@@ -330,14 +329,10 @@ abbrev pub key_of_first : List RecipientParts → List ℕ
 key_of_first [] = []
 key_of_first (r ∷ rest) = r.encrypted_key
 
--- the parts of a compact text (section 7.1), with the encrypted key of the first recipient
-abbrev pub with_compact : Option (List ℕ) → JweParts → Written → Written
-with_compact ciphertext parts w =
-    with_place_part parts.tag (
-    with_content_part ciphertext (
-    with_part parts.iv (
-    with_part (key_of_first parts.recipients) (
-    pushed parts.protected w))))
+-- the five parts of a compact text, with dots between them (section 7.1), by the first recipient
+abbrev pub compact_parts : Bool → JweParts → List ℕ
+compact_parts detach p =
+    between_dots (p.protected ∷ base64url (key_of_first p.recipients) ∷ base64url p.iv ∷ kept detach (base64url p.ciphertext) ∷ base64url p.tag ∷ [])
 
 -- a compact text can hold the object: it has one recipient, only a protected header, and no additional data
 abbrev pub is_compact : EncryptedObject → List Recipient → Bool
@@ -345,18 +340,11 @@ is_compact o [] = false
 is_compact o (r ∷ []) = not (has_members o.unprotected) && (not (has_members r.header) && (length o.aad == 0))
 is_compact o (r ∷ (other ∷ rest)) = false
 
--- the compact text, if it can hold the object, or the JSON text
-abbrev pub jwe_written : Bool → Bool → Bool → EncryptedObject → Result Written Refusal
-jwe_written places true detach o = do
-  fits ← needs (is_compact o o.recipients) NotCompact
-  Ok (with_compact (inside detach o.ciphertext) (parts_of o) (nothing_written places))
-jwe_written places false detach o = Ok (jwe_json places detach (parts_of o))
-
 -- the compact text, if it can hold the object; the part of a detached ciphertext is empty
 unfoldable pub jwe_compact_text : Bool → EncryptedObject → Result (List ℕ) Refusal
 jwe_compact_text detach o = do
-  w ← jwe_written false true detach o
-  Ok w.text
+  fits ← needs (is_compact o o.recipients) NotCompact
+  Ok (compact_parts detach (parts_of o))
 
 -- compact or JSON, with the ciphertext or without
 abbrev pub jwe_text : Bool → Bool → EncryptedObject → Result (List ℕ) Refusal

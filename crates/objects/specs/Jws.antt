@@ -2,14 +2,14 @@
 use Rattle.std.specs.Prelude.{◌≡◌, ℕ, ◌&&◌, Bool, true, false, not, List, [], ◌∷◌, length, map, codes, nat_le, is_some, is_none, if◌then◌else◌, Option, Some, None, Result, Ok}
 use Rattle.std.specs.List.{AllByRecursion, list_all}
 use Rattle.std.specs.Str.{IsUtf8}
-use Rattle.serde_json.specs.Data.{Data, Items, no_items, item, Members, no_members, object, depth}
+use Rattle.serde_json.specs.Data.{Data, Items, no_items, item, Members, no_members, string, array, object, depth}
 use Rattle.serde_json.specs.Find.{get}
 use Rattle.serde_json.specs.Written.{compact_text}
 use Rattle.octets.specs.declared.refusal.Refusal.{Refusal}
 use Rattle.octets.specs.declared.refusal.Refusal.TheVariants.{Json, Number, Form, Unsupported, Limit, NotCompact}
 use Rattle.octets.specs.Outcomes.{◌>>=◌, needs}
 use Rattle.octets.specs.Octets.{IsOctets}
-use Rattle.octets.specs.Base64url.{decoded}
+use Rattle.octets.specs.Base64url.{base64url, decoded}
 use Rattle.octets.specs.LineEnds.{without_line_end}
 use Rattle.keys.specs.declared.algorithm.KeyManagementAlg.{KeyManagementAlg}
 use Rattle.keys.specs.Json.{json_value, member_numbers_are_whole}
@@ -17,8 +17,8 @@ use Rattle.keys.specs.JsonTexts.{AreJsonMembers}
 use Rattle.keys.specs.Limits.{Limits, are_few}
 use Rattle.objects.specs.Headers.{header_at, protected_members, joint_header, string_there, has_no_crit}
 use Rattle.objects.specs.KeyManagement.{key_management}
-use Rattle.objects.specs.Texts.{each, each_item, is_json_form, three_parts, text_at, required_text, content_by, content_text, handed_in, AreOctetsHandedIn, object_list, has_text, has_members, depth_of_each}
-use Rattle.objects.specs.Writing.{Written, nothing_written, pushed, opened, closed, with_text, with_header, with_place, with_content, inside, with_list, with_place_part, with_content_part}
+use Rattle.objects.specs.Texts.{each, each_item, is_json_form, three_parts, text_at, required_text, content_by, content_text, handed_in, AreOctetsHandedIn, between_dots, kept, object_list, has_text, has_members, depth_of_each}
+use Rattle.objects.specs.Values.{Entries, present, objects, text_there, header_there, content_there}
 
 -- ---- the members of an object (RFC 7515 section 7.2.1)
 
@@ -191,31 +191,24 @@ built limits parts = do
 
 -- ---- its texts (RFC 7515 section 7, docs/SPECIFICATION.md "Objects" 5)
 
--- a signature, and the payload if it is next to it
-abbrev pub with_signature : Option (List ℕ) → SignatureParts → Written → Written
-with_signature payload s w =
-    with_place (codes "signature") s.signature (
-    with_text (codes "protected") s.protected (
-    with_content (codes "payload") payload (
-    with_header (codes "header") s.header w)))
+-- the members of a signature, with the payload if it is next to them
+abbrev pub signature_members : Option Data → SignatureParts → Entries
+signature_members payload s =
+    (codes "header", header_there s.header) ∷ (codes "payload", payload) ∷ (codes "protected", text_there s.protected) ∷ (codes "signature", Some (string (base64url s.signature))) ∷ []
 
--- the payload, and a list of signatures (section 7.2.1)
-abbrev pub with_general : Option (List ℕ) → List SignatureParts → Written → Written
-with_general payload signatures w = with_list (codes "signatures") (with_signature None) signatures (with_content (codes "payload") payload w)
+-- general (section 7.2.1)
+abbrev pub general_members : Option Data → List SignatureParts → Entries
+general_members payload signatures = (codes "payload", payload) ∷ (codes "signatures", Some (array (objects (signature_members None) signatures))) ∷ []
 
--- one signature is next to the payload (section 7.2.2); several, or none, are a list
-abbrev pub with_signatures : Option (List ℕ) → List SignatureParts → Written → Written
-with_signatures payload [] w = with_general payload [] w
-with_signatures payload (s ∷ []) w = with_signature payload s w
-with_signatures payload (s ∷ (other ∷ rest)) w = with_general payload (s ∷ (other ∷ rest)) w
+-- flattened if there is one signature (section 7.2.2), and else general
+abbrev pub jws_members : Option Data → List SignatureParts → Entries
+jws_members payload [] = general_members payload []
+jws_members payload (s ∷ []) = signature_members payload s
+jws_members payload (s ∷ (other ∷ rest)) = general_members payload (s ∷ (other ∷ rest))
 
--- The JSON text of members, in byte order of their names: flattened if there is one signature, and else general. A detached payload is
--- not in it.
-abbrev pub jws_json : Bool → Bool → JwsParts → Written
-jws_json places detach parts = closed (codes "}") (with_signatures (inside detach parts.payload) parts.signatures (opened (codes "{") (nothing_written places)))
-
+-- the JSON text: the compact text of the object with these members
 unfoldable pub members_text : Bool → JwsParts → List ℕ
-members_text detach parts = (jws_json false detach parts).text
+members_text detach parts = compact_text (object (present (jws_members (content_there detach (base64url parts.payload)) parts.signatures)))
 
 -- the members of an object
 abbrev pub signature_parts_of : Signature → SignatureParts
@@ -228,10 +221,10 @@ parts_of o = record { payload = o.payload; signatures = map signature_parts_of o
 abbrev pub json_text : Bool → SignedObject → List ℕ
 json_text detach o = members_text detach (parts_of o)
 
--- the parts of a compact text (section 7.1), with those of the first signature
-abbrev pub with_compact : Option (List ℕ) → List SignatureParts → Written → Written
-with_compact payload [] w = w
-with_compact payload (s ∷ rest) w = with_place_part s.signature (with_content_part payload (pushed s.protected w))
+-- the three parts of a compact text, with dots between them (section 7.1), by the first signature
+abbrev pub compact_parts : Bool → List ℕ → List SignatureParts → List ℕ
+compact_parts detach payload [] = []
+compact_parts detach payload (s ∷ rest) = between_dots (s.protected ∷ kept detach (base64url payload) ∷ base64url s.signature ∷ [])
 
 -- a compact text can hold the object: it has one signature, and no unprotected header
 abbrev pub is_compact : List Signature → Bool
@@ -239,18 +232,11 @@ is_compact [] = false
 is_compact (s ∷ []) = not (has_members s.header)
 is_compact (s ∷ (other ∷ rest)) = false
 
--- the compact text, if it can hold the object, or the JSON text
-abbrev pub jws_written : Bool → Bool → Bool → SignedObject → Result Written Refusal
-jws_written places true detach o = do
-  fits ← needs (is_compact o.signatures) NotCompact
-  Ok (with_compact (inside detach o.payload) (parts_of o).signatures (nothing_written places))
-jws_written places false detach o = Ok (jws_json places detach (parts_of o))
-
 -- the compact text, if it can hold the object; the part of a detached payload is empty
 unfoldable pub jws_compact_text : Bool → SignedObject → Result (List ℕ) Refusal
 jws_compact_text detach o = do
-  w ← jws_written false true detach o
-  Ok w.text
+  fits ← needs (is_compact o.signatures) NotCompact
+  Ok (compact_parts detach o.payload (parts_of o).signatures)
 
 -- compact or JSON, with the payload or without
 abbrev pub jws_text : Bool → Bool → SignedObject → Result (List ℕ) Refusal

@@ -2,10 +2,13 @@ pub mod Headers
 pub mod KeyManagement
 pub mod KeyManagementView
 pub mod Texts
-pub mod Writing
+pub mod Values
 pub mod Jws
 pub mod Jwe
 pub mod Views
+pub mod Writing
+pub mod JwsWriting
+pub mod JweWriting
 pub mod Frames
 pub mod HandedIn
 pub mod CompactForm

@@ -1,6 +1,6 @@
 -- Reading the texts of JWS and JWE objects (RFC 7515 section 7, RFC 7516 section 7): their form, the parts of a compact text, and the
 -- members of a JSON text.
-use Rattle.std.specs.Prelude.{ℕ, ◌+◌, ◌==◌, ◌||◌, ◌&&◌, Bool, true, false, not, List, [], ◌∷◌, take, drop, is_none, position, nat_le, if◌then◌else◌, Option, Some, None, option_and_then, IfSome, Result, Ok, Err}
+use Rattle.std.specs.Prelude.{ℕ, ◌+◌, ◌==◌, ◌||◌, ◌&&◌, Bool, true, false, not, List, [], ◌∷◌, ◌++◌, take, drop, is_none, position, nat_le, if◌then◌else◌, Option, Some, None, option_and_then, IfSome, Result, Ok, Err}
 use Rattle.std.specs.List.{find}
 use Rattle.std.specs.Option.{ok_or}
 use Rattle.std.specs.Result.{result_unwrap_or}
@@ -67,6 +67,12 @@ three_parts text = do
   last ← needs (is_none (position is_dot second.1)) Form
   Ok (first.0, second.0, second.1)
 
+-- parts with dots between them
+abbrev pub between_dots : List (List ℕ) → List ℕ
+between_dots [] = []
+between_dots (part ∷ []) = part
+between_dots (part ∷ (next ∷ rest)) = part ++ byte "." ∷ between_dots (next ∷ rest)
+
 -- ---- the members of a JSON text (RFC 7515 section 7.2, RFC 7516 section 7.2)
 
 abbrev pub text_if_there : Option Data → Result (List ℕ) Refusal
@@ -105,6 +111,11 @@ abbrev pub content_text : Option (List ℕ) → List ℕ → Data → Result (Li
 content_text None name value = required_text name value
 content_text (Some content) name value = text_at name value >>= content_by (Some content)
 
+-- the text of a content in a compact text, or nothing if it is detached
+abbrev pub kept : Bool → List ℕ → List ℕ
+kept false text = text
+kept true text = []
+
 -- the content that is handed in with an object, if it is detached
 abbrev pub handed_in : Bool → List ℕ → Option (List ℕ)
 handed_in false content = None
@@ -118,6 +129,19 @@ AreOctetsHandedIn detached = IfSome detached IsOctets
 abbrev pub handed_out : Bool → List ℕ → List ℕ
 handed_out false content = []
 handed_out true content = content
+
+-- ---- what a text begins with, whatever its content is (docs/SPECIFICATION.md "Commands", what is left after a refusal)
+
+-- the longest list with which both begin
+abbrev pub common : List ℕ → List ℕ → List ℕ
+common [] ys = []
+common (x ∷ xs) [] = []
+common (x ∷ xs) (y ∷ ys) = if x == y then x ∷ common xs ys else []
+
+-- The text before the content is what the texts with the contents 0 and 255 have in common, since their base64url texts, AA and _w, differ
+-- from the first character on. It is empty if there are no texts.
+abbrev pub before_content : (List ℕ → Result (List ℕ) Refusal) → List ℕ
+before_content text_of = common (result_unwrap_or (text_of (0 ∷ [])) []) (result_unwrap_or (text_of (255 ∷ [])) [])
 
 -- ---- lists (RFC 7515 section 7.2.1, RFC 7516 section 7.2.1)
 

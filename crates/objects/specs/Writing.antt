@@ -1,4 +1,4 @@
--- How the text of an object is written: with its values, or with places left for them.
+-- How the code writes the text of an object: with its values, or with places left for them.
 use Rattle.std.specs.Prelude.{ℕ, Bool, true, false, List, [], ◌∷◌, ◌++◌, codes, if◌then◌else◌, Option, Some, None}
 use Rattle.serde_json.specs.Data.{Data, string, object, Members}
 use Rattle.serde_json.specs.Written.{compact_text}
@@ -68,9 +68,13 @@ with_text name (c ∷ text) w = with_value name (string (c ∷ text)) w
 abbrev pub with_header : List ℕ → Members → Written → Written
 with_header name header w = if has_members header then with_value name (object header) w else w
 
--- a member that is the base64url text of the octets, which needs no escape, or a place for it
+-- a member that is the base64url text of the octets, or a place for this text between quotes
+abbrev pub place_by : Bool → List ℕ → List ℕ → Written → Written
+place_by true name octets w = pushed (codes "\"") (slot_by true octets (pushed (codes "\"") (named name w)))
+place_by false name octets w = with_value name (string (base64url octets)) w
+
 abbrev pub with_place : List ℕ → List ℕ → Written → Written
-with_place name octets w = pushed (codes "\"") (with_slot octets (pushed (codes "\"") (named name w)))
+with_place name octets w = place_by w.places name octets w
 
 -- the same of a content, if it is in the text
 abbrev pub with_content : List ℕ → Option (List ℕ) → Written → Written

@@ -7,11 +7,13 @@ ghost use Rattle.serde_json.specs.Written.{has_float};
 ghost use Rattle.objects.specs.Views.{held_view, received_view, written_view};
 ghost use Rattle.objects.specs.Writing.{Written, nothing_written, all_texts, pushed, with_slot, opened, closed, separated, named, with_value, with_text, with_header, with_place, with_content, with_items, with_list, with_part, with_place_part, with_content_part, inside};
 ghost use Rattle.octets.specs.Base64url.{base64url};
+ghost use Rattle.octets.specs.Octets.{IsOctets};
 
 use crate::content::payload::HeldContent;
 use crate::content::received_text::ReceivedText;
 use crate::header::members::HeaderMembers;
 use crate::header::parts::{copy_header, has_members};
+use octets::laws::are_octets;
 use octets::{Refusal, b64_append, b64_encode};
 use serde_json::Value;
 use std::alloc::Global;
@@ -190,6 +192,7 @@ impl TextWriter {
     }
 
     /// Writes the base64url text of the content as a member, or leaves a place for it.
+    #[tactic(auto, using(crate::proofs::Places::placed))]
     pub(crate) fn place(
         &mut self,
         alloc: Global,
@@ -199,6 +202,7 @@ impl TextWriter {
         ensures written { OnOk result (written_view self.new ≡ with_place name.now (held_view content.entry) (written_view self.old)) }
         ensures memory { OnErr result (result ≡ Err Refusal.Memory) }
     {
+        held_octets(&content);
         self.name(name)?;
         self.push("\"")?;
         self.slot(alloc, content)?;
@@ -294,6 +298,15 @@ pub(crate) fn inside(detach: bool, content: HeldContent<'_>) -> Option<HeldConte
     ensures { option_map held_view result ≡ inside detach (held_view content.entry) }
 {
     if detach { None } else { Some(content) }
+}
+
+/// A content is held as octets, so its base64url text needs no escape.
+fn held_octets(content: &HeldContent<'_>)
+    ensures { IsOctets (held_view content.now) }
+{
+    if let HeldContent::Octets(octets) = content {
+        are_octets(octets);
+    }
 }
 
 /// Appends the base64url text of the content to a text.

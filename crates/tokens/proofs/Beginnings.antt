@@ -1,12 +1,14 @@
 -- Lists that begin others: behind a list, in base64url texts, in a frame, and on both outputs of a call.
-use Rattle.std.proofs.Common.{◌≡◌, ℕ, ◌≤◌, length, map, take, length-append, Bool, true, false, List, [], ◌∷◌, ◌++◌, Ok, refl, sym, ap, ◌∙◌, subst, arith, append_assoc}
+use Rattle.std.proofs.Common.{◌≡◌, ◌==◌, ℕ, ◌+◌, ◌≤◌, ◌<◌, length, map, take, length-append, Bool, true, false, List, [], ◌∷◌, ◌++◌, Result, Ok, refl, sym, ap, ◌∙◌, subst, arith, append_assoc}
+use Rattle.std.proofs.lemmas.Bool.{eq-eqb}
+use Rattle.octets.specs.declared.refusal.Refusal.{Refusal}
 use Rattle.octets.specs.Base64url.{base64url, whole_groups, part_group}
 use Rattle.octets.specs.Devices.{AppendsPrefixOf}
 use Rattle.octets.specs.Octets.{IsOctets}
 use Rattle.octets.specs.Plan.{OutputTexts, Plan, Begins, Grows, plan_map, BothGrow}
-use Rattle.octets.proofs.Lemmas.{base64url_whole-append, base64url_whole_part, steps, same_answer}
+use Rattle.octets.proofs.Lemmas.{IsOctets-nil, first_or, base64url_whole-append, base64url_whole_part, steps, same_answer, spells_six_bits}
 use Rattle.objects.specs.Frames.{filled, in_places, first_text}
-use Rattle.objects.specs.Texts.{handed_in, handed_out}
+use Rattle.objects.specs.Texts.{handed_in, handed_out, common, before_content}
 
 -- ---- lists
 
@@ -51,6 +53,30 @@ frame_begins [] x content others some b = absurd (omega (arith, some))
 frame_begins (first ∷ rest) x content others some b =
     let text : List ℕ = base64url content in
     begins_behind first _ _ (begins_all _ text _ (text_grows x content b) (record { rest = filled rest (map base64url others); continues = refl }))
+
+-- ---- the text before a content
+
+-- texts that differ from here on have this front in common
+common_front : (front : List ℕ) (x y : ℕ) (xs ys : List ℕ) → (x == y) ≡ false → common (front ++ x ∷ xs) (front ++ y ∷ ys) ≡ front
+common_front [] x y xs ys differ = rw differ refl
+common_front (c ∷ front) x y xs ys differ = rw (eq-eqb c c refl) (ap (λ l. c ∷ l) (common_front front x y xs ys differ))
+
+text_of_0 : base64url (0 ∷ []) ≡ 65 ∷ 65 ∷ []
+text_of_0 = spells_six_bits (0 ∷ []) (first_or 0 [] (omega arith) IsOctets-nil)
+
+text_of_255 : base64url (255 ∷ []) ≡ 95 ∷ 119 ∷ []
+text_of_255 = spells_six_bits (255 ∷ []) (first_or 255 [] (omega arith) IsOctets-nil)
+
+-- where every content fills a frame, the text before it is the first text of the frame
+pub before_is : (text_of : List ℕ → Result (List ℕ) Refusal) (texts : List (List ℕ)) (others : ℕ → List (List ℕ)) (n : ℕ) → length texts ≡ 2 + n
+    → ((b : ℕ) → b < 256 → text_of (b ∷ []) ≡ Ok (filled texts (in_places false (b ∷ []) (others b)))) → before_content text_of ≡ first_text (Ok texts)
+before_is text_of [] others n places fills = absurd (omega (arith, places))
+before_is text_of (first ∷ rest) others n places fills =
+    let zero_octet : text_of (0 ∷ []) ≡ Ok (first ++ 65 ∷ 65 ∷ filled rest (map base64url (others 0))) =
+    fills 0 (omega arith) ∙ ap (λ t. Ok (first ++ (t ++ filled rest (map base64url (others 0))))) text_of_0 in
+    let last_octet : text_of (255 ∷ []) ≡ Ok (first ++ 95 ∷ 119 ∷ filled rest (map base64url (others 255))) =
+    fills 255 (omega arith) ∙ ap (λ t. Ok (first ++ (t ++ filled rest (map base64url (others 255))))) text_of_255 in
+    rw (zero_octet, last_octet) (common_front first 65 95 _ _ refl)
 
 -- ---- both outputs
 

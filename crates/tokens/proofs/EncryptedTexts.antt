@@ -11,9 +11,8 @@ use Rattle.ciphers.specs.Openings.{is_longer}
 use Rattle.ciphers.specs.Sealing.{Sealed}
 use Rattle.keys.specs.Keys.{OctetKey}
 use Rattle.keys.specs.Limits.{limits, are_few}
-use Rattle.objects.specs.Jwe.{EncryptedObject, built, parts_of, with_compact, is_compact, json_text, jwe_compact_text, jwe_text}
+use Rattle.objects.specs.Jwe.{EncryptedObject, built, parts_of, compact_parts, is_compact, json_text, jwe_compact_text, jwe_text}
 use Rattle.objects.specs.Texts.{has_members}
-use Rattle.objects.specs.Writing.{nothing_written, inside}
 use Rattle.tokens.specs.Choosing.{RecipientKey, is_alone, EncryptionPlan}
 use Rattle.tokens.specs.Encrypting.{random_len, for_recipients, cek_by, sealing_by, sealed_by, parts_by, encrypted, written_of, plan_by, EncryptingMakesTexts}
 use Rattle.tokens.specs.Template.{is_empty}
@@ -45,7 +44,7 @@ has_text true detach e random s alone some =
     let second = and_parts (is_empty e.unprotected) (length e.aad == 0) first.1 in
     let held : is_compact o o.recipients ≡ true =
     fits e (cek_by e random) o (drawn_by_each e random) first.0 (as_many_drawn e.recipient_keys (for_recipients e random)) some (no_members_there e.unprotected second.0) second.1 in
-    ((with_compact (inside detach o.ciphertext) (parts_of o) (nothing_written false)).text, rw held refl)
+    (compact_parts detach (parts_of o), rw held refl)
 has_text false detach e random s alone some = (json_text detach (object_by e random s), refl)
 
 -- and every plaintext that is not too long

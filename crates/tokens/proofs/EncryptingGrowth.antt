@@ -9,16 +9,17 @@ use Rattle.ciphers.proofs.Lemmas.{fixed_grows, ciphertext_grows}
 use Rattle.keys.specs.Keys.{OctetKey, AreOctetKeys}
 use Rattle.keys.specs.Limits.{limits, are_few}
 use Rattle.objects.specs.Frames.{filled, in_places, first_text}
+use Rattle.tokens.specs.SealedTexts.{frame_by}
 use Rattle.tokens.specs.Algorithms.{content_alg}
 use Rattle.tokens.specs.Choosing.{EncryptionPlan, read_encryption}
 use Rattle.tokens.specs.Decrypting.{additional_authenticated_data}
-use Rattle.tokens.specs.Encrypting.{random_len, cek_by, iv_by, header_by, sealing_by, encrypted, frame_by, text_before, within_longest, written_of, ciphertext_fixed, text_fixed, plan_by, EncryptingGrows}
+use Rattle.tokens.specs.Encrypting.{random_len, cek_by, iv_by, header_by, sealing_by, encrypted, text_before, within_longest, written_of, ciphertext_fixed, text_fixed, plan_by, EncryptingGrows}
 use Rattle.tokens.proofs.Beginnings.{begins_behind, empty_begins, groups_grow, frame_begins, handed_out_begins, BothBegin, both_grow_by_beginnings}
 use Rattle.tokens.proofs.DeliveredKeys.{cek_by_is}
 use Rattle.tokens.proofs.SealedPlans.{all_within}
 use Rattle.tokens.proofs.EncryptedObjects.{OctetLaws, few_recipient_keys, encrypting_steps, sealed_is, plan_is, settles}
 use Rattle.tokens.proofs.SoundLimits.{these_are_sound}
-use Rattle.tokens.proofs.EncryptionFrames.{has_frame, frame, whole_is}
+use Rattle.tokens.proofs.EncryptionFrames.{has_frame, frame, text_before_is, whole_is}
 
 -- ---- what is fixed of the ciphertext
 
@@ -57,11 +58,12 @@ text_goes_on compact true e random x y b = empty_begins []
 text_goes_on compact false e random x y b = begins_behind (text_before limits compact e random) _ _ (groups_grow x y b)
 
 -- and begins the frame with the ciphertext and the tag in it
-text_begins : (compact detach : Bool) (e : EncryptionPlan) (random : List ℕ) (texts : List (List ℕ)) (x : List ℕ) (s : Sealed) → frame_by limits compact detach e random ≡ Ok texts
-    → length texts ≡ (if detach then 2 else 3) → Begins x s.ciphertext → Begins (text_fixed limits compact detach e random x) (filled texts (in_places detach s.ciphertext (s.tag ∷ [])))
-text_begins compact true e random texts x s is places b = empty_begins _
-text_begins compact false e random texts x s is places b =
-    subst (λ r. Begins (first_text r ++ base64url (whole_groups x)) (filled texts (in_places false s.ciphertext (s.tag ∷ [])))) (sym is)
+text_begins : (compact detach : Bool) (e : EncryptionPlan) (random : List ℕ) (texts : List (List ℕ)) (x : List ℕ) (s : Sealed)
+    → (detach ≡ false → text_before limits compact e random ≡ first_text (Ok texts)) → length texts ≡ (if detach then 2 else 3) → Begins x s.ciphertext
+    → Begins (text_fixed limits compact detach e random x) (filled texts (in_places detach s.ciphertext (s.tag ∷ [])))
+text_begins compact true e random texts x s before places b = empty_begins _
+text_begins compact false e random texts x s before places b =
+    subst (λ t. Begins (t ++ base64url (whole_groups x)) (filled texts (in_places false s.ciphertext (s.tag ∷ [])))) (sym (before refl))
     (frame_begins texts x s.ciphertext (s.tag ∷ []) (omega (arith, places)) b)
 
 -- ---- what is encrypted
@@ -80,10 +82,12 @@ written_begins laws compact detach keys template e random p q texts key_octets r
     let cek = cek_by_is keys e random (settles limits these_are_sound compact keys template e is) key_octets random_octets long in
     let framed = has_frame compact keys template e random is few laws key_octets random_octets long detach in
     let begins : Begins front s.ciphertext = subst (λ (x : Sealed). Begins front x.ciphertext) sealed.1 (fixed_begins e random p q sealed.0) in
+    let before = λ (inside : detach ≡ false). text_before_is compact keys template e random is few laws key_octets random_octets long framed.0
+    (subst (λ d. frame_by limits compact d e random ≡ Ok framed.0) inside framed.1) in
     let whole = whole_is compact keys template e random is few laws key_octets random_octets long cek.octets cek.fits detach framed.0 framed.1 (p ++ q) s octets made.1 in
     subst (BothBegin ((plan_by limits compact detach e random).fixed p)) (same_answer _ texts (sym whole ∙ h))
     (record {
-      text = text_begins compact detach e random framed.0 front s framed.1 (frame compact keys template e random is few laws key_octets random_octets long detach framed.0 framed.1).places begins;
+      text = text_begins compact detach e random framed.0 front s before (frame compact keys template e random is few laws key_octets random_octets long detach framed.0 framed.1).places begins;
       content = handed_out_begins detach front s.ciphertext begins;
     })
 

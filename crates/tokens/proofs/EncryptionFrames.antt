@@ -1,5 +1,5 @@
 -- The texts that stand round the ciphertext and the tag of what is encrypted.
-use Rattle.std.proofs.Common.{◌≡◌, ℕ, ◌≤◌, Bool, true, List, [], ◌∷◌, ◌++◌, length, Result, Ok, Err, refl, sym, ap, ◌∙◌, subst, arith, length-drop}
+use Rattle.std.proofs.Common.{◌≡◌, ℕ, ◌≤◌, Bool, true, false, List, [], ◌∷◌, ◌++◌, length, Result, Ok, Err, refl, sym, ap, ◌∙◌, subst, arith, length-drop}
 use Rattle.std.proofs.lemmas.Bool.{le-leb}
 use Rattle.octets.specs.declared.refusal.Refusal.{Refusal}
 use Rattle.octets.specs.declared.refusal.Refusal.TheVariants.{NotCompact}
@@ -7,22 +7,24 @@ use Rattle.octets.specs.Base64url.{base64url}
 use Rattle.octets.specs.Octets.{IsOctets}
 use Rattle.octets.specs.Outcomes.{◌>>=◌}
 use Rattle.octets.specs.Plan.{plan_from}
-use Rattle.octets.proofs.Lemmas.{IsOctets-drop}
+use Rattle.octets.proofs.Lemmas.{IsOctets-nil, first_or, IsOctets-drop}
 use Rattle.ciphers.specs.Sealing.{Sealed, Sealing, IsTooLong, cek_len}
 use Rattle.ciphers.proofs.Lemmas.{some_tag}
 use Rattle.keys.specs.Keys.{OctetKey, AreOctetKeys}
 use Rattle.keys.specs.Limits.{limits, are_few}
-use Rattle.objects.specs.Frames.{filled, in_places, jwe_frame, IsJweFrame}
-use Rattle.objects.specs.Jwe.{built, jwe_written}
+use Rattle.objects.specs.Frames.{filled, in_places, first_text, jwe_frame, IsJweFrame}
+use Rattle.objects.specs.Jwe.{built, jwe_text}
 use Rattle.objects.specs.Texts.{handed_out}
 use Rattle.objects.specs.Writing.{Written, all_texts}
+use Rattle.objects.specs.JweWriting.{jwe_written}
 use Rattle.objects.proofs.Lemmas.{jwe_refused, is_jwe_frame}
 use Rattle.tokens.specs.Algorithms.{content_alg}
 use Rattle.tokens.specs.Choosing.{EncryptionPlan, read_encryption}
 use Rattle.tokens.specs.Decrypting.{additional_authenticated_data}
 use Rattle.tokens.specs.Delivering.{drawn_for_all}
-use Rattle.tokens.specs.Encrypting.{cek_drawn, random_len, after_recipients, cek_by, iv_by, header_by, sealing_by, sealed_by, parts_by, encrypted, unsealed, frame_by, written_of, plan_by, enc_plan}
-use Rattle.tokens.specs.SealedTexts.{IsUnsealed}
+use Rattle.tokens.specs.Encrypting.{cek_drawn, random_len, after_recipients, cek_by, iv_by, header_by, sealing_by, sealed_by, parts_by, encrypted, text_before, written_of, plan_by, enc_plan}
+use Rattle.tokens.specs.SealedTexts.{IsUnsealed, unsealed, frame_by}
+use Rattle.tokens.proofs.Beginnings.{before_is}
 use Rattle.tokens.proofs.DeliveredKeys.{after_long}
 use Rattle.tokens.proofs.EncryptedHeaders.{OctetLaws, Writes, writes}
 use Rattle.tokens.proofs.EncryptedObjects.{object_by, built_is, sealed_is}
@@ -70,6 +72,15 @@ module _ (compact : Bool) (keys : List OctetKey) (template : List ℕ) (e : Encr
         ∙ ap (λ r. r >>= λ text. Ok (record { text = text; content = handed_out detach s.ciphertext }))
         (frame.filled s.ciphertext s.tag ciphertext tag (le-leb 1 (length s.tag) some))
 
+  -- before every ciphertext stands the first of them
+  pub text_before_is : (texts : List (List ℕ)) → frame_by limits compact false e random ≡ Ok texts → text_before limits compact e random ≡ first_text (Ok texts)
+  text_before_is texts framed =
+      let round = frame false texts framed in
+      before_is (λ octets. built limits (parts_by e random (record { ciphertext = octets; tag = octets })) >>= jwe_text compact false) texts (λ b. (b ∷ []) ∷ []) 1 round.places
+      (λ b small.
+          let octet : IsOctets (b ∷ []) = first_or b [] small IsOctets-nil in
+          ap (λ r. r >>= jwe_text compact false) (built_is limits refl keys e random (record { ciphertext = b ∷ []; tag = b ∷ [] }) by w few) ∙ round.filled (b ∷ []) (b ∷ []) octet octet refl)
+
   -- ---- every plaintext
 
   module _ (cek : IsOctets (cek_by e random)) (cek_fits : length (cek_by e random) ≡ cek_len (content_alg e.encryption)) where
@@ -107,7 +118,7 @@ is_unsealed is_sealing compact detach keys template e random octets rest sealer 
   random = random;
   is = plan_of_drawn limits compact detach keys template e random octets rest is long continues;
   started = started;
-  framed = framed;
+  before = λ inside. text_before_is compact keys template e random is few laws key_octets random_octets long texts (subst (λ d. frame_by limits compact d e random ≡ Ok texts) inside framed);
   places = (frame compact keys template e random is few laws key_octets random_octets long detach texts framed).places;
   whole = whole_is compact keys template e random is few laws key_octets random_octets long cek.0 cek.1 detach texts framed;
 }

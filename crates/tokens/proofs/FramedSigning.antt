@@ -12,14 +12,17 @@ use Rattle.octets.specs.Plan.{OutputTexts, planned}
 use Rattle.prf.specs.Hmac.{hmac}
 use Rattle.keys.specs.Keys.{OctetKey}
 use Rattle.keys.specs.Limits.{limits}
-use Rattle.objects.specs.Frames.{filled, in_places, jws_frame, signed_with, IsJwsFrame}
-use Rattle.objects.specs.Jws.{Signature, signature_parts_of, EncodedSignature, SignedObject, EncodedJws, JwsParts, built, jws_written, jws_text}
+use Rattle.objects.specs.Frames.{filled, in_places, first_text, jws_frame, signed_with, IsJwsFrame}
+use Rattle.objects.specs.Jws.{Signature, signature_parts_of, EncodedSignature, SignedObject, EncodedJws, JwsParts, built, jws_text}
 use Rattle.objects.specs.Texts.{handed_out}
 use Rattle.objects.specs.Writing.{Written, all_texts}
+use Rattle.objects.specs.JwsWriting.{jws_written}
 use Rattle.objects.proofs.Lemmas.{signature_spelled, parts_spelled, spelled, jws_is_built, object_keeps, jws_refused}
 use Rattle.tokens.specs.Signatures.{signature_hash, signature_of}
-use Rattle.tokens.specs.Signing.{Signer, Signing, protected_by, signature_by, unsigned_part_by, unsigned_by, signed, written_of, plan_by, read_signing, sig_plan}
-use Rattle.tokens.specs.SigningInputs.{signature_text, start_of, unsigned_protected}
+use Rattle.tokens.specs.Signing.{Signer, Signing, protected_by, signature_by, signed, text_before, written_of, plan_by, read_signing, sig_plan}
+use Rattle.tokens.specs.SigningInputs.{signature_text, start_of, unsigned_protected, unsigned_part_by, unsigned_by}
+use Rattle.octets.proofs.Lemmas.{IsOctets-nil, first_or}
+use Rattle.tokens.proofs.Beginnings.{before_is}
 use Rattle.tokens.proofs.SignedAlike.{with_all, put_part, built_alike, refused_alike}
 use Rattle.tokens.proofs.SignedObjects.{is_written}
 use Rattle.tokens.proofs.SignedRoundTrip.{signature_octets}
@@ -106,6 +109,13 @@ module _ (compact detach : Bool) (s : Signing) (o : SignedObject) (texts : List 
   whole_is payload octets =
       ap (λ r. r >>= written_of compact detach) (signed_is_with s o payload made)
       ∙ is_written compact detach (signed_with o payload (map (octets_by payload) s.signers)) _ (object_text payload octets)
+
+-- the text before a payload is the first of them
+pub text_before_is : (compact : Bool) (s : Signing) (o : SignedObject) (texts : List (List ℕ)) → unsigned_by limits s ≡ Ok o → IsJwsFrame compact false o texts
+    → text_before limits compact s ≡ first_text (Ok texts)
+text_before_is compact s o texts made frame =
+    before_is (λ payload. signed limits s payload >>= jws_text compact false) texts (λ b. map (octets_by (b ∷ [])) s.signers) (length o.signatures) frame.places
+    (λ b small. ap (λ r. r >>= jws_text compact false) (signed_is_with s o (b ∷ []) made) ∙ object_text compact false s o texts made frame (b ∷ []) (first_or b [] small IsOctets-nil))
 
 -- what is written has a frame
 pub has_frame : (compact detach : Bool) (s : Signing) (payload : List ℕ) (written : OutputTexts) → (plan_by limits compact detach s).whole payload ≡ Ok written

@@ -191,7 +191,6 @@ unfolding jws_compact_text
 refused_alike false detach o payload values h = cc h
 refused_alike true detach o payload values h = rw (compact_alike o.signatures values) (by_test (is_compact o.signatures) _ _ h)
   where
-    by_test : (fits : Bool) (x y : Written) → ((needs fits NotCompact >>= λ _. Ok x) >>= λ (w : Written). Ok w.text) ≡ Err NotCompact
-        → ((needs fits NotCompact >>= λ _. Ok y) >>= λ (w : Written). Ok w.text) ≡ Err NotCompact
+    by_test : (fits : Bool) (x y : List ℕ) → (needs fits NotCompact >>= λ _. Ok x) ≡ Err NotCompact → (needs fits NotCompact >>= λ _. Ok y) ≡ Err NotCompact
     by_test true x y h = cc h
     by_test false x y h = refl

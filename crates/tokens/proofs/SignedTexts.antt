@@ -5,9 +5,8 @@ use Rattle.serde_json.specs.Data.{Members, no_members, member}
 use Rattle.octets.specs.Outcomes.{◌>>=◌}
 use Rattle.octets.specs.Plan.{OutputTexts, Plan}
 use Rattle.keys.specs.Limits.{limits, are_few}
-use Rattle.objects.specs.Jws.{SignedObject, parts_of, with_compact, is_compact, json_text, jws_compact_text, jws_text}
+use Rattle.objects.specs.Jws.{SignedObject, parts_of, compact_parts, is_compact, json_text, jws_compact_text, jws_text}
 use Rattle.objects.specs.Texts.{handed_out, has_members}
-use Rattle.objects.specs.Writing.{nothing_written, inside}
 use Rattle.objects.proofs.Lemmas.{as_many}
 use Rattle.octets.proofs.Lemmas.{steps, same_answer}
 use Rattle.tokens.specs.Signing.{Signer, Signing, signer_by, compact_has_room, read_signing, signed, written_of, plan_by, sig_plan, SigningMakesTexts}
@@ -32,7 +31,7 @@ has_text : (compact detach : Bool) (s : Signing) (payload : List ℕ) → compac
 unfolding jws_compact_text
 has_text true detach s payload alone some =
     let o : SignedObject = object_by s payload in
-    ((with_compact (inside detach o.payload) (parts_of o).signatures (nothing_written false)).text, rw (fits s.header payload s.signers alone some) refl)
+    (compact_parts detach o.payload (parts_of o).signatures, rw (fits s.header payload s.signers alone some) refl)
 has_text false detach s payload alone some = (json_text detach (object_by s payload), refl)
 
 pub signing_makes_texts : SigningMakesTexts

@@ -2,15 +2,16 @@
 use Rattle.std.proofs.Common.{◌≡◌, ℕ, ◌+◌, Bool, true, false, List, [], ◌++◌, length, map, if◌then◌else◌, Ok, refl, sym, ap, ◌∙◌, subst, arith}
 use Rattle.octets.specs.Base64url.{base64url, whole_groups}
 use Rattle.octets.specs.Octets.{IsOctets}
-use Rattle.octets.specs.Outcomes.{◌>>=◌}
 use Rattle.octets.specs.Plan.{OutputTexts, Begins}
 use Rattle.keys.specs.Limits.{limits}
-use Rattle.objects.specs.Frames.{filled, in_places, first_text, jws_frame, IsJwsFrame}
+use Rattle.objects.specs.Frames.{filled, in_places, IsJwsFrame}
+use Rattle.objects.specs.Jws.{SignedObject}
+use Rattle.tokens.specs.SigningInputs.{unsigned_by}
 use Rattle.objects.proofs.Lemmas.{is_jws_frame}
 use Rattle.octets.proofs.Lemmas.{same_answer}
-use Rattle.tokens.specs.Signing.{Signing, unsigned_by, text_before, text_fixed, plan_by, SigningGrows}
+use Rattle.tokens.specs.Signing.{Signing, text_before, text_fixed, plan_by, SigningGrows}
 use Rattle.tokens.proofs.Beginnings.{begins_behind, empty_begins, groups_grow, frame_begins, handed_out_begins, BothBegin, both_grow_by_beginnings}
-use Rattle.tokens.proofs.FramedSigning.{octets_by, whole_is, has_frame}
+use Rattle.tokens.proofs.FramedSigning.{octets_by, whole_is, text_before_is, has_frame}
 
 -- what is fixed of the text goes on
 text_goes_on : (compact detach : Bool) (s : Signing) (p q : List ℕ) → Begins (text_fixed limits compact detach s p) (text_fixed limits compact detach s (p ++ q))
@@ -18,12 +19,12 @@ text_goes_on compact true s p q = empty_begins []
 text_goes_on compact false s p q = begins_behind (text_before limits compact s) _ _ (groups_grow p (p ++ q) (record { rest = q; continues = refl }))
 
 -- and begins the frame with the payload and the signatures in it
-text_begins : (compact detach : Bool) (s : Signing) (texts : List (List ℕ)) (p q : List ℕ) (signatures : List (List ℕ)) (n : ℕ) → (unsigned_by limits s >>= jws_frame compact detach) ≡ Ok texts
-    → length texts ≡ (if detach then 1 else 2) + n → Begins (text_fixed limits compact detach s p) (filled texts (in_places detach (p ++ q) signatures))
-text_begins compact true s texts p q signatures n is places = empty_begins _
-text_begins compact false s texts p q signatures n is places =
-    subst (λ r. Begins (first_text r ++ base64url (whole_groups p)) (filled texts (in_places false (p ++ q) signatures))) (sym is)
-    (frame_begins texts p (p ++ q) signatures (omega (arith, places)) (record { rest = q; continues = refl }))
+text_begins : (compact detach : Bool) (s : Signing) (o : SignedObject) (texts : List (List ℕ)) (p q : List ℕ) (signatures : List (List ℕ)) → unsigned_by limits s ≡ Ok o
+    → IsJwsFrame compact detach o texts → Begins (text_fixed limits compact detach s p) (filled texts (in_places detach (p ++ q) signatures))
+text_begins compact true s o texts p q signatures made frame = empty_begins _
+text_begins compact false s o texts p q signatures made frame =
+    subst (λ t. Begins (t ++ base64url (whole_groups p)) (filled texts (in_places false (p ++ q) signatures))) (sym (text_before_is compact s o texts made frame))
+    (frame_begins texts p (p ++ q) signatures (omega (arith, frame.places)) (record { rest = q; continues = refl }))
 
 -- what a beginning of the payload fixes goes on with the payload
 both_go_on : (compact detach : Bool) (s : Signing) (p q : List ℕ) → BothBegin ((plan_by limits compact detach s).fixed p) ((plan_by limits compact detach s).fixed (p ++ q))
@@ -40,10 +41,9 @@ both_begin_all compact detach s p q written octets h =
     let o = has.0 in
     let texts = has.1 in
     let frame : IsJwsFrame compact detach o texts = is_jws_frame compact detach o texts has.3 in
-    let is = ap (λ r. r >>= jws_frame compact detach) has.2 ∙ has.3 in
     subst (BothBegin ((plan_by limits compact detach s).fixed p)) (same_answer _ written (sym (whole_is compact detach s o texts has.2 frame (p ++ q) octets) ∙ h))
     (record {
-      text = text_begins compact detach s texts p q (map (octets_by (p ++ q)) s.signers) (length o.signatures) is frame.places;
+      text = text_begins compact detach s o texts p q (map (octets_by (p ++ q)) s.signers) has.2 frame;
       content = handed_out_begins detach p (p ++ q) (record { rest = q; continues = refl });
     })
 

@@ -8,7 +8,7 @@ use Rattle.octets.specs.Plan.{OutputTexts, Plan, Begins, Grows, as_it_is}
 use Rattle.octets.proofs.Lemmas.{steps, same_answer}
 use Rattle.ciphers.specs.Sealing.{Sealed, Sealing}
 use Rattle.keys.specs.Limits.{limits}
-use Rattle.objects.specs.Frames.{filled, first_text}
+use Rattle.objects.specs.Frames.{filled}
 use Rattle.objects.specs.Jwe.{built}
 use Rattle.tokens.specs.Choosing.{EncryptionPlan}
 use Rattle.tokens.specs.Encrypting.{sealing_by, sealed_by, parts_by, written_of, encrypted, plan_by, ciphertext_fixed}
@@ -76,7 +76,7 @@ module _ {S : Type 0} (is_sealing : S → Sealing → List ℕ → Type 0) (comp
         ∙ ap (λ (x : Sealed). Ok (record { text = filled texts (base64url made.0.ciphertext ∷ base64url x.tag ∷ []); content = [] })) (sym (sealed_is s p made.0 made.1).1)
         ∙ ap (λ t. Ok (all_in false texts t (tag_of s p))) (same_answer (base64url made.0.ciphertext) text made.2);
     refused = λ p e h. encryption_refused compact false u.encryption u.random p e (sealed_refused encoding (sealing_by u.encryption u.random) p e (λ text r never. cc never) h);
-    fixed = λ q. ap (λ t. record { text = t ++ base64url (whole_groups (ciphertext_fixed u.encryption u.random q)); content = [] }) (ap first_text u.framed);
+    fixed = λ q. ap (λ t. record { text = t ++ base64url (whole_groups (ciphertext_fixed u.encryption u.random q)); content = [] }) (u.before refl);
   }
 
   -- the ciphertext goes out beside them

@@ -4,16 +4,15 @@ use Rattle.std.proofs.lemmas.List.{take_all, take-append-le, length-map}
 use Rattle.octets.specs.declared.refusal.Refusal.{Refusal}
 use Rattle.octets.specs.Base64url.{base64url, whole_groups}
 use Rattle.octets.specs.Encoding.{encoding}
-use Rattle.octets.specs.Outcomes.{◌>>=◌}
 use Rattle.octets.specs.Plan.{OutputTexts, Plan, as_it_is}
 use Rattle.octets.proofs.Lemmas.{encoding_grows, as_it_is_grows, same_answer}
 use Rattle.prf.specs.HashFunction.{HashFunction}
 use Rattle.keys.specs.Limits.{limits}
-use Rattle.objects.specs.Frames.{filled, first_text, jws_frame}
+use Rattle.objects.specs.Frames.{filled}
 use Rattle.tokens.specs.Framing.{IsFraming, FillsFrame, all_in}
 use Rattle.tokens.specs.Signing.{plan_by}
 use Rattle.tokens.specs.SigningInputs.{InputStart, HoldEach, GiveSignatures, IsFramed, signature_text, start_of}
-use Rattle.tokens.proofs.FramedSigning.{texts_are, unsigned_count, whole_is}
+use Rattle.tokens.proofs.FramedSigning.{texts_are, unsigned_count, whole_is, text_before_is}
 
 -- the first of a list, and the others
 pub first_and_others : {A : Type 0} (bytes : A → List ℕ) (items : List A) (x : A) (n : ℕ) (first : List ℕ) → length (map bytes items) ≡ 2 + n → x ≡ get_or items 0 x → first ≡ bytes x
@@ -44,7 +43,7 @@ module _ {S : Type 0} (has_taken : S → HashFunction → List ℕ → List ℕ 
         ∙ ap (λ values. Ok (record { text = filled texts (base64url p ∷ values); content = [] })) (sym (texts_are p f.signing.signers))
         ∙ ap (λ t. Ok (all_in false texts t (signatures_of false f p))) (same_answer (base64url p) text h);
     refused = λ p e h. cc h;
-    fixed = λ q. ap (λ t. record { text = t ++ base64url (whole_groups q); content = [] }) (ap (λ r. first_text (r >>= jws_frame compact false)) f.made ∙ ap first_text f.texts_are);
+    fixed = λ q. ap (λ t. record { text = t ++ base64url (whole_groups q); content = [] }) (text_before_is compact f.signing f.object texts f.made f.frame);
   }
 
   -- the payload goes out beside them

@@ -14,10 +14,9 @@ use Rattle.ciphers.specs.Sealing.{Sealed, Sealing, sealing, cek_len, iv_len}
 use Rattle.keys.specs.Algorithms.{management_name, management_operations, management_algs}
 use Rattle.keys.specs.Keys.{OctetKey, AreOctetKeys, allows}
 use Rattle.keys.specs.Limits.{Limits, limits, are_few}
-use Rattle.objects.specs.Frames.{first_text, jwe_frame}
 use Rattle.objects.specs.KeyManagement.{KeyManagement, Unknown, Direct, KeyWrap, Password, GcmKeyWrap}
 use Rattle.objects.specs.Jwe.{RecipientParts, JweParts, EncryptedObject, built, jwe_of, jwe_text}
-use Rattle.objects.specs.Texts.{handed_in, handed_out, listed_header_depth}
+use Rattle.objects.specs.Texts.{handed_in, handed_out, listed_header_depth, before_content}
 use Rattle.tokens.specs.Algorithms.{content_alg}
 use Rattle.tokens.specs.Choosing.{RecipientKey, is_direct, is_alone, with_name, with_p2c, Given, EncryptionPlan, read_encryption}
 use Rattle.tokens.specs.Decrypting.{additional_authenticated_data, all_pairs, sealed_content, opened_by, decrypted}
@@ -124,20 +123,12 @@ encrypted limits e random plaintext = do
   s ← sealed_by (sealing_by e random) plaintext
   built limits (parts_by e random s)
 
--- ---- the object before there is a ciphertext (docs/SPECIFICATION.md "Commands", what is left after a refusal)
-
-abbrev pub unsealed : Sealed
-unsealed = record { ciphertext = []; tag = [] }
-
--- the texts around its ciphertext and its tag
-abbrev pub frame_by : Limits → Bool → Bool → EncryptionPlan → List ℕ → Result (List (List ℕ)) Refusal
-frame_by limits compact detach e random = built limits (parts_by e random unsealed) >>= jwe_frame compact detach
-
 -- ---- its text (RFC 7516 section 5.1, step 19, and docs/SPECIFICATION.md "Commands", what is left after a refusal)
 
--- the text before that of the ciphertext: the first text of the object's frame
+-- the text before that of the ciphertext, whatever the ciphertext and the tag are
 abbrev pub text_before : Limits → Bool → EncryptionPlan → List ℕ → List ℕ
-text_before limits compact e random = first_text (frame_by limits compact false e random)
+text_before limits compact e random =
+    before_content (λ octets. built limits (parts_by e random (record { ciphertext = octets; tag = octets })) >>= jwe_text compact false)
 
 abbrev pub within_longest : Option ℕ → List ℕ → List ℕ
 within_longest None front = front

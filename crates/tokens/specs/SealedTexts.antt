@@ -1,5 +1,5 @@
 -- What is written of a content that is sealed as it is read: its ciphertext, and the tag at its end.
-use Rattle.std.specs.Prelude.{◌≡◌, ℕ, Bool, List, [], ◌∷◌, length, if◌then◌else◌, Option, Some, None, Result, Ok}
+use Rattle.std.specs.Prelude.{◌≡◌, ℕ, Bool, false, List, [], ◌∷◌, length, if◌then◌else◌, Option, Some, None, Result, Ok}
 use Rattle.std.proofs.Common.{zero, suc, refl, ap, ◌∙◌, arith}
 use Rattle.std.proofs.lemmas.List.{nil_from_length}
 use Rattle.octets.specs.declared.refusal.Refusal.{Refusal}
@@ -9,11 +9,12 @@ use Rattle.octets.specs.Outcomes.{◌>>=◌}
 use Rattle.octets.specs.Plan.{OutputTexts, Plan}
 use Rattle.ciphers.specs.Sealing.{Sealed, Sealing, IsTooLong}
 use Rattle.ciphers.specs.Views.{KeepsPace}
-use Rattle.keys.specs.Limits.{limits}
-use Rattle.objects.specs.Frames.{filled, in_places}
+use Rattle.keys.specs.Limits.{Limits, limits}
+use Rattle.objects.specs.Frames.{filled, in_places, first_text, jwe_frame}
+use Rattle.objects.specs.Jwe.{built}
 use Rattle.objects.specs.Texts.{handed_out}
 use Rattle.tokens.specs.Choosing.{EncryptionPlan}
-use Rattle.tokens.specs.Encrypting.{sealing_by, sealed_by, within_longest, frame_by, plan_by}
+use Rattle.tokens.specs.Encrypting.{sealing_by, sealed_by, parts_by, text_before, within_longest, plan_by}
 
 -- ---- the ciphertext
 
@@ -47,6 +48,15 @@ IsSealingText is_sealing x waiting s p = IsFed is_sealing x s p × (waiting ≡ 
 pub one_value : {values : List (List ℕ)} {value : List ℕ} → values ≡ value ∷ [] → length values ≡ 1
 one_value is = ap length is
 
+-- ---- the object before there is a ciphertext
+
+abbrev pub unsealed : Sealed
+unsealed = record { ciphertext = []; tag = [] }
+
+-- the texts around its ciphertext and its tag
+abbrev pub frame_by : Limits → Bool → Bool → EncryptionPlan → List ℕ → Result (List (List ℕ)) Refusal
+frame_by limits compact detach e random = built limits (parts_by e random unsealed) >>= jwe_frame compact detach
+
 -- ---- the object
 
 -- The sealing of the plan's encryption was started, and the texts are those of its frame. With the ciphertext and the tag of any
@@ -57,7 +67,7 @@ pub record IsUnsealed {S : Type 0} (is_sealing : S → Sealing → List ℕ → 
   pub is : plan ≡ Ok (plan_by limits compact detach encryption random)
   pub started : is_sealing sealer (sealing_by encryption random) []
   pub places : length texts ≡ (if detach then 2 else 3)
-  pub framed : frame_by limits compact detach encryption random ≡ Ok texts
+  pub before : detach ≡ false → text_before limits compact encryption random ≡ first_text (Ok texts)
   pub whole : (plaintext : List ℕ) (sealed : Sealed) → IsOctets plaintext → sealed_by (sealing_by encryption random) plaintext ≡ Ok sealed
       → (plan_by limits compact detach encryption random).whole plaintext
       ≡ Ok (record { text = filled texts (in_places detach sealed.ciphertext (sealed.tag ∷ [])); content = handed_out detach sealed.ciphertext })

@@ -16,9 +16,8 @@ use Rattle.keys.specs.Algorithms.{signature_key_len, signature_alg_of}
 use Rattle.keys.specs.Json.{json_value}
 use Rattle.keys.specs.Limits.{Limits, limits, are_few}
 use Rattle.keys.specs.Keys.{OctetKey, allows, fits}
-use Rattle.objects.specs.Frames.{first_text, jws_frame}
 use Rattle.objects.specs.Jws.{SignatureParts, JwsParts, SignedObject, built, jws_text}
-use Rattle.objects.specs.Texts.{each, handed_out}
+use Rattle.objects.specs.Texts.{each, handed_out, before_content}
 use Rattle.tokens.specs.Template.{SignatureTemplate, template_of, with_alg, header_text, is_shallow, is_empty}
 use Rattle.tokens.specs.Signatures.{signature_of}
 
@@ -100,29 +99,20 @@ parts_by s payload = record { payload = payload; signatures = map (signature_by 
 unfoldable pub signed : Limits → Signing → List ℕ → Result SignedObject Refusal
 signed limits s payload = built limits (parts_by s payload)
 
--- ---- the object before there is a payload (RFC 7515 section 5.1, steps 3 and 4)
-
--- a signature without its octets
-abbrev pub unsigned_part_by : Members → Signer → SignatureParts
-unsigned_part_by header s = record { protected = protected_by s; header = header; signature = [] }
-
-unfoldable pub unsigned_by : Limits → Signing → Result SignedObject Refusal
-unsigned_by limits s = built limits (record { payload = []; signatures = map (unsigned_part_by s.header) s.signers })
-
 -- ---- its text (RFC 7515 section 5.1, step 8, and docs/SPECIFICATION.md "Commands", what is left after a refusal)
 
--- what is written of the object: its text, and the payload beside it where it is detached
+-- what is written of the object: its text, and the payload if it is detached
 abbrev pub written_of : Bool → Bool → SignedObject → Result OutputTexts Refusal
 written_of compact detach o = do
   text ← jws_text compact detach o
   Ok (record { text = text; content = handed_out detach o.payload })
 
--- what stands before the payload's text: the first text of the object's frame
+-- the text before that of the payload
 abbrev pub text_before : Limits → Bool → Signing → List ℕ
-text_before limits compact s = first_text (unsigned_by limits s >>= jws_frame compact false)
+text_before limits compact s = before_content (λ payload. signed limits s payload >>= jws_text compact false)
 
--- The whole groups of a beginning of the payload fix the text before it and their own; where it is detached, nothing of the text
--- is written before its end.
+-- A beginning of the payload fixes the text before the payload, and the text of its own whole groups. A text with a detached payload is
+-- written only after the payload.
 abbrev pub text_fixed : Limits → Bool → Bool → Signing → List ℕ → List ℕ
 text_fixed _ compact true s front = []
 text_fixed limits compact false s front = text_before limits compact s ++ base64url (whole_groups front)

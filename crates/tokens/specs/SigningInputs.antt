@@ -12,11 +12,12 @@ use Rattle.keys.specs.declared.algorithm.SignatureAlg.{SignatureAlg}
 use Rattle.octets.specs.Base64url.{base64url, whole_groups, part_group}
 use Rattle.octets.specs.Plan.{OutputTexts, Plan}
 use Rattle.prf.specs.Hmac.{hmac}
-use Rattle.keys.specs.Limits.{limits}
+use Rattle.serde_json.specs.Data.{Members}
+use Rattle.keys.specs.Limits.{Limits, limits}
 use Rattle.objects.specs.Frames.{IsJwsFrame, jws_frame}
-use Rattle.objects.specs.Jws.{Signature, SignedObject}
+use Rattle.objects.specs.Jws.{Signature, SignatureParts, SignedObject, built}
 use Rattle.tokens.specs.Signatures.{signature_hash}
-use Rattle.tokens.specs.Signing.{Signer, Signing, protected_by, unsigned_by, plan_by}
+use Rattle.tokens.specs.Signing.{Signer, Signing, protected_by, plan_by}
 
 -- a statement on the HMAC of this variant
 abbrev pub on_hmac_input : HmacInput → (Hmac Sha256 → Type 0) → (Hmac Sha384 → Type 0) → (Hmac Sha512 → Type 0) → Type 0
@@ -68,7 +69,14 @@ count_signatures {has_taken = has_taken} {inputs = inputs} given =
 abbrev pub start_of : Signer → InputStart
 start_of s = record { alg = s.alg; key = s.key.octets; protected = protected_by s }
 
--- ---- the object before there is a payload
+-- ---- the object before there is a payload (RFC 7515 section 5.1, steps 3 and 4)
+
+-- a signature without its octets
+abbrev pub unsigned_part_by : Members → Signer → SignatureParts
+unsigned_part_by header s = record { protected = protected_by s; header = header; signature = [] }
+
+unfoldable pub unsigned_by : Limits → Signing → Result SignedObject Refusal
+unsigned_by limits s = built limits (record { payload = []; signatures = map (unsigned_part_by s.header) s.signers })
 
 abbrev pub unsigned_protected : List Signature → List (List ℕ)
 unsigned_protected signatures = map (λ s. s.protected) signatures

@@ -16,8 +16,8 @@ ghost use Rattle.keys.specs.Keys.{fits};
 ghost use Rattle.keys.specs.Limits.{limits};
 ghost use Rattle.objects.specs.Frames.{filled};
 ghost use Rattle.tokens.specs.Algorithms.{content_alg as content_alg_of};
-ghost use Rattle.tokens.specs.Encrypting.{enc_plan, frame_by, sealing_by, random_len, direct_key, cek_drawn, cek_by};
-ghost use Rattle.tokens.specs.SealedTexts.{IsUnsealed};
+ghost use Rattle.tokens.specs.Encrypting.{enc_plan, sealing_by, random_len, direct_key, cek_drawn, cek_by};
+ghost use Rattle.tokens.specs.SealedTexts.{IsUnsealed, frame_by};
 ghost use Rattle.tokens.specs.Views.{recipient_key_view, encryption_plan_view};
 
 mod ciphertext;

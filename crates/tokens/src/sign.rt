@@ -13,8 +13,8 @@ ghost use Rattle.keys.specs.Limits.{limits};
 ghost use Rattle.objects.specs.Frames.{filled};
 ghost use Rattle.objects.specs.Texts.{each};
 ghost use Rattle.objects.specs.Views.{jws_view, signature_parts_view};
-ghost use Rattle.tokens.specs.Signing.{sig_plan, protected_by, unsigned_part_by, unsigned_by};
-ghost use Rattle.tokens.specs.SigningInputs.{InputStart, HoldEach, IsFramed, signature_text, start_of, unsigned_protected};
+ghost use Rattle.tokens.specs.Signing.{sig_plan, protected_by};
+ghost use Rattle.tokens.specs.SigningInputs.{InputStart, HoldEach, IsFramed, signature_text, start_of, unsigned_protected, unsigned_part_by, unsigned_by};
 ghost use Rattle.tokens.specs.Views.{signer_view, signing_view};
 
 mod payload;

@@ -3,15 +3,17 @@ ghost use Rattle.std.specs.Prelude.{◌≡◌, ◌≢◌, map, option_map, Err, 
 ghost use Rattle.octets.specs.Outcomes.{AgreesUnlessMemory};
 ghost use Rattle.keys.specs.Limits.{limits};
 ghost use Rattle.objects.specs.Frames.{IsJweFrame, jwe_frame};
-ghost use Rattle.objects.specs.Jwe.{IsMade, jwe_of, with_compact, with_members, with_flattened, with_general, with_tag, recipient_parts_of, parts_of, jwe_written, json_text, jwe_compact_text, jwe_text, is_compact as is_compact_object, key_of_first};
+ghost use Rattle.objects.specs.Jwe.{IsMade, jwe_of, recipient_parts_of, parts_of, json_text, jwe_compact_text, jwe_text, is_compact as is_compact_object, key_of_first};
 ghost use Rattle.objects.specs.Texts.{handed_in};
 ghost use Rattle.objects.specs.Views.{held_view, jwe_view, recipient_view, written_view};
+ghost use Rattle.objects.specs.JweWriting.{with_compact, with_members, with_flattened, with_general, with_tag, jwe_written};
 
 use crate::content::payload::HeldContent;
 use crate::header::parts::has_members;
 use crate::jwe::Jwe;
 use crate::jwe::recipient::Recipient;
 use crate::writer::{Listed, TextWriter, inside};
+use octets::laws::are_octets;
 use octets::{Refusal, needs};
 use std::alloc::Global;
 
@@ -150,7 +152,8 @@ fn write_general(
 }
 
 impl Listed for Recipient {
-    ghost use Rattle.objects.specs.Jwe.{RecipientParts, recipient_parts_of, with_recipient};
+    ghost use Rattle.objects.specs.Jwe.{RecipientParts, recipient_parts_of};
+    ghost use Rattle.objects.specs.JweWriting.{with_recipient};
     ghost use Rattle.objects.specs.Views.{recipient_view};
 
     ghost Seen = { RecipientParts };
@@ -166,10 +169,12 @@ impl Listed for Recipient {
 }
 
 /// Leaves a place for the tag, or writes its text if it is not empty.
+#[tactic(auto, using(crate::proofs::JweFrames::tag_is_placed, crate::proofs::JweFrames::tag_is_absent))]
 fn write_tag(alloc: Global, texts: &mut TextWriter, tag: &[u8]) -> Result<(), Refusal>
     ensures written { OnOk result (written_view texts.new ≡ with_tag tag.now (written_view texts.old)) }
     ensures memory { OnErr result (result ≡ Err Refusal.Memory) }
 {
+    are_octets(tag);
     if texts.places || !tag.is_empty() {
         texts.place(alloc, "tag", HeldContent::Octets(tag))?;
     }

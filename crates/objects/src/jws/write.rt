@@ -3,9 +3,10 @@ ghost use Rattle.std.specs.Prelude.{◌≡◌, ◌≢◌, map, option_map, Err, 
 ghost use Rattle.octets.specs.Outcomes.{AgreesUnlessMemory};
 ghost use Rattle.keys.specs.Limits.{limits};
 ghost use Rattle.objects.specs.Frames.{IsJwsFrame, jws_frame};
-ghost use Rattle.objects.specs.Jws.{IsMade, jws_of, with_compact, with_signatures, with_signature, with_general, signature_parts_of, jws_written, json_text, jws_compact_text, jws_text, is_compact as is_compact_object};
+ghost use Rattle.objects.specs.Jws.{IsMade, jws_of, signature_parts_of, json_text, jws_compact_text, jws_text, is_compact as is_compact_object};
 ghost use Rattle.objects.specs.Texts.{handed_in};
 ghost use Rattle.objects.specs.Views.{held_view, jws_view, signature_view, written_view};
+ghost use Rattle.objects.specs.JwsWriting.{with_compact, with_signatures, with_signature, with_general, jws_written};
 
 use crate::content::payload::HeldContent;
 use crate::header::parts::has_members;
@@ -154,7 +155,8 @@ fn write_general(
 
 impl Listed for Signature {
     ghost use Rattle.std.specs.Prelude.{None};
-    ghost use Rattle.objects.specs.Jws.{SignatureParts, signature_parts_of, with_signature};
+    ghost use Rattle.objects.specs.Jws.{SignatureParts, signature_parts_of};
+    ghost use Rattle.objects.specs.JwsWriting.{with_signature};
     ghost use Rattle.objects.specs.Views.{signature_view};
 
     ghost Seen = { SignatureParts };

@@ -3,7 +3,7 @@ use Rattle.octets.specs.Outcomes.{AgreesUnlessMemory}
 use Rattle.keys.specs.Limits.{limits}
 use Rattle.objects.specs.Jws.{JwsParts, SignatureParts, built}
 use Rattle.objects.specs.Views.{jws_view}
-use Rattle.tokens.specs.Signing.{unsigned_by}
+use Rattle.tokens.specs.SigningInputs.{unsigned_by}
 use Rattle.tokens.proofs.sign.unsigned.Goals as goal
 
 pub returns : goal.returns

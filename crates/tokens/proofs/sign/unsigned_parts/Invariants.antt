@@ -1,7 +1,7 @@
 use Rattle.std.proofs.Common.{◌≡◌, map, take}
 use Rattle.serde_json.specs.View.{members_view}
 use Rattle.objects.specs.Views.{signature_parts_view}
-use Rattle.tokens.specs.Signing.{unsigned_part_by}
+use Rattle.tokens.specs.SigningInputs.{unsigned_part_by}
 use Rattle.tokens.specs.Views.{signer_view}
 use Rattle.tokens.proofs.sign.unsigned_parts.Given as goal
 
