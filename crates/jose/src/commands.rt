@@ -1,4 +1,4 @@
-//! What each command does, from devices to devices.
+//! The work of each command, from devices to devices.
 ghost use Rattle.std.specs.Prelude.{◌≡◌, true, false, ◌⊎◌, ◌++◌, ℕ, List, [], ◌∷◌, option_map, Err, OnOk, OnErr, IfOk, IfErr, IsTrue};
 ghost use Rattle.std.specs.Iterator.{IsFinite};
 ghost use Rattle.octets.specs.Devices.{appended, observed, IsPossibleInput, AppendsPrefixOf, IsFinishedOnce};
@@ -19,7 +19,7 @@ use objects::HeldContent;
 use octets::{Input, Output, PIECE, Refusal, emit, read_to_end};
 use std::alloc::Global;
 
-/// All that the inputs of a command gave. An input that it does not read gave nothing.
+/// All that was read from the inputs of a command. Nothing was read from an input that the command does not use.
 #[derive(Drop)]
 struct WholeInputs {
     text: Vec<u8>,
@@ -27,7 +27,7 @@ struct WholeInputs {
     content: Option<Vec<u8>>,
 }
 
-/// Reads the text to its end, then the keys, if the command has some, and then the content, if it is handed in.
+/// Reads the text to its end, then the keys if the command has them, and then the content if it is handed in.
 fn read_inputs<I: Input>(
     alloc: Global,
     has_keys: bool,
@@ -47,7 +47,7 @@ fn read_inputs<I: Input>(
     })
 }
 
-/// Reads the keys to their end, if the command has some.
+/// Reads the keys to their end, if the command has them.
 fn read_keys<I: Input>(alloc: Global, has_keys: bool, keys: &mut I) -> Result<Vec<u8>, Refusal>
     requires { IsFinite (I.remaining keys.old) }
     ensures keys { IfOk result (λ read. (whole : List ℕ)
@@ -64,7 +64,7 @@ fn read_keys<I: Input>(alloc: Global, has_keys: bool, keys: &mut I) -> Result<Ve
     }
 }
 
-/// Reads the content to its end, where it is handed in beside an object.
+/// Reads the content to its end, if it is handed in separately from the object.
 fn read_beside<I: Input>(
     alloc: Global,
     detached_given: bool,
@@ -86,7 +86,7 @@ fn read_beside<I: Input>(
     }
 }
 
-/// Reads the content to its end, and keeps nothing of it. Fails with `Read` if the content fails.
+/// Reads the content to its end and keeps none of it. Fails with `Read` if the content fails.
 fn read_past<I: Input>(content: &mut I) -> Result<(), Refusal>
     requires { IsFinite (I.remaining content.old) }
     ensures ends { OnOk result (IsTrue (I.is_at_end content.new)) }
@@ -102,7 +102,7 @@ fn read_past<I: Input>(content: &mut I) -> Result<(), Refusal>
     }
 }
 
-/// Writes the content beside the text, where it is detached, and then the text.
+/// Writes the content, if it is detached, and then the text.
 fn write_object<O: Output>(
     text: &str,
     detach: bool,

@@ -1,7 +1,7 @@
-//! Files, the standard streams and the words themselves, as readers and writers. A file is opened at
-//! its first read; an output file is opened, and cut to nothing, just before its first octet is
-//! written, or when it is finished with none; one that is made for a secret is its owner's alone. An
-//! output is not opened if it is the file of the content that is read meanwhile, of the keys, or of the other output.
+//! Files, the standard streams and the words themselves, as readers and writers. A file is opened at its first read. An output file is
+//! opened and truncated just before its first octet is written, or when it is finished without one. A file that is created for a secret is
+//! its owner's alone. An output is not opened if it is the file of the content that is read meanwhile, of the keys, or of the output that
+//! is written before it.
 ghost use Rattle.std.specs.Prelude.{◌≡◌, ℕ, ◌<◌, ◌++◌, ◌⊎◌, false, true, List, length, map, take, drop, min, option_map, OnOk, IfOk, IfErr, Ok, Err};
 ghost use Rattle.std.specs.Result.{result_unwrap_or};
 ghost use Rattle.std.specs.Io.{ReadsAtMost, WritesAtMost};
@@ -22,7 +22,7 @@ use std::io;
 use std::io::{Read, Stdin, Stdout, Write};
 use std::rt::Files;
 
-/// The file of random octets where `-R` names none.
+/// The file of random octets if `-R` names none.
 pub(crate) const SYSTEM_RANDOM: &str = "/dev/urandom";
 
 /// The files of the standard streams.
@@ -30,12 +30,12 @@ const STANDARD_INPUT: &str = "/dev/stdin";
 
 const STANDARD_OUTPUT: &str = "/dev/stdout";
 
-/// The mode of a file that is made: readable and writable for its owner alone, or for all that the process's mask leaves.
+/// The mode of a file that is created: readable and writable by its owner alone, or by everyone as far as the process's mask allows.
 const SECRET_MODE: u32 = 0o600;
 
 const MODE: u32 = 0o666;
 
-/// Where the octets of an input come from.
+/// The origin of the octets of an input.
 #[derive(Drop)]
 pub(crate) enum Source<'a, R: Files> {
     /// JSON that was given in the words, or nothing.
@@ -52,7 +52,7 @@ impl<'a, R: Files> Read for Source<'a, R> {
     ghost remaining = { source_remaining R.File.remaining };
 
     fn read(&mut self, buf: &mut [u8]) -> io::Result<usize>
-        // Words are given from their front, as many as the buffer takes.
+        // Words are read from their front, as many octets as fit into the buffer.
         ensures words { (octets : List ℕ) → origin_of self.old ≡ words octets
             → (result ≡ Ok (min (length octets) (length buf.old)))
             × (buf.new ≡ take (length buf.old) octets ++ drop (length octets) buf.old) }
@@ -89,16 +89,16 @@ impl<'a, R: Files> Read for Source<'a, R> {
     }
 }
 
-/// Where the octets of an output go.
+/// The destination of the octets of an output.
 #[derive(Drop)]
 pub(crate) enum Sink<'a, R: Files> {
-    /// There is no such option. All that is written is taken, and nothing is kept.
+    /// There is no such option. Everything that is written is accepted and discarded.
     Nowhere,
     Standard(Stdout),
     File(OutputFile<'a, R>),
 }
 
-/// A file that is opened, and cut to nothing, when it is first written.
+/// A file that is opened and truncated when it is first written or flushed.
 #[derive(Drop)]
 pub(crate) struct OutputFile<'a, R: Files> {
     files: &'a R,
@@ -108,25 +108,25 @@ pub(crate) struct OutputFile<'a, R: Files> {
     opened: Option<R::File>,
 }
 
-/// What an output file must not be, by whatever links.
+/// The files that an output file must not be, by whatever links.
 #[derive(Clone, Copy)]
 pub(crate) struct Apart<'a> {
     /// The file of the content that is read while the output is written.
     content: Option<&'a str>,
-    /// That of the keys.
+    /// The file of the keys.
     keys: Option<&'a str>,
-    /// That of the output which is written before it.
+    /// The file of the output that is written before this one.
     beside: Option<&'a str>,
 }
 
-/// What an output file is made for.
+/// The purpose of an output file.
 #[derive(Clone, Copy)]
 pub(crate) enum Purpose {
-    /// What others may read.
+    /// Octets that others may read.
     Public,
-    /// What was decrypted, for its owner alone.
+    /// Decrypted octets, for their owner alone.
     Secret,
-    /// A made key, for its owner alone. At the end it is on the disk.
+    /// A made key, for its owner alone. It is on the disk at the end.
     Key,
 }
 
@@ -195,8 +195,8 @@ impl<'a, R: System> Write for Sink<'a, R> {
 }
 
 impl<'a, R: System> OutputFile<'a, R> {
-    /// Opens the file for writing, and cuts it to nothing. Where it is not there it is made, for its owner alone where it is
-    /// for a secret, and else with the mode that the process's mask leaves. One that it must not be is left as it is.
+    /// Opens the file for writing and truncates it. If there is no such file, it is created: for its owner alone if it is for a secret, and
+    /// otherwise with the mode that the process's mask leaves. A file that it must not be is left as it is.
     fn create(&self) -> io::Result<R::File>
         ensures apart { OnOk result (IsApart (R.id_gives self.now.files.now) self.now.path.now (others_of self.now.apart)) }
         ensures created { IfOk result (λ file.
@@ -217,7 +217,7 @@ impl<'a, R: System> OutputFile<'a, R> {
     }
 }
 
-/// Has the system write the file to its disk. It is no failure that this cannot be done, as with a pipe or a terminal.
+/// Asks the system to write the file to its disk. It is no failure if that is impossible, as with a pipe or a terminal.
 fn synchronize<R: System>(files: &R, file: &R::File) -> io::Result<()>
     ensures synchronized { OnOk result (MayBeSynchronized (R.sync_gives files.now file.now)) }
     ensures failed { IfErr result (λ e. R.sync_gives files.now file.now (Err e) × ¬ CannotBeSynchronized e) }
@@ -230,7 +230,7 @@ fn synchronize<R: System>(files: &R, file: &R::File) -> io::Result<()>
     }
 }
 
-/// The name is that of one of the others, by whatever links.
+/// Whether the name is that of one of the other files, by whatever links.
 fn is_one_of<R: System>(files: &R, path: &str, others: &[Option<&str>]) -> bool
     ensures apart { result ≡ false → IsApart (R.id_gives files.now) path.now (map name_of others.now) }
     ensures one { result ≡ true → IsNotApart (R.id_gives files.now) path.now (map name_of others.now) }
@@ -243,7 +243,7 @@ fn is_one_of<R: System>(files: &R, path: &str, others: &[Option<&str>]) -> bool
     false
 }
 
-/// Both names are those of one regular file, by whatever links. Where either can't be looked at they are not.
+/// Whether both names are those of one regular file, by whatever links. They are not if either cannot be examined.
 fn are_one_file<R: System>(files: &R, path: &str, other: Option<&str>) -> bool
     ensures { MayBeOne (R.id_gives files.now) path.now (name_of other.entry) result }
 {
@@ -256,7 +256,7 @@ fn are_one_file<R: System>(files: &R, path: &str, other: Option<&str>) -> bool
     }
 }
 
-/// The inputs that the options name. Where `-R` is not given random octets are those of the system.
+/// The inputs that the options name. Without `-R` the random octets are those of the system.
 pub(crate) fn inputs<'a, R: Files>(
     files: &'a R,
     standard: Stdin,
@@ -277,7 +277,7 @@ pub(crate) fn inputs<'a, R: Files>(
     }
 }
 
-/// The input that the option names, where the command has it.
+/// The input that the option names, if the command has the option.
 fn input_of<'a, R: Files>(
     files: &'a R,
     standard: Stdin,
@@ -321,8 +321,8 @@ fn source_of<'a, R: Files>(
     }
 }
 
-/// The outputs that the options name. Both are kept apart from the content that is read while they are written and from the keys,
-/// and the text from the content beside it, which is written before.
+/// The outputs that the options name. Neither may be the file of the content that is read while it is written, or that of the keys. The
+/// text may not be the file of the detached content either, which is written before it.
 pub(crate) fn outputs<'a, R: System>(
     files: &'a R,
     standard: Stdout,
@@ -348,7 +348,7 @@ pub(crate) fn outputs<'a, R: System>(
     }
 }
 
-/// The output that the option names, where the command has it.
+/// The output that the option names, if the command has the option.
 fn output_of<'a, R: Files>(
     files: &'a R,
     standard: Stdout,
@@ -386,7 +386,7 @@ fn purpose_of(role: Role) -> Purpose
     }
 }
 
-/// The file of the input that the option names. JSON in the words has none.
+/// The file of the input that the option names. JSON in the words has no file.
 fn file_read<'a>(option: Option<&OptionRow>, invocation: &'a Invocation) -> Option<&'a str>
     ensures { name_of result
         ≡ file_of (origin_at (entry_of option.entry) (invocation_view invocation.now).options) }
@@ -400,7 +400,7 @@ fn file_read<'a>(option: Option<&OptionRow>, invocation: &'a Invocation) -> Opti
     }
 }
 
-/// The file of an output that has this value.
+/// The file of an output whose option has this value.
 fn file_written(value: Option<&str>) -> Option<&str>
     ensures { name_of result ≡ file_written (name_of value.entry) }
 {

@@ -1,5 +1,5 @@
-//! What the commands promise together, and what wider limits keep, as laws of their answers, each the contract of a function that
-//! does nothing.
+//! Laws of the commands' answers: how the commands fit together, and which answers stay the same under wider limits. Each law is the
+//! contract of a function that does nothing.
 ghost use Rattle.keys.specs.Limits.{Limits, limits};
 ghost use Rattle.tokens.specs.MoreAlgorithms.{earlier_limits};
 ghost use Rattle.objects.specs.CompactForm.{HasOnlyRecipient, HasOnlySignature};
@@ -18,8 +18,8 @@ use objects::laws::{
 };
 use tokens::laws::{what_is_encrypted_decrypts, what_is_signed_verifies};
 
-/// What `jwe enc` writes is an object, of which `jwe dec` gives the plaintext back with each of the keys, alone, that may decrypt,
-/// unless the key opens something else at the recipient of a key before it.
+/// The texts that `jwe enc` writes are those of an object. `jwe dec` returns its plaintext with each of the keys alone, if the key may
+/// decrypt and opens nothing else at the recipient of an earlier key.
 pub fn what_is_encrypted_is_decrypted()
     ensures { EncryptedIsDecrypted limits limits }
 {
@@ -27,15 +27,17 @@ pub fn what_is_encrypted_is_decrypted()
     what_is_encrypted_decrypts();
 }
 
-/// What `jws sig` writes is an object, which `jws ver` verifies with any of the keys that may verify, with `-a` and without.
+/// The texts that `jws sig` writes are those of an object. `jws ver` verifies it with any of the keys that may verify, with `-a` and
+/// without.
 pub fn what_is_signed_is_verified()
     ensures { SignedIsVerified }
 {
     what_is_signed_verifies();
 }
 
-/// `jws fmt -c` writes each object that it reads with one signature and no unprotected header, and refuses every other one with
-/// `NotCompact`. What `jws fmt` writes in JSON form is the same again after it went to compact form and back.
+/// `jws fmt -c` writes each object that it reads, if the object has one signature and no unprotected header. It refuses every other object
+/// with `NotCompact`. An object that `jws fmt` writes in JSON form, then in compact form and then in JSON form again has the same text as
+/// at first.
 pub fn signed_objects_go_to_compact_form_and_back()
     ensures there { GoesToCompactForm (jws_of limits) HasOnlySignature (jws_fmt_answer limits) }
     ensures back { FormatsGoBack (jws_fmt_answer limits) }
@@ -45,9 +47,9 @@ pub fn signed_objects_go_to_compact_form_and_back()
     jws_texts_spell_objects();
 }
 
-/// `jwe fmt -c` writes each object that it reads with one recipient, no header but the protected one and no additional data, and
-/// refuses every other one with `NotCompact`. What `jwe fmt` writes in JSON form is the same again after it went to compact form
-/// and back.
+/// `jwe fmt -c` writes each object that it reads, if the object has one recipient, only a protected header and no additional data. It
+/// refuses every other object with `NotCompact`. An object that `jwe fmt` writes in JSON form, then in compact form and then in JSON form
+/// again has the same text as at first.
 pub fn encrypted_objects_go_to_compact_form_and_back()
     ensures there { GoesToCompactForm (jwe_of limits) HasOnlyRecipient (jwe_fmt_answer limits) }
     ensures back { FormatsGoBack (jwe_fmt_answer limits) }
@@ -57,21 +59,22 @@ pub fn encrypted_objects_go_to_compact_form_and_back()
     jwe_texts_spell_objects();
 }
 
-/// Under wider limits `jwe dec`, `jws ver`, `jws fmt` and `jwe fmt` answer as under the narrower ones, for all keys and objects,
-/// unless they answer `Limit` under these.
+/// Under wider limits `jwe dec`, `jws ver`, `jws fmt` and `jwe fmt` answer as under narrower ones, for all keys and objects, unless the
+/// answer under the narrower ones is `Limit`.
 pub fn wider_limits_keep_what_is_read()
     ensures all { (narrower wider : Limits) → AreWider narrower wider → ReadsAsBefore narrower wider }
     ensures here { ReadsAsBefore earlier_limits limits }
 {}
 
-/// So does `jwe enc`, where no recipient is a password, or the template gives the count of iterations.
+/// Under wider limits `jwe enc` also answers as under narrower ones, unless the answer under the narrower ones is `Limit`. This holds if no
+/// recipient is a password, or if the template has the count of iterations.
 pub fn wider_limits_keep_what_is_encrypted()
     ensures all { (narrower wider : Limits) → AreWider narrower wider → EncryptsAsBefore narrower wider }
     ensures here { EncryptsAsBefore earlier_limits limits }
 {}
 
-/// What `jwe enc` wrote under narrower limits, under which what is written may be read, is an object under wider ones, of which
-/// `jwe dec` gives the plaintext back with each of the keys, as it does under the narrower ones.
+/// The texts that `jwe enc` wrote under narrower limits are those of an object under wider limits, if the narrower limits allow reading
+/// what is written under them. `jwe dec` returns its plaintext with each of the keys, as under the narrower limits.
 pub fn what_was_encrypted_is_decrypted()
     ensures all { (narrower wider : Limits) → AreSound narrower → AreWider narrower wider → EncryptedIsDecrypted narrower wider }
     ensures here { EncryptedIsDecrypted earlier_limits limits }

@@ -1,9 +1,8 @@
-//! The command `jose` for octet keys: makes keys (RFC 7517) and writes their thumbprints (RFC 7638), signs and verifies documents
-//! (RFC 7515), encrypts and decrypts secrets (RFC 7516), changes the form of both, and writes and reads base64url (RFC 4648
-//! section 5).
+//! The command `jose` for octet keys. It makes keys (RFC 7517) and writes their thumbprints (RFC 7638), signs and verifies documents
+//! (RFC 7515), encrypts and decrypts secrets (RFC 7516), changes the form of both, and writes and reads base64url (RFC 4648 section 5).
 //!
-//! The words become an invocation (`words`, by the table in `words::table`), the invocation names devices
-//! (`files`), and `run` does what is asked from devices to devices. `report` tells a refusal.
+//! The words become an invocation (`words`, by the table in `words::table`), the invocation names devices (`files`), and `run` does what is
+//! asked from devices to devices. `report` reports a refusal.
 #![tactic(auto)]
 
 ghost use Rattle.std.specs.Prelude.{◌≡◌, ◌⊎◌, List, map, string_bytes, IfOk, IfErr, Result as Answer, Err};
@@ -36,12 +35,12 @@ pub use words::invocation::{Invocation, Setting};
 pub use words::parse;
 pub use words::table::Command;
 
-/// What can be opened, and neither read nor written. Where the root may not be opened, another folder mostly may.
+/// Folders, which can be opened but neither read nor written. If the root may not be opened, another folder mostly may.
 const FOLDERS: &[&str] = &["/", ".", "/dev", "/proc", "/etc", "/tmp"];
 
-/// Takes the number of a standard stream that is closed for as long as it is held, and can be neither read nor written there. The next
-/// file that is opened would take the number, and be read or written in place of the stream. `None` if the lowest free number is
-/// none of the three, or if no folder can be opened.
+/// Opens a folder and holds it, if it has the number of a closed standard stream. As long as it is held, nothing can be read or written
+/// there. Otherwise the next file that is opened would get the number, and would be read or written in place of the stream. Returns `None`
+/// if the lowest free number is none of the three, or if no folder can be opened.
 fn placeholder<S: System>(system: &S, folders: &[&str]) -> Result<Option<S::File>, Refusal>
 where
     S::File: AsRawFd,
@@ -65,8 +64,7 @@ fn if_standard<F: AsRawFd + Drop>(file: F) -> Option<F>
     matches!(file.as_raw_fd(), 0..=2).then_some(file)
 }
 
-/// Reads the words, and does what they ask over files and the standard streams. Words that are not
-/// UTF-8 are no command.
+/// Reads the words and does what they ask, over files and the standard streams. Words that are not UTF-8 are no command.
 fn perform<S: System>(
     alloc: Global,
     system: &S,
@@ -89,7 +87,7 @@ where
     serve(alloc, system, stdin, stdout, words)
 }
 
-/// Does what the words ask over files and the standard streams.
+/// Does what the words ask, over files and the standard streams.
 fn serve<S: System>(
     alloc: Global,
     files: &S,

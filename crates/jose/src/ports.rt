@@ -1,4 +1,4 @@
-//! The devices of a run, by the options that name them. One that the command has no option for is not called.
+//! The devices of a run, by the options that name them. A device for which the command has no option is not called.
 
 /// The inputs of a run.
 #[derive(Drop)]

@@ -1,12 +1,12 @@
-//! The program's last word: a status, and for a refusal one line.
+//! The end of a run: a status, and one line after a refusal.
 ghost use Rattle.std.specs.Prelude.{◌≡◌, ◌<◌, ◌++◌, OnOk, OnErr, IfErr};
 ghost use Rattle.octets.specs.Devices.{greatest_count, next_count, AppendsPrefixOf, IsFinishedOnce};
 ghost use Rattle.jose.specs.Reports.{status_of, report_line};
 
 use octets::{Output, Refusal, write_whole};
 
-/// The program's status: 0, and nothing is written, or after a refusal 1, and its line is written,
-/// as far as the output takes it.
+/// Returns the program's status. After success it is 0, and nothing is written. After a refusal it is 1, and the refusal's line is written,
+/// as far as the output accepts it.
 pub fn report<O: Output>(outcome: Result<(), Refusal>, out: &mut O) -> u8
     ensures status { result ≡ status_of outcome }
     ensures quiet { OnOk outcome (out.new ≡ out.old) }
@@ -20,7 +20,7 @@ pub fn report<O: Output>(outcome: Result<(), Refusal>, out: &mut O) -> u8
     match outcome {
         Ok(()) => 0,
         Err(refusal) => {
-            // Of an output that fails here nobody is left to be told.
+            // If this output fails, there is nowhere left to report it.
             let _ = write_line(out, refusal);
             1
         }

@@ -12,7 +12,7 @@ use crate::words::table::Command;
 use octets::{Input, Output, Refusal};
 use std::alloc::Global;
 
-/// Does what is asked.
+/// Does what the invocation asks.
 pub fn run<I: Input, O: Output>(
     alloc: Global,
     invocation: &Invocation,
@@ -24,7 +24,7 @@ pub fn run<I: Input, O: Output>(
     // The outputs, or the refusal, are those of the answer.
     ensures answer { Answers (invocation_view invocation.now) (observed_inputs I.consumed I.is_at_end inputs.old inputs.new) (written_texts O.written outputs.old outputs.new) result }
 
-    // Of the random input exactly what the answer takes is read, and no more before a refusal.
+    // On success exactly the octets that the answer draws were read from the random input. After a refusal no more than these were read.
     ensures drawn { OnOk result (DrawsAll (invocation_view invocation.now) (observed_inputs I.consumed I.is_at_end inputs.old inputs.new)) }
     ensures at_most { DrawsNoMore (invocation_view invocation.now) (observed_inputs I.consumed I.is_at_end inputs.old inputs.new) }
 
@@ -36,20 +36,20 @@ pub fn run<I: Input, O: Output>(
     ensures keeps_up { result ≡ Err Refusal.Read → AreKeptUp O.written (invocation_view invocation.now) (observed_inputs I.consumed I.is_at_end inputs.old inputs.new) outputs.old outputs.new }
     ensures content_first { OnErr result (IsContentFirst O.written O.is_finished O.endings (invocation_view invocation.now) (observed_inputs I.consumed I.is_at_end inputs.old inputs.new) outputs.old outputs.new) }
 
-    // Inputs are read one after another, and what comes last only where all before it is accepted.
+    // The inputs are read one after another, and the last ones only if all that comes before them is accepted.
     ensures in_order { AreInOrder (invocation_view invocation.now) (observed_inputs I.consumed I.is_at_end inputs.old inputs.new) inputs.old inputs.new }
     ensures reads_first { IfErr result (ReadsFirst (invocation_view invocation.now) (observed_inputs I.consumed I.is_at_end inputs.old inputs.new)) }
     ensures random_first { DrawsFirst (invocation_view invocation.now) (observed_inputs I.consumed I.is_at_end inputs.old inputs.new) inputs.old inputs.new }
     ensures memory_first { IfErr result (TakesMemoryFirst (invocation_view invocation.now) inputs.old inputs.new) }
     ensures content_last { RefusesFirst (invocation_view invocation.now) (observed_inputs I.consumed I.is_at_end inputs.old inputs.new) inputs.old inputs.new }
 
-    // At the end all that was written is where it belongs. Each output was finished once, and after a refusal none was, except for a
-    // content that was written before the text.
+    // On success everything that was written is where it belongs, and each output was finished once. After a refusal no output was
+    // finished, except perhaps that of a content that was written before the text.
     ensures finished { OnOk result (AreFinished O.is_finished O.endings (invocation_view invocation.now) outputs.old outputs.new) }
     ensures unfinished { OnErr result (AreUnfinished O.endings (invocation_view invocation.now) outputs.old outputs.new) }
     ensures untouched { AreUntouched (invocation_view invocation.now) inputs.old inputs.new outputs.old outputs.new }
 
-    // A device that failed in the call is told, and no other is.
+    // The refusal reports a device that failed in the call, and no other device.
     ensures faults { TellsFaults (input_counts I.failures inputs.old inputs.new) (output_counts O.failures outputs.old outputs.new) result }
 {
     match invocation.command {

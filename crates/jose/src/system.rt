@@ -1,6 +1,6 @@
-//! What the program asks of the operating system. std's clauses say nothing of what the system answers, so each call of `System` has a
-//! relation that its answer meets, and of which no more is known. A function over any `System` whose clauses speak of an answer
-//! in such a relation can have it only from the call.
+//! The requests that the program makes of the operating system. The clauses of std do not say how the system answers. So each call of
+//! `System` has a relation that its answer meets, and nothing more is known of this relation. A function over any `System` whose clauses
+//! promise an answer in this relation can have the answer only from the call.
 ghost use Rattle.std.specs.Prelude.{◌≡◌, ◌↔◌, ◌⊎◌, ℕ, ⊤, List, map, string_bytes, IfOk, IfErr, IsSome, IsTrue, Option, Result, Ok, Err};
 ghost use Rattle.std.specs.declared.io.Error.{Error};
 ghost use Rattle.std.specs.Fs.{asks_create, asks_truncate, asks_write, file_type, IsFile};
@@ -14,7 +14,7 @@ use std::io;
 use std::os::unix::fs::{MetadataExt, OpenOptionsExt};
 use std::rt::Files;
 
-/// A regular file, whatever its names are: its device, and its number there.
+/// A regular file under any of its names: its device, and its inode number there.
 #[derive(Clone, Copy, PartialEq, Eq)]
 pub(crate) struct FileId {
     pub(crate) device: u64,
@@ -32,13 +32,13 @@ pub(crate) trait System: Files {
 
     ghost sync_gives: { Self → Self.File → Result (Unit {0}) Error → Type 0 };
 
-    /// The program's arguments, its name first. `Usage` if one of them is not UTF-8.
+    /// Returns the program's arguments, the program's name first. Refuses with `Usage` if one of them is not UTF-8.
     fn args(&self) -> Result<Vec<String>, Refusal>
         ensures given { IfOk result (λ args. args_gives self.now (Ok (map string_bytes args.items))) }
         ensures refused { IfErr result (λ refusal. args_gives self.now (Err refusal)) }
         ensures refusal { IfErr result (λ refusal. refusal ≡ Refusal.Memory ⊎ refusal ≡ Refusal.Usage) };
 
-    /// The regular file of this name. `None` if it is no regular file, or if it can't be looked at.
+    /// Returns the regular file of this name, or `None` if it is no regular file or cannot be examined.
     fn id(&self, path: &str) -> Option<FileId>
         ensures { id_gives self.now path.now result };
 
@@ -46,11 +46,11 @@ pub(crate) trait System: Files {
     fn open(&self, path: &str) -> io::Result<Self::File>
         ensures { open_gives self.now path.now result };
 
-    /// Opens the file for writing, and cuts it to nothing. Where it is not there it is made, with this mode.
+    /// Opens the file for writing and truncates it. If there is no such file, it is created with this mode.
     fn create(&self, path: &str, mode: u32) -> io::Result<Self::File>
         ensures { create_gives self.now path.now mode result };
 
-    /// Writes to the disk what was written to the file, and waits for it.
+    /// Brings everything that was written to the file to its disk, and waits for it.
     fn sync(&self, file: &Self::File) -> io::Result<()>
         ensures { sync_gives self.now file.now result };
 }
@@ -106,7 +106,8 @@ fn file_id(found: &Metadata) -> Option<FileId>
     })
 }
 
-/// How an output file is opened. std says nothing of the options after `mode`, so it comes first.
+/// The options for opening an output file. The clauses of std say nothing about the options after a call of `mode`, so that call comes
+/// first.
 fn new_file(mode: u32) -> OpenOptions
     ensures written { IsTrue (asks_write result) }
     ensures created { IsTrue (asks_create result) }

@@ -1,13 +1,14 @@
-//! The tests of the program and of the calls that it makes: each file holds one kind, and its first lines say what is in it and where
-//! its expected values come from.
+//! The tests of the program and of the calls that it makes. Each file holds one kind of test, and its first lines say what is in it and
+//! where its expected values come from.
 //!
-//! - `harness` runs a command over memory and compares what it did; `command_words` has the words of the commands, and `samples` the
-//!   keys, octets and small texts that several files use.
-//! - `standards` has the examples and the tables of the RFCs, a file a standard.
-//! - `commands` has rows of each command, a file a command, and `causes` which of several causes is told.
+//! - `harness` runs a command over memory and compares the outcome; `command_words` has the words of the commands, and `samples` the keys,
+//!   octets and small texts that several files use.
+//! - `standards` has the examples and the tables of the RFCs, a file for each standard.
+//! - `commands` has rows of each command, a file for each command, and `causes` has inputs with several faults, of which the first is
+//!   reported.
 //! - `peers` has objects of other programs: latchset's `jose`, jwcrypto, go-jose, and texts composed with Python's `cryptography`.
-//! - `contents` has contents of many lengths and long ones, and keys, headers and texts of rare shapes; `devices` has reads and writes that
-//!   fail.
+//! - `contents` has long contents and contents of many lengths, and keys, headers and texts of rare shapes; `devices` has reads and writes
+//!   that fail.
 //! - `hostile` has texts that nobody wrote in good faith.
 //! - `library` has calls of the crates below: keys, headers and objects that are read, built and written.
 //! - `table` prints the table of commands for the scripts.

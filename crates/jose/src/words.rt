@@ -1,4 +1,4 @@
-//! The program's arguments, read as one of the commands of the table.
+//! Reading the program's arguments as one of the commands of the table.
 ghost use Rattle.std.specs.Prelude.{◌≡◌, map, string_bytes};
 ghost use Rattle.octets.specs.Outcomes.{AgreesUnlessMemory};
 ghost use Rattle.jose.specs.Rows.{option_entry};
@@ -17,9 +17,8 @@ use crate::words::table::{OptionRow, Role, command_row};
 use octets::{Refusal, needs};
 use std::alloc::Global;
 
-/// What the words, without the program's name, ask for. `Usage` where they pick no command, where
-/// `clap` refuses the rest, where an option for a hash names none of the four, and where two inputs or two outputs would be the
-/// same standard stream.
+/// Returns what the words ask for, without the program's name. Refuses with `Usage` if they name no command, if `clap` refuses the rest, if
+/// an option for a hash names none of the four hashes, or if two inputs or two outputs would be the same standard stream.
 #[tactic(auto, unfolding(crate::specs::Words::invocation_of))]
 pub fn parse(alloc: Global, words: &[String]) -> Result<Invocation, Refusal>
     ensures { AgreesUnlessMemory invocation_view result (invocation_of (map string_bytes words.now)) }

@@ -16,7 +16,7 @@ use crate::ports::{Inputs, Outputs};
 use crate::words::invocation::Invocation;
 use octets::{B64Reader, B64Writer, Input, Output, Refusal, pump};
 
-/// Writes the base64url text of the content as it reads it.
+/// Writes the base64url text of the content, piece by piece as it is read.
 pub(crate) fn encode<I: Input, O: Output>(
     invocation: &Invocation,
     inputs: &mut Inputs<I>,
@@ -29,7 +29,7 @@ pub(crate) fn encode<I: Input, O: Output>(
     encode_content(&mut inputs.content, &mut outputs.text)
 }
 
-/// Writes the octets whose base64url text the input is, with a line end or without, as it reads it.
+/// Writes the octets of the input, a base64url text with or without a line end, piece by piece as it is read.
 pub(crate) fn decode<I: Input, O: Output>(
     invocation: &Invocation,
     inputs: &mut Inputs<I>,
@@ -42,7 +42,7 @@ pub(crate) fn decode<I: Input, O: Output>(
     decode_text(&mut inputs.text, &mut outputs.content)
 }
 
-/// Writes the base64url text of the content as it reads it.
+/// Writes the base64url text of the content, piece by piece as it is read.
 fn encode_content<I: Input, O: Output>(content: &mut I, out: &mut O) -> Result<(), Refusal>
     requires { IsFinite (I.remaining content.old) }
     ensures answer { (whole : List ℕ) → IsPossibleInput (observed I.consumed I.is_at_end content.old content.new) whole
@@ -61,7 +61,7 @@ fn encode_content<I: Input, O: Output>(content: &mut I, out: &mut O) -> Result<(
     Ok(out.finish()?)
 }
 
-/// Writes the octets whose base64url text the input is, with a line end or without, as it reads it.
+/// Writes the octets of the input, a base64url text with or without a line end, piece by piece as it is read.
 fn decode_text<I: Input, O: Output>(text: &mut I, out: &mut O) -> Result<(), Refusal>
     requires { IsFinite (I.remaining text.old) }
     ensures answer { (whole : List ℕ) → IsPossibleInput (observed I.consumed I.is_at_end text.old text.new) whole

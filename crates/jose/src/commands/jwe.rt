@@ -18,8 +18,8 @@ use octets::{Input, Output, Refusal};
 use std::alloc::Global;
 use tokens::{jwe_decrypt, jwe_encrypt};
 
-/// Encrypts the content to the keys, as the template asks, and writes the object's text. The ciphertext goes out beside it where
-/// it is to be detached.
+/// Encrypts the content to the keys, as the template asks, and writes the object's text. A ciphertext that is to be detached is written to
+/// its own output.
 pub(crate) fn encrypt<I: Input, O: Output>(
     alloc: Global,
     invocation: &Invocation,
@@ -58,7 +58,7 @@ pub(crate) fn encrypt<I: Input, O: Output>(
     }
 }
 
-/// Decrypts the text, and the ciphertext where it is handed in, with the keys, and writes the plaintext.
+/// Decrypts the text with the keys, and with the ciphertext if that is handed in. Writes the plaintext.
 pub(crate) fn decrypt<I: Input, O: Output>(
     alloc: Global,
     invocation: &Invocation,
@@ -73,7 +73,7 @@ pub(crate) fn decrypt<I: Input, O: Output>(
     write_plaintext(alloc, whole, outputs)
 }
 
-/// Writes the plaintext of what the inputs gave.
+/// Writes the plaintext of the object that was read from the inputs.
 fn write_plaintext<O: Output>(
     alloc: Global,
     whole: WholeInputs,
@@ -92,8 +92,8 @@ fn write_plaintext<O: Output>(
     jwe_decrypt(alloc, &set, jwe, &mut outputs.content).1
 }
 
-/// Writes the text of the object in compact form, or else in JSON form. The ciphertext is handed in beside the text where it is
-/// given, and goes out beside it where it is to be detached.
+/// Writes the object of the text in compact form, or otherwise in JSON form. The ciphertext may be handed in separately. A ciphertext that
+/// is to be detached is written to its own output.
 pub(crate) fn format<I: Input, O: Output>(
     alloc: Global,
     invocation: &Invocation,
@@ -114,7 +114,7 @@ pub(crate) fn format<I: Input, O: Output>(
     )
 }
 
-/// Writes the object of what the inputs gave in the form that is asked for.
+/// Writes the object that was read from the inputs, in the form that is asked for.
 fn write_formed<O: Output>(
     alloc: Global,
     whole: WholeInputs,

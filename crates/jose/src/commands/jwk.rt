@@ -22,7 +22,7 @@ use octets::{Input, Output, Refusal, emit};
 use prf::HashAlg;
 use std::alloc::Global;
 
-/// Makes a key as the template asks, of octets of the random input, and writes its text.
+/// Makes a key from octets of the random input, as the template asks, and writes its text.
 pub(crate) fn generate<I: Input, O: Output>(
     alloc: Global,
     invocation: &Invocation,
@@ -37,7 +37,7 @@ pub(crate) fn generate<I: Input, O: Output>(
     write_key(alloc, &template.text, &mut inputs.random, &mut outputs.text)
 }
 
-/// Makes a key as the template asks, of octets of the random input, and writes its text.
+/// Makes a key from octets of the random input, as the template asks, and writes its text.
 fn write_key<I: Input, O: Output>(
     alloc: Global,
     template: &[u8],
@@ -88,7 +88,7 @@ fn write_thumbprints<O: Output>(
     emit(&mut outputs.text, lines.as_bytes())
 }
 
-/// The thumbprints of the good keys of a text. A bad one of a set is passed over.
+/// The thumbprints of the good keys of a text. A bad key of a set is passed over.
 #[tactic(auto, unfolding(crate::specs::Jwk::thp_answer))]
 fn text_thumbprints(alloc: Global, text: &[u8], hash: HashAlg) -> Result<String, Refusal>
     ensures { AgreesUnlessMemory string_bytes result (thp_answer hash text.now) }

@@ -26,8 +26,8 @@ use octets::{Input, Output, Refusal, read_to_end};
 use std::alloc::Global;
 use tokens::{jws_sign, jws_verify, jws_verify_detached};
 
-/// Signs the content with the keys, as the template asks, and writes the text of the object. The payload goes out beside it
-/// where it is to be detached.
+/// Signs the content with the keys, as the template asks, and writes the object's text. A payload that is to be detached is written to its
+/// own output.
 pub(crate) fn sign<I: Input, O: Output>(
     alloc: Global,
     invocation: &Invocation,
@@ -64,8 +64,8 @@ pub(crate) fn sign<I: Input, O: Output>(
     }
 }
 
-/// Verifies the text, and the payload where it is handed in, with some of the keys, or with all, and writes the payload where
-/// it is wanted.
+/// Verifies the text with some of the keys, or with all of them, and with the payload if that is handed in. Writes the payload if that is
+/// asked for.
 pub(crate) fn verify<I: Input, O: Output>(
     alloc: Global,
     invocation: &Invocation,
@@ -92,7 +92,7 @@ pub(crate) fn verify<I: Input, O: Output>(
     write_verified(alloc, whole, all, payload_wanted, outputs)
 }
 
-/// Verifies what the inputs gave, and writes its payload where it is wanted.
+/// Verifies the object that was read from the inputs, and writes its payload if that is asked for.
 fn write_verified<O: Output>(
     alloc: Global,
     whole: WholeInputs,
@@ -117,8 +117,8 @@ fn write_verified<O: Output>(
     }
 }
 
-/// Verifies the text with some of the keys, or with all, where the payload is handed in and is not wanted. The payload is read in
-/// pieces and is not held. What the keys or the object are refused with is told once the payload was read to its end.
+/// Verifies the text with some of the keys, or with all of them, if the payload is handed in and is not to be written. The payload is read
+/// in pieces and is not held. A refusal of the keys or of the object is reported only after the payload was read to its end.
 fn verify_in_one_pass<I: Input>(
     alloc: Global,
     text: &mut I,
@@ -151,8 +151,8 @@ fn verify_in_one_pass<I: Input>(
     }
 }
 
-/// The keys, and the object that the text is with an empty payload, in the place of the one that is handed in. Apart from `Memory`, it
-/// is refused as the answer is with every payload.
+/// The keys, and the object of the text with an empty payload in place of the one that is handed in. Apart from `Memory`, it is refused
+/// exactly as the answer is with every payload.
 fn keys_and_object<'t>(
     alloc: Global,
     keys: &[u8],
@@ -169,8 +169,8 @@ fn keys_and_object<'t>(
     Ok((set, jws))
 }
 
-/// Writes the text of the object in compact form, or else in JSON form. The payload is handed in beside the text where it is
-/// given, and goes out beside it where it is to be detached.
+/// Writes the object of the text in compact form, or otherwise in JSON form. The payload may be handed in separately. A payload that is to
+/// be detached is written to its own output.
 pub(crate) fn format<I: Input, O: Output>(
     alloc: Global,
     invocation: &Invocation,
@@ -191,7 +191,7 @@ pub(crate) fn format<I: Input, O: Output>(
     )
 }
 
-/// Writes the object of what the inputs gave in the form that is asked for.
+/// Writes the object that was read from the inputs, in the form that is asked for.
 fn write_formed<O: Output>(
     alloc: Global,
     whole: WholeInputs,

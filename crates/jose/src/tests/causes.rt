@@ -1,4 +1,4 @@
-//! Where several things are wrong the first cause is told: in each row those of later steps stand too. The orders are those of
+//! Inputs with several faults, of which the first is reported: each row also has faults of later steps. The orders are those of
 //! docs/SPECIFICATION.md.
 use crate::tests::command_words::{
     COMPACT_JWE, COMPACT_JWS, DECRYPT, ENCRYPT_COMPACT, SIGN_COMPACT, VERIFY,
@@ -9,10 +9,10 @@ use octets::Refusal;
 use std::process::Abort;
 use std::test::Fail;
 
-/// A key of 20 octets, which fits no algorithm but that of a password.
+/// A key of 20 octets, which fits only the algorithms for passwords.
 const KEY_20: &str = "{\"kty\":\"oct\",\"k\":\"a2tra2tra2tra2tra2tra2tra2s\"}";
 
-/// The words refuse this text with these keys. There are no random octets.
+/// The command refuses this text with these keys for this cause. There are no random octets.
 fn refuses<R: Abort + AllocGlobal>(
     rt: &R,
     words: &[&str],
@@ -42,12 +42,12 @@ fn refuses_each<R: Abort + AllocGlobal>(
     Ok(())
 }
 
-/// Templates and keys, and the first cause.
+/// Templates and keys, with the first cause of their refusal.
 const SIGNING_TEXTS: &[(&str, &str, Refusal)] = &[
-    // The keys before the template, and their numbers before what they are.
+    // The keys are judged before the template, and the numbers in their text before the keys themselves.
     ("{", "{\"keys\":1.0}", Refusal::Number),
     ("{", "{\"keys\":[{}]}", Refusal::Key),
-    // The template's numbers, its form, its headers, and what is not supported, before the keys' algorithms.
+    // The template's numbers come first, then its form, its headers and what is not supported, and then the keys' algorithms.
     ("{\"x\":1.0}", KEY_20, Refusal::Number),
     (
         "{\"protected\":{\"alg\":1},\"x\":{}}",
@@ -66,9 +66,9 @@ const SIGNING_TEXTS: &[(&str, &str, Refusal)] = &[
     ),
 ];
 
-/// And then what the keys are for, the limits and the form.
+/// The causes after these: what the keys allow, the limits and the form.
 const SIGNING_KEYS: &[(&str, &str, Refusal)] = &[
-    // The algorithm of each key, in their order, before what the keys allow.
+    // The algorithm of each key, in the order of the keys, comes before what the keys allow.
     (
         "{\"protected\":{\"x\":[[[[[[[[[[[[[[[[[[[[[[[[[[[[[[[[[[[[[[[[[[[[[[[[[[[[[[[[[[[[[[[[]]]]]]]]]]]]]]]]]]]]]]]]]]]]]]]]]]]]]]]]]]]]]]]]]]]]]]]]]]]]]]]]}}",
         "{\"keys\":[{\"kty\":\"oct\",\"k\":\"a2tra2tra2tra2tra2tra2tra2tra2tra2tra2tra2s\",\"alg\":\"A256KW\"},{\"kty\":\"oct\",\"k\":\"a2tra2tra2tra2tra2tra2tra2s\"}]}",
@@ -79,7 +79,7 @@ const SIGNING_KEYS: &[(&str, &str, Refusal)] = &[
         "{\"keys\":[{\"kty\":\"oct\",\"k\":\"a2tra2tra2tra2tra2tra2tra2tra2tra2tra2tra2s\",\"use\":\"enc\"},{\"kty\":\"oct\",\"k\":\"a2tra2tra2tra2tra2tra2tra2s\"}]}",
         Refusal::NoAlgorithm,
     ),
-    // What the keys allow before the limits, and these before the form.
+    // What the keys allow comes before the limits, and the limits come before the form.
     (
         "{\"protected\":{\"x\":[[[[[[[[[[[[[[[[[[[[[[[[[[[[[[[[[[[[[[[[[[[[[[[[[[[[[[[[[[[[[[[[]]]]]]]]]]]]]]]]]]]]]]]]]]]]]]]]]]]]]]]]]]]]]]]]]]]]]]]]]]]]]]]]},\"header\":{\"y\":1}}",
         "{\"kty\":\"oct\",\"k\":\"a2tra2tra2tra2tra2tra2tra2tra2tra2tra2tra2s\",\"use\":\"enc\"}",
@@ -103,12 +103,13 @@ fn signing_tells_the_first_cause(rt: HostRuntime) -> Result<(), Fail> {
     refuses_each(&rt, &SIGN_COMPACT, SIGNING_KEYS)
 }
 
-/// Templates and keys, and the first cause.
+/// Templates and keys, with the first cause of their refusal.
 const ENCRYPTING_TEXTS: &[(&str, &str, Refusal)] = &[
-    // The keys before the template, and their numbers before what they are.
+    // The keys are judged before the template, and the numbers in their text before the keys themselves.
     ("{", "{\"keys\":1.0}", Refusal::Number),
     ("{", "{\"keys\":[{}]}", Refusal::Key),
-    // The template's numbers, its form, its base64url texts, its headers, and what is not supported, before the keys' algorithms.
+    // The template's numbers come first, then its form, its base64url texts, its headers and what is not supported, and then the keys'
+    // algorithms.
     ("{\"x\":1.0}", KEY_20, Refusal::Number),
     ("{\"aad\":\"!\",\"x\":{}}", KEY_20, Refusal::Form),
     (
@@ -128,9 +129,9 @@ const ENCRYPTING_TEXTS: &[(&str, &str, Refusal)] = &[
     ),
 ];
 
-/// And then what the keys are for, the limits and the form.
+/// The causes after these: what the keys allow, the limits and the form.
 const ENCRYPTING_KEYS: &[(&str, &str, Refusal)] = &[
-    // The algorithm of each key, in their order, and then whether a direct key is alone.
+    // The algorithm of each key comes first, in the order of the keys, and then whether a direct key is alone.
     (
         "{}",
         "{\"keys\":[{\"kty\":\"oct\",\"k\":\"a2tra2tra2tra2tra2tra2tra2tra2tra2tra2tra2s\",\"alg\":\"HS256\"},{\"kty\":\"oct\",\"k\":\"a2tra2tra2tra2tra2tra2tra2s\"}]}",
@@ -146,13 +147,13 @@ const ENCRYPTING_KEYS: &[(&str, &str, Refusal)] = &[
         "{\"keys\":[{\"kty\":\"oct\",\"k\":\"a2tra2tra2tra2tra2tra2tra2s\",\"alg\":\"dir\"},{\"kty\":\"oct\",\"k\":\"a2tra2tra2tra2tra2traw\",\"use\":\"sig\"}]}",
         Refusal::Header,
     ),
-    // The content encryption before what the keys allow.
+    // The content encryption comes before what the keys allow.
     (
         "{}",
         "{\"kty\":\"oct\",\"k\":\"a2tra2tra2tra2tra2tra2tra2s\",\"alg\":\"dir\",\"use\":\"sig\"}",
         Refusal::NoAlgorithm,
     ),
-    // What the keys allow before the count, and this before the limits, and these before the form.
+    // What the keys allow comes before the count of iterations, the count before the limits, and the limits before the form.
     (
         "{\"protected\":{\"p2c\":-1,\"x\":[[[[[[[[[[[[[[[[[[[[[[[[[[[[[[[[[[[[[[[[[[[[[[[[[[[[[[[[[[[[[[[[]]]]]]]]]]]]]]]]]]]]]]]]]]]]]]]]]]]]]]]]]]]]]]]]]]]]]]]]]]]]]]]]}}",
         "{\"keys\":[{\"kty\":\"oct\",\"k\":\"a2tra2tra2tra2tra2traw\",\"use\":\"sig\"},{\"kty\":\"oct\",\"k\":\"a2tra2tra2s\",\"alg\":\"PBES2-HS256+A128KW\"}]}",
@@ -181,21 +182,21 @@ fn encrypting_tells_the_first_cause(rt: HostRuntime) -> Result<(), Fail> {
     refuses_each(&rt, &ENCRYPT_COMPACT, ENCRYPTING_KEYS)
 }
 
-/// Signed objects, and the first cause.
+/// Signed objects and keys, with the first cause of their refusal.
 const SIGNED: &[(&str, &str, Refusal)] = &[
-    // The numbers of a JSON text before its form, and this before base64url.
+    // The numbers of a JSON text come before its form, and the form comes before base64url.
     ("{\"payload\":1.0}", KEY_20, Refusal::Number),
     (
         "{\"payload\":\"!\",\"signatures\":[1]}",
         KEY_20,
         Refusal::Form,
     ),
-    // Base64url before the protected header, and of that the text, the numbers and the form.
+    // Base64url comes before the protected header. Of the protected header, the text comes first, then the numbers, and then the form.
     ("ew.!.", KEY_20, Refusal::Base64),
     ("ew..", KEY_20, Refusal::Json),
     ("eyJjcml0IjoxLjB9..", KEY_20, Refusal::Number),
     ("WyJjcml0Il0..", KEY_20, Refusal::Header),
-    // The joint header before `crit`, and this before what the keys are for.
+    // The joint header comes before `crit`, and `crit` comes before what the keys allow.
     ("eyJhbGciOjEsImNyaXQiOltdfQ..", KEY_20, Refusal::Header),
     (
         "eyJhbGciOiJ4IiwiY3JpdCI6W119..",
@@ -204,12 +205,12 @@ const SIGNED: &[(&str, &str, Refusal)] = &[
     ),
 ];
 
-/// And then those of verifying alone.
+/// The causes of verifying alone, which come after these.
 const VERIFYING: &[(&str, &str, Refusal)] = &[
-    // The keys before the object.
+    // The keys are judged before the object.
     ("{", "{\"keys\":1.0}", Refusal::Number),
     ("{", "{\"keys\":[{}]}", Refusal::Key),
-    // What is supported before the keys that fit, and these before the signature.
+    // Whether the algorithm is supported comes before whether a key fits, and this comes before the signature.
     ("eyJhbGciOiJ4In0..", KEY_20, Refusal::Unsupported),
     ("eyJhbGciOiJIUzI1NiJ9..", KEY_20, Refusal::KeyDoesNotFit),
     (
@@ -226,21 +227,21 @@ fn verifying_tells_the_first_cause(rt: HostRuntime) -> Result<(), Fail> {
     refuses_each(&rt, &VERIFY, VERIFYING)
 }
 
-/// Encrypted objects, and the first cause.
+/// Encrypted objects and keys, with the first cause of their refusal.
 const ENCRYPTED: &[(&str, &str, Refusal)] = &[
-    // The numbers of a JSON text before its form, and this before base64url.
+    // The numbers of a JSON text come before its form, and the form comes before base64url.
     ("{\"ciphertext\":1.0}", KEY_20, Refusal::Number),
     (
         "{\"ciphertext\":\"!\",\"recipients\":[1]}",
         KEY_20,
         Refusal::Form,
     ),
-    // Base64url before the protected header, and of that the text, the numbers and the form.
+    // Base64url comes before the protected header. Of the protected header, the text comes first, then the numbers, and then the form.
     ("ew.!...", KEY_20, Refusal::Base64),
     ("ew....", KEY_20, Refusal::Json),
     ("eyJjcml0IjoxLjB9....", KEY_20, Refusal::Number),
     ("WyJjcml0Il0....", KEY_20, Refusal::Header),
-    // The joint header before `crit`, and this before what the keys are for.
+    // The joint header comes before `crit`, and `crit` comes before what the keys allow.
     ("eyJhbGciOjEsImNyaXQiOltdfQ....", KEY_20, Refusal::Header),
     (
         "eyJhbGciOiJ4IiwiZW5jIjoieCIsImNyaXQiOltdfQ....",
@@ -249,12 +250,13 @@ const ENCRYPTED: &[(&str, &str, Refusal)] = &[
     ),
 ];
 
-/// And then those of decrypting alone.
+/// The causes of decrypting alone, which come after these.
 const DECRYPTING: &[(&str, &str, Refusal)] = &[
-    // The keys before the object.
+    // The keys are judged before the object.
     ("{", "{\"keys\":1.0}", Refusal::Number),
     ("{", "{\"keys\":[{}]}", Refusal::Key),
-    // What is supported before the keys that fit, these before the count, and this before what opens.
+    // Whether the algorithms are supported comes first, then whether a key fits, then the count of iterations, and then whether a key
+    // opens.
     (
         "eyJhbGciOiJ4IiwiZW5jIjoiQTEyOEdDTSJ9....",
         KEY_20,
@@ -284,7 +286,7 @@ fn decrypting_tells_the_first_cause(rt: HostRuntime) -> Result<(), Fail> {
     refuses_each(&rt, &DECRYPT, DECRYPTING)
 }
 
-/// A text with 257 times the element in a list is refused.
+/// The command refuses a text that has the element 257 times in a list.
 fn refuses_many<R: Abort + AllocGlobal>(
     rt: &R,
     words: &[&str],
@@ -296,7 +298,7 @@ fn refuses_many<R: Abort + AllocGlobal>(
     refuses(rt, words, &text, "{\"kty\":\"oct\",\"k\":\"AA\"}", refusal)
 }
 
-/// The form comes before the limit of 256, and this before base64url and the protected headers.
+/// The form comes before `MOST_RECIPIENTS`, and this limit comes before base64url and the protected headers.
 #[test]
 fn a_list_that_is_too_long_is_refused_after_its_form(rt: HostRuntime) -> Result<(), Fail> {
     let signed = "{\"payload\":\"!\",\"signatures\":[";
@@ -310,7 +312,7 @@ fn a_list_that_is_too_long_is_refused_after_its_form(rt: HostRuntime) -> Result<
     refuses_many(&rt, &DECRYPT, encrypted, "{}", Refusal::Limit)
 }
 
-/// Of a set whose objects are no keys, what is no object comes before the limit of 64, and this before the keys.
+/// Items of a set that are no objects come before `MOST_KEYS`, and this limit comes before objects that are no keys.
 #[test]
 fn a_set_that_is_too_long_is_refused_before_its_keys(rt: HostRuntime) -> Result<(), Fail> {
     let none = with_many(&rt, "{\"keys\":[", "1", 64, "1", "]}")?;

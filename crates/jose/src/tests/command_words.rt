@@ -1,4 +1,4 @@
-//! The words of the commands that the tests run: each option names a device, by any name.
+//! The words of the commands that the tests run. Each option names a device, by any name.
 
 pub(crate) const SIGN: [&str; 8] = [
     "jws", "sig", "-s", "template", "-I", "payload", "-k", "keys",
@@ -28,7 +28,7 @@ pub(crate) const VERIFY_ALL_BESIDE: [&str; 9] = [
     "jws", "ver", "-a", "-I", "beside", "-k", "keys", "-O", "payload",
 ];
 
-/// Without an output the payload is read in one pass.
+/// Without an output, the payload is read in one pass.
 pub(crate) const CHECK_BESIDE: [&str; 6] = ["jws", "ver", "-I", "beside", "-k", "keys"];
 
 pub(crate) const CHECK_ALL_BESIDE: [&str; 7] = ["jws", "ver", "-a", "-I", "beside", "-k", "keys"];

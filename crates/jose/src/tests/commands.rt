@@ -1,4 +1,4 @@
-//! Rows of the commands, a file a command: what each writes, and what is refused with which cause, by docs/SPECIFICATION.md.
+//! Rows of the commands, a file for each command: what each row writes, or the cause of its refusal, by docs/SPECIFICATION.md.
 
 mod b64;
 mod fmt;

@@ -1,5 +1,5 @@
-//! Contents of many lengths, in pieces, and long ones, and lists that are long: what is told of them does not depend on the reads. Keys,
-//! headers and texts of rare shapes, which are treated like any other.
+//! Long contents, contents of many lengths in pieces, and long lists: the answers do not depend on the reads. Keys, headers and texts of
+//! rare shapes, which are treated like any other.
 
 mod algorithms;
 mod base64url;
@@ -17,10 +17,11 @@ use std::alloc::{AllocError, Global};
 use std::process::Abort;
 use std::test::Fail;
 
-/// A content, and its base64url text.
+/// A content and its base64url text.
 pub(crate) const PIECE: (&str, &str) = ("abcdefgabcdefgabcdefg", "YWJjZGVmZ2FiY2RlZmdhYmNkZWZn");
 
-/// Contents of 0, 1, 4095, 4096, 4097, 8192 and 12289 octets: so many copies of the piece, and then these octets, with their text.
+/// Contents of 0, 1, 4095, 4096, 4097, 8192 and 12289 octets. Each is this many copies of the piece and then these octets, and is listed
+/// with the base64url text of the latter.
 pub(crate) const LENGTHS: &[(usize, &str, &str)] = &[
     (0, "", ""),
     (0, "a", "YQ"),
@@ -31,7 +32,7 @@ pub(crate) const LENGTHS: &[(usize, &str, &str)] = &[
     (585, "abcd", "YWJjZA"),
 ];
 
-/// The words answer so, whatever the inputs give at a read.
+/// The command has this answer, however many octets the inputs return at a read.
 pub(crate) fn expect_in_steps<R: Abort + AllocGlobal>(
     rt: &R,
     words: &[&str],
@@ -45,17 +46,17 @@ pub(crate) fn expect_in_steps<R: Abort + AllocGlobal>(
     Ok(())
 }
 
-/// The template with so many copies of the piece as additional data.
+/// The template with this many copies of the piece as additional data.
 pub(crate) fn with_aad(alloc: Global, count: usize, template: &str) -> Result<String, AllocError> {
     let mut text = repeated(alloc, "{\"aad\":\"", PIECE.1, count, "\",")?;
     text.push_str(template.strip_prefix('{').unwrap_or(""))?;
     Ok(text)
 }
 
-/// Words, a text, a content beside it, keys, and what the words do.
+/// Words, a text, a detached content, keys, and the answer.
 pub(crate) type Row<'a> = (&'a [&'a str], &'a str, &'a [u8], &'a str, Answer<'a>);
 
-/// In each row the words do so. What is encrypted draws the octets 1 to 80.
+/// Each row has its answer. The random octets are the octets 1 to 80.
 pub(crate) fn answers_each<R: Abort + AllocGlobal>(rt: &R, rows: &[Row<'_>]) -> Result<(), Fail> {
     for (words, text, content, keys, answer) in rows {
         let given = Given {

@@ -1,4 +1,4 @@
-//! What runs a command over memory and compares what it wrote, refused and finished with what a test expects.
+//! Running a command over memory, and comparing what it wrote, refused and finished with what a test expects.
 ghost use Rattle.jose.specs.Ports.{AreFinite};
 
 use crate::tests::command_words::{DECRYPT, ENCRYPT, VERIFY};
@@ -18,10 +18,10 @@ use std::process::Abort;
 use std::test::Fail;
 use tokens::{Work, jwe_decrypt};
 
-/// How many octets each output takes, where there is room enough.
+/// How many octets each output can hold, if there is to be enough room.
 pub(crate) const ROOM: usize = 3_000_000;
 
-/// What the inputs hold.
+/// The contents of the inputs.
 #[derive(Clone, Copy)]
 pub(crate) struct Given<'a> {
     pub(crate) text: &'a str,
@@ -31,7 +31,7 @@ pub(crate) struct Given<'a> {
 }
 
 impl<'a> Given<'a> {
-    /// A text and keys alone.
+    /// A text and keys, and nothing else.
     pub(crate) fn of(text: &'a str, keys: &'a str) -> Given<'a> {
         Given {
             text,
@@ -51,7 +51,7 @@ impl<'a> Given<'a> {
     }
 }
 
-/// What the inputs hold, where it need not be UTF-8.
+/// The contents of the inputs, if they need not be UTF-8.
 #[derive(Clone, Copy)]
 pub(crate) struct GivenOctets<'a> {
     pub(crate) text: &'a [u8],
@@ -60,7 +60,7 @@ pub(crate) struct GivenOctets<'a> {
     pub(crate) random: &'a [u8],
 }
 
-/// What a call of the program did.
+/// The outcome of a call of the program.
 #[derive(Drop)]
 pub(crate) struct Done {
     pub(crate) result: Result<(), Refusal>,
@@ -76,7 +76,7 @@ pub(crate) fn owned(alloc: Global, words: &[&str]) -> Result<Vec<String>, AllocE
     Ok(all)
 }
 
-/// Reads the words and does what they ask, over these inputs and over outputs with room for so many octets.
+/// Reads the words and does what they ask, over these inputs and over outputs with room for this many octets.
 fn performed<I: Input>(
     alloc: Global,
     words: &[&str],
@@ -102,8 +102,7 @@ fn performed<I: Input>(
     })
 }
 
-/// Reads the words and does what they ask, over inputs that give so many octets at a read and outputs with
-/// room for so many.
+/// Reads the words and does what they ask, over inputs that return at most `step` octets at a read and outputs with room for `room` octets.
 pub(crate) fn outcome(
     alloc: Global,
     words: &[&str],
@@ -132,7 +131,7 @@ pub(crate) fn outcome_of_octets(
     performed(alloc, words, &mut inputs, room)
 }
 
-/// The same where the content fails once all of it was read.
+/// The same over a content that fails after all of it was read.
 pub(crate) fn outcome_of_failing(
     alloc: Global,
     words: &[&str],
@@ -147,7 +146,7 @@ pub(crate) fn outcome_of_failing(
     performed(alloc, words, &mut inputs, ROOM)
 }
 
-/// A reader that gives these octets, and then fails or ends.
+/// A reader of these octets, which then fails or ends.
 #[derive(Drop)]
 struct Breaking<'a> {
     octets: &'a [u8],
@@ -169,27 +168,27 @@ impl<'a> Read for Breaking<'a> {
     }
 }
 
-/// What a call of the program has to do.
+/// The answer that a call of the program must have.
 #[derive(Clone, Copy)]
 pub(crate) enum Answer<'a> {
-    /// Write this to `-o`, and nothing to `-O`.
+    /// It writes this to `-o`, and nothing to `-O`.
     Text(&'a str),
-    /// Write this to `-O`, and nothing to `-o`.
+    /// It writes this to `-O`, and nothing to `-o`.
     Content(&'a [u8]),
-    /// Write the first to `-o`, and the second to `-O`.
+    /// It writes the first to `-o`, and the second to `-O`.
     Both(&'a str, &'a [u8]),
-    /// Write what has this SHA-256, in base64url, to `-o`, and nothing to `-O`.
+    /// It writes octets with this SHA-256, in base64url, to `-o`, and nothing to `-O`.
     Digest(&'a [u8]),
-    /// Write what has the first to `-o`, and what has the second to `-O`.
+    /// It writes octets with the first SHA-256 to `-o`, and octets with the second to `-O`.
     Digests(&'a [u8], &'a [u8]),
-    /// Accept, and write nothing.
+    /// It succeeds, and writes nothing.
     Nothing,
-    /// Write nothing, and say this.
+    /// It writes nothing, and refuses with this cause.
     Refusal(Refusal),
 }
 
 impl<'a> Answer<'a> {
-    /// The answer where what is accepted is not written.
+    /// The answer if nothing is written on success.
     pub(crate) fn unwritten(self) -> Answer<'a> {
         match self {
             Answer::Refusal(refusal) => Answer::Refusal(refusal),
@@ -198,7 +197,7 @@ impl<'a> Answer<'a> {
     }
 }
 
-/// The words answer so, over inputs that give many octets at a read, and one.
+/// The command has this answer, over inputs that return many octets at a read and over inputs that return one.
 pub(crate) fn expect<R: Abort + AllocGlobal>(
     rt: &R,
     words: &[&str],
@@ -244,7 +243,7 @@ pub(crate) fn expect_done<R: Abort>(rt: &R, done: &Done, at: &str, answer: Answe
     }
 }
 
-/// The call ended so, and touched no output.
+/// The call had this result, and touched no output.
 fn expect_nothing<R: Abort>(rt: &R, done: &Done, answer: Result<(), Refusal>, at: &str) {
     expect_same(rt, done.result, answer, at);
     expect_written(rt, &done.text, b"", false, at);
@@ -262,14 +261,14 @@ pub(crate) fn expect_written<R: Abort>(
     expect_same(rt, output.is_finished(), is_finished, at);
 }
 
-/// The output holds a beginning of the text, and is not finished.
+/// The output holds a beginning of the text and is not finished.
 pub(crate) fn expect_beginning(rt: &impl Abort, output: &MemoryOutput, text: &[u8]) {
     let len = output.octets().len();
     assert!(rt; len <= text.len());
     expect_written(rt, output, &text[..len], false, "a beginning");
 }
 
-/// The output is finished, and holds what has this SHA-256, in base64url.
+/// The output is finished, and holds octets with this SHA-256, in base64url.
 pub(crate) fn expect_digest<R: Abort>(rt: &R, output: &MemoryOutput, wanted: &[u8], at: &str) {
     let mut octets = [0; 64];
     let len = digest(HashAlg::S256, output.octets(), &mut octets);
@@ -279,7 +278,7 @@ pub(crate) fn expect_digest<R: Abort>(rt: &R, output: &MemoryOutput, wanted: &[u
     assert!(rt; output.is_finished(), "at {at}");
 }
 
-/// The two are the same; where they are not, the message says at what. An `assert_eq!` at each place would be proved anew.
+/// The two are the same. If not, the message says at what. An `assert_eq!` at each place would be proved each time.
 pub(crate) fn expect_same<T: PartialEq + Debug + Drop, N: Debug + Drop>(
     rt: &impl Abort,
     found: T,
@@ -293,7 +292,7 @@ pub(crate) fn expect_octets(rt: &impl Abort, found: &[u8], wanted: &[u8], at: &s
     assert_eq!(rt; *found, *wanted, "at {at}");
 }
 
-/// The words answer so over a text and keys alone.
+/// The command has this answer over a text and keys alone.
 pub(crate) fn expect_text<R: Abort + AllocGlobal>(
     rt: &R,
     words: &[&str],
@@ -304,7 +303,7 @@ pub(crate) fn expect_text<R: Abort + AllocGlobal>(
     expect(rt, words, &Given::of(text, keys), answer)
 }
 
-/// What the words make of a text, a content beside it, and keys.
+/// Each row has its answer over its text, its detached content and the keys.
 pub(crate) fn expect_rows<R: Abort + AllocGlobal>(
     rt: &R,
     keys: &str,
@@ -322,7 +321,7 @@ pub(crate) fn expect_rows<R: Abort + AllocGlobal>(
     Ok(())
 }
 
-/// Verifying answers so.
+/// Verifying has this answer.
 pub(crate) fn verifies<R: Abort + AllocGlobal>(
     rt: &R,
     text: &str,
@@ -332,7 +331,7 @@ pub(crate) fn verifies<R: Abort + AllocGlobal>(
     expect_text(rt, &VERIFY, text, keys, answer)
 }
 
-/// Decrypting answers so.
+/// Decrypting has this answer.
 pub(crate) fn decrypts<R: Abort + AllocGlobal>(
     rt: &R,
     text: &str,
@@ -342,7 +341,7 @@ pub(crate) fn decrypts<R: Abort + AllocGlobal>(
     expect_text(rt, &DECRYPT, text, keys, answer)
 }
 
-/// Encrypting `LINE` answers so.
+/// Encrypting `LINE` has this answer.
 pub(crate) fn encrypts<R: Abort + AllocGlobal>(
     rt: &R,
     words: &[&str],
@@ -360,7 +359,7 @@ pub(crate) fn encrypts<R: Abort + AllocGlobal>(
     expect(rt, words, &given, answer)
 }
 
-/// By each of these templates and keys nothing is encrypted, for this cause.
+/// Encrypting with each of these templates and keys is refused with this cause.
 pub(crate) fn encrypts_nothing<R: Abort + AllocGlobal>(
     rt: &R,
     rows: &[(&str, &str, Refusal)],
@@ -372,7 +371,7 @@ pub(crate) fn encrypts_nothing<R: Abort + AllocGlobal>(
     Ok(())
 }
 
-/// What is encrypted of the content by the first words is decrypted to it by the second, with what is beside the text, if anything.
+/// The first words encrypt the content, and the second words decrypt the outcome, with the ciphertext if it is detached, to the content.
 pub(crate) fn comes_back<R: Abort + AllocGlobal>(
     rt: &R,
     encrypting: &[&str],
@@ -400,7 +399,7 @@ pub(crate) fn comes_back<R: Abort + AllocGlobal>(
     Ok(())
 }
 
-/// `LINE`, or a refusal, and this work.
+/// Decrypting ends with this result and this work. On success the plaintext is `LINE`.
 pub(crate) fn expect_work<R: Abort + AllocGlobal>(
     rt: &R,
     text: &str,
@@ -411,7 +410,7 @@ pub(crate) fn expect_work<R: Abort + AllocGlobal>(
     expect_opening(rt, text, keys, LINE, work, answer)
 }
 
-/// The plaintext, or a refusal, and this work.
+/// Decrypting ends with this result and this work. On success the plaintext is this one.
 pub(crate) fn expect_opening<R: Abort + AllocGlobal>(
     rt: &R,
     text: &str,

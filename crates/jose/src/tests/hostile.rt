@@ -1,5 +1,5 @@
-//! Texts that nobody wrote in good faith: cut off, with a bit changed, with members that were added, too deep, too long, or no text at
-//! all. Each is refused with its cause, or means what a good text means, by docs/SPECIFICATION.md.
+//! Texts that nobody wrote in good faith: cut off, with a bit changed, with added members, too deep, too long, or no text at all. Each is
+//! refused with its cause, or means what a good text means, by docs/SPECIFICATION.md.
 
 mod cut_or_changed;
 mod members;

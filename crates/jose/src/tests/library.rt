@@ -1,4 +1,4 @@
-//! Calls of the crates below, each with ample memory: what they read, build and write, and what they refuse with which cause.
+//! Calls of the crates below, each with ample memory: what they read, build and write, and the causes of their refusals.
 
 pub(crate) mod building;
 mod frames;

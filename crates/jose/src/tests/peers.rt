@@ -1,5 +1,5 @@
-//! Objects of other programs, which open here. Those that are composed with Python have stated random octets, and what is encrypted
-//! of these is the same text.
+//! Objects of other programs, which open here. The objects that are composed with Python have stated random octets, and encrypting with
+//! these octets makes the same text.
 
 mod general_form;
 mod jwcrypto;
@@ -16,7 +16,7 @@ use crate::tests::standards::rfc7516::LINE;
 use std::process::Abort;
 use std::test::Fail;
 
-/// The objects are decrypted so.
+/// Decrypting each of the objects has this answer.
 pub(crate) fn expect_each<R: Abort + AllocGlobal>(
     rt: &R,
     objects: &[(&str, &str)],
@@ -30,7 +30,7 @@ pub(crate) fn expect_each<R: Abort + AllocGlobal>(
     Ok(())
 }
 
-/// Of each template, keys and so many of the octets from 0 on `LINE` becomes this text, which the keys decrypt.
+/// Each template and keys encrypt `LINE`, with this many of the octets from 0 on, to this text, and the keys decrypt it.
 pub(crate) fn gives_and_opens<R: Abort + AllocGlobal>(
     rt: &R,
     words: &[&str],

@@ -1,4 +1,4 @@
-//! The examples and the tables of the standards, a file a standard. Every value is the standard's own, unless a line says otherwise.
+//! The examples and the tables of the standards, a file for each standard. Every value is the standard's own, unless a line says otherwise.
 
 mod gcm;
 pub(crate) mod rfc7515;

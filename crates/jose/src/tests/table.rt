@@ -1,11 +1,11 @@
-//! Prints the table of commands and the refusals, which scripts/lib/table.py reads: the pages, the documents and the
-//! completions are compared with them.
+//! Prints the table of commands and the refusals. scripts/lib/table.py reads them, and the pages, the documents and the completions are
+//! compared with them.
 use crate::files::SYSTEM_RANDOM;
 use crate::words::table::{Kind, OptionRow, Role, table};
 use octets::Refusal;
 use std::test::Fail;
 
-/// A line for each option, one for the random octets of the system, and one for each refusal.
+/// Prints a line for each option, one for the random octets of the system, and one for each refusal.
 #[test]
 fn the_table_is_printed(rt: HostRuntime) -> Result<(), Fail> {
     for row in table() {
@@ -29,7 +29,7 @@ fn the_table_is_printed(rt: HostRuntime) -> Result<(), Fail> {
     Ok(())
 }
 
-/// The name of the kind, and the value that stands where none is given.
+/// The name of the kind, and the value if none is given.
 fn kind_words(kind: Kind) -> (&'static str, &'static str) {
     match kind {
         Kind::Flag => ("flag", ""),
@@ -48,7 +48,7 @@ fn role_word(role: Role) -> &'static str {
     }
 }
 
-/// The next by its number. A refusal that is added has its place here too, or this does not compile.
+/// The next refusal by number. A refusal that is added must also be added here, or this does not compile.
 fn refusal_after(refusal: Refusal) -> Option<Refusal> {
     match refusal {
         Refusal::Usage => Some(Refusal::Read),

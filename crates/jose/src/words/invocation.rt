@@ -1,11 +1,11 @@
-//! What the program was asked to do: a command, and the options that were given or have a default.
+//! The request to the program: a command, and the options that were given or have a default.
 ghost use Rattle.std.specs.Prelude.{◌≡◌, ◌==◌, find, is_some, option_map};
 ghost use Rattle.jose.specs.Invocations.{invocation_view, value_at, hash_asked, hash_named};
 
 use crate::Command;
 use prf::HashAlg;
 
-/// An option's letter, and its value. A flag that was given has the value `true`.
+/// An option's letter and its value. A flag that was given has the value `true`.
 #[derive(Drop)]
 pub struct Setting {
     pub letter: char,
@@ -20,7 +20,7 @@ pub struct Invocation {
 }
 
 impl Invocation {
-    /// The value of the option, where it was given or has a default.
+    /// The value of the option, if it was given or has a default.
     #[tactic(auto, using(crate::proofs::Settings::value_found))]
     pub fn value(&self, letter: char) -> Option<&str>
         ensures { option_map (λ s. s.now) result ≡ value_at letter (invocation_view self.now).options }
@@ -35,7 +35,7 @@ impl Invocation {
         self.value(letter).is_some()
     }
 
-    /// The hash that `-a` names, where it names one.
+    /// The hash that `-a` names, if it names one.
     pub fn hash(&self) -> Option<HashAlg>
         ensures { result ≡ hash_asked (invocation_view self.now).options }
     {

@@ -1,5 +1,5 @@
-//! The options that the words after a command's own give, read by `clap`. It is given the command's
-//! options from the table, and knows nothing of what they name.
+//! Reading the options after a command's two words with `clap`. The command's options are passed from the table, and this module does not
+//! know what they name.
 ghost use Rattle.std.specs.Prelude.{◌≡◌, ◌++◌, [], map, string_bytes, option_map, true, false, IfOk, OnOk};
 ghost use Rattle.clap.specs.Words.{app_of, rule_of, found_of, rows_of, kind_of, is_simple_and_free};
 ghost use Rattle.octets.specs.Outcomes.{AgreesUnlessMemory};
@@ -14,7 +14,7 @@ use clap::{Arg, ArgAction, ArgMatches, Command, Error};
 use octets::Refusal;
 use std::alloc::{AllocError, Global};
 
-/// The settings that the words give, in the order of the options. `Usage` where `clap` refuses.
+/// Returns the settings that the words make, in the order of the options. Refuses with `Usage` if `clap` refuses the words.
 pub(crate) fn read_options(
     alloc: Global,
     options: &[OptionRow],
@@ -31,7 +31,7 @@ pub(crate) fn read_options(
     }
 }
 
-/// The command of `clap` with these options. Its words have no program's name, and ask for no help.
+/// The `clap` command with these options. Its words do not begin with the program's name, and it has no flag for help.
 fn command_of<'a>(alloc: Global, options: &[OptionRow]) -> Result<Command<'a>, AllocError>
     ensures { IfOk result (λ command. app_of command ≡ app_for (map option_entry options.now)) }
 {
@@ -52,7 +52,7 @@ fn argument_of(alloc: Global, option: &OptionRow) -> Arg<'static>
     taking(Arg::new(alloc, name).short(letter), kind)
 }
 
-/// The argument, which takes what options of the kind take.
+/// The argument, with the value that options of this kind have.
 fn taking(argument: Arg<'static>, kind: Kind) -> Arg<'static>
     ensures rule { rule_of result ≡ with_takes (takes_of kind) (rule_of argument.entry) }
     ensures local { result.global ≡ argument.entry.global }
@@ -65,7 +65,7 @@ fn taking(argument: Arg<'static>, kind: Kind) -> Arg<'static>
     }
 }
 
-/// Want of memory, or else the words.
+/// `Memory` if an allocation failed, and otherwise `Usage`.
 fn refusal_for(error: &Error) -> Refusal
     ensures { IsRefusalFor (kind_of error.now) result }
 {
@@ -109,7 +109,7 @@ fn add_setting(
     Ok(())
 }
 
-/// What an option was given. `clap` reads a flag that was not given as `false`.
+/// The value that an option was given. `clap` reads a flag that was not given as `false`.
 fn value_of(kind: Kind, value: Option<&str>) -> Option<&str>
     ensures { option_map (λ s. s.now) result
         ≡ value_given (takes_of kind) (option_map (λ s. s.now) value.entry) }

@@ -1,54 +1,54 @@
-//! The commands of the program, in one table: their words, and what each option takes and names.
+//! The commands of the program in one table: the words of each command, and for each option what it takes and names.
 ghost use Rattle.std.specs.Prelude.{◌≡◌, ◌==◌, find, map, option_map, true, IfSome};
 ghost use Rattle.clap.specs.Words.{is_simple_and_free};
 ghost use Rattle.jose.specs.Commands.{commands, command_named, has_words, row_of, option_with, is_input, is_output, is_json};
 ghost use Rattle.jose.specs.Rows.{command_entry, entry_of, option_entry};
 ghost use Rattle.jose.specs.Reading.{app_for};
 
-/// What the program can be asked to do.
+/// A command of the program.
 #[derive(Clone, Copy, Debug, PartialEq, Eq)]
 pub enum Command {
-    /// `jwk gen`: make a key.
+    /// `jwk gen`: makes a key.
     JwkGen,
-    /// `jwk thp`: the thumbprints of keys.
+    /// `jwk thp`: writes the thumbprints of keys.
     JwkThp,
-    /// `b64 enc`: the base64url text of octets.
+    /// `b64 enc`: writes the base64url text of octets.
     B64Enc,
-    /// `b64 dec`: the octets of a base64url text.
+    /// `b64 dec`: writes the octets of a base64url text.
     B64Dec,
-    /// `jws sig`: sign a payload.
+    /// `jws sig`: signs a payload.
     JwsSig,
-    /// `jws ver`: verify an object.
+    /// `jws ver`: verifies an object.
     JwsVer,
-    /// `jws fmt`: an object in another form.
+    /// `jws fmt`: writes an object in another form.
     JwsFmt,
-    /// `jwe enc`: encrypt a plaintext.
+    /// `jwe enc`: encrypts a plaintext.
     JweEnc,
-    /// `jwe dec`: decrypt an object.
+    /// `jwe dec`: decrypts an object.
     JweDec,
-    /// `jwe fmt`: an object in another form.
+    /// `jwe fmt`: writes an object in another form.
     JweFmt,
 }
 
-/// What an option takes.
+/// Whether an option has a value, and which one if none is given.
 #[derive(Clone, Copy)]
 pub(crate) enum Kind {
-    /// Nothing: it is there or not.
+    /// No value. The option is there or not.
     Flag,
-    /// A value, which has to be given.
+    /// A value, which must be given.
     Required,
-    /// A value.
+    /// A value, which may be absent.
     Optional,
-    /// A value, and this one where none is given.
+    /// A value, which is this one if none is given.
     Default(&'static str),
 }
 
 /// What the value of an option names. An input or an output is a file, or `-` for a standard stream.
 #[derive(Clone, Copy, PartialEq, Eq)]
 pub(crate) enum Role {
-    /// An input of JSON, which may also stand in the words.
+    /// An input of JSON. The value may also be the JSON itself.
     Json,
-    /// The same, of keys. No output may be their file.
+    /// The same for keys. No output may be their file.
     Keys,
     /// An input of octets that is read while an output is written. No output may be its file.
     Streamed,
@@ -58,15 +58,15 @@ pub(crate) enum Role {
     Output,
     /// An output for its owner alone.
     Secret,
-    /// The same, of a made key, which is on the disk at the end.
+    /// The same for a made key, which is on the disk at the end.
     MadeKey,
     /// One of the four hashes.
     Hash,
-    /// Nothing. It is a flag.
+    /// Nothing: the option is a flag.
     Nothing,
 }
 
-/// An option: its letter, a name for what it is for, what it takes, and what its value names.
+/// An option: its letter, a name that says what it is for, the value that it takes, and what the value names.
 #[derive(Clone, Copy)]
 pub(crate) struct OptionRow(
     pub(crate) char,
@@ -75,7 +75,7 @@ pub(crate) struct OptionRow(
     pub(crate) Role,
 );
 
-/// A command: the two words that pick it, and its options.
+/// A command: the two words that select it, and its options.
 #[derive(Clone, Copy)]
 pub(crate) struct CommandRow {
     pub(crate) command: Command,
@@ -224,7 +224,7 @@ impl Role {
         matches!(self, Role::Output | Role::Secret | Role::MadeKey)
     }
 
-    /// Whether it is JSON, which may stand in the words.
+    /// Whether it is JSON, which the value may be itself.
     pub(crate) fn is_json(self) -> bool
         ensures { result ≡ is_json self }
     {
@@ -233,14 +233,14 @@ impl Role {
 }
 
 impl Command {
-    /// Its option with this letter.
+    /// The command's option with this letter.
     pub(crate) fn option_at(self, letter: char) -> Option<&'static OptionRow>
         ensures { entry_of result ≡ find (λ entry. entry.letter == letter) (row_of self).options }
     {
         self.options().iter().find(|option| option.0 == letter)
     }
 
-    /// Its first option with this role.
+    /// The command's first option with this role.
     pub(crate) fn option_with(self, role: Role) -> Option<&'static OptionRow>
         ensures { entry_of result ≡ option_with role self }
     {

@@ -1,5 +1,5 @@
-//! `b64 enc` and `b64 dec`: octets and their texts by RFC 4648 section 5, and texts that are not strict. The vectors of section 10 are
-//! in crate `octets`.
+//! `b64 enc` and `b64 dec`: octets and their texts by RFC 4648 section 5, and texts that are not strict. The vectors of section 10 are in
+//! crate `octets`.
 use crate::tests::harness::{
     Answer, Given, ROOM, expect, expect_beginning, expect_same, expect_text, outcome,
 };
@@ -17,7 +17,7 @@ const ENCODED: &[(&[u8], &str)] = &[
     (b"foobar\n", "Zm9vYmFyCg"),
 ];
 
-/// The octets become this text.
+/// The octets are encoded to this text.
 fn encodes<R: Abort + AllocGlobal>(rt: &R, content: &[u8], text: &str) -> Result<(), Fail> {
     let given = Given {
         text: "",
@@ -36,12 +36,12 @@ fn octets_become_base64url(rt: HostRuntime) -> Result<(), Fail> {
     Ok(())
 }
 
-/// The text becomes these octets, or is refused before any is written.
+/// The text is decoded to these octets, or is refused before any of them is written.
 fn decodes<R: Abort + AllocGlobal>(rt: &R, text: &str, answer: Answer<'_>) -> Result<(), Fail> {
     expect_text(rt, &["b64", "dec"], text, "", answer)
 }
 
-/// These texts become so.
+/// Each of these texts is decoded or refused.
 fn decodes_each<R: Abort + AllocGlobal>(rt: &R, rows: &[(&str, Answer<'_>)]) -> Result<(), Fail> {
     for (text, answer) in rows {
         decodes(rt, text, *answer)?;
@@ -49,10 +49,10 @@ fn decodes_each<R: Abort + AllocGlobal>(rt: &R, rows: &[(&str, Answer<'_>)]) -> 
     Ok(())
 }
 
-/// Texts, and their octets.
+/// Texts and their octets.
 const DECODED: &[(&str, Answer<'_>)] = &[
     ("-_8", Answer::Content(b"\xfb\xff")),
-    // With a line's end, and without.
+    // With a line end and without.
     ("AA", Answer::Content(b"\0")),
     ("AA\n", Answer::Content(b"\0")),
     ("AA\r\n", Answer::Content(b"\0")),
@@ -86,7 +86,7 @@ fn a_text_that_is_not_strict_is_refused(rt: HostRuntime) -> Result<(), Fail> {
     decodes_each(&rt, NOT_DECODED)
 }
 
-/// Texts that are refused after some of their octets may have been written: a beginning of these.
+/// Texts that are refused after some of their octets may have been written. Those that were written are a beginning of these.
 const BROKEN: &[(&str, &[u8])] = &[
     ("AAAA!", b"\0\0\0"),
     ("AAAA\nAAAA", b"\0\0\0"),

@@ -1,5 +1,5 @@
-//! `jws fmt` and `jwe fmt`: texts in one form, and what they become in the other, with the content inside or beside them. The objects
-//! are those of RFC 7516, of Python's `hmac` and of Python's `cryptography`; their members are laid out as docs/SPECIFICATION.md says.
+//! `jws fmt` and `jwe fmt`: texts in one form and the same objects in the other form, with the content inside or detached. The objects are
+//! those of RFC 7516, of Python's `hmac` and of Python's `cryptography`. Their members are laid out as docs/SPECIFICATION.md says.
 use crate::tests::command_words::{
     COMPACT_JWE, COMPACT_JWS, ENCRYPT_COMPACT, FORMAT_JWE, FORMAT_JWS,
 };
@@ -17,7 +17,7 @@ use crate::tests::standards::rfc7516::{
 use octets::Refusal;
 use std::test::Fail;
 
-/// Commands that change the form, texts, and what these become.
+/// Commands that change the form, texts, and the answers.
 const FORMATTED: &[(&[&str], &str, Answer<'_>)] = &[
     (&FORMAT_JWS, ABC, Answer::Text(ABC_FLATTENED)),
     (&COMPACT_JWS, ABC_FLATTENED, Answer::Text(ABC)),
@@ -34,13 +34,13 @@ const FORMATTED: &[(&[&str], &str, Answer<'_>)] = &[
         ABC_WITH_HEADER,
         Answer::Refusal(Refusal::NotCompact),
     ),
-    // A list of one, with a member that is unknown.
+    // A list of one signature, with an unknown member.
     (
         &FORMAT_JWS,
         "{\"payload\":\"YWJj\",\"signatures\":[{\"protected\":\"eyJhbGciOiJIUzI1NiJ9\",\"signature\":\"sxvqVTS8XjHJPVB24OsGa2pZqgR8ZX_Ab4pTTtgI47Y\",\"x\":1}]}",
         Answer::Text(ABC_FLATTENED),
     ),
-    // Whether algorithms are supported is not asked.
+    // Algorithms need not be supported.
     (
         &FORMAT_JWS,
         "eyJhbGciOiJub25lIn0.YWJj.",
@@ -53,7 +53,7 @@ const FORMATTED: &[(&[&str], &str, Answer<'_>)] = &[
         "eyJhbGciOiJIUzI1NiJ9.YWJj",
         Answer::Refusal(Refusal::Form),
     ),
-    // An algorithm that derives a key from a password, with no parameters, with them, and with a short salt or no count.
+    // An algorithm that derives a key from a password: without parameters, with them, and with a short salt or no iterations.
     (
         &FORMAT_JWS,
         "{\"payload\":\"YWJj\",\"signature\":\"\",\"header\":{\"alg\":\"PBES2-HS256+A128KW\"}}",
@@ -76,7 +76,7 @@ const FORMATTED: &[(&[&str], &str, Answer<'_>)] = &[
         "{\"payload\":\"YWJj\",\"signature\":\"\",\"header\":{\"alg\":\"PBES2-HS256+A128KW\",\"p2s\":\"AAECAwQFBgc\",\"p2c\":0}}",
         Answer::Refusal(Refusal::Header),
     ),
-    // An algorithm that wraps a key in GCM, of a signature.
+    // An algorithm that wraps a key in GCM, in a signature.
     (
         &FORMAT_JWS,
         "{\"payload\":\"YWJj\",\"signature\":\"\",\"header\":{\"alg\":\"A128GCMKW\"}}",
@@ -94,7 +94,7 @@ const FORMATTED: &[(&[&str], &str, Answer<'_>)] = &[
             "{\"header\":{\"alg\":\"A128GCMKW\",\"iv\":\"AA\",\"tag\":\"\"},\"payload\":\"YWJj\",\"signature\":\"\"}",
         ),
     ),
-    // The same of a recipient; of another algorithm these are unknown members.
+    // The same in a recipient. With another algorithm these members are unknown.
     (
         &FORMAT_JWE,
         "{\"ciphertext\":\"\",\"unprotected\":{\"alg\":\"A128GCMKW\",\"enc\":\"A128GCM\",\"iv\":\"AA\",\"tag\":\"\"}}",
@@ -156,7 +156,7 @@ const FORMATTED: &[(&[&str], &str, Answer<'_>)] = &[
         "{\"aad\":\"YQ\",\"ciphertext\":\"\",\"protected\":\"eyJhbGciOiJkaXIiLCJlbmMiOiJBMTI4R0NNIn0\"}",
         Answer::Refusal(Refusal::NotCompact),
     ),
-    // The encrypted key in a list of one, there and beside it, and beside a list of none.
+    // The encrypted key in a list of one recipient, there and next to the list, and next to an empty list.
     (
         &FORMAT_JWE,
         "{\"ciphertext\":\"KDlTtXchhZTGufMYmOYGS4HffxPSUrfmqCHXaI9wOGY\",\"iv\":\"AxY8DCtDaGlsbGljb3RoZQ\",\"protected\":\"eyJhbGciOiJBMTI4S1ciLCJlbmMiOiJBMTI4Q0JDLUhTMjU2In0\",\"recipients\":[{\"encrypted_key\":\"6KB707dM9YTIgHtLvtgWQ8mKwboJW3of9locizkDTHzBC2IlrT1oOQ\"}],\"tag\":\"U0m_YmjN04DJvceFICbCVQ\"}",
@@ -182,7 +182,7 @@ fn objects_change_their_form(rt: HostRuntime) -> Result<(), Fail> {
     Ok(())
 }
 
-/// Texts, and what these become in JSON form and in compact form.
+/// Texts, and the answers in JSON form and in compact form.
 const FORMATTED_GCM_KEY_WRAPS: &[(&str, Answer<'_>, Answer<'_>)] = &[
     (
         BY_A128GCMKW,
@@ -217,7 +217,7 @@ fn objects_by_gcm_key_wrap_change_their_form(rt: HostRuntime) -> Result<(), Fail
     Ok(())
 }
 
-/// Signed and encrypted objects, whose content goes out beside them, or comes in so.
+/// Signed and encrypted objects whose content is detached or handed in.
 const DETACHED: &[(&[&str], &str, &[u8], Answer<'_>)] = &[
     (
         &["jws", "fmt", "-O", "beside"],

@@ -1,4 +1,5 @@
-//! `jwe dec`: objects and keys that do not open them, and why, by docs/SPECIFICATION.md. What opens stands in `standards` and `peers`.
+//! `jwe dec`: objects and keys that do not open them, with the causes, by docs/SPECIFICATION.md. The objects that open are in `standards`
+//! and `peers`.
 use crate::tests::command_words::DECRYPT;
 use crate::tests::harness::{Answer, decrypts, expect_text};
 use crate::tests::samples::with_many;
@@ -7,7 +8,7 @@ use octets::Refusal;
 use std::process::Abort;
 use std::test::Fail;
 
-/// Objects and keys that do not open them, and why.
+/// Objects, keys that do not open them, and the causes.
 const NOT_OPENED: &[(&str, &str, Refusal)] = &[
     // Another key, a key of another length, and another tag.
     (
@@ -25,13 +26,13 @@ const NOT_OPENED: &[(&str, &str, Refusal)] = &[
         RFC7516_KEY,
         Refusal::NotOpened,
     ),
-    // Additional data that were taken out.
+    // Additional data that was removed.
     (
         "{\"ciphertext\":\"KDlTtXchhZTGufMYmOYGS4HffxPSUrfmqCHXaI9wOGY\",\"encrypted_key\":\"6KB707dM9YTIgHtLvtgWQ8mKwboJW3of9locizkDTHzBC2IlrT1oOQ\",\"iv\":\"AxY8DCtDaGlsbGljb3RoZQ\",\"protected\":\"eyJhbGciOiJBMTI4S1ciLCJlbmMiOiJBMTI4Q0JDLUhTMjU2In0\",\"tag\":\"Ad4ceFwp9FUwMtpzh4qXaQ\"}",
         RFC7516_KEY,
         Refusal::NotOpened,
     ),
-    // A vector, a tag and an encrypted key of another length.
+    // An initialization vector, a tag and an encrypted key of another length.
     (
         "eyJhbGciOiJBMTI4S1ciLCJlbmMiOiJBMTI4Q0JDLUhTMjU2In0.6KB707dM9YTIgHtLvtgWQ8mKwboJW3of9locizkDTHzBC2IlrT1oOQ.AxY8DCtDaGlsbGljb3Ro.KDlTtXchhZTGufMYmOYGS4HffxPSUrfmqCHXaI9wOGY.U0m_YmjN04DJvceFICbCVQ",
         RFC7516_KEY,
@@ -70,7 +71,7 @@ const NOT_OPENED: &[(&str, &str, Refusal)] = &[
         "{\"kty\":\"oct\",\"k\":\"GawgguFyGrWKav7AX4VKUg\",\"key_ops\":[\"wrapKey\"]}",
         Refusal::KeyDoesNotFit,
     ),
-    // The forms.
+    // Texts that do not have the form.
     ("", RFC7516_KEY, Refusal::Form),
     ("a.b.c.d", RFC7516_KEY, Refusal::Form),
     (
@@ -78,7 +79,7 @@ const NOT_OPENED: &[(&str, &str, Refusal)] = &[
         RFC7516_KEY,
         Refusal::Form,
     ),
-    // The headers.
+    // Headers that are refused.
     (
         "eyJlbmMiOiJBMTI4Q0JDLUhTMjU2In0.6KB707dM9YTIgHtLvtgWQ8mKwboJW3of9locizkDTHzBC2IlrT1oOQ.AxY8DCtDaGlsbGljb3RoZQ.KDlTtXchhZTGufMYmOYGS4HffxPSUrfmqCHXaI9wOGY.U0m_YmjN04DJvceFICbCVQ",
         RFC7516_KEY,
@@ -119,7 +120,7 @@ const NOT_OPENED: &[(&str, &str, Refusal)] = &[
         RFC7516_KEY,
         Refusal::Unsupported,
     ),
-    // The keys before the object.
+    // The keys are judged before the object.
     ("", " {}", Refusal::Key),
 ];
 
@@ -131,7 +132,7 @@ fn what_does_not_open_is_told(rt: HostRuntime) -> Result<(), Fail> {
     Ok(())
 }
 
-/// What is read of an object with so many recipients before the last, which is that of RFC 7516 appendix A.4.
+/// An object with this many recipients before the last, which is that of RFC 7516 appendix A.4, has this answer.
 fn decrypts_for_last_of<R: Abort + AllocGlobal>(
     rt: &R,
     before: usize,

@@ -1,5 +1,5 @@
 //! `jwe dec`: how the parameters of a password and of AES-GCM key wrap are read (RFC 7518 sections 4.7.1 and 4.8.1), and which keys may
-//! decrypt. The objects are composed with Python's `cryptography`; the causes are by docs/SPECIFICATION.md.
+//! decrypt. The objects are composed with Python's `cryptography`. The causes are by docs/SPECIFICATION.md.
 use crate::tests::harness::{Answer, decrypts};
 use crate::tests::peers::python_gcm_key_wrap::BY_A128GCMKW;
 use crate::tests::samples::{KEY_TO_15, KEY_TO_23, PASSWORD};
@@ -51,9 +51,9 @@ fn parameters_of_a_password_are_read_strictly(rt: HostRuntime) -> Result<(), Fai
     Ok(())
 }
 
-/// Objects that are read, and what becomes of them with the key of the octets 0 to 15.
+/// Objects, and the answers with the key of the octets 0 to 15.
 const GCM_KEY_WRAP_PARAMETERS: &[(&str, Answer<'_>)] = &[
-    // Both parameters are there, wherever they stand, and once.
+    // Both parameters must be there, in any header, and only once.
     (
         "{\"ciphertext\":\"x_XH8zziydmmXstZ2MFibgI6UZhNgQ\",\"encrypted_key\":\"1VtprdSbKAFFYf9luHZuCw\",\"header\":{\"alg\":\"A128GCMKW\",\"iv\":\"MjM0NTY3ODk6Ozw9\",\"tag\":\"dSsS4sJCJrPe2EMjK05EvA\"},\"iv\":\"AAECAwQFBgcICQoL\",\"tag\":\"Q-_qQhoOmTQSdSjDppCwQw\",\"unprotected\":{\"enc\":\"A128GCM\"}}",
         Answer::Content(LINE),
@@ -90,7 +90,7 @@ const GCM_KEY_WRAP_PARAMETERS: &[(&str, Answer<'_>)] = &[
         "{\"ciphertext\":\"\",\"header\":{\"iv\":\"AAAAAAAAAAAAAAAA\"},\"unprotected\":{\"alg\":\"A128GCMKW\",\"enc\":\"A128GCM\",\"iv\":\"AAAAAAAAAAAAAAAA\",\"tag\":\"\"}}",
         Answer::Refusal(Refusal::Header),
     ),
-    // Each is a strict base64url text.
+    // Each must be a strict base64url text.
     (
         "{\"ciphertext\":\"x_XH8zziydmmXstZ2MFibgI6UZhNgQ\",\"encrypted_key\":\"1VtprdSbKAFFYf9luHZuCw\",\"iv\":\"AAECAwQFBgcICQoL\",\"tag\":\"Q-_qQhoOmTQSdSjDppCwQw\",\"unprotected\":{\"alg\":\"A128GCMKW\",\"enc\":\"A128GCM\",\"iv\":\"A\",\"tag\":\"dSsS4sJCJrPe2EMjK05EvA\"}}",
         Answer::Refusal(Refusal::Header),
@@ -175,7 +175,7 @@ const GCM_KEY_WRAP_PARAMETERS: &[(&str, Answer<'_>)] = &[
         "{\"ciphertext\":\"x_XH8zziydmmXstZ2MFibgI6UZhNgQ\",\"encrypted_key\":\"1VtprdSbKAFFYf9luHZuCw\",\"iv\":\"AAECAwQFBgcICQoL\",\"tag\":\"Q-_qQhoOmTQSdSjDppCwQw\",\"unprotected\":{\"alg\":\"A128GCMKW\",\"enc\":\"A128GCM\",\"iv\":1.5,\"tag\":\"dSsS4sJCJrPe2EMjK05EvA\"}}",
         Answer::Refusal(Refusal::Number),
     ),
-    // With another algorithm the names are not known.
+    // With another algorithm the names are unknown.
     (
         "{\"ciphertext\":\"x_XH8zziydmmXstZ2MFibgI6UZhNgQ\",\"encrypted_key\":\"EAKEbIqldnGWmjL3NmDrWNn5id1_YoLS\",\"iv\":\"AAECAwQFBgcICQoL\",\"protected\":\"eyJhbGciOiJBMTI4S1ciLCJlbmMiOiJBMTI4R0NNIiwiaXYiOjUsInRhZyI6N30\",\"tag\":\"SPyi4vFZt3_MiEqkJiVurA\"}",
         Answer::Content(LINE),
@@ -202,7 +202,7 @@ fn parameters_of_gcm_key_wrap_are_read_strictly(rt: HostRuntime) -> Result<(), F
     Ok(())
 }
 
-/// Keys that may not decrypt an object, and those that may.
+/// Keys that may not decrypt an object, and keys that may.
 const GCM_KEY_WRAP_KEYS: &[(&str, Answer<'_>)] = &[
     (KEY_TO_23, Answer::Refusal(Refusal::KeyDoesNotFit)),
     (

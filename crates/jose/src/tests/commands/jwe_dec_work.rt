@@ -1,5 +1,5 @@
-//! The work that decrypting takes and tells: iterations of PBKDF2, keys that are unwrapped, and contents that are tried, counted by
-//! hand. The objects that open are composed with Python's `hashlib` and `cryptography`.
+//! The work that decrypting does and reports: iterations of PBKDF2, keys that are unwrapped, and contents that are tried, counted by hand.
+//! The objects that open are composed with Python's `hashlib` and `cryptography`.
 use crate::tests::harness::expect_work;
 use crate::tests::peers::python_gcm_key_wrap::FOR_FOUR_KEYS;
 use crate::tests::peers::python_password::OF_A_THOUSAND;
@@ -12,7 +12,7 @@ use std::process::Abort;
 use std::test::Fail;
 use tokens::Work;
 
-/// An object, keys, the work that is told, and the result.
+/// An object, keys, the reported work, and the result.
 const WORKS_OF_PASSWORDS: &[(&str, &str, Work, Result<(), Refusal>)] = &[
     (
         "{\"ciphertext\":\"\",\"unprotected\":{\"alg\":\"PBES2-HS256+A128KW\",\"enc\":\"A128GCM\",\"p2c\":2000001,\"p2s\":\"AAECAwQFBgc\"}}",
@@ -174,7 +174,7 @@ fn the_last_key_alone_is_tried_where_it_fits(rt: HostRuntime) -> Result<(), Fail
     expect_work(&rt, FOR_THREE, KEY_TO_31, work, Ok(()))
 }
 
-/// One pair may take more than 1,000,000 iterations.
+/// One pair may need more than 1,000,000 iterations.
 #[test]
 fn a_count_above_a_million_is_tried(rt: HostRuntime) -> Result<(), Fail> {
     let work = Work {
@@ -187,14 +187,14 @@ fn a_count_above_a_million_is_tried(rt: HostRuntime) -> Result<(), Fail> {
     expect_work(&rt, text, RFC7515_KEY, work, Err(Refusal::NotOpened))
 }
 
-/// `LINE` by `PASSWORD` with 1,000,000 iterations, and with 2,000,000, of the same octets by the same program.
+/// `LINE` by `PASSWORD` with 1,000,000 iterations and with 2,000,000, from the same octets and by the same program.
 const OF_A_MILLION: &str =
     "eyJhbGciOiJQQkVTMi1IUzI1NitBMTI4S1ciLCJlbmMiOiJBMTI4Q0JDLUhTMjU2IiwicDJjIjoxMDAwMDAwLCJwMnMiOiJBQUVDQXdRRkJnY0lDUW9MREEwT0R3In0.NZCOsQGKQ8_ZnLwlW4BNH_bRaR2bPN5rhTeJDzUihvOcvX-Vy9M4EA.MDEyMzQ1Njc4OTo7PD0-Pw.ASuZZUaC35WumFsAhx41GJK62k7adf-OknNJYFNZBR8.YBLDPq27HUeFJWcVntGVkQ";
 
 const OF_TWO_MILLION: &str =
     "eyJhbGciOiJQQkVTMi1IUzI1NitBMTI4S1ciLCJlbmMiOiJBMTI4Q0JDLUhTMjU2IiwicDJjIjoyMDAwMDAwLCJwMnMiOiJBQUVDQXdRRkJnY0lDUW9MREEwT0R3In0.aCP4KtSaOyU2fH-CwQCTox5jMXfpi2LwUANY8RgjE2ngBqB-5_9V9g.MDEyMzQ1Njc4OTo7PD0-Pw.ASuZZUaC35WumFsAhx41GJK62k7adf-OknNJYFNZBR8.B6AVcKw_xjKCZieHPBoIig";
 
-/// The key opens, and so many times the same behind it are tried no more.
+/// The first key opens, and this many copies of it after it are not tried.
 fn opens_by_the_first<R: Abort + AllocGlobal>(
     rt: &R,
     text: &str,
@@ -216,21 +216,22 @@ fn five_pairs_of_a_million_are_tried(rt: HostRuntime) -> Result<(), Fail> {
     opens_by_the_first(&rt, OF_A_MILLION, 4, 1000000)
 }
 
-/// Eight pairs with the greatest count have 16,000,000 together, which is as many as may be.
+/// Eight pairs with the greatest count have `MOST_ITERATIONS` together, which is allowed.
 #[test]
 fn eight_pairs_with_the_greatest_count_are_tried(rt: HostRuntime) -> Result<(), Fail> {
     opens_by_the_first(&rt, OF_TWO_MILLION, 7, 2000000)
 }
 
-/// An object by the key of the octets 0 to 15, with its key's `iv` and `tag` in no protected header, the work that is told, and the
-/// result. Where only its own parameters are changed, the content and its additional data are those that were sealed.
+/// An object by the key of the octets 0 to 15, the reported number of openings, and the result. The `iv` and `tag` of the key wrap are not
+/// in a protected header. If only the parameters of the key wrap are changed, the content and its additional data are those that were
+/// sealed.
 const WORKS_OF_GCM_KEY_WRAP: &[(&str, u64, Result<(), Refusal>)] = &[
     (
         "{\"ciphertext\":\"x_XH8zziydmmXstZ2MFibgI6UZhNgQ\",\"encrypted_key\":\"1VtprdSbKAFFYf9luHZuCw\",\"iv\":\"AAECAwQFBgcICQoL\",\"tag\":\"Q-_qQhoOmTQSdSjDppCwQw\",\"unprotected\":{\"alg\":\"A128GCMKW\",\"enc\":\"A128GCM\",\"iv\":\"MjM0NTY3ODk6Ozw9\",\"tag\":\"dSsS4sJCJrPe2EMjK05EvA\"}}",
         1,
         Ok(()),
     ),
-    // By an `iv` of 11 octets, of 13, of 16, and of none.
+    // An `iv` of 11 octets, of 13, of 16, and of none.
     (
         "{\"ciphertext\":\"x_XH8zziydmmXstZ2MFibgI6UZhNgQ\",\"encrypted_key\":\"XJNT3GkKJptEXL1d13PzWQ\",\"iv\":\"AAECAwQFBgcICQoL\",\"tag\":\"Q-_qQhoOmTQSdSjDppCwQw\",\"unprotected\":{\"alg\":\"A128GCMKW\",\"enc\":\"A128GCM\",\"iv\":\"MjM0NTY3ODk6Ozw\",\"tag\":\"znJn8vty70D-6r8JjvH_dQ\"}}",
         0,
@@ -277,7 +278,7 @@ const WORKS_OF_GCM_KEY_WRAP: &[(&str, u64, Result<(), Refusal>)] = &[
         0,
         Err(Refusal::NotOpened),
     ),
-    // A content encryption key of 15 octets, and of 17; one that was cut; one with an octet more; and none.
+    // A content encryption key of 15 octets, one of 17, one that was cut, one with an octet added, and none.
     (
         "{\"ciphertext\":\"x_XH8zziydmmXstZ2MFibgI6UZhNgQ\",\"encrypted_key\":\"1VtprdSbKAFFYf9luHZu\",\"iv\":\"AAECAwQFBgcICQoL\",\"tag\":\"Q-_qQhoOmTQSdSjDppCwQw\",\"unprotected\":{\"alg\":\"A128GCMKW\",\"enc\":\"A128GCM\",\"iv\":\"MjM0NTY3ODk6Ozw9\",\"tag\":\"2BUJB1ZJWgB679HkwQD23Q\"}}",
         0,
@@ -339,9 +340,9 @@ fn parameters_of_wrong_lengths_do_not_open(rt: HostRuntime) -> Result<(), Fail> 
     Ok(())
 }
 
-/// An object, keys, and the work that is told.
+/// An object, keys, and the reported work.
 const WORKS_OF_SEVERAL: &[(&str, &str, Work)] = &[
-    // The key is the third of those that fit.
+    // The right key is the third of those that fit.
     (
         "{\"ciphertext\":\"x_XH8zziydmmXstZ2MFibgI6UZhNgQ\",\"encrypted_key\":\"1VtprdSbKAFFYf9luHZuCw\",\"iv\":\"AAECAwQFBgcICQoL\",\"tag\":\"Q-_qQhoOmTQSdSjDppCwQw\",\"unprotected\":{\"alg\":\"A128GCMKW\",\"enc\":\"A128GCM\",\"iv\":\"MjM0NTY3ODk6Ozw9\",\"tag\":\"dSsS4sJCJrPe2EMjK05EvA\"}}",
         "{\"keys\":[{\"kty\":\"oct\",\"k\":\"EBESExQVFhcYGRobHB0eHw\"},{\"kty\":\"oct\",\"k\":\"AQEBAQEBAQEBAQEBAQEBAQ\",\"alg\":\"A128GCMKW\"},{\"kty\":\"oct\",\"k\":\"AAECAwQFBgcICQoLDA0ODw\"}]}",
@@ -351,7 +352,7 @@ const WORKS_OF_SEVERAL: &[(&str, &str, Work)] = &[
             openings: 1,
         },
     ),
-    // The first two do not fit.
+    // The first two keys do not fit.
     (
         "{\"ciphertext\":\"x_XH8zziydmmXstZ2MFibgI6UZhNgQ\",\"encrypted_key\":\"1VtprdSbKAFFYf9luHZuCw\",\"iv\":\"AAECAwQFBgcICQoL\",\"tag\":\"Q-_qQhoOmTQSdSjDppCwQw\",\"unprotected\":{\"alg\":\"A128GCMKW\",\"enc\":\"A128GCM\",\"iv\":\"MjM0NTY3ODk6Ozw9\",\"tag\":\"dSsS4sJCJrPe2EMjK05EvA\"}}",
         "{\"keys\":[{\"kty\":\"oct\",\"k\":\"AAECAwQFBgcICQoLDA0ODw\",\"alg\":\"A128KW\"},{\"kty\":\"oct\",\"k\":\"AAECAwQFBgcICQoLDA0ODxAREhMUFRYX\"},{\"kty\":\"oct\",\"k\":\"AAECAwQFBgcICQoLDA0ODw\",\"alg\":\"A128GCMKW\"}]}",
@@ -361,7 +362,7 @@ const WORKS_OF_SEVERAL: &[(&str, &str, Work)] = &[
             openings: 1,
         },
     ),
-    // Any key may be the password; the second and the third recipient take another length.
+    // Any key may be the password. The second and the third recipient need a key of another length.
     (
         FOR_FOUR_KEYS,
         KEY_TO_31,
@@ -408,10 +409,10 @@ fn the_work_of_gcm_key_wrap_is_told_exactly(rt: HostRuntime) -> Result<(), Fail>
     Ok(())
 }
 
-/// Objects whose recipients stand twice, or have the same key: a pair that is the same as an earlier one counts as the others do. The
-/// encrypted keys are A.3's content encryption key, and 32 zero octets (Python's `cryptography`).
+/// Objects whose recipients are repeated or have the same key. A pair that is the same as an earlier one counts like the others. The
+/// encrypted keys are those of A.3's content encryption key and of 32 zero octets (Python's `cryptography`).
 const WORKS_OF_REPEATED: &[(&str, &str, Work, Result<(), Refusal>)] = &[
-    // The second encrypted key is the one that opens.
+    // The second encrypted key opens.
     (
         "{\"ciphertext\":\"KDlTtXchhZTGufMYmOYGS4HffxPSUrfmqCHXaI9wOGY\",\"iv\":\"AxY8DCtDaGlsbGljb3RoZQ\",\"protected\":\"eyJlbmMiOiJBMTI4Q0JDLUhTMjU2In0\",\"recipients\":[{\"encrypted_key\":\"BAzT9UVYzHMWop2dlZwgzEXcWtxEYB2XkUcqwR_h8pNcbxp_q8s5rA\"},{\"encrypted_key\":\"6KB707dM9YTIgHtLvtgWQ8mKwboJW3of9locizkDTHzBC2IlrT1oOQ\"}],\"tag\":\"Mz-VPPyU4RlcuYv1IwIvzw\",\"unprotected\":{\"alg\":\"A128KW\"}}",
         RFC7516_KEY,
@@ -422,7 +423,7 @@ const WORKS_OF_REPEATED: &[(&str, &str, Work, Result<(), Refusal>)] = &[
         },
         Ok(()),
     ),
-    // The third, after two that are the same.
+    // The third opens, after two that are the same.
     (
         "{\"ciphertext\":\"KDlTtXchhZTGufMYmOYGS4HffxPSUrfmqCHXaI9wOGY\",\"iv\":\"AxY8DCtDaGlsbGljb3RoZQ\",\"protected\":\"eyJlbmMiOiJBMTI4Q0JDLUhTMjU2In0\",\"recipients\":[{\"encrypted_key\":\"BAzT9UVYzHMWop2dlZwgzEXcWtxEYB2XkUcqwR_h8pNcbxp_q8s5rA\"},{\"encrypted_key\":\"BAzT9UVYzHMWop2dlZwgzEXcWtxEYB2XkUcqwR_h8pNcbxp_q8s5rA\"},{\"encrypted_key\":\"6KB707dM9YTIgHtLvtgWQ8mKwboJW3of9locizkDTHzBC2IlrT1oOQ\"}],\"tag\":\"Mz-VPPyU4RlcuYv1IwIvzw\",\"unprotected\":{\"alg\":\"A128KW\"}}",
         RFC7516_KEY,
@@ -433,7 +434,7 @@ const WORKS_OF_REPEATED: &[(&str, &str, Work, Result<(), Refusal>)] = &[
         },
         Ok(()),
     ),
-    // None, since the tag is another.
+    // None opens, since the tag is another one.
     (
         "{\"ciphertext\":\"KDlTtXchhZTGufMYmOYGS4HffxPSUrfmqCHXaI9wOGY\",\"iv\":\"AxY8DCtDaGlsbGljb3RoZQ\",\"protected\":\"eyJlbmMiOiJBMTI4Q0JDLUhTMjU2In0\",\"recipients\":[{\"encrypted_key\":\"6KB707dM9YTIgHtLvtgWQ8mKwboJW3of9locizkDTHzBC2IlrT1oOQ\"},{\"encrypted_key\":\"6KB707dM9YTIgHtLvtgWQ8mKwboJW3of9locizkDTHzBC2IlrT1oOQ\"},{\"encrypted_key\":\"BAzT9UVYzHMWop2dlZwgzEXcWtxEYB2XkUcqwR_h8pNcbxp_q8s5rA\"},{\"encrypted_key\":\"6KB707dM9YTIgHtLvtgWQ8mKwboJW3of9locizkDTHzBC2IlrT1oOQ\"}],\"tag\":\"AAAAAAAAAAAAAAAAAAAAAA\",\"unprotected\":{\"alg\":\"A128KW\"}}",
         RFC7516_KEY,
@@ -444,7 +445,7 @@ const WORKS_OF_REPEATED: &[(&str, &str, Work, Result<(), Refusal>)] = &[
         },
         Err(Refusal::NotOpened),
     ),
-    // A key that is used directly by three recipients.
+    // One key is used directly by three recipients.
     (
         "{\"ciphertext\":\"A4jazmC2o5LzKMK5cbL-eA\",\"iv\":\"AAAAAAAAAAAAAAAA\",\"recipients\":[{\"header\":{\"kid\":\"a\"}},{\"header\":{\"kid\":\"b\"}},{\"header\":{\"kid\":\"a\"}}],\"tag\":\"AAAAAAAAAAAAAAAAAAAAAA\",\"unprotected\":{\"alg\":\"dir\",\"enc\":\"A128GCM\"}}",
         "{\"kty\":\"oct\",\"k\":\"AAAAAAAAAAAAAAAAAAAAAA\"}",
@@ -455,7 +456,7 @@ const WORKS_OF_REPEATED: &[(&str, &str, Work, Result<(), Refusal>)] = &[
         },
         Err(Refusal::NotOpened),
     ),
-    // And two of them.
+    // Two keys are used directly by three recipients.
     (
         "{\"ciphertext\":\"A4jazmC2o5LzKMK5cbL-eA\",\"iv\":\"AAAAAAAAAAAAAAAA\",\"recipients\":[{\"header\":{\"kid\":\"a\"}},{\"header\":{\"kid\":\"b\"}},{\"header\":{\"kid\":\"a\"}}],\"tag\":\"AAAAAAAAAAAAAAAAAAAAAA\",\"unprotected\":{\"alg\":\"dir\",\"enc\":\"A128GCM\"}}",
         "{\"keys\":[{\"kty\":\"oct\",\"k\":\"AAAAAAAAAAAAAAAAAAAAAA\"},{\"kty\":\"oct\",\"k\":\"GawgguFyGrWKav7AX4VKUg\"}]}",

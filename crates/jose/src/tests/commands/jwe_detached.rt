@@ -1,4 +1,4 @@
-//! `jwe enc -O` and `jwe dec -I`: the ciphertext beside the text. The object is that of RFC 7516 appendix A.3.
+//! `jwe enc -O` and `jwe dec -I`: the detached ciphertext. The object is that of RFC 7516 appendix A.3.
 use crate::tests::command_words::{
     DECRYPT, DECRYPT_BESIDE, ENCRYPT_BESIDE, ENCRYPT_COMPACT_BESIDE,
 };
@@ -11,9 +11,9 @@ use crate::tests::standards::rfc7516::{
 use octets::Refusal;
 use std::test::Fail;
 
-/// Encrypted objects and ciphertexts beside them.
+/// Encrypted objects, detached ciphertexts, and the answers.
 const DECRYPTED: &[(&[&str], &str, &[u8], Answer<'_>)] = &[
-    // The ciphertext is beside the text.
+    // The ciphertext is detached.
     (
         &DECRYPT_BESIDE,
         RFC7516_A3_BESIDE,
@@ -32,7 +32,7 @@ const DECRYPTED: &[(&[&str], &str, &[u8], Answer<'_>)] = &[
         RFC7516_CIPHERTEXT,
         Answer::Content(LINE),
     ),
-    // It is not there, or another.
+    // The ciphertext is missing, or is another one.
     (
         &DECRYPT,
         RFC7516_A3_BESIDE,
@@ -51,7 +51,7 @@ const DECRYPTED: &[(&[&str], &str, &[u8], Answer<'_>)] = &[
         b"\x39\x53\xb5\x77\x21\x85\x94\xc6\xb9\xf3\x18\x98\xe6\x06\x4b\x81\xdf\x7f\x13\xd2\x52\xb7\xe6\xa8\x21\xd7\x68\x8f\x70\x38\x66",
         Answer::Refusal(Refusal::NotOpened),
     ),
-    // In both places.
+    // The ciphertext is in both places.
     (
         &DECRYPT_BESIDE,
         RFC7516_A3_FLATTENED,
@@ -64,7 +64,7 @@ const DECRYPTED: &[(&[&str], &str, &[u8], Answer<'_>)] = &[
         RFC7516_CIPHERTEXT,
         Answer::Refusal(Refusal::Form),
     ),
-    // The form before a text that is no base64url text.
+    // The form is judged before a text that is no base64url text.
     (
         &DECRYPT_BESIDE,
         "eyJhbGciOiJBMTI4S1ciLCJlbmMiOiJBMTI4Q0JDLUhTMjU2In0.6KB707dM9YTIgHtLvtgWQ8mKwboJW3of9locizkDTHzBC2IlrT1oOQ.AxY8DCtDaGlsbGljb3RoZQ.A.U0m_YmjN04DJvceFICbCVQ",
@@ -78,7 +78,7 @@ fn a_ciphertext_beside_the_text_is_decrypted(rt: HostRuntime) -> Result<(), Fail
     expect_rows(&rt, RFC7516_KEY, DECRYPTED)
 }
 
-/// Random octets, and what becomes of `LINE` by them with the ciphertext beside the text.
+/// Random octets, and the answers to encrypting `LINE` with them if the ciphertext is to be detached.
 const ENCRYPTED: &[(&[&str], &[u8], Answer<'_>)] = &[
     (
         &ENCRYPT_COMPACT_BESIDE,

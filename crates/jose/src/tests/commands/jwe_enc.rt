@@ -1,5 +1,5 @@
-//! `jwe enc`: templates and keys, one or several, by which nothing is encrypted, and why, by docs/SPECIFICATION.md. What is encrypted
-//! stands in `standards` and `peers`.
+//! `jwe enc`: templates and keys, one or several, that encrypt nothing, with the causes, by docs/SPECIFICATION.md. The objects that are
+//! encrypted are in `standards` and `peers`.
 use crate::tests::command_words::ENCRYPT_COMPACT;
 use crate::tests::harness::{Answer, encrypts, encrypts_nothing};
 use crate::tests::samples::{OCTETS_FROM_1, TEMPLATE};
@@ -7,9 +7,9 @@ use crate::tests::standards::rfc7516::{RFC7516_KEY, RFC7516_RANDOM};
 use octets::Refusal;
 use std::test::Fail;
 
-/// Templates and keys by which nothing is encrypted, and why.
+/// Templates, keys and the causes for which nothing is encrypted.
 const NOT_ENCRYPTED: &[(&str, &str, Refusal)] = &[
-    // The text, and its form.
+    // The text of the template, and its form.
     ("", RFC7516_KEY, Refusal::Json),
     ("{\"protected\":{\"x\":1.5}}", RFC7516_KEY, Refusal::Number),
     ("{\"header\":{}}", RFC7516_KEY, Refusal::Form),
@@ -83,7 +83,7 @@ const NOT_ENCRYPTED: &[(&str, &str, Refusal)] = &[
         RFC7516_KEY,
         Refusal::NoAlgorithm,
     ),
-    // Keys whose length gives no algorithm: 24 octets for `dir`, and 48 and 64 octets without an `alg`.
+    // Keys whose length implies no algorithm: 24 octets for `dir`, and 48 and 64 octets without an `alg`.
     (
         "{\"protected\":{\"alg\":\"dir\"}}",
         "{\"kty\":\"oct\",\"k\":\"AAECAwQFBgcICQoLDA0ODxAREhMUFRYX\"}",
@@ -115,7 +115,7 @@ const NOT_ENCRYPTED: &[(&str, &str, Refusal)] = &[
         Refusal::KeyDoesNotFit,
     ),
     ("{}", "{\"keys\":[{\"kty\":\"EC\"}]}", Refusal::Key),
-    // The limit.
+    // The limit of depth.
     (
         "{\"protected\":{\"x\":[[[[[[[[[[[[[[[[[[[[[[[[[[[[[[[[[[[[[[[[[[[[[[[[[[[[[[[[[[[[[[[[]]]]]]]]]]]]]]]]]]]]]]]]]]]]]]]]]]]]]]]]]]]]]]]]]]]]]]]]]]]]]]]]}}",
         RFC7516_KEY,
@@ -133,7 +133,7 @@ fn what_is_not_encrypted_is_told(rt: HostRuntime) -> Result<(), Fail> {
     encrypts_nothing(&rt, NOT_ENCRYPTED)
 }
 
-/// Templates of what a compact text has no room for.
+/// Templates of objects that compact form cannot hold.
 const NOT_COMPACT: &[&str] = &["{\"aad\":\"YQ\"}", "{\"unprotected\":{\"x\":1}}"];
 
 #[test]
@@ -153,9 +153,9 @@ fn one_random_octet_too_few_is_told(rt: HostRuntime) -> Result<(), Fail> {
     encrypts(&rt, &ENCRYPT_COMPACT, "{}", RFC7516_KEY, random, refused)
 }
 
-/// Templates and keys by which nothing is encrypted, and why.
+/// Templates, keys and the causes for which nothing is encrypted.
 const NOT_ENCRYPTED_TO_SEVERAL: &[(&str, &str, Refusal)] = &[
-    // A key that is used directly is the only one.
+    // A key that is used directly must be the only one.
     (
         "{\"protected\":{\"alg\":\"dir\"}}",
         "{\"keys\":[{\"kty\":\"oct\",\"k\":\"AAECAwQFBgcICQoLDA0ODxAREhMUFRYXGBkaGxwdHh8\"},{\"kty\":\"oct\",\"k\":\"AAECAwQFBgcICQoLDA0ODxAREhMUFRYXGBkaGxwdHh8\"}]}",
@@ -171,7 +171,7 @@ const NOT_ENCRYPTED_TO_SEVERAL: &[(&str, &str, Refusal)] = &[
         "{\"keys\":[{\"kty\":\"oct\",\"k\":\"AAECAwQFBgcICQoLDA0ODxAREhMUFRYXGBkaGxwdHh8\",\"alg\":\"dir\"},{\"kty\":\"oct\",\"k\":\"AAECAwQFBgcICQoLDA0ODw\"}]}",
         Refusal::Header,
     ),
-    // Each step is taken for every key before the next.
+    // Each step is done for every key before the next step.
     (
         "{}",
         "{\"keys\":[{\"kty\":\"oct\",\"k\":\"AAECAwQFBgcICQoLDA0ODxAREhMUFRYXGBkaGxwdHh8\",\"alg\":\"dir\"},{\"kty\":\"oct\",\"k\":\"AAAAAAAAAAAAAAAAAAAAAAAAAAA\"}]}",
@@ -202,7 +202,7 @@ const NOT_ENCRYPTED_TO_SEVERAL: &[(&str, &str, Refusal)] = &[
         "{\"keys\":[{\"kty\":\"oct\",\"k\":\"AAECAwQFBgcICQoLDA0ODw\"},{\"kty\":\"oct\",\"k\":\"AAECAwQFBgcICQoLDA0ODxAREhMUFRYXGBkaGxwdHh8\"}]}",
         Refusal::KeyDoesNotFit,
     ),
-    // The count, for whichever key is a password, and for all of them.
+    // The count of iterations, for any key that is a password, and for all of them together.
     (
         "{\"protected\":{\"p2c\":\"x\"}}",
         "{\"keys\":[{\"kty\":\"oct\",\"k\":\"AAECAwQFBgcICQoLDA0ODw\"},{\"kty\":\"oct\",\"k\":\"cGFzc3dvcmQ\",\"alg\":\"PBES2-HS256+A128KW\"}]}",

@@ -1,5 +1,5 @@
-//! `jwe enc` where the template has the parameters of a password or of AES-GCM key wrap (RFC 7518 sections 4.7.1 and 4.8.1): the counts
-//! that are written, and what is refused with which cause, by docs/SPECIFICATION.md.
+//! `jwe enc` with a template that has the parameters of a password or of AES-GCM key wrap (RFC 7518 sections 4.7.1 and 4.8.1): the counts
+//! that are written, and the causes of refusals, by docs/SPECIFICATION.md.
 use crate::tests::command_words::{ENCRYPT, ENCRYPT_COMPACT};
 use crate::tests::harness::{Answer, encrypts, encrypts_nothing};
 use crate::tests::peers::python_password::OF_A_THOUSAND;
@@ -10,7 +10,7 @@ use crate::tests::samples::{
 use octets::Refusal;
 use std::test::Fail;
 
-/// Templates whose count, or salt, is refused with a key.
+/// Templates with a count or a salt, keys, and the causes of their refusal.
 const OTHER_COUNTS: &[(&str, &str, Refusal)] = &[
     ("{\"protected\":{\"p2c\":0}}", PASSWORD_128, Refusal::Limit),
     (
@@ -80,14 +80,14 @@ fn counts_that_are_not_written_are_told(rt: HostRuntime) -> Result<(), Fail> {
     encrypts_nothing(&rt, OTHER_COUNTS)
 }
 
-/// Templates whose count is one that is written: the least, one above the greatest before 2.0.0, and the greatest.
+/// Templates with a count that is written: `LEAST_P2C`, one above the greatest before 2.0.0, and `GREATEST_P2C`.
 const COUNTS: &[&str] = &[
     "{\"protected\":{\"p2c\":1000}}",
     "{\"protected\":{\"p2c\":1000001}}",
     "{\"protected\":{\"p2c\":2000000}}",
 ];
 
-/// They are accepted, and so the random octets are read, which are one too few.
+/// The counts are accepted, and so the random octets are read, of which one is missing.
 #[test]
 fn counts_that_are_written_are_accepted(rt: HostRuntime) -> Result<(), Fail> {
     for template in COUNTS {
@@ -105,7 +105,7 @@ fn counts_that_are_written_are_accepted(rt: HostRuntime) -> Result<(), Fail> {
     Ok(())
 }
 
-/// A template and keys, among them passwords, by which something is encrypted, and how many random octets there are.
+/// A template and keys, some of them passwords, that are accepted, and the number of random octets.
 const COUNTS_TOGETHER: &[(&str, &str, usize)] = &[
     // Five passwords have 5,000,000 iterations together.
     (
@@ -113,7 +113,7 @@ const COUNTS_TOGETHER: &[(&str, &str, usize)] = &[
         "{\"keys\":[{\"kty\":\"oct\",\"k\":\"cGFzc3dvcmQ\",\"alg\":\"PBES2-HS256+A128KW\"},{\"kty\":\"oct\",\"k\":\"cGFzc3dvcmQ\",\"alg\":\"PBES2-HS256+A128KW\"},{\"kty\":\"oct\",\"k\":\"cGFzc3dvcmQ\",\"alg\":\"PBES2-HS256+A128KW\"},{\"kty\":\"oct\",\"k\":\"cGFzc3dvcmQ\",\"alg\":\"PBES2-HS256+A128KW\"},{\"kty\":\"oct\",\"k\":\"cGFzc3dvcmQ\",\"alg\":\"PBES2-HS256+A128KW\"}]}",
         127,
     ),
-    // Eight with the greatest count have 16,000,000 together, which is as many as may be; a key that is none has none.
+    // Eight passwords with the greatest count have `MOST_ITERATIONS` together, which is allowed. A key that is no password has none.
     (
         "{\"protected\":{\"p2c\":2000000}}",
         "{\"keys\":[{\"kty\":\"oct\",\"k\":\"cGFzc3dvcmQ\",\"alg\":\"PBES2-HS256+A128KW\"},{\"kty\":\"oct\",\"k\":\"AAECAwQFBgcICQoLDA0ODw\"},{\"kty\":\"oct\",\"k\":\"cGFzc3dvcmQ\",\"alg\":\"PBES2-HS384+A192KW\"},{\"kty\":\"oct\",\"k\":\"cGFzc3dvcmQ\",\"alg\":\"PBES2-HS512+A256KW\"},{\"kty\":\"oct\",\"k\":\"cGFzc3dvcmQ\",\"alg\":\"PBES2-HS256+A128KW\"},{\"kty\":\"oct\",\"k\":\"cGFzc3dvcmQ\",\"alg\":\"PBES2-HS256+A128KW\"},{\"kty\":\"oct\",\"k\":\"cGFzc3dvcmQ\",\"alg\":\"PBES2-HS256+A128KW\"},{\"kty\":\"oct\",\"k\":\"cGFzc3dvcmQ\",\"alg\":\"PBES2-HS256+A128KW\"},{\"kty\":\"oct\",\"k\":\"cGFzc3dvcmQ\",\"alg\":\"PBES2-HS256+A128KW\"}]}",
@@ -121,7 +121,7 @@ const COUNTS_TOGETHER: &[(&str, &str, usize)] = &[
     ),
 ];
 
-/// They are accepted, and so the random octets are read, which are one too few.
+/// The counts are accepted, and so the random octets are read, of which one is missing.
 #[test]
 fn passwords_may_have_many_iterations_together(rt: HostRuntime) -> Result<(), Fail> {
     let zeros = [0; 200];
@@ -133,7 +133,7 @@ fn passwords_may_have_many_iterations_together(rt: HostRuntime) -> Result<(), Fa
     Ok(())
 }
 
-/// One octet more is not read, and one too few is told.
+/// One octet too few is refused, and further octets change nothing.
 #[test]
 fn the_salt_is_drawn_first(rt: HostRuntime) -> Result<(), Fail> {
     let template = "{\"protected\":{\"p2c\":1000}}";
@@ -151,9 +151,9 @@ fn the_salt_is_drawn_first(rt: HostRuntime) -> Result<(), Fail> {
     encrypts(&rt, words, template, PASSWORD_128, OCTETS_FROM_0, answer)
 }
 
-/// Templates and keys by which nothing is encrypted, and why.
+/// Templates, keys and the causes for which nothing is encrypted.
 const OTHER_GCM_KEY_WRAPS: &[(&str, &str, Refusal)] = &[
-    // What is drawn or made does not stand in a template, whatever the algorithm.
+    // A template may not have a parameter that is drawn or made, whatever the algorithm.
     (
         "{\"protected\":{\"iv\":\"AA\"}}",
         A128GCMKW_KEY,
@@ -276,7 +276,7 @@ const OTHER_GCM_KEY_WRAPS: &[(&str, &str, Refusal)] = &[
         "{\"kty\":\"oct\",\"k\":\"AAECAwQFBgcICQoLDA0ODw\",\"alg\":\"A128GCMKW\",\"key_ops\":[\"unwrapKey\",\"encrypt\",\"deriveKey\"]}",
         Refusal::KeyDoesNotFit,
     ),
-    // A key that is used directly is the only one.
+    // A key that is used directly must be the only one.
     (
         "{}",
         "{\"keys\":[{\"kty\":\"oct\",\"k\":\"AAECAwQFBgcICQoLDA0ODw\",\"alg\":\"A128GCMKW\"},{\"kty\":\"oct\",\"k\":\"AAECAwQFBgcICQoLDA0ODw\",\"alg\":\"A128GCM\"}]}",

@@ -1,11 +1,11 @@
-//! `jwk gen`: templates, and the keys that are made of given random octets or the cause of their refusal, by docs/SPECIFICATION.md.
+//! `jwk gen`: templates, and the keys that are made from given random octets, or the causes of refusals, by docs/SPECIFICATION.md.
 use crate::tests::harness::{Answer, Given, expect};
 use crate::tests::samples::{MADE_KEY, octets_from_0};
 use octets::Refusal;
 use std::process::Abort;
 use std::test::Fail;
 
-/// Making keys by these templates, from so many of the octets from 0 on, answers so.
+/// Making keys by these templates, from this many of the octets from 0 on, has these answers.
 fn makes_each<R: Abort + AllocGlobal>(
     rt: &R,
     len: usize,
@@ -23,7 +23,7 @@ fn makes_each<R: Abort + AllocGlobal>(
     Ok(())
 }
 
-/// Templates, and their keys.
+/// Templates and their keys.
 const TEMPLATES: &[(&str, Answer<'_>)] = &[
     ("{\"alg\":\"A128KW\"}", Answer::Text(MADE_KEY)),
     (
@@ -43,9 +43,9 @@ fn a_key_is_made_by_its_template(rt: HostRuntime) -> Result<(), Fail> {
     makes_each(&rt, 16, TEMPLATES)
 }
 
-/// Templates by which no key is made.
+/// Templates that make no key.
 const OTHER_TEMPLATES: &[(&str, Answer<'_>)] = &[
-    // Octets that are not there, and no size.
+    // Too few random octets, and no size.
     ("{\"bytes\":17}", Answer::Refusal(Refusal::Random)),
     ("{}", Answer::Refusal(Refusal::NoAlgorithm)),
     ("{\"alg\":\"dir\"}", Answer::Refusal(Refusal::NoAlgorithm)),
@@ -56,7 +56,7 @@ const OTHER_TEMPLATES: &[(&str, Answer<'_>)] = &[
     ),
     ("{\"alg\":\"RS256\"}", Answer::Refusal(Refusal::Unsupported)),
     ("{\"bytes\":4097}", Answer::Refusal(Refusal::Limit)),
-    // Templates that are none.
+    // Templates that are not good.
     ("{\"bytes\":0}", Answer::Refusal(Refusal::Key)),
     ("{\"k\":\"AA\"}", Answer::Refusal(Refusal::Key)),
     ("{\"kty\":\"EC\"}", Answer::Refusal(Refusal::Key)),
@@ -67,7 +67,7 @@ fn the_first_cause_refuses_a_key_template(rt: HostRuntime) -> Result<(), Fail> {
     makes_each(&rt, 16, OTHER_TEMPLATES)
 }
 
-/// Templates of keys, and their keys of the octets 0, 1, 2 and on, or their refusals.
+/// Templates of keys, and their keys from the octets 0, 1, 2 and on, or their refusals.
 const GCM_KEY_WRAP_TEMPLATES: &[(&str, Answer<'_>)] = &[
     (
         "{\"alg\":\"A128GCMKW\"}",

@@ -20,7 +20,7 @@ const THUMBPRINTS: &str =
 const MANY: &str =
     "{\"keys\":[{},{},{},{},{},{},{},{},{},{},{},{},{},{},{},{},{},{},{},{},{},{},{},{},{},{},{},{},{},{},{},{},{},{},{},{},{},{},{},{},{},{},{},{},{},{},{},{},{},{},{},{},{},{},{},{},{},{},{},{},{},{},{},{},{}]}";
 
-/// Naming these keys answers so.
+/// `jwk thp` of these keys has these answers.
 fn names_each<R: Abort + AllocGlobal>(rt: &R, rows: &[(&str, Answer<'_>)]) -> Result<(), Fail> {
     for (text, answer) in rows {
         expect_text(rt, &["jwk", "thp"], text, "", *answer)?;
@@ -46,7 +46,7 @@ fn keys_are_named_by_their_thumbprints(rt: HostRuntime) -> Result<(), Fail> {
     names_each(&rt, KEYS)
 }
 
-/// Naming `MADE_KEY` by these hashes answers so.
+/// `jwk thp` of `MADE_KEY` by these hashes has these answers.
 fn names_by_each<R: Abort + AllocGlobal>(rt: &R, rows: &[(&str, Answer<'_>)]) -> Result<(), Fail> {
     for (hash, answer) in rows {
         expect_text(rt, &["jwk", "thp", "-a", hash], MADE_KEY, "", *answer)?;

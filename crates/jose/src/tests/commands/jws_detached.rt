@@ -1,4 +1,4 @@
-//! `jws sig -O` and `jws ver -I`: the payload beside the text. The signatures are by Python's `hmac`.
+//! `jws sig -O` and `jws ver -I`: the detached payload. The signatures are by Python's `hmac`.
 use crate::tests::command_words::{
     CHECK_ALL_BESIDE, CHECK_BESIDE, SIGN_BESIDE, SIGN_COMPACT_BESIDE, VERIFY, VERIFY_ALL_BESIDE,
     VERIFY_BESIDE,
@@ -12,9 +12,9 @@ use crate::tests::standards::rfc7515::RFC7515_KEY;
 use octets::Refusal;
 use std::test::Fail;
 
-/// Signed objects and payloads beside them.
+/// Signed objects, detached payloads, and the answers.
 const VERIFIED: &[(&[&str], &str, &[u8], Answer<'_>)] = &[
-    // The payload is beside the text, in each form.
+    // The payload is detached, in each form.
     (&VERIFY_BESIDE, ABC_BESIDE, b"abc", Answer::Content(b"abc")),
     (
         &VERIFY_BESIDE,
@@ -35,7 +35,7 @@ const VERIFIED: &[(&[&str], &str, &[u8], Answer<'_>)] = &[
         b"abc",
         Answer::Content(b"abc"),
     ),
-    // Another payload, or none.
+    // The payload is another one, or is missing.
     (
         &VERIFY_BESIDE,
         ABC_BESIDE,
@@ -66,7 +66,7 @@ const VERIFIED: &[(&[&str], &str, &[u8], Answer<'_>)] = &[
         b"abc",
         Answer::Refusal(Refusal::Form),
     ),
-    // In both places, or of another type.
+    // The payload is in both places, or is of another type.
     (&VERIFY_BESIDE, ABC, b"abc", Answer::Refusal(Refusal::Form)),
     (
         &VERIFY_BESIDE,
@@ -86,7 +86,7 @@ const VERIFIED: &[(&[&str], &str, &[u8], Answer<'_>)] = &[
         b"abc",
         Answer::Refusal(Refusal::Form),
     ),
-    // An empty payload beside the text.
+    // The detached payload is empty.
     (&VERIFY_BESIDE, EMPTY_SIGNED, b"", Answer::Content(b"")),
 ];
 
@@ -123,7 +123,7 @@ fn each_key_signed_a_payload_beside_the_text(rt: HostRuntime) -> Result<(), Fail
     expect(&rt, &CHECK_ALL_BESIDE, &given, Answer::Nothing)
 }
 
-/// Templates and payloads, and what becomes of them with the payload beside the text.
+/// Templates and payloads, and the answers if the payload is to be detached.
 const SIGNED: &[(&[&str], &str, &[u8], Answer<'_>)] = &[
     (
         &SIGN_COMPACT_BESIDE,
@@ -146,14 +146,14 @@ const SIGNED: &[(&[&str], &str, &[u8], Answer<'_>)] = &[
             b"abc",
         ),
     ),
-    // An empty payload is a file too.
+    // An empty payload is written too.
     (
         &SIGN_COMPACT_BESIDE,
         TEMPLATE,
         b"",
         Answer::Both(EMPTY_SIGNED, b""),
     ),
-    // What is refused leaves both outputs as they are.
+    // A refusal leaves both outputs as they are.
     (
         &SIGN_COMPACT_BESIDE,
         "{\"protected\":{\"alg\":\"HS1\"}}",

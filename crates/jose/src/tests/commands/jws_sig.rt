@@ -1,5 +1,4 @@
-//! `jws sig`: templates, keys and payloads, and the texts that are signed or the cause of a refusal. The signatures are by Python's
-//! `hmac`.
+//! `jws sig`: templates, keys and payloads, and the signed texts or the causes of refusals. The signatures are by Python's `hmac`.
 use crate::tests::command_words::{SIGN, SIGN_COMPACT};
 use crate::tests::harness::{Answer, Given, expect};
 use crate::tests::samples::{
@@ -11,7 +10,7 @@ use octets::Refusal;
 use std::process::Abort;
 use std::test::Fail;
 
-/// Signing answers so.
+/// Signing has this answer.
 pub(crate) fn signs<R: Abort + AllocGlobal>(
     rt: &R,
     words: &[&str],
@@ -29,7 +28,7 @@ pub(crate) fn signs<R: Abort + AllocGlobal>(
     expect(rt, words, &given, answer)
 }
 
-/// Signing `abc` by these templates and keys answers so.
+/// Signing `abc` by these templates and keys has these answers.
 fn signs_each<R: Abort + AllocGlobal>(
     rt: &R,
     words: &[&str],
@@ -41,10 +40,10 @@ fn signs_each<R: Abort + AllocGlobal>(
     Ok(())
 }
 
-/// Keys, and what becomes of `abc` with them.
+/// Keys, and the answers to signing `abc` with them.
 const SIGNING_KEYS: &[(&str, &str, Answer<'_>)] = &[
     (TEMPLATE, RFC7515_KEY, Answer::Text(ABC)),
-    // A key of 32 octets, and one longer than a block.
+    // A key of 32 octets, and one that is longer than a block.
     (
         TEMPLATE,
         KEY_TO_31,
@@ -55,7 +54,7 @@ const SIGNING_KEYS: &[(&str, &str, Answer<'_>)] = &[
         "{\"kty\":\"oct\",\"k\":\"AAECAwQFBgcICQoLDA0ODxAREhMUFRYXGBkaGxwdHh8gISIjJCUmJygpKissLS4vMDEyMzQ1Njc4OTo7PD0-P0A\"}",
         Answer::Text("eyJhbGciOiJIUzI1NiJ9.YWJj.uTfEuQvH481MLgjPJrpBC1vCLhpciEhwl1GsndL-fB0"),
     ),
-    // One of 31, and one that may only verify.
+    // A key of 31 octets, and one that may only verify.
     (TEMPLATE, KEY_TO_30, Answer::Refusal(Refusal::KeyDoesNotFit)),
     (
         TEMPLATE,
@@ -71,7 +70,7 @@ fn a_payload_is_signed_by_its_template(rt: HostRuntime) -> Result<(), Fail> {
 
 /// Templates without an `alg`.
 const WITHOUT_ALGORITHM: &[(&str, &str, Answer<'_>)] = &[
-    // Without an `alg` in the template, that of the key decides, and then its length.
+    // Without an `alg` in the template, the key's `alg` decides, and otherwise its length.
     (
         "{}",
         KEY_TO_31,
@@ -116,7 +115,7 @@ fn the_key_decides_where_the_template_has_no_algorithm(rt: HostRuntime) -> Resul
     signs_each(&rt, &SIGN_COMPACT, WITHOUT_ALGORITHM)
 }
 
-/// Keys without an `alg` by their lengths, just below and at each border: the length gives the algorithm.
+/// Keys without an `alg`, with lengths just below and at each border. The length implies the algorithm.
 const BY_LENGTH: &[(&str, &str, Answer<'_>)] = &[
     (
         "{}",
@@ -160,7 +159,7 @@ fn the_length_of_a_key_gives_the_longest_hash_that_fits(rt: HostRuntime) -> Resu
 
 /// Templates with a header that is not protected.
 const WITH_HEADER: &[(&str, &str, Answer<'_>)] = &[
-    // A header beside the protected one.
+    // A header next to the protected one.
     (
         "{\"protected\":{\"alg\":\"HS256\"},\"header\":{}}",
         RFC7515_KEY,
@@ -198,9 +197,9 @@ fn a_compact_token_has_its_protected_header_alone(rt: HostRuntime) -> Result<(),
     signs_each(&rt, &SIGN_COMPACT, WITH_HEADER)
 }
 
-/// Templates of objects and lists in one another.
+/// Templates with nested objects and lists.
 const DEEP: &[(&str, &str, Answer<'_>)] = &[
-    // Headers of 64 and of 65 objects and lists in one another.
+    // Headers with 64 and with 65 objects and lists inside one another.
     (
         "{\"protected\":{\"alg\":\"HS256\",\"x\":[[[[[[[[[[[[[[[[[[[[[[[[[[[[[[[[[[[[[[[[[[[[[[[[[[[[[[[[[[[[[[[]]]]]]]]]]]]]]]]]]]]]]]]]]]]]]]]]]]]]]]]]]]]]]]]]]]]]]]]]]]]]]]}}",
         RFC7515_KEY,
@@ -227,7 +226,7 @@ fn a_header_has_64_objects_and_lists_in_one_another(rt: HostRuntime) -> Result<(
 
 /// Sets of keys.
 const SIGNING_SETS: &[(&str, &str, Answer<'_>)] = &[
-    // Sets: one key signs in compact form, and all are good.
+    // In compact form one key signs, and all keys of a set must be good.
     (
         TEMPLATE,
         "{\"keys\":[{\"kty\":\"oct\",\"k\":\"AyM1SysPpbyDfgZld3umj1qzKObwVMkoqQ-EstJQLr_T-1qS0gZH75aKtMN3Yj0iPS4hcgUuTwjAzZr1Z9CAow\"}]}",
@@ -250,9 +249,9 @@ fn one_key_signs_in_compact_form(rt: HostRuntime) -> Result<(), Fail> {
     signs_each(&rt, &SIGN_COMPACT, SIGNING_SETS)
 }
 
-/// Templates and keys that are refused, and for which cause first.
+/// Templates and keys that are refused, with the first cause.
 const OTHER_TEMPLATES: &[(&str, &str, Answer<'_>)] = &[
-    // Keys before templates, templates before what a key allows.
+    // The keys are judged before the template, and the template before what a key allows.
     ("", "[]", Answer::Refusal(Refusal::Key)),
     ("", RFC7515_KEY, Answer::Refusal(Refusal::Json)),
     (
@@ -292,7 +291,7 @@ fn the_first_cause_refuses_a_signing_template(rt: HostRuntime) -> Result<(), Fai
     signs_each(&rt, &SIGN_COMPACT, OTHER_TEMPLATES)
 }
 
-/// Templates and keys, and what becomes of `abc` with them in JSON form.
+/// Templates and keys, and the answers to signing `abc` with them in JSON form.
 const SIGNED_JSON: &[(&str, &str, Answer<'_>)] = &[
     ("{}", TWO_KEYS, Answer::Text(ABC_GENERAL)),
     (TEMPLATE, RFC7515_KEY, Answer::Text(ABC_FLATTENED)),
@@ -308,7 +307,7 @@ const SIGNED_JSON: &[(&str, &str, Answer<'_>)] = &[
             "{\"payload\":\"YWJj\",\"protected\":\"eyJhbGciOiJIUzM4NCJ9\",\"signature\":\"QLbFgP6fKlfCOLCO34g5kBFbPDrRErHpKeUNyWtNUbiwewfrJP4nRoHt1Iiz6o4I\"}",
         ),
     ),
-    // The template's header is that of each signature.
+    // The template's header becomes that of each signature.
     (
         "{\"header\":{\"kid\":\"x\"}}",
         RFC7515_KEY,
@@ -323,7 +322,7 @@ const SIGNED_JSON: &[(&str, &str, Answer<'_>)] = &[
             "{\"payload\":\"YWJj\",\"signatures\":[{\"header\":{\"kid\":\"x\"},\"protected\":\"eyJhbGciOiJIUzUxMiJ9\",\"signature\":\"ScK1f_2owqwH0tMhgpVtvopDQ1GhlP2zxdgv400w_wSEXHxwOM2XkeStAhVFb6moKzeC1Z0H00YC8-EWsv84Wg\"},{\"header\":{\"kid\":\"x\"},\"protected\":\"eyJhbGciOiJIUzI1NiJ9\",\"signature\":\"8-sUlaJJTTOyeAYgv-kHNN9tT55A-tUCHOYatGHTJa0\"}]}",
         ),
     ),
-    // The causes over all keys, each before the next: no algorithm, and a key that does not fit.
+    // The causes over all keys, each before the next: no algorithm, and then a key that does not fit.
     (
         "{}",
         KEY_AND_SMALL_KEY,

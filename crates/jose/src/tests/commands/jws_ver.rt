@@ -1,5 +1,4 @@
-//! `jws ver` of compact tokens: what verifies with which keys, and what is refused with which cause. The signatures are by Python's
-//! `hmac`.
+//! `jws ver` of compact tokens: which keys verify which tokens, and the causes of refusals. The signatures are by Python's `hmac`.
 use crate::tests::command_words::SIGN_COMPACT;
 use crate::tests::commands::jws_sig::signs;
 use crate::tests::harness::{Answer, verifies};
@@ -9,7 +8,7 @@ use octets::Refusal;
 use std::process::Abort;
 use std::test::Fail;
 
-/// Verifying with `RFC7515_KEY` answers so.
+/// Verifying these texts with `RFC7515_KEY` has these answers.
 fn verifies_each<R: Abort + AllocGlobal>(rt: &R, rows: &[(&str, Answer<'_>)]) -> Result<(), Fail> {
     for (text, answer) in rows {
         verifies(rt, text, RFC7515_KEY, *answer)?;
@@ -22,7 +21,7 @@ const VERIFIED_TOKENS: &[(&str, Answer<'_>)] = &[
     (ABC, Answer::Content(b"abc")),
     // An empty payload.
     (EMPTY_SIGNED, Answer::Content(b"")),
-    // Members that are not known, white space, and a name that comes twice: the last one counts.
+    // Unknown members, white space, and a name that comes twice, of which the last one counts.
     (
         "eyJ0eXAiOiJKV1QiLCJhbGciOiJIUzI1NiIsIngiOlsxLHsieSI6bnVsbH1dfQ.YWJj.VhFkszcfYbcs-ts3pLuv6uyLvCZXrBZ5dWHr388Jj_g",
         Answer::Content(b"abc"),
@@ -35,7 +34,7 @@ const VERIFIED_TOKENS: &[(&str, Answer<'_>)] = &[
         "eyJhbGciOiJub25lIiwiYWxnIjoiSFMyNTYifQ.YWJj.KrHGDLe8WG112iYP7SuohWclGysCs2_dHvkX-2d8AJ8",
         Answer::Content(b"abc"),
     ),
-    // Of a signed object `zip` is a member that is not known.
+    // In a signed object `zip` is an unknown member.
     (
         "eyJhbGciOiJIUzI1NiIsInppcCI6IkRFRiJ9.YWJj.dOXzdgcPTfkkuF4IySuV4nk6gvwW39vS973ZDi64Iko",
         Answer::Content(b"abc"),
@@ -47,14 +46,14 @@ fn a_token_verifies_with_its_key(rt: HostRuntime) -> Result<(), Fail> {
     verifies_each(&rt, VERIFIED_TOKENS)
 }
 
-/// Tokens with another signature, or with none.
+/// Tokens with another signature, or without one.
 const OTHER_SIGNATURES: &[(&str, Answer<'_>)] = &[
     // The signature of another key.
     (
         "eyJhbGciOiJIUzI1NiJ9.YWJj.8-sUlaJJTTOyeAYgv-kHNN9tT55A-tUCHOYatGHTJa0",
         Answer::Refusal(Refusal::NotOpened),
     ),
-    // No signature, a part of it, and an octet more.
+    // No signature, a part of one, and one with an extra octet.
     (
         "eyJhbGciOiJIUzI1NiJ9.YWJj.",
         Answer::Refusal(Refusal::NotOpened),
@@ -82,9 +81,9 @@ fn no_other_signature_verifies(rt: HostRuntime) -> Result<(), Fail> {
     verifies_each(&rt, OTHER_SIGNATURES)
 }
 
-/// Texts that are not of the form, and parts that are not base64url.
+/// Texts that do not have the form, and parts that are not base64url.
 const OTHER_TEXTS: &[(&str, Answer<'_>)] = &[
-    // Not three parts, and JSON forms.
+    // Texts that do not have three parts, and JSON forms.
     ("", Answer::Refusal(Refusal::Form)),
     ("eyJhbGciOiJIUzI1NiJ9.", Answer::Refusal(Refusal::Form)),
     (
@@ -108,7 +107,6 @@ fn the_form_refuses_a_text_first(rt: HostRuntime) -> Result<(), Fail> {
 
 /// Tokens whose protected headers are refused.
 const OTHER_HEADERS: &[(&str, Answer<'_>)] = &[
-    // The protected header.
     ("eyJhbGciOiJIUzI1NiI.YWJj.", Answer::Refusal(Refusal::Json)),
     (
         "eyJhbGciOiJIUzI1NiIsIngiOiL_In0.YWJj.",
@@ -138,9 +136,9 @@ fn the_protected_header_refuses_a_token(rt: HostRuntime) -> Result<(), Fail> {
     verifies_each(&rt, OTHER_HEADERS)
 }
 
-/// Tokens whose critical members or algorithms are refused.
+/// Tokens with critical members and with other algorithms, and the answers.
 const OTHER_ALGORITHMS: &[(&str, Answer<'_>)] = &[
-    // Critical members, whatever they hold, and algorithms.
+    // Critical members are refused whatever they hold. An algorithm is refused unless it is supported.
     (
         "eyJhbGciOiJIUzI1NiIsImNyaXQiOlsiYjY0Il0sImI2NCI6ZmFsc2V9.YWJj.YOc_Yp_bCBLqNL9bes6HMEsudbtomO-BIJU-BhOgFbo",
         Answer::Refusal(Refusal::Unsupported),
@@ -168,7 +166,7 @@ fn the_algorithm_decides_of_a_token(rt: HostRuntime) -> Result<(), Fail> {
     verifies_each(&rt, OTHER_ALGORITHMS)
 }
 
-/// Verifying `ABC` with these keys answers so.
+/// Verifying `ABC` with these keys has these answers.
 fn verifies_with_each<R: Abort + AllocGlobal>(
     rt: &R,
     rows: &[(&str, Answer<'_>)],
@@ -179,7 +177,7 @@ fn verifies_with_each<R: Abort + AllocGlobal>(
     Ok(())
 }
 
-/// Keys, and what `ABC` is with them.
+/// Keys, and the answers to verifying `ABC` with them.
 const SINGLE_KEYS: &[(&str, Answer<'_>)] = &[
     (
         "{\"kty\":\"oct\",\"k\":\"AyM1SysPpbyDfgZld3umj1qzKObwVMkoqQ-EstJQLr_T-1qS0gZH75aKtMN3Yj0iPS4hcgUuTwjAzZr1Z9CAow\",\"alg\":\"HS256\",\"use\":\"sig\",\"key_ops\":[\"sign\",\"verify\"],\"kid\":\"x\",\"y\":1}",
@@ -211,7 +209,7 @@ fn a_key_decides_after_the_token_is_read(rt: HostRuntime) -> Result<(), Fail> {
     verifies_with_each(&rt, SINGLE_KEYS)
 }
 
-/// Sets of keys, and what `ABC` is with them.
+/// Sets of keys, and the answers to verifying `ABC` with them.
 const SETS: &[(&str, Answer<'_>)] = &[
     // Some key of a set, and objects that are no keys.
     (
@@ -243,7 +241,6 @@ fn a_set_decides_after_the_token_is_read(rt: HostRuntime) -> Result<(), Fail> {
 
 /// Texts that are no keys.
 const OTHER_KEYS: &[(&str, Answer<'_>)] = &[
-    // Not a key.
     ("", Answer::Refusal(Refusal::Json)),
     (
         "{\"kty\":\"oct\",\"k\":\"AA\",\"x\":-0.5}",
@@ -276,7 +273,7 @@ fn a_bad_key_is_told_before_a_bad_token(rt: HostRuntime) -> Result<(), Fail> {
     verifies(&rt, "", "[]", Answer::Refusal(Refusal::Key))
 }
 
-/// What the program shows first: a document, its token, the token changed, and another key.
+/// A first example of the program: a document, its token, the changed token, and another key.
 #[test]
 fn a_document_is_signed_and_verified(rt: HostRuntime) -> Result<(), Fail> {
     let document = b"service: web\nreplicas: 3\nimage: registry.example/web:17\n";

@@ -14,7 +14,7 @@ use std::alloc::{AllocError, Global};
 use std::process::Abort;
 use std::test::Fail;
 
-/// Objects and keys, what some of these verify, and what all do.
+/// Objects and keys, the answer if some key must verify, and the answer if all must.
 const VERIFIED: &[(&str, &str, Answer<'_>, Answer<'_>)] = &[
     (
         ABC_GENERAL,
@@ -46,7 +46,7 @@ const VERIFIED: &[(&str, &str, Answer<'_>, Answer<'_>)] = &[
         Answer::Content(b"abc"),
         Answer::Content(b"abc"),
     ),
-    // Of two keys one made a signature, and the other made none or cannot.
+    // One of two keys made a signature. The other made none, or cannot make one.
     (
         ABC,
         TWO_LONG_KEYS,
@@ -65,7 +65,7 @@ const VERIFIED: &[(&str, &str, Answer<'_>, Answer<'_>)] = &[
         Answer::Content(b"abc"),
         Answer::Refusal(Refusal::NotOpened),
     ),
-    // Keys with an algorithm of another name, and none that may verify.
+    // A key that made neither signature, and a key that fits neither algorithm.
     (
         ABC_GENERAL,
         KEY_TO_47,
@@ -78,7 +78,7 @@ const VERIFIED: &[(&str, &str, Answer<'_>, Answer<'_>)] = &[
         Answer::Refusal(Refusal::KeyDoesNotFit),
         Answer::Refusal(Refusal::KeyDoesNotFit),
     ),
-    // The first algorithm is not supported, and neither is.
+    // The first algorithm is not supported, and then neither is.
     (
         "{\"payload\":\"YWJj\",\"signatures\":[{\"protected\":\"eyJhbGciOiJSUzI1NiJ9\",\"signature\":\"AA\"},{\"protected\":\"eyJhbGciOiJIUzI1NiJ9\",\"signature\":\"8-sUlaJJTTOyeAYgv-kHNN9tT55A-tUCHOYatGHTJa0\"}]}",
         TWO_KEYS,
@@ -91,7 +91,7 @@ const VERIFIED: &[(&str, &str, Answer<'_>, Answer<'_>)] = &[
         Answer::Refusal(Refusal::Unsupported),
         Answer::Refusal(Refusal::Unsupported),
     ),
-    // Of three algorithms the first is not supported, and each key made one of the others; or one key made none.
+    // Of three algorithms, the first is not supported. Each key made one of the other signatures. Then one key made none.
     (
         "{\"payload\":\"YWJj\",\"signatures\":[{\"protected\":\"eyJhbGciOiJSUzI1NiJ9\",\"signature\":\"AA\"},{\"protected\":\"eyJhbGciOiJIUzUxMiJ9\",\"signature\":\"ScK1f_2owqwH0tMhgpVtvopDQ1GhlP2zxdgv400w_wSEXHxwOM2XkeStAhVFb6moKzeC1Z0H00YC8-EWsv84Wg\"},{\"protected\":\"eyJhbGciOiJIUzI1NiJ9\",\"signature\":\"8-sUlaJJTTOyeAYgv-kHNN9tT55A-tUCHOYatGHTJa0\"}]}",
         TWO_KEYS,
@@ -104,14 +104,14 @@ const VERIFIED: &[(&str, &str, Answer<'_>, Answer<'_>)] = &[
         Answer::Content(b"abc"),
         Answer::Refusal(Refusal::NotOpened),
     ),
-    // A `crit` of the second signature.
+    // The second signature has a `crit`.
     (
         "{\"payload\":\"YWJj\",\"signatures\":[{\"protected\":\"eyJhbGciOiJIUzI1NiJ9\",\"signature\":\"8-sUlaJJTTOyeAYgv-kHNN9tT55A-tUCHOYatGHTJa0\"},{\"protected\":\"eyJhbGciOiJIUzI1NiIsImNyaXQiOlsieCJdfQ\",\"signature\":\"AA\"}]}",
         KEY_TO_31,
         Answer::Refusal(Refusal::Unsupported),
         Answer::Refusal(Refusal::Unsupported),
     ),
-    // An algorithm that derives a key from a password, with no parameters, with them, and with a short salt or no count.
+    // An algorithm that derives a key from a password: without parameters, with them, and with a short salt or no iterations.
     (
         "{\"payload\":\"YWJj\",\"signature\":\"\",\"header\":{\"alg\":\"PBES2-HS256+A128KW\"}}",
         TWO_KEYS,
@@ -136,7 +136,7 @@ const VERIFIED: &[(&str, &str, Answer<'_>, Answer<'_>)] = &[
         Answer::Refusal(Refusal::Header),
         Answer::Refusal(Refusal::Header),
     ),
-    // An algorithm that wraps a key in GCM, with no parameters, with one, with both, and with one that is no base64url text.
+    // An algorithm that wraps a key in GCM: without parameters, with one, with both, and with one that is no base64url text.
     (
         "{\"payload\":\"YWJj\",\"signature\":\"\",\"header\":{\"alg\":\"A128GCMKW\"}}",
         TWO_KEYS,
@@ -195,7 +195,7 @@ fn without_payload(alloc: Global, text: &str) -> Result<String, AllocError> {
     Ok(beside)
 }
 
-/// With the payload beside the text the answers are these, whether it is written or not, and whatever the inputs give at a read.
+/// With a detached payload the answers are these, whether it is written or not, and however many octets the inputs return at a read.
 fn expect_beside<R: Abort + AllocGlobal>(
     rt: &R,
     text: &str,
@@ -224,7 +224,7 @@ fn some_keys_verify_a_payload_beside_the_text_or_all(rt: HostRuntime) -> Result<
     Ok(())
 }
 
-/// What is read of an object with so many signatures before the last, which is that of `ABC`.
+/// An object with this many signatures before the last, which is that of `ABC`, has this answer.
 fn verifies_last_of<R: Abort + AllocGlobal>(
     rt: &R,
     before: usize,

@@ -1,5 +1,5 @@
-//! What stands before and after a text of `jws ver` and `jwe dec`: one line end after a compact text, and white space before a text in
-//! JSON form. The objects are those of RFC 7516 appendix A.3 and of Python's `hmac`.
+//! Characters before and after a text of `jws ver` and `jwe dec`: one line end after a compact text, and white space before a text in JSON
+//! form. The objects are those of RFC 7516 appendix A.3 and of Python's `hmac`.
 use crate::tests::command_words::{DECRYPT, VERIFY};
 use crate::tests::harness::{Answer, Given, expect, expect_text};
 use crate::tests::samples::{ABC, ABC_FLATTENED};
@@ -9,7 +9,7 @@ use octets::Refusal;
 use std::process::Abort;
 use std::test::Fail;
 
-/// What stands before a compact text and after it, and what refuses it.
+/// Characters before a compact text and after it, and the cause of a refusal.
 const AROUND_COMPACT: &[(&str, &str, Option<Refusal>)] = &[
     ("", "\n", None),
     ("", "\r\n", None),
@@ -28,7 +28,7 @@ const AROUND_COMPACT: &[(&str, &str, Option<Refusal>)] = &[
     ("", ".\n", Some(Refusal::Form)),
 ];
 
-/// What stands before a text in JSON form and after it, and what refuses it.
+/// Characters before a text in JSON form and after it, and the cause of a refusal.
 const AROUND_JSON: &[(&str, &str, Option<Refusal>)] = &[
     ("\t", "", None),
     ("\r", "", None),
@@ -39,7 +39,7 @@ const AROUND_JSON: &[(&str, &str, Option<Refusal>)] = &[
     ("", "x", Some(Refusal::Json)),
 ];
 
-/// The words write the content of the text, with what stands around it, or refuse it.
+/// The command has this answer to the text with these characters before and after it.
 fn expect_around<R: Abort + AllocGlobal>(
     rt: &R,
     words: &[&str],
@@ -52,7 +52,7 @@ fn expect_around<R: Abort + AllocGlobal>(
     expect_text(rt, words, &text, keys, answer)
 }
 
-/// In each row the text is read or refused.
+/// With the characters of each row around it, the text is read or refused.
 fn expect_each<R: Abort + AllocGlobal>(
     rt: &R,
     rows: &[(&str, &str, Option<Refusal>)],

@@ -1,11 +1,11 @@
-//! Words that are no command, the line that tells it, and the status, by docs/SPECIFICATION.md.
+//! Words that are no command, the line that reports them, and the status, by docs/SPECIFICATION.md.
 use crate::report;
 use crate::tests::harness::{Answer, Given, ROOM, expect, expect_octets, expect_same, outcome};
 use octets::{MemoryOutput, Refusal};
 use std::process::Abort;
 use std::test::Fail;
 
-/// A call that ended so has this status, and tells this.
+/// A call with this result has this status and reports this.
 fn expect_told<R: Abort + AllocGlobal>(
     rt: &R,
     ended: Result<(), Refusal>,
@@ -18,7 +18,7 @@ fn expect_told<R: Abort + AllocGlobal>(
     Ok(())
 }
 
-/// Words that are no command are told.
+/// Words that are no command are reported.
 fn expect_usage<R: Abort + AllocGlobal>(rt: &R, words: &[&str]) -> Result<(), Fail> {
     let nothing = Given::of("", "");
     let done = outcome(rt.alloc(), words, &nothing, 1, ROOM)?;

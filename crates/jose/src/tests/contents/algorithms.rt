@@ -1,6 +1,6 @@
-//! Algorithms that are not protected, with additional data, and algorithms whose name is empty. Signatures are by Python's `hmac`, and
-//! objects by its package `cryptography`, of the octets 1 to 80: without a protected header the additional authenticated data begin with
-//! the dot (RFC 7516 section 5.1, step 14).
+//! Algorithms that are not protected, with additional data, and algorithms with an empty name. The signatures are by Python's `hmac`, and
+//! the objects by its package `cryptography`, from the octets 1 to 80. Without a protected header the additional authenticated data begins
+//! with the dot (RFC 7516 section 5.1, step 14).
 use crate::tests::command_words::{
     COMPACT_JWE, DECRYPT, ENCRYPT, FORMAT_JWE, FORMAT_JWS, SIGN, VERIFY,
 };
@@ -11,7 +11,7 @@ use crate::tests::standards::rfc7516::{LINE, RFC7516_KEY};
 use octets::Refusal;
 use std::test::Fail;
 
-/// `LINE` for `KEY_16` with the additional data `abc` and no protected header, by GCM, by CBC and HMAC, and by a direct key.
+/// `LINE` for `KEY_16` with the additional data `abc` and without a protected header: by GCM, by CBC and HMAC, and by a direct key.
 const BY_GCM: &str =
     "{\"aad\":\"YWJj\",\"ciphertext\":\"e3WgchiyrF6cXApt3RtyF4epf9bSQw\",\"encrypted_key\":\"QbbcOzh8zW06cJBtJKnpgQ3vZMYs2Gpx\",\"iv\":\"ERITFBUWFxgZGhsc\",\"tag\":\"XbLbGr-vVozhuuo4PnXq_A\",\"unprotected\":{\"alg\":\"A128KW\",\"enc\":\"A128GCM\"}}";
 
@@ -25,14 +25,14 @@ const BY_DIR: &str =
 const BY_TWO: &str =
     "{\"aad\":\"YWJj\",\"ciphertext\":\"e3WgchiyrF6cXApt3RtyF4epf9bSQw\",\"iv\":\"ERITFBUWFxgZGhsc\",\"recipients\":[{\"encrypted_key\":\"QbbcOzh8zW06cJBtJKnpgQ3vZMYs2Gpx\"},{\"encrypted_key\":\"lp6IO32FUeFRzAkIXhV9vyv8YehCqPH1\"}],\"tag\":\"XbLbGr-vVozhuuo4PnXq_A\",\"unprotected\":{\"alg\":\"A128KW\",\"enc\":\"A128GCM\"}}";
 
-/// With the algorithms in the header of the recipient, and with a protected header that names none.
+/// The same with the algorithms in the recipient's header, and with a protected header that names no algorithm.
 const IN_HEADER: &str =
     "{\"aad\":\"YWJj\",\"ciphertext\":\"e3WgchiyrF6cXApt3RtyF4epf9bSQw\",\"encrypted_key\":\"QbbcOzh8zW06cJBtJKnpgQ3vZMYs2Gpx\",\"header\":{\"alg\":\"A128KW\",\"enc\":\"A128GCM\"},\"iv\":\"ERITFBUWFxgZGhsc\",\"tag\":\"XbLbGr-vVozhuuo4PnXq_A\"}";
 
 const WITH_KID: &str =
     "{\"aad\":\"YWJj\",\"ciphertext\":\"e3WgchiyrF6cXApt3RtyF4epf9bSQw\",\"encrypted_key\":\"QbbcOzh8zW06cJBtJKnpgQ3vZMYs2Gpx\",\"iv\":\"ERITFBUWFxgZGhsc\",\"protected\":\"eyJraWQiOiJ4In0\",\"tag\":\"mpmG9yvaRlGzWE6Y5Yyv1g\",\"unprotected\":{\"alg\":\"A128KW\",\"enc\":\"A128GCM\"}}";
 
-/// Both algorithms are not protected, and there are additional data.
+/// Both algorithms are unprotected, and there is additional data.
 const WITH_AAD: &[Row<'_>] = &[
     (
         &ENCRYPT,
@@ -93,7 +93,7 @@ fn additional_data_need_no_protected_header(rt: HostRuntime) -> Result<(), Fail>
 
 const UNSUPPORTED: Answer<'_> = Answer::Refusal(Refusal::Unsupported);
 
-/// An algorithm whose name is empty is one that is not supported, whatever stands beside it. Reading does not ask for support.
+/// An algorithm with an empty name is not supported, whatever members are next to it. Reading does not require support.
 const WITHOUT_NAME: &[Row<'_>] = &[
     (&VERIFY, "eyJhbGciOiIifQ.YWJj.AA", b"", KEY_32, UNSUPPORTED),
     (
@@ -154,7 +154,7 @@ const WITHOUT_NAME: &[Row<'_>] = &[
         "",
         Answer::Text("{\"ciphertext\":\"\",\"unprotected\":{\"alg\":\"\",\"enc\":\"\"}}"),
     ),
-    // Of a template, and of a template of a key.
+    // In a template, and in a template of a key.
     (
         &SIGN,
         "{\"protected\":{\"alg\":\"\"}}",

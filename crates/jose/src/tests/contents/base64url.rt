@@ -1,5 +1,5 @@
-//! Members that are base64url texts: of 3,000 octets or of none, which open nothing and are written as they were read, and long ones
-//! that are not base64url. The objects are those of Python's `cryptography` and of RFC 7516 appendix A.3, and the answers by
+//! Members that are base64url texts: those of 3,000 octets or of none, which open nothing and are written as they were read, and long ones
+//! that are not base64url. The objects are those of Python's `cryptography` and of RFC 7516 appendix A.3. The answers are by
 //! docs/SPECIFICATION.md.
 use crate::tests::command_words::{
     COMPACT_JWE, COMPACT_JWS, DECRYPT, ENCRYPT, FORMAT_JWE, FORMAT_JWS, VERIFY,
@@ -12,7 +12,7 @@ use crate::tests::standards::rfc7516::RFC7516_KEY;
 use octets::Refusal;
 use std::test::Fail;
 
-/// Words that read an object, words that write it, a key, and the text before and after one of its members.
+/// Words that read an object, words that write it, a key, and the text before and after one of the object's members.
 const MEMBERS: &[(&[&str], &[&str], &str, &str, &str)] = &[
     // The signature, in compact form, flattened and in a list.
     (
@@ -58,7 +58,7 @@ const MEMBERS: &[(&[&str], &[&str], &str, &str, &str)] = &[
         "eyJhbGciOiJBMTI4S1ciLCJlbmMiOiJBMTI4Q0JDLUhTMjU2In0.6KB707dM9YTIgHtLvtgWQ8mKwboJW3of9locizkDTHzBC2IlrT1oOQ.AxY8DCtDaGlsbGljb3RoZQ.KDlTtXchhZTGufMYmOYGS4HffxPSUrfmqCHXaI9wOGY.",
         "",
     ),
-    // The initialization vector and the tag of a direct key in GCM, and an encrypted key beside it.
+    // The initialization vector and the tag of a direct key in GCM, and an encrypted key next to them.
     (
         &DECRYPT,
         &COMPACT_JWE,
@@ -127,9 +127,9 @@ fn a_member_of_3000_octets_or_none_opens_nothing_and_is_written(
     Ok(())
 }
 
-/// Words, what stands before and after a text that must be a base64url text, and what refuses it where it is none.
+/// Words, the text before and after one that must be a base64url text, and the cause that refuses it if it is none.
 const TEXTS: &[(&[&str], &str, &str, Refusal)] = &[
-    // Of a signed object: the protected header, the payload and the signature.
+    // In a signed object: the protected header, the payload and the signature.
     (&VERIFY, "", ".YWJj.AA", Refusal::Base64),
     (&VERIFY, "eyJhbGciOiJIUzI1NiJ9.", ".AA", Refusal::Base64),
     (&VERIFY, "eyJhbGciOiJIUzI1NiJ9.YWJj.", "", Refusal::Base64),
@@ -157,7 +157,7 @@ const TEXTS: &[(&[&str], &str, &str, Refusal)] = &[
         "\",\"signature\":\"\"}]}",
         Refusal::Base64,
     ),
-    // Of an encrypted object: each part, and each member.
+    // In an encrypted object: each part, and each member.
     (&DECRYPT, "", "....", Refusal::Base64),
     (
         &DECRYPT,
@@ -256,7 +256,7 @@ const TEXTS: &[(&[&str], &str, &str, Refusal)] = &[
     ),
 ];
 
-/// Behind 100,000 characters there are bits that are not zero, or a character of another alphabet.
+/// After 100,000 characters there are trailing bits that are not zero, or a character of another alphabet.
 #[test]
 fn a_long_text_that_is_not_base64url_is_refused(rt: HostRuntime) -> Result<(), Fail> {
     for (words, front, back, refusal) in TEXTS {
@@ -269,7 +269,7 @@ fn a_long_text_that_is_not_base64url_is_refused(rt: HostRuntime) -> Result<(), F
     Ok(())
 }
 
-/// The same, and one character too many, and padding. A beginning of the octets may have been written.
+/// The same, one character too many, and padding. A beginning of the octets may have been written.
 #[test]
 fn a_long_text_that_is_not_base64url_is_not_decoded(rt: HostRuntime) -> Result<(), Fail> {
     let octets = repeated(rt.alloc(), "", "\0", 75_000, "")?;

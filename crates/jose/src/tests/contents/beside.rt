@@ -1,6 +1,6 @@
-//! The content beside the text of three keys, contents that come in from one file and go out to another, and objects that compact form
-//! cannot hold and whose content was to go out. Objects are by Python's `hmac` and its package `cryptography`, or those of RFC 7516
-//! appendix A.3.
+//! The detached content of three keys, contents that are handed in from one file and written to another, and objects that compact form
+//! cannot hold and whose content was to be detached. The objects are by Python's `hmac` and its package `cryptography`, or are those of
+//! RFC 7516 appendix A.3.
 use crate::tests::command_words::{
     DECRYPT_BESIDE, ENCRYPT_BESIDE, ENCRYPT_COMPACT_BESIDE, FORMAT_JWS, SIGN, SIGN_BESIDE,
     SIGN_COMPACT_BESIDE, VERIFY, VERIFY_BESIDE,
@@ -22,7 +22,7 @@ use std::test::Fail;
 const WRAPPING_KEYS: &str =
     "{\"keys\":[{\"kty\":\"oct\",\"k\":\"AAECAwQFBgcICQoLDA0ODw\"},{\"kty\":\"oct\",\"k\":\"AAECAwQFBgcICQoLDA0ODxAREhMUFRYX\"},{\"kty\":\"oct\",\"k\":\"AAECAwQFBgcICQoLDA0ODxAREhMUFRYXGBkaGxwdHh8\"}]}";
 
-/// `LINE` for each of them, by the octets 1 to 80.
+/// `LINE` for each of them, from the octets 1 to 80.
 const WRAPPED: &str =
     "{\"ciphertext\":\"HQiZEtyujnUEOfAdbBPDpDKpB7jKApxlDrMR2A3XtpQ\",\"iv\":\"ISIjJCUmJygpKissLS4vMA\",\"protected\":\"eyJlbmMiOiJBMTI4Q0JDLUhTMjU2In0\",\"recipients\":[{\"encrypted_key\":\"jE7vcXaUtFSMj-M_NiUXl6pIiLfOYOkdiYcIV7jePN1zypRL7UOdfQ\",\"header\":{\"alg\":\"A128KW\"}},{\"encrypted_key\":\"CypSuc1-E0V0MjoZygf3aw0yRtuadM7MwiunpJzF6EoNGWuQKR0WXg\",\"header\":{\"alg\":\"A192KW\"}},{\"encrypted_key\":\"YQjFXke-odSgFMBoV7WGmu7NIx24f_RvhuljixWsiAp3Fil6ysdI1g\",\"header\":{\"alg\":\"A256KW\"}}],\"tag\":\"VgLAksZ-jqXHRpmUhO_VzA\"}";
 
@@ -79,7 +79,7 @@ fn three_keys_encrypt_beside_the_text_and_each_decrypts(rt: HostRuntime) -> Resu
 const SIGNING_KEYS: &str =
     "{\"keys\":[{\"kty\":\"oct\",\"k\":\"ZWZnaGlqa2xtbm9wcXJzdHV2d3h5ent8fX5_gIGCg4Q\"},{\"kty\":\"oct\",\"k\":\"ZWZnaGlqa2xtbm9wcXJzdHV2d3h5ent8fX5_gIGCg4SFhoeIiYqLjI2Oj5CRkpOU\"},{\"kty\":\"oct\",\"k\":\"ZWZnaGlqa2xtbm9wcXJzdHV2d3h5ent8fX5_gIGCg4SFhoeIiYqLjI2Oj5CRkpOUlZaXmJmam5ydnp-goaKjpA\"}]}";
 
-/// `abc` signed with each of them, without the payload.
+/// `abc`, signed with each of them, without the payload.
 const SIGNED_BESIDE: &str =
     "{\"signatures\":[{\"protected\":\"eyJhbGciOiJIUzI1NiJ9\",\"signature\":\"BUTKX4aiQoyQ9PuO5zpvjWpcbtosQZNfU2e8lw8Tauo\"},{\"protected\":\"eyJhbGciOiJIUzM4NCJ9\",\"signature\":\"PADIS-BIuj9W0gQRPRosXWpmL_QNfaGm8-Gx8jg-8OxjYHKdjl9rzhLR1EQgqyTx\"},{\"protected\":\"eyJhbGciOiJIUzUxMiJ9\",\"signature\":\"CSOYI8bfVraCVIRXuxQBfxDs8myVWbrCbAflhzYpWwgnJKenXELupS1TAjrJbSSqFfLYJ4xiUBVmNPBFiOz67A\"}]}";
 
@@ -87,7 +87,7 @@ const SIGNED_OUT: Answer<'_> = Answer::Both(SIGNED_BESIDE, b"abc");
 
 const VERIFIED: Answer<'_> = Answer::Content(b"abc");
 
-/// Three keys sign, and each of them and all together verify.
+/// Three keys sign. Each of them verifies, and so do all of them together.
 const SIGNED: &[Row<'_>] = &[
     (&SIGN_BESIDE, "{}", b"abc", SIGNING_KEYS, SIGNED_OUT),
     (&VERIFY_BESIDE, SIGNED_BESIDE, b"abc", KEY_32, VERIFIED),
@@ -107,15 +107,15 @@ fn three_keys_sign_beside_the_text_and_each_verifies(rt: HostRuntime) -> Result<
     answers_each(&rt, SIGNED)
 }
 
-/// The same with a header that is not protected, which is that of each signature.
+/// The same with an unprotected header, which is that of each signature.
 const SIGNED_WITH_KID: &str =
     "{\"payload\":\"YWJj\",\"signatures\":[{\"header\":{\"kid\":\"x\"},\"protected\":\"eyJhbGciOiJIUzI1NiJ9\",\"signature\":\"BUTKX4aiQoyQ9PuO5zpvjWpcbtosQZNfU2e8lw8Tauo\"},{\"header\":{\"kid\":\"x\"},\"protected\":\"eyJhbGciOiJIUzM4NCJ9\",\"signature\":\"PADIS-BIuj9W0gQRPRosXWpmL_QNfaGm8-Gx8jg-8OxjYHKdjl9rzhLR1EQgqyTx\"},{\"header\":{\"kid\":\"x\"},\"protected\":\"eyJhbGciOiJIUzUxMiJ9\",\"signature\":\"CSOYI8bfVraCVIRXuxQBfxDs8myVWbrCbAflhzYpWwgnJKenXELupS1TAjrJbSSqFfLYJ4xiUBVmNPBFiOz67A\"}]}";
 
-/// And without a protected header.
+/// The same without a protected header.
 const SIGNED_UNPROTECTED: &str =
     "{\"payload\":\"YWJj\",\"signatures\":[{\"header\":{\"alg\":\"HS256\"},\"signature\":\"HAueBBTcgevkCytHOfWwv8M-hWuoBBxMYKeACiUeNkI\"},{\"header\":{\"alg\":\"HS256\"},\"signature\":\"SAN9JNR6oM2LFctSKL0hUtIN5igL7om29UP0umMeSXo\"},{\"header\":{\"alg\":\"HS256\"},\"signature\":\"XeUNtXc8phgErklN1TE2SOBblyGjlrSwr1-wJsw7238\"}]}";
 
-/// Three keys sign by a template with a header that is not protected.
+/// Three keys sign by a template with an unprotected header.
 const SIGNED_WITH_HEADER: &[Row<'_>] = &[
     (
         &SIGN,
@@ -157,7 +157,7 @@ const COMPACT_THROUGH_JWE: [&str; 7] = ["jwe", "fmt", "-c", "-I", "in", "-O", "o
 
 const ABC_OUT: Answer<'_> = Answer::Both(ABC_BESIDE, b"abc");
 
-/// The content comes in from one file and goes out to another.
+/// The content is handed in from one file and written to another.
 const IN_AND_OUT: &[Row<'_>] = &[
     (&COMPACT_THROUGH_JWS, ABC_BESIDE, b"abc", "", ABC_OUT),
     (
@@ -190,7 +190,7 @@ const IN_AND_OUT: &[Row<'_>] = &[
         Answer::Both(RFC7516_A3_BESIDE, RFC7516_CIPHERTEXT),
     ),
     (&THROUGH_JWE, WRAPPED_BESIDE, CIPHERTEXT, "", WRAPPED_OUT),
-    // And into the text of three recipients, and out of it.
+    // The content is put into the text of three recipients, and is taken out of it.
     (
         &["jwe", "fmt", "-I", "in"],
         WRAPPED_BESIDE,
@@ -208,7 +208,7 @@ fn a_content_comes_in_from_one_file_and_goes_out_to_another(rt: HostRuntime) -> 
 
 const NOT_COMPACT: Answer<'_> = Answer::Refusal(Refusal::NotCompact);
 
-/// Compact form cannot hold the object, and so neither the text nor the content goes out.
+/// Compact form cannot hold the object, and so neither the text nor the content is written.
 const WITHOUT_ROOM: &[Row<'_>] = &[
     (
         &SIGN_COMPACT_BESIDE,

@@ -1,7 +1,7 @@
-//! Contents of 0 to 12,289 octets, encrypted in reads of 1 to 4,096 by each content encryption, in compact and in JSON form, with the
-//! ciphertext in the text and beside it. What is written is too long to stand here, and so its SHA-256 does: a program in Python built
-//! the objects from RFC 7516 and 7518 (AES and its key wrap by its package `cryptography` 48, and `hashlib`, `hmac`, `base64` and
-//! `json`) by the same key and the same random octets, 1 to 80, without a line of ours.
+//! Contents of 0 to 12,289 octets, encrypted in reads of 1 to 4,096 octets by each content encryption, in compact and in JSON form, with
+//! the ciphertext in the text and detached. The texts are too long to be listed here, and so their SHA-256 is listed. A program in Python
+//! built the objects from RFC 7516 and 7518 (AES and its key wrap by its package `cryptography` 48, and `hashlib`, `hmac`, `base64` and
+//! `json`) with the same key and the same random octets, 1 to 80, without any code of this project.
 use crate::tests::command_words::{
     DECRYPT, ENCRYPT, ENCRYPT_BESIDE, ENCRYPT_COMPACT, ENCRYPT_COMPACT_BESIDE,
 };
@@ -13,7 +13,7 @@ use prf::digest;
 use std::process::Abort;
 use std::test::Fail;
 
-/// What is encrypted by the template is decrypted to the content, in both forms.
+/// In both forms, the template encrypts the content to an object that is decrypted to the content.
 fn comes_back_in_both_forms<R: Abort + AllocGlobal>(
     rt: &R,
     template: &str,
@@ -24,7 +24,7 @@ fn comes_back_in_both_forms<R: Abort + AllocGlobal>(
     comes_back(rt, &ENCRYPT, &DECRYPT, template, keys, content)
 }
 
-/// Contents of no octet, of one, and of about a block.
+/// Contents of no octet, of one octet, and of about a block.
 const CONTENTS: &[&[u8]] = &[
     b"",
     b"a",
@@ -53,14 +53,14 @@ fn contents_of_each_length_come_back(rt: HostRuntime) -> Result<(), Fail> {
     each_length_comes_back(&rt, BY_A256KW)
 }
 
-/// A content encryption, and for each of `LENGTHS` the SHA-256, in base64url, of the compact text, the JSON text, both of them
-/// beside the ciphertext, and the ciphertext.
+/// A content encryption, and for each of `LENGTHS` the SHA-256, in base64url, of the compact text, the JSON text, both texts with the
+/// ciphertext detached, and the ciphertext.
 struct Row {
     template: &'static str,
     digests: [&'static str; 7],
 }
 
-/// By `KEY_16` and the octets 1 to 80.
+/// The rows for `KEY_16` and the octets 1 to 80.
 const ROWS: &[Row] = &[
     Row {
         template: "{\"protected\":{\"alg\":\"A128KW\",\"enc\":\"A128CBC-HS256\"}}",
@@ -136,7 +136,7 @@ const ROWS: &[Row] = &[
     },
 ];
 
-/// One of the rows. A table that stands in one function is read by the prover once.
+/// One of the rows. A table that is in only one function is read by the prover once.
 fn nth_row(rt: &impl Abort, n: usize) -> &'static Row {
     ROWS.get(n).expect(rt, "a row")
 }
@@ -147,7 +147,7 @@ fn nth(digests: &str, n: usize) -> &[u8] {
     digests.as_bytes().get(start..start + 43).unwrap_or(b"")
 }
 
-/// The content becomes what has these digests, in each form, whatever the inputs give at a read.
+/// Encrypting the content makes octets with these digests, in each form, however many octets the inputs return at a read.
 fn seals_in_each_form<R: Abort + AllocGlobal>(
     rt: &R,
     template: &str,
@@ -173,7 +173,7 @@ fn seals_in_each_form<R: Abort + AllocGlobal>(
     expect_in_steps(rt, &ENCRYPT_BESIDE, &given, answer)
 }
 
-/// A content of each length becomes what the rows say.
+/// Encrypting a content of each length makes octets with the digests of the row.
 fn seals_each_length<R: Abort + AllocGlobal>(rt: &R, row: &Row) -> Result<(), Fail> {
     for ((count, last, _), digests) in LENGTHS.iter().zip(row.digests) {
         let content = repeated(rt.alloc(), "", PIECE.0, *count, last)?;
@@ -212,8 +212,8 @@ fn a256gcm_encrypts_in_pieces_of_any_length(rt: HostRuntime) -> Result<(), Fail>
     seals_each_length(&rt, nth_row(&rt, 5))
 }
 
-/// For each of `ROWS` the SHA-256, in base64url, of the JSON text of 21,000 octets with 1,050 octets of additional data: 1,000 and 50
-/// times the piece. In Python:
+/// For each of `ROWS`, the SHA-256, in base64url, of the JSON text of 21,000 octets with 1,050 octets of additional data. These are 1,000
+/// and 50 copies of the piece. In Python:
 ///
 /// ```python
 /// cek, iv = octets[:cek_len], octets[cek_len:cek_len + iv_len]  # octets = bytes(range(1, 81))
@@ -232,7 +232,7 @@ const WITH_AAD: &[&str] = &[
     "OHkFML0wb-RHFW4hr5sDY35g1zfZKhJOh0iH8wSKh1Y",
 ];
 
-/// Long content with long additional data becomes what has this digest, and comes back.
+/// Long content with long additional data is encrypted to octets with this digest, and is decrypted again.
 fn seals_with_aad<R: Abort + AllocGlobal>(rt: &R, row: &Row, digest: &str) -> Result<(), Fail> {
     let template = with_aad(rt.alloc(), 50, row.template)?;
     let content = repeated(rt.alloc(), "", PIECE.0, 1000, "")?;

@@ -1,6 +1,6 @@
-//! Headers with 64, 65 and 300 members, and headers that are 64 deep: each is written and read. What is written is by Python's `hmac`
-//! and its package `cryptography`, and stands here as its SHA-256. In Python, with the octets 1 to 80 and a header that has its members
-//! in byte order:
+//! Headers with 64, 65 and 300 members, and headers that are 64 deep: each is written and read. The texts are by Python's `hmac` and its
+//! package `cryptography`, and are listed here by their SHA-256. In Python, with the octets 1 to 80 and a header that has its members in
+//! byte order:
 //!
 //! ```python
 //! protected = b64(json.dumps(header, separators=(",", ":")).encode())
@@ -19,7 +19,7 @@ use std::alloc::{AllocError, Global};
 use std::process::Abort;
 use std::test::Fail;
 
-/// Words that write an object, that read it, and that write it again, with a key and a content.
+/// Words that write an object, words that read it, and words that write it again, with a key and a content.
 struct Way {
     writing: &'static [&'static str],
     reading: &'static [&'static str],
@@ -56,7 +56,7 @@ const ENCRYPTED_JSON: Way = Way {
     ..ENCRYPTED_COMPACT
 };
 
-/// This text is read to the content, and is written again.
+/// Reading this text writes the content, and the text is written again.
 fn is_read<R: Abort + AllocGlobal>(rt: &R, way: &Way, text: &str) -> Result<(), Fail> {
     answers(
         rt,
@@ -69,7 +69,7 @@ fn is_read<R: Abort + AllocGlobal>(rt: &R, way: &Way, text: &str) -> Result<(), 
     answers(rt, way.again, text, b"", "", Answer::Text(text))
 }
 
-/// What is written by the template has this SHA-256, and is read.
+/// The text that is written by the template has this SHA-256, and is read.
 fn is_written_and_read<R: Abort + AllocGlobal>(
     rt: &R,
     way: &Way,
@@ -87,7 +87,7 @@ fn is_written_and_read<R: Abort + AllocGlobal>(
     is_read(rt, way, str::from_utf8(done.text.octets()).unwrap_or(""))
 }
 
-/// The members from `m100` to the one before this number, between a front and a back.
+/// The members from `m100` to the one before number `end`, between a front and a back.
 fn with_members(alloc: Global, front: &str, end: usize, back: &str) -> Result<String, AllocError> {
     let mut text = String::from_str(alloc, front)?;
     for i in 100..end {
@@ -98,10 +98,10 @@ fn with_members(alloc: Global, front: &str, end: usize, back: &str) -> Result<St
     Ok(text)
 }
 
-/// With a member that stands before them there are 64, 65 and 300.
+/// With the member before them there are 64, 65 and 300 members.
 const ENDS: &[usize] = &[163, 164, 399];
 
-/// A template before and after these members of a header, and the SHA-256 of what is written.
+/// A template before and after these members of a header, and the SHA-256 of the texts that are written.
 const MANY: &[(Way, &str, &str, [&str; 3])] = &[
     (
         SIGNED_COMPACT,
@@ -143,7 +143,7 @@ const MANY: &[(Way, &str, &str, [&str; 3])] = &[
             "yX_YZQ8m0qEmC3nQENtj98wjyvX8O070rRqjKvwpwn8",
         ],
     ),
-    // The algorithm is added to them.
+    // The algorithm is added to these members.
     (
         ENCRYPTED_COMPACT,
         "{\"protected\":{\"enc\":\"A128GCM\"",
@@ -167,7 +167,7 @@ fn a_header_with_many_members_is_written_and_read(rt: HostRuntime) -> Result<(),
     Ok(())
 }
 
-/// An object before and after these members of the header of a signature or a recipient.
+/// An object before and after these members of the header of one signature or recipient.
 const MANY_OF_ONE: &[(Way, &str, &str)] = &[
     (
         SIGNED_JSON,
@@ -199,7 +199,7 @@ fn a_header_of_one_signature_or_recipient_with_many_members_is_read(
     Ok(())
 }
 
-/// A template before and after 63 lists in one another, which a header holds, and the SHA-256 of what is written.
+/// A template before and after 63 nested lists in a header, and the SHA-256 of the text that is written.
 const DEEP: &[(Way, &str, &str, &str)] = &[
     (
         SIGNED_JSON,

@@ -1,5 +1,5 @@
-//! Keys, objects, templates, contents and ciphertexts of more than 2 MiB, which are treated like any other. Signatures are by Python's
-//! `hmac`, and digests of what is encrypted as those of `encrypted`.
+//! Keys, objects, templates, contents and ciphertexts of more than 2 MiB, which are treated like any other. The signatures are by Python's
+//! `hmac`. The digests of encrypted texts are made like those of `encrypted`.
 use crate::tests::command_words::{
     CHECK_BESIDE, DECRYPT, DECRYPT_BESIDE, ENCRYPT, ENCRYPT_COMPACT_BESIDE, SIGN_COMPACT,
     SIGN_COMPACT_BESIDE, VERIFY, VERIFY_BESIDE,
@@ -29,7 +29,7 @@ fn long_text(alloc: Global, front: &str, back: &str) -> Result<String, AllocErro
     Ok(text)
 }
 
-/// The words answer so, over inputs that give many octets at a read.
+/// The command has this answer, over inputs that return many octets at a read.
 pub(crate) fn answers<R: Abort + AllocGlobal>(
     rt: &R,
     words: &[&str],
@@ -119,7 +119,7 @@ fn a_long_signed_object_changes_its_form(rt: HostRuntime) -> Result<(), Fail> {
     answers(&rt, &["jws", "fmt", "-c"], &json, b"", "", to_compact)
 }
 
-/// A key with a long member that is not known.
+/// A key with a long unknown member.
 fn long_key(alloc: Global, key: &str) -> Result<String, AllocError> {
     let mut text = repeated(alloc, "{\"x\":\"", "a", 2_100_001, "\",")?;
     text.push_str(key.strip_prefix('{').unwrap_or(""))?;
@@ -183,7 +183,7 @@ fn a_key_is_made_of_a_long_template(rt: HostRuntime) -> Result<(), Fail> {
     answers(&rt, &["jwk", "thp"], &key, b"", "", name)
 }
 
-/// A template, and the SHA-256 of the JSON text of 70,000 octets, made as those of `encrypted`.
+/// A template, and the SHA-256 of the JSON text of 70,000 octets, made like those of `encrypted`.
 const SEALED: &[(&str, &str)] = &[
     (
         "{\"protected\":{\"alg\":\"A128KW\",\"enc\":\"A128CBC-HS256\"}}",
@@ -211,7 +211,7 @@ const SEALED: &[(&str, &str)] = &[
     ),
 ];
 
-/// They become this text, which is decrypted to them.
+/// The 70,000 octets are encrypted to the text with this digest, and the text is decrypted to them.
 fn is_sealed_and_comes_back<R: Abort + AllocGlobal>(
     rt: &R,
     template: &str,
@@ -241,8 +241,8 @@ fn a_long_plaintext_is_encrypted(rt: HostRuntime) -> Result<(), Fail> {
     answers(&rt, &ENCRYPT, template, octets, KEY_16, answer)
 }
 
-/// A ciphertext of 2,100,000 zero octets and a last block, and the SHA-256 of its plaintext of 2,100,015 octets, whose blocks but
-/// the last are the one that AES encrypts to zeros. In Python:
+/// A ciphertext of 2,100,000 zero octets and a last block, and the SHA-256 of its plaintext of 2,100,015 octets. Each block of the
+/// plaintext except the last is the one that AES encrypts to zeros. In Python:
 ///
 /// ```python
 /// ciphertext = bytes(2_100_000) + aes_encrypt(key[16:], b"the last octets\x01")
@@ -266,7 +266,7 @@ fn a_long_ciphertext_is_decrypted(rt: HostRuntime) -> Result<(), Fail> {
     Ok(())
 }
 
-/// A long template, of additional data, and a long key.
+/// A long template with additional data, and a long key.
 #[test]
 fn long_additional_data_and_a_long_key_encrypt(rt: HostRuntime) -> Result<(), Fail> {
     let template = with_aad(rt.alloc(), 75_000, "{\"protected\":{\"enc\":\"A128GCM\"}}")?;
@@ -275,7 +275,7 @@ fn long_additional_data_and_a_long_key_encrypt(rt: HostRuntime) -> Result<(), Fa
     comes_back(&rt, &ENCRYPT, &DECRYPT, "{}", &key, LINE)
 }
 
-/// An object of 2,100,000 octets that is not decrypted, between a front and a back of its ciphertext.
+/// An object with a ciphertext of 2,100,000 octets, between a front and a back. It is not decrypted.
 fn long_object(alloc: Global, front: &str, back: &str) -> Result<String, AllocError> {
     repeated(alloc, front, "AAAA", 700_000, back)
 }
@@ -295,7 +295,7 @@ fn a_long_encrypted_object_changes_its_form(rt: HostRuntime) -> Result<(), Fail>
     answers(&rt, &["jwe", "fmt", "-c"], &json, b"", "", to_compact)
 }
 
-/// The long octets' compact text, beside them.
+/// The compact text of the long octets, which are detached.
 fn token_beside(alloc: Global) -> Result<String, AllocError> {
     let mut text = String::from_str(alloc, "eyJhbGciOiJIUzI1NiJ9..")?;
     text.push_str(SIGNATURE)?;

@@ -1,5 +1,5 @@
-//! What is many or long where it is mostly one or short: operations and members of a key, the octets of one, keys that sign, signatures
-//! of an object, a word. It is treated like any other.
+//! Things that are usually one or short, and here are many or long: operations and members of a key, the octets of a key, keys that sign,
+//! signatures of an object, and a word. Each is treated like any other.
 use crate::tests::command_words::{SIGN, VERIFY};
 use crate::tests::contents::long::answers;
 use crate::tests::harness::{Answer, expect_octets};
@@ -36,7 +36,7 @@ fn a_key_is_made_of_a_template_with_many_members(rt: HostRuntime) -> Result<(), 
     answers(&rt, &words, &template, b"", "", Answer::Text(&key))
 }
 
-/// 4,096 zero octets (Python's `hashlib`).
+/// A key of 4,096 zero octets (Python's `hashlib`).
 #[test]
 fn a_key_of_4096_octets_has_a_thumbprint(rt: HostRuntime) -> Result<(), Fail> {
     let key = repeated(rt.alloc(), "{\"kty\":\"oct\",\"k\":\"", "AA", 2_731, "\"}")?;
@@ -71,7 +71,7 @@ fn a_key_in_a_long_word_verifies(rt: HostRuntime) -> Result<(), Fail> {
     answers(&rt, &words, ABC, b"", RFC7515_KEY, answer)
 }
 
-/// The payload of the object whose text has these beside that of 75,000 octets is copied.
+/// The payload of 75,000 octets is copied from an object with these texts before and after it.
 fn expect_copied<R: Abort + AllocGlobal>(rt: &R, front: &str, back: &str) -> Result<(), Fail> {
     let payload = repeated(rt.alloc(), "", "aaa", 25_000, "")?;
     let text = repeated(rt.alloc(), front, "YWFh", 25_000, back)?;

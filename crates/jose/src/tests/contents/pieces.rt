@@ -1,4 +1,4 @@
-//! Contents of 0 to 12,289 octets in reads of 1 to 4,096: `b64 enc`, `b64 dec`, `jws sig` and `jws ver -I`. The signatures are by
+//! Contents of 0 to 12,289 octets in reads of 1 to 4,096 octets: `b64 enc`, `b64 dec`, `jws sig` and `jws ver -I`. The signatures are by
 //! Python's `hmac`.
 use crate::tests::command_words::{
     CHECK_ALL_BESIDE, CHECK_BESIDE, SIGN_COMPACT, SIGN_COMPACT_BESIDE,
@@ -12,7 +12,7 @@ use std::alloc::{AllocError, Global};
 use std::process::Abort;
 use std::test::Fail;
 
-/// The octets become the text.
+/// The octets are encoded to the text.
 fn encodes_in_steps<R: Abort + AllocGlobal>(
     rt: &R,
     content: &[u8],
@@ -27,7 +27,7 @@ fn encodes_in_steps<R: Abort + AllocGlobal>(
     expect_in_steps(rt, &["b64", "enc"], &given, Answer::Text(text))
 }
 
-/// The text becomes the octets.
+/// The text is decoded to the octets.
 fn decodes_in_steps<R: Abort + AllocGlobal>(
     rt: &R,
     text: &str,
@@ -37,7 +37,7 @@ fn decodes_in_steps<R: Abort + AllocGlobal>(
     expect_in_steps(rt, &["b64", "dec"], &given, Answer::Content(content))
 }
 
-/// A content of the row becomes its text, and comes back, with a line end and without.
+/// The content of a row is encoded to its text, and the text is decoded to the content, with a line end and without.
 fn goes_and_comes<R: Abort + AllocGlobal>(
     rt: &R,
     count: usize,
@@ -60,8 +60,8 @@ fn b64_is_the_same_in_pieces_of_any_length(rt: HostRuntime) -> Result<(), Fail> 
     Ok(())
 }
 
-/// A content of so many copies of the piece and these octets, whose text ends in this one, with its signature by `RFC7515_KEY` and those by
-/// `KEYS`.
+/// A content of `count` copies of the piece and then the octets `last`, whose text is `last_text`. `signature` is its signature by
+/// `RFC7515_KEY`, and the other three are those by `KEYS`.
 struct Row {
     count: usize,
     last: &'static str,
@@ -143,12 +143,12 @@ const ROWS: &[Row] = &[
     },
 ];
 
-/// The rows. A table that stands in one function is read by the prover once.
+/// The rows. A table that is in only one function is read by the prover once.
 fn rows() -> &'static [Row] {
     ROWS
 }
 
-/// The text before the payload's, this, and what follows it.
+/// The text before that of the payload, the payload's text, and the text after it.
 fn signed(alloc: Global, row: &Row, front: &str, between: &str) -> Result<String, AllocError> {
     let mut text = repeated(alloc, front, PIECE.1, row.count, row.last_text)?;
     text.push_str(between)?;
@@ -162,7 +162,7 @@ fn compact(alloc: Global, row: &Row) -> Result<String, AllocError> {
     Ok(text)
 }
 
-/// The compact text beside the payload.
+/// The compact text with a detached payload.
 fn compact_beside(alloc: Global, row: &Row) -> Result<String, AllocError> {
     let mut text = String::from_str(alloc, "eyJhbGciOiJIUzI1NiJ9..")?;
     text.push_str(row.signature)?;
@@ -176,14 +176,14 @@ fn general(alloc: Global, row: &Row) -> Result<String, AllocError> {
     Ok(text)
 }
 
-/// The JSON text beside the payload.
+/// The JSON text with a detached payload.
 fn general_beside(alloc: Global, row: &Row) -> Result<String, AllocError> {
     let mut text = String::from_str(alloc, "{")?;
     text.push_str(&signatures(alloc, row)?)?;
     Ok(text)
 }
 
-/// What stands after the payload in the JSON text.
+/// The part of the JSON text after the payload.
 fn signatures(alloc: Global, row: &Row) -> Result<String, AllocError> {
     let mut text = String::from_str(
         alloc,
@@ -198,7 +198,7 @@ fn signatures(alloc: Global, row: &Row) -> Result<String, AllocError> {
     Ok(text)
 }
 
-/// Signing by the keys answers so, whatever the input gives at a read.
+/// Signing with the keys has this answer, however many octets the inputs return at a read.
 fn signs_in_steps<R: Abort + AllocGlobal>(
     rt: &R,
     words: &[&str],
@@ -266,7 +266,7 @@ fn a_payload_is_signed_beside_the_text_in_pieces_of_any_length(
     Ok(())
 }
 
-/// Verifying the payload beside the text accepts it, and no payload that is longer by an octet, whatever the input gives at a read.
+/// Verifying accepts the detached payload and refuses a payload that is one octet longer, however many octets the inputs return at a read.
 fn verifies_in_steps<R: Abort + AllocGlobal>(
     rt: &R,
     words: &[&str],

@@ -1,6 +1,5 @@
-//! Lists of more than 64 elements, sets and long keys that are named by each hash, keys whose names are empty or long, empty payloads,
-//! and words that are many or empty. Each is treated like any other. Thumbprints are by Python's `hashlib`, and the signature by its
-//! `hmac`.
+//! Lists of more than 64 elements, thumbprints of sets and long keys by each hash, keys with empty or long names, empty payloads, and words
+//! that are many or empty. Each is treated like any other. The thumbprints are by Python's `hashlib`, and the signature by its `hmac`.
 use crate::tests::command_words::{DECRYPT, ENCRYPT, FORMAT_JWE, FORMAT_JWS, SIGN, VERIFY};
 use crate::tests::contents::long::answers;
 use crate::tests::harness::{Answer, expect_octets};
@@ -16,7 +15,7 @@ use std::alloc::{AllocError, Global};
 use std::process::Abort;
 use std::test::Fail;
 
-/// Words that write an object, what stands before its list, an element, and what stands after the list.
+/// Words that write an object, the text before its list, an element, and the text after the list.
 const LISTS: &[(&[&str], &str, &str, &str)] = &[
     (
         &FORMAT_JWE,
@@ -103,7 +102,7 @@ const THUMBPRINTS_OF_KEY: &[(&str, &str)] = &[
     ),
 ];
 
-/// The key has a member of 2,000,001 octets that is not known.
+/// The key has an unknown member of 2,000,001 octets.
 #[test]
 fn a_long_key_is_named_by_each_hash(rt: HostRuntime) -> Result<(), Fail> {
     let back = "\",\"kty\":\"oct\",\"k\":\"AAECAwQFBgcICQoLDA0ODxAREhMUFRYXGBkaGxwdHh8\"}";
@@ -115,7 +114,7 @@ fn a_long_key_is_named_by_each_hash(rt: HostRuntime) -> Result<(), Fail> {
     Ok(())
 }
 
-/// `abc` signed by HS256 with `KEY_32`.
+/// `abc`, signed by HS256 with `KEY_32`.
 const ABC_BY_KEY_32: &str = "eyJhbGciOiJIUzI1NiJ9.YWJj.BUTKX4aiQoyQ9PuO5zpvjWpcbtosQZNfU2e8lw8Tauo";
 
 /// The key with one more member.
@@ -143,7 +142,7 @@ fn a_key_with_an_empty_name_is_of_no_use(rt: HostRuntime) -> Result<(), Fail> {
     Ok(())
 }
 
-/// A member of a key before its name, and after it.
+/// The text of a key's member before a name, and after it.
 const NAMES: &[(&str, &str)] = &[
     ("\"alg\":\"", "\""),
     ("\"use\":\"", "\""),
@@ -168,7 +167,8 @@ fn a_key_with_a_kid_of_300_octets_verifies(rt: HostRuntime) -> Result<(), Fail> 
     answers(&rt, &VERIFY, ABC_BY_KEY_32, b"", &key, answer)
 }
 
-/// An object for `PASSWORD` by ten iterations (Python's `hashlib` and `cryptography`), before its salt of 2,000 zero octets, and after it.
+/// An object for `PASSWORD` with ten iterations (Python's `hashlib` and `cryptography`): the text before its salt of 2,000 zero octets, and
+/// the text after it.
 const AROUND_SALT: (&str, &str) = (
     "{\"ciphertext\":\"e3WgchiyrF6cXApt3RtyF4epf9bSQw\",\"encrypted_key\":\"WYWcmgkc3gmcyJU-tSWXoxL5V_Aw7J7-\",\"header\":{\"alg\":\"PBES2-HS256+A128KW\",\"enc\":\"A128GCM\",\"p2c\":10,\"p2s\":\"",
     "AAA\"},\"iv\":\"ERITFBUWFxgZGhsc\",\"tag\":\"vQHLMB3VQQ1yORQn9R0Ajw\"}",
@@ -194,7 +194,7 @@ const EMPTY_PAYLOADS: &[&str] = &[
 /// Objects without their payload.
 const WITHOUT_PAYLOAD: &[&str] = &[ABC_BESIDE, ABC_FLATTENED_BESIDE];
 
-/// The object of this text, with what is handed in beside it, has an empty payload.
+/// The object of this text, with the payload that is handed in, if there is one, has an empty payload.
 fn expect_empty<R: Abort + AllocGlobal>(rt: &R, text: &str, beside: Option<Vec<u8>>) {
     let jws = Jws::read(rt.alloc(), text.as_bytes(), beside).expect(rt, "it is read");
     let copy = jws.payload(rt.alloc()).expect(rt, "it is copied");
@@ -211,7 +211,7 @@ fn an_empty_payload_is_copied(rt: HostRuntime) {
     }
 }
 
-/// The two words of a command and 64 more. No command takes so many.
+/// The two words of a command and 64 more. No command accepts so many.
 #[test]
 fn more_words_than_a_command_has_are_told(rt: HostRuntime) -> Result<(), Fail> {
     for word in ["x", "-a", "-kx", ""] {
@@ -230,7 +230,7 @@ fn more_words_than_a_command_has_are_told(rt: HostRuntime) -> Result<(), Fail> {
     Ok(())
 }
 
-/// An empty value names a file, as any other does.
+/// An empty value names a file, as any other value does.
 #[test]
 fn the_value_of_an_option_may_be_empty(rt: HostRuntime) -> Result<(), Fail> {
     let words = ["jws", "ver", "-i", "", "-k", "", "-O", ""];

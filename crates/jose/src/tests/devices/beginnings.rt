@@ -1,5 +1,5 @@
-//! What stands in the outputs after a content that fails and an output without room, and what is refused before the content is read.
-//! The beginnings are those of `abc` (RFC 4648) and of RFC 7516 appendix A.3.
+//! The octets that are left in the outputs if the content fails or an output has no room, and the refusals before the content is read. The
+//! beginnings are those of `abc` (RFC 4648) and of RFC 7516 appendix A.3.
 use crate::tests::command_words::{
     ENCRYPT, ENCRYPT_BESIDE, ENCRYPT_COMPACT, ENCRYPT_COMPACT_BESIDE, SIGN_COMPACT,
     SIGN_COMPACT_BESIDE,
@@ -42,7 +42,7 @@ fn an_input_that_fails_leaves_a_beginning(rt: HostRuntime) -> Result<(), Fail> {
     Ok(())
 }
 
-/// A content that fails at its first read leaves both outputs as they were, though the text before the ciphertext is known.
+/// A content that fails at its first read leaves both outputs as they were, although the text before the ciphertext is known.
 fn fails_at_once<R: Abort + AllocGlobal>(rt: &R, words: &[&str]) -> Result<(), Fail> {
     let given = Given {
         text: "{}",
@@ -63,7 +63,7 @@ fn a_content_that_fails_at_once_leaves_both_outputs(rt: HostRuntime) -> Result<(
     fails_at_once(&rt, &ENCRYPT_BESIDE)
 }
 
-/// A line that then fails leaves what its first block fixes: this text, and this ciphertext beside it.
+/// A content that fails after a line leaves what the line's first block fixes: this text, and this detached ciphertext.
 fn fails_after_a_line<R: Abort + AllocGlobal>(
     rt: &R,
     words: &[&str],
@@ -95,7 +95,7 @@ fn a_content_that_fails_later_leaves_a_beginning(rt: HostRuntime) -> Result<(), 
     fails_after_a_line(&rt, &ENCRYPT_BESIDE, b"", block)
 }
 
-/// The words refuse this template where the content fails at its first read.
+/// The command refuses this template for this cause, over a content that fails at its first read.
 fn refuses_before_content<R: Abort + AllocGlobal>(
     rt: &R,
     words: &[&str],
@@ -114,7 +114,7 @@ fn refuses_before_content<R: Abort + AllocGlobal>(
     Ok(())
 }
 
-/// The form comes before the content is read, and so do the random octets, one too few.
+/// The form is judged and the random octets are drawn before the content is read. One random octet is missing.
 #[test]
 fn a_content_is_read_last(rt: HostRuntime) -> Result<(), Fail> {
     let template = "{\"header\":{\"y\":1}}";
@@ -138,7 +138,7 @@ fn a_content_is_read_last(rt: HostRuntime) -> Result<(), Fail> {
     refuses_before_content(&rt, &ENCRYPT_COMPACT, template, RFC7516_KEY, Refusal::Read)
 }
 
-/// Where the output of the content fails nothing of the text is written, and where that of the text fails the content stands.
+/// If the output of the content fails, nothing of the text is written. If the output of the text fails, the content is complete.
 #[test]
 fn the_text_waits_for_the_content_beside_it(rt: HostRuntime) -> Result<(), Fail> {
     let given = Given {

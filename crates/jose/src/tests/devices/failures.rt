@@ -1,5 +1,5 @@
-//! One read or write that fails: each call of each device of each command in turn. What is written and said is by the standards'
-//! examples, RFC 7515 appendix A.1's key and RFC 7516 appendix A.3.
+//! One read or write that fails: each call of each device of each command in turn. The expected outputs are by the standards' examples,
+//! RFC 7515 appendix A.1's key and RFC 7516 appendix A.3.
 ghost use Rattle.std.specs.Prelude.{◌<◌};
 
 use crate::tests::command_words::{
@@ -32,13 +32,13 @@ const CONTENT_OUT: usize = 5;
 
 const DEVICES: usize = 6;
 
-/// How many calls each device has where a call takes as many octets as there are. An input that is read to its end has one that gives
-/// all of it and one that finds the end, and the random input one for all that is drawn. An output has one for each text that is written
-/// to it and one that finishes it.
+/// How many calls each device has if a call reads or writes as many octets as there are. An input that is read to its end has one call that
+/// returns all of it and one that finds the end, and the random input has one call for everything that is drawn. An output has one call for
+/// each text that is written to it and one that finishes it.
 type Calls = [u64; DEVICES];
 
-/// The words; what `-i`, `-I`, `-k` and `-R` give; the input that is read while its text is written, if there is one; what is
-/// written to `-o` and `-O`; and the calls.
+/// The words; the contents of `-i`, `-I`, `-k` and `-R`; the input that is read while its text is written, if there is one; the octets that
+/// are written to `-o` and `-O`; and the calls.
 type Row<'a> = (
     &'a [&'a str],
     (&'a str, &'a [u8], &'a str, &'a [u8]),
@@ -48,13 +48,13 @@ type Row<'a> = (
     Calls,
 );
 
-/// Where a text, a payload beside it and keys are read, and nothing is written.
+/// The calls if a text, a detached payload and keys are read, and nothing is written.
 const CHECKED: Calls = [2, 2, 2, 0, 0, 0];
 
-/// Where the calls are not compared.
+/// Calls that are not compared.
 const UNCOUNTED: Calls = [0; DEVICES];
 
-/// `jwk` and `b64`.
+/// The commands `jwk` and `b64`.
 const KEYS_AND_OCTETS: &[Row<'_>] = &[
     (
         &["jwk", "gen", "-i", "t", "-R", "r"],
@@ -77,7 +77,7 @@ const KEYS_AND_OCTETS: &[Row<'_>] = &[
         b"",
         [2, 0, 0, 0, 2, 0],
     ),
-    // The text of two whole groups, and that of the two octets behind them.
+    // The text of two whole groups, and the text of the two octets after them.
     (
         &["b64", "enc"],
         ("", b"foobarfo", "", b""),
@@ -86,7 +86,7 @@ const KEYS_AND_OCTETS: &[Row<'_>] = &[
         b"",
         [0, 2, 0, 0, 3, 0],
     ),
-    // The octets of two whole groups, and those of the characters that waited for the end.
+    // The octets of two whole groups, and the octets of the characters that waited for the end.
     (
         &["b64", "dec"],
         ("Zm9vYmFyZm8\r\n", b"", "", b""),
@@ -179,7 +179,7 @@ const ENCRYPTED: &[Row<'_>] = &[
         b"",
         [2, 2, 2, 1, 6, 0],
     ),
-    // The texts before the tag, and the tag; and both blocks of the ciphertext.
+    // The texts before the tag, the tag, and both blocks of the ciphertext.
     (
         &["jwe", "enc", "-c", "-I", "p", "-k", "k", "-O", "b"],
         ("{}", LINE, RFC7516_KEY, RFC7516_RANDOM),
@@ -222,7 +222,7 @@ const ENCRYPTED: &[Row<'_>] = &[
     ),
 ];
 
-/// What a run did, with the failures of its devices.
+/// The outcome of a run, with the failures of its devices.
 #[derive(Drop)]
 struct Run {
     result: Result<(), Refusal>,
@@ -231,7 +231,7 @@ struct Run {
     failures: [u64; DEVICES],
 }
 
-/// The failing of one of the devices; the others never fail.
+/// How the device `it` fails: as `failing` says if it is this device, and never if it is another one.
 fn failing_of(device: usize, it: usize, failing: Failing) -> Failing {
     if device == it {
         failing
@@ -240,7 +240,7 @@ fn failing_of(device: usize, it: usize, failing: Failing) -> Failing {
     }
 }
 
-/// Does what the row asks where one of the devices fails, with so many octets at a call.
+/// Does what the row asks, with this device failing and this many octets at a call.
 fn performed(
     alloc: Global,
     row: &Row<'_>,
@@ -287,7 +287,7 @@ fn performed(
     })
 }
 
-/// The run met no failure, and answered so; it wrote all.
+/// The run met no failure, ended with this result, and wrote everything.
 fn expect_whole<R: Abort>(rt: &R, row: &Row<'_>, answer: Result<(), Refusal>, run: &Run) {
     let (_, (at, ..), _, text, content, _) = *row;
     expect_same(rt, run.result, answer, at);
@@ -303,7 +303,7 @@ fn expect_untouched<R: Abort>(rt: &R, output: &FailingOutput, at: &str) {
     expect_same(rt, output.is_finished(), false, at);
 }
 
-/// The failure of this device is told, and each output holds a stated beginning.
+/// The failure of this device is reported, and each output holds a stated beginning.
 fn expect_told<R: Abort>(rt: &R, row: &Row<'_>, run: &Run, device: usize) {
     let (_, (at, ..), streams, text, content, _) = *row;
     let mut wanted = [0; DEVICES];
@@ -326,8 +326,8 @@ fn expect_told<R: Abort>(rt: &R, row: &Row<'_>, run: &Run, device: usize) {
     }
 }
 
-/// How many calls the device has where a call takes one octet: one for each octet that is read or written, one that finds the end of an
-/// input that is read to its end, and one that finishes an output. A device that has none with more octets at a call has none.
+/// How many calls the device has if a call reads or writes one octet: one for each octet that is read or written, one that finds the end of
+/// an input that is read to its end, and one that finishes an output. A device that is not called with more octets is not called here.
 fn octet_calls(row: &Row<'_>, device: usize) -> u64
     requires { device < 6 }
 {
@@ -347,7 +347,8 @@ fn octet_calls(row: &Row<'_>, device: usize) -> u64
     }
 }
 
-/// Each call of the device fails in turn, alone or with all after it, until a run meets no failure, and answers so. These are so many.
+/// Each call of the device fails in turn, alone or with all later ones, until a run meets no failure and ends with this result. There are
+/// this many calls.
 fn fails_in_turn<R: Abort + AllocGlobal>(
     rt: &R,
     row: &Row<'_>,
@@ -376,7 +377,7 @@ fn fails_in_turn<R: Abort + AllocGlobal>(
     panic!(rt; "no run without a failure");
 }
 
-/// Each call of each device does.
+/// Each call of each device fails in turn.
 fn all_fail_in_turn<R: Abort + AllocGlobal>(
     rt: &R,
     row: &Row<'_>,
@@ -416,7 +417,7 @@ fn each_failure_is_told_of_encrypted_objects(rt: HostRuntime) -> Result<(), Fail
     each_fails_in_turn(&rt, ENCRYPTED)
 }
 
-/// Objects and keys that are refused, whatever the payload beside them.
+/// Objects and keys that are refused, whatever the detached payload is.
 const REFUSED: &[(&str, &str, Refusal)] = &[
     (ABC_BESIDE, "{", Refusal::Json),
     (ABC_BESIDE, "{\"kty\":\"EC\"}", Refusal::Key),
@@ -427,7 +428,7 @@ const REFUSED: &[(&str, &str, Refusal)] = &[
     ("eyJhbGciOiJIUzI1NiJ9..AA", RFC7515_KEY, Refusal::NotOpened),
 ];
 
-/// A payload that fails is told before what its keys and its object are refused with, whether it is written or not.
+/// A failure of the payload is reported before a refusal of the keys or the object, whether the payload is written or not.
 #[test]
 fn a_failing_payload_is_told_before_a_refusal(rt: HostRuntime) -> Result<(), Fail> {
     for (text, keys, refusal) in REFUSED {
@@ -440,7 +441,7 @@ fn a_failing_payload_is_told_before_a_refusal(rt: HostRuntime) -> Result<(), Fai
     Ok(())
 }
 
-/// Of 10,000 zero octets the input fails after so many.
+/// A run over 10,000 zero octets, whose input fails after this many.
 fn broken<R: Abort + AllocGlobal>(
     rt: &R,
     words: &[&str],
@@ -487,7 +488,7 @@ fn calls_no_output<R: Abort + AllocGlobal>(rt: &R, row: &Row<'_>) -> Result<(), 
     Ok(())
 }
 
-/// Where nothing opens or verifies, an output that would fail is not called.
+/// If nothing opens or verifies, an output that would fail is not called.
 #[test]
 fn what_does_not_open_calls_no_output(rt: HostRuntime) -> Result<(), Fail> {
     let changed =

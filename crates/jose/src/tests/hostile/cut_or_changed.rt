@@ -12,8 +12,8 @@ use std::alloc::{AllocError, Global};
 use std::process::Abort;
 use std::test::Fail;
 
-/// The cause that refuses the compact text of RFC 7516 appendix A.3 of which so many octets are left: before the last dot there are
-/// fewer than five parts, and after it a tag that is too short, or no base64url text.
+/// The cause that refuses the first `len` octets of the compact text of RFC 7516 appendix A.3. Before the last dot there are fewer than
+/// five parts. After it there is a tag that is too short, or no base64url text.
 fn cause_of_cut_object(len: usize) -> Refusal {
     match len {
         174 | 178 | 182 | 186 | 190 | 194 => Refusal::NotOpened,
@@ -32,8 +32,8 @@ fn a_compact_object_that_is_cut_off_is_refused(rt: HostRuntime) -> Result<(), Fa
     Ok(())
 }
 
-/// The cause that refuses the token of RFC 7515 appendix A.1 of which so many octets are left. That of 171 ends in a `g`, whose last
-/// two bits are zero.
+/// The cause that refuses the first `len` octets of the token of RFC 7515 appendix A.1. The first 171 octets end in a `g`, whose last two
+/// bits are zero.
 fn cause_of_cut_token(len: usize) -> Refusal {
     match len {
         136 | 140 | 144 | 148 | 152 | 156 | 160 | 164 | 168 | 171 | 172 | 176 => {
@@ -65,7 +65,7 @@ fn refuses_cut_text<R: Abort + AllocGlobal>(rt: &R, reader: &Reader<'_>) -> Resu
     Ok(())
 }
 
-/// And of its keys.
+/// The reader refuses each beginning of its keys.
 fn refuses_cut_keys<R: Abort + AllocGlobal>(rt: &R, reader: &Reader<'_>) -> Result<(), Fail> {
     let keys = reader.given.keys.as_bytes();
     for len in 0..keys.len() {
@@ -84,7 +84,7 @@ fn json_that_is_cut_off_is_refused(rt: HostRuntime) -> Result<(), Fail> {
     Ok(())
 }
 
-/// The words refuse these inputs for what they hold, and write nothing.
+/// The command refuses these inputs because of their contents, and writes nothing.
 fn refuses<R: Abort + AllocGlobal>(
     rt: &R,
     words: &[&str],
@@ -103,7 +103,7 @@ fn refuses<R: Abort + AllocGlobal>(
     Ok(())
 }
 
-/// The octets, of which one has this bit changed.
+/// The octets with this bit of one of them changed.
 fn with_bit_changed(
     alloc: Global,
     octets: &[u8],
@@ -120,7 +120,7 @@ fn with_bit_changed(
 
 const BITS: [u8; 8] = [1, 2, 4, 8, 16, 32, 64, 128];
 
-/// The words refuse each text that differs from this one in a bit.
+/// The reader refuses each text that differs from this one in one bit.
 fn refuses_changed_text<R: Abort + AllocGlobal>(
     rt: &R,
     reader: &Reader<'_>,
@@ -139,7 +139,7 @@ fn refuses_changed_text<R: Abort + AllocGlobal>(
     Ok(())
 }
 
-/// And each text of keys.
+/// The reader refuses each text of keys that differs from its own in one bit.
 fn refuses_changed_keys<R: Abort + AllocGlobal>(rt: &R, reader: &Reader<'_>) -> Result<(), Fail> {
     let keys = reader.given.keys.as_bytes();
     for place in 0..keys.len() {

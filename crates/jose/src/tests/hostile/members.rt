@@ -1,5 +1,5 @@
-//! Objects of the other kind, members that are added, and members that come twice, of which the last one counts (RFC 7515 section 4, RFC
-//! 7517 section 4).
+//! Objects of the other kind, added members, and members that come twice, of which the last one counts (RFC 7515 section 4, RFC 7517
+//! section 4).
 use crate::tests::harness::Answer;
 use crate::tests::hostile::readers::{
     DECRYPTING, ENCRYPTING, FORMING_ENCRYPTED, FORMING_SIGNED, MAKING, NAMING, Reader, SIGNING,
@@ -38,11 +38,11 @@ fn another_object_is_refused(rt: HostRuntime) -> Result<(), Fail> {
     Ok(())
 }
 
-/// Members that are added to an encrypted object, and what becomes of it.
+/// Members that are added to an encrypted object, and the answers.
 const ADDED: &[(&str, Answer<'_>)] = &[
-    // What is not known is ignored, and is not authenticated where it is not protected.
+    // An unknown member is ignored. It is not authenticated if it is not protected.
     ("\"unprotected\":{\"x\":1}", Answer::Content(LINE)),
-    // A name in two headers.
+    // The name is in two headers.
     (
         "\"unprotected\":{\"enc\":\"A128CBC-HS256\"}",
         Answer::Refusal(Refusal::Header),
@@ -51,7 +51,7 @@ const ADDED: &[(&str, Answer<'_>)] = &[
         "\"header\":{\"alg\":\"dir\"}",
         Answer::Refusal(Refusal::Header),
     ),
-    // What nothing may hold.
+    // Members that no header may have.
     (
         "\"unprotected\":{\"zip\":\"DEF\"}",
         Answer::Refusal(Refusal::Unsupported),
@@ -77,7 +77,7 @@ fn members_that_are_added_open_nothing_else(rt: HostRuntime) -> Result<(), Fail>
     Ok(())
 }
 
-/// Members that a text has already, and the cause that refuses it where they come last.
+/// Members that a text already has, and the cause of the refusal if they come last.
 const TEXT_TWICE: &[(&Reader<'_>, &str, Refusal)] = &[
     (&MAKING, "\"bytes\":0", Refusal::Key),
     (&NAMING, "\"k\":\"\"", Refusal::Key),
@@ -92,7 +92,7 @@ const TEXT_TWICE: &[(&Reader<'_>, &str, Refusal)] = &[
     (&FORMING_ENCRYPTED, "\"iv\":\"A\"", Refusal::Base64),
 ];
 
-/// The same of keys.
+/// The same for the members of keys.
 const KEYS_TWICE: &[(&Reader<'_>, &str, Refusal)] = &[
     (&SIGNING, "\"kty\":\"EC\"", Refusal::Key),
     (&VERIFYING, "\"k\":\"AA\"", Refusal::KeyDoesNotFit),
@@ -103,7 +103,7 @@ const KEYS_TWICE: &[(&Reader<'_>, &str, Refusal)] = &[
     ),
 ];
 
-/// Where a name comes twice the last one counts (RFC 7515 section 4, RFC 7517 section 4).
+/// If a name comes twice, the last member counts (RFC 7515 section 4, RFC 7517 section 4).
 #[test]
 fn of_a_member_that_comes_twice_the_last_counts(rt: HostRuntime) -> Result<(), Fail> {
     for (reader, member, refusal) in TEXT_TWICE {
@@ -128,7 +128,7 @@ fn of_a_member_of_a_key_that_comes_twice_the_last_counts(rt: HostRuntime) -> Res
     Ok(())
 }
 
-/// Headers that take the place of one whose `alg` is A128KW, which the key fits.
+/// Headers that replace one whose `alg` is A128KW, which the key fits.
 const HEADER_TWICE: &[(&str, Answer<'_>)] = &[
     (
         "\"unprotected\":{\"alg\":\"dir\",\"alg\":\"A128KW\"}",

@@ -7,7 +7,7 @@ use octets::Refusal;
 use std::process::Abort;
 use std::test::Fail;
 
-/// What makes the text of an object no JSON, before its members and after it (RFC 8259, RFC 3629).
+/// Octets before the members of an object's text, and after its end, with which it is no JSON (RFC 8259, RFC 3629).
 const NO_JSON: &[(&[u8], &[u8])] = &[
     // An octet that UTF-8 never has, an octet too few, an overlong form, a surrogate, and more than U+10FFFF.
     (b"\"x\":\"\xff\",", b""),
@@ -26,7 +26,7 @@ const NO_JSON: &[(&[u8], &[u8])] = &[
     (b"\0", b""),
     (b"\"x\":\"\0\",", b""),
     (b"", b"\0"),
-    // Two values, and what is none.
+    // Two values, and texts that are no value.
     (b"", b"{}"),
     (b"", b"\n{}"),
     (b"", b" 1"),

@@ -1,5 +1,5 @@
-//! The commands that read JSON, each with inputs that it accepts, and what puts a hostile text in their place. The inputs are
-//! those of the standards' examples, of Python's `hmac` and of Python's `hashlib`.
+//! The commands that read JSON, each with inputs that it accepts, and functions that replace these inputs with a hostile text. The inputs
+//! are those of the standards' examples, of Python's `hmac` and of Python's `hashlib`.
 use crate::tests::command_words::{DECRYPT, ENCRYPT, SIGN_COMPACT, VERIFY};
 use crate::tests::harness::{
     Answer, Given, GivenOctets, ROOM, expect, expect_done, outcome_of_octets,
@@ -20,7 +20,7 @@ pub(crate) struct Reader<'a> {
     pub(crate) words: &'a [&'a str],
     pub(crate) given: Given<'a>,
     pub(crate) answer: Answer<'a>,
-    /// Why a text that is not in JSON form is refused in the place of the first input: an object would be in compact form.
+    /// The cause that refuses a first input that is not in JSON form. If the input is an object, it would then be in compact form.
     pub(crate) other_form: Refusal,
 }
 
@@ -136,18 +136,18 @@ pub(crate) fn readers() -> &'static [Reader<'static>] {
     READERS
 }
 
-/// Those whose first input is an object.
+/// The readers whose first input is an object.
 pub(crate) fn object_readers() -> &'static [Reader<'static>] {
     &READERS[4..]
 }
 
-/// What a message has of a hostile text.
+/// The part of a hostile text that a message shows.
 pub(crate) fn shown(hostile: &[u8]) -> &str {
     let beginning = hostile.get(..400).unwrap_or(hostile);
     str::from_utf8(beginning).unwrap_or("octets that are not UTF-8")
 }
 
-/// The words answer so.
+/// The command has this answer.
 pub(crate) fn answers<R: Abort + AllocGlobal>(
     rt: &R,
     words: &[&str],
@@ -160,7 +160,7 @@ pub(crate) fn answers<R: Abort + AllocGlobal>(
     Ok(())
 }
 
-/// The reader answers so where this text stands in the place of its first input.
+/// The reader has this answer if its first input is replaced with this text.
 pub(crate) fn answers_to_text<R: Abort + AllocGlobal>(
     rt: &R,
     reader: &Reader<'_>,
@@ -174,7 +174,7 @@ pub(crate) fn answers_to_text<R: Abort + AllocGlobal>(
     answers(rt, reader.words, &given, text, answer)
 }
 
-/// And in the place of its keys, where it has some.
+/// The reader has this answer if its keys are replaced with these. A reader without keys is passed over.
 pub(crate) fn answers_to_keys<R: Abort + AllocGlobal>(
     rt: &R,
     reader: &Reader<'_>,
@@ -199,7 +199,7 @@ fn each_reader_accepts_its_inputs(rt: HostRuntime) -> Result<(), Fail> {
     Ok(())
 }
 
-/// A JSON text of an object with these octets before its members, and these after it.
+/// A JSON text of an object, with octets added before its members and octets added after its end.
 pub(crate) fn changed(
     alloc: Global,
     text: &str,
@@ -214,7 +214,7 @@ pub(crate) fn changed(
     Ok(changed)
 }
 
-/// Each reader refuses its first input and its keys with these octets before their members, and these after them.
+/// Each reader refuses its first input and its keys if these octets are added before their members and after their end.
 pub(crate) fn each_refuses<R: Abort + AllocGlobal>(
     rt: &R,
     first: &[u8],

@@ -11,7 +11,7 @@ use std::process::Abort;
 use std::test::Fail;
 use tokens::Work;
 
-/// An object that holds a list that is 127 deep nests 128 deep.
+/// An object with a list that is 127 deep is 128 deep.
 #[test]
 fn json_that_is_too_deep_is_refused(rt: HostRuntime) -> Result<(), Fail> {
     let lists = nested(rt.alloc(), "\"x\":", 127, ",")?;
@@ -22,7 +22,7 @@ fn json_that_is_too_deep_is_refused(rt: HostRuntime) -> Result<(), Fail> {
     each_refuses(&rt, opened.as_bytes(), b"", Refusal::Json)
 }
 
-/// A number of 300 digits is read, and is none of 64 bits; one of 400 is not read.
+/// A number of 300 digits is read, but does not fit in 64 bits. A number of 400 digits is not read.
 #[test]
 fn numbers_of_many_digits_are_refused(rt: HostRuntime) -> Result<(), Fail> {
     let number = repeated(rt.alloc(), "\"x\":", "9", 300, ",")?;
@@ -31,7 +31,7 @@ fn numbers_of_many_digits_are_refused(rt: HostRuntime) -> Result<(), Fail> {
     each_refuses(&rt, number.as_bytes(), b"", Refusal::Json)
 }
 
-/// Each reader of an object answers as it does without this member.
+/// Each reader of an object answers the same with this member as without it.
 fn each_ignores<R: Abort + AllocGlobal>(rt: &R, member: &str) -> Result<(), Fail> {
     for reader in object_readers() {
         let text = changed(rt.alloc(), reader.given.text, member.as_bytes(), b"")?;
@@ -40,7 +40,7 @@ fn each_ignores<R: Abort + AllocGlobal>(rt: &R, member: &str) -> Result<(), Fail
     Ok(())
 }
 
-/// Members that are not known: 100 lists, a pair of surrogates, a string and a name of 1 MiB.
+/// Unknown members: 100 nested lists, a pair of surrogates, a string of 1 MiB and a name of 1 MiB.
 #[test]
 fn a_member_that_is_not_known_may_hold_much(rt: HostRuntime) -> Result<(), Fail> {
     each_ignores(&rt, &nested(rt.alloc(), "\"x\":", 100, ",")?)?;
@@ -52,7 +52,7 @@ fn a_member_that_is_not_known_may_hold_much(rt: HostRuntime) -> Result<(), Fail>
     each_ignores(&rt, &repeated(rt.alloc(), "\"", "a", 1_048_576, "\":1,")?)
 }
 
-/// Compact texts with 1 MiB of dots.
+/// A compact text of 1 MiB of dots.
 #[test]
 fn a_compact_text_of_many_parts_is_refused(rt: HostRuntime) -> Result<(), Fail> {
     let dots = repeated(rt.alloc(), "", ".", 1_048_576, "")?;
@@ -63,14 +63,14 @@ fn a_compact_text_of_many_parts_is_refused(rt: HostRuntime) -> Result<(), Fail> 
     Ok(())
 }
 
-/// A recipient by a password, without an encrypted key, with 977 iterations, and with ten.
+/// A recipient with a password and without an encrypted key: with 977 iterations, and with ten.
 const BY_977: &str =
     "{\"header\":{\"alg\":\"PBES2-HS256+A128KW\",\"p2c\":977,\"p2s\":\"AAECAwQFBgc\"}}";
 
 const BY_TEN: &str =
     "{\"header\":{\"alg\":\"PBES2-HS256+A128KW\",\"p2c\":10,\"p2s\":\"AAECAwQFBgc\"}}";
 
-/// 256 such recipients are refused for 64 passwords, after this work.
+/// 256 of these recipients are refused for 64 passwords, after this work.
 fn refuses_many_pairs<R: Abort + AllocGlobal>(
     rt: &R,
     recipient: &str,
@@ -96,7 +96,7 @@ fn refuses_many_pairs<R: Abort + AllocGlobal>(
     )
 }
 
-/// 16,384 pairs have 16,007,168 iterations together, which is more than 16,000,000, or 163,840.
+/// 16,384 pairs have 16,007,168 iterations together, which is more than `MOST_ITERATIONS`, or 163,840.
 #[test]
 fn the_work_of_many_pairs_has_one_limit(rt: HostRuntime) -> Result<(), Fail> {
     let none = Work {

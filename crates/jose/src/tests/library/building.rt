@@ -1,11 +1,11 @@
-//! Objects that are built of their members, or refused, by docs/SPECIFICATION.md.
+//! Objects that are built from their members, or refused, by docs/SPECIFICATION.md.
 use crate::tests::harness::expect_same;
 use objects::{Jwe, JweParts, Jws, JwsParts, RecipientParts, SignatureParts};
 use octets::Refusal;
 use serde_json::{Map, Value};
 use std::process::Abort;
 
-/// The members of a JSON object, whose numbers may be any.
+/// The members of a JSON object. Their numbers may be any.
 fn members<R: Abort + AllocGlobal>(rt: &R, text: &str) -> Map<String, Value> {
     match Value::from_str(rt.alloc(), text) {
         Ok(Value::Object(members)) => members,
@@ -29,7 +29,7 @@ fn signature<R: Abort + AllocGlobal>(rt: &R, protected: &str, header: &str) -> S
     }
 }
 
-/// A signed object with so many times the signature.
+/// A signed object with `count` copies of the signature.
 fn signed<R: Abort + AllocGlobal>(
     rt: &R,
     protected: &str,
@@ -49,13 +49,13 @@ fn signed<R: Abort + AllocGlobal>(
     Jws::build(rt.alloc(), parts)
 }
 
-/// A protected header, an unprotected one, of how many signatures they are, and what refuses the object.
+/// A protected header, an unprotected header, the number of signatures that have them, and the cause of a refusal.
 const SIGNED: &[(&str, &str, usize, Option<Refusal>)] = &[
-    // Whole records, of one signature and of 256.
+    // Whole records, with one signature and with 256.
     ("eyJhbGciOiJIUzI1NiJ9", "{}", 1, None),
     ("eyJhbGciOiJIUzI1NiJ9", "{\"kid\":\"1\"}", 256, None),
     ("", "{\"alg\":\"HS256\"}", 1, None),
-    // The text nests 127 deep at most: one signature has a header of 126.
+    // The text nests at most 127 deep, so the header of one signature may be 126 deep.
     (
         "eyJhbGciOiJIUzI1NiJ9",
         "{\"x\":[[[[[[[[[[[[[[[[[[[[[[[[[[[[[[[[[[[[[[[[[[[[[[[[[[[[[[[[[[[[[[[[[[[[[[[[[[[[[[[[[[[[[[[[[[[[[[[[[[[[[[[[[[[[[[[[[[[[[[[[[[[[[]]]]]]]]]]]]]]]]]]]]]]]]]]]]]]]]]]]]]]]]]]]]]]]]]]]]]]]]]]]]]]]]]]]]]]]]]]]]]]]]]]]]]]]]]]]]]]]]]]]]]]]]]]]]]]]]]]]]]]]]]]]]]}",
@@ -68,7 +68,7 @@ const SIGNED: &[(&str, &str, usize, Option<Refusal>)] = &[
         1,
         Some(Refusal::Json),
     ),
-    // A number that is not whole, none, too many, and what is wrong with the protected header.
+    // A number that is not whole, no signature, too many signatures, and faults of the protected header.
     (
         "eyJhbGciOiJIUzI1NiJ9",
         "{\"x\":[1.5]}",
@@ -115,7 +115,7 @@ fn recipient<R: Abort + AllocGlobal>(rt: &R, header: &str) -> RecipientParts {
     }
 }
 
-/// An encrypted object with so many times the recipient.
+/// An encrypted object with `count` copies of the recipient.
 fn encrypted<R: Abort + AllocGlobal>(
     rt: &R,
     protected: &str,
@@ -140,9 +140,9 @@ fn encrypted<R: Abort + AllocGlobal>(
     Jwe::build(rt.alloc(), parts)
 }
 
-/// A protected header, a shared one, that of each recipient, how many these are, and what refuses the object.
+/// A protected header, a shared header, the header of each recipient, the number of recipients, and the cause of a refusal.
 const ENCRYPTED: &[(&str, &str, &str, usize, Option<Refusal>)] = &[
-    // Whole records, of one recipient and of 256.
+    // Whole records, with one recipient and with 256.
     (
         "eyJlbmMiOiJBMTI4R0NNIn0",
         "{}",
@@ -158,7 +158,7 @@ const ENCRYPTED: &[(&str, &str, &str, usize, Option<Refusal>)] = &[
         None,
     ),
     ("", "{\"alg\":\"dir\",\"enc\":\"A128GCM\"}", "{}", 1, None),
-    // The text nests 127 deep at most: one recipient has a header of 126, and so is the shared one.
+    // The text nests at most 127 deep, so the header of one recipient may be 126 deep, and so may the shared header.
     (
         "eyJlbmMiOiJBMTI4R0NNIn0",
         "{}",
@@ -187,7 +187,7 @@ const ENCRYPTED: &[(&str, &str, &str, usize, Option<Refusal>)] = &[
         1,
         Some(Refusal::Json),
     ),
-    // A number that is not whole, none, too many, and what is wrong with the protected header.
+    // A number that is not whole, no recipient, too many recipients, and faults of the protected header.
     (
         "eyJlbmMiOiJBMTI4R0NNIn0",
         "{\"x\":1.5}",
@@ -281,7 +281,7 @@ fn an_encrypted_object_is_made_or_refused(rt: HostRuntime) {
     }
 }
 
-/// How a signed object of so many signatures is written.
+/// A signed object with `count` signatures is written as this text.
 fn expect_jws<R: Abort + AllocGlobal>(rt: &R, header: &str, count: usize, json: &str) {
     let made = signed(rt, "eyJhbGciOiJIUzI1NiJ9", header, count).expect(rt, "an object");
     let written = made.to_json(rt.alloc(), false).expect(rt, "memory");
@@ -304,7 +304,7 @@ fn signed_objects_are_made_of_their_members(rt: HostRuntime) {
     );
 }
 
-/// How an encrypted object of so many recipients is written.
+/// An encrypted object with `count` recipients is written as this text.
 fn expect_jwe<R: Abort + AllocGlobal>(rt: &R, count: usize, json: &str) {
     let made = encrypted(
         rt,

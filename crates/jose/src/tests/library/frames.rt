@@ -1,4 +1,4 @@
-//! The texts around a content and around what it is signed or sealed by: RFC 7515 and RFC 7516 section 7, in the layout of
+//! The texts around a content and around its signatures or its tag: RFC 7515 and RFC 7516 section 7, in the layout of
 //! docs/SPECIFICATION.md.
 use crate::tests::harness::expect_same;
 use crate::tests::samples::ABC;
@@ -8,7 +8,7 @@ use octets::Refusal;
 use std::alloc::{AllocError, Global};
 use std::process::Abort;
 
-/// The texts one after another, each with a star behind it.
+/// The texts one after another, each followed by a star.
 fn with_stars(
     alloc: Global,
     texts: Result<Vec<String>, Refusal>,
@@ -25,7 +25,7 @@ fn with_stars(
     Ok(Ok(all))
 }
 
-/// The texts are these, or none are.
+/// The texts are these, or the refusal is this one.
 fn expect_frame<R: Abort + AllocGlobal>(
     rt: &R,
     texts: Result<Vec<String>, Refusal>,
@@ -39,7 +39,7 @@ fn expect_frame<R: Abort + AllocGlobal>(
     }
 }
 
-/// A signed object, whether it is compact and whether the payload is detached, and its texts.
+/// A signed object, whether the form is compact, whether the payload is detached, and the texts.
 const JWS_FRAMES: &[(&str, bool, bool, Result<&str, Refusal>)] = &[
     (ABC, true, false, Ok("eyJhbGciOiJIUzI1NiJ9.*.**")),
     (ABC, true, true, Ok("eyJhbGciOiJIUzI1NiJ9..**")),
@@ -80,7 +80,7 @@ fn a_signed_object_has_a_frame(rt: HostRuntime) {
     }
 }
 
-/// An encrypted object, whether it is compact and whether the ciphertext is detached, and its texts.
+/// An encrypted object, whether the form is compact, whether the ciphertext is detached, and the texts.
 const JWE_FRAMES: &[(&str, bool, bool, Result<&str, Refusal>)] = &[
     (
         RFC7516_A3,

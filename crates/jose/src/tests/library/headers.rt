@@ -5,7 +5,7 @@ use objects::{Header, Jws, Signature, read_protected};
 use octets::Refusal;
 use std::process::Abort;
 
-/// Protected headers, and how many members each has.
+/// Protected headers, and how many members each of them has.
 const PROTECTED: &[(&[u8], Result<usize, Refusal>)] = &[
     (b"", Ok(0)),
     (b"{}", Ok(0)),
@@ -39,7 +39,7 @@ fn protected_headers_are_objects(rt: HostRuntime) {
     }
 }
 
-/// Three parts, and whether they are no header.
+/// Three parts of a header, and the cause if they make no header.
 const PARTS: &[(&str, &str, &str, Option<Refusal>)] = &[
     ("{\"alg\":1}", "{\"enc\":1}", "{\"kid\":1}", None),
     ("{\"alg\":1}", "{\"Alg\":1}", "{\"al\":1}", None),
@@ -82,7 +82,7 @@ fn no_name_stands_in_two_parts(rt: HostRuntime) {
     }
 }
 
-/// Headers, and what their `alg` is.
+/// Headers and their `alg`.
 const ALGORITHMS: &[(&str, Result<Option<&str>, Refusal>)] = &[
     ("{\"enc\":\"A128GCM\"}", Ok(None)),
     ("{\"alg\":\"dir\",\"enc\":1}", Ok(Some("dir"))),
@@ -103,7 +103,7 @@ fn an_algorithm_is_a_string(rt: HostRuntime) {
     }
 }
 
-/// Headers, and what their `enc` is.
+/// Headers and their `enc`.
 const ENCRYPTIONS: &[(&str, Result<Option<&str>, Refusal>)] = &[
     ("{\"alg\":\"dir\"}", Ok(None)),
     ("{\"alg\":1,\"enc\":\"A128GCM\"}", Ok(Some("A128GCM"))),
@@ -123,7 +123,7 @@ fn a_content_encryption_is_a_string(rt: HostRuntime) {
     }
 }
 
-/// Headers, and what their `p2c` is.
+/// Headers and their `p2c`.
 const COUNTS: &[(&str, Result<Option<u64>, Refusal>)] = &[
     ("{}", Ok(None)),
     ("{\"p2c\":0}", Ok(Some(0))),
@@ -149,7 +149,7 @@ fn a_count_is_a_whole_number(rt: HostRuntime) {
     }
 }
 
-/// Headers, and how many octets their `p2s` has.
+/// Headers and the number of octets in their `p2s`.
 const SALTS: &[(&str, Result<Option<u64>, Refusal>)] = &[
     ("{}", Ok(None)),
     ("{\"p2s\":\"c2FsdC1vY3Q\"}", Ok(Some(8))),
@@ -178,7 +178,7 @@ fn a_salt_has_eight_octets_at_least(rt: HostRuntime) {
     }
 }
 
-/// What `iv` and `tag` hold, and how many octets that is.
+/// Values of `iv` or `tag`, and the number of their octets.
 const OCTETS: &[(&str, Result<Option<u64>, Refusal>)] = &[
     ("\"\"", Ok(Some(0))),
     ("\"AA\"", Ok(Some(1))),
@@ -205,7 +205,7 @@ fn expect_octets_read(
     expect_same(rt, len, expected, text);
 }
 
-/// One of the two names holds this, and the other is absent.
+/// A header with this `iv` has the expected octets in it, and has no `tag`.
 fn expect_iv<R: Abort + AllocGlobal>(rt: &R, held: &str, expected: Result<Option<u64>, Refusal>) {
     let text = format!(in rt.alloc(); "{{\"iv\":{held}}}").expect(rt, "memory");
     let members = read_header(rt, text.as_str());
@@ -236,7 +236,7 @@ fn expect_signature_header(rt: &impl Abort, signature: &Signature) {
     expect_cty(rt, &header);
 }
 
-/// A signature whose `alg` is protected, and whose `cty` is not.
+/// A signature with a protected `alg` and an unprotected `cty`.
 #[test]
 fn a_signature_has_a_joint_header(rt: HostRuntime) {
     let text =

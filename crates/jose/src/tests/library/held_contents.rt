@@ -1,6 +1,6 @@
-//! How many calls of an output write a content that is held: one for what each piece of a text settles, one for the characters that waited
-//! for the end, and one that finishes it. The numbers come from this rule, and from how many characters a piece has: 4,096, of which those
-//! of whole groups are settled, up to the last that leaves two to five.
+//! How many calls of an output write a held content: one for the octets that each piece of a text settles, one for those of the characters
+//! that waited for the end, and one that finishes the output. The numbers come from this rule and from the `PIECE` characters of a piece.
+//! Of these the whole groups are settled, up to the last one that leaves two to five characters.
 use crate::tests::harness::{ROOM, expect_octets, expect_same};
 use crate::tests::samples::repeated;
 use objects::{HeldContent, Jws};
@@ -8,7 +8,7 @@ use octets::{Failing, FailingOutput, Refusal};
 use std::process::Abort;
 use std::test::Fail;
 
-/// How often `YWJj` stands in the text of a payload, how it ends, and how many calls write it.
+/// How often the text of a payload repeats `YWJj`, how it ends, and how many calls write it.
 const TEXTS: &[(usize, &str, u64)] = &[
     // Nothing is written.
     (0, "", 1),
@@ -24,11 +24,11 @@ const TEXTS: &[(usize, &str, u64)] = &[
     (1024, "YQ", 4),
     (1025, "", 4),
     (2048, "", 4),
-    // A third one.
+    // A third piece.
     (2048, "YWI", 5),
 ];
 
-/// Each of so many calls is made: where it fails, alone or with all after it, writing fails. No other call is made.
+/// Exactly `calls` calls are made. If one of them fails, alone or with all later ones, writing fails.
 fn is_written_by<R: Abort + AllocGlobal>(
     rt: &R,
     held: HeldContent<'_>,
@@ -50,7 +50,7 @@ fn is_written_by<R: Abort + AllocGlobal>(
     Ok(())
 }
 
-/// A payload that is held as the text that was received.
+/// The payload is held as the text that was received.
 #[test]
 fn a_text_is_written_by_a_call_for_each_piece(rt: HostRuntime) -> Result<(), Fail> {
     for &(count, end, calls) in TEXTS {
@@ -64,7 +64,7 @@ fn a_text_is_written_by_a_call_for_each_piece(rt: HostRuntime) -> Result<(), Fai
     Ok(())
 }
 
-/// Octets are written by one call, however many they are, and finished by another.
+/// Octets are written by one call, however many there are, and finished by another.
 #[test]
 fn octets_that_are_held_are_written_by_one_call(rt: HostRuntime) -> Result<(), Fail> {
     let rows: &[(&[u8], u64)] = &[(b"", 1), (b"a", 2), (&[97; 10_000], 2)];

@@ -6,8 +6,8 @@ use octets::Refusal;
 use std::process::Abort;
 use std::test::Fail;
 
-/// Which way the key of a recipient is managed, with the salt input and the count of a password, or the initialization vector of a
-/// key wrap in GCM and the length of its tag.
+/// The recipient's key is managed in this way. `salt` and `count` are the salt input and the count of a password, or the initialization
+/// vector of a key wrap in GCM and the length of its tag.
 pub(crate) fn expect_management(
     rt: &impl Abort,
     recipient: &Recipient,
@@ -27,7 +27,7 @@ pub(crate) fn expect_management(
     expect_same(rt, p2c, count, recipient.alg());
 }
 
-/// Joint headers, and how the key of their recipient is managed (RFC 7518 section 4.1): the way, and what it reads.
+/// Joint headers, and how the key of their recipient is managed (RFC 7518 section 4.1): the way, and the parameters that it reads.
 const MANAGED: &[(&str, &str, &[u8], u64)] = &[
     ("\"alg\":\"dir\"", "direct", b"", 0),
     ("\"alg\":\"A128KW\"", "key wrap", b"", 0),
@@ -88,7 +88,7 @@ fn a_key_is_managed_by_its_algorithm(rt: HostRuntime) -> Result<(), Fail> {
     Ok(())
 }
 
-/// These texts are refused, and why.
+/// Each of these texts is refused for its cause.
 fn expect_refused<R: Abort + AllocGlobal>(rt: &R, rows: &[(&str, Refusal)]) {
     for (text, refusal) in rows {
         match Jwe::read(rt.alloc(), text.as_bytes(), None) {
@@ -100,11 +100,11 @@ fn expect_refused<R: Abort + AllocGlobal>(rt: &R, rows: &[(&str, Refusal)]) {
 
 /// Texts in compact form, in the order of their causes.
 const COMPACT_TEXTS: &[(&str, Refusal)] = &[
-    // Parts that are not five.
+    // Texts that do not have five parts.
     ("", Refusal::Form),
     ("...", Refusal::Form),
     (".....", Refusal::Form),
-    // Trailing bits, in each part.
+    // Trailing bits in each part.
     ("e3.....", Refusal::Form),
     ("e31....", Refusal::Base64),
     ("e30.AB...", Refusal::Base64),
@@ -123,7 +123,7 @@ fn compact_texts_are_refused_in_order(rt: HostRuntime) {
 
 /// Texts in JSON form, in the order of their causes.
 const JSON_TEXTS: &[(&str, Refusal)] = &[
-    // JSON texts: none, a float, and members of other types.
+    // JSON texts: no JSON, a float, and members of other types.
     ("{", Refusal::Json),
     ("{\"ciphertext\":1.5}", Refusal::Number),
     (" {}", Refusal::Form),
@@ -135,7 +135,7 @@ const JSON_TEXTS: &[(&str, Refusal)] = &[
     ("{\"ciphertext\":\"AB\",\"aad\":null}", Refusal::Form),
     ("{\"ciphertext\":\"AB\",\"protected\":{}}", Refusal::Form),
     ("{\"ciphertext\":\"AB\",\"encrypted_key\":1}", Refusal::Form),
-    // Lists that are none, or not of objects, or hold no recipient, and what may not stand beside one.
+    // Lists of a wrong type, lists that do not hold objects or hold no recipient, and members that may not be next to a list.
     ("{\"ciphertext\":\"\",\"recipients\":[]}", Refusal::Form),
     ("{\"ciphertext\":\"\",\"recipients\":{}}", Refusal::Form),
     ("{\"ciphertext\":\"\",\"recipients\":null}", Refusal::Form),
@@ -159,7 +159,7 @@ const JSON_TEXTS: &[(&str, Refusal)] = &[
         "{\"ciphertext\":\"\",\"header\":\"\",\"recipients\":[{}]}",
         Refusal::Form,
     ),
-    // Each step over all recipients before the next.
+    // Each step is done over all recipients before the next step.
     (
         "{\"ciphertext\":\"AB\",\"recipients\":[{},{\"encrypted_key\":1}]}",
         Refusal::Form,
@@ -176,7 +176,7 @@ const JSON_TEXTS: &[(&str, Refusal)] = &[
         "{\"ciphertext\":\"AB\",\"protected\":\"AA\"}",
         Refusal::Base64,
     ),
-    // Each member before the protected header.
+    // Each member is decoded before the protected header is read.
     (
         "{\"ciphertext\":\"\",\"iv\":\"AB\",\"protected\":\"AA\"}",
         Refusal::Base64,
@@ -200,7 +200,7 @@ fn json_texts_are_refused_in_order(rt: HostRuntime) {
     expect_refused(&rt, JSON_TEXTS);
 }
 
-/// And then their headers.
+/// Texts in JSON form whose headers are refused, in the order of their causes.
 const HEADERS: &[(&str, Refusal)] = &[
     // The protected header: no JSON, a float, and a list.
     ("{\"ciphertext\":\"\",\"protected\":\"AA\"}", Refusal::Json),
@@ -225,7 +225,7 @@ const HEADERS: &[(&str, Refusal)] = &[
         "{\"ciphertext\":\"\",\"header\":{\"alg\":\"dir\",\"enc\":\"x\"},\"unprotected\":{\"zip\":1}}",
         Refusal::Unsupported,
     ),
-    // The headers of the second recipient: no `alg`, another `enc`, and then a `crit`.
+    // The headers of the second recipient: no `alg`, another `enc`, and, in the last row, a `crit`.
     (
         "{\"ciphertext\":\"\",\"unprotected\":{\"enc\":\"x\"},\"recipients\":[{\"header\":{\"alg\":\"dir\",\"crit\":1}},{}]}",
         Refusal::Header,
@@ -234,7 +234,7 @@ const HEADERS: &[(&str, Refusal)] = &[
         "{\"ciphertext\":\"\",\"unprotected\":{\"alg\":\"dir\"},\"recipients\":[{\"header\":{\"enc\":\"x\",\"zip\":1}},{\"header\":{\"enc\":\"y\"}}]}",
         Refusal::Header,
     ),
-    // Another `enc` of the third.
+    // Another `enc` in the header of the third recipient.
     (
         "{\"ciphertext\":\"\",\"unprotected\":{\"alg\":\"dir\"},\"recipients\":[{\"header\":{\"enc\":\"x\"}},{\"header\":{\"enc\":\"x\"}},{\"header\":{\"enc\":\"y\"}}]}",
         Refusal::Header,
@@ -250,7 +250,7 @@ fn headers_are_refused_in_order(rt: HostRuntime) {
     expect_refused(&rt, HEADERS);
 }
 
-/// Objects as they are read, in flattened JSON form, and in compact form where that has room for them.
+/// Objects as they are read, in flattened JSON form, and in compact form if it has room for them.
 const WRITTEN: &[(&str, &str, Option<&str>)] = &[
     (RFC7516_A3, RFC7516_A3_FLATTENED, Some(RFC7516_A3)),
     (
@@ -258,7 +258,7 @@ const WRITTEN: &[(&str, &str, Option<&str>)] = &[
         "{\"ciphertext\":\"KDlTtXchhZTGufMYmOYGS4HffxPSUrfmqCHXaI9wOGY\",\"encrypted_key\":\"6KB707dM9YTIgHtLvtgWQ8mKwboJW3of9locizkDTHzBC2IlrT1oOQ\",\"header\":{\"alg\":\"A128KW\",\"kid\":\"7\"},\"iv\":\"AxY8DCtDaGlsbGljb3RoZQ\",\"protected\":\"eyJlbmMiOiJBMTI4Q0JDLUhTMjU2In0\",\"tag\":\"Mz-VPPyU4RlcuYv1IwIvzw\",\"unprotected\":{\"jku\":\"https://server.example.com/keys.jwks\"}}",
         None,
     ),
-    // Additional data alone, a header of the recipient alone, and a shared header alone have no place in a compact text.
+    // Additional data, a recipient's header and a shared header each have no place in a compact text.
     (
         "{\"aad\":\"YQ\",\"ciphertext\":\"\",\"protected\":\"eyJhbGciOiJkaXIiLCJlbmMiOiJBMTI4R0NNIn0\"}",
         "{\"aad\":\"YQ\",\"ciphertext\":\"\",\"protected\":\"eyJhbGciOiJkaXIiLCJlbmMiOiJBMTI4R0NNIn0\"}",
@@ -274,7 +274,7 @@ const WRITTEN: &[(&str, &str, Option<&str>)] = &[
         "{\"ciphertext\":\"AA\",\"unprotected\":{\"alg\":\"dir\",\"enc\":\"A128GCM\"}}",
         None,
     ),
-    // Optional members that are empty are left out.
+    // Empty optional members are left out.
     (
         "{\"aad\":\"\",\"ciphertext\":\"\",\"encrypted_key\":\"\",\"header\":{},\"iv\":\"\",\"protected\":\"eyJhbGciOiJkaXIiLCJlbmMiOiJBMTI4R0NNIn0\",\"tag\":\"\",\"unprotected\":{}}",
         "{\"ciphertext\":\"\",\"protected\":\"eyJhbGciOiJkaXIiLCJlbmMiOiJBMTI4R0NNIn0\"}",

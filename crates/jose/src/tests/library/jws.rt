@@ -5,12 +5,12 @@ use octets::{MemoryOutput, Refusal};
 use std::alloc::{AllocError, Global};
 use std::process::Abort;
 
-/// Texts that are refused, and why.
+/// Texts that are refused, and the causes.
 const REFUSED: &[(&str, Refusal)] = &[
     // JSON form without a signature, or without a payload.
     (" \n{\"payload\":\"YWJj\"}", Refusal::Form),
     ("{\"signature\":\"sxvq\"}", Refusal::Form),
-    // Lists that are none, or not of objects, or hold no signature, and what may not stand beside one.
+    // Lists and headers of a wrong type, lists that do not hold objects or hold no signature, and members that may not be next to a list.
     ("{\"payload\":\"YWJj\",\"signatures\":[]}", Refusal::Form),
     ("{\"payload\":\"YWJj\",\"signatures\":\"\"}", Refusal::Form),
     ("{\"payload\":\"YWJj\",\"signatures\":null}", Refusal::Form),
@@ -36,7 +36,7 @@ const REFUSED: &[(&str, Refusal)] = &[
         "{\"payload\":\"YWJj\",\"header\":{\"a\":1},\"signatures\":[{\"signature\":\"sxvq\"}]}",
         Refusal::Form,
     ),
-    // Each step over all signatures before the next.
+    // Each step is done over all signatures before the next step.
     (
         "{\"payload\":\"YWJj\",\"signatures\":[{\"protected\":\"x\",\"signature\":\"\"},{\"signature\":1}]}",
         Refusal::Form,
@@ -66,7 +66,7 @@ const REFUSED: &[(&str, Refusal)] = &[
         "{\"payload\":\"YWJj\",\"protected\":\"eyJhbGciOiJIUzI1NiJ9\",\"header\":{\"alg\":\"HS256\"},\"signature\":\"\"}",
         Refusal::Header,
     ),
-    // Parts that are not three.
+    // Texts that do not have three parts.
     ("", Refusal::Form),
     ("eyJhbGciOiJIUzI1NiJ9.YWJj", Refusal::Form),
     ("=.=.=.=", Refusal::Form),
@@ -74,15 +74,15 @@ const REFUSED: &[(&str, Refusal)] = &[
     ("eyJhbGciOiJIUzI1NiJ.YWJj.sxvq", Refusal::Base64),
     ("eyJhbGciOiJIUzI1NiJ9.YWK.sxvq", Refusal::Base64),
     ("eyJhbGciOiJIUzI1NiJ9.YWJj.sx", Refusal::Base64),
-    // The header: no JSON, a float, a list, and none.
+    // The header: no JSON, a float, and a list.
     ("eyJhbGciOiJIUzI1NiI.YWJj.", Refusal::Json),
     ("eyJhbGciOiJIUzI1NiIsIngiOjEuNX0.YWJj.", Refusal::Number),
     ("WyJhbGciXQ.YWJj.", Refusal::Header),
-    // No `alg`, and one that is a number.
+    // No `alg`, no header, and an `alg` that is a number.
     ("e30.YWJj.", Refusal::Header),
     (".YWJj.", Refusal::Header),
     ("eyJhbGciOjF9.YWJj.", Refusal::Header),
-    // `crit`, whatever it holds, but not before `alg`.
+    // A `crit` is refused whatever it holds, but a missing `alg` is refused before it.
     (
         "eyJhbGciOiJIUzI1NiIsImNyaXQiOltdfQ.YWJj.",
         Refusal::Unsupported,
@@ -104,12 +104,12 @@ fn the_first_cause_refuses_a_signed_text(rt: HostRuntime) {
     }
 }
 
-/// How the text of a payload may end behind 4,096 characters, and what refuses it.
+/// How the text of a payload may end after 4,096 characters, and the cause of a refusal.
 const ENDS: &[(&str, Option<Refusal>)] = &[
     ("", None),
     ("YWI", None),
     ("YWJj", None),
-    // Trailing bits, a character too many, another alphabet, padding and line ends.
+    // Trailing bits, one character too many, another alphabet, padding and line ends.
     ("YWJ", Some(Refusal::Base64)),
     ("YWJjY", Some(Refusal::Base64)),
     ("YW+/", Some(Refusal::Base64)),
@@ -118,7 +118,7 @@ const ENDS: &[(&str, Option<Refusal>)] = &[
     ("YWJj\r\n", Some(Refusal::Base64)),
 ];
 
-/// A token whose payload's text ends so.
+/// A token with a payload whose text has this end.
 fn long_token(alloc: Global, end: &str) -> Result<String, AllocError> {
     let mut text = String::from_str(alloc, "eyJhbGciOiJIUzI1NiJ9.")?;
     for _ in 0..1024 {
@@ -129,7 +129,7 @@ fn long_token(alloc: Global, end: &str) -> Result<String, AllocError> {
     Ok(text)
 }
 
-/// The object is written as it was read, and its payload as it is copied.
+/// The object is written as it was read, and the payload is written as it is copied.
 fn expect_written_back<R: Abort + AllocGlobal>(rt: &R, text: &str) {
     let jws = Jws::read(rt.alloc(), text.as_bytes(), None).expect(rt, "an object");
     let compact = jws

@@ -1,4 +1,4 @@
-//! Keys that are made of templates, and templates that are refused, by docs/SPECIFICATION.md and the lengths of RFC 7518.
+//! Keys that are made from templates, and templates that are refused, by docs/SPECIFICATION.md and the lengths of RFC 7518.
 use crate::tests::harness::expect_same;
 use crate::tests::samples::{long_note, nested};
 use keys::generate;
@@ -6,7 +6,7 @@ use octets::{MemoryInput, Refusal};
 use std::alloc::{AllocError, Global};
 use std::process::Abort;
 
-/// The key that is made of the random octets 0, 1, 2 and on to 255, and again, of which there are so many.
+/// The key that is made from the random octets 0, 1, 2 and on to 255, and again from 0. This many of them are available.
 fn made(alloc: Global, template: &str, available: usize) -> Result<String, Refusal> {
     let mut octets = [0u8; 4096];
     for i in 0..4096 {
@@ -85,7 +85,7 @@ const REFUSED_TEMPLATES: &[(&str, Refusal)] = &[
     ("{\"alg\":\"dir\"}", Refusal::NoAlgorithm),
     ("{\"alg\":\"HS256\",\"bytes\":16}", Refusal::KeyDoesNotFit),
     ("{\"bytes\":17}", Refusal::Random),
-    // The first cause is told: numbers, the template, the limit, the algorithm.
+    // The first cause is reported, in this order: numbers, the template, the limit, the algorithm.
     ("{\"bytes\":1.0,\"k\":\"\"}", Refusal::Number),
     ("{\"k\":\"AA\",\"bytes\":5000,\"alg\":\"x\"}", Refusal::Key),
     ("{\"bytes\":4097,\"alg\":\"x\"}", Refusal::Limit),
@@ -110,7 +110,7 @@ fn a_key_nests_at_most_64_deep(rt: HostRuntime) {
     expect_nested(&rt, 64, Some(Refusal::Limit));
 }
 
-/// Templates whose member `x` is a list that is too deep: what comes before that, and that it comes before the draw.
+/// Templates whose member `x` is a list that is too deep. Other causes come before the depth, and the depth comes before the draw.
 const DEEP_TEMPLATES: &[(&str, Refusal)] = &[
     ("{\"alg\":\"x\",\"x\":", Refusal::Unsupported),
     ("{\"alg\":\"dir\",\"x\":", Refusal::NoAlgorithm),
@@ -145,34 +145,34 @@ const K48: &str = "AAECAwQFBgcICQoLDA0ODxAREhMUFRYXGBkaGxwdHh8gISIjJCUmJygpKissL
 const K64: &str =
     "AAECAwQFBgcICQoLDA0ODxAREhMUFRYXGBkaGxwdHh8gISIjJCUmJygpKissLS4vMDEyMzQ1Njc4OTo7PD0-Pw";
 
-/// The template that says this `alg` alone.
+/// The template with this `alg` alone.
 fn template_of(alloc: Global, alg: &str) -> Result<String, AllocError> {
     format!(in alloc; "{{\"alg\":\"{alg}\"}}")
 }
 
-/// The template that says this `alg` and this length.
+/// The template with this `alg` and this length.
 fn template_with_length(alloc: Global, alg: &str, bytes: usize) -> Result<String, AllocError> {
     format!(in alloc; "{{\"alg\":\"{alg}\",\"bytes\":{bytes}}}")
 }
 
-/// The key that is made of such a template.
+/// The key that is made from a template with this `alg`.
 fn key_of(alloc: Global, alg: &str, k: &str, key_ops: &str) -> Result<String, AllocError> {
     format!(in alloc; "{{\"alg\":\"{alg}\",\"k\":\"{k}\",\"key_ops\":[{key_ops}],\"kty\":\"oct\"}}")
 }
 
-/// The key with these members is made of the template.
+/// The key with these members is made from the template.
 fn expect_key<R: Abort + AllocGlobal>(rt: &R, template: &str, alg: &str, k: &str, key_ops: &str) {
     let key = key_of(rt.alloc(), alg, k, key_ops).expect(rt, "memory");
     expect_made(rt, template, 64, key.as_str());
 }
 
-/// Without a length this key is made.
+/// Without a length, this key is made.
 fn expect_implied<R: Abort + AllocGlobal>(rt: &R, alg: &str, k: &str, key_ops: &str) {
     let template = template_of(rt.alloc(), alg).expect(rt, "memory");
     expect_key(rt, template.as_str(), alg, k, key_ops);
 }
 
-/// Without a length no key is made, and with one this key.
+/// Without a length, no key is made. With one, this key is made.
 fn expect_said<R: Abort + AllocGlobal>(rt: &R, alg: &str, bytes: usize, k: &str, key_ops: &str) {
     let without = template_of(rt.alloc(), alg).expect(rt, "memory");
     expect_refusal(rt, without.as_str(), 64, Some(Refusal::NoAlgorithm));
@@ -198,7 +198,7 @@ const IMPLIED: &[(&str, &str, &str)] = &[
     ("A256GCM", K32, "\"encrypt\",\"decrypt\""),
 ];
 
-/// What is made where the template says no length, by the algorithm.
+/// The algorithms and the keys that are made if the template has no length.
 #[test]
 fn an_algorithm_implies_a_length(rt: HostRuntime) {
     for &(alg, k, key_ops) in IMPLIED {
@@ -214,7 +214,7 @@ const LENGTHLESS: &[(&str, &str)] = &[
     ("PBES2-HS512+A256KW", "\"wrapKey\",\"unwrapKey\""),
 ];
 
-/// What is made of a template that says a length, by the algorithms that imply none.
+/// The keys that are made by algorithms that imply no length, if the template has one.
 #[test]
 fn a_template_says_a_length(rt: HostRuntime) {
     for &(alg, key_ops) in LENGTHLESS {
@@ -235,7 +235,7 @@ fn expect_length<R: Abort + AllocGlobal>(
 
 const OTHER: Option<Refusal> = Some(Refusal::KeyDoesNotFit);
 
-/// One octet less than the length that fits, this length, one octet more, and what is said of that.
+/// One octet less than the length that fits, this length, one octet more, and the cause that refuses the latter.
 const LENGTHS: &[(&str, usize, usize, usize, Option<Refusal>)] = &[
     ("HS256", 31, 32, 33, None),
     ("HS384", 47, 48, 49, None),

@@ -95,7 +95,7 @@ const KEY_TEXTS: &[(&str, Option<Refusal>)] = &[
         "{\"kty\":\"oct\",\"k\":\"AQ\",\"x\":1.5}",
         Some(Refusal::Number),
     ),
-    // No object.
+    // The text is no object.
     ("[]", Some(Refusal::Key)),
     ("\"oct\"", Some(Refusal::Key)),
     // Another type of key, or none.
@@ -165,7 +165,7 @@ const KEY_SETS: &[(&str, bool, Result<usize, Refusal>)] = &[
         true,
         Err(Refusal::Key),
     ),
-    // What is no object spoils the set.
+    // An item that is no object makes the whole set bad.
     (
         "{\"keys\":[{\"kty\":\"oct\",\"k\":\"AQ\"},[]]}",
         false,
@@ -185,7 +185,7 @@ fn a_set_of_keys_is_read_or_refused(rt: HostRuntime) {
     }
 }
 
-/// A set of so many objects that are no keys, and then one that is.
+/// A set of `others` objects that are no keys, and then one key.
 fn long_set(alloc: Global, others: usize) -> Result<String, AllocError> {
     let objects = "{},".repeat(alloc, others)?;
     format!(in alloc; "{{\"keys\":[{objects}{{\"kty\":\"oct\",\"k\":\"AQ\"}}]}}")
@@ -202,7 +202,7 @@ fn a_set_has_at_most_64_objects(rt: HostRuntime) {
     expect_long_set(&rt, 64, Some(Refusal::Limit));
 }
 
-/// A key whose `k` is 1,365 times `AAAA`, which stands for three zero octets, and then `end`.
+/// A key whose `k` is 1,365 times `AAAA`, the text of three zero octets, and then `end`.
 fn expect_long_key<R: Abort + AllocGlobal>(rt: &R, end: &str, refusal: Option<Refusal>) {
     let zeros = "AAAA".repeat(rt.alloc(), 1365).expect(rt, "memory");
     let start = "{\"kty\":\"oct\",\"k\":\"";
@@ -217,7 +217,7 @@ fn a_key_has_at_most_4096_octets(rt: HostRuntime) {
     expect_long_key(&rt, "AAA\"}", Some(Refusal::Key));
 }
 
-/// A set of an object that is no key and of a key, each with the note, which also stands beside them.
+/// A set of an object that is no key and of a key. The note is in each of them and next to the list.
 fn long_text(alloc: Global, note: &str) -> Result<String, AllocError> {
     format!(in alloc;
         "{{\"keys\":[{{\"note\":\"{note}\"}},{{\"kty\":\"oct\",\"k\":\"AQ\",\"note\":\"{note}\"}}],\"note\":\"{note}\"}}"

@@ -1,4 +1,4 @@
-//! What `jws_sign` signs `jws_verify` and `jws_verify_detached` verify, with its key alone. The signature is by Python's `hmac`.
+//! `jws_verify` and `jws_verify_detached` verify what `jws_sign` signs, with its key alone. The signature is by Python's `hmac`.
 use crate::tests::harness::{expect_octets, expect_same, expect_written};
 use crate::tests::samples::{KEY_TO_15, KEY_TO_31};
 use crate::tests::standards::rfc7515::RFC7515_KEY;
@@ -9,7 +9,7 @@ use std::process::Abort;
 use std::test::Fail;
 use tokens::{jws_sign, jws_verify, jws_verify_detached};
 
-/// `abc` signed with `KEY_TO_31`.
+/// `abc`, signed with `KEY_TO_31`.
 const ABC: &[u8] = b"eyJhbGciOiJIUzI1NiJ9.YWJj.8-sUlaJJTTOyeAYgv-kHNN9tT55A-tUCHOYatGHTJa0";
 
 #[test]
@@ -26,7 +26,7 @@ fn a_payload_is_signed_with_its_key(rt: HostRuntime) -> Result<(), Fail> {
 /// The same without its payload.
 const ABC_BESIDE: &[u8] = b"eyJhbGciOiJIUzI1NiJ9..8-sUlaJJTTOyeAYgv-kHNN9tT55A-tUCHOYatGHTJa0";
 
-/// Verifying `ABC` with the keys answers so, and this is written.
+/// Verifying `ABC` with the keys has this result and writes this.
 fn expect_verified<R: Abort + AllocGlobal>(
     rt: &R,
     keys: &str,
@@ -59,7 +59,7 @@ fn a_signed_payload_verifies_with_its_key_alone(rt: HostRuntime) -> Result<(), F
     expect_verified(&rt, RFC7515_KEY, false, refused, b"")
 }
 
-/// Verifying `ABC_BESIDE` with the keys and this payload, which fails as said, answers so.
+/// Verifying `ABC_BESIDE` with the keys and this payload, which fails as `failing` says, has this result.
 fn expect_verified_beside<R: Abort + AllocGlobal>(
     rt: &R,
     keys: &str,

@@ -1,13 +1,12 @@
-//! Encrypted objects by jwcrypto 1.1.0, as Debian 12 has it (`python3-jwcrypto` 1.1.0-1), of each algorithm, in compact form and in
-//! flattened form without and with the additional data `a`. Above each stands the call that made it. The keys are the octets from 101
-//! on.
+//! Encrypted objects by jwcrypto 1.1.0, as Debian 12 has it (`python3-jwcrypto` 1.1.0-1): of each algorithm, in compact form, and in
+//! flattened form without and with the additional data `a`. The call that made an object is above it. The keys are the octets from 101 on.
 use crate::tests::harness::Answer;
 use crate::tests::peers::expect_each;
 use crate::tests::samples::{KEY_8, KEY_16, KEY_24, KEY_32, KEY_64};
 use crate::tests::standards::rfc7516::LINE;
 use std::test::Fail;
 
-/// By jwcrypto.
+/// Objects by jwcrypto.
 const JWCRYPTO: &[(&str, &str)] = &[
     // JWE(plaintext, '{"alg":"A128KW","enc":"A128CBC-HS256"}').serialize(True)
     (
@@ -116,7 +115,7 @@ const JWCRYPTO: &[(&str, &str)] = &[
     ),
 ];
 
-/// By jwcrypto, with a password.
+/// Objects by jwcrypto, with a password.
 const JWCRYPTO_BY_PASSWORD: &[(&str, &str)] = &[
     // JWE(plaintext, '{"alg":"PBES2-HS256+A128KW","enc":"A128CBC-HS256"}').serialize(True)
     (
@@ -165,7 +164,7 @@ const JWCRYPTO_BY_PASSWORD: &[(&str, &str)] = &[
     ),
 ];
 
-/// By jwcrypto, with AES-GCM key wrap.
+/// Objects by jwcrypto, with AES-GCM key wrap.
 const JWCRYPTO_BY_GCM_KEY_WRAP: &[(&str, &str)] = &[
     // JWE(plaintext, '{"alg":"A128GCMKW","enc":"A128CBC-HS256"}').serialize(True)
     (

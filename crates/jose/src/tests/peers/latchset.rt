@@ -1,5 +1,5 @@
-//! Encrypted objects by latchset's `jose` 11, as Debian 12 has it (`jose` 11-2), of each algorithm, in compact form and in flattened
-//! form without and with the additional data `a`. Above each stands the command that made it. The keys are the octets from 101 on.
+//! Encrypted objects by latchset's `jose` 11, as Debian 12 has it (`jose` 11-2): of each algorithm, in compact form, and in flattened form
+//! without and with the additional data `a`. The command that made an object is above it. The keys are the octets from 101 on.
 use crate::tests::harness::Answer;
 use crate::tests::peers::expect_each;
 use crate::tests::samples::{KEY_8, KEY_16, KEY_24, KEY_32, KEY_64};
@@ -7,7 +7,7 @@ use crate::tests::standards::rfc7516::LINE;
 use octets::Refusal;
 use std::test::Fail;
 
-/// By latchset's `jose`.
+/// Objects by latchset's `jose`.
 const LATCHSET: &[(&str, &str)] = &[
     // jose jwe enc -c -i '{"protected":{"alg":"A128KW","enc":"A128CBC-HS256"}}'
     (
@@ -101,7 +101,7 @@ const LATCHSET: &[(&str, &str)] = &[
     ),
 ];
 
-/// By latchset's `jose`, with a password.
+/// Objects by latchset's `jose`, with a password.
 const LATCHSET_BY_PASSWORD: &[(&str, &str)] = &[
     // jose jwe enc -c -i '{"protected":{"alg":"PBES2-HS256+A128KW","enc":"A128CBC-HS256","p2c":1000}}'
     (
@@ -145,7 +145,7 @@ const LATCHSET_BY_PASSWORD: &[(&str, &str)] = &[
     ),
 ];
 
-/// By latchset's `jose`, with AES-GCM key wrap.
+/// Objects by latchset's `jose`, with AES-GCM key wrap.
 const LATCHSET_BY_GCM_KEY_WRAP: &[(&str, &str)] = &[
     // jose jwe enc -c -i '{"protected":{"alg":"A128GCMKW","enc":"A128CBC-HS256"}}'
     (
@@ -189,7 +189,7 @@ const LATCHSET_BY_GCM_KEY_WRAP: &[(&str, &str)] = &[
     ),
 ];
 
-/// By latchset's `jose`, whose GCM does not authenticate the additional data `aad`.
+/// Objects by latchset's `jose`, whose GCM does not authenticate the additional data `aad`.
 const LATCHSET_WRONG: &[(&str, &str)] = &[
     // jose jwe enc -i '{"protected":{"alg":"dir","enc":"A128GCM"},"aad":"YQ"}'
     (

@@ -1,5 +1,5 @@
-//! Objects for one key, by `dir` and AES key wrap, that a program in Python composed with its package `cryptography` of the same random
-//! octets: what is encrypted is the same text, and opens.
+//! Objects for one key, by `dir` and AES key wrap, that a program in Python composed with its package `cryptography` from the same random
+//! octets. Encrypting makes the same texts, and they open.
 use crate::tests::command_words::ENCRYPT_COMPACT;
 use crate::tests::harness::{Answer, decrypts, encrypts};
 use crate::tests::samples::{KEY_16, KEY_24, KEY_32, OCTETS_FROM_1};
@@ -15,7 +15,7 @@ const KEY_51_TO_98: &str =
 const KEY_31_TO_94: &str =
     "{\"kty\":\"oct\",\"k\":\"HyAhIiMkJSYnKCkqKywtLi8wMTIzNDU2Nzg5Ojs8PT4_QEFCQ0RFRkdISUpLTE1OT1BRUlNUVVZXWFlaW1xdXg\"}";
 
-/// `LINE` by `dir` and each content encryption, as another program made it of the octets 1 to 80.
+/// `LINE` by `dir` and each content encryption, as another program made it from the octets 1 to 80.
 pub(crate) const BY_DIR: &[(&str, &str, &str)] = &[
     (
         "{\"protected\":{\"alg\":\"dir\",\"enc\":\"A128CBC-HS256\"}}",
@@ -49,7 +49,7 @@ pub(crate) const BY_DIR: &[(&str, &str, &str)] = &[
     ),
 ];
 
-/// `LINE` by `A128KW` and each content encryption, as another program made it of the octets 1 to 80.
+/// `LINE` by `A128KW` and each content encryption, as another program made it from the octets 1 to 80.
 pub(crate) const BY_A128KW: &[(&str, &str, &str)] = &[
     (
         "{\"protected\":{\"alg\":\"A128KW\",\"enc\":\"A128CBC-HS256\"}}",
@@ -83,7 +83,7 @@ pub(crate) const BY_A128KW: &[(&str, &str, &str)] = &[
     ),
 ];
 
-/// `LINE` by `A192KW` and each content encryption, as another program made it of the octets 1 to 80.
+/// `LINE` by `A192KW` and each content encryption, as another program made it from the octets 1 to 80.
 pub(crate) const BY_A192KW: &[(&str, &str, &str)] = &[
     (
         "{\"protected\":{\"alg\":\"A192KW\",\"enc\":\"A128CBC-HS256\"}}",
@@ -117,7 +117,7 @@ pub(crate) const BY_A192KW: &[(&str, &str, &str)] = &[
     ),
 ];
 
-/// `LINE` by `A256KW` and each content encryption, as another program made it of the octets 1 to 80.
+/// `LINE` by `A256KW` and each content encryption, as another program made it from the octets 1 to 80.
 pub(crate) const BY_A256KW: &[(&str, &str, &str)] = &[
     (
         "{\"protected\":{\"alg\":\"A256KW\",\"enc\":\"A128CBC-HS256\"}}",
@@ -151,7 +151,7 @@ pub(crate) const BY_A256KW: &[(&str, &str, &str)] = &[
     ),
 ];
 
-/// Each line becomes these texts, and these texts the line.
+/// `LINE` is encrypted to each of these texts, and each text is decrypted to `LINE`.
 fn made_elsewhere<R: Abort + AllocGlobal>(rt: &R, rows: &[(&str, &str, &str)]) -> Result<(), Fail> {
     for (template, keys, text) in rows {
         let answer = Answer::Text(text);
@@ -192,7 +192,8 @@ fn the_length_of_an_aes_key_gives_both_algorithms(rt: HostRuntime) -> Result<(),
     Ok(())
 }
 
-/// `LINE` by keys whose `alg` names the content encryption that each is used for directly, with the template `{}`: the texts of `BY_DIR`.
+/// Keys whose `alg` names the content encryption that they are used for directly. With the template `{}` they encrypt `LINE` to the texts
+/// of `BY_DIR`.
 const NAMED_BY_THE_KEY: &[&str] = &[
     "{\"kty\":\"oct\",\"k\":\"ZWZnaGlqa2xtbm9wcXJzdHV2d3h5ent8fX5_gIGCg4Q\",\"alg\":\"A128CBC-HS256\"}",
     "{\"kty\":\"oct\",\"k\":\"MzQ1Njc4OTo7PD0-P0BBQkNERUZHSElKS0xNTk9QUVJTVFVWV1hZWltcXV5fYGFi\",\"alg\":\"A192CBC-HS384\"}",

@@ -1,5 +1,5 @@
-//! Objects by AES-GCM key wrap (RFC 7518 section 4.7) that a program in Python 3.11 composed with its package `cryptography` 38 of the
-//! same random octets: what is encrypted is the same text, and opens.
+//! Objects by AES-GCM key wrap (RFC 7518 section 4.7) that a program in Python 3.11 composed with its package `cryptography` 38 from the
+//! same random octets. Encrypting makes the same texts, and they open.
 use crate::tests::command_words::{ENCRYPT, ENCRYPT_COMPACT};
 use crate::tests::harness::{Answer, Given, ROOM, decrypts, encrypts, expect, outcome};
 use crate::tests::peers::gives_and_opens;
@@ -158,7 +158,7 @@ const BY_GCM_KEY_WRAP: &[(&str, &str, usize, &str)] = &[
         56,
         "eyJhbGciOiJBMjU2R0NNS1ciLCJjdHkiOiJ0ZXh0L3BsYWluIiwiZW5jIjoiQTI1NkdDTSIsIml2IjoiQUFFQ0F3UUZCZ2NJQ1FvTCIsInRhZyI6Im9JcF9kZHhpdy03QWxxR3lZR2UyaFEifQ.Sw_YFNX00AiZVIGcqfBidp_LmSvQWn1fHELDojVAKpk.LC0uLzAxMjM0NTY3.OZ4CcgLZ2kwoGQK_Hr2bN5Z1Vo6GWg.SoMajQWYDtAL4Q634RfECg",
     ),
-    // A count matters to a password alone.
+    // A count matters only for a password.
     (
         "{\"protected\":{\"p2c\":\"x\"}}",
         A128GCMKW_KEY,
@@ -176,8 +176,8 @@ fn gcm_key_wrap_gives_the_texts_of_another_program(rt: HostRuntime) -> Result<()
     gives_and_opens(&rt, &ENCRYPT_COMPACT, BY_GCM_KEY_WRAP)
 }
 
-/// A template, keys, how many octets are drawn, the JSON text, and keys each of which alone decrypts it. With one key `iv` and `tag`
-/// stand in the protected header, and with several in that of the recipient, wherever `alg` stands.
+/// A template, keys, how many octets are drawn, the JSON text, and keys that each decrypt it alone. With one key, `iv` and `tag` are in the
+/// protected header. With several, they are in the header of each recipient, wherever `alg` is.
 const BY_GCM_KEY_WRAP_IN_JSON: &[(&str, &str, usize, &str, &[&str])] = &[
     (
         "{\"protected\":{\"enc\":\"A128GCM\"}}",
@@ -201,7 +201,7 @@ const BY_GCM_KEY_WRAP_IN_JSON: &[(&str, &str, usize, &str, &[&str])] = &[
         "{\"ciphertext\":\"w4ymP_Sh8GT26O62dEfuS51b-hv9Qgr2v6LZwBcNjPo\",\"encrypted_key\":\"Sw_YFNX00AiZVIGcqfBidp_LmSvQWn1fHELDojVAKpktPYDTn_Agq0CRSdqwvhID0mReshqX4Zl70mxeUKq_pQ\",\"iv\":\"TE1OT1BRUlNUVVZXWFlaWw\",\"protected\":\"eyJhbGciOiJBMjU2R0NNS1ciLCJlbmMiOiJBMjU2Q0JDLUhTNTEyIiwiaXYiOiJBQUVDQXdRRkJnY0lDUW9MIiwidGFnIjoibWd4TGxoeHA5R3MwTFh1dEh0N0FSZyJ9\",\"tag\":\"05uOZ2sAvGgqq2smJUWhFo_deFgY2mtpvvnBZjg60K8\",\"unprotected\":{\"kid\":\"x\"}}",
         &[KEY_TO_31, A256GCMKW_KEY],
     ),
-    // A password, a key, a plain key for AES key wrap, and another key: their octets are drawn in this order.
+    // A password, a key, a plain key for AES key wrap, and another key. Their octets are drawn in this order.
     (
         "{\"protected\":{\"p2c\":1000}}",
         "{\"keys\":[{\"kty\":\"oct\",\"k\":\"cGFzc3dvcmQ\",\"alg\":\"PBES2-HS256+A128KW\"},{\"kty\":\"oct\",\"k\":\"AAECAwQFBgcICQoLDA0ODw\",\"alg\":\"A128GCMKW\"},{\"kty\":\"oct\",\"k\":\"EBESExQVFhcYGRobHB0eHw\"},{\"kty\":\"oct\",\"k\":\"AAECAwQFBgcICQoLDA0ODxAREhMUFRYXGBkaGxwdHh8\",\"alg\":\"A256GCMKW\"}]}",
@@ -222,7 +222,7 @@ const BY_GCM_KEY_WRAP_IN_JSON: &[(&str, &str, usize, &str, &[&str])] = &[
         "{\"aad\":\"YWJj\",\"ciphertext\":\"eaqAVzfDY00Uk-z4LdPi0_qj_vMMcQ\",\"iv\":\"QEFCQ0RFRkdISUpL\",\"protected\":\"eyJlbmMiOiJBMTkyR0NNIn0\",\"recipients\":[{\"encrypted_key\":\"byv8MOnI7DS9cKW4hdxOWrvvvQ_MRmFD\",\"header\":{\"alg\":\"A256GCMKW\",\"iv\":\"AAECAwQFBgcICQoL\",\"tag\":\"aHl3qvqwq6mKuES3c0_jTQ\"}},{\"encrypted_key\":\"t8dtStHGrWIu0_5hyr1g9wt6829yr2KQ80CBKHYdYp0\",\"header\":{\"alg\":\"A128KW\"}},{\"encrypted_key\":\"YM_80bcSmOU20bnv-Hl7xXVcjcp1yxMotIikLnkPY7Y\",\"header\":{\"alg\":\"PBES2-HS256+A128KW\",\"p2s\":\"DA0ODxAREhMUFRYXGBkaGw\"}},{\"encrypted_key\":\"N2RuY82dFRdWsQwKZ3D8QgUDK2nRur61\",\"header\":{\"alg\":\"A192GCMKW\",\"iv\":\"HB0eHyAhIiMkJSYn\",\"tag\":\"wNnoWtqreBeVxFHXIOxFOA\"}}],\"tag\":\"BU4HecypSzu7OBgjy9WTvQ\",\"unprotected\":{\"p2c\":1000}}",
         &[A256GCMKW_KEY, KEY_16_TO_31, PASSWORD_128, A192GCMKW_KEY],
     ),
-    // The algorithm of all stands in the template.
+    // The template has the algorithm of all keys.
     (
         "{\"protected\":{\"alg\":\"A128GCMKW\",\"enc\":\"A128GCM\"}}",
         "{\"keys\":[{\"kty\":\"oct\",\"k\":\"AAECAwQFBgcICQoLDA0ODw\"},{\"kty\":\"oct\",\"k\":\"EBESExQVFhcYGRobHB0eHw\"}]}",
@@ -240,7 +240,7 @@ const BY_GCM_KEY_WRAP_IN_JSON: &[(&str, &str, usize, &str, &[&str])] = &[
             "{\"kty\":\"oct\",\"k\":\"ICEiIyQlJicoKSorLC0uLzAxMjM0NTY3ODk6Ozw9Pj8\"}",
         ],
     ),
-    // The first key gives the content encryption.
+    // The first key implies the content encryption.
     (
         "{\"unprotected\":{\"p2c\":1000}}",
         "{\"keys\":[{\"kty\":\"oct\",\"k\":\"AAECAwQFBgcICQoLDA0ODxAREhMUFRYX\",\"alg\":\"A192GCMKW\"},{\"kty\":\"oct\",\"k\":\"cGFzc3dvcmQ\",\"alg\":\"PBES2-HS256+A128KW\"}]}",
@@ -262,8 +262,8 @@ fn gcm_key_wrap_gives_the_json_texts_of_another_program(rt: HostRuntime) -> Resu
     Ok(())
 }
 
-/// As many keys as a set may have draw 12 octets each, and the last alone decrypts. The text, which has this SHA-256, is that of
-/// another program.
+/// As many keys as a set may have draw 12 octets each, and the last one alone decrypts. The text with this SHA-256 is that of another
+/// program.
 #[test]
 fn sixty_four_keys_wrap_in_gcm_and_the_last_decrypts(rt: HostRuntime) -> Result<(), Fail> {
     let keys = with_many(&rt, "{\"keys\":[", A128GCMKW_KEY, 63, A256GCMKW_KEY, "]}")?;

@@ -1,5 +1,5 @@
-//! Objects by a password (RFC 7518 section 4.8) that a program in Python composed with `hashlib` and its package `cryptography` 48 of the
-//! same random octets: what is encrypted is the same text, and opens.
+//! Objects by a password (RFC 7518 section 4.8) that a program in Python composed with `hashlib` and its package `cryptography` 48 from the
+//! same random octets. Encrypting makes the same texts, and they open.
 use crate::tests::command_words::{ENCRYPT, ENCRYPT_COMPACT};
 use crate::tests::harness::{Answer, decrypts, encrypts};
 use crate::tests::peers::gives_and_opens;
@@ -7,7 +7,7 @@ use crate::tests::samples::{KEY_TO_15, OCTETS_FROM_0, PASSWORD, PASSWORD_128};
 use crate::tests::standards::rfc7516::LINE;
 use std::test::Fail;
 
-/// The password for one of the other two algorithms each.
+/// The password, for each of the other two algorithms.
 const PASSWORD_192: &str = "{\"kty\":\"oct\",\"k\":\"cGFzc3dvcmQ\",\"alg\":\"PBES2-HS384+A192KW\"}";
 
 const PASSWORD_256: &str = "{\"kty\":\"oct\",\"k\":\"cGFzc3dvcmQ\",\"alg\":\"PBES2-HS512+A256KW\"}";
@@ -117,8 +117,8 @@ fn a_password_gives_the_texts_of_another_program(rt: HostRuntime) -> Result<(), 
     gives_and_opens(&rt, &ENCRYPT_COMPACT, BY_PASSWORD)
 }
 
-/// What `jwe enc` wrote of the first of these octets before 2.0.0, and what another program made of them: 10,000 iterations stood
-/// where the template gives none.
+/// The text that `jwe enc` wrote from the first of these octets before 2.0.0, and that another program made from them. There were 10,000
+/// iterations if the template had no count.
 const OF_TEN_THOUSAND: &str =
     "eyJhbGciOiJQQkVTMi1IUzI1NitBMTI4S1ciLCJlbmMiOiJBMTI4Q0JDLUhTMjU2IiwicDJjIjoxMDAwMCwicDJzIjoiQUFFQ0F3UUZCZ2NJQ1FvTERBME9EdyJ9.Hnj8J_nfBwdsepQfET6gkioVMXd-xDI69fNEzGznPNB3yAJUrwknPA.MDEyMzQ1Njc4OTo7PD0-Pw.ASuZZUaC35WumFsAhx41GJK62k7adf-OknNJYFNZBR8.zB0Gcf1jwwF3n1V7SnlONw";
 
@@ -131,7 +131,7 @@ fn what_ten_thousand_iterations_encrypted_is_decrypted(rt: HostRuntime) -> Resul
 pub(crate) const OF_A_THOUSAND: &str =
     "eyJhbGciOiJQQkVTMi1IUzI1NitBMTI4S1ciLCJlbmMiOiJBMTI4Q0JDLUhTMjU2IiwicDJjIjoxMDAwLCJwMnMiOiJBQUVDQXdRRkJnY0lDUW9MREEwT0R3In0.IIbE5ShXojOR4KwraX5OBPpvX77qHK7qcD7v6T-LieOJcfHpjs8C6g.MDEyMzQ1Njc4OTo7PD0-Pw.ASuZZUaC35WumFsAhx41GJK62k7adf-OknNJYFNZBR8.y5On7mIav6tRgzEX3r-Cjg";
 
-/// The same in flattened JSON form, with the count where the template gives it.
+/// The same in flattened JSON form, with the count in the header in which the template has it.
 const WITH_UNPROTECTED_COUNT: &str =
     "{\"ciphertext\":\"ASuZZUaC35WumFsAhx41GJK62k7adf-OknNJYFNZBR8\",\"encrypted_key\":\"IIbE5ShXojOR4KwraX5OBPpvX77qHK7qcD7v6T-LieOJcfHpjs8C6g\",\"iv\":\"MDEyMzQ1Njc4OTo7PD0-Pw\",\"protected\":\"eyJhbGciOiJQQkVTMi1IUzI1NitBMTI4S1ciLCJlbmMiOiJBMTI4Q0JDLUhTMjU2IiwicDJzIjoiQUFFQ0F3UUZCZ2NJQ1FvTERBME9EdyJ9\",\"tag\":\"zLHlLm7Ry3l308IryZJeFQ\",\"unprotected\":{\"p2c\":1000}}";
 
@@ -144,7 +144,7 @@ fn a_count_stays_where_the_template_gives_it(rt: HostRuntime) -> Result<(), Fail
     decrypts(&rt, WITH_UNPROTECTED_COUNT, PASSWORD_128, answer)
 }
 
-/// A count matters to a password alone.
+/// A count matters only for a password.
 #[test]
 fn a_count_of_another_algorithm_is_a_parameter_like_others(rt: HostRuntime) -> Result<(), Fail> {
     let template = "{\"protected\":{\"p2c\":\"x\"}}";
@@ -159,7 +159,7 @@ fn a_count_of_another_algorithm_is_a_parameter_like_others(rt: HostRuntime) -> R
     )
 }
 
-/// `LINE` by AES key wrap with `KEY_TO_15`, and a count that is a text.
+/// `LINE` by AES key wrap with `KEY_TO_15`, and with a count that is a text.
 const WITH_A_COUNT_THAT_IS_TEXT: &str =
     "eyJhbGciOiJBMTI4S1ciLCJlbmMiOiJBMTI4Q0JDLUhTMjU2IiwicDJjIjoieCJ9.DngI9Qbyw-eqbtrXk6xElbCT60guXHypwXDJ-qB9wMu7h1EuGf1Akg.ICEiIyQlJicoKSorLC0uLw.5BiCVTlNWpVu1DGTW3eBdXtVGyTJjba3jQUE6PrI5No.Ac_fYLDcSbnj495t-tDn1w";
 

@@ -1,5 +1,5 @@
-//! Objects for several keys, passwords among them, that a program in Python composed with `hashlib` and its package `cryptography` 48 of
-//! the same random octets: what is encrypted is the same text, and each key alone opens it.
+//! Objects for several keys, some of them passwords, that a program in Python composed with `hashlib` and its package `cryptography` 48
+//! from the same random octets. Encrypting makes the same texts, and each key alone opens them.
 use crate::tests::command_words::ENCRYPT;
 use crate::tests::harness::{Answer, Given, decrypts, encrypts, expect, expect_work};
 use crate::tests::peers::gives_and_opens;
@@ -14,18 +14,18 @@ use tokens::Work;
 pub(crate) const THREE_KEYS: &str =
     "{\"keys\":[{\"kty\":\"oct\",\"k\":\"AAECAwQFBgcICQoLDA0ODw\"},{\"kty\":\"oct\",\"k\":\"AAECAwQFBgcICQoLDA0ODxAREhM\",\"alg\":\"PBES2-HS256+A128KW\"},{\"kty\":\"oct\",\"k\":\"AAECAwQFBgcICQoLDA0ODxAREhMUFRYXGBkaGxwdHh8\"}]}";
 
-/// A line for each of them.
+/// `LINE` for each of them.
 pub(crate) const FOR_THREE: &str =
     "{\"ciphertext\":\"ASuZZUaC35WumFsAhx41GJK62k7adf-OknNJYFNZBR8\",\"iv\":\"MDEyMzQ1Njc4OTo7PD0-Pw\",\"protected\":\"eyJlbmMiOiJBMTI4Q0JDLUhTMjU2In0\",\"recipients\":[{\"encrypted_key\":\"aEgNHFbuRK0tcXcoAQK5Z7WVbD4nRkM86V7vh_zoi168XQwE9S0qig\",\"header\":{\"alg\":\"A128KW\"}},{\"encrypted_key\":\"FpBVIMdaN2O0ntLrr0iYlsAOaKQmQ6W2uiT8UZHIiLXexlNNKk32-A\",\"header\":{\"alg\":\"PBES2-HS256+A128KW\",\"p2c\":100000,\"p2s\":\"AAECAwQFBgcICQoLDA0ODw\"}},{\"encrypted_key\":\"DKN-ucNqqMzCPcKdIux5xpJP57cbjnOlqkgOpMltCseK6PpYFXsvhw\",\"header\":{\"alg\":\"A256KW\"}}],\"tag\":\"Jl6R1j-32XpWNmAwDMON-Q\"}";
 
-/// What `jwe enc` wrote of the same before 2.0.0, and what the other program made of it then: with 10,000 iterations.
+/// The text for the same keys that `jwe enc` wrote before 2.0.0 and that the other program made then, with 10,000 iterations.
 const FOR_THREE_OF_TEN_THOUSAND: &str =
     "{\"ciphertext\":\"ASuZZUaC35WumFsAhx41GJK62k7adf-OknNJYFNZBR8\",\"iv\":\"MDEyMzQ1Njc4OTo7PD0-Pw\",\"protected\":\"eyJlbmMiOiJBMTI4Q0JDLUhTMjU2In0\",\"recipients\":[{\"encrypted_key\":\"aEgNHFbuRK0tcXcoAQK5Z7WVbD4nRkM86V7vh_zoi168XQwE9S0qig\",\"header\":{\"alg\":\"A128KW\"}},{\"encrypted_key\":\"ieTCJR-F1_xvUQ4xrC5A0lLIK5qnJRYR6jbUvhqEgXGgWUgv-4Q_JQ\",\"header\":{\"alg\":\"PBES2-HS256+A128KW\",\"p2c\":10000,\"p2s\":\"AAECAwQFBgcICQoLDA0ODw\"}},{\"encrypted_key\":\"DKN-ucNqqMzCPcKdIux5xpJP57cbjnOlqkgOpMltCseK6PpYFXsvhw\",\"header\":{\"alg\":\"A256KW\"}}],\"tag\":\"Jl6R1j-32XpWNmAwDMON-Q\"}";
 
 /// A template, keys, how many octets are drawn, and the text.
 const TO_SEVERAL_KEYS: &[(&str, &str, usize, &str)] = &[
     ("{}", THREE_KEYS, 64, FOR_THREE),
-    // What the template gives stays where it is.
+    // The members of the template stay where they are.
     (
         "{\"protected\":{\"alg\":\"A128KW\",\"enc\":\"A256GCM\"}}",
         "{\"keys\":[{\"kty\":\"oct\",\"k\":\"AAECAwQFBgcICQoLDA0ODw\"},{\"kty\":\"oct\",\"k\":\"EBESExQVFhcYGRobHB0eHw\"}]}",
@@ -44,7 +44,7 @@ const TO_SEVERAL_KEYS: &[(&str, &str, usize, &str)] = &[
         80,
         "{\"ciphertext\":\"bE90PxFKL7RL7vmyplqVytN1xfKmpdDHHHKgdUrhO7A\",\"iv\":\"QEFCQ0RFRkdISUpLTE1OTw\",\"protected\":\"eyJlbmMiOiJBMTkyQ0JDLUhTMzg0IiwicDJjIjoxMDAwfQ\",\"recipients\":[{\"encrypted_key\":\"bXzujzQDZDIschPYl_-8GwyXafHuakTPvMoYuU2Xu57-zvOj9kfJSqGx3gtZXf7AQYygjZNkkMs\",\"header\":{\"alg\":\"A192KW\"}},{\"encrypted_key\":\"UavCJPfm9MWGphTT4YRZohI8CAcUvSV6AIkFtkVbKkL06iOqs4uJt-cO-5pgi0xA7yH-Nn8EH9w\",\"header\":{\"alg\":\"PBES2-HS512+A256KW\",\"p2s\":\"AAECAwQFBgcICQoLDA0ODw\"}}],\"tag\":\"rRKRZ3ZUoLsrsmf_8hD5kTIFoTXEYVHD\"}",
     ),
-    // A set of one key is that key.
+    // A set of one key is the same as that key.
     (
         "{\"unprotected\":{\"enc\":\"A128GCM\"}}",
         "{\"keys\":[{\"kty\":\"oct\",\"k\":\"AAECAwQFBgcICQoLDA0ODw\"}]}",
@@ -58,7 +58,7 @@ fn several_keys_give_the_texts_of_another_program(rt: HostRuntime) -> Result<(),
     gives_and_opens(&rt, &ENCRYPT, TO_SEVERAL_KEYS)
 }
 
-/// A text, and one of its keys.
+/// A text and one of its keys.
 const SHARED: &[(&str, &str)] = &[
     (FOR_THREE, KEY_TO_31),
     (FOR_THREE, KEY_TO_15),
@@ -118,7 +118,7 @@ fn what_ten_thousand_iterations_encrypted_for_three_is_decrypted(
     )
 }
 
-/// As many keys as a set may have: 63 of 16 zero octets and one more, which alone decrypts.
+/// As many keys as a set may have: 63 keys of 16 zero octets and one more, which alone decrypts.
 #[test]
 fn sixty_four_keys_wrap_and_the_last_decrypts(rt: HostRuntime) -> Result<(), Fail> {
     let keys = with_many(

@@ -1,4 +1,4 @@
-//! The GCM specification of McGrew and Viega: its test cases 1 and 2 as the content encryption of `dir`, and case 2 as a key wrap and
+//! The GCM specification of McGrew and Viega: its test cases 1 and 2 as the content encryption of `dir`, and test case 2 as a key wrap and
 //! a content encryption at once.
 use crate::tests::command_words::{ENCRYPT, ENCRYPT_COMPACT};
 use crate::tests::harness::{Answer, Given, decrypts, expect, expect_opening};
@@ -10,7 +10,7 @@ use tokens::Work;
 /// A key of 16 zero octets that names its content encryption.
 const DIRECT_KEY: &str = "{\"kty\":\"oct\",\"k\":\"AAAAAAAAAAAAAAAAAAAAAA\",\"alg\":\"A128GCM\"}";
 
-/// Of twelve zero octets and this content comes this text.
+/// With twelve zero octets, the content is encrypted to this text, and the text is decrypted to the content.
 fn by_direct_key<R: Abort + AllocGlobal>(
     rt: &R,
     words: &[&str],
@@ -56,11 +56,12 @@ const WRAPPING_KEY: &str =
 const ZEROS: &[u8] =
     b"\0\0\0\0\0\0\0\0\0\0\0\0\0\0\0\0\0\0\0\0\0\0\0\0\0\0\0\0\0\0\0\0\0\0\0\0\0\0\0\0";
 
-/// Of zero octets: its protected header is `{"alg":"A128GCMKW","enc":"A128GCM","iv":"AAAAAAAAAAAAAAAA","tag":"q25H1CzsE731OmeyEle93w"}`.
+/// The object of zero octets. Its protected header is
+/// `{"alg":"A128GCMKW","enc":"A128GCM","iv":"AAAAAAAAAAAAAAAA","tag":"q25H1CzsE731OmeyEle93w"}`.
 const OF_ZEROS: &str =
     "eyJhbGciOiJBMTI4R0NNS1ciLCJlbmMiOiJBMTI4R0NNIiwiaXYiOiJBQUFBQUFBQUFBQUFBQUFBIiwidGFnIjoicTI1SDFDenNFNzMxT21leUVsZTkzdyJ9.A4jazmC2o5LzKMK5cbL-eA.AAAAAAAAAAAAAAAA.A4jazmC2o5LzKMK5cbL-eA.jY_dMtTSg1wKRuPof9tv0Q";
 
-/// The second test case of the GCM specification, once for the key and once for the content; one octet too few is told.
+/// The second test case of the GCM specification, once for the key and once for the content. One random octet too few is refused.
 #[test]
 fn gcm_test_case_2_as_a_key_wrap(rt: HostRuntime) -> Result<(), Fail> {
     let given = Given {

@@ -72,8 +72,7 @@ fn rfc7515_appendix_a1_is_read(rt: HostRuntime) {
     expect_parts(&rt, &jws);
 }
 
-/// `RFC7515_A1` in JSON form (section 7.2.2), with its members in another order and with one that is unknown, and as a
-/// list of one signature.
+/// `RFC7515_A1` in JSON form (section 7.2.2): with its members in another order and an unknown one, and as a list of one signature.
 const RFC7515_A1_IN_JSON: &[&str] = &[
     "{\"signature\":\"dBjftJeZ4CVP-mB92K27uhbUJU1p1r_wW1gFWFOEjXk\",\"x\":[{}],\"protected\":\"eyJ0eXAiOiJKV1QiLA0KICJhbGciOiJIUzI1NiJ9\",\"header\":{},\"payload\":\"eyJpc3MiOiJqb2UiLA0KICJleHAiOjEzMDA4MTkzODAsDQogImh0dHA6Ly9leGFtcGxlLmNvbS9pc19yb290Ijp0cnVlfQ\"}",
     " {\"signatures\":[{\"signature\":\"dBjftJeZ4CVP-mB92K27uhbUJU1p1r_wW1gFWFOEjXk\",\"protected\":\"eyJ0eXAiOiJKV1QiLA0KICJhbGciOiJIUzI1NiJ9\"}],\"header\":{},\"protected\":\"\",\"payload\":\"eyJpc3MiOiJqb2UiLA0KICJleHAiOjEzMDA4MTkzODAsDQogImh0dHA6Ly9leGFtcGxlLmNvbS9pc19yb290Ijp0cnVlfQ\"}",

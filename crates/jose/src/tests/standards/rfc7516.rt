@@ -1,5 +1,5 @@
-//! RFC 7516, JSON Web Encryption: appendix A.3, encrypted by `jwe enc`; A.3, A.4 and A.5, decrypted by `jwe dec`; A.3 and A.5, read
-//! by `Jwe::read`; and two more objects of A.3's key and octets, whose tags are by Python's `hmac`.
+//! RFC 7516, JSON Web Encryption: appendix A.3, encrypted by `jwe enc`; A.3, A.4 and A.5, decrypted by `jwe dec`; A.3 and A.5, read by
+//! `Jwe::read`; and two more objects with the key and octets of A.3, whose tags are by Python's `hmac`.
 use crate::tests::command_words::{ENCRYPT, ENCRYPT_COMPACT};
 use crate::tests::harness::{Answer, decrypts, encrypts, expect_octets, expect_same};
 use crate::tests::library::jwe::expect_management;
@@ -13,7 +13,7 @@ pub(crate) const LINE: &[u8] = b"Live long and prosper.";
 /// The key of appendix A.3.
 pub(crate) const RFC7516_KEY: &str = "{\"kty\":\"oct\",\"k\":\"GawgguFyGrWKav7AX4VKUg\"}";
 
-/// Its content encryption key, and its initialization vector.
+/// Its content encryption key and its initialization vector.
 pub(crate) const RFC7516_RANDOM: &[u8] =
     b"\x04\xd3\x1f\xc5\x54\x9d\xfc\xfe\x0b\x64\x9d\xfa\x3f\xaa\x6a\xce\x6b\x7c\xd4\x2d\x6f\x6b\x09\xdb\xc8\xb1\x00\xf0\x8f\x9c\x2c\xcf\x03\x16\x3c\x0c\x2b\x43\x68\x69\x6c\x6c\x69\x63\x6f\x74\x68\x65";
 
@@ -57,11 +57,11 @@ pub(crate) const RFC7516_A4_WRITTEN: &str =
 const RFC7516_A5: &str =
     "{\"protected\":\"eyJlbmMiOiJBMTI4Q0JDLUhTMjU2In0\",\"unprotected\":{\"jku\":\"https://server.example.com/keys.jwks\"},\"header\":{\"alg\":\"A128KW\",\"kid\":\"7\"},\"encrypted_key\":\"6KB707dM9YTIgHtLvtgWQ8mKwboJW3of9locizkDTHzBC2IlrT1oOQ\",\"iv\":\"AxY8DCtDaGlsbGljb3RoZQ\",\"ciphertext\":\"KDlTtXchhZTGufMYmOYGS4HffxPSUrfmqCHXaI9wOGY\",\"tag\":\"Mz-VPPyU4RlcuYv1IwIvzw\"}";
 
-/// The same with its members in another order and with one that is unknown.
+/// The same with its members in another order and with an unknown one.
 pub(crate) const RFC7516_A5_REORDERED: &str =
     "{\"protected\":\"eyJlbmMiOiJBMTI4Q0JDLUhTMjU2In0\",\"unprotected\":{\"jku\":\"https://server.example.com/keys.jwks\"},\"header\":{\"alg\":\"A128KW\",\"kid\":\"7\"},\"x\":1,\"encrypted_key\":\"6KB707dM9YTIgHtLvtgWQ8mKwboJW3of9locizkDTHzBC2IlrT1oOQ\",\"iv\":\"AxY8DCtDaGlsbGljb3RoZQ\",\"ciphertext\":\"KDlTtXchhZTGufMYmOYGS4HffxPSUrfmqCHXaI9wOGY\",\"tag\":\"Mz-VPPyU4RlcuYv1IwIvzw\"}";
 
-/// The example's line becomes this text of the example's random octets, by this template.
+/// With the example's random octets and this template, the example's line is encrypted to this text, and the text is decrypted to the line.
 fn example<R: Abort + AllocGlobal>(
     rt: &R,
     words: &[&str],

@@ -1,5 +1,5 @@
-//! RFC 7517, JSON Web Key: what `use`, `key_ops` and `alg` allow (sections 4.2 to 4.4), row by row with values written from the
-//! standard, and the header of appendix C.2.
+//! RFC 7517, JSON Web Key: what `use`, `key_ops` and `alg` allow (sections 4.2 to 4.4), row by row with values written from the standard,
+//! and the header of appendix C.2.
 use crate::tests::harness::{expect_octets, expect_same};
 use crate::tests::standards::rfc7518::{fits, key_of};
 use keys::{Algorithm, ContentEncryptionAlg, KeyManagementAlg, Operation, SignatureAlg};
@@ -13,7 +13,7 @@ fn allows<R: Abort + AllocGlobal>(rt: &R, members: &str, operation: Operation) -
     set.keys().first().expect(rt, "one key").allows(operation)
 }
 
-/// Whether a key of so many octets with this `alg` fits the algorithm.
+/// Whether a key of `len` octets with this `alg` fits the algorithm.
 fn fits_named<R: Abort + AllocGlobal>(
     rt: &R,
     len: usize,
@@ -47,7 +47,7 @@ const NAMES: &[&str] = &[
     "none",
 ];
 
-/// Whether a key with the `alg` fits the algorithm is whether the `alg` is one of these two.
+/// A key with this `alg` fits the algorithm exactly if the `alg` is one of the two names.
 fn expect_fit_named<R: Abort + AllocGlobal>(
     rt: &R,
     len: usize,
@@ -65,7 +65,7 @@ fn expect_fit_named<R: Abort + AllocGlobal>(
     );
 }
 
-/// A key of so many octets fits the algorithm by these two names and by no other.
+/// A key of `len` octets fits the algorithm by these two names and by no others.
 fn expect_names<R: Abort + AllocGlobal>(
     rt: &R,
     algorithm: Algorithm,
@@ -190,7 +190,7 @@ fn each_name_in_key_ops_allows_its_operations(rt: HostRuntime) {
     }
 }
 
-/// Whether `use` allows the operation as "sig", and whether it does as "enc".
+/// Whether a `use` of "sig" allows the operation, and whether a `use` of "enc" does.
 const BY_USE: &[(Operation, bool, bool)] = &[
     (Operation::Sign, Y, N),
     (Operation::Verify, Y, N),

@@ -79,7 +79,7 @@ fn management_algorithms_have_their_names(rt: HostRuntime) {
     }
 }
 
-/// The lengths of the keys of their wraps, 0 where nothing is wrapped.
+/// The length of each algorithm's wrapping key, which is 0 if nothing is wrapped.
 #[test]
 fn management_algorithms_wrap_with_keys_of_their_lengths(rt: HostRuntime) {
     let lens = [0, 16, 24, 32, 16, 24, 32, 16, 24, 32];
@@ -108,7 +108,7 @@ fn other_names_are_no_algorithm(rt: HostRuntime) {
     expect_encryption_alg(&rt, "dir", None);
 }
 
-/// A key of so many zero octets, with these members beside.
+/// A key of `len` zero octets that also has these members.
 pub(crate) fn key_of(alloc: Global, len: usize, members: &str) -> Result<KeySet, Refusal> {
     let mut text = String::from_str(alloc, "{\"kty\":\"oct\",\"k\":\"")?;
     let zeros = [0u8; 4096];
@@ -119,7 +119,7 @@ pub(crate) fn key_of(alloc: Global, len: usize, members: &str) -> Result<KeySet,
     KeySet::read(alloc, text.as_bytes(), true)
 }
 
-/// Whether such a key fits the algorithm.
+/// Whether a key of `len` zero octets with these members fits the algorithm.
 pub(crate) fn fits<R: Abort + AllocGlobal>(
     rt: &R,
     len: usize,
