@@ -10,9 +10,11 @@ A definition reaches what its type and its equations name, by the `use` lines of
 types of the code, which reach the types of their fields and what their invariants name. What a value of the code looks like to contracts
 (`ghost view`) is not followed, and neither are proofs.
 
-docs/AUDIT.md names pages as `crate/Page`. These fail:
-- a page with reached definitions that is in no row of its section "The pages in reading order", or in two, and a row of any other page;
-- another page that is not in its section "What need not be read";
+docs/AUDIT.md names pages as `crate/Page`. Pages in specs/Code are about values and calls of the code, and no promise of `run` and no law reaches
+them. These fail:
+- a page with reached definitions that is in specs/Code, that is in no row of the section "The pages in reading order", or that is in two, and
+  a row of any other page;
+- another page that is neither in specs/Code nor in the section "What need not be read";
 - a name that is not there: a law or a test in the tables of docs/AUDIT.md; a definition, written `crate/Page.name`, in it or in docs/STEPS.md;
 - a reached definition without a section, a step or a heading of docs/SPECIFICATION.md in the comment above it or above its group.
 
@@ -24,6 +26,8 @@ sys.dont_write_bytecode = True
 from lib.sources import CRATES, ROOT, block_end, fault, faults, read, text_at, tokens_of
 
 RUN = "jose/src/run.rt"
+# Where the pages about values and calls of the code are, in the name of a page.
+CODE = "/Code."
 ORDER, NUMBERS, OTHERS = "The pages in reading order", "Tables and numbers", "What need not be read"
 
 Definition = collections.namedtuple("Definition", "lines comment group cases")
@@ -379,7 +383,9 @@ def compare():
     run, reached = reach(library, by_run), reach(library, by_run | by_laws)
     pages = {f"{it.split('/')[-3]}/{it.split('/')[-1][:-len('.antt')]}" for it in glob.glob(os.path.join(ROOT, "crates/*/specs/*.antt"))}
     reached_pages = {module.replace(".specs.", "/") for module, _ in reached}
-    compare_pages(page_text("AUDIT"), reached_pages, {it for it in pages - reached_pages if not it.endswith("/Lib")})
+    for page in sorted(it for it in reached_pages if CODE in it):
+        fault(f"the promises reach {page}, which is among the pages about the code")
+    compare_pages(page_text("AUDIT"), reached_pages, {it for it in pages - reached_pages if not it.endswith(("/Lib", "/Code"))})
     compare_names(library)
     definitions = {(module, name): library.page(module).definitions[name] for module, name in reached}
     cites = citation()

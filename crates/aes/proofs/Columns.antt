@@ -6,7 +6,7 @@ use Rattle.aes.specs.Octet.{octet_product}
 use Rattle.aes.specs.SBox.{s_box}
 use Rattle.aes.specs.State.{at, word, times_matrix, sub_bytes, shift_rows, mix_columns, add_round_key}
 use Rattle.aes.specs.InverseCipher.{inverse_s_box, inverse_shift_rows, inverse_sub_bytes, inverse_mix_columns}
-use Rattle.aes.specs.Words.{octet, block_of, IsColumnTimes}
+use Rattle.aes.specs.Code.Words.{octet, block_of, IsColumnTimes}
 use Rattle.aes.proofs.Xor.{polynomial_sum-ext}
 use Rattle.aes.proofs.Squares.{at-square, same_square}
 use Rattle.aes.proofs.Matrices.{mix, inverse_mix}

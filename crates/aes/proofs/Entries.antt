@@ -5,7 +5,7 @@ use Rattle.aes.specs.declared.tables.TheConstants.{S_BOX, INVERSE_S_BOX, MIXED_S
 use Rattle.aes.specs.Polynomial.{polynomial_sum, polynomial_remainder}
 use Rattle.aes.specs.SBox.{s_box_bit, s_box_sum, s_box}
 use Rattle.aes.specs.InverseCipher.{inverse_s_box}
-use Rattle.aes.specs.Words.{octet, IsColumnTimes}
+use Rattle.aes.specs.Code.Words.{octet, IsColumnTimes}
 use Rattle.aes.proofs.Products.{x_times, quick, quick_is}
 use Rattle.aes.proofs.Inverses.{quick_powers, power, inverse_is}
 use Rattle.aes.proofs.Boxes.{s_box-lt, unsubstitute_substitute}

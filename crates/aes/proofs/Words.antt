@@ -3,7 +3,7 @@ use Rattle.std.proofs.Common.{◌≡◌, ℕ, zero, suc, ◌+◌, ◌-◌, ◌*�
 use Rattle.std.specs.Int.{w32, from_le_bytes, rotate_left}
 use Rattle.std.proofs.lemmas.Nat.{pow_pos, mod_low, mod-pow-add, or_shifted, shl-shr, shr_below, xor_mod, xor_shr, le_bytes_4}
 use Rattle.aes.specs.Polynomial.{polynomial_sum}
-use Rattle.aes.specs.Words.{octet}
+use Rattle.aes.specs.Code.Words.{octet}
 use Rattle.aes.proofs.Xor.{xor_zero_l}
 
 -- what holds at each of the four rows

@@ -30,7 +30,7 @@ impl Aes128 {
 }
 
 impl Block for Aes128 {
-    ghost use Rattle.aes.specs.Aes.{round_keys_128};
+    ghost use Rattle.aes.specs.Code.Aes.{round_keys_128};
 
     ghost encrypted = { λ k b. cipher 10 (round_keys_128 k) b };
 
@@ -69,7 +69,7 @@ impl Aes192 {
 }
 
 impl Block for Aes192 {
-    ghost use Rattle.aes.specs.Aes.{round_keys_192};
+    ghost use Rattle.aes.specs.Code.Aes.{round_keys_192};
 
     ghost encrypted = { λ k b. cipher 12 (round_keys_192 k) b };
 
@@ -108,7 +108,7 @@ impl Aes256 {
 }
 
 impl Block for Aes256 {
-    ghost use Rattle.aes.specs.Aes.{round_keys_256};
+    ghost use Rattle.aes.specs.Code.Aes.{round_keys_256};
 
     ghost encrypted = { λ k b. cipher 14 (round_keys_256 k) b };
 

@@ -3,7 +3,7 @@ ghost use Rattle.std.specs.Prelude.{◌≡◌, ◌+◌, ◌*◌, ◌≤◌, ◌<
 ghost use Rattle.aes.specs.Cipher.{cipher};
 ghost use Rattle.aes.specs.InverseCipher.{inverse_cipher};
 ghost use Rattle.aes.specs.State.{sub_bytes, shift_rows, add_round_key};
-ghost use Rattle.aes.specs.Words.{block_of};
+ghost use Rattle.aes.specs.Code.Words.{block_of};
 
 use crate::inverse_state::{inverse_round, inverse_shift_sub};
 use crate::state::{add_round_key, block_of, columns_of, sub_shift, sub_shift_mix};

@@ -4,7 +4,7 @@ ghost use Rattle.aes.specs.InverseCipher.{inverse_s_box, inverse_sub_bytes, inve
 ghost use Rattle.aes.specs.Octet.{octet_product};
 ghost use Rattle.aes.specs.Polynomial.{polynomial_sum};
 ghost use Rattle.aes.specs.State.{word, add_round_key};
-ghost use Rattle.aes.specs.Words.{octet, block_of};
+ghost use Rattle.aes.specs.Code.Words.{octet, block_of};
 
 use crate::state::turned_sum;
 use crate::tables::{inverse_mix, unsubstitute};

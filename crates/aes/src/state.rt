@@ -5,7 +5,7 @@ ghost use Rattle.aes.specs.Octet.{octet_product};
 ghost use Rattle.aes.specs.Polynomial.{polynomial_sum};
 ghost use Rattle.aes.specs.SBox.{s_box};
 ghost use Rattle.aes.specs.State.{word, sub_bytes, shift_rows, mix_columns, add_round_key};
-ghost use Rattle.aes.specs.Words.{octet, block_of};
+ghost use Rattle.aes.specs.Code.Words.{octet, block_of};
 
 use crate::tables::{substitute, substitute_and_mix};
 

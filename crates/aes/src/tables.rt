@@ -3,7 +3,7 @@
 ghost use Rattle.std.specs.Prelude.{◌≡◌, [], ◌∷◌};
 ghost use Rattle.aes.specs.SBox.{s_box};
 ghost use Rattle.aes.specs.InverseCipher.{inverse_s_box};
-ghost use Rattle.aes.specs.Words.{IsColumnTimes};
+ghost use Rattle.aes.specs.Code.Words.{IsColumnTimes};
 
 /// The S-box (section 5.1.1).
 const S_BOX: [u8; 256] = [

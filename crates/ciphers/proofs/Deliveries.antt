@@ -10,7 +10,8 @@ use Rattle.ciphers.specs.declared.content_alg.ContentAlg.{ContentAlg}
 use Rattle.ciphers.proofs.Rows.{content_row}
 use Rattle.modes.specs.Ctr.{ctr}
 use Rattle.modes.proofs.Lemmas.{length-gcm_ciphertext}
-use Rattle.modes.specs.Gcm.{gcm_ciphertext, gcm_tag, IsGcmOpening}
+use Rattle.modes.specs.Gcm.{gcm_ciphertext, gcm_tag}
+use Rattle.modes.specs.Code.Opening.{IsGcmOpening}
 use Rattle.octets.specs.Octets.{IsOctets}
 
 -- GCM makes no octets of none

@@ -4,11 +4,12 @@ use Rattle.std.proofs.lemmas.Bool.{cases_lt}
 use Rattle.std.proofs.lemmas.List.{places}
 use Rattle.octets.specs.Octets.{IsOctets}
 use Rattle.ciphers.specs.Sealing.{cbc_tag, cbc_hmac, gcm, Opens}
-use Rattle.ciphers.specs.Views.{HoldsGcmSealing}
+use Rattle.ciphers.specs.Code.Views.{HoldsGcmSealing}
 use Rattle.modes.specs.Cbc.{cbc}
 use Rattle.modes.specs.Ctr.{ctr}
-use Rattle.modes.specs.Gcm.{gcm_ciphertext, gcm_tag, longest, IsGcmOpening}
-use Rattle.modes.specs.Views as modes
+use Rattle.modes.specs.Gcm.{gcm_ciphertext, gcm_tag, longest}
+use Rattle.modes.specs.Code.Opening.{IsGcmOpening}
+use Rattle.modes.specs.Code.Views as modes
 use Rattle.modes.specs.declared.gcm.Gcm.{Gcm}
 use Rattle.prf.specs.HashFunction.{HashFunction}
 

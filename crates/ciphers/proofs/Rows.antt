@@ -8,7 +8,7 @@ use Rattle.ciphers.specs.declared.content_alg.ContentAlg.TheVariants.{A128CbcHs2
 use Rattle.ciphers.specs.declared.key_alg.KeyAlg.{KeyAlg}
 use Rattle.ciphers.specs.declared.key_alg.KeyAlg.TheVariants.{Dir, A128Kw, A192Kw, A256Kw, A128GcmKw, A192GcmKw, A256GcmKw, Pbes2Hs256A128Kw, Pbes2Hs384A192Kw, Pbes2Hs512A256Kw}
 use Rattle.prf.specs.HashFunction.{HashFunction, IsHashFunction}
-use Rattle.prf.specs.Sha2.{sha256_is_hash_function, sha384_is_hash_function, sha512_is_hash_function}
+use Rattle.prf.specs.Code.Sha2Laws.{sha256_is_hash_function, sha384_is_hash_function, sha512_is_hash_function}
 
 -- a hash function, whose half is not empty
 pub record IsHash (f : HashFunction) : Type 0 where

@@ -1,11 +1,11 @@
 -- A running sealing, from what it was fed to what it gives.
 use Rattle.std.proofs.Common.{◌≡◌, ℕ, ◌+◌, ◌*◌, ◌/◌, ◌≤◌, List, ◌++◌, length, take, sym, ap, subst, ◌∙◌, arith, length-append, Result, Ok, Err, IfOk, OnOk}
 use Rattle.std.proofs.lemmas.List.{take_at, take-take, length-take-le}
-use Rattle.ciphers.specs.Views.{KeepsPace, HoldsGcmSealing}
+use Rattle.ciphers.specs.Code.Views.{KeepsPace, HoldsGcmSealing}
 use Rattle.ciphers.specs.Sealing.{Sealing, cbc_hmac}
 use Rattle.modes.specs.Cbc.{cbc_blocks}
 use Rattle.modes.specs.Gcm.{gcm_ciphertext}
-use Rattle.modes.specs.Views as modes
+use Rattle.modes.specs.Code.Views as modes
 use Rattle.modes.specs.declared.gcm.Gcm.{Gcm}
 use Rattle.octets.specs.declared.refusal.Refusal.{Refusal}
 use Rattle.prf.specs.HashFunction.{HashFunction}

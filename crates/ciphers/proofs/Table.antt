@@ -6,7 +6,7 @@ use Rattle.std.proofs.lemmas.List.{take_at, drop_at, take-append-drop}
 use Rattle.aes.specs.Block.{IsBlock, IsCipher}
 use Rattle.octets.specs.Octets.{IsOctets}
 use Rattle.ciphers.specs.KeyWrap.{initial_value, xor_count, part, table, wrapped}
-use Rattle.ciphers.specs.Views.{IsRow}
+use Rattle.ciphers.specs.Code.Views.{IsRow}
 use Rattle.octets.proofs.Lemmas.{chunk_is, chunk_written, length-written, chunk_kept, chunks_joined, same_chunks, length-joined, chunk-joined}
 use Rattle.ciphers.proofs.Halves.{IsHalf, block_of_halves, part_is_half, front_half, back_half, count_is_half, count_twice}
 use borrow.Rule.Slice.PartMut.{put_mid}

@@ -2,7 +2,7 @@
 use Rattle.std.proofs.Common.{◌≡◌, ℕ, zero, suc, ◌+◌, ◌*◌, ◌/◌, ◌%◌, ◌^◌, ◌<◌, ◌≤◌, List, ◌++◌, length, take, drop, sym, ap, subst, ◌∙◌, arith, refl, take-append-drop, length-take, length-drop}
 use Rattle.aes.specs.Block.{IsCipher}
 use Rattle.ciphers.specs.KeyWrap.{xor_count, part, IsKeyData, IsUnwrapping}
-use Rattle.ciphers.specs.Views.{IsRow}
+use Rattle.ciphers.specs.Code.Views.{IsRow}
 use Rattle.ciphers.proofs.Table.{length-wrapped, row_of_wrapped, first_row_is, previous_row}
 use borrow.Rule.Slice.PartMut.{put_mid}
 

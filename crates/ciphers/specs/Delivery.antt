@@ -1,6 +1,6 @@
 -- The delivery of content encryption keys (RFC 7518 sections 4.4, 4.5, 4.7 and 4.8). A recipient's key, its header parameters and an
 -- encrypted key deliver at most one.
-use Rattle.std.specs.Prelude.{◌≡◌, ◌==◌, ◌&&◌, ℕ, ◌*◌, ◌≤◌, Bool, true, List, [], ◌∷◌, ◌++◌, ⊤, length}
+use Rattle.std.specs.Prelude.{◌≡◌, ◌==◌, ◌&&◌, ℕ, ◌*◌, Bool, true, List, [], ◌∷◌, ◌++◌, length}
 use Rattle.std.specs.Str.{bytes_eq}
 use Rattle.aes.specs.Cipher.{encrypted_block}
 use Rattle.ciphers.specs.Algorithms.{KeyFamily, direct, aes_key_wrap, aes_gcm_key_wrap, pbes2, key_family}
@@ -22,48 +22,15 @@ pub record Parameters : Type 0 where
 
 -- ---- what is asked of a key and of parameters
 
--- AES takes a key of its words (sections 4.4 and 4.7); a password, and a key that is used directly, may be of any length
-abbrev pub IsKeyIn : KeyFamily → List ℕ → Type 0
-IsKeyIn (aes_key_wrap nk) key = length key ≡ 4 * nk
-IsKeyIn (aes_gcm_key_wrap nk) key = length key ≡ 4 * nk
-IsKeyIn family key = ⊤
-
-abbrev pub IsKeyOf : KeyAlg → List ℕ → Type 0
-IsKeyOf alg = IsKeyIn (key_family alg)
-
--- p2c is at least 1, where it is read (section 4.8.1.2)
-abbrev pub IsCountIn : KeyFamily → ℕ → Type 0
-IsCountIn (pbes2 f name nk) p2c = 1 ≤ p2c
-IsCountIn family p2c = ⊤
-
-abbrev pub IsCountOf : KeyAlg → ℕ → Type 0
-IsCountOf alg = IsCountIn (key_family alg)
-
 -- the length of the IV of a key wrap in octets: 96 bits (section 4.7.1.1)
 abbrev pub key_iv_len : ℕ
 key_iv_len = 12
-
--- the IV has this length, where it is read
-abbrev pub IsIvIn : KeyFamily → List ℕ → Type 0
-IsIvIn (aes_gcm_key_wrap nk) iv = length iv ≡ key_iv_len
-IsIvIn family iv = ⊤
-
-abbrev pub IsIvOf : KeyAlg → List ℕ → Type 0
-IsIvOf alg = IsIvIn (key_family alg)
 
 -- ---- the ways of delivery (sections 4.4, 4.5, 4.7 and 4.8)
 
 -- the key that PBES2 derives from a password: the salt is the algorithm's name, a zero octet and p2s (section 4.8.1.1)
 unfoldable pub derived_key : HashFunction → List ℕ → ℕ → List ℕ → List ℕ → ℕ → List ℕ
 derived_key f name len password p2s p2c = pbkdf2 f password (name ++ 0 ∷ p2s) p2c len
-
--- the number of its iterations is p2c (section 4.8.1.2), and it is 0 where no key is derived
-abbrev pub iterations_in : KeyFamily → ℕ → ℕ
-iterations_in (pbes2 f name nk) p2c = p2c
-iterations_in family p2c = 0
-
-abbrev pub iteration_count : KeyAlg → ℕ → ℕ
-iteration_count alg = iterations_in (key_family alg)
 
 -- The key is the content encryption key (section 4.5), or the cipher that sends blocks by e wraps it (section 4.4) or encrypts it in GCM
 -- (section 4.7).

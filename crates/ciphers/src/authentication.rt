@@ -12,7 +12,7 @@ pub(crate) struct Authentication<H: Hash> {
 }
 
 impl<H: Hash> Authentication<H> {
-    ghost use Rattle.ciphers.specs.Views.{HoldsAuthentication};
+    ghost use Rattle.ciphers.specs.Code.Views.{HoldsAuthentication};
 
     /// Starts the tag, before any of the ciphertext.
     pub(crate) fn start(mac_key: &[u8], iv: &[u8], aad: &[u8]) -> Authentication<H>

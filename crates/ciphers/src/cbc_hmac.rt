@@ -18,7 +18,7 @@ pub struct CbcHmac<B: Block, H: Hash> {
 }
 
 impl<B: Block, H: Hash> CbcHmac<B, H> {
-    ghost use Rattle.ciphers.specs.Views.{HoldsCbcHmac};
+    ghost use Rattle.ciphers.specs.Code.Views.{HoldsCbcHmac};
 
     /// Starts the encryption, before any of the plaintext.
     pub(crate) fn start(cipher: B, mac_key: &[u8], iv: &[u8], aad: &[u8]) -> CbcHmac<B, H>
@@ -33,7 +33,7 @@ impl<B: Block, H: Hash> CbcHmac<B, H> {
 }
 
 impl<B: Block, H: Hash> Sealer for CbcHmac<B, H> {
-    ghost use Rattle.ciphers.specs.Views.{HoldsCbcHmac};
+    ghost use Rattle.ciphers.specs.Code.Views.{HoldsCbcHmac};
 
     ghost is_sealing = { HoldsCbcHmac B.encrypted H.function H.holds };
 

@@ -147,7 +147,7 @@ pub enum ContentSealer {
 }
 
 impl Sealer for ContentSealer {
-    ghost use Rattle.ciphers.specs.Views.{HoldsCbcHmac, HoldsGcmSealing, on_sealer, on_each_sealer};
+    ghost use Rattle.ciphers.specs.Code.Views.{HoldsCbcHmac, HoldsGcmSealing, on_sealer, on_each_sealer};
 
     ghost is_sealing = { λ x s p. on_sealer x
         (λ y. HoldsCbcHmac ⟦<Aes128 as Block>⟧.encrypted ⟦<Sha256 as Hash>⟧.function ⟦<Sha256 as Hash>⟧.holds y s p)

@@ -23,7 +23,7 @@ pub(crate) enum Way {
 }
 
 impl Block for Kek {
-    ghost use Rattle.ciphers.specs.Views.{on_kek, on_each_kek};
+    ghost use Rattle.ciphers.specs.Code.Views.{on_kek, on_each_kek};
 
     ghost encrypted = { λ kek. on_kek kek ⟦<Aes128 as Block>⟧.encrypted ⟦<Aes192 as Block>⟧.encrypted
         ⟦<Aes256 as Block>⟧.encrypted };

@@ -1,10 +1,12 @@
 //! The algorithms of key management (RFC 7518 sections 4.4, 4.5, 4.7 and 4.8).
 ghost use Rattle.std.specs.Prelude.{◌≡◌, ℕ, ◌*◌, ◌%◌, ◌≤◌, List, [], ◌∷◌, ◌++◌, length, take, drop, IfSome, IfNone};
-ghost use Rattle.ciphers.specs.Delivery.{IsKeyOf, IsCountOf, IsIvOf, iteration_count, derived_key, way_of, encrypted_key_of, key_tag_of, IsDelivered};
+ghost use Rattle.ciphers.specs.Delivery.{derived_key, way_of, encrypted_key_of, key_tag_of, IsDelivered};
+ghost use Rattle.ciphers.specs.Code.Demands.{IsKeyOf, IsCountOf, IsIvOf, iteration_count};
 ghost use Rattle.ciphers.specs.KeyWrap.{IsUnwrapping};
 ghost use Rattle.ciphers.specs.Sealing.{cek_len};
-ghost use Rattle.ciphers.specs.Views.{parameters_view, way_view, calls_made};
-ghost use Rattle.modes.specs.Gcm.{gcm_ciphertext, gcm_tag, IsGcmOpening};
+ghost use Rattle.ciphers.specs.Code.Views.{parameters_view, way_view, calls_made};
+ghost use Rattle.modes.specs.Gcm.{gcm_ciphertext, gcm_tag};
+ghost use Rattle.modes.specs.Code.Opening.{IsGcmOpening};
 ghost use Rattle.prf.specs.Pbkdf2.{block_count};
 
 use crate::cek::Cek;

@@ -1,6 +1,6 @@
 //! Key management: RFC 7516 appendix A.3, RFC 7517 appendix C and rows of another program, changed texts and lengths.
 ghost use Rattle.std.specs.Prelude.{◌≡◌, ◌≢◌, ◌+◌, ◌%◌, ◌<◌, ◌≤◌, length};
-ghost use Rattle.ciphers.specs.Delivery.{IsKeyOf, IsCountOf, IsIvOf};
+ghost use Rattle.ciphers.specs.Code.Demands.{IsKeyOf, IsCountOf, IsIvOf};
 
 use crate::content_alg_tests::{expect_octets, front};
 use crate::{Cek, ContentAlg, KeyAlg, KeyParameters};

@@ -1,7 +1,7 @@
 //! AES key wrap (RFC 3394), over any block cipher. The registers R[1] to R[n] are one slice, with eight octets each.
 ghost use Rattle.std.specs.Prelude.{◌≡◌, ℕ, ◌+◌, ◌*◌, ◌/◌, ◌%◌, ◌≤◌, List, ◌++◌, length, take, drop, IfNone, OnSome};
 ghost use Rattle.ciphers.specs.KeyWrap.{xor_count, wrapped, IsUnwrapping};
-ghost use Rattle.ciphers.specs.Views.{IsRow};
+ghost use Rattle.ciphers.specs.Code.Views.{IsRow};
 ghost use Rattle.octets.specs.Octets.{IsOctets};
 
 use aes::Block;

@@ -1,6 +1,6 @@
 //! Encryptions of content that comes in pieces (RFC 7516 section 5.1, step 15).
 ghost use Rattle.std.specs.Prelude.{◌≡◌, ◌↔◌, ℕ, ◌≤◌, List, [], ◌++◌, length, take, drop, IfSome, IfNone, IfOk, IfErr, IsErr, OnOk, OnErr};
-ghost use Rattle.ciphers.specs.Views.{KeepsPace, HoldsGcmSealing};
+ghost use Rattle.ciphers.specs.Code.Views.{KeepsPace, HoldsGcmSealing};
 ghost use Rattle.ciphers.specs.Sealing.{Sealing, IsTooLong, gcm, Opens};
 
 use crate::content_alg::array;

@@ -1,6 +1,6 @@
 //! The lengths of RFC 7518's algorithms, row by row. What each is made of is shown by the vectors of the other tests.
 ghost use Rattle.std.specs.Prelude.{◌≡◌, ◌≢◌, ◌%◌, ◌≤◌, length};
-ghost use Rattle.ciphers.specs.Delivery.{IsKeyOf, IsCountOf, IsIvOf};
+ghost use Rattle.ciphers.specs.Code.Demands.{IsKeyOf, IsCountOf, IsIvOf};
 
 use crate::content_alg_tests::{expect_len, front, seal};
 use crate::key_alg_tests::{expect_cek, expect_no_cek};

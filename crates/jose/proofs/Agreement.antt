@@ -3,10 +3,12 @@ use Rattle.std.proofs.Common.{◌≡◌, ℕ, List, [], length, take, nat_le, Bo
 use Rattle.std.specs.Result.{result_unwrap_or, OnErr, IsErrAnd}
 use Rattle.octets.specs.declared.refusal.Refusal.{Refusal}
 use Rattle.octets.specs.declared.refusal.Refusal.TheVariants.{Memory, Random}
-use Rattle.octets.specs.Outcomes.{◌>>=◌, needs, is_memory, is_external, AgreesUnlessExternal}
-use Rattle.octets.specs.Plan.{OutputTexts, nothing, Plan, plan_map, plan_from, placed, planned_beginning, beginning_of, without_content, accepted}
+use Rattle.octets.specs.Outcomes.{◌>>=◌, needs, is_external, AgreesUnlessExternal}
+use Rattle.octets.specs.Code.Results.{is_memory, accepted}
+use Rattle.octets.specs.Plan.{OutputTexts, nothing, Plan, plan_map, plan_from, begun, beginning_of, without_content}
 use Rattle.octets.proofs.Lemmas.{AgreesUnlessExternal-map}
-use Rattle.keys.specs.Generating.{MadeKey, made_key, key_text, gen_answer}
+use Rattle.keys.specs.Generating.{MadeKey, made_key, key_text}
+use Rattle.keys.specs.Code.Made.{gen_answer}
 use Rattle.keys.specs.Limits.{limits}
 use Rattle.jose.specs.Ports.{as_text, as_content}
 use Rattle.jose.specs.Jwk.{making}
@@ -19,20 +21,19 @@ pub agrees_as_content : (a : Result (List ℕ) Refusal) (content other : List �
     → AgreesUnlessExternal (a >>= λ x. Ok (as_content x)) (record { text = other; content = content }) r
 agrees_as_content a content other r e h = AgreesUnlessExternal-map as_content a content (record { text = other; content = content }) r (ap (λ q. record { text = q; content = content }) (sym e)) h
 
--- the plan of a made key, put in its place: the answer that `Rattle.keys.specs.Generating` gives
-pub plan_of_making : {V : Type 0} (f : List ℕ → V) (template random : List ℕ)
-    → plan_from (placed f (making template)) random ≡ (gen_answer limits template random >>= λ x. Ok (without_content (f x)))
+-- the plan of a made key: the answer that `gen_answer` gives
+pub plan_of_making : (template random : List ℕ) → plan_from (making template) random ≡ (gen_answer limits template random >>= λ x. Ok (without_content (as_text x)))
 unfolding gen_answer
-plan_of_making f template random = by_made (made_key limits template)
+plan_of_making template random = by_made (made_key limits template)
   where
     by_made : (made : Result MadeKey Refusal)
-        → plan_from (placed f (made >>= λ m. Ok (record { drawn = m.len; plan = λ octets. without_content (key_text m octets) }))) random
-        ≡ ((made >>= λ m. needs (nat_le m.len (length random)) Random >>= λ u. Ok (key_text m (take m.len random))) >>= λ x. Ok (without_content (f x)))
+        → plan_from (made >>= λ m. Ok (record { drawn = m.len; plan = λ octets. without_content (as_text (key_text m octets)) })) random
+        ≡ ((made >>= λ m. needs (nat_le m.len (length random)) Random >>= λ u. Ok (key_text m (take m.len random))) >>= λ x. Ok (without_content (as_text x)))
     by_made (Err r) = refl
     by_made (Ok m) = by_test (nat_le m.len (length random))
       where
-        by_test : (enough : Bool) → (needs enough Random >>= λ u. Ok (without_content (f (key_text m (take m.len random)))))
-            ≡ ((needs enough Random >>= λ u. Ok (key_text m (take m.len random))) >>= λ x. Ok (without_content (f x)))
+        by_test : (enough : Bool) → (needs enough Random >>= λ u. Ok (without_content (as_text (key_text m (take m.len random)))))
+            ≡ ((needs enough Random >>= λ u. Ok (key_text m (take m.len random))) >>= λ x. Ok (without_content (as_text x)))
         by_test true = refl
         by_test false = refl
 
@@ -47,7 +48,7 @@ beginning_map f p octets true = by_answer (p.whole octets)
     by_answer (Err r) = refl
 
 pub begun_by_text : (f : List ℕ → OutputTexts) → f [] ≡ nothing → (others : Bool) (a : Result (List ℕ) Refusal)
-    → planned_beginning others (a >>= λ x. Ok (without_content (f x))) (record { octets = []; ended = true }) ≡ f (accepted a others)
+    → (if others then begun (a >>= λ x. Ok (without_content (f x))) (record { octets = []; ended = true }) else nothing) ≡ f (accepted a others)
 begun_by_text f none true (Ok x) = refl
 begun_by_text f none true (Err r) = sym none
 begun_by_text f none false (Ok x) = sym none

@@ -13,10 +13,10 @@ use Rattle.jose.specs.declared.commands.WholeInputs.{WholeInputs}
 use Rattle.jose.specs.declared.ports.Inputs.{Inputs}
 use Rattle.jose.specs.declared.ports.Outputs.{Outputs}
 use Rattle.jose.specs.Invocations.{InvocationView}
-use Rattle.jose.specs.Ports.{InputTexts, ObservedInputs, ArePossibleInputs, formed, input_counts, written_texts}
+use Rattle.jose.specs.Ports.{InputTexts, ObservedInputs, ArePossibleInputs, input_counts, written_texts}
 use Rattle.jose.specs.Meanings.{of_object}
 use Rattle.jose.specs.Answer.{holds_back, takes_memory, answer, draft_of, content_seen, beginning, others_read, was_read, has_template, has_text_input, has_keys_input, has_content_input, has_text_output, has_content_output}
-use Rattle.jose.specs.Doing.{InputMembers, OutputMembers, seen_of, Does, ReadsInputs, WritesWhole, where_read}
+use Rattle.jose.specs.Code.Doing.{InputMembers, OutputMembers, seen_of, Does, ReadsInputs, WritesWhole, where_read, formed}
 use Rattle.jose.proofs.Draws.{nothing_drawn, none_drawn}
 use Rattle.jose.proofs.Objects.{beside_ended, begun_of_object, drawn_of_object, planned_of_object, refused_alone}
 

@@ -4,10 +4,11 @@ use Rattle.std.proofs.Math.Seq.{drop-length}
 use Rattle.octets.specs.declared.refusal.Refusal.{Refusal}
 use Rattle.octets.specs.Devices.{appended}
 use Rattle.octets.specs.Outcomes.{◌>>=◌}
-use Rattle.octets.specs.Plan.{Plan, Draft, drawn_of, without_content, placed, by_plan}
+use Rattle.octets.specs.Plan.{OutputTexts, Plan, Draft, drawn_of, without_content, by_plan}
 use Rattle.keys.specs.Generating.{MadeKey, made_key, key_text}
 use Rattle.keys.specs.Limits.{limits}
 use Rattle.jose.specs.Jwk.{making}
+use Rattle.jose.specs.Ports.{as_text}
 
 -- ---- an input that was not read
 
@@ -19,8 +20,8 @@ none_drawn octets most = let none = nothing_drawn octets in omega (arith, none)
 
 -- ---- one of which a key was made, as the template asks, or which a refused template left as it was
 
-abbrev draft_by : Result MadeKey Refusal → Result (Draft (List ℕ)) Refusal
-draft_by made = made >>= λ m. Ok (record { drawn = m.len; plan = λ octets. without_content (key_text m octets) })
+abbrev draft_by : Result MadeKey Refusal → Result (Draft OutputTexts) Refusal
+draft_by made = made >>= λ m. Ok (record { drawn = m.len; plan = λ octets. without_content (as_text (key_text m octets)) })
 
 pub key_drawn : {D : Type 0} (consumed : D → List ℕ) (old new : D) (template : List ℕ)
     → ((made : MadeKey) → made_key limits template ≡ Ok made → length (appended (consumed old) (consumed new)) ≡ made.len)
@@ -52,19 +53,11 @@ making_refused template refusal = by_made (made_key limits template)
     by_made (Ok m) is = cc is
     by_made (Err r) is = ap Err (cc is)
 
--- ---- drafts, put in their places
-
-pub placed_drawn : {V : Type 0} (f : List ℕ → V) (draft : Result (Draft (List ℕ)) Refusal) → drawn_of (placed f draft) ≡ drawn_of draft
-placed_drawn f (Ok d) = refl
-placed_drawn f (Err r) = refl
+-- ---- drafts of plans
 
 pub by_plan_drawn : {W : Type 0} (plan : Result (Plan W) Refusal) → drawn_of (by_plan plan) ≡ 0
 by_plan_drawn (Ok p) = refl
 by_plan_drawn (Err r) = refl
-
-pub placed_refused : {V : Type 0} (f : List ℕ → V) (draft : Result (Draft (List ℕ)) Refusal) (refusal : Refusal) → placed f draft ≡ Err refusal → draft ≡ Err refusal
-placed_refused f (Ok d) refusal is = cc is
-placed_refused f (Err r) refusal is = ap Err (cc is)
 
 pub by_plan_refused : {W : Type 0} (plan : Result (Plan W) Refusal) (refusal : Refusal) → by_plan plan ≡ Err refusal → plan ≡ Err refusal
 by_plan_refused (Ok p) refusal is = cc is

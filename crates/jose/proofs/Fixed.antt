@@ -2,8 +2,9 @@
 use Rattle.std.proofs.Common.{◌≡◌, ℕ, Bool, true, false, nat_le, take, List, [], length, Result, Ok, Err, refl}
 use Rattle.octets.specs.declared.refusal.Refusal.{Refusal}
 use Rattle.octets.specs.declared.refusal.Refusal.TheVariants.{Random}
+use Rattle.octets.specs.Code.Streams.{fixed_by}
 use Rattle.octets.specs.Outcomes.{◌>>=◌, needs}
-use Rattle.octets.specs.Plan.{fixed_by, plan_from}
+use Rattle.octets.specs.Plan.{plan_from}
 use Rattle.keys.specs.Keys.{OctetKey}
 use Rattle.keys.specs.Limits.{limits}
 use Rattle.tokens.specs.Choosing.{EncryptionPlan, read_encryption}

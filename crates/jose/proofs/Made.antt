@@ -6,9 +6,10 @@ use Rattle.octets.specs.declared.refusal.Refusal.TheVariants.{Write}
 use Rattle.octets.specs.Devices.{appended, observed, IsPossibleInput, AppendsPrefixOf, IsFinishedOnce}
 use Rattle.octets.specs.Faults.{Counts, counts, TellsFaults}
 use Rattle.octets.specs.Outcomes.{AgreesUnlessExternal}
-use Rattle.octets.specs.Plan.{accepted, drawn_of}
+use Rattle.octets.specs.Plan.{drawn_of}
+use Rattle.octets.specs.Code.Results.{accepted}
 use Rattle.octets.proofs.Lemmas.{AppendsPrefixOf-none, on_success, on_refusal, planned_without_content, seen_possible}
-use Rattle.keys.specs.Generating.{gen_answer}
+use Rattle.keys.specs.Code.Made.{gen_answer}
 use Rattle.keys.specs.Limits.{limits}
 use Rattle.jose.specs.declared.commands.WholeInputs.{WholeInputs}
 use Rattle.jose.specs.declared.ports.Inputs.{Inputs}
@@ -18,10 +19,9 @@ use Rattle.jose.specs.Answer.{beginning}
 use Rattle.jose.specs.Invocations.{Settings}
 use Rattle.jose.specs.Jwk.{making}
 use Rattle.jose.specs.Ports.{as_text}
-use Rattle.jose.specs.Doing.{InputMembers, OutputMembers, seen_of, Does, ReadsInputs}
+use Rattle.jose.specs.Code.Doing.{InputMembers, OutputMembers, seen_of, Does, ReadsInputs}
 use Rattle.jose.proofs.Agreement.{agrees_as_text, begun_by_text, plan_of_making}
 use Rattle.jose.proofs.Doing.{if_always, if_weaker}
-use Rattle.jose.proofs.Draws.{placed_drawn, placed_refused}
 use Rattle.jose.proofs.Rows.{invoked}
 use Rattle.jose.proofs.Spared.{spared_alone}
 
@@ -65,15 +65,15 @@ made {D} {E} {input} {output} {old} {mid} {random} {before} {text} {read = whole
     = subst (λ d. MakesKey input output whole.text.items d random before.text text r) read.no_random key in
     let t : seen.text.octets ≡ whole.text.items = read.text _ (seen_possible input.consumed input.is_at_end old.text new.text) in
     let stands : beginning (invoked JwkGen options) seen ≡ as_text (accepted (gen_answer limits whole.text.items seen.random.octets) true)
-    = rw (t, plan_of_making as_text whole.text.items seen.random.octets, begun_by_text as_text refl seen.text.ended (gen_answer limits whole.text.items seen.random.octets), read.text_ends) refl in
+    = rw (t, plan_of_making whole.text.items seen.random.octets, begun_by_text as_text refl seen.text.ended (gen_answer limits whole.text.items seen.random.octets), read.text_ends) refl in
     let spared = spared_alone output.failures before.text text (text ≡ before.text) r k.faults k.held_back in
     record {
       answer = λ inputs may.
           let a = gen_answer limits inputs.text inputs.random in
-          rw (plan_of_making as_text inputs.text inputs.random, planned_without_content as_text a [], read.text inputs.text may.text)
+          rw (plan_of_making inputs.text inputs.random, planned_without_content as_text a [], read.text inputs.text may.text)
           (agrees_as_text (gen_answer limits whole.text.items inputs.random) _ _ r (drop-length (output.written before.content)) (k.answer inputs.random may.random));
-      drawn = on_success r k.drawn (λ drawn inputs may. rw (placed_drawn as_text (making inputs.text), read.text inputs.text may.text) drawn);
-      at_most = λ inputs may. rw (placed_drawn as_text (making inputs.text), read.text inputs.text may.text) k.at_most;
+      drawn = on_success r k.drawn (λ drawn inputs may. rw (read.text inputs.text may.text) drawn);
+      at_most = λ inputs may. rw (read.text inputs.text may.text) k.at_most;
       beginning = on_refusal r k.beginning (λ part. rw stands (record { text = part; content = AppendsPrefixOf-none _ _ refl }));
       held_back = if_weaker r _ _ spared (λ e untouched holds. record { text = untouched; content = λ others. refl });
       uncut = if_weaker r _ _ spared (λ e untouched. record { text = λ is same. untouched is; content = λ others same. refl });
@@ -84,7 +84,7 @@ made {D} {E} {input} {output} {old} {mid} {random} {before} {text} {read = whole
       reads_first = if_always r _ (λ e inside usage. rw read.text_ends refl);
       random_first = λ short. read.no_content refl;
       memory_first = if_always r _ (λ e memory. (refl, λ streams. cc));
-      content_last = λ refusal refused. (k.content_last refusal (rw t at (placed_refused as_text _ refusal refused)), read.no_content refl);
+      content_last = λ refusal refused. (k.content_last refusal (rw t at refused), read.no_content refl);
       finished = on_success r k.finished (λ done. (λ has. done, λ has. cc));
       unfinished = on_refusal r k.unfinished (λ same. (same, λ none. refl));
       untouched = record { text = λ none. cc; content = λ none. read.no_content refl; keys = λ none. read.no_keys refl; random = λ none. cc; text_out = λ none. cc; content_out = λ none. refl };

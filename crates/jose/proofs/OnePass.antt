@@ -11,7 +11,7 @@ use Rattle.jose.specs.declared.ports.Inputs.{Inputs}
 use Rattle.jose.specs.declared.ports.Outputs.{Outputs}
 use Rattle.jose.specs.Jws.{ver_answer}
 use Rattle.jose.specs.Ports.{on_content, output_counts}
-use Rattle.jose.specs.Doing.{InputMembers, OutputMembers, seen_of, Does}
+use Rattle.jose.specs.Code.Doing.{InputMembers, OutputMembers, seen_of, Does}
 use Rattle.jose.specs.Invocations.{InvocationView}
 use Rattle.jose.proofs.Agreement.{agrees_as_content}
 use Rattle.jose.proofs.Doing.{IsWhole, if_always, if_done, if_weaker, others_are, reader_of}

@@ -4,7 +4,8 @@ use Rattle.clap.specs.Words.{HasKind, Kinds, Text, fault_of, kind_of, matches_of
 use Rattle.clap.specs.declared.error.Error.{Error}
 use Rattle.octets.specs.declared.refusal.Refusal.{Refusal}
 use Rattle.octets.specs.declared.refusal.Refusal.TheVariants.{Usage}
-use Rattle.octets.specs.Outcomes.{◌>>=◌, needs, is_memory, is_external}
+use Rattle.octets.specs.Outcomes.{◌>>=◌, needs, is_external}
+use Rattle.octets.specs.Code.Results.{is_memory}
 use Rattle.jose.specs.Commands.{OptionEntry}
 use Rattle.jose.specs.Reading.{IsRefusalFor, app_for, is_faultless, settings_of, settings_read}
 

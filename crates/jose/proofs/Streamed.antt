@@ -5,9 +5,11 @@ use Rattle.octets.specs.declared.refusal.Refusal.{Refusal}
 use Rattle.octets.specs.declared.refusal.Refusal.TheVariants.{Read, Write, Memory}
 use Rattle.octets.specs.Devices.{appended, observed, IsPossibleInput, AppendsPrefixOf, IsFinishedOnce}
 use Rattle.octets.specs.Faults.{Counts, counts, TellsFaults, NoneFailed, SomeFailed, DidNotFail}
-use Rattle.octets.specs.Lent.{Lent, lent, IfLent, wrote_on, counts_of}
-use Rattle.octets.specs.Outcomes.{is_external, is_memory, AgreesUnlessExternal}
-use Rattle.octets.specs.Plan.{OutputTexts, Plan, Draft, drawn_of, plan_from, planned, begun, fixed_by}
+use Rattle.octets.specs.Code.Lent.{Lent, lent, IfLent, wrote_on, counts_of}
+use Rattle.octets.specs.Code.Streams.{fixed_by}
+use Rattle.octets.specs.Outcomes.{is_external, AgreesUnlessExternal}
+use Rattle.octets.specs.Code.Results.{is_memory}
+use Rattle.octets.specs.Plan.{OutputTexts, Plan, Draft, drawn_of, plan_from, planned, begun}
 use Rattle.octets.specs.Pumps.{KeepsUp}
 use Rattle.octets.proofs.Lemmas.{AppendsPrefixOf-kept, kept_up_by_none, on_success, on_refusal, seen_possible}
 use Rattle.jose.specs.declared.commands.WholeInputs.{WholeInputs}
@@ -15,7 +17,7 @@ use Rattle.jose.specs.declared.ports.Inputs.{Inputs}
 use Rattle.jose.specs.declared.ports.Outputs.{Outputs}
 use Rattle.jose.specs.Invocations.{InvocationView}
 use Rattle.jose.specs.Answer.{holds_back, draft_of, beginning, others_read, has_content_input, has_random_input, has_text_output, has_content_output}
-use Rattle.jose.specs.Doing.{InputMembers, OutputMembers, seen_of, Does, ReadsInputs}
+use Rattle.jose.specs.Code.Doing.{InputMembers, OutputMembers, seen_of, Does, ReadsInputs}
 use Rattle.jose.proofs.Agreement.{both_on_refusal, not_memory}
 use Rattle.jose.proofs.Doing.{IsReader, ends_early, others_are, if_always, if_weaker}
 

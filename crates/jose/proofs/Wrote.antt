@@ -9,8 +9,8 @@ use Rattle.octets.specs.Faults.{Counts, counts, TellsFaults}
 use Rattle.octets.specs.Outcomes.{AgreesUnlessExternal}
 use Rattle.octets.proofs.Lemmas.{AppendsPrefixOf-none, on_success, on_refusal}
 use Rattle.jose.specs.declared.ports.Outputs.{Outputs}
-use Rattle.jose.specs.Ports.{as_content, formed, on_content}
-use Rattle.jose.specs.Doing.{OutputMembers, WritesWhole}
+use Rattle.jose.specs.Ports.{as_content, on_content}
+use Rattle.jose.specs.Code.Doing.{OutputMembers, WritesWhole, formed}
 use Rattle.jose.proofs.Agreement.{agrees_as_content}
 use Rattle.jose.proofs.Doing.{if_weaker}
 

@@ -6,7 +6,7 @@ use Rattle.octets.specs.declared.refusal.Refusal.TheVariants.{Usage, Write, Memo
 use Rattle.octets.specs.Devices.{Observed, IsFinishedOnce}
 use Rattle.octets.specs.Faults.{counts, DidNotFail}
 use Rattle.octets.specs.Outcomes.{AgreesUnlessExternal, is_external}
-use Rattle.octets.specs.Plan.{OutputTexts, Draft, drawn_of, plan_from, fixed_by, planned, planned_beginning}
+use Rattle.octets.specs.Plan.{OutputTexts, nothing, Draft, drawn_of, plan_from, planned, begun}
 use Rattle.octets.specs.Pumps.{KeepsUp}
 use Rattle.clap.specs.Words.{Text}
 use Rattle.jose.specs.declared.words.table.Command.{Command}
@@ -116,8 +116,8 @@ content_seen invocation seen = content_of invocation seen.text seen.content (rec
 -- the outputs hold a beginning of these texts: of none before the other inputs are read and accepted
 abbrev pub beginning : InvocationView → ObservedInputs → OutputTexts
 beginning invocation seen =
-    planned_beginning (others_read invocation seen) (plan_from (draft_of invocation seen.text.octets seen.keys.octets) seen.random.octets)
-    (content_seen invocation seen)
+    if others_read invocation seen then begun (plan_from (draft_of invocation seen.text.octets seen.keys.octets) seen.random.octets) (content_seen invocation seen)
+    else nothing
 
 -- Text holds, unless the refusal is Write and the output of the text failed itself. Content holds, unless the refusal is Write: a content
 -- beside the text is written first, so the other output may have failed after it.
@@ -143,7 +143,7 @@ AreUnread failures invocation seen old new refusal =
 
 -- what so much of the content fixes, where the other inputs are as they were seen
 abbrev pub fixed_of : InvocationView → ObservedInputs → List ℕ → OutputTexts
-fixed_of invocation seen front = fixed_by (plan_from (draft_of invocation seen.text.octets seen.keys.octets) seen.random.octets) front
+fixed_of invocation seen front = begun (plan_from (draft_of invocation seen.text.octets seen.keys.octets) seen.random.octets) (record { octets = front; ended = false })
 
 -- Where the content of a command that writes as it reads fails, and something of it was read, what stands is at most 4,160 octets
 -- behind what was read.

@@ -1,7 +1,7 @@
 -- The commands of the program, in one table: their words, and what each option takes and names.
 use Prim.Native.String.{String}
-use Rattle.std.specs.Prelude.{ℕ, ◌==◌, ◌&&◌, Bool, true, false, List, [], ◌∷◌, map, Option, is_some, find, codes}
-use Rattle.std.specs.Str.{byte, bytes_eq}
+use Rattle.std.specs.Prelude.{ℕ, ◌==◌, Bool, true, false, List, [], ◌∷◌, Option, is_some, find, codes}
+use Rattle.std.specs.Str.{byte}
 use Rattle.clap.specs.Words.{Text}
 use Rattle.jose.specs.declared.words.table.Command.{Command}
 use Rattle.jose.specs.declared.words.table.Command.TheVariants.{JwkGen, JwkThp, B64Enc, B64Dec, JwsSig, JwsVer, JwsFmt, JweEnc, JweDec, JweFmt}
@@ -113,19 +113,6 @@ same_role Hash Hash = true
 same_role Nothing Nothing = true
 same_role role other = false
 
-abbrev pub is_input : Role → Bool
-is_input Json = true
-is_input Keys = true
-is_input Streamed = true
-is_input Octets = true
-is_input other = false
-
-abbrev pub is_output : Role → Bool
-is_output Output = true
-is_output Secret = true
-is_output MadeKey = true
-is_output other = false
-
 -- it is JSON, which may stand in the words
 abbrev pub is_json : Role → Bool
 is_json Json = true
@@ -144,10 +131,3 @@ option_with role command = find (λ entry. same_role entry.role role) (row_of co
 
 abbrev pub has_option : String → Command → Bool
 has_option letter command = is_some (option_at letter command)
-
-abbrev pub has_words : Text → Text → CommandEntry → Bool
-has_words noun verb entry = bytes_eq entry.noun noun && bytes_eq entry.verb verb
-
--- the command of the table that has these two words
-abbrev pub command_named : Text → Text → Option CommandEntry
-command_named noun verb = find (has_words noun verb) commands

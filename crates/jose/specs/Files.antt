@@ -7,8 +7,8 @@ use Rattle.std.specs.Str.{byte, bytes_eq}
 use Rattle.clap.specs.Words.{Text}
 use Rattle.octets.specs.declared.streams.ReaderInput.{ReaderInput}
 use Rattle.octets.specs.declared.streams.WriterOutput.{WriterOutput}
-use Rattle.octets.specs.Devices.{most_octets}
-use Rattle.octets.specs.Views.{reader_of, consumed_of, is_at_end_of, remaining_of, read_failures_of, writer_of, written_of, is_finished_of, endings_of, write_failures_of}
+use Rattle.octets.specs.Code.Views.{reader_of, consumed_of, is_at_end_of, remaining_of, read_failures_of, writer_of, written_of, is_finished_of, endings_of, write_failures_of}
+use Rattle.octets.specs.Code.Streams.{most_octets}
 use Rattle.jose.specs.declared.words.table.Role.{Role}
 use Rattle.jose.specs.declared.words.table.Role.TheVariants as role
 use Rattle.jose.specs.declared.files.Apart.{Apart}

@@ -1,8 +1,8 @@
 -- The commands `jwe enc`, `jwe dec` and `jwe fmt`.
 use Rattle.std.specs.Prelude.{ℕ, Bool, true, false, List, Option, Result}
 use Rattle.octets.specs.declared.refusal.Refusal.{Refusal}
-use Rattle.octets.specs.Outcomes.{◌>>=◌}
 use Rattle.octets.specs.Plan.{OutputTexts, Draft}
+use Rattle.octets.specs.Outcomes.{◌>>=◌}
 use Rattle.keys.specs.KeySets.{key_set}
 use Rattle.keys.specs.Limits.{Limits}
 use Rattle.objects.specs.Jwe.{jwe_of}

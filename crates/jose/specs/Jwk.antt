@@ -3,20 +3,21 @@ use Rattle.std.specs.Prelude.{ℕ, false, List, [], ◌∷◌, Result, Ok}
 use Rattle.std.specs.List.{join_by}
 use Rattle.std.specs.Str.{byte}
 use Rattle.octets.specs.declared.refusal.Refusal.{Refusal}
+use Rattle.octets.specs.Plan.{OutputTexts, Draft, without_content}
 use Rattle.octets.specs.Outcomes.{◌>>=◌}
-use Rattle.octets.specs.Plan.{Draft, without_content}
 use Rattle.prf.specs.declared.digests.HashAlg.{HashAlg}
 use Rattle.keys.specs.Generating.{made_key, key_text}
 use Rattle.keys.specs.Keys.{OctetKey}
 use Rattle.keys.specs.KeySets.{key_set}
 use Rattle.keys.specs.Limits.{limits}
 use Rattle.keys.specs.Thumbprints.{thumbprint_of}
+use Rattle.jose.specs.Ports.{as_text}
 
 -- the key that a template's text makes, of the octets that are drawn for it (docs/SPECIFICATION.md "Making keys")
-abbrev pub making : List ℕ → Result (Draft (List ℕ)) Refusal
+abbrev pub making : List ℕ → Result (Draft OutputTexts) Refusal
 making template = do
   made ← made_key limits template
-  Ok (record { drawn = made.len; plan = λ octets. without_content (key_text made octets) })
+  Ok (record { drawn = made.len; plan = λ octets. without_content (as_text (key_text made octets)) })
 
 -- the thumbprints of the keys, with a line feed between each two (docs/SPECIFICATION.md "Keys" 7)
 unfoldable pub thumbprint_lines : HashAlg → List OctetKey → List ℕ

@@ -1,18 +1,35 @@
-pub mod Commands
-pub mod Rows
-pub mod Invocations
-pub mod Reading
-pub mod Words
-pub mod Reports
+-- The definitions, in reading order (docs/AUDIT.md).
+-- the answers about signed objects
 pub mod Jws
+-- the answers about encrypted objects
 pub mod Jwe
-pub mod Ports
+-- the answers about keys
 pub mod Jwk
+-- the devices of a run
+pub mod Ports
+-- a command with its options
+pub mod Invocations
+-- a row for each command
+pub mod Commands
+-- an equation for each command
 pub mod Meanings
+-- the answer of a run, and what a refusal leaves
 pub mod Answer
-pub mod Doing
-pub mod Files
-pub mod System
-pub mod Runs
+-- what is encrypted is decrypted
 pub mod Headline
+-- that later limits read what earlier ones wrote
 pub mod WiderLimits
+-- around `run`: the words of a command line
+pub mod Words
+-- around `run`: reading files and streams
+pub mod Reading
+-- around `run`: which files are opened
+pub mod Files
+-- around `run`: what the system does
+pub mod System
+-- around `run`: a whole run over files
+pub mod Runs
+-- around `run`: the last line and the status
+pub mod Reports
+-- values and calls of the code; no answer rests on these pages
+pub mod Code

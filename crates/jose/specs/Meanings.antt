@@ -5,7 +5,7 @@ use Rattle.std.specs.Str.{byte}
 use Rattle.octets.specs.declared.refusal.Refusal.{Refusal}
 use Rattle.octets.specs.declared.refusal.Refusal.TheVariants.{Usage}
 use Rattle.octets.specs.Outcomes.{◌>>=◌}
-use Rattle.octets.specs.Plan.{OutputTexts, nothing, Draft, without_random, placed, by_plan, by_text}
+use Rattle.octets.specs.Plan.{OutputTexts, nothing, Draft, plan_map, without_random, by_plan, by_text}
 use Rattle.octets.specs.Encoding.{encoding, decoding}
 use Rattle.keys.specs.Limits.{limits}
 use Rattle.jose.specs.declared.words.table.Command.{Command}
@@ -43,10 +43,10 @@ of_object false answer = by_text (answer None)
 
 -- What the settings, the text and the keys settle, or the first refusal. A text that is the content settles nothing.
 abbrev pub draft_for : Command → Settings → List ℕ → List ℕ → Result (Draft OutputTexts) Refusal
-draft_for JwkGen settings text keys = placed as_text (making text)
+draft_for JwkGen settings text keys = making text
 draft_for JwkThp settings text keys = by_text (ok_or (hash_asked settings) Usage >>= λ hash. on_text (thp_answer hash text))
-draft_for B64Enc settings text keys = placed as_text (by_plan (Ok encoding))
-draft_for B64Dec settings text keys = placed as_content (by_plan (Ok decoding))
+draft_for B64Enc settings text keys = by_plan (Ok (plan_map as_text encoding))
+draft_for B64Dec settings text keys = by_plan (Ok (plan_map as_content decoding))
 draft_for JwsSig settings text keys = by_plan (sig_answer limits (is_compact_asked settings) (is_content_wanted settings) keys text)
 draft_for JwsVer settings text keys = of_object (is_content_given settings) (λ detached. on_content (ver_answer limits (is_all_asked settings) (is_content_wanted settings) keys detached text))
 draft_for JwsFmt settings text keys = of_object (is_content_given settings) (λ detached. jws_fmt_answer limits (is_compact_asked settings) (is_content_wanted settings) detached text)

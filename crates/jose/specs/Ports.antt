@@ -1,12 +1,11 @@
 -- The devices of a run, each by the option that names it, and what a run read from them and wrote to them.
-use Rattle.std.specs.Prelude.{ℕ, Bool, true, List, [], ◌∷◌, Result, Ok}
+use Rattle.std.specs.Prelude.{ℕ, Bool, List, [], ◌∷◌, Result, Ok}
 use Rattle.std.specs.Iterator.{Count, IsFinite}
 use Rattle.octets.specs.declared.refusal.Refusal.{Refusal}
 use Rattle.octets.specs.Devices.{Observed, observed, appended, AppendsPrefixOf, IsPossibleInput}
 use Rattle.octets.specs.Faults.{Counts, counts}
 use Rattle.octets.specs.Outcomes.{◌>>=◌}
-use Rattle.octets.specs.Plan.{OutputTexts, nothing}
-use Rattle.objects.specs.Texts.{handed_out}
+use Rattle.octets.specs.Plan.{OutputTexts}
 use Rattle.jose.specs.declared.ports.Inputs.{Inputs}
 use Rattle.jose.specs.declared.ports.Outputs.{Outputs}
 
@@ -18,12 +17,6 @@ pub record InputTexts : Type 0 where
   pub content : List ℕ
   pub keys : List ℕ
   pub random : List ℕ
-
--- what may stand written of an answer, as a whole: nothing before its inputs are read and accepted
--- (docs/SPECIFICATION.md "Commands", "What is left after a refusal")
-abbrev pub formed : Result OutputTexts Refusal → Bool → OutputTexts
-formed (Ok texts) true = texts
-formed answer read = nothing
 
 -- the octets of `-o`
 abbrev pub as_text : List ℕ → OutputTexts
@@ -40,10 +33,6 @@ on_text answer = answer >>= λ octets. Ok (as_text octets)
 -- an answer that is written to `-O`
 abbrev pub on_content : Result (List ℕ) Refusal → Result OutputTexts Refusal
 on_content answer = answer >>= λ octets. Ok (as_content octets)
-
--- the text of an object, and its content beside it where that is detached (docs/SPECIFICATION.md "Commands" 4)
-abbrev pub object_texts : Bool → List ℕ → List ℕ → OutputTexts
-object_texts detach content text = record { text = text; content = handed_out detach content }
 
 -- ---- what a run read (docs/SPECIFICATION.md "Devices")
 

@@ -5,7 +5,7 @@ use Rattle.octets.specs.declared.refusal.Refusal.{Refusal}
 use Rattle.octets.specs.declared.streams.ReaderInput.{ReaderInput}
 use Rattle.octets.specs.declared.streams.WriterOutput.{WriterOutput}
 use Rattle.octets.specs.Faults.{TellsFaults}
-use Rattle.octets.specs.Views.{consumed_of, is_at_end_of, read_failures_of, written_of, write_failures_of}
+use Rattle.octets.specs.Code.Views.{consumed_of, is_at_end_of, read_failures_of, written_of, write_failures_of}
 use Rattle.jose.specs.declared.files.Source.{Source}
 use Rattle.jose.specs.declared.files.Sink.{Sink}
 use Rattle.jose.specs.declared.ports.Inputs.{Inputs}

@@ -3,11 +3,12 @@ ghost use Rattle.std.specs.Prelude.{◌≡◌, true, false, ◌⊎◌, ◌++◌,
 ghost use Rattle.std.specs.Iterator.{IsFinite};
 ghost use Rattle.octets.specs.Devices.{appended, observed, IsPossibleInput, AppendsPrefixOf, IsFinishedOnce};
 ghost use Rattle.octets.specs.Faults.{TellsFaults, DidNotFail, counts};
-ghost use Rattle.octets.specs.Outcomes.{AgreesUnlessExternal, IsReadingFailure};
+ghost use Rattle.octets.specs.Outcomes.{AgreesUnlessExternal};
+ghost use Rattle.octets.specs.Code.Results.{IsReadingFailure};
 ghost use Rattle.objects.specs.Texts.{handed_in};
-ghost use Rattle.objects.specs.Views.{held_view};
-ghost use Rattle.jose.specs.Doing.{ReadsInputs, WritesWhole, input_members, output_members, where_read};
-ghost use Rattle.jose.specs.Ports.{AreFinite, object_texts};
+ghost use Rattle.objects.specs.Code.Views.{held_view};
+ghost use Rattle.jose.specs.Code.Doing.{ReadsInputs, WritesWhole, input_members, output_members, where_read, object_texts};
+ghost use Rattle.jose.specs.Ports.{AreFinite};
 
 pub(crate) mod b64;
 pub(crate) mod jwe;

@@ -7,7 +7,7 @@ ghost use Rattle.std.specs.Result.{result_unwrap_or};
 ghost use Rattle.std.specs.Io.{ReadsAtMost, WritesAtMost};
 ghost use Rattle.std.specs.Io.KnownBytes.{Keeps, ReadConsumes, WriteAppends};
 ghost use Rattle.jose.specs.Invocations.{invocation_view};
-ghost use Rattle.jose.specs.Rows.{entry_of};
+ghost use Rattle.jose.specs.Code.Rows.{entry_of};
 ghost use Rattle.jose.specs.Files.{words, origin_of, origin_named, origin_at, after_read, source_remaining, IsOpenSource, IsUnopenedSource, file_of, AreNewInputs};
 ghost use Rattle.jose.specs.System.{MayBeOne, IsApart, IsNotApart, MayBeSynchronized, CannotBeSynchronized, name_of};
 ghost use Rattle.jose.specs.Files.{nowhere, destination_of, destination_at, sink_contents, IsOpenSink, IsUnopenedSink, IsKept, mode_for, purpose_of, others_of, file_written, AreNewOutputs};

@@ -1,10 +1,9 @@
 //! Reading the program's arguments as one of the commands of the table.
 ghost use Rattle.std.specs.Prelude.{◌≡◌, map, string_bytes};
-ghost use Rattle.octets.specs.Outcomes.{AgreesUnlessMemory};
-ghost use Rattle.jose.specs.Rows.{option_entry};
+ghost use Rattle.octets.specs.Code.Results.{AgreesUnlessMemory};
+ghost use Rattle.jose.specs.Code.Rows.{option_entry};
 ghost use Rattle.jose.specs.Invocations.{invocation_view, value_at};
-ghost use Rattle.jose.specs.Commands.{is_input, is_output};
-ghost use Rattle.jose.specs.Words.{invocation_of, is_dash, standard_count, is_served, unserved_count};
+ghost use Rattle.jose.specs.Words.{invocation_of, is_dash, standard_count, is_served, unserved_count, is_input, is_output};
 
 pub(crate) mod invocation;
 mod options;

@@ -5,9 +5,11 @@ use Rattle.std.proofs.lemmas.List.{take_at}
 use Rattle.octets.specs.declared.refusal.Refusal.{Refusal}
 use Rattle.octets.specs.declared.refusal.Refusal.TheVariants.{Memory, Read, Random}
 use Rattle.octets.specs.Devices.{Observed, IsPossibleInput}
-use Rattle.octets.specs.Outcomes.{◌>>=◌, needs, is_memory, is_external, AgreesUnlessMemory, GivesUnlessExternal, IsDrawingFailure}
+use Rattle.octets.specs.Outcomes.{◌>>=◌, needs, is_external, GivesUnlessExternal}
+use Rattle.octets.specs.Code.Results.{is_memory, AgreesUnlessMemory, IsDrawingFailure}
 use Rattle.keys.specs.Limits.{limits}
-use Rattle.keys.specs.Generating.{MadeKey, made_key, gen_answer, key_text}
+use Rattle.keys.specs.Generating.{MadeKey, made_key, key_text}
+use Rattle.keys.specs.Code.Made.{gen_answer}
 
 not_memory : (r : Refusal) → is_external r ≡ false → is_memory r ≡ false
 not_memory Memory h = cc h

@@ -1,12 +1,25 @@
-pub mod Limits
-pub mod Texts
+-- The definitions, in reading order (docs/AUDIT.md).
+-- JSON texts that are read
 pub mod Json
+-- which values are JSON values, and their compact texts
 pub mod JsonTexts
+-- lists of names
+pub mod Texts
+-- members that are read
 pub mod Members
+-- what a key may be used for
 pub mod Operations
-pub mod Algorithms
+-- octet keys
 pub mod Keys
+-- sets of keys
 pub mod KeySets
+-- the limits
+pub mod Limits
+-- a row for each algorithm
+pub mod Algorithms
+-- thumbprints
 pub mod Thumbprints
+-- keys that are made
 pub mod Generating
-pub mod Views
+-- values and calls of the code; no answer rests on these pages
+pub mod Code

@@ -8,10 +8,12 @@ ghost use Rattle.serde_json.specs.Written.{members_have_float};
 ghost use Rattle.octets.specs.declared.refusal.Refusal.{Refusal};
 ghost use Rattle.octets.specs.Devices.{appended, observed, IsPossibleInput};
 ghost use Rattle.octets.specs.Faults.{TellsFaults, counts};
-ghost use Rattle.octets.specs.Outcomes.{Agrees, AgreesUnlessMemory, GivesUnlessExternal};
-ghost use Rattle.keys.specs.Generating.{string_items, key_ops_of, with_operations, completed, key_text, made_key, gen_answer, MadeKey};
+ghost use Rattle.octets.specs.Outcomes.{GivesUnlessExternal};
+ghost use Rattle.octets.specs.Code.Results.{Agrees, AgreesUnlessMemory};
+ghost use Rattle.keys.specs.Generating.{string_items, key_ops_of, with_operations, completed, key_text, made_key, MadeKey};
 ghost use Rattle.keys.specs.Limits.{limits};
-ghost use Rattle.keys.specs.Views.{plan_view};
+ghost use Rattle.keys.specs.Code.Views.{plan_view};
+ghost use Rattle.keys.specs.Code.Made.{gen_answer};
 
 use crate::algorithm::NamedAlg;
 use crate::key_template::{alg_if_there, fitting_len, is_within_limit, read_template};

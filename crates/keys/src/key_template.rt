@@ -3,10 +3,10 @@ ghost use Rattle.std.specs.Prelude.{◌≡◌, ◌≤◌, true, codes, option_ma
 ghost use Rattle.serde_json.specs.Data.{Members, object};
 ghost use Rattle.serde_json.specs.Find.{get, as_object};
 ghost use Rattle.serde_json.specs.View.{view};
-ghost use Rattle.octets.specs.Outcomes.{Agrees, AgreesUnlessMemory};
+ghost use Rattle.octets.specs.Code.Results.{Agrees, AgreesUnlessMemory};
 ghost use Rattle.keys.specs.Generating.{key_template, is_oct_if_there, len_if_there, is_within_limit, alg_if_there, fitting_len};
 ghost use Rattle.keys.specs.Limits.{limits};
-ghost use Rattle.keys.specs.Views.{asked_view};
+ghost use Rattle.keys.specs.Code.Views.{asked_view};
 
 use crate::algorithm::NamedAlg;
 use crate::limits::MOST_KEY_OCTETS;

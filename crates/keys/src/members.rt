@@ -3,7 +3,7 @@
 ghost use Rattle.std.specs.Prelude.{option_map, map, string_bytes};
 ghost use Rattle.std.specs.Option.{ok_or};
 ghost use Rattle.serde_json.specs.View.{view, items_view};
-ghost use Rattle.octets.specs.Outcomes.{Agrees, AgreesUnlessMemory};
+ghost use Rattle.octets.specs.Code.Results.{Agrees, AgreesUnlessMemory};
 ghost use Rattle.keys.specs.Members.{string_member, optional_string_member, optional_strings_member, strings_of};
 
 use octets::Refusal;

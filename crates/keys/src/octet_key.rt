@@ -2,14 +2,14 @@
 ghost use Rattle.std.specs.Prelude.{◌≡◌, IfOk, option_map, map, string_bytes};
 ghost use Rattle.std.specs.List.{list_any};
 ghost use Rattle.serde_json.specs.View.{view};
-ghost use Rattle.octets.specs.Outcomes.{AgreesUnlessMemory};
+ghost use Rattle.octets.specs.Code.Results.{AgreesUnlessMemory};
 ghost use Rattle.octets.specs.Base64url.{decoded};
 ghost use Rattle.keys.specs.Keys.{octet_key, key_octets, constrained_key, or_key, allows, fits, is_absent_or_text, is_absent_or_among, is_absent_or_meets};
 ghost use Rattle.keys.specs.Algorithms.{key_names};
 ghost use Rattle.keys.specs.Limits.{limits};
 ghost use Rattle.keys.specs.Operations.{operation_names};
 ghost use Rattle.keys.specs.Texts.{is_among};
-ghost use Rattle.keys.specs.Views.{key_view};
+ghost use Rattle.keys.specs.Code.Views.{key_view};
 
 use crate::algorithm::{Algorithm, KeyManagementMode};
 use crate::key::Key;

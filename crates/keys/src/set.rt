@@ -1,11 +1,11 @@
 //! Keys and sets of keys (RFC 7517 section 5), read from a key text.
 ghost use Rattle.std.specs.Prelude.{◌≡◌, ◌≤◌, IfOk, length, map};
 ghost use Rattle.serde_json.specs.View.{view, items_view};
-ghost use Rattle.octets.specs.Outcomes.{Agrees, AgreesUnlessMemory};
+ghost use Rattle.octets.specs.Code.Results.{Agrees, AgreesUnlessMemory};
 ghost use Rattle.keys.specs.KeySets.{key_set, value_keys, key_objects, octet_keys, are_objects};
 ghost use Rattle.keys.specs.Keys.{AreOctetKeys};
 ghost use Rattle.keys.specs.Limits.{limits};
-ghost use Rattle.keys.specs.Views.{key_view};
+ghost use Rattle.keys.specs.Code.Views.{key_view};
 
 use crate::key::Key;
 use crate::limits::MOST_KEYS;
@@ -27,7 +27,7 @@ impl Model for KeySet {
     ghost use Rattle.std.specs.Prelude.{◌≤◌, List, length, map};
     ghost use Rattle.keys.specs.Keys.{OctetKey};
     ghost use Rattle.keys.specs.Limits.{limits};
-    ghost use Rattle.keys.specs.Views.{key_view};
+    ghost use Rattle.keys.specs.Code.Views.{key_view};
 
     ghost Value = { List OctetKey };
 

@@ -3,7 +3,7 @@ ghost use Rattle.std.specs.Prelude.{◌≡◌, false, IfOk, map, nat_le, suc};
 ghost use Rattle.serde_json.specs.View.{view, items_view, members_view};
 ghost use Rattle.serde_json.specs.Data.{depth as depth_of, items_depth, members_depth};
 ghost use Rattle.serde_json.specs.Written.{has_float};
-ghost use Rattle.octets.specs.Outcomes.{AgreesUnlessMemory};
+ghost use Rattle.octets.specs.Code.Results.{AgreesUnlessMemory};
 ghost use Rattle.keys.specs.Json.{json_reading, json_value, is_object, numbers_are_whole, item_numbers_are_whole, member_numbers_are_whole, has_only, members_have_only};
 
 use crate::texts::is_among;

@@ -1,6 +1,6 @@
 //! Thumbprints of keys (RFC 7638).
 ghost use Rattle.std.specs.Prelude.{◌≡◌, IfOk, IfErr, string_bytes};
-ghost use Rattle.keys.specs.Views.{key_view};
+ghost use Rattle.keys.specs.Code.Views.{key_view};
 ghost use Rattle.keys.specs.Thumbprints.{required_members as required, thumbprint_of};
 
 use crate::key::Key;

@@ -9,7 +9,8 @@ use Rattle.std.proofs.lemmas.Nat.Bits.{bit_at-lt, bit_at_lowest, same_from_bits_
 use Rattle.std.specs.Int.Bits.{xor_assoc, xor_comm, xor_zero_r}
 use Rattle.aes.specs.Polynomial.{polynomial_sum, polynomial_remainder}
 use Rattle.aes.specs.PolynomialLaws.{IsLinear, PolynomialLaws}
-use Rattle.modes.specs.Ghash.{reflect, modulus, shifted, block_product, times_h, ghash_number}
+use Rattle.modes.specs.Ghash.{reflect, modulus, block_product, times_h, ghash_number}
+use Rattle.modes.specs.Code.Shifts.{shifted}
 
 -- the remainder of x ^ i times the polynomial of h; and what the first i coefficients of x make of the product
 abbrev pub power_of : ℕ → ℕ → ℕ

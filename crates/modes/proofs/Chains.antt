@@ -4,7 +4,7 @@ use Rattle.std.specs.Int.Bits.{xor_assoc, xor_comm}
 use Rattle.std.proofs.Math.Nat.{mul_assoc, mul-mod_left}
 use Rattle.std.proofs.lemmas.Nat.{pow-add, field_of, xor_shr, xor_mod}
 use Rattle.aes.specs.PolynomialLaws.{PolynomialLaws}
-use Rattle.modes.specs.Ghash.{shifts}
+use Rattle.modes.specs.Code.Shifts.{shifts}
 use Rattle.modes.proofs.BlockProduct.{xor_swap}
 use Rattle.modes.proofs.Shifts.{shifts_plus, shifts_turned, shifts_whole, shifts_part, shifts_quotient, shifts_linear}
 

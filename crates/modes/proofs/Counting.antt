@@ -9,7 +9,7 @@ use Rattle.std.proofs.lemmas.Nat.{be_bytes_4, from_be_bytes-to_be_bytes_4}
 use Rattle.octets.specs.Octets.{IsOctets, xor_octets}
 use Rattle.modes.specs.Cbc.{block}
 use Rattle.modes.specs.Ctr.{counter_block, stream_octet, ctr}
-use Rattle.modes.specs.Views.{HoldsKeyStream}
+use Rattle.modes.specs.Code.Views.{HoldsKeyStream}
 use Rattle.modes.specs.declared.ctr.KeyStream.{KeyStream}
 use Rattle.modes.proofs.Padding.{at_block}
 use borrow.Rule.Slice.PartMut.{put_mid}

@@ -10,7 +10,8 @@ use Rattle.std.proofs.lemmas.Nat.{pow_pos, pow-add, shr-shr, shr_split, mod-pow-
 use Rattle.std.proofs.lemmas.Nat.Bits.{bit_at-zero, bit_at-pow_same, bit_at-pow_other}
 use Rattle.aes.specs.Polynomial.{polynomial_sum}
 use Rattle.aes.specs.PolynomialLaws.{PolynomialLaws}
-use Rattle.modes.specs.Ghash.{reflect, shifted, shifts, block_product}
+use Rattle.modes.specs.Ghash.{reflect, block_product}
+use Rattle.modes.specs.Code.Shifts.{shifted, shifts}
 use Rattle.modes.proofs.BlockProduct.{power_of, product_of, reflect_zero, reflect_bit, reflect_twice, shifted_linear, power_first, power_next, product_is, product_linear}
 use Rattle.modes.proofs.Shifts.{power_more, shifts_whole}
 use Rattle.modes.proofs.Chains.{added, one_step, two_nibbles}

@@ -4,7 +4,7 @@ use Rattle.std.specs.List.{range_with_len, concat}
 use Rattle.aes.specs.Block.{IsBlock, IsCipher}
 use Rattle.octets.specs.Octets.{xor_octets, IsOctets}
 use Rattle.modes.specs.Cbc.{block, pad, chained, cbc_blocks, cbc}
-use Rattle.modes.specs.Opening.{before, opened_block, opened_blocks, IsPadded}
+use Rattle.modes.specs.Code.Opening.{before, opened_block, opened_blocks, IsPadded}
 use Rattle.octets.proofs.Lemmas.{same_chunks, length-joined, chunk-joined}
 use Rattle.modes.proofs.Blocks.{block_is_block}
 use Rattle.modes.proofs.Chaining.{blocks_are, blocks_from}

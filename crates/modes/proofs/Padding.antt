@@ -4,7 +4,7 @@ use Rattle.std.proofs.lemmas.List.{take_at, ext_get_or, get_or_past, get_or_appe
 use Rattle.std.proofs.lemmas.Bool.{cases_lt}
 use Rattle.octets.specs.Octets.{IsOctets}
 use Rattle.modes.specs.Cbc.{block, pad}
-use Rattle.modes.specs.Opening.{IsPadded}
+use Rattle.modes.specs.Code.Opening.{IsPadded}
 
 -- how many octets are added
 abbrev pub added : List ℕ → ℕ

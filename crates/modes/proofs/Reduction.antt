@@ -6,7 +6,7 @@ use Rattle.std.proofs.Math.Nat.{mul_assoc, mul_comm, add-mul, mul-mod_left, mul-
 use Rattle.std.proofs.lemmas.List.FromFn.{get_or-map-range_with_len}
 use Rattle.std.proofs.lemmas.Nat.{pow_pos, pow-add, shl-shr, shr_split, shr_below, mod-pow-add, mod_below, xor_shr, xor_mod, xor_block}
 use Rattle.aes.specs.PolynomialLaws.{IsLinear, PolynomialLaws}
-use Rattle.modes.specs.Ghash.{shifted, shifts}
+use Rattle.modes.specs.Code.Shifts.{shifted, shifts}
 use Rattle.modes.proofs.BlockProduct.{xor_swap}
 use Rattle.modes.proofs.Shifts.{shifts_whole, shifts_linear}
 

@@ -4,7 +4,7 @@ use Rattle.std.specs.Int.Bits.{xor_zero_r}
 use Rattle.std.proofs.Math.Nat.{mul_assoc, pow-succ'}
 use Rattle.std.proofs.lemmas.Nat.{shr_split}
 use Rattle.aes.specs.PolynomialLaws.{IsLinear, PolynomialLaws}
-use Rattle.modes.specs.Ghash.{shifted, shifts}
+use Rattle.modes.specs.Code.Shifts.{shifted, shifts}
 use Rattle.modes.proofs.BlockProduct.{shifted_linear}
 
 shifted_double : (v : ℕ) → shifted (v * 2) ≡ v

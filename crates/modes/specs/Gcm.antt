@@ -1,7 +1,7 @@
 -- GCM (SP 800-38D section 7.1), with an IV of 12 octets and a tag of 16, over any function e of blocks.
-use Rattle.std.specs.Prelude.{◌≡◌, ℕ, ◌-◌, ◌*◌, ◌%◌, ◌^◌, ◌≤◌, List, [], ◌∷◌, ◌++◌, length, replicate}
+use Rattle.std.specs.Prelude.{ℕ, ◌-◌, ◌*◌, ◌%◌, ◌^◌, List, [], ◌∷◌, ◌++◌, length, replicate}
 use Rattle.std.specs.Int.{w64, to_be_bytes}
-use Rattle.octets.specs.Octets.{IsOctets, xor_octets}
+use Rattle.octets.specs.Octets.{xor_octets}
 use Rattle.modes.specs.Ctr.{counter_block, ctr}
 use Rattle.modes.specs.Ghash.{zero_filled, ghash}
 
@@ -32,10 +32,3 @@ gcm_tag e iv aad c = xor_octets (gcm_hash e aad c) (e (pre_counter_block iv))
 -- the length of the longest plaintext (section 5.2.1.1)
 abbrev pub longest : ℕ
 longest = 2 ^ 36 - 32
-
--- p is the opening of the ciphertext c and the tag (section 7.2)
-pub record IsGcmOpening (e : List ℕ → List ℕ) (iv aad c tag p : List ℕ) : Type 0 where
-  pub octets : IsOctets p
-  pub short : length p ≤ longest
-  pub is_ciphertext : gcm_ciphertext e iv p ≡ c
-  pub is_tag : gcm_tag e iv aad c ≡ tag

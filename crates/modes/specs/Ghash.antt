@@ -1,5 +1,5 @@
 -- GHASH (SP 800-38D sections 6.3 and 6.4), over blocks as numbers of 128 bits, first octet highest.
-use Rattle.std.specs.Prelude.{ℕ, zero, suc, ◌+◌, ◌-◌, ◌*◌, ◌/◌, ◌%◌, ◌^◌, bit_xor, List, ◌++◌, length, map, replicate, slice_index}
+use Rattle.std.specs.Prelude.{ℕ, zero, suc, ◌+◌, ◌-◌, ◌*◌, ◌/◌, ◌%◌, ◌^◌, List, ◌++◌, length, map, replicate, slice_index}
 use Rattle.std.specs.Int.{w128, bit_at, from_be_bytes, to_be_bytes}
 use Rattle.std.specs.List.{range_with_len}
 use Rattle.aes.specs.Polynomial.{polynomial_sum, polynomial_product, polynomial_remainder}
@@ -16,15 +16,6 @@ modulus = 2 ^ 128 + 0x87
 -- the product of two blocks modulo the modulus (section 6.3)
 unfoldable pub block_product : ℕ → ℕ → ℕ
 block_product x y = reflect (polynomial_remainder 128 modulus 127 (polynomial_product 128 (reflect x) (reflect y)))
-
--- a block times x, to the right by one bit (section 6.3)
-unfoldable pub shifted : ℕ → ℕ
-shifted v = bit_xor (v / 2) (v % 2 * (0xe1 * 2 ^ 120))
-
--- a block times x ^ n
-unfoldable pub shifts : ℕ → ℕ → ℕ
-shifts v zero = v
-shifts v (suc n) = shifted (shifts v n)
 
 -- x multiplied by h, n times (section 6.4)
 unfoldable pub times_h : ℕ → ℕ → ℕ → ℕ

@@ -1,7 +1,11 @@
+-- The definitions, in reading order (docs/AUDIT.md).
+-- CBC and its padding
 pub mod Cbc
+-- counter mode
 pub mod Ctr
+-- GHASH
 pub mod Ghash
+-- GCM
 pub mod Gcm
-pub mod Opening
-pub mod Views
-pub mod Toy
+-- values and calls of the code; no answer rests on these pages
+pub mod Code

@@ -15,7 +15,7 @@ pub struct Cbc<B> {
 }
 
 impl<B: Block> Cbc<B> {
-    ghost use Rattle.modes.specs.Views.{HoldsCbc};
+    ghost use Rattle.modes.specs.Code.Views.{HoldsCbc};
 
     /// An encryption that was fed nothing yet.
     pub fn start(cipher: B, iv: &[u8; 16]) -> Cbc<B>

@@ -1,7 +1,7 @@
 //! The opening of CBC with padding, in place.
 ghost use Rattle.std.specs.Prelude.{◌≡◌, ◌≢◌, ◌+◌, ◌-◌, ◌*◌, ◌%◌, ◌<◌, ◌≤◌, ℕ, List, length, take, IfSome, IfNone};
 ghost use Rattle.modes.specs.Cbc.{block, cbc};
-ghost use Rattle.modes.specs.Opening.{opened_block, opened_blocks, IsPadded};
+ghost use Rattle.modes.specs.Code.Opening.{opened_block, opened_blocks, IsPadded};
 ghost use Rattle.octets.specs.Octets.{IsOctets, xor_octets};
 
 use aes::Block;

@@ -14,7 +14,7 @@ pub struct Ctr32<B> {
 }
 
 impl<B: Block> Ctr32<B> {
-    ghost use Rattle.modes.specs.Views.{HoldsCtr};
+    ghost use Rattle.modes.specs.Code.Views.{HoldsCtr};
 
     /// Counter mode that was fed nothing yet.
     pub fn start(cipher: B, first: &[u8; 16]) -> Ctr32<B>
@@ -57,7 +57,7 @@ pub(crate) struct KeyStream {
 }
 
 impl KeyStream {
-    ghost use Rattle.modes.specs.Views.{HoldsKeyStream};
+    ghost use Rattle.modes.specs.Code.Views.{HoldsKeyStream};
 
     /// The key stream before any text.
     pub(crate) fn start(first: &[u8; 16]) -> KeyStream

@@ -1,9 +1,10 @@
 //! GCM of a text that comes in pieces, and its opening in place (SP 800-38D sections 7.1 and 7.2). The steps are those of
 //! section 7.1: H and J0, the ciphertext from the counter block after J0, S, and the tag.
 ghost use Rattle.std.specs.Prelude.{◌≡◌, ◌↔◌, ℕ, ◌*◌, ◌%◌, ◌^◌, ◌<◌, ◌≤◌, List, [], ◌∷◌, ◌++◌, length, take, IfOk, IfErr, IsErr, OnOk, OnErr, IfSome, IfNone};
-ghost use Rattle.modes.specs.Gcm.{hash_subkey, pre_counter_block, gcm_ciphertext, gcm_tag, longest, IsGcmOpening};
+ghost use Rattle.modes.specs.Gcm.{hash_subkey, pre_counter_block, gcm_ciphertext, gcm_tag, longest};
+ghost use Rattle.modes.specs.Code.Opening.{IsGcmOpening};
 ghost use Rattle.modes.specs.Ghash.{zero_filled, ghash};
-ghost use Rattle.modes.specs.Views.{HoldsGhash, HoldsGcm};
+ghost use Rattle.modes.specs.Code.Views.{HoldsGhash, HoldsGcm};
 ghost use Rattle.octets.specs.Octets.{xor_octets};
 ghost use Rattle.std.specs.Int.{w64, to_be_bytes};
 

@@ -15,7 +15,7 @@ pub struct Ghash {
 }
 
 impl Ghash {
-    ghost use Rattle.modes.specs.Views.{HoldsGhash};
+    ghost use Rattle.modes.specs.Code.Views.{HoldsGhash};
 
     /// A hash under `h` that was fed nothing yet.
     pub fn start(h: &[u8; 16]) -> Ghash

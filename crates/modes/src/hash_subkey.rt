@@ -1,6 +1,7 @@
 //! The product of a block and the hash subkey, with four bits for each look-up (SP 800-38D section 6.3).
 ghost use Rattle.std.specs.Prelude.{◌≡◌, ℕ, ◌*◌, ◌%◌, ◌^◌, ◌<◌, slice_index};
-ghost use Rattle.modes.specs.Ghash.{block_product, shifted};
+ghost use Rattle.modes.specs.Ghash.{block_product};
+ghost use Rattle.modes.specs.Code.Shifts.{shifted};
 
 use crate::unreduced::Unreduced;
 use aes::laws::polynomial_laws;

@@ -1,7 +1,7 @@
 //! CBC, counter mode and GHASH: a toy cipher, the vectors of SP 800-38A, products, and texts that are cut.
 ghost use Rattle.std.specs.Prelude.{◌≡◌, ◌<◌};
 ghost use Rattle.aes.specs.Block.{IsCipher};
-ghost use Rattle.modes.specs.Toy.{turned};
+ghost use Rattle.modes.specs.Code.Toy.{turned};
 
 use crate::{Cbc, Ctr32, Ghash, cbc_open};
 use aes::{Aes128, Aes192, Aes256, Block};

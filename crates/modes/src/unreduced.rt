@@ -1,6 +1,6 @@
 //! Polynomials of degree below 256, as products are before their reduction (SP 800-38D section 6.3).
 ghost use Rattle.std.specs.Prelude.{◌≡◌, ◌+◌, ◌*◌, ◌/◌, ◌^◌, ◌<◌, bit_xor};
-ghost use Rattle.modes.specs.Ghash.{shifts};
+ghost use Rattle.modes.specs.Code.Shifts.{shifts};
 
 use aes::laws::polynomial_laws;
 use std::marker::Model;

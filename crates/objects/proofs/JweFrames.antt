@@ -5,10 +5,10 @@ use Rattle.octets.specs.declared.refusal.Refusal.TheVariants.{NotCompact}
 use Rattle.octets.specs.Base64url.{base64url, decoded}
 use Rattle.octets.specs.Octets.{IsOctets}
 use Rattle.octets.specs.Outcomes.{needs}
-use Rattle.objects.specs.Frames.{in_places, jwe_frame, sealed_with, IsJweFrame}
+use Rattle.objects.specs.Code.Frames.{in_places, jwe_frame, sealed_with, IsJweFrame}
 use Rattle.objects.specs.Jwe.{Recipient, RecipientParts, EncryptedObject, parts_of, key_of_first, is_compact}
-use Rattle.objects.specs.Writing.{Written, all_texts, nothing_written, inside, with_text, with_items, place_by, with_place}
-use Rattle.objects.specs.JweWriting.{with_recipient, with_flattened, with_general, tag_by, with_tag, with_compact, jwe_json, jwe_written}
+use Rattle.objects.specs.Code.Writing.{Written, all_texts, nothing_written, inside, with_text, with_items, place_by, with_place}
+use Rattle.objects.specs.Code.JweWriting.{with_recipient, with_flattened, with_general, tag_by, with_tag, with_compact, jwe_json, jwe_written}
 use Rattle.objects.proofs.DetachedContent.{no_octets}
 use Rattle.objects.proofs.JweWritten.{jwe_whole}
 use Rattle.objects.proofs.Places.{Fills, is_filled, places_count, fills_nothing, fills_pushed, fills_closed, fills_opened, fills_separated, fills_named, fills_text, fills_header, fills_place, fills_content, fills_part, fills_place_part, fills_content_part, places_are}

@@ -6,10 +6,10 @@ use Rattle.std.specs.List.{AllByRecursion}
 use Rattle.octets.specs.Base64url.{base64url}
 use Rattle.octets.specs.Octets.{IsOctets}
 use Rattle.octets.specs.Outcomes.{needs}
-use Rattle.objects.specs.Frames.{in_places, with_octets, jws_frame, signed_with, IsJwsFrame}
+use Rattle.objects.specs.Code.Frames.{in_places, with_octets, jws_frame, signed_with, IsJwsFrame}
 use Rattle.objects.specs.Jws.{Signature, signature_parts_of, SignedObject, parts_of, is_compact}
-use Rattle.objects.specs.Writing.{Written, all_texts, nothing_written, inside, with_text, with_items, with_place}
-use Rattle.objects.specs.JwsWriting.{with_signature, with_signatures, with_general, with_compact, jws_json, jws_written}
+use Rattle.objects.specs.Code.Writing.{Written, all_texts, nothing_written, inside, with_text, with_items, with_place}
+use Rattle.objects.specs.Code.JwsWriting.{with_signature, with_signatures, with_general, with_compact, jws_json, jws_written}
 use Rattle.objects.proofs.JwsWritten.{jws_whole}
 use Rattle.objects.proofs.Places.{Fills, is_filled, places_count, fills_nothing, fills_pushed, fills_closed, fills_opened, fills_separated, fills_named, fills_text, fills_header, fills_place, fills_content, fills_place_part, fills_content_part, places_are, texts_count}
 use Rattle.octets.proofs.Lemmas.{IsOctets-nil, steps, passed, same_answer}

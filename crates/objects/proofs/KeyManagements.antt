@@ -12,7 +12,8 @@ use Rattle.keys.specs.declared.algorithm.KeyManagementMode.{KeyManagementMode}
 use Rattle.keys.specs.declared.algorithm.KeyManagementMode.TheVariants as mode
 use Rattle.keys.specs.Algorithms.{mode_of}
 use Rattle.objects.specs.Headers.{string_parameter, number_parameter, salt, salt_if_there, salt_parameter, octets_parameter}
-use Rattle.objects.specs.KeyManagement.{KeyManagement, Unknown, Direct, KeyWrap, Password, GcmKeyWrap, password_management, gcm_management, management_in, management_by, are_password_parameters, is_management_in, is_management_of}
+use Rattle.objects.specs.KeyManagement.{KeyManagement, Unknown, Direct, KeyWrap, Password, GcmKeyWrap, password_management, gcm_management, management_in, management_by}
+use Rattle.objects.specs.Code.KeyManagementView.{are_password_parameters, is_management_in, is_management_of}
 use Rattle.octets.proofs.Lemmas.{steps, passed, same_answer, is_there}
 
 -- a salt that is read has at least 8 octets

@@ -7,8 +7,8 @@ use Rattle.octets.specs.Base64url.{base64url}
 use Rattle.octets.specs.Octets.{IsOctets}
 use Rattle.octets.proofs.Lemmas.{has_url_characters}
 use Rattle.keys.proofs.Lemmas.{url_texts_are_json}
-use Rattle.objects.specs.Frames.{filled, in_places}
-use Rattle.objects.specs.Writing.{Written, nothing_written, all_texts, pushed, slot_by, with_slot, opened, closed, comma_by, separated, named, with_value, with_text, with_header, place_by, with_place, with_content, inside, with_part, with_place_part, with_content_part}
+use Rattle.objects.specs.Code.Frames.{filled, in_places}
+use Rattle.objects.specs.Code.Writing.{Written, nothing_written, all_texts, pushed, slot_by, with_slot, opened, closed, comma_by, separated, named, with_value, with_text, with_header, place_by, with_place, with_content, inside, with_part, with_place_part, with_content_part}
 use Rattle.objects.proofs.Characters.{IsUrlText}
 
 -- ---- values in places

@@ -4,12 +4,12 @@ use Rattle.std.proofs.lemmas.List.{nil_from_length, length-take}
 use Rattle.std.specs.Result.{result_unwrap_or}
 use Rattle.octets.specs.declared.refusal.Refusal.{Refusal}
 use Rattle.octets.specs.declared.refusal.Refusal.TheVariants.{Base64}
-use Rattle.octets.specs.Base64url.{base64url, decoded, settled, unsettled}
+use Rattle.octets.specs.Base64url.{base64url, decoded}
+use Rattle.octets.specs.Code.Streams.{settled, unsettled, settling, RefusesFrom}
 use Rattle.octets.specs.Devices.{AppendsPrefixOf}
-use Rattle.octets.specs.Encoding.{octets_of_groups, settling}
+use Rattle.octets.specs.Encoding.{octets_of_groups}
 use Rattle.octets.specs.LineEnds.{without_line_end}
 use Rattle.octets.specs.Octets.{IsOctets}
-use Rattle.octets.specs.Pumps.{RefusesFrom}
 use Rattle.octets.proofs.Lemmas.{IsOctets-front, AppendsPrefixOf-front, cut, reading_starts, settling_grows, decodes_exactly, has_url_characters, octets_of_meaning}
 use Rattle.objects.specs.Texts.{meaning}
 use Rattle.objects.proofs.Characters.{joined_characters, no_line_end}

@@ -4,7 +4,7 @@ use Rattle.std.proofs.lemmas.List.Folds.{list_all-map}
 use Rattle.std.specs.List.{list_all}
 use Rattle.std.specs.Str.{bytes_eq}
 use Rattle.objects.specs.Jwe.{have_enc, have_one_enc}
-use Rattle.objects.specs.Views.{recipient_view}
+use Rattle.objects.specs.Code.Views.{recipient_view}
 use Rattle.objects.specs.declared.jwe.recipient.Recipient.{Recipient as Code}
 
 -- whether all have this `enc`

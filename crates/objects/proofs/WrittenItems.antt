@@ -1,7 +1,7 @@
 -- Objects that are written one after another in a list.
 use Rattle.std.proofs.Common.{◌≡◌, ℕ, ◌+◌, ◌<◌, List, [], ◌∷◌, ◌++◌, length, map, take, get_or, codes, refl, sym, ap, ◌∙◌}
 use Rattle.std.proofs.lemmas.List.{map_more, length-map}
-use Rattle.objects.specs.Writing.{Written, opened, closed, separated, with_items}
+use Rattle.objects.specs.Code.Writing.{Written, opened, closed, separated, with_items}
 
 -- one more behind those that were written
 items_more : {X : Type 0} (with_one : X → Written → Written) (xs : List X) (x : X) (w : Written)

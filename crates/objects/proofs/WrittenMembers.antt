@@ -5,7 +5,7 @@ use Rattle.serde_json.specs.Data.{Data, string, array, object, Members, no_membe
 use Rattle.serde_json.specs.Written.{comma_if, compact_text, members_text, items_text}
 use Rattle.octets.specs.Base64url.{base64url, is_url_character}
 use Rattle.keys.proofs.Lemmas.{url_texts_are_json}
-use Rattle.objects.specs.Writing.{Written, nothing_written, pushed, opened, closed, comma_by, named, with_value, with_text, with_header, place_by, with_place, with_content, inside, with_items, with_list}
+use Rattle.objects.specs.Code.Writing.{Written, nothing_written, pushed, opened, closed, comma_by, named, with_value, with_text, with_header, place_by, with_place, with_content, inside, with_items, with_list}
 use Rattle.objects.specs.Values.{Entries, member_if_there, present, objects, text_there, header_there, content_there}
 use Rattle.objects.proofs.Characters.{IsUrlText}
 use Rattle.objects.proofs.EachRead.{all_passed}

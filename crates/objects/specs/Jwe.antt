@@ -166,19 +166,6 @@ pub record EncryptedObject : Type 0 where
   pub tag : List ℕ
   pub recipients : List Recipient
 
--- the object without its ciphertext
-abbrev pub without_ciphertext : EncryptedObject → EncryptedObject
-without_ciphertext o = record {
-  protected = o.protected;
-  protected_members = o.protected_members;
-  unprotected = o.unprotected;
-  iv = o.iv;
-  aad = o.aad;
-  ciphertext = [];
-  tag = o.tag;
-  recipients = o.recipients;
-}
-
 -- ---- the header of a recipient (RFC 7516 section 5.2, step 4)
 
 -- a recipient, by its joint header

@@ -1,6 +1,6 @@
 -- Key management (RFC 7518 section 4): how a recipient's key delivers the content encryption key, by the algorithm and the parameters
 -- of a joint header.
-use Rattle.std.specs.Prelude.{ℕ, ◌&&◌, Bool, true, false, nat_le, List, length, codes, Option, Some, None, Result, Ok}
+use Rattle.std.specs.Prelude.{ℕ, nat_le, List, codes, Option, Some, None, Result, Ok}
 use Rattle.std.specs.Option.{ok_or}
 use Rattle.serde_json.specs.Data.{Members}
 use Rattle.octets.specs.declared.refusal.Refusal.{Refusal}
@@ -59,21 +59,3 @@ management_by (Some alg) header = management_in (mode_of alg) header
 -- what a header says, by the name of its algorithm among those that are known (RFC 7518 section 4.1, docs/SPECIFICATION.md "Objects" 3)
 abbrev pub key_management : List KeyManagementAlg → List ℕ → Members → Result KeyManagement Refusal
 key_management algs alg header = management_by (management_alg_among algs alg) header
-
--- the salt input and the count are as RFC 7518 section 4.8.1 requires
-abbrev pub are_password_parameters : List ℕ → ℕ → Bool
-are_password_parameters p2s p2c = nat_le 8 (length p2s) && nat_le 1 p2c
-
--- the management is of an algorithm of this mode
-abbrev pub is_management_in : KeyManagementMode → KeyManagement → Bool
-is_management_in mode.Direct Direct = true
-is_management_in mode.KeyWrap KeyWrap = true
-is_management_in mode.Password (Password p2s p2c) = are_password_parameters p2s p2c
-is_management_in mode.GcmKeyWrap (GcmKeyWrap iv tag) = true
-is_management_in m management = false
-
--- the management is of the algorithm
-abbrev pub is_management_of : Option KeyManagementAlg → KeyManagement → Bool
-is_management_of (Some alg) management = is_management_in (mode_of alg) management
-is_management_of None Unknown = true
-is_management_of None management = false

@@ -1,14 +1,19 @@
+-- The definitions, in reading order (docs/AUDIT.md).
+-- headers and their parameters
 pub mod Headers
+-- the parameters of key management
 pub mod KeyManagement
-pub mod KeyManagementView
+-- the two forms of a text
 pub mod Texts
+-- the members that are written
 pub mod Values
+-- signed objects
 pub mod Jws
+-- encrypted objects
 pub mod Jwe
-pub mod Views
-pub mod Writing
-pub mod JwsWriting
-pub mod JweWriting
-pub mod Frames
-pub mod HandedIn
+-- which objects have a compact text
 pub mod CompactForm
+-- detached payloads
+pub mod HandedIn
+-- values and calls of the code; no answer rests on these pages
+pub mod Code

@@ -3,6 +3,8 @@
 use Rattle.std.specs.Prelude.{ℕ, Bool, true, false, List, [], ◌∷◌, Option, Some, None}
 use Rattle.serde_json.specs.Data.{Data, string, object, Items, no_items, item, Members, no_members, member}
 
+-- ---- members and their values (docs/SPECIFICATION.md "Objects" 5)
+
 -- names in order, each with its value, if there is one
 abbrev pub Entries : Type 0
 Entries = List (List ℕ × Option Data)
@@ -11,7 +13,7 @@ abbrev pub member_if_there : List ℕ → Option Data → Members → Members
 member_if_there name None rest = rest
 member_if_there name (Some d) rest = member name d rest
 
--- the members that have a value (docs/SPECIFICATION.md "Objects" 5)
+-- the members that have a value
 abbrev pub present : Entries → Members
 present [] = no_members
 present (e ∷ rest) = member_if_there e.0 e.1 (present rest)

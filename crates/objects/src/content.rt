@@ -2,9 +2,9 @@
 ghost use Rattle.std.specs.Prelude.{◌≡◌, is_none, option_map, IfOk};
 ghost use Rattle.serde_json.specs.View.{view};
 ghost use Rattle.octets.specs.Base64url.{decoded};
-ghost use Rattle.octets.specs.Outcomes.{Agrees, AgreesUnlessMemory};
+ghost use Rattle.octets.specs.Code.Results.{Agrees, AgreesUnlessMemory};
 ghost use Rattle.objects.specs.Texts.{AreOctetsHandedIn, content_by, content_text};
-ghost use Rattle.objects.specs.Views.{content_text_view, payload_view, content_is_text, payload_is_text};
+ghost use Rattle.objects.specs.Code.Views.{content_text_view, payload_view, content_is_text, payload_is_text};
 
 pub(crate) mod payload;
 pub(crate) mod received_text;

@@ -2,11 +2,11 @@
 ghost use Rattle.std.specs.Prelude.{◌≡◌, true, false, IfErr, Some, codes, is_some, option_map, string_bytes};
 ghost use Rattle.std.specs.Option.{ok_or};
 ghost use Rattle.octets.specs.Base64url.{decoded};
-ghost use Rattle.octets.specs.Outcomes.{Agrees, AgreesUnlessMemory};
+ghost use Rattle.octets.specs.Code.Results.{Agrees, AgreesUnlessMemory};
 ghost use Rattle.serde_json.specs.Find.{get_member};
 ghost use Rattle.serde_json.specs.View.{view};
 ghost use Rattle.objects.specs.Headers.{overlap as overlap_of, joint_header, string_parameter, number_parameter, salt, salt_parameter, parameter_octets, octets_parameter};
-ghost use Rattle.objects.specs.Views.{header_view, part_view};
+ghost use Rattle.objects.specs.Code.Views.{header_view, part_view};
 
 pub(crate) mod depth;
 pub(crate) mod members;

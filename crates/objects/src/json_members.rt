@@ -3,7 +3,7 @@
 ghost use Rattle.std.specs.Prelude.{◌≡◌, ◌&&◌, false, IfOk, IfErr};
 ghost use Rattle.serde_json.specs.View.{view, items_view};
 ghost use Rattle.serde_json.specs.Written.{has_float, items_have_float};
-ghost use Rattle.octets.specs.Outcomes.{Agrees};
+ghost use Rattle.octets.specs.Code.Results.{Agrees};
 ghost use Rattle.objects.specs.Texts.{text_at, required_text, object_list};
 
 use keys::are_objects;

@@ -2,11 +2,11 @@
 ghost use Rattle.std.specs.Prelude.{◌≡◌, ◌≤◌, length, map, option_map, IfOk};
 ghost use Rattle.std.specs.List.{list_all};
 ghost use Rattle.serde_json.specs.View.{members_view};
-ghost use Rattle.octets.specs.Outcomes.{AgreesUnlessMemory};
+ghost use Rattle.octets.specs.Code.Results.{AgreesUnlessMemory};
 ghost use Rattle.keys.specs.Limits.{limits};
 ghost use Rattle.objects.specs.Headers.{all_members};
-ghost use Rattle.objects.specs.Jwe.{IsMade, jwe_of, decoded_object as decoded_jwe, encrypted_object as encrypted_object_of, recipients_of_one_enc, without_ciphertext, has_no_crit_or_zip as has_no_crit_or_zip_header, have_no_crit_or_zip};
-ghost use Rattle.objects.specs.Views.{header_view, jwe_view, jwe_members_view, encoded_jwe_view, recipient_view, recipient_members_view};
+ghost use Rattle.objects.specs.Jwe.{IsMade, jwe_of, decoded_object as decoded_jwe, encrypted_object as encrypted_object_of, recipients_of_one_enc, has_no_crit_or_zip as has_no_crit_or_zip_header, have_no_crit_or_zip};
+ghost use Rattle.objects.specs.Code.Views.{header_view, jwe_view, jwe_members_view, encoded_jwe_view, recipient_view, recipient_members_view, without_ciphertext};
 
 mod build;
 mod encoded;

@@ -1,11 +1,11 @@
 //! Signed objects (RFC 7515), made of a text or of members.
 ghost use Rattle.std.specs.Prelude.{◌≡◌, ◌≤◌, ◌&&◌, ◌++◌, false, is_none, length, map, not, option_map, Err, IfOk, IfErr, OnOk, OnErr};
 ghost use Rattle.octets.specs.Devices.{next_count, AppendsPrefixOf, IsFinishedOnce};
-ghost use Rattle.octets.specs.Outcomes.{AgreesUnlessMemory};
+ghost use Rattle.octets.specs.Code.Results.{AgreesUnlessMemory};
 ghost use Rattle.keys.specs.Limits.{limits};
 ghost use Rattle.objects.specs.Jws.{IsMade, jws_of, decoded_object as decoded_jws, signed_object as signed_object_of};
 ghost use Rattle.objects.specs.Texts.{each, is_json_form as has_json_form};
-ghost use Rattle.objects.specs.Views.{held_view, jws_view, encoded_jws_view, payload_view, signature_view, decoded_signature_view, content_is_text, holds_text, is_text, payload_is_text};
+ghost use Rattle.objects.specs.Code.Views.{held_view, jws_view, encoded_jws_view, payload_view, signature_view, decoded_signature_view, content_is_text, holds_text, is_text, payload_is_text};
 
 mod build;
 mod encoded;

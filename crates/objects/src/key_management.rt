@@ -1,11 +1,11 @@
 //! How a recipient's key delivers the content encryption key (RFC 7518 section 4), as a joint header says.
 ghost use Rattle.std.specs.Prelude.{◌≡◌, true, IfOk};
-ghost use Rattle.octets.specs.Outcomes.{AgreesUnlessMemory};
+ghost use Rattle.octets.specs.Code.Results.{AgreesUnlessMemory};
 ghost use Rattle.keys.specs.Algorithms.{management_alg_of};
 ghost use Rattle.keys.specs.Limits.{limits};
-ghost use Rattle.objects.specs.KeyManagement.{key_management, management_by, management_in, password_management, gcm_management, is_management_of};
-ghost use Rattle.objects.specs.KeyManagementView.{management_view};
-ghost use Rattle.objects.specs.Views.{header_view};
+ghost use Rattle.objects.specs.KeyManagement.{key_management, management_by, management_in, password_management, gcm_management};
+ghost use Rattle.objects.specs.Code.KeyManagementView.{management_view, is_management_of};
+ghost use Rattle.objects.specs.Code.Views.{header_view};
 
 pub(crate) mod named;
 

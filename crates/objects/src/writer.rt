@@ -4,8 +4,8 @@ ghost use Rattle.std.specs.Prelude.{◌≡◌, ◌++◌, true, false, map, optio
 ghost use Rattle.serde_json.specs.Data.{object};
 ghost use Rattle.serde_json.specs.View.{view, members_view};
 ghost use Rattle.serde_json.specs.Written.{has_float};
-ghost use Rattle.objects.specs.Views.{held_view, received_view, written_view};
-ghost use Rattle.objects.specs.Writing.{Written, nothing_written, all_texts, pushed, with_slot, opened, closed, separated, named, with_value, with_text, with_header, with_place, with_content, with_items, with_list, with_part, with_place_part, with_content_part, inside};
+ghost use Rattle.objects.specs.Code.Views.{held_view, received_view, written_view};
+ghost use Rattle.objects.specs.Code.Writing.{Written, nothing_written, all_texts, pushed, with_slot, opened, closed, separated, named, with_value, with_text, with_header, with_place, with_content, with_items, with_list, with_part, with_place_part, with_content_part, inside};
 ghost use Rattle.octets.specs.Base64url.{base64url};
 ghost use Rattle.octets.specs.Octets.{IsOctets};
 

@@ -1,12 +1,12 @@
 -- What a call did on an output, held against its answer.
-use Rattle.std.proofs.Common.{◌≡◌, List, [], ◌++◌, ℕ, length, take, nat_le, Bool, true, false, Result, Ok, Err, OnOk, OnErr, IfErr, IsTrue, refl, sym, ◌∙◌, ap, subst, append-nil, rules}
+use Rattle.std.proofs.Common.{◌≡◌, List, [], ◌++◌, ℕ, length, Bool, true, Result, Ok, Err, OnOk, OnErr, IfErr, IsTrue, refl, sym, ◌∙◌, ap, subst, append-nil, rules}
 use Rattle.std.proofs.Math.Seq.{drop-append_seam}
 use lib.Dec.{leb-zero}
 use Rattle.octets.specs.declared.refusal.Refusal.{Refusal}
 use Rattle.octets.specs.declared.refusal.Refusal.TheVariants.{Write, Random}
 use Rattle.octets.specs.Devices.{observed, appended, IsPossibleInput}
 use Rattle.octets.specs.Outcomes.{◌>>=◌, needs, is_external, AgreesUnlessExternal}
-use Rattle.octets.specs.Plan.{OutputTexts, Plan, Draft, plan_map, plan_from, placed, by_plan, without_random, planned, without_content}
+use Rattle.octets.specs.Plan.{OutputTexts, Plan, plan_map, plan_from, by_plan, without_random, planned, without_content}
 
 pub AgreesUnlessExternal-map : {W V : Type 0} (f : W → V) (a : Result W Refusal) (w : W) (v : V) (r : Result (Unit {0}) Refusal) → f w ≡ v
     → AgreesUnlessExternal a w r → AgreesUnlessExternal (a >>= λ x. Ok (f x)) v r
@@ -14,16 +14,6 @@ AgreesUnlessExternal-map f a w v (Ok done) e h = ap (λ q. q >>= λ x. Ok (f x))
 AgreesUnlessExternal-map f a w v (Err r) e h = λ inside. ap (λ q. q >>= λ x. Ok (f x)) (h inside)
 
 -- ---- drafts
-
--- the plan of a draft, put in its place
-pub plan_from-placed : {W V : Type 0} (f : W → V) (draft : Result (Draft W) Refusal) (random : List ℕ)
-    → plan_from (placed f draft) random ≡ (plan_from draft random >>= λ p. Ok (plan_map f p))
-plan_from-placed f (Err r) random = refl
-plan_from-placed f (Ok d) random = by_test (nat_le d.drawn (length random))
-  where
-    by_test : (enough : Bool) → (needs enough Random >>= λ u. Ok (plan_map f (d.plan (take d.drawn random)))) ≡ ((needs enough Random >>= λ u. Ok (d.plan (take d.drawn random))) >>= λ p. Ok (plan_map f p))
-    by_test true = refl
-    by_test false = refl
 
 -- where nothing is drawn any random input will do
 enough : {W : Type 0} (plan : Plan W) (random : List ℕ) → plan_from (Ok (without_random plan)) random ≡ Ok plan
@@ -33,11 +23,6 @@ enough plan random = ap (λ test. needs test Random >>= λ u. Ok plan) (leb-zero
 pub plan_from-by_plan : {W : Type 0} (plan : Result (Plan W) Refusal) (random : List ℕ) → plan_from (by_plan plan) random ≡ plan
 plan_from-by_plan (Ok p) random = enough p random
 plan_from-by_plan (Err r) random = refl
-
--- the plan of a draft that draws nothing, put in its place
-pub plan_of_plan : {V : Type 0} (f : List ℕ → V) (plan : Result (Plan (List ℕ)) Refusal) (random : List ℕ)
-    → plan_from (placed f (by_plan plan)) random ≡ (plan >>= λ p. Ok (plan_map f p))
-plan_of_plan f plan random = plan_from-placed f (by_plan plan) random ∙ ap (λ r. r >>= λ p. Ok (plan_map f p)) (plan_from-by_plan plan random)
 
 -- ---- answers
 

@@ -2,7 +2,7 @@
 use Rattle.std.proofs.Common.{◌≡◌, ℕ, List, take, ap, subst, ◌∙◌}
 use Rattle.std.proofs.Math.Bridge.{le_prop}
 use Rattle.octets.specs.Octets.{IsOctets}
-use Rattle.octets.specs.Views.{Contents}
+use Rattle.octets.specs.Code.Views.{Contents}
 
 -- that they are octets has one proof
 one_proof : (octets : List ℕ) → IsProp ((n : ℕ) → IsOctets (take n octets))

@@ -7,15 +7,15 @@ use Rattle.std.specs.Result.{result_unwrap_or}
 use Rattle.octets.specs.declared.refusal.Refusal.{Refusal}
 use Rattle.octets.specs.declared.refusal.Refusal.TheVariants.{Base64}
 use Rattle.octets.specs.Octets.{IsOctets}
-use Rattle.octets.specs.Base64url.{decoded, settled, unsettled}
+use Rattle.octets.specs.Base64url.{decoded}
+use Rattle.octets.specs.Code.Streams.{settled, unsettled, settling, RefusesFrom}
 use Rattle.octets.proofs.Decoded.{IsOctets-take, IsOctets-front, decoded-nil, meaning_of_parts, parts_of_meaning}
 use Rattle.octets.proofs.Settling.{settled-unsettled, length-settled, length-unsettled, are_groups, decoded_settled-append, no_settled-append, settled-append, unsettled-nil}
 use Rattle.octets.proofs.Growing.{groups_go_on, decoding_grows}
 use Rattle.octets.proofs.Meanings.{decodes_exactly}
 use Rattle.octets.specs.LineEnds.{without_line_end}
-use Rattle.octets.specs.Encoding.{and_octets, octets_of_groups, decoding, settling}
+use Rattle.octets.specs.Encoding.{and_octets, octets_of_groups, decoding}
 use Rattle.octets.specs.Plan.{Begins, Grows, beginning_of}
-use Rattle.octets.specs.Pumps.{RefusesFrom}
 
 -- ---- line ends
 

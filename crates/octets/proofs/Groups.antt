@@ -8,7 +8,8 @@ use Rattle.base64.proofs.EngineFacts.{encode_of-append, encode_of-nil}
 use Rattle.base64.proofs.RoundTrip.{length-encode_symbols}
 use Rattle.base64.specs.Rfc4648.{encode_symbols}
 use Rattle.base64.specs.GeneralPurpose.{engine_symbols}
-use Rattle.octets.specs.Base64url.{base64url, whole_groups, part_group}
+use Rattle.octets.specs.Base64url.{base64url, whole_groups}
+use Rattle.octets.specs.Code.Streams.{part_group}
 
 pub base64url-append : (a b : List ℕ) → length a % 3 ≡ 0 → base64url (a ++ b) ≡ base64url a ++ base64url b
 unfolding base64url

@@ -6,10 +6,11 @@ use Rattle.std.proofs.lemmas.Bool.{cases_lt, eqb-true}
 use Rattle.std.specs.List.{AllByRecursion}
 use Rattle.octets.specs.declared.refusal.Refusal.{Refusal}
 use Rattle.octets.specs.Octets.{IsOctets}
-use Rattle.octets.specs.Base64url.{base64url, decoded, is_url_character, whole_groups, part_group}
+use Rattle.octets.specs.Base64url.{base64url, decoded, is_url_character, whole_groups}
+use Rattle.octets.specs.Code.Streams.{part_group, as_it_is}
 use Rattle.octets.specs.LineEnds.{without_line_end}
 use Rattle.octets.specs.Pumps.{most_behind, KeepsUp}
-use Rattle.octets.specs.Plan.{Begins, Grows, as_it_is}
+use Rattle.octets.specs.Plan.{Begins, Grows}
 use Rattle.octets.specs.Encoding.{encoding, and_octets, octets_of_groups, decoding, IsLongestDecoded, FixesLongest}
 use Rattle.octets.proofs.Decoded.{IsOctets-nil, IsOctets-append, IsOctets-take, IsOctets-drop, IsOctets-front, octets_of_meaning, parts_of_meaning, same_front}
 use Rattle.octets.proofs.Groups.{base64url-append, length-base64url, base64url_whole-append, base64url_whole_part}

@@ -8,7 +8,7 @@ pub use Rattle.octets.proofs.Decoded.{IsOctets-nil, first_or, IsOctets-append, I
 pub use Rattle.octets.proofs.Growing.{encoding_grows, as_it_is_grows, kept_up_by_none}
 pub use Rattle.octets.proofs.Prefixes.{AppendsPrefixOf-all, AppendsPrefixOf-none, AppendsPrefixOf-front, AppendsPrefixOf-part, AppendsPrefixOf-kept}
 pub use Rattle.octets.proofs.Steps.{steps, passed, same_answer, is_there, refused_alike}
-pub use Rattle.octets.proofs.Agreement.{AgreesUnlessExternal-map, plan_from-by_plan, plan_of_plan, planned_without_content, on_success, at_refusal, on_refusal, of_refusal, seen_possible, agrees_last, appended-append, whole_is, both_written}
+pub use Rattle.octets.proofs.Agreement.{AgreesUnlessExternal-map, plan_from-by_plan, planned_without_content, on_success, at_refusal, on_refusal, of_refusal, seen_possible, agrees_last, appended-append, whole_is, both_written}
 pub use Rattle.octets.proofs.Streaming.{AppendsPrefixOf-Begins}
 pub use Rattle.octets.proofs.Decoding.{cut, reading_starts, settling_grows, settling_begins, settling_keeps_up}
 pub use Rattle.octets.proofs.Chunks.{chunk_is, length-chunk, chunk_octets, chunk_front, chunk_back, chunk_written, length-written, chunk_kept, chunk_more, chunks_joined, same_chunks, length-joined, chunk-joined}

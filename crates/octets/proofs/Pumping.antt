@@ -4,11 +4,12 @@ use Rattle.std.proofs.Math.Seq.{drop-length}
 use Rattle.std.proofs.lemmas.List.{take-append-drop}
 use Rattle.std.specs.Result.{result_unwrap_or}
 use Rattle.octets.specs.declared.refusal.Refusal.{Refusal}
-use Rattle.octets.specs.Devices.{appended, Extends, AppendsPrefixOf, IsPossibleInput}
+use Rattle.octets.specs.Devices.{appended, AppendsPrefixOf, IsPossibleInput}
 use Rattle.octets.specs.Octets.{IsOctets}
 use Rattle.octets.specs.Outcomes.{◌>>=◌, is_external, GivesUnlessExternal, AgreesUnlessExternal}
 use Rattle.octets.specs.Plan.{Plan, Begins, Grows, beginning_of}
-use Rattle.octets.specs.Pumps.{behind, RefusesFrom, most_behind, KeepsUp}
+use Rattle.octets.specs.Pumps.{most_behind, KeepsUp}
+use Rattle.octets.specs.Code.Streams.{behind, RefusesFrom, Extends}
 use Rattle.octets.proofs.Decoded.{IsOctets-append, IsOctets-nil}
 use Rattle.octets.proofs.Prefixes.{AppendsPrefixOf-all, AppendsPrefixOf-kept}
 use Rattle.octets.proofs.Streaming.{Due, Last, may_stand, read_more}

@@ -4,7 +4,8 @@ use Rattle.std.proofs.Math.Seq.{take-append-add, drop-append-add}
 use Rattle.std.proofs.lemmas.List.{length-take-le, length-drop, take-append-drop, take-take}
 use Rattle.octets.specs.declared.refusal.Refusal.TheVariants.{Base64}
 use Rattle.octets.specs.Octets.{IsOctets}
-use Rattle.octets.specs.Base64url.{decoded, settled, unsettled}
+use Rattle.octets.specs.Base64url.{decoded}
+use Rattle.octets.specs.Code.Streams.{settled, unsettled}
 use Rattle.octets.proofs.Decoded.{meaning_of_parts, parts_of_meaning, IsOctets-front}
 
 -- ---- the groups at the front of cells that hold the text

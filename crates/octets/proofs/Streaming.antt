@@ -4,7 +4,8 @@ use Rattle.std.proofs.Math.Seq.{drop-append_seam}
 use Rattle.std.specs.Result.{result_unwrap_or}
 use Rattle.octets.specs.Octets.{IsOctets}
 use Rattle.octets.specs.declared.refusal.Refusal.{Refusal}
-use Rattle.octets.specs.Devices.{appended, Extends, AppendsPrefixOf}
+use Rattle.octets.specs.Devices.{appended, AppendsPrefixOf}
+use Rattle.octets.specs.Code.Streams.{Extends}
 use Rattle.octets.proofs.Decoded.{IsOctets-nil, IsOctets-append}
 use Rattle.octets.specs.Plan.{Plan, Begins, Grows, beginning_of}
 use Rattle.octets.proofs.Prefixes.{AppendsPrefixOf-all, AppendsPrefixOf-front}

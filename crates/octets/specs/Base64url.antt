@@ -1,5 +1,5 @@
 -- Base64url without padding (RFC 4648 section 5). A text is good if it is the encoding of octets. These are its meaning.
-use Rattle.std.specs.Prelude.{◌≡◌, ◌↔◌, ℕ, ◌+◌, ◌-◌, ◌*◌, ◌/◌, ◌%◌, ◌^◌, ◌==◌, ◌&&◌, ◌||◌, nat_le, Bool, true, List, length, map, take, drop, slice_index, codes, Result, Ok, Err}
+use Rattle.std.specs.Prelude.{◌≡◌, ◌↔◌, ℕ, ◌+◌, ◌-◌, ◌*◌, ◌/◌, ◌%◌, ◌^◌, ◌==◌, ◌&&◌, ◌||◌, nat_le, Bool, true, List, length, map, take, slice_index, codes, Result, Ok, Err}
 use Rattle.std.specs.List.{AllByRecursion, range_with_len}
 use Rattle.std.specs.Str.{byte}
 use Rattle.base64.specs.declared.decode.DecodeError.{DecodeError}
@@ -25,18 +25,6 @@ decoded text = or_base64 (decode_of url_safe_no_pad text)
 -- the octets in whole groups of three, each of which is four characters of text (RFC 4648 section 4)
 unfoldable pub whole_groups : List ℕ → List ℕ
 whole_groups octets = take (length octets / 3 * 3) octets
-
--- the octets after these groups
-unfoldable pub part_group : List ℕ → List ℕ
-part_group octets = drop (length octets / 3 * 3) octets
-
--- the whole groups of four characters before the last two characters, which may be a line end
-unfoldable pub settled : List ℕ → List ℕ
-settled text = take ((length text - 2) / 4 * 4) text
-
--- the characters after these groups
-unfoldable pub unsettled : List ℕ → List ℕ
-unsettled text = drop ((length text - 2) / 4 * 4) text
 
 -- octet strings with the same text are equal (docs/SPECIFICATION.md "Octets and texts")
 abbrev pub TextsAreDistinct : Type 0

@@ -22,19 +22,11 @@ IsFinishedOnce is_finished endings old new = IsTrue (is_finished new) × (ending
 abbrev pub ComesNearer : Count → Count → ℕ → Type 0
 ComesNearer old new n = IsFinite old → IsFinite new × (size new + n ≤ size old)
 
--- an input over a reader fails after this many octets
-abbrev pub most_octets : ℕ
-most_octets = 2 ^ 62
-
 -- ---- octets that passed through a device (docs/SPECIFICATION.md "Devices")
 
 -- the part by which the list has grown
 abbrev pub appended : List ℕ → List ℕ → List ℕ
 appended old new = drop (length old) new
-
--- the list has grown at its end, or not at all
-abbrev pub Extends : List ℕ → List ℕ → Type 0
-Extends old new = new ≡ old ++ appended old new
 
 -- the list has grown by a beginning of the text
 abbrev pub AppendsPrefixOf : List ℕ → List ℕ → List ℕ → Type 0

@@ -1,8 +1,7 @@
 -- Contents that are encoded as base64url, and texts that are decoded: the whole result, and what a beginning fixes of it.
 use Rattle.std.specs.Prelude.{◌≡◌, ◌≤◌, ℕ, ◌%◌, List, [], ◌∷◌, ◌++◌, length, Result, Ok, Err}
-use Rattle.std.proofs.Common.{refl}
 use Rattle.octets.specs.declared.refusal.Refusal.{Refusal}
-use Rattle.octets.specs.Base64url.{base64url, decoded, whole_groups, settled}
+use Rattle.octets.specs.Base64url.{base64url, decoded, whole_groups}
 use Rattle.octets.specs.LineEnds.{without_line_end}
 use Rattle.octets.specs.Octets.{IsOctets}
 use Rattle.octets.specs.Plan.{Plan, Begins}
@@ -26,14 +25,6 @@ octets_of_groups rest = []
 -- the octets of a text with or without a line end; each good group of four characters fixes three octets
 abbrev pub decoding : Plan (List ℕ)
 decoding = record { whole = λ text. decoded (without_line_end text); fixed = octets_of_groups }
-
--- the same octets, but a group is fixed only with two characters after it, which may be the line end
-abbrev pub settling : Plan (List ℕ)
-settling = record { whole = decoding.whole; fixed = λ front. octets_of_groups (settled front) }
-
-pub settling_starts : settling.fixed [] ≡ []
-unfolding settled octets_of_groups
-settling_starts = refl
 
 -- x is the longest string of whole groups of octets whose text begins the text.
 pub record IsLongestDecoded (text x : List ℕ) : Type 0 where

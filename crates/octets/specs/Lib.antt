@@ -1,15 +1,25 @@
-pub mod Octets
-pub mod Refusals
-pub mod Devices
-pub mod Base64url
+-- The definitions, in reading order (docs/AUDIT.md).
+-- steps that may refuse, and results compared with answers
 pub mod Outcomes
-pub mod Views
+-- octet strings
+pub mod Octets
+-- base64url texts
+pub mod Base64url
+-- the line end of a compact text
 pub mod LineEnds
-pub mod Plan
-pub mod Faults
-pub mod Lent
+-- contents that are encoded or decoded as they are read
 pub mod Encoding
+-- searches through all octet strings, on paper
 pub mod Search
-pub mod Failing
-pub mod FailingDevices
+-- what a call is to write, by its content
+pub mod Plan
+-- what a call did to an input and to an output
+pub mod Devices
+-- which devices failed, and that each failure is reported
+pub mod Faults
+-- how much is written when a content fails
 pub mod Pumps
+-- the numbers of the refusals
+pub mod Refusals
+-- values and calls of the code; no answer rests on these pages
+pub mod Code

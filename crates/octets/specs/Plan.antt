@@ -53,10 +53,6 @@ pub record BothGrow (plan : Plan OutputTexts) : Type 0 where
   pub text : Grows (plan_map (λ texts. texts.text) plan)
   pub content : Grows (plan_map (λ texts. texts.content) plan)
 
--- a content that is written as it is
-abbrev pub as_it_is : Plan (List ℕ)
-as_it_is = record { whole = λ content. Ok content; fixed = λ front. front }
-
 -- a call without a content
 abbrev pub without_content : {W : Type 0} → W → Plan W
 without_content texts = record { whole = λ content. Ok texts; fixed = λ front. texts }
@@ -70,13 +66,6 @@ pub record Draft (W : Type 0) : Type 0 where
 
 abbrev pub without_random : {W : Type 0} → Plan W → Draft W
 without_random plan = record { drawn = 0; plan = λ octets. plan }
-
--- the draft with f applied to what is written
-abbrev pub draft_map : {W V : Type 0} → (W → V) → Draft W → Draft V
-draft_map f draft = record { drawn = draft.drawn; plan = λ octets. plan_map f (draft.plan octets) }
-
-abbrev pub placed : {W V : Type 0} → (W → V) → Result (Draft W) Refusal → Result (Draft V) Refusal
-placed f draft = draft >>= λ d. Ok (draft_map f d)
 
 -- how many are drawn, which is 0 after a refusal
 abbrev pub drawn_of : {W : Type 0} → Result (Draft W) Refusal → ℕ
@@ -108,14 +97,3 @@ planned plan content = plan >>= λ p. p.whole content
 abbrev pub begun : Result (Plan OutputTexts) Refusal → Observed → OutputTexts
 begun (Ok plan) seen = beginning_of plan seen
 begun (Err r) seen = nothing
-
--- what this beginning of the content fixes
-abbrev pub fixed_by : Result (Plan OutputTexts) Refusal → List ℕ → OutputTexts
-fixed_by plan front = begun plan (record { octets = front; ended = false })
-
-abbrev pub planned_beginning : Bool → Result (Plan OutputTexts) Refusal → Observed → OutputTexts
-planned_beginning others_read plan seen = if others_read then begun plan seen else nothing
-
--- the same for one text that is written as a whole, without a content
-abbrev pub accepted : Result (List ℕ) Refusal → Bool → List ℕ
-accepted answer others_read = if others_read then result_unwrap_or answer [] else []

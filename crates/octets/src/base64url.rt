@@ -2,7 +2,7 @@
 ghost use Rattle.std.specs.Prelude.{◌≡◌, ◌≢◌, ◌++◌, List, ℕ, IfOk, IfErr, OnOk, OnErr, IsErrOf, string_bytes};
 ghost use Rattle.octets.specs.Base64url.{base64url, decoded};
 ghost use Rattle.octets.specs.Octets.{IsOctets};
-ghost use Rattle.octets.specs.Outcomes.{AgreesUnlessMemory};
+ghost use Rattle.octets.specs.Code.Results.{AgreesUnlessMemory};
 
 use crate::Refusal;
 use base64::DecodeAllocError;

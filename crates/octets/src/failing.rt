@@ -1,8 +1,8 @@
 //! Devices over memory that fail, to test what a call leaves behind when one of its devices fails.
 ghost use Rattle.std.specs.Prelude.{◌≡◌, ◌↔◌, ◌+◌, ◌<◌, ◌≤◌, [], ◌++◌, length, take, drop, min, true, false, IfOk, IfErr, IsOk, OnOk, OnErr, Ok, Err, MatchResult, IsTrue};
 ghost use Rattle.octets.specs.Devices.{next_count, ComesNearer, IsFinishedOnce};
-ghost use Rattle.octets.specs.Failing.{is_due, room_for, uncalled, fails_next, after_call, after_failure};
-ghost use Rattle.octets.specs.Views.{front_of, is_read, rest_of, read_count, write_count};
+ghost use Rattle.octets.specs.Code.Failing.{is_due, room_for, uncalled, fails_next, after_call, after_failure};
+ghost use Rattle.octets.specs.Code.Views.{front_of, is_read, rest_of, read_count, write_count};
 
 use crate::devices::count_one;
 use crate::{Fault, Input, MemoryInput, MemoryOutput, Output, Refusal};
@@ -53,7 +53,7 @@ pub struct FailingInput<'a> {
 }
 
 impl<'a> FailingInput<'a> {
-    ghost use Rattle.octets.specs.FailingDevices.{input_contents, input_consumed, input_failures, input_course};
+    ghost use Rattle.octets.specs.Code.FailingDevices.{input_contents, input_consumed, input_failures, input_course};
 
     /// An input of what the input over memory reads, until it fails.
     pub fn new(input: MemoryInput<'a>, failing: Failing) -> FailingInput<'a>
@@ -80,7 +80,7 @@ impl<'a> FailingInput<'a> {
 }
 
 impl<'a> Input for FailingInput<'a> {
-    ghost use Rattle.octets.specs.FailingDevices.{input_contents, input_consumed, input_is_at_end, input_remaining, input_failures, input_course};
+    ghost use Rattle.octets.specs.Code.FailingDevices.{input_contents, input_consumed, input_is_at_end, input_remaining, input_failures, input_course};
 
     ghost consumed = { input_consumed };
 
@@ -149,7 +149,7 @@ pub struct FailingOutput {
 }
 
 impl FailingOutput {
-    ghost use Rattle.octets.specs.FailingDevices.{output_written, output_is_finished, output_endings, output_failures, output_course, output_room, output_step};
+    ghost use Rattle.octets.specs.Code.FailingDevices.{output_written, output_is_finished, output_endings, output_failures, output_course, output_room, output_step};
 
     /// An empty output with room for so many octets, of which a write takes at most `step`. Fails only with `Memory`.
     pub fn new(
@@ -213,7 +213,7 @@ impl FailingOutput {
 }
 
 impl Output for FailingOutput {
-    ghost use Rattle.octets.specs.FailingDevices.{output_store, output_written, output_is_finished, output_endings, output_failures, output_course, output_room, output_step};
+    ghost use Rattle.octets.specs.Code.FailingDevices.{output_store, output_written, output_is_finished, output_endings, output_failures, output_course, output_room, output_step};
 
     ghost written = { output_written };
 

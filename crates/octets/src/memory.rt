@@ -2,7 +2,7 @@
 ghost use Rattle.std.specs.Prelude.{◌≡◌, ℕ, ◌↔◌, ◌+◌, ◌<◌, ◌≤◌, [], ◌++◌, length, take, drop, IfOk, IfErr, IsOk, IsErr, IsTrue, OnOk, OnErr, Ok, MatchResult, true, false};
 ghost use Rattle.octets.specs.Devices.{next_count, ComesNearer, IsFinishedOnce};
 ghost use Rattle.octets.specs.Octets.{IsOctets};
-ghost use Rattle.octets.specs.Views.{front_of, is_read, rest_of, failures_of, read_count, write_count};
+ghost use Rattle.octets.specs.Code.Views.{front_of, is_read, rest_of, failures_of, read_count, write_count};
 
 use crate::devices::count_one;
 use crate::laws::are_octets;
@@ -21,7 +21,7 @@ pub struct MemoryInput<'a> {
 
 impl<'a> Model for MemoryInput<'a> {
     ghost use Rattle.std.specs.Prelude.{◌<◌, ◌≤◌, length};
-    ghost use Rattle.octets.specs.Views.{Contents};
+    ghost use Rattle.octets.specs.Code.Views.{Contents};
 
     ghost Value = { Contents };
 
@@ -101,7 +101,7 @@ pub struct MemoryOutput {
 impl Model for MemoryOutput {
     ghost use Rattle.std.specs.Prelude.{◌≤◌, length, not};
     ghost use Rattle.std.specs.Vec.{vec_capacity};
-    ghost use Rattle.octets.specs.Views.{Store};
+    ghost use Rattle.octets.specs.Code.Views.{Store};
 
     ghost Value = { Store };
 

@@ -1,6 +1,7 @@
 //! Decoding base64url texts that come in pieces.
 ghost use Rattle.std.specs.Prelude.{◌≡◌, ℕ, ◌+◌, ◌*◌, ◌/◌, ◌≤◌, List, [], ◌++◌, length, take, drop, IfOk, OnOk, OnErr, IfErr, Ok, Err};
-ghost use Rattle.octets.specs.Base64url.{decoded, settled, unsettled};
+ghost use Rattle.octets.specs.Base64url.{decoded};
+ghost use Rattle.octets.specs.Code.Streams.{settled, unsettled};
 
 use crate::sizes::{JOINED_PIECE, PIECE_TEXT};
 use crate::transform::Transform;
@@ -43,7 +44,8 @@ impl Transform for B64Reader {
     type Rest = ();
 
     ghost use Rattle.std.specs.Prelude.{⊤};
-    ghost use Rattle.octets.specs.Encoding.{settling, octets_of_groups, settling_starts};
+    ghost use Rattle.octets.specs.Encoding.{octets_of_groups};
+    ghost use Rattle.octets.specs.Code.Streams.{settling, settling_starts};
 
     ghost Job = { Unit {0} };
 

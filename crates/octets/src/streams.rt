@@ -4,7 +4,8 @@ ghost use Rattle.std.specs.Iterator.{at_most};
 ghost use Rattle.std.specs.Io.KnownBytes.{Consumes, Appends, Keeps, IsAtEnd, ReadConsumes, WriteAppends};
 ghost use Rattle.std.specs.Io.{ReadsAtMost, WritesAtMost};
 ghost use Rattle.std.specs.IoError.{error_kind};
-ghost use Rattle.octets.specs.Devices.{most_octets, next_count, ComesNearer, IsFinishedOnce};
+ghost use Rattle.octets.specs.Devices.{next_count, ComesNearer, IsFinishedOnce};
+ghost use Rattle.octets.specs.Code.Streams.{most_octets};
 ghost use Rattle.octets.specs.Octets.{IsOctets};
 
 use crate::devices::count_one;
@@ -30,7 +31,7 @@ pub struct ReaderInput<R> {
 }
 
 impl<R: Read> ReaderInput<R> {
-    ghost use Rattle.octets.specs.Views.{reader_of, consumed_of, is_at_end_of, remaining_of, read_failures_of};
+    ghost use Rattle.octets.specs.Code.Views.{reader_of, consumed_of, is_at_end_of, remaining_of, read_failures_of};
 
     /// An input of what the reader reads.
     pub fn new(reader: R) -> ReaderInput<R>
@@ -51,7 +52,7 @@ impl<R: Read> ReaderInput<R> {
 }
 
 impl<R: Read> Input for ReaderInput<R> {
-    ghost use Rattle.octets.specs.Views.{reader_of, consumed_of, is_at_end_of, remaining_of, read_failures_of};
+    ghost use Rattle.octets.specs.Code.Views.{reader_of, consumed_of, is_at_end_of, remaining_of, read_failures_of};
 
     ghost consumed = { consumed_of };
 
@@ -135,7 +136,7 @@ pub struct WriterOutput<W> {
 }
 
 impl<W: Write> WriterOutput<W> {
-    ghost use Rattle.octets.specs.Views.{writer_of, written_of, is_finished_of, endings_of, write_failures_of};
+    ghost use Rattle.octets.specs.Code.Views.{writer_of, written_of, is_finished_of, endings_of, write_failures_of};
 
     /// An output to the writer.
     pub fn new(writer: W) -> WriterOutput<W>
@@ -156,7 +157,7 @@ impl<W: Write> WriterOutput<W> {
 }
 
 impl<W: Write> Output for WriterOutput<W> {
-    ghost use Rattle.octets.specs.Views.{writer_of, written_of, is_finished_of, endings_of, write_failures_of};
+    ghost use Rattle.octets.specs.Code.Views.{writer_of, written_of, is_finished_of, endings_of, write_failures_of};
 
     ghost written = { written_of };
 

@@ -1,12 +1,12 @@
 //! Contents that are read in pieces and written through a transform.
 ghost use Rattle.std.specs.Prelude.{◌≡◌, ◌≢◌, ℕ, ◌≤◌, List, [], ◌∷◌, ◌++◌, length, false, IfOk, OnOk, OnErr, IfErr, Ok, Err, IsTrue};
 ghost use Rattle.std.specs.Iterator.{IsFinite};
-ghost use Rattle.octets.specs.Devices.{appended, observed, Extends, IsPossibleInput, AppendsPrefixOf};
+ghost use Rattle.octets.specs.Devices.{appended, observed, IsPossibleInput, AppendsPrefixOf};
 ghost use Rattle.octets.specs.Faults.{TellsFaults, counts};
 ghost use Rattle.octets.specs.Octets.{IsOctets};
 ghost use Rattle.octets.specs.Outcomes.{GivesUnlessExternal, is_external};
 ghost use Rattle.octets.specs.Plan.{Plan, Grows, beginning_of};
-ghost use Rattle.octets.specs.Pumps.{behind, RefusesFrom};
+ghost use Rattle.octets.specs.Code.Streams.{behind, RefusesFrom, Extends};
 
 use crate::sizes::{PIECE, PIECE_TEXT};
 use crate::whole::read_piece;

@@ -1,9 +1,10 @@
 //! Reading an input to its end, or exactly as many octets as are needed, and writing all of a text.
 ghost use Rattle.std.specs.Prelude.{◌≡◌, ◌<◌, ◌≤◌, ◌++◌, length, take, drop, Ok, IfOk, OnOk, OnErr, IfErr, IsTrue};
 ghost use Rattle.std.specs.Iterator.{IsFinite, size};
-ghost use Rattle.octets.specs.Devices.{next_count, appended, observed, AppendsPrefixOf, Extends, IsFinishedOnce};
+ghost use Rattle.octets.specs.Devices.{next_count, appended, observed, AppendsPrefixOf, IsFinishedOnce};
+ghost use Rattle.octets.specs.Code.Streams.{Extends};
 ghost use Rattle.octets.specs.Octets.{IsOctets};
-ghost use Rattle.octets.specs.Outcomes.{IsReadingFailure, IsDrawingFailure};
+ghost use Rattle.octets.specs.Code.Results.{IsReadingFailure, IsDrawingFailure};
 
 use crate::laws::are_octets;
 use crate::sizes::PIECE;

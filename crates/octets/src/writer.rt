@@ -1,6 +1,7 @@
 //! Encoding octets that come in pieces as base64url.
 ghost use Rattle.std.specs.Prelude.{◌≡◌, ℕ, ◌+◌, ◌*◌, ◌/◌, ◌≤◌, List, [], ◌++◌, length, take};
-ghost use Rattle.octets.specs.Base64url.{base64url, whole_groups, part_group};
+ghost use Rattle.octets.specs.Base64url.{base64url, whole_groups};
+ghost use Rattle.octets.specs.Code.Streams.{part_group};
 
 use crate::Refusal;
 use crate::sizes::{JOINED_PIECE, PIECE_TEXT, SEALED_PIECE};
@@ -72,9 +73,8 @@ impl Transform for B64Writer {
     type Rest = ();
 
     ghost use Rattle.std.specs.Prelude.{⊤};
-    ghost use Rattle.octets.specs.Base64url.{part_group};
+    ghost use Rattle.octets.specs.Code.Streams.{part_group, encoding_starts};
     ghost use Rattle.octets.specs.Encoding.{encoding};
-    ghost use Rattle.octets.specs.Pumps.{encoding_starts};
 
     ghost Job = { Unit {0} };
 

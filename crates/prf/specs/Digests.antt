@@ -11,10 +11,3 @@ digest_of S224 message = sha224 message
 digest_of S256 message = sha256 message
 digest_of S384 message = sha384 message
 digest_of S512 message = sha512 message
-
--- the length of a digest in octets (FIPS 180-4 section 1)
-abbrev pub digest_len : HashAlg → ℕ
-digest_len S224 = 28
-digest_len S256 = 32
-digest_len S384 = 48
-digest_len S512 = 64

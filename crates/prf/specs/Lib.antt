@@ -1,7 +1,13 @@
+-- The definitions, in reading order (docs/AUDIT.md).
+-- a hash function
 pub mod HashFunction
-pub mod Sha2Octets
-pub mod Sha2
-pub mod Digests
+-- HMAC
 pub mod Hmac
+-- the SHA-2 functions
+pub mod Sha2
+-- PBKDF2
 pub mod Pbkdf2
-pub mod Views
+-- digests of whole messages
+pub mod Digests
+-- values and calls of the code; no answer rests on these pages
+pub mod Code

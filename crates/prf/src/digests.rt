@@ -1,6 +1,7 @@
 //! The digests of whole messages, by the kit's `sha2`.
 ghost use Rattle.std.specs.Prelude.{◌≡◌, take, drop};
-ghost use Rattle.prf.specs.Digests.{digest_of, digest_len};
+ghost use Rattle.prf.specs.Digests.{digest_of};
+ghost use Rattle.prf.specs.Code.Views.{digest_len};
 
 use crate::hash::put_front;
 use sha2::{Digest, Sha224, Sha256, Sha384, Sha512};

@@ -17,7 +17,7 @@ pub struct Hmac<H: Hash> {
 }
 
 impl<H: Hash> Hmac<H> {
-    ghost use Rattle.prf.specs.Views.{HoldsHmac};
+    ghost use Rattle.prf.specs.Code.Views.{HoldsHmac};
 
     /// The HMAC of the empty text, under a key of any length. The standards ask for a key at least
     /// as long as the digest.

@@ -2,7 +2,7 @@
 ghost use Rattle.std.specs.Prelude.{◌≡◌, ℕ, ◌*◌, ◌<◌, ◌≤◌, List, [], ◌^◌, length, map};
 ghost use Rattle.std.specs.List.{concat};
 ghost use Rattle.prf.specs.Pbkdf2.{block_count, derived_block, pbkdf2};
-ghost use Rattle.prf.specs.Views.{HoldsHmac};
+ghost use Rattle.prf.specs.Code.Views.{HoldsHmac};
 
 use crate::hash::Hash;
 use crate::hmac::Hmac;

@@ -1,5 +1,6 @@
 //! SHA-256, by the kit's `sha2`.
-ghost use Rattle.prf.specs.Sha2.{sha256_function, sha256_is_hash_function};
+ghost use Rattle.prf.specs.Sha2.{sha256_function};
+ghost use Rattle.prf.specs.Code.Sha2Laws.{sha256_is_hash_function};
 ghost use Rattle.sha2.specs.Hashers.{Holds256};
 
 use crate::hash::{Hash, put_front};

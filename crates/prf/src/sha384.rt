@@ -1,5 +1,6 @@
 //! SHA-384, by the kit's `sha2`.
-ghost use Rattle.prf.specs.Sha2.{sha384_function, sha384_is_hash_function};
+ghost use Rattle.prf.specs.Sha2.{sha384_function};
+ghost use Rattle.prf.specs.Code.Sha2Laws.{sha384_is_hash_function};
 ghost use Rattle.sha2.specs.Hashers.{Holds384};
 
 use crate::hash::{Hash, put_front};

@@ -1,5 +1,6 @@
 //! SHA-512, by the kit's `sha2`.
-ghost use Rattle.prf.specs.Sha2.{sha512_function, sha512_is_hash_function};
+ghost use Rattle.prf.specs.Sha2.{sha512_function};
+ghost use Rattle.prf.specs.Code.Sha2Laws.{sha512_is_hash_function};
 ghost use Rattle.sha2.specs.Hashers.{Holds512};
 
 use crate::hash::{Hash, put_front};

@@ -10,9 +10,10 @@ use Rattle.std.specs.Str.{bytes_eq}
 use Rattle.octets.specs.Octets.{IsOctets}
 use Rattle.octets.proofs.Lemmas.{IsOctets-nil}
 use Rattle.prf.specs.HashFunction.{HashFunction, IsHashFunction}
-use Rattle.prf.specs.Sha2.{sha256_is_hash_function, sha384_is_hash_function, sha512_is_hash_function}
+use Rattle.prf.specs.Code.Sha2Laws.{sha256_is_hash_function, sha384_is_hash_function, sha512_is_hash_function}
 use Rattle.ciphers.specs.Algorithms.{KeyFamily, direct, aes_key_wrap, aes_gcm_key_wrap, pbes2, key_family}
-use Rattle.ciphers.specs.Delivery.{Parameters, agrees_by, IsKeyIn, IsKeyOf, IsCountIn, IsCountOf, IsIvIn, IsIvOf, iterations_in, iteration_count, way_in, encrypted_by, tag_by, is_delivered_by, key_tag_of, encrypted_key_of}
+use Rattle.ciphers.specs.Delivery.{Parameters, agrees_by, way_in, encrypted_by, tag_by, is_delivered_by, key_tag_of, encrypted_key_of}
+use Rattle.ciphers.specs.Code.Demands.{IsKeyIn, IsKeyOf, IsCountIn, IsCountOf, IsIvIn, IsIvOf, iterations_in, iteration_count}
 use Rattle.ciphers.specs.Sealing as ciphers
 use Rattle.ciphers.specs.declared.content_alg.ContentAlg.{ContentAlg}
 use Rattle.ciphers.proofs.Lemmas.{decided}
@@ -27,7 +28,8 @@ use Rattle.keys.specs.declared.algorithm.SignatureAlg.{SignatureAlg}
 use Rattle.keys.specs.declared.algorithm.SignatureAlg.TheVariants.{Hs256, Hs384, Hs512}
 use Rattle.keys.specs.Algorithms.{signature_name, management_name, encryption_name, signature_algs, management_algs, encryption_algs, management_alg_among, signature_alg_of, management_alg_of, encryption_alg_of, mode_of, kek_len, is_password, is_password_based, len_with, key_len, has_len, cek_len}
 use Rattle.keys.specs.Keys.{OctetKey, fits}
-use Rattle.objects.specs.KeyManagement.{KeyManagement, Direct, KeyWrap, Password, GcmKeyWrap, is_management_in, is_management_of}
+use Rattle.objects.specs.KeyManagement.{KeyManagement, Direct, KeyWrap, Password, GcmKeyWrap}
+use Rattle.objects.specs.Code.KeyManagementView.{is_management_in, is_management_of}
 use Rattle.tokens.specs.Algorithms.{key_alg, content_alg, parameters_by}
 use Rattle.tokens.specs.Choosing.{is_direct_in, is_direct}
 use Rattle.tokens.specs.Decrypting.{iterations_by}

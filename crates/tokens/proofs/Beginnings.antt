@@ -2,12 +2,13 @@
 use Rattle.std.proofs.Common.{◌≡◌, ◌==◌, ℕ, ◌+◌, ◌≤◌, ◌<◌, length, map, take, length-append, Bool, true, false, List, [], ◌∷◌, ◌++◌, Result, Ok, refl, sym, ap, ◌∙◌, subst, arith, append_assoc}
 use Rattle.std.proofs.lemmas.Bool.{eq-eqb}
 use Rattle.octets.specs.declared.refusal.Refusal.{Refusal}
-use Rattle.octets.specs.Base64url.{base64url, whole_groups, part_group}
+use Rattle.octets.specs.Base64url.{base64url, whole_groups}
+use Rattle.octets.specs.Code.Streams.{part_group}
 use Rattle.octets.specs.Devices.{AppendsPrefixOf}
 use Rattle.octets.specs.Octets.{IsOctets}
 use Rattle.octets.specs.Plan.{OutputTexts, Plan, Begins, Grows, plan_map, BothGrow}
 use Rattle.octets.proofs.Lemmas.{IsOctets-nil, first_or, base64url_whole-append, base64url_whole_part, steps, same_answer, spells_six_bits}
-use Rattle.objects.specs.Frames.{filled, in_places, first_text}
+use Rattle.objects.specs.Code.Frames.{filled, in_places, first_text}
 use Rattle.objects.specs.Texts.{handed_in, handed_out, common, before_content}
 
 -- ---- lists

@@ -1,7 +1,8 @@
 -- Feeding the base64url text of octets to what takes a text in pieces, as an HMAC.
 use Rattle.std.proofs.Common.{◌≡◌, ℕ, List, [], ◌++◌, length, sym, ap, subst, ◌∙◌, append_assoc, append-nil}
 use Rattle.std.proofs.lemmas.List.{nil_from_length}
-use Rattle.octets.specs.Base64url.{base64url, whole_groups, part_group}
+use Rattle.octets.specs.Base64url.{base64url, whole_groups}
+use Rattle.octets.specs.Code.Streams.{part_group}
 use Rattle.octets.proofs.Lemmas.{base64url-nil}
 
 -- All but the rest was fed: what takes the text has that of the whole groups, and the octets after them wait.

@@ -8,8 +8,8 @@ use Rattle.ciphers.specs.Sealing.{Sealed, IsTooLong}
 use Rattle.ciphers.proofs.Lemmas.{fixed_grows, ciphertext_grows}
 use Rattle.keys.specs.Keys.{OctetKey, AreOctetKeys}
 use Rattle.keys.specs.Limits.{limits, are_few}
-use Rattle.objects.specs.Frames.{filled, in_places, first_text}
-use Rattle.tokens.specs.SealedTexts.{frame_by}
+use Rattle.objects.specs.Code.Frames.{filled, in_places, first_text}
+use Rattle.tokens.specs.Code.SealedTexts.{frame_by}
 use Rattle.tokens.specs.Algorithms.{content_alg}
 use Rattle.tokens.specs.Choosing.{EncryptionPlan, read_encryption}
 use Rattle.tokens.specs.Decrypting.{additional_authenticated_data}

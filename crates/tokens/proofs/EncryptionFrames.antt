@@ -12,18 +12,18 @@ use Rattle.ciphers.specs.Sealing.{Sealed, Sealing, IsTooLong, cek_len}
 use Rattle.ciphers.proofs.Lemmas.{some_tag}
 use Rattle.keys.specs.Keys.{OctetKey, AreOctetKeys}
 use Rattle.keys.specs.Limits.{limits, are_few}
-use Rattle.objects.specs.Frames.{filled, in_places, first_text, jwe_frame, IsJweFrame}
+use Rattle.objects.specs.Code.Frames.{filled, in_places, first_text, jwe_frame, IsJweFrame}
 use Rattle.objects.specs.Jwe.{built, jwe_text}
 use Rattle.objects.specs.Texts.{handed_out}
-use Rattle.objects.specs.Writing.{Written, all_texts}
-use Rattle.objects.specs.JweWriting.{jwe_written}
+use Rattle.objects.specs.Code.Writing.{Written, all_texts}
+use Rattle.objects.specs.Code.JweWriting.{jwe_written}
 use Rattle.objects.proofs.Lemmas.{jwe_refused, is_jwe_frame}
 use Rattle.tokens.specs.Algorithms.{content_alg}
 use Rattle.tokens.specs.Choosing.{EncryptionPlan, read_encryption}
 use Rattle.tokens.specs.Decrypting.{additional_authenticated_data}
 use Rattle.tokens.specs.Delivering.{drawn_for_all}
 use Rattle.tokens.specs.Encrypting.{cek_drawn, random_len, after_recipients, cek_by, iv_by, header_by, sealing_by, sealed_by, parts_by, encrypted, text_before, written_of, plan_by, enc_plan}
-use Rattle.tokens.specs.SealedTexts.{IsUnsealed, unsealed, frame_by}
+use Rattle.tokens.specs.Code.SealedTexts.{IsUnsealed, unsealed, frame_by}
 use Rattle.tokens.proofs.Beginnings.{before_is}
 use Rattle.tokens.proofs.DeliveredKeys.{after_long}
 use Rattle.tokens.proofs.EncryptedHeaders.{OctetLaws, Writes, writes}

@@ -7,20 +7,21 @@ use Rattle.octets.specs.declared.refusal.Refusal.{Refusal}
 use Rattle.octets.specs.declared.refusal.Refusal.TheVariants.{Memory, NotCompact}
 use Rattle.octets.specs.Base64url.{base64url}
 use Rattle.octets.specs.Octets.{IsOctets}
-use Rattle.octets.specs.Outcomes.{◌>>=◌, is_memory}
+use Rattle.octets.specs.Outcomes.{◌>>=◌}
+use Rattle.octets.specs.Code.Results.{is_memory}
 use Rattle.octets.specs.Plan.{OutputTexts, planned}
 use Rattle.prf.specs.Hmac.{hmac}
 use Rattle.keys.specs.Keys.{OctetKey}
 use Rattle.keys.specs.Limits.{limits}
-use Rattle.objects.specs.Frames.{filled, in_places, first_text, jws_frame, signed_with, IsJwsFrame}
+use Rattle.objects.specs.Code.Frames.{filled, in_places, first_text, jws_frame, signed_with, IsJwsFrame}
 use Rattle.objects.specs.Jws.{Signature, signature_parts_of, EncodedSignature, SignedObject, EncodedJws, JwsParts, built, jws_text}
 use Rattle.objects.specs.Texts.{handed_out}
-use Rattle.objects.specs.Writing.{Written, all_texts}
-use Rattle.objects.specs.JwsWriting.{jws_written}
+use Rattle.objects.specs.Code.Writing.{Written, all_texts}
+use Rattle.objects.specs.Code.JwsWriting.{jws_written}
 use Rattle.objects.proofs.Lemmas.{signature_spelled, parts_spelled, spelled, jws_is_built, object_keeps, jws_refused}
 use Rattle.tokens.specs.Signatures.{signature_hash, signature_of}
 use Rattle.tokens.specs.Signing.{Signer, Signing, protected_by, signature_by, signed, text_before, written_of, plan_by, read_signing, sig_plan}
-use Rattle.tokens.specs.SigningInputs.{signature_text, start_of, unsigned_protected, unsigned_part_by, unsigned_by}
+use Rattle.tokens.specs.Code.SigningInputs.{signature_text, start_of, unsigned_protected, unsigned_part_by, unsigned_by}
 use Rattle.octets.proofs.Lemmas.{IsOctets-nil, first_or}
 use Rattle.tokens.proofs.Beginnings.{before_is}
 use Rattle.tokens.proofs.SignedAlike.{with_all, put_part, built_alike, refused_alike}

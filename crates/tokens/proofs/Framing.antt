@@ -2,14 +2,14 @@
 use Rattle.std.proofs.Common.{◌≡◌, ℕ, Bool, true, false, List, [], ◌∷◌, ◌++◌, Result, Ok, Err, IsTrue, refl, sym, ap, ◌∙◌, subst, append_assoc, append-nil}
 use Rattle.std.specs.Result.{result_unwrap_or}
 use Rattle.octets.specs.declared.refusal.Refusal.{Refusal}
-use Rattle.octets.specs.Devices.{appended, Extends, IsPossibleInput, AppendsPrefixOf}
+use Rattle.octets.specs.Devices.{appended, IsPossibleInput, AppendsPrefixOf}
 use Rattle.octets.specs.Octets.{IsOctets}
 use Rattle.octets.specs.Outcomes.{◌>>=◌}
 use Rattle.octets.specs.Plan.{OutputTexts, Plan, Begins, beginning_of}
-use Rattle.octets.specs.Pumps.{behind}
+use Rattle.octets.specs.Code.Streams.{behind, Extends}
 use Rattle.octets.proofs.Lemmas.{steps, same_answer, appended-append, both_written, AppendsPrefixOf-Begins}
-use Rattle.objects.specs.Frames.{filled}
-use Rattle.tokens.specs.Framing.{IsFraming}
+use Rattle.objects.specs.Code.Frames.{filled}
+use Rattle.tokens.specs.Code.Framing.{IsFraming}
 use Rattle.tokens.proofs.Beginnings.{AppendsPrefixOf-behind}
 
 -- an input that was read to its end was this

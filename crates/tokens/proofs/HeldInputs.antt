@@ -3,7 +3,7 @@ use Rattle.std.proofs.Common.{ℕ, zero, suc, ◌<◌, List, [], ◌∷◌, ◌+
 use Rattle.std.specs.Bool.{⊤}
 use Rattle.prf.specs.HashFunction.{HashFunction}
 use Rattle.tokens.specs.Signatures.{signature_hash}
-use Rattle.tokens.specs.SigningInputs.{InputStart, HoldEach}
+use Rattle.tokens.specs.Code.SigningInputs.{InputStart, HoldEach}
 
 module _ {S : Type 0} (has_taken : S → HashFunction → List ℕ → List ℕ → Type 0) where
   -- this one has taken the text that stands before the payload's, and then this one

@@ -5,14 +5,14 @@ use Rattle.std.specs.List.{filter}
 use Rattle.keys.specs.declared.key.Key.{Key}
 use Rattle.keys.specs.Keys.{OctetKey}
 use Rattle.keys.specs.Limits.{limits}
-use Rattle.keys.specs.Views.{key_view}
+use Rattle.keys.specs.Code.Views.{key_view}
 use Rattle.objects.specs.declared.jwe.recipient.Recipient.{Recipient as Code}
 use Rattle.objects.specs.Jwe.{Recipient}
-use Rattle.objects.specs.Views.{recipient_view}
+use Rattle.objects.specs.Code.Views.{recipient_view}
 use Rattle.tokens.specs.declared.decrypt.pair.Pair.{Pair as CodePair}
 use Rattle.tokens.specs.Algorithms.{Algorithms}
 use Rattle.tokens.specs.Decrypting.{Pair, algorithms_of, is_candidate, pairs_with, pairs_by, pairs_of, all_pairs, has_pairs}
-use Rattle.tokens.specs.Views.{pair_view}
+use Rattle.tokens.specs.Code.Views.{pair_view}
 
 -- whether there are pairs
 pub some_pairs : (pairs : List CodePair) → 1 ≤ length pairs → has_pairs (map pair_view pairs) ≡ true

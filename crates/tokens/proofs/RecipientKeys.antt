@@ -15,12 +15,12 @@ use Rattle.keys.specs.declared.algorithm.KeyManagementAlg.TheVariants.{Dir}
 use Rattle.keys.specs.Algorithms.{is_password_based, management_operations}
 use Rattle.keys.specs.Keys.{allows, fits}
 use Rattle.keys.specs.Limits.{limits}
-use Rattle.keys.specs.Views.{key_view}
+use Rattle.keys.specs.Code.Views.{key_view}
 use Rattle.tokens.specs.declared.encrypt.recipient_key.RecipientKey.{RecipientKey as Code}
 use Rattle.tokens.specs.Algorithms.{content_alg}
 use Rattle.tokens.specs.Choosing.{is_direct, direct_key_is_alone, may_encrypt, password_count, p2c_may_be_written}
 use Rattle.tokens.specs.Encrypting.{direct_key}
-use Rattle.tokens.specs.Views.{recipient_key_view}
+use Rattle.tokens.specs.Code.Views.{recipient_key_view}
 use Rattle.tokens.proofs.AlgorithmCases.{direct_key_fits}
 
 -- a step that went on is one whose test holds

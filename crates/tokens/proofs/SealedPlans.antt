@@ -7,12 +7,12 @@ use Rattle.octets.specs.declared.refusal.Refusal.TheVariants.{Limit}
 use Rattle.octets.specs.Base64url.{base64url, whole_groups}
 use Rattle.octets.specs.Encoding.{encoding}
 use Rattle.octets.specs.Outcomes.{◌>>=◌}
-use Rattle.octets.specs.Plan.{Plan, as_it_is}
-use Rattle.octets.specs.Pumps.{RefusesFrom}
+use Rattle.octets.specs.Plan.{Plan}
+use Rattle.octets.specs.Code.Streams.{as_it_is, RefusesFrom}
 use Rattle.ciphers.specs.Openings.{is_longer}
 use Rattle.ciphers.specs.Sealing.{Sealing, IsTooLong}
 use Rattle.tokens.specs.Encrypting.{sealed_by, within_longest}
-use Rattle.tokens.specs.SealedTexts.{sealed_plan}
+use Rattle.tokens.specs.Code.SealedTexts.{sealed_plan}
 
 -- ---- plaintexts that are too long, and others
 

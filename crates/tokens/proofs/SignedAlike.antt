@@ -9,12 +9,12 @@ use Rattle.octets.specs.Outcomes.{◌>>=◌, needs}
 use Rattle.keys.specs.declared.algorithm.KeyManagementAlg.{KeyManagementAlg}
 use Rattle.keys.specs.Json.{member_numbers_are_whole}
 use Rattle.keys.specs.Limits.{Limits, are_few}
-use Rattle.objects.specs.Frames.{with_octets, signed_with}
+use Rattle.objects.specs.Code.Frames.{with_octets, signed_with}
 use Rattle.objects.specs.Headers.{protected_members, joint_header, string_there}
 use Rattle.objects.specs.Jws.{SignatureParts, DecodedSignature, HeadedSignature, Signature, SignedObject, decoded_part, headed_signature, signature_by, headers_have_no_crit, signatures_of, signed_object, built, is_compact, jws_text, jws_compact_text}
 use Rattle.objects.specs.KeyManagement.{KeyManagement, key_management}
 use Rattle.objects.specs.Texts.{each, depth_of_each}
-use Rattle.objects.specs.Writing.{Written}
+use Rattle.objects.specs.Code.Writing.{Written}
 
 -- ---- each of a list with a value put into it
 

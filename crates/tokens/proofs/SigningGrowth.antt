@@ -4,9 +4,9 @@ use Rattle.octets.specs.Base64url.{base64url, whole_groups}
 use Rattle.octets.specs.Octets.{IsOctets}
 use Rattle.octets.specs.Plan.{OutputTexts, Begins}
 use Rattle.keys.specs.Limits.{limits}
-use Rattle.objects.specs.Frames.{filled, in_places, IsJwsFrame}
+use Rattle.objects.specs.Code.Frames.{filled, in_places, IsJwsFrame}
 use Rattle.objects.specs.Jws.{SignedObject}
-use Rattle.tokens.specs.SigningInputs.{unsigned_by}
+use Rattle.tokens.specs.Code.SigningInputs.{unsigned_by}
 use Rattle.objects.proofs.Lemmas.{is_jws_frame}
 use Rattle.octets.proofs.Lemmas.{same_answer}
 use Rattle.tokens.specs.Signing.{Signing, text_before, text_fixed, plan_by, SigningGrows}

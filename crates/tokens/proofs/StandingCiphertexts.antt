@@ -4,16 +4,17 @@ use Rattle.octets.specs.declared.refusal.Refusal.{Refusal}
 use Rattle.octets.specs.Base64url.{base64url, whole_groups}
 use Rattle.octets.specs.Outcomes.{◌>>=◌}
 use Rattle.octets.specs.Encoding.{encoding}
-use Rattle.octets.specs.Plan.{OutputTexts, Plan, Begins, Grows, as_it_is}
+use Rattle.octets.specs.Plan.{OutputTexts, Plan, Begins, Grows}
+use Rattle.octets.specs.Code.Streams.{as_it_is}
 use Rattle.octets.proofs.Lemmas.{steps, same_answer}
 use Rattle.ciphers.specs.Sealing.{Sealed, Sealing}
 use Rattle.keys.specs.Limits.{limits}
-use Rattle.objects.specs.Frames.{filled}
+use Rattle.objects.specs.Code.Frames.{filled}
 use Rattle.objects.specs.Jwe.{built}
 use Rattle.tokens.specs.Choosing.{EncryptionPlan}
 use Rattle.tokens.specs.Encrypting.{sealing_by, sealed_by, parts_by, written_of, encrypted, plan_by, ciphertext_fixed}
-use Rattle.tokens.specs.Framing.{IsFraming, FillsFrame, all_in}
-use Rattle.tokens.specs.SealedTexts.{sealed_plan, IsUnsealed}
+use Rattle.tokens.specs.Code.Framing.{IsFraming, FillsFrame, all_in}
+use Rattle.tokens.specs.Code.SealedTexts.{sealed_plan, IsUnsealed}
 use Rattle.tokens.proofs.Beginnings.{groups_grow, text_grows}
 use Rattle.tokens.proofs.EncryptedObjects.{sealed_is}
 use Rattle.tokens.proofs.EncryptingGrowth.{more_fixed, fixed_begins}

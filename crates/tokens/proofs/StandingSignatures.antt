@@ -4,14 +4,15 @@ use Rattle.std.proofs.lemmas.List.{take_all, take-append-le, length-map}
 use Rattle.octets.specs.declared.refusal.Refusal.{Refusal}
 use Rattle.octets.specs.Base64url.{base64url, whole_groups}
 use Rattle.octets.specs.Encoding.{encoding}
-use Rattle.octets.specs.Plan.{OutputTexts, Plan, as_it_is}
+use Rattle.octets.specs.Plan.{OutputTexts, Plan}
+use Rattle.octets.specs.Code.Streams.{as_it_is}
 use Rattle.octets.proofs.Lemmas.{encoding_grows, as_it_is_grows, same_answer}
 use Rattle.prf.specs.HashFunction.{HashFunction}
 use Rattle.keys.specs.Limits.{limits}
-use Rattle.objects.specs.Frames.{filled}
-use Rattle.tokens.specs.Framing.{IsFraming, FillsFrame, all_in}
+use Rattle.objects.specs.Code.Frames.{filled}
+use Rattle.tokens.specs.Code.Framing.{IsFraming, FillsFrame, all_in}
 use Rattle.tokens.specs.Signing.{plan_by}
-use Rattle.tokens.specs.SigningInputs.{InputStart, HoldEach, GiveSignatures, IsFramed, signature_text, start_of}
+use Rattle.tokens.specs.Code.SigningInputs.{InputStart, HoldEach, GiveSignatures, IsFramed, signature_text, start_of}
 use Rattle.tokens.proofs.FramedSigning.{texts_are, unsigned_count, whole_is, text_before_is}
 
 -- the first of a list, and the others

@@ -3,7 +3,7 @@ use Rattle.std.proofs.Common.{◌≡◌, ℕ, List, [], ◌∷◌, ◌++◌, map
 use Rattle.prf.specs.HashFunction.{HashFunction}
 use Rattle.tokens.specs.Signatures.{signature_hash}
 use Rattle.tokens.specs.Signing.{Signer, protected_by}
-use Rattle.tokens.specs.SigningInputs.{InputStart, HoldEach, start_of}
+use Rattle.tokens.specs.Code.SigningInputs.{InputStart, HoldEach, start_of}
 
 module _ {S : Type 0} (has_taken : S → HashFunction → List ℕ → List ℕ → Type 0) where
   -- the inputs so far, and those that are left to begin, are all

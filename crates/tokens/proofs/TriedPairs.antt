@@ -3,7 +3,7 @@ use Rattle.std.proofs.Common.{◌≡◌, ℕ, zero, suc, ◌+◌, ◌<◌, List,
 use Rattle.std.specs.Option.{option_or}
 use Rattle.tokens.specs.declared.decrypt.pair.Pair.{Pair as CodePair}
 use Rattle.tokens.specs.Decrypting.{Pair, SealedContent, cek_of, opened_by, first_opened}
-use Rattle.tokens.specs.Views.{pair_view}
+use Rattle.tokens.specs.Code.Views.{pair_view}
 
 -- where neither is there
 none_or : (a b : Option (List ℕ)) → option_or a b ≡ None → (a ≡ None) × (b ≡ None)

@@ -8,15 +8,16 @@ use Rattle.std.specs.Str.{bytes_eq}
 use Rattle.prf.specs.HashFunction.{HashFunction}
 use Rattle.prf.specs.Hmac.{hmac}
 use Rattle.octets.specs.declared.refusal.Refusal.{Refusal}
-use Rattle.octets.specs.Outcomes.{◌>>=◌, Agrees, AgreesUnlessExternal}
+use Rattle.octets.specs.Outcomes.{◌>>=◌, AgreesUnlessExternal}
+use Rattle.octets.specs.Code.Results.{Agrees}
 use Rattle.octets.specs.Base64url.{base64url}
 use Rattle.keys.specs.declared.algorithm.SignatureAlg.{SignatureAlg}
 use Rattle.keys.specs.Keys.{OctetKey}
 use Rattle.objects.specs.Jws.{Signature, SignedObject}
 use Rattle.tokens.specs.Signatures.{signature_hash, signature_of}
-use Rattle.tokens.specs.SigningInputs.{InputStart, HoldEach}
+use Rattle.tokens.specs.Code.SigningInputs.{InputStart, HoldEach}
 use Rattle.tokens.specs.Verifying.{is_signed, verifies, are_verified, verified_payload, verifying_by}
-use Rattle.tokens.specs.VerifyingInputs.{starts_by}
+use Rattle.tokens.specs.Code.VerifyingInputs.{starts_by}
 
 module _ {S : Type 0} (has_taken : S → HashFunction → List ℕ → List ℕ → Type 0) where
   -- ---- taken from the front

@@ -6,9 +6,9 @@ use Rattle.prf.specs.Hmac.{hmac}
 use Rattle.octets.specs.Base64url.{base64url}
 use Rattle.octets.specs.Devices.{AppendsPrefixOf}
 use Rattle.octets.proofs.Lemmas.{AppendsPrefixOf-front, AppendsPrefixOf-part}
-use Rattle.objects.specs.Frames.{filled}
+use Rattle.objects.specs.Code.Frames.{filled}
 use Rattle.tokens.specs.Signatures.{signature_hash}
-use Rattle.tokens.specs.SigningInputs.{InputStart, HoldEach, signature_text}
+use Rattle.tokens.specs.Code.SigningInputs.{InputStart, HoldEach, signature_text}
 
 -- what is still to be written of a text on an output
 pub record IsLeft (left all old written : List ℕ) : Type 0 where

@@ -1,19 +1,18 @@
 -- Decrypting (RFC 7516 section 5.2): the pairs of a recipient and a key that are tried, what they open, and the work.
-use Rattle.std.specs.Prelude.{ℕ, ◌+◌, ◌*◌, ◌≤◌, ◌&&◌, Bool, true, false, nat_le, List, [], ◌∷◌, ◌++◌, map, is_some, if◌then◌else◌, Option, Some, None, option_and_then, Result, Ok, Err}
+use Rattle.std.specs.Prelude.{ℕ, ◌+◌, ◌&&◌, Bool, true, false, nat_le, List, [], ◌∷◌, ◌++◌, map, is_some, Option, Some, None, option_and_then, Result, Ok}
 use Rattle.std.specs.List.{filter, list_all, list_any}
 use Rattle.std.specs.Option.{ok_or, option_or}
 use Rattle.std.specs.Str.{byte}
 use Rattle.octets.specs.declared.refusal.Refusal.{Refusal}
-use Rattle.octets.specs.declared.refusal.Refusal.TheVariants.{Memory, Unsupported, KeyDoesNotFit, Limit, NotOpened}
+use Rattle.octets.specs.declared.refusal.Refusal.TheVariants.{Unsupported, KeyDoesNotFit, Limit, NotOpened}
 use Rattle.octets.specs.Outcomes.{◌>>=◌, needs}
 use Rattle.octets.specs.Base64url.{base64url}
 use Rattle.ciphers.specs.Openings.{opening, delivered}
 use Rattle.keys.specs.declared.algorithm.Algorithm.TheVariants.{Encryption}
 use Rattle.keys.specs.declared.algorithm.ContentEncryptionAlg.{ContentEncryptionAlg}
 use Rattle.keys.specs.declared.algorithm.KeyManagementAlg.{KeyManagementAlg}
-use Rattle.keys.specs.declared.algorithm.KeyManagementMode.{KeyManagementMode}
 use Rattle.keys.specs.declared.algorithm.KeyManagementMode.TheVariants as mode
-use Rattle.keys.specs.Algorithms.{management_alg_among, encryption_alg_of, mode_of, management_operations}
+use Rattle.keys.specs.Algorithms.{management_alg_among, encryption_alg_of, management_operations}
 use Rattle.keys.specs.Keys.{OctetKey, allows, fits}
 use Rattle.keys.specs.Limits.{Limits, limits}
 use Rattle.objects.specs.Jwe.{Recipient, EncryptedObject}
@@ -125,49 +124,3 @@ unfoldable pub decrypted : Limits → List OctetKey → EncryptedObject → Resu
 decrypted limits keys o = do
   pairs ← pairs_to_try limits keys o.recipients
   ok_or (first_opened (sealed_content o) pairs) NotOpened
-
--- ---- work
-
--- iterations of PBKDF2, encrypted keys that were unwrapped, and contents that were opened or tried
-pub record WorkCounts : Type 0 where
-  pub iterations : ℕ
-  pub unwraps : ℕ
-  pub openings : ℕ
-
-abbrev pub no_work : WorkCounts
-no_work = record { iterations = 0; unwraps = 0; openings = 0 }
-
--- how many encrypted keys are unwrapped: none if the key is used directly
-abbrev pub unwraps_in : KeyManagementMode → ℕ
-unwraps_in mode.Direct = 0
-unwraps_in mode.KeyWrap = 1
-unwraps_in mode.Password = 1
-unwraps_in mode.GcmKeyWrap = 1
-
-abbrev pub unwraps_of : KeyManagementAlg → ℕ
-unwraps_of alg = unwraps_in (mode_of alg)
-
--- with one pair more, which opens or tries the content if it delivers a content encryption key
-abbrev pub with_pair : WorkCounts → Pair → WorkCounts
-with_pair w pair = record {
-  iterations = w.iterations + iterations_of pair;
-  unwraps = w.unwraps + unwraps_of pair.algorithms.management;
-  openings = w.openings + (if is_some (cek_of pair) then 1 else 0);
-}
-
--- with the pairs up to and including the first that opens
-abbrev pub with_pairs : SealedContent → WorkCounts → List Pair → WorkCounts
-with_pairs s w [] = w
-with_pairs s w (pair ∷ pairs) = if is_some (opened_by s pair) then with_pair w pair else with_pairs s (with_pair w pair) pairs
-
--- The work that is reported with a result: that of all pairs that were tried, or none if the pairs are refused or memory ran out.
-abbrev pub work_told : {X : Type 0} → EncryptedObject → Result (List Pair) Refusal → Result X Refusal → WorkCounts
-work_told o (Err r) result = no_work
-work_told o (Ok pairs) (Err Memory) = no_work
-work_told o (Ok pairs) result = with_pairs (sealed_content o) no_work pairs
-
--- the work is within the limits of an object and a set
-pub record IsBounded (w : WorkCounts) : Type 0 where
-  pub iterations : w.iterations ≤ limits.p2c_sum
-  pub unwraps : w.unwraps ≤ limits.keys * limits.recipients
-  pub openings : w.openings ≤ limits.keys * limits.recipients

@@ -1,6 +1,6 @@
 -- The delivery of a content encryption key to recipients (RFC 7516 section 5.1, steps 4 to 6).
 use Rattle.std.specs.Prelude.{ℕ, ◌+◌, List, [], ◌∷◌, take, drop}
-use Rattle.ciphers.specs.Delivery.{Parameters, encrypted_key_of, key_tag_of}
+use Rattle.ciphers.specs.Delivery.{key_iv_len, Parameters, encrypted_key_of, key_tag_of}
 use Rattle.keys.specs.declared.algorithm.KeyManagementAlg.{KeyManagementAlg}
 use Rattle.keys.specs.declared.algorithm.KeyManagementMode.{KeyManagementMode}
 use Rattle.keys.specs.declared.algorithm.KeyManagementMode.TheVariants as mode
@@ -14,10 +14,6 @@ use Rattle.tokens.specs.Choosing.{RecipientKey, EncryptionPlan}
 -- the length of a salt input in octets (RFC 7518 section 4.8.1.1)
 abbrev pub salt_len : ℕ
 salt_len = 16
-
--- the length of the initialization vector of AES-GCM key wrap in octets (RFC 7518 section 4.7.1.1)
-abbrev pub key_iv_len : ℕ
-key_iv_len = 12
 
 -- how many octets are drawn for an algorithm: those of a salt input for PBES2, or of an initialization vector for AES-GCM key wrap
 abbrev pub drawn_in : KeyManagementMode → ℕ

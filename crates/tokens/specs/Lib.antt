@@ -1,17 +1,27 @@
+-- The definitions, in reading order (docs/AUDIT.md).
+-- the signing input and its signature
 pub mod Signatures
+-- templates of headers
 pub mod Template
+-- signing
 pub mod Signing
-pub mod SigningInputs
+-- verifying
 pub mod Verifying
-pub mod VerifyingInputs
+-- the names of the algorithms of ciphers
 pub mod Algorithms
-pub mod Rows
-pub mod Decrypting
+-- templates of encryption
 pub mod EncryptionTemplate
+-- the algorithms that a template and keys give
 pub mod Choosing
+-- the deliveries to recipients
 pub mod Delivering
+-- encrypting
 pub mod Encrypting
-pub mod SealedTexts
-pub mod Framing
-pub mod Views
+-- decrypting
+pub mod Decrypting
+-- the limits and algorithms of earlier versions
 pub mod MoreAlgorithms
+-- that the rows of keys and ciphers agree
+pub mod Rows
+-- values and calls of the code; no answer rests on these pages
+pub mod Code

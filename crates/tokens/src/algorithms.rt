@@ -1,11 +1,12 @@
 //! The algorithms of encrypted objects and the parameters of key management, for the ciphers.
 ghost use Rattle.std.specs.Prelude.{◌≡◌, ◌≤◌, option_map};
-ghost use Rattle.ciphers.specs.Views.{parameters_view};
+ghost use Rattle.ciphers.specs.Code.Views.{parameters_view};
 ghost use Rattle.keys.specs.Limits.{limits};
-ghost use Rattle.objects.specs.KeyManagementView.{management_view};
+ghost use Rattle.objects.specs.Code.KeyManagementView.{management_view};
 ghost use Rattle.tokens.specs.Algorithms.{content_alg, key_alg, parameters_by};
-ghost use Rattle.tokens.specs.Decrypting.{algorithms_by, unwraps_of, iterations_by};
-ghost use Rattle.tokens.specs.Views.{algorithms_view};
+ghost use Rattle.tokens.specs.Decrypting.{algorithms_by, iterations_by};
+ghost use Rattle.tokens.specs.Code.Work.{unwraps_of};
+ghost use Rattle.tokens.specs.Code.Views.{algorithms_view};
 
 use ciphers::{ContentAlg, KeyAlg, KeyParameters};
 use keys::{ContentEncryptionAlg, KeyManagementAlg, KeyManagementMode};

@@ -3,11 +3,13 @@ ghost use Rattle.std.specs.Prelude.{◌≡◌, ◌≢◌, ◌+◌, ◌≤◌, �
 ghost use Rattle.std.specs.Result.{result_unwrap_or};
 ghost use Rattle.octets.specs.Devices.{appended, AppendsPrefixOf, IsFinishedOnce};
 ghost use Rattle.octets.specs.Faults.{TellsFaults, counts};
-ghost use Rattle.octets.specs.Outcomes.{AgreesUnlessMemory, AgreesUnlessExternal};
+ghost use Rattle.octets.specs.Outcomes.{AgreesUnlessExternal};
+ghost use Rattle.octets.specs.Code.Results.{AgreesUnlessMemory};
 ghost use Rattle.keys.specs.Limits.{limits};
-ghost use Rattle.objects.specs.Views.{jwe_view};
-ghost use Rattle.tokens.specs.Decrypting.{decrypted, pairs_to_try, are_within, iterations_of, additional_authenticated_data, first_opened, opened_by, cek_of, no_work, with_pair, with_pairs, work_told, IsBounded};
-ghost use Rattle.tokens.specs.Views.{pair_view, sealed_with_view, work_view};
+ghost use Rattle.objects.specs.Code.Views.{jwe_view};
+ghost use Rattle.tokens.specs.Decrypting.{decrypted, pairs_to_try, are_within, iterations_of, additional_authenticated_data, first_opened, opened_by, cek_of};
+ghost use Rattle.tokens.specs.Code.Work.{no_work, with_pair, with_pairs, work_told, IsBounded};
+ghost use Rattle.tokens.specs.Code.Views.{pair_view, sealed_with_view, work_view};
 
 mod pair;
 mod pairs;

@@ -8,8 +8,8 @@ ghost use Rattle.octets.specs.Outcomes.{AgreesUnlessExternal};
 ghost use Rattle.octets.specs.Plan.{OutputTexts, Plan, beginning_of};
 ghost use Rattle.octets.specs.Pumps.{KeepsUp};
 ghost use Rattle.octets.specs.declared.refusal.Refusal.{Refusal};
-ghost use Rattle.objects.specs.Frames.{filled};
-ghost use Rattle.tokens.specs.Framing.{FillsFrame};
+ghost use Rattle.objects.specs.Code.Frames.{filled};
+ghost use Rattle.tokens.specs.Code.Framing.{FillsFrame};
 
 use octets::{Input, Output, Refusal, Transform, pump};
 

@@ -3,7 +3,7 @@ ghost use Rattle.std.specs.Prelude.{◌≡◌, false, IfOk, string_bytes};
 ghost use Rattle.serde_json.specs.View.{members_view};
 ghost use Rattle.serde_json.specs.Written.{members_have_float};
 ghost use Rattle.keys.specs.Limits.{limits};
-ghost use Rattle.objects.specs.Views.{part_view};
+ghost use Rattle.objects.specs.Code.Views.{part_view};
 ghost use Rattle.tokens.specs.Template.{header_text, is_shallow, is_empty};
 ghost use Rattle.tokens.specs.Choosing.{with_name};
 

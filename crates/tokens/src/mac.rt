@@ -1,7 +1,7 @@
 //! The HMAC of a message, which is a signature (RFC 7518 section 3.2).
 ghost use Rattle.std.specs.Prelude.{◌≡◌, ℕ, List};
 ghost use Rattle.prf.specs.Hmac.{hmac};
-ghost use Rattle.prf.specs.Views.{HoldsHmac};
+ghost use Rattle.prf.specs.Code.Views.{HoldsHmac};
 
 use prf::{Hash, Hmac};
 use std::marker::Model;

@@ -4,12 +4,12 @@ ghost use Rattle.std.specs.Iterator.{IsFinite};
 ghost use Rattle.octets.specs.Base64url.{base64url};
 ghost use Rattle.octets.specs.Devices.{appended};
 ghost use Rattle.octets.specs.Faults.{TellsFaults, counts};
-ghost use Rattle.objects.specs.Views.{held_view};
+ghost use Rattle.objects.specs.Code.Views.{held_view};
 ghost use Rattle.prf.specs.HashFunction.{HashFunction};
 ghost use Rattle.prf.specs.Hmac.{hmac};
-ghost use Rattle.prf.specs.Views.{HoldsHmac};
+ghost use Rattle.prf.specs.Code.Views.{HoldsHmac};
 ghost use Rattle.tokens.specs.Signatures.{signature_hash, signing_input};
-ghost use Rattle.tokens.specs.SigningInputs.{InputStart, HoldEach};
+ghost use Rattle.tokens.specs.Code.SigningInputs.{InputStart, HoldEach};
 
 use crate::mac::Mac;
 use keys::SignatureAlg;
@@ -54,7 +54,7 @@ impl HmacInput {
 }
 
 impl SigningInput for HmacInput {
-    ghost use Rattle.tokens.specs.SigningInputs.{on_hmac_input};
+    ghost use Rattle.tokens.specs.Code.SigningInputs.{on_hmac_input};
 
     ghost has_taken = { λ x f key text. on_hmac_input x
         (λ mac. (f ≡ ⟦<Sha256 as Hash>⟧.function) × HoldsHmac ⟦<Sha256 as Hash>⟧.function ⟦<Sha256 as Hash>⟧.holds mac key text)

@@ -4,11 +4,12 @@ ghost use Rattle.std.specs.List.{list_any};
 ghost use Rattle.std.specs.Result.{result_unwrap_or};
 ghost use Rattle.octets.specs.Devices.{AppendsPrefixOf, IsFinishedOnce};
 ghost use Rattle.octets.specs.Faults.{TellsFaults};
-ghost use Rattle.octets.specs.Lent.{lent, wrote_on, IfLent, counts_of};
-ghost use Rattle.octets.specs.Outcomes.{Agrees, AgreesUnlessExternal};
+ghost use Rattle.octets.specs.Code.Lent.{lent, wrote_on, IfLent, counts_of};
+ghost use Rattle.octets.specs.Outcomes.{AgreesUnlessExternal};
+ghost use Rattle.octets.specs.Code.Results.{Agrees};
 ghost use Rattle.keys.specs.Algorithms.{signature_alg_of};
-ghost use Rattle.keys.specs.Views.{key_view};
-ghost use Rattle.objects.specs.Views.{held_view, jws_view, signature_view};
+ghost use Rattle.keys.specs.Code.Views.{key_view};
+ghost use Rattle.objects.specs.Code.Views.{held_view, jws_view, signature_view};
 ghost use Rattle.tokens.specs.Verifying.{verifying_by, verified_payload, are_verified as are_verified_by, may_verify as may_verify_pair, verifies as verifies_pair, candidate_alg, is_candidate as is_candidate_key, is_signed as is_signed_by};
 
 mod detached;

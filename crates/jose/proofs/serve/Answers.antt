@@ -2,7 +2,8 @@ use Rattle.std.proofs.Common.{◌≡◌, ◌⊎◌, false, refl, List, map, Resu
 use Rattle.clap.specs.Words.{Text}
 use Rattle.octets.specs.declared.refusal.Refusal.{Refusal}
 use Rattle.octets.specs.declared.refusal.Refusal.TheVariants.{Memory}
-use Rattle.octets.specs.Outcomes.{is_memory, is_external}
+use Rattle.octets.specs.Outcomes.{is_external}
+use Rattle.octets.specs.Code.Results.{is_memory}
 use Rattle.jose.specs.Words.{invocation_of}
 use Rattle.jose.specs.Runs.{Serves}
 use Rattle.jose.proofs.serve.Goals as goal

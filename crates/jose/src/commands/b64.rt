@@ -8,7 +8,7 @@ ghost use Rattle.octets.specs.Outcomes.{AgreesUnlessExternal};
 ghost use Rattle.octets.specs.Plan.{beginning_of};
 ghost use Rattle.octets.specs.Pumps.{KeepsUp};
 ghost use Rattle.jose.specs.declared.words.table.Command.{Command};
-ghost use Rattle.jose.specs.Doing.{Does, input_members, output_members};
+ghost use Rattle.jose.specs.Code.Doing.{Does, input_members, output_members};
 ghost use Rattle.jose.specs.Invocations.{invocation_view};
 ghost use Rattle.jose.specs.Ports.{AreFinite};
 

@@ -1,13 +1,13 @@
 //! The commands `jwe enc`, `jwe dec` and `jwe fmt`, from devices to devices.
 ghost use Rattle.std.specs.Prelude.{◌≡◌, true, false, option_map, string_bytes};
-ghost use Rattle.octets.specs.Outcomes.{AgreesUnlessMemory};
+ghost use Rattle.octets.specs.Code.Results.{AgreesUnlessMemory};
 ghost use Rattle.keys.specs.Limits.{limits};
-ghost use Rattle.objects.specs.Views.{jwe_view};
+ghost use Rattle.objects.specs.Code.Views.{jwe_view};
 ghost use Rattle.jose.specs.declared.words.table.Command.{Command};
-ghost use Rattle.jose.specs.Doing.{Does, WritesWhole, input_members, output_members};
+ghost use Rattle.jose.specs.Code.Doing.{Does, WritesWhole, input_members, output_members, object_texts};
 ghost use Rattle.jose.specs.Invocations.{invocation_view};
 ghost use Rattle.jose.specs.Jwe.{dec_answer, jwe_fmt_answer};
-ghost use Rattle.jose.specs.Ports.{AreFinite, object_texts, on_content};
+ghost use Rattle.jose.specs.Ports.{AreFinite, on_content};
 
 use crate::commands::{WholeInputs, read_inputs, write_object};
 use crate::ports::{Inputs, Outputs};

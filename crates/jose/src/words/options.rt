@@ -2,8 +2,8 @@
 //! know what they name.
 ghost use Rattle.std.specs.Prelude.{◌≡◌, ◌++◌, [], map, string_bytes, option_map, true, false, IfOk, OnOk};
 ghost use Rattle.clap.specs.Words.{app_of, rule_of, found_of, rows_of, kind_of, is_simple_and_free};
-ghost use Rattle.octets.specs.Outcomes.{AgreesUnlessMemory};
-ghost use Rattle.jose.specs.Rows.{option_entry, takes_of};
+ghost use Rattle.octets.specs.Code.Results.{AgreesUnlessMemory};
+ghost use Rattle.jose.specs.Code.Rows.{option_entry, takes_of};
 ghost use Rattle.jose.specs.Reading.{rule_for, with_takes, app_for, value_given, setting_before, settings_of, settings_read, IsRefusalFor};
 ghost use Rattle.jose.specs.Invocations.{settings_view};
 

@@ -1,6 +1,6 @@
 //! The parts of a joint header: reading them, and their members (RFC 7515 section 4, RFC 7516 section 4).
 ghost use Rattle.std.specs.Prelude.{◌≡◌, true, false, IfOk, IfErr, Some, option_map};
-ghost use Rattle.octets.specs.Outcomes.{Agrees, AgreesUnlessMemory};
+ghost use Rattle.octets.specs.Code.Results.{Agrees, AgreesUnlessMemory};
 ghost use Rattle.serde_json.specs.Data.{no_members};
 ghost use Rattle.serde_json.specs.Find.{get_member};
 ghost use Rattle.serde_json.specs.View.{view, members_view};
@@ -8,7 +8,7 @@ ghost use Rattle.serde_json.specs.Written.{has_float, members_have_float};
 ghost use Rattle.keys.specs.Json.{member_numbers_are_whole};
 ghost use Rattle.objects.specs.Headers.{header_at, members_of_json, protected_members, has_no_crit};
 ghost use Rattle.objects.specs.Texts.{has_members};
-ghost use Rattle.objects.specs.Views.{part_view};
+ghost use Rattle.objects.specs.Code.Views.{part_view};
 
 use crate::header::Header;
 use crate::header::members::HeaderMembers;

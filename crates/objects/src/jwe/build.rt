@@ -2,11 +2,11 @@
 ghost use Rattle.std.specs.Prelude.{◌≡◌, true, map, nat_le, suc, IfOk, IfErr};
 ghost use Rattle.std.specs.List.{list_all};
 ghost use Rattle.serde_json.specs.Data.{members_depth};
-ghost use Rattle.octets.specs.Outcomes.{AgreesUnlessMemory};
+ghost use Rattle.octets.specs.Code.Results.{AgreesUnlessMemory};
 ghost use Rattle.keys.specs.Json.{member_numbers_are_whole};
 ghost use Rattle.keys.specs.Limits.{limits};
 ghost use Rattle.objects.specs.Jwe.{AreMembers, IsMade, built, headers_are_shallow as headers_are_shallow_of, have_whole_numbers as have_whole_numbers_parts};
-ghost use Rattle.objects.specs.Views.{jwe_view, jwe_members_view, jwe_parts_view, recipient_members_view, recipient_parts_view};
+ghost use Rattle.objects.specs.Code.Views.{jwe_view, jwe_members_view, jwe_parts_view, recipient_members_view, recipient_parts_view};
 
 use crate::header::depth::{HEADER_DEPTH, depth_of_each};
 use crate::header::parts::with_whole_numbers;

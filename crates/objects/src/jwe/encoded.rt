@@ -4,8 +4,8 @@ ghost use Rattle.std.specs.Prelude.{◌≡◌, false, length, map, option_map, I
 ghost use Rattle.serde_json.specs.View.{view, items_view};
 ghost use Rattle.serde_json.specs.Written.{has_float, items_have_float};
 ghost use Rattle.octets.specs.Base64url.{base64url};
-ghost use Rattle.octets.specs.Outcomes.{Agrees, AgreesUnlessMemory};
-ghost use Rattle.objects.specs.Views.{encoded_shared_view, encoded_recipient_view, encoded_content_view, encoded_jwe_view, jwe_members_view, recipient_members_view};
+ghost use Rattle.octets.specs.Code.Results.{Agrees, AgreesUnlessMemory};
+ghost use Rattle.objects.specs.Code.Views.{encoded_shared_view, encoded_recipient_view, encoded_content_view, encoded_jwe_view, jwe_members_view, recipient_members_view};
 ghost use Rattle.objects.specs.Jwe.{encoded_shared, encoded_recipient, encoded_content, no_recipient_at, recipient_objects, encoded_in_json, encoded_in_compact, decoded_recipient, decoded_members};
 ghost use Rattle.objects.specs.Texts.{each, each_item};
 

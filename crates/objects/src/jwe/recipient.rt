@@ -1,13 +1,12 @@
 //! The recipients of an encrypted object (RFC 7516), by their headers.
 ghost use Rattle.std.specs.Prelude.{◌≡◌, true, length, map, IfOk};
 ghost use Rattle.serde_json.specs.View.{members_view};
-ghost use Rattle.octets.specs.Outcomes.{AgreesUnlessMemory};
+ghost use Rattle.octets.specs.Code.Results.{AgreesUnlessMemory};
 ghost use Rattle.keys.specs.Algorithms.{management_alg_of};
 ghost use Rattle.keys.specs.Limits.{limits};
 ghost use Rattle.objects.specs.Jwe.{recipient_of, has_no_crit_or_zip, recipients_of, recipients_of_one_enc, have_one_enc as have_one_enc_of};
-ghost use Rattle.objects.specs.KeyManagement.{is_management_of};
-ghost use Rattle.objects.specs.KeyManagementView.{management_view};
-ghost use Rattle.objects.specs.Views.{recipient_view, recipient_members_view};
+ghost use Rattle.objects.specs.Code.KeyManagementView.{management_view, is_management_of};
+ghost use Rattle.objects.specs.Code.Views.{recipient_view, recipient_members_view};
 ghost use Rattle.std.specs.List.{list_all};
 ghost use Rattle.std.specs.Str.{bytes_eq};
 

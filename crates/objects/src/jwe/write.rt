@@ -1,12 +1,12 @@
 //! The texts of an encrypted object (RFC 7516 section 7). An object is refused only if a form cannot hold it.
 ghost use Rattle.std.specs.Prelude.{◌≡◌, ◌≢◌, map, option_map, Err, Ok, IfOk, IfErr, OnOk, OnErr, string_bytes};
-ghost use Rattle.octets.specs.Outcomes.{AgreesUnlessMemory};
+ghost use Rattle.octets.specs.Code.Results.{AgreesUnlessMemory};
 ghost use Rattle.keys.specs.Limits.{limits};
-ghost use Rattle.objects.specs.Frames.{IsJweFrame, jwe_frame};
+ghost use Rattle.objects.specs.Code.Frames.{IsJweFrame, jwe_frame};
 ghost use Rattle.objects.specs.Jwe.{IsMade, jwe_of, recipient_parts_of, parts_of, json_text, jwe_compact_text, jwe_text, is_compact as is_compact_object, key_of_first};
 ghost use Rattle.objects.specs.Texts.{handed_in};
-ghost use Rattle.objects.specs.Views.{held_view, jwe_view, recipient_view, written_view};
-ghost use Rattle.objects.specs.JweWriting.{with_compact, with_members, with_flattened, with_general, with_tag, jwe_written};
+ghost use Rattle.objects.specs.Code.Views.{held_view, jwe_view, recipient_view, written_view};
+ghost use Rattle.objects.specs.Code.JweWriting.{with_compact, with_members, with_flattened, with_general, with_tag, jwe_written};
 
 use crate::content::payload::HeldContent;
 use crate::header::parts::has_members;
@@ -153,8 +153,8 @@ fn write_general(
 
 impl Listed for Recipient {
     ghost use Rattle.objects.specs.Jwe.{RecipientParts, recipient_parts_of};
-    ghost use Rattle.objects.specs.JweWriting.{with_recipient};
-    ghost use Rattle.objects.specs.Views.{recipient_view};
+    ghost use Rattle.objects.specs.Code.JweWriting.{with_recipient};
+    ghost use Rattle.objects.specs.Code.Views.{recipient_view};
 
     ghost Seen = { RecipientParts };
 

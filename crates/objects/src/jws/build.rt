@@ -1,12 +1,12 @@
 //! Signed objects that are made of their members.
 ghost use Rattle.std.specs.Prelude.{◌≡◌, true, false, length, map, IfOk};
 ghost use Rattle.std.specs.List.{list_all};
-ghost use Rattle.octets.specs.Outcomes.{AgreesUnlessMemory};
+ghost use Rattle.octets.specs.Code.Results.{AgreesUnlessMemory};
 ghost use Rattle.keys.specs.Json.{member_numbers_are_whole};
 ghost use Rattle.keys.specs.Limits.{limits};
 ghost use Rattle.objects.specs.Jws.{AreMembers, IsMade, built, decoded_part, nest_at_most as nest_at_most_parts, have_whole_numbers as have_whole_numbers_parts};
 ghost use Rattle.objects.specs.Texts.{each};
-ghost use Rattle.objects.specs.Views.{jws_view, holds_text, jws_parts_view, signature_parts_view, decoded_signature_view};
+ghost use Rattle.objects.specs.Code.Views.{jws_view, holds_text, jws_parts_view, signature_parts_view, decoded_signature_view};
 
 use crate::content::payload::Payload;
 use crate::header::depth::depth_of_each;

@@ -3,10 +3,10 @@
 ghost use Rattle.std.specs.Prelude.{◌≡◌, false, is_none, length, map, option_map, IfOk};
 ghost use Rattle.serde_json.specs.View.{view, items_view};
 ghost use Rattle.serde_json.specs.Written.{has_float, items_have_float};
-ghost use Rattle.octets.specs.Outcomes.{Agrees, AgreesUnlessMemory};
+ghost use Rattle.octets.specs.Code.Results.{Agrees, AgreesUnlessMemory};
 ghost use Rattle.objects.specs.Jws.{encoded_signature, no_signature_at, signature_objects, encoded_in_json, encoded_in_compact, decoded_signature, decoded_part};
 ghost use Rattle.objects.specs.Texts.{each, each_item};
-ghost use Rattle.objects.specs.Views.{content_is_text, encoded_jws_view, encoded_signature_view, decoded_signature_view};
+ghost use Rattle.objects.specs.Code.Views.{content_is_text, encoded_jws_view, encoded_signature_view, decoded_signature_view};
 
 use crate::compact::three_parts_of;
 use crate::content::Content;

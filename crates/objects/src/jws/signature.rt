@@ -3,13 +3,13 @@ ghost use Rattle.std.specs.Prelude.{◌≡◌, length, map, IfOk};
 ghost use Rattle.std.specs.List.{list_all};
 ghost use Rattle.serde_json.specs.Data.{no_members};
 ghost use Rattle.serde_json.specs.View.{members_view};
-ghost use Rattle.octets.specs.Outcomes.{AgreesUnlessMemory};
+ghost use Rattle.octets.specs.Code.Results.{AgreesUnlessMemory};
 ghost use Rattle.keys.specs.Algorithms.{signature_alg_of};
 ghost use Rattle.keys.specs.Limits.{limits};
 ghost use Rattle.objects.specs.Headers.{all_members};
 ghost use Rattle.objects.specs.Jws.{signatures_of, headed_signature, signature_by, headers_have_no_crit};
 ghost use Rattle.objects.specs.Texts.{each};
-ghost use Rattle.objects.specs.Views.{header_view, signature_view, decoded_signature_view, headed_signature_view};
+ghost use Rattle.objects.specs.Code.Views.{header_view, signature_view, decoded_signature_view, headed_signature_view};
 
 use crate::header::members::HeaderMembers;
 use crate::header::parts::has_no_crit;

@@ -1,12 +1,12 @@
 //! The texts of a signed object (RFC 7515 section 7). An object is refused only if a form cannot hold it.
 ghost use Rattle.std.specs.Prelude.{◌≡◌, ◌≢◌, map, option_map, Err, Ok, IfOk, IfErr, OnOk, OnErr, string_bytes};
-ghost use Rattle.octets.specs.Outcomes.{AgreesUnlessMemory};
+ghost use Rattle.octets.specs.Code.Results.{AgreesUnlessMemory};
 ghost use Rattle.keys.specs.Limits.{limits};
-ghost use Rattle.objects.specs.Frames.{IsJwsFrame, jws_frame};
+ghost use Rattle.objects.specs.Code.Frames.{IsJwsFrame, jws_frame};
 ghost use Rattle.objects.specs.Jws.{IsMade, jws_of, signature_parts_of, json_text, jws_compact_text, jws_text, is_compact as is_compact_object};
 ghost use Rattle.objects.specs.Texts.{handed_in};
-ghost use Rattle.objects.specs.Views.{held_view, jws_view, signature_view, written_view};
-ghost use Rattle.objects.specs.JwsWriting.{with_compact, with_signatures, with_signature, with_general, jws_written};
+ghost use Rattle.objects.specs.Code.Views.{held_view, jws_view, signature_view, written_view};
+ghost use Rattle.objects.specs.Code.JwsWriting.{with_compact, with_signatures, with_signature, with_general, jws_written};
 
 use crate::content::payload::HeldContent;
 use crate::header::parts::has_members;
@@ -156,8 +156,8 @@ fn write_general(
 impl Listed for Signature {
     ghost use Rattle.std.specs.Prelude.{None};
     ghost use Rattle.objects.specs.Jws.{SignatureParts, signature_parts_of};
-    ghost use Rattle.objects.specs.JwsWriting.{with_signature};
-    ghost use Rattle.objects.specs.Views.{signature_view};
+    ghost use Rattle.objects.specs.Code.JwsWriting.{with_signature};
+    ghost use Rattle.objects.specs.Code.Views.{signature_view};
 
     ghost Seen = { SignatureParts };
 

@@ -1,8 +1,7 @@
 //! Key management with the name of its algorithm.
 ghost use Rattle.std.specs.Prelude.{◌≡◌, true, string_bytes};
 ghost use Rattle.keys.specs.Algorithms.{management_alg_of};
-ghost use Rattle.objects.specs.KeyManagement.{is_management_of};
-ghost use Rattle.objects.specs.KeyManagementView.{management_view};
+ghost use Rattle.objects.specs.Code.KeyManagementView.{management_view, is_management_of};
 
 use crate::KeyManagement;
 

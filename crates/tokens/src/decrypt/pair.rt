@@ -2,9 +2,9 @@
 ghost use Rattle.std.specs.Prelude.{◌≡◌, Some, true};
 ghost use Rattle.keys.specs.declared.algorithm.Algorithm.TheVariants.{Encryption};
 ghost use Rattle.keys.specs.Keys.{fits};
-ghost use Rattle.keys.specs.Views.{key_view};
-ghost use Rattle.objects.specs.KeyManagement.{is_management_of};
-ghost use Rattle.objects.specs.Views.{recipient_view};
+ghost use Rattle.keys.specs.Code.Views.{key_view};
+ghost use Rattle.objects.specs.Code.KeyManagementView.{is_management_of};
+ghost use Rattle.objects.specs.Code.Views.{recipient_view};
 
 use crate::algorithms::Algorithms;
 use keys::Key;

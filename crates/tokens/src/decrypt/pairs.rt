@@ -1,16 +1,15 @@
 //! The pairs of a recipient and a key that are tried (RFC 7516 section 5.2).
 ghost use Rattle.std.specs.Prelude.{◌≡◌, ◌≤◌, ◌*◌, [], ◌∷◌, ◌++◌, true, length, map, is_some, option_map, Some, Err, IfSome, IfOk, IfErr, OnOk, OnErr};
 ghost use Rattle.std.specs.List.{list_any};
-ghost use Rattle.octets.specs.Outcomes.{AgreesUnlessMemory};
-ghost use Rattle.keys.specs.Views.{key_view};
-ghost use Rattle.objects.specs.Views.{recipient_view};
+ghost use Rattle.octets.specs.Code.Results.{AgreesUnlessMemory};
+ghost use Rattle.keys.specs.Code.Views.{key_view};
+ghost use Rattle.objects.specs.Code.Views.{recipient_view};
 ghost use Rattle.keys.specs.declared.algorithm.Algorithm.TheVariants.{Encryption};
 ghost use Rattle.keys.specs.Keys.{fits};
 ghost use Rattle.keys.specs.Limits.{limits};
-ghost use Rattle.objects.specs.KeyManagement.{is_management_of};
-ghost use Rattle.objects.specs.KeyManagementView.{management_view};
+ghost use Rattle.objects.specs.Code.KeyManagementView.{management_view, is_management_of};
 ghost use Rattle.tokens.specs.Decrypting.{pairs_to_try, all_pairs, pairs_of, pairs_with, algorithms_of, is_candidate, are_within, iterations_by, iterations_of};
-ghost use Rattle.tokens.specs.Views.{algorithms_view, pair_view};
+ghost use Rattle.tokens.specs.Code.Views.{algorithms_view, pair_view};
 
 use crate::algorithms::Algorithms;
 use crate::decrypt::pair::Pair;

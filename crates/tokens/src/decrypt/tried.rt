@@ -1,8 +1,8 @@
 //! Pairs of a recipient and a key that open the same as an earlier one.
 ghost use Rattle.std.specs.Prelude.{◌≡◌, None, map, IsTrue};
-ghost use Rattle.objects.specs.KeyManagementView.{management_view};
+ghost use Rattle.objects.specs.Code.KeyManagementView.{management_view};
 ghost use Rattle.tokens.specs.Decrypting.{SealedContent, opened_by, first_opened};
-ghost use Rattle.tokens.specs.Views.{pair_view};
+ghost use Rattle.tokens.specs.Code.Views.{pair_view};
 
 use crate::decrypt::pair::Pair;
 use objects::KeyManagement;

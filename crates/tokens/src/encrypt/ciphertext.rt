@@ -1,7 +1,7 @@
 //! A content that is sealed as it is read (RFC 7516 section 5.1, steps 15 and 16).
 ghost use Rattle.std.specs.Prelude.{◌≡◌, ◌≤◌, ◌++◌, ◌∷◌, ℕ, length, take, List, []};
 ghost use Rattle.ciphers.specs.Sealing.{Sealing};
-ghost use Rattle.tokens.specs.SealedTexts.{sealed_plan, IsFed, IsSealingText};
+ghost use Rattle.tokens.specs.Code.SealedTexts.{sealed_plan, IsFed, IsSealingText};
 
 use crate::framed::Values;
 use ciphers::Sealer;
@@ -74,8 +74,8 @@ impl<S: Sealer> Transform for EncodedCiphertext<S> {
     type Rest = Tag;
 
     ghost use Rattle.octets.specs.Encoding.{encoding};
-    ghost use Rattle.octets.specs.Pumps.{encoding_starts};
-    ghost use Rattle.tokens.specs.SealedTexts.{nothing_starts};
+    ghost use Rattle.octets.specs.Code.Streams.{encoding_starts};
+    ghost use Rattle.tokens.specs.Code.SealedTexts.{nothing_starts};
 
     ghost Job = { Sealing };
 
@@ -128,8 +128,8 @@ impl<S: Sealer> Ciphertext<S> {
 impl<S: Sealer> Transform for Ciphertext<S> {
     type Rest = Tag;
 
-    ghost use Rattle.octets.specs.Plan.{as_it_is};
-    ghost use Rattle.tokens.specs.SealedTexts.{nothing_starts};
+    ghost use Rattle.octets.specs.Code.Streams.{as_it_is};
+    ghost use Rattle.tokens.specs.Code.SealedTexts.{nothing_starts};
 
     ghost Job = { Sealing };
 
@@ -166,7 +166,7 @@ impl<S: Sealer> Transform for Ciphertext<S> {
 /// The tag, between two texts.
 impl Values for Tag {
     ghost use Rattle.octets.specs.Base64url.{base64url};
-    ghost use Rattle.tokens.specs.SealedTexts.{one_value};
+    ghost use Rattle.tokens.specs.Code.SealedTexts.{one_value};
 
     ghost gives = { λ tag values. values ≡ base64url tag ∷ [] };
 

@@ -6,11 +6,11 @@ ghost use Rattle.keys.specs.declared.algorithm.Algorithm.TheVariants.{Encryption
 ghost use Rattle.keys.specs.Algorithms.{is_password_based};
 ghost use Rattle.keys.specs.Keys.{fits};
 ghost use Rattle.keys.specs.Limits.{limits};
-ghost use Rattle.keys.specs.Views.{key_view};
-ghost use Rattle.objects.specs.KeyManagementView.{management_view};
+ghost use Rattle.keys.specs.Code.Views.{key_view};
+ghost use Rattle.objects.specs.Code.KeyManagementView.{management_view};
 ghost use Rattle.tokens.specs.Algorithms.{content_alg as content_alg_of};
 ghost use Rattle.tokens.specs.Delivering.{drawn_by, drawn_for, drawn_for_all, management_with, delivery_to, deliveries_to};
-ghost use Rattle.tokens.specs.Views.{recipient_key_view, encryption_plan_view, delivery_view};
+ghost use Rattle.tokens.specs.Code.Views.{recipient_key_view, encryption_plan_view, delivery_view};
 
 use crate::algorithms::{NO_PARAMETERS, key_alg};
 use crate::encrypt::plan::EncryptionPlan;

@@ -7,7 +7,7 @@ ghost use Rattle.keys.specs.declared.algorithm.Algorithm.TheVariants.{Encryption
 ghost use Rattle.keys.specs.Algorithms.{is_password_based};
 ghost use Rattle.keys.specs.Keys.{fits};
 ghost use Rattle.keys.specs.Limits.{limits};
-ghost use Rattle.keys.specs.Views.{key_view};
+ghost use Rattle.keys.specs.Code.Views.{key_view};
 ghost use Rattle.tokens.specs.Choosing.{is_direct};
 
 use crate::encrypt::recipient_key::RecipientKey;

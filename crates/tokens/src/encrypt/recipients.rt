@@ -5,11 +5,11 @@ ghost use Rattle.serde_json.specs.Data.{string, put};
 ghost use Rattle.serde_json.specs.View.{members_view};
 ghost use Rattle.serde_json.specs.Written.{members_have_float};
 ghost use Rattle.octets.specs.Base64url.{base64url};
-ghost use Rattle.objects.specs.KeyManagementView.{management_view};
-ghost use Rattle.objects.specs.Views.{recipient_parts_view};
+ghost use Rattle.objects.specs.Code.KeyManagementView.{management_view};
+ghost use Rattle.objects.specs.Code.Views.{recipient_parts_view};
 ghost use Rattle.tokens.specs.Choosing.{with_p2c};
 ghost use Rattle.tokens.specs.Encrypting.{with_management, with_parameters, protected_header, per_recipient_header, recipient_parts_by};
-ghost use Rattle.tokens.specs.Views.{given_view, delivery_view};
+ghost use Rattle.tokens.specs.Code.Views.{given_view, delivery_view};
 
 use crate::encrypt::deliver::Delivery;
 use crate::encrypt::plan::Given;

@@ -2,13 +2,13 @@
 ghost use Rattle.std.specs.Prelude.{◌≡◌, ◌≤◌, ◌==◌, ◌*◌, Some, true, false, is_some, length, map, option_map, IfOk, IfErr};
 ghost use Rattle.std.specs.List.{list_all, list_any};
 ghost use Rattle.serde_json.specs.Written.{members_have_float};
-ghost use Rattle.octets.specs.Outcomes.{Agrees, AgreesUnlessMemory};
+ghost use Rattle.octets.specs.Code.Results.{Agrees, AgreesUnlessMemory};
 ghost use Rattle.keys.specs.Limits.{limits};
-ghost use Rattle.keys.specs.Views.{key_view};
+ghost use Rattle.keys.specs.Code.Views.{key_view};
 ghost use Rattle.objects.specs.Texts.{each};
-ghost use Rattle.objects.specs.Views.{part_view};
+ghost use Rattle.objects.specs.Code.Views.{part_view};
 ghost use Rattle.tokens.specs.Choosing.{read_encryption, settle_encryption as settle_encryption_with_keys, recipient_key_by as recipient_key_by_key, direct_key_is_alone, is_direct, encryption_for, chosen_management, management_of_key, management_by_name, management_by_length, chosen_encryption, encryption_by_management, encryption_by_wrap, encryption_by_name, encryption_by_length, may_encrypt, compact_has_room, password_count, chosen_p2c, p2c_may_be_written, is_given, with_name};
-ghost use Rattle.tokens.specs.Views.{recipient_key_view, encryption_plan_view, encryption_template_view};
+ghost use Rattle.tokens.specs.Code.Views.{recipient_key_view, encryption_plan_view, encryption_template_view};
 
 use crate::encrypt::plan::{EncryptionPlan, Given};
 use crate::encrypt::recipient_key::RecipientKey;

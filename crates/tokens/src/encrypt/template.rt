@@ -2,10 +2,10 @@
 ghost use Rattle.std.specs.Prelude.{◌≡◌, false, option_map, IfOk, IfErr};
 ghost use Rattle.serde_json.specs.View.{view};
 ghost use Rattle.serde_json.specs.Written.{has_float, members_have_float};
-ghost use Rattle.octets.specs.Outcomes.{Agrees, AgreesUnlessMemory};
-ghost use Rattle.objects.specs.Views.{header_view, part_view};
+ghost use Rattle.octets.specs.Code.Results.{Agrees, AgreesUnlessMemory};
+ghost use Rattle.objects.specs.Code.Views.{header_view, part_view};
 ghost use Rattle.tokens.specs.EncryptionTemplate.{template_texts, management_asked, encryption_asked, supported_management, leaves_parameters, algorithms_asked, encryption_template};
-ghost use Rattle.tokens.specs.Views.{template_texts_view, asked_view, encryption_template_view};
+ghost use Rattle.tokens.specs.Code.Views.{template_texts_view, asked_view, encryption_template_view};
 
 use keys::{ContentEncryptionAlg, KeyManagementAlg, has_only, is_object};
 use objects::{Header, header_at, text_at};

@@ -2,7 +2,7 @@
 //! signature at the end.
 ghost use Rattle.std.specs.Prelude.{List, [], length};
 ghost use Rattle.octets.specs.Base64url.{base64url};
-ghost use Rattle.tokens.specs.SigningInputs.{InputStart, HoldEach, HaveTaken};
+ghost use Rattle.tokens.specs.Code.SigningInputs.{InputStart, HoldEach, HaveTaken};
 
 use crate::framed::Values;
 use crate::mac::MAC_TEXT;
@@ -33,7 +33,7 @@ impl<S: SigningInput> Transform for EncodedPayload<S> {
     type Rest = Vec<S>;
 
     ghost use Rattle.octets.specs.Encoding.{encoding};
-    ghost use Rattle.octets.specs.Pumps.{encoding_starts};
+    ghost use Rattle.octets.specs.Code.Streams.{encoding_starts};
 
     ghost Job = { List InputStart };
 
@@ -86,7 +86,7 @@ impl<S: SigningInput> Payload<S> {
 impl<S: SigningInput> Transform for Payload<S> {
     type Rest = Vec<S>;
 
-    ghost use Rattle.octets.specs.Plan.{as_it_is};
+    ghost use Rattle.octets.specs.Code.Streams.{as_it_is};
 
     ghost Job = { List InputStart };
 
@@ -118,7 +118,7 @@ impl<S: SigningInput> Transform for Payload<S> {
 
 /// The signatures of what was fed to signing inputs.
 impl<S: SigningInput> Values for Vec<S> {
-    ghost use Rattle.tokens.specs.SigningInputs.{GiveSignatures, count_signatures};
+    ghost use Rattle.tokens.specs.Code.SigningInputs.{GiveSignatures, count_signatures};
 
     ghost gives = { λ inputs values. GiveSignatures S.has_taken inputs.items values };
 

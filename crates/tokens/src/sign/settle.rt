@@ -2,14 +2,14 @@
 ghost use Rattle.std.specs.Prelude.{◌≡◌, false, length, map, option_map};
 ghost use Rattle.std.specs.List.{list_all};
 ghost use Rattle.serde_json.specs.Written.{members_have_float};
-ghost use Rattle.octets.specs.Outcomes.{Agrees, AgreesUnlessMemory};
+ghost use Rattle.octets.specs.Code.Results.{Agrees, AgreesUnlessMemory};
 ghost use Rattle.octets.specs.declared.refusal.Refusal.{Refusal};
 ghost use Rattle.keys.specs.Limits.{limits};
-ghost use Rattle.keys.specs.Views.{key_view};
+ghost use Rattle.keys.specs.Code.Views.{key_view};
 ghost use Rattle.objects.specs.Texts.{each};
 ghost use Rattle.tokens.specs.Signing.{read_signing, settle_signing as settle_signing_with_keys, signer_by as signer_by_key, may_sign as may_sign_key, chosen_alg, alg_of_key, alg_by_length};
 ghost use Rattle.tokens.specs.Template.{is_shallow as is_shallow_header};
-ghost use Rattle.tokens.specs.Views.{signer_view, signing_view, template_view};
+ghost use Rattle.tokens.specs.Code.Views.{signer_view, signing_view, template_view};
 
 use crate::headers::{is_empty, is_shallow};
 use crate::sign::signer::Signer;

@@ -2,10 +2,10 @@
 ghost use Rattle.std.specs.Prelude.{◌≡◌, false, option_map, IfOk, IfErr};
 ghost use Rattle.serde_json.specs.View.{view, members_view};
 ghost use Rattle.serde_json.specs.Written.{has_float, members_have_float};
-ghost use Rattle.octets.specs.Outcomes.{Agrees};
-ghost use Rattle.objects.specs.Views.{part_view};
+ghost use Rattle.octets.specs.Code.Results.{Agrees};
+ghost use Rattle.objects.specs.Code.Views.{part_view};
 ghost use Rattle.tokens.specs.Template.{template_of, template_headers, named_alg, supported_if_there, with_alg};
-ghost use Rattle.tokens.specs.Views.{template_view};
+ghost use Rattle.tokens.specs.Code.Views.{template_view};
 
 use keys::{SignatureAlg, has_only, is_object};
 use objects::{Header, copy_header, header_at};

@@ -7,12 +7,12 @@ ghost use Rattle.octets.specs.Base64url.{base64url};
 ghost use Rattle.octets.specs.Devices.{observed, IsPossibleInput};
 ghost use Rattle.octets.specs.Faults.{TellsFaults, counts};
 ghost use Rattle.octets.specs.Outcomes.{AgreesUnlessExternal, is_external};
-ghost use Rattle.keys.specs.Views.{key_view};
+ghost use Rattle.keys.specs.Code.Views.{key_view};
 ghost use Rattle.objects.specs.HandedIn.{with_payload};
-ghost use Rattle.objects.specs.Views.{jws_view, signature_view};
-ghost use Rattle.tokens.specs.SigningInputs.{InputStart, HoldEach};
+ghost use Rattle.objects.specs.Code.Views.{jws_view, signature_view};
+ghost use Rattle.tokens.specs.Code.SigningInputs.{InputStart, HoldEach};
 ghost use Rattle.tokens.specs.Verifying.{verifying_by, are_verified, verifies as verifies_pair};
-ghost use Rattle.tokens.specs.VerifyingInputs.{starts_for_pair, starts_for_key, starts_for_keys};
+ghost use Rattle.tokens.specs.Code.VerifyingInputs.{starts_for_pair, starts_for_key, starts_for_keys};
 
 use crate::signing_input::{HmacInput, SigningInput, take_content};
 use crate::verify::{candidate_alg, verdict};

@@ -1,6 +1,6 @@
 use Rattle.std.proofs.Common.{◌≡◌, ◌-◌}
 use Rattle.aes.specs.Cipher.{state_after}
-use Rattle.aes.specs.Words.{block_of}
+use Rattle.aes.specs.Code.Words.{block_of}
 use Rattle.aes.proofs.cipher.cipher.Given as goal
 
 abbrev pub invariant-loop-round : goal.invariant-loop-round

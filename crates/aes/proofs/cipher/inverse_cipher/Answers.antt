@@ -1,7 +1,7 @@
 use Rattle.std.proofs.Common.{◌≡◌, ◌-◌, ap, ◌∙◌, arith}
 use Rattle.aes.specs.State.{add_round_key}
 use Rattle.aes.specs.InverseCipher.{inverse_shift_rows, inverse_sub_bytes, undone, inverse_cipher}
-use Rattle.aes.specs.Words.{block_of}
+use Rattle.aes.specs.Code.Words.{block_of}
 use Rattle.aes.proofs.Rounds.{undone-more}
 use Rattle.aes.proofs.cipher.inverse_cipher.Goals as goal
 

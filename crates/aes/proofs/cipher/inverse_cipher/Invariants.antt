@@ -1,6 +1,6 @@
 use Rattle.std.proofs.Common.{◌≡◌, ◌-◌, ◌<◌}
 use Rattle.aes.specs.InverseCipher.{inverse_shift_rows, inverse_sub_bytes, undone, inverse_cipher}
-use Rattle.aes.specs.Words.{block_of}
+use Rattle.aes.specs.Code.Words.{block_of}
 use Rattle.aes.proofs.cipher.inverse_cipher.Given as goal
 
 abbrev pub invariant-loop-round : goal.invariant-loop-round

@@ -1,7 +1,7 @@
 use Rattle.std.proofs.Common.{◌+◌, ◌*◌, ◌∙◌, arith}
 use Rattle.aes.specs.State.{add_round_key}
 use Rattle.aes.specs.InverseCipher.{inverse_mix_columns, inverse_sub_bytes, inverse_shift_rows}
-use Rattle.aes.specs.Words.{block_of}
+use Rattle.aes.specs.Code.Words.{block_of}
 use Rattle.aes.proofs.Squares.{length-square}
 use Rattle.aes.proofs.Columns.{columns_are, inverse_round_mixed}
 use Rattle.aes.proofs.inverse_state.inverse_round.Goals as goal

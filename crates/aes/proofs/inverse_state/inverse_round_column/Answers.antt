@@ -1,7 +1,7 @@
 use Rattle.std.proofs.Common.{◌≡◌, ℕ, ◌+◌, ◌*◌, [], ◌∷◌, slice_index, bit_xor, ap, ap₂, subst, ◌∙◌, arith}
 use Rattle.aes.specs.InverseCipher.{inverse_s_box}
 use Rattle.aes.specs.State.{word}
-use Rattle.aes.specs.Words.{octet, IsColumnTimes}
+use Rattle.aes.specs.Code.Words.{octet, IsColumnTimes}
 use Rattle.aes.proofs.Words.{by_row}
 use Rattle.aes.proofs.Columns.{sum_of_multiples}
 use Rattle.aes.proofs.inverse_state.inverse_round_column.Goals as goal

@@ -1,6 +1,6 @@
 use Rattle.std.proofs.Common.{◌∙◌, arith}
 use Rattle.aes.specs.InverseCipher.{inverse_sub_bytes, inverse_shift_rows}
-use Rattle.aes.specs.Words.{block_of}
+use Rattle.aes.specs.Code.Words.{block_of}
 use Rattle.aes.proofs.Squares.{length-square}
 use Rattle.aes.proofs.Columns.{columns_are, inverse_shift_sub_column, back_from_column, back_around}
 use Rattle.aes.proofs.inverse_state.inverse_shift_sub.Goals as goal

@@ -1,6 +1,6 @@
 use Rattle.std.proofs.Common.{[], ◌∷◌, slice_index, ap, ◌∙◌, arith}
 use Rattle.aes.specs.InverseCipher.{inverse_s_box}
-use Rattle.aes.specs.Words.{octet}
+use Rattle.aes.specs.Code.Words.{octet}
 use Rattle.aes.proofs.Columns.{four_octets}
 use Rattle.aes.proofs.inverse_state.unsubstitute_column.Goals as goal
 

@@ -1,6 +1,6 @@
 use Rattle.std.proofs.Common.{◌+◌, ◌*◌, slice_index, bit_xor, arith}
 use Rattle.aes.specs.State.{add_round_key}
-use Rattle.aes.specs.Words.{block_of}
+use Rattle.aes.specs.Code.Words.{block_of}
 use Rattle.aes.proofs.Squares.{length-square}
 use Rattle.aes.proofs.Columns.{columns_are, key_column}
 use Rattle.aes.proofs.state.add_round_key.Goals as goal

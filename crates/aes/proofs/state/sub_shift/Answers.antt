@@ -1,6 +1,6 @@
 use Rattle.std.proofs.Common.{◌∙◌, arith}
 use Rattle.aes.specs.State.{sub_bytes, shift_rows}
-use Rattle.aes.specs.Words.{block_of}
+use Rattle.aes.specs.Code.Words.{block_of}
 use Rattle.aes.proofs.Squares.{length-square}
 use Rattle.aes.proofs.Columns.{columns_are, sub_shift_column, from_column, around}
 use Rattle.aes.proofs.state.sub_shift.Goals as goal

@@ -1,6 +1,6 @@
 use Rattle.std.proofs.Common.{ℕ, [], ◌∷◌, slice_index, subst, ◌∙◌}
 use Rattle.aes.specs.SBox.{s_box}
-use Rattle.aes.specs.Words.{octet, IsColumnTimes}
+use Rattle.aes.specs.Code.Words.{octet, IsColumnTimes}
 use Rattle.aes.proofs.Words.{by_row}
 use Rattle.aes.proofs.Columns.{sum_of_multiples}
 use Rattle.aes.proofs.state.substitute_and_mix_column.Goals as goal

@@ -1,6 +1,6 @@
 use Rattle.std.proofs.Common.{[], ◌∷◌, slice_index, ap, ◌∙◌, arith}
 use Rattle.aes.specs.SBox.{s_box}
-use Rattle.aes.specs.Words.{octet}
+use Rattle.aes.specs.Code.Words.{octet}
 use Rattle.aes.proofs.Columns.{four_octets}
 use Rattle.aes.proofs.state.substitute_column.Goals as goal
 

@@ -1,5 +1,5 @@
 use Rattle.std.proofs.Common.{bit_xor, ap₂, ap, ◌∙◌, arith}
-use Rattle.aes.specs.Words.{octet}
+use Rattle.aes.specs.Code.Words.{octet}
 use Rattle.aes.proofs.Words.{sum_of_turned}
 use Rattle.aes.proofs.state.turned_sum.Goals as goal
 

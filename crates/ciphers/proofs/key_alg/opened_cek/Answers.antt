@@ -1,5 +1,5 @@
 use Rattle.std.proofs.Common.{[], take, sym, arith}
-use Rattle.modes.specs.Gcm.{IsGcmOpening}
+use Rattle.modes.specs.Code.Opening.{IsGcmOpening}
 use Rattle.ciphers.proofs.Deliveries.{same_opening, opening_long}
 use Rattle.ciphers.proofs.key_alg.opened_cek.Goals as goal
 

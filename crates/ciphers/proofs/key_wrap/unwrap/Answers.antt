@@ -2,7 +2,7 @@ use Rattle.std.proofs.Common.{rules, ◌≡◌, ◌≢◌, ℕ, ◌+◌, ◌-◌
 use Rattle.std.specs.Cmp.Lexicographic.{same_text, other_text}
 use Rattle.std.proofs.lemmas.List.{take_all}
 use Rattle.ciphers.specs.KeyWrap.{initial_value, IsKeyData, IsUnwrapping}
-use Rattle.ciphers.specs.Views.{IsRow}
+use Rattle.ciphers.specs.Code.Views.{IsRow}
 use Rattle.ciphers.proofs.Table.{first_row, first_row_check, wrapped_of_row}
 use Rattle.ciphers.proofs.Unwrapping.{last_row, unwrapping_long}
 use Rattle.ciphers.proofs.key_wrap.unwrap.Goals as goal

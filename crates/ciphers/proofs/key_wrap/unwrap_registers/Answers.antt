@@ -1,5 +1,5 @@
 use Rattle.std.proofs.Common.{rules, ◌≡◌, ◌+◌, ◌-◌, ◌*◌, ◌/◌, ◌%◌, ◌<◌, ◌≤◌, length, sym, ap, ◌∙◌, subst, arith}
-use Rattle.ciphers.specs.Views.{IsRow}
+use Rattle.ciphers.specs.Code.Views.{IsRow}
 use Rattle.ciphers.proofs.Table.{within, turn_within, row_down, row_up_again, half_down, kept_long}
 use Rattle.ciphers.proofs.key_wrap.unwrap_registers.Goals as goal
 

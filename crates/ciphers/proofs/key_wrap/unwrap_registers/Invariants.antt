@@ -1,6 +1,6 @@
 use Rattle.std.proofs.Common.{ℕ, ◌*◌, ◌/◌, List, length}
 use Rattle.octets.specs.Octets.{IsOctets}
-use Rattle.ciphers.specs.Views.{IsRow}
+use Rattle.ciphers.specs.Code.Views.{IsRow}
 use Rattle.ciphers.proofs.Halves.{IsHalf}
 use Rattle.ciphers.proofs.key_wrap.unwrap_registers.Given as goal
 

@@ -1,6 +1,6 @@
 use Rattle.std.proofs.Common.{◌*◌, ◌/◌, ◌++◌, length, sym, ap, ◌∙◌, subst}
 use Rattle.ciphers.specs.KeyWrap.{initial_value}
-use Rattle.ciphers.specs.Views.{IsRow}
+use Rattle.ciphers.specs.Code.Views.{IsRow}
 use Rattle.ciphers.proofs.Table.{first_row, wrapped_of_row}
 use Rattle.ciphers.proofs.key_wrap.wrap.Goals as goal
 

@@ -1,5 +1,5 @@
 use Rattle.std.proofs.Common.{ℕ, List}
-use Rattle.ciphers.specs.Views.{IsRow}
+use Rattle.ciphers.specs.Code.Views.{IsRow}
 use Rattle.ciphers.proofs.key_wrap.wrap_registers.Given as goal
 
 abbrev pub invariant-loop-t : goal.invariant-loop-t

@@ -1,7 +1,7 @@
 use Rattle.std.proofs.Common.{◌≡◌, ◌∙◌, Err, ap, length, drop, arith, refl, rules}
 use Rattle.std.proofs.lemmas.Grind.{common_steps}
 use Rattle.std.proofs.lemmas.List.{drop_at}
-use Rattle.keys.specs.Views.{plan_view}
+use Rattle.keys.specs.Code.Views.{plan_view}
 use Rattle.keys.proofs.GenAnswer.{template_refused, draw_refused, text_made}
 use Rattle.keys.proofs.generating.generate.Goals as goal
 

@@ -1,7 +1,7 @@
 use Rattle.std.proofs.Common.{rules, ◌-◌, ◌/◌, ◌%◌, length, take, sym, ap, subst, ◌∙◌, arith}
 use Rattle.aes.specs.Block.{IsBlock}
 use Rattle.modes.specs.Cbc.{cbc}
-use Rattle.modes.specs.Opening.{opened_block, IsPadded}
+use Rattle.modes.specs.Code.Opening.{opened_block, IsPadded}
 use Rattle.modes.proofs.Opening.{length-cbc, last_is_padded, opens}
 use Rattle.modes.proofs.cbc_opening.cbc_open.Goals as goal
 use Rattle.modes.proofs.cbc_opening.cbc_open.Goals.{then-blocks-eq0-via-then-blocks-eq0, then-blocks-eq0-via-else-blocks-eq0+then-buf-ne0}

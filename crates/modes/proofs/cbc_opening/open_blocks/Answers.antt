@@ -4,7 +4,7 @@ use Rattle.std.proofs.lemmas.List.{take_all}
 use Rattle.octets.specs.Octets.{xor_octets}
 use Rattle.octets.proofs.Lemmas.{chunks_joined}
 use Rattle.modes.specs.Cbc.{block}
-use Rattle.modes.specs.Opening.{opened_block, opened_blocks}
+use Rattle.modes.specs.Code.Opening.{opened_block, opened_blocks}
 use Rattle.modes.proofs.Groups.{length-within, block_written, block_behind}
 use Rattle.modes.proofs.Opening.{opened_later, opened_same}
 use Rattle.modes.proofs.cbc_opening.open_blocks.Goals as goal

@@ -1,6 +1,6 @@
 use Rattle.std.proofs.Common.{◌≡◌, ℕ, ◌/◌, ◌<◌, ◌≤◌, length}
 use Rattle.modes.specs.Cbc.{block}
-use Rattle.modes.specs.Opening.{opened_block}
+use Rattle.modes.specs.Code.Opening.{opened_block}
 use Rattle.modes.proofs.cbc_opening.open_blocks.Given as goal
 
 abbrev pub invariant-loop-end : goal.invariant-loop-end

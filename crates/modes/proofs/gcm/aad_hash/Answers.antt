@@ -1,5 +1,5 @@
 use Rattle.std.proofs.Common.{[], subst, replicate}
-use Rattle.modes.specs.Views.{HoldsGhash}
+use Rattle.modes.specs.Code.Views.{HoldsGhash}
 use Rattle.modes.proofs.gcm.aad_hash.Goals as goal
 
 pub returns : goal.returns

@@ -1,6 +1,6 @@
 use Rattle.std.proofs.Common.{◌+◌, ◌%◌, slice_index, bit_xor, arith}
 use Rattle.std.proofs.lemmas.List.FromFn.{fill_by_all}
-use Rattle.modes.specs.Toy.{turned}
+use Rattle.modes.specs.Code.Toy.{turned}
 use Rattle.modes.proofs.tests.turn.Goals as goal
 
 pub returns : goal.returns

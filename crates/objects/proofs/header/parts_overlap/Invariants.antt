@@ -1,7 +1,7 @@
 use Rattle.std.proofs.Common.{◌≡◌}
 use Rattle.serde_json.specs.View.{members_view}
 use Rattle.objects.specs.Headers.{overlap}
-use Rattle.objects.specs.Views.{part_view}
+use Rattle.objects.specs.Code.Views.{part_view}
 use Rattle.objects.proofs.header.parts_overlap.Given as goal
 
 -- what is left overlaps exactly where all of it does

@@ -1,7 +1,7 @@
 use Rattle.std.proofs.Common.{◌≡◌, true}
-use Rattle.objects.specs.KeyManagement.{management_by, is_management_of}
-use Rattle.objects.specs.KeyManagementView.{management_view}
-use Rattle.objects.specs.Views.{header_view}
+use Rattle.objects.specs.KeyManagement.{management_by}
+use Rattle.objects.specs.Code.KeyManagementView.{management_view, is_management_of}
+use Rattle.objects.specs.Code.Views.{header_view}
 use Rattle.objects.proofs.KeyManagements.{management_is}
 use Rattle.objects.proofs.Steps.{if_ok}
 use Rattle.objects.proofs.key_management.read_key_management.Goals as goal

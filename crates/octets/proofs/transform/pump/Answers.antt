@@ -1,6 +1,6 @@
 use Rattle.std.proofs.Common.{rules, [], ◌≡◌, Ok, ◌++◌, take, sym, ◌∙◌, ap, append-nil, refl, subst, length, ◌≤◌, length-append, arith, List, ℕ}
 use Rattle.octets.specs.Devices.{appended}
-use Rattle.octets.specs.Pumps.{behind}
+use Rattle.octets.specs.Code.Streams.{behind}
 use Rattle.octets.proofs.Decoded.{IsOctets-take, IsOctets-append, IsOctets-nil}
 use Rattle.octets.specs.Octets.{IsOctets}
 use Rattle.std.proofs.Math.Seq.{drop-length}

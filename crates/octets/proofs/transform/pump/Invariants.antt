@@ -1,8 +1,8 @@
 use Rattle.std.proofs.Common.{◌≡◌, ◌≤◌, length, []}
 use Rattle.std.specs.Iterator.{IsFinite, size}
-use Rattle.octets.specs.Devices.{appended, Extends}
+use Rattle.octets.specs.Devices.{appended}
 use Rattle.octets.specs.Octets.{IsOctets}
-use Rattle.octets.specs.Pumps.{behind}
+use Rattle.octets.specs.Code.Streams.{behind, Extends}
 use Rattle.octets.proofs.Streaming.{Due}
 use Rattle.octets.proofs.transform.pump.Given as goal
 

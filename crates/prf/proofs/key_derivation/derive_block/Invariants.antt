@@ -1,7 +1,7 @@
 use Rattle.std.proofs.Common.{◌≡◌, ℕ, List, [], map, take}
 use Rattle.std.specs.List.{concat}
 use Rattle.prf.specs.Pbkdf2.{iterate, derived_block}
-use Rattle.prf.specs.Views.{HoldsHmac}
+use Rattle.prf.specs.Code.Views.{HoldsHmac}
 use Rattle.prf.proofs.key_derivation.derive_block.Given as goal
 
 abbrev pub invariant-iterates : goal.invariant-iterates

@@ -5,7 +5,7 @@ use Rattle.octets.specs.Octets.{IsOctets, xor_octets}
 use Rattle.prf.specs.HashFunction.{HashFunction, IsHashFunction}
 use Rattle.prf.specs.Hmac.{hmac}
 use Rattle.prf.specs.Pbkdf2.{iterate, derived_block, block_count, pbkdf2}
-use Rattle.prf.specs.Sha2Octets.{IsOctets-nil, IsOctets-append, IsOctets-take}
+use Rattle.prf.specs.Code.Sha2Octets.{IsOctets-nil, IsOctets-append, IsOctets-take}
 use Rattle.prf.proofs.laws.derived_key_is_octets.Goals as goal
 
 IsOctets-map : (f : ℕ → ℕ) (xs : List ℕ) → ((x : ℕ) → f x < 256) → IsOctets (map f xs)

@@ -1,4 +1,4 @@
-use Rattle.ciphers.specs.Views.{parameters_view}
+use Rattle.ciphers.specs.Code.Views.{parameters_view}
 use Rattle.tokens.specs.Decrypting.{cek_of}
 use Rattle.tokens.proofs.Openings.{delivers}
 use Rattle.tokens.proofs.decrypt.deliver.Goals as goal

@@ -1,6 +1,6 @@
 use Rattle.std.proofs.Common.{◌∙◌, Some, sym, ap}
 use Rattle.ciphers.specs.Openings.{opening}
-use Rattle.tokens.specs.Views.{pair_view, sealed_with_view}
+use Rattle.tokens.specs.Code.Views.{pair_view, sealed_with_view}
 use Rattle.tokens.proofs.Openings.{opens, opened_with}
 use Rattle.tokens.proofs.decrypt.open_pair.Goals as goal
 

@@ -2,7 +2,7 @@ use Rattle.std.proofs.Common.{◌≡◌, ◌∷◌, ◌+◌, None, drop, rules, 
 use Rattle.std.proofs.lemmas.Grind.{common_steps}
 use Rattle.std.proofs.lemmas.List.{drop_more}
 use Rattle.tokens.specs.Decrypting.{opened_by}
-use Rattle.tokens.specs.Views.{pair_view, sealed_with_view}
+use Rattle.tokens.specs.Code.Views.{pair_view, sealed_with_view}
 use Rattle.tokens.proofs.TriedPairs.{none_more}
 use Rattle.tokens.proofs.decrypt.open_pairs.Goals as goal
 

@@ -1,7 +1,8 @@
 use Rattle.std.proofs.Common.{◌≡◌, ◌≤◌, true, None, take, drop, map}
 use Rattle.keys.specs.Limits.{limits}
-use Rattle.tokens.specs.Decrypting.{SealedContent, first_opened, no_work, with_pairs}
-use Rattle.tokens.specs.Views.{pair_view, sealed_with_view, work_view}
+use Rattle.tokens.specs.Decrypting.{SealedContent, first_opened}
+use Rattle.tokens.specs.Code.Work.{no_work, with_pairs}
+use Rattle.tokens.specs.Code.Views.{pair_view, sealed_with_view, work_view}
 use Rattle.tokens.proofs.Iterations.{within_after}
 use Rattle.tokens.proofs.decrypt.open_pairs.Given as goal
 

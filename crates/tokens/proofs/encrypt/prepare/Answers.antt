@@ -6,7 +6,7 @@ use Rattle.ciphers.specs.contracts.content_alg.ContentSealerSealer.TheImpl.{is_s
 use Rattle.octets.specs.Devices.{appended}
 use Rattle.octets.proofs.Lemmas.{appended-append}
 use Rattle.tokens.specs.Encrypting.{random_len}
-use Rattle.tokens.specs.Views.{encryption_plan_view, recipient_key_view}
+use Rattle.tokens.specs.Code.Views.{encryption_plan_view, recipient_key_view}
 use Rattle.tokens.proofs.EncryptedHeaders.{OctetLaws}
 use Rattle.tokens.proofs.EncryptionFrames.{has_frame, is_unsealed}
 use Rattle.tokens.proofs.SealedPlans.{if_ok_all}

@@ -4,7 +4,7 @@ use Rattle.octets.specs.Devices.{appended, next_count, AppendsPrefixOf}
 use Rattle.octets.specs.Octets.{IsOctets}
 use Rattle.octets.specs.Plan.{OutputTexts, Plan}
 use Rattle.octets.proofs.Lemmas.{stands_first, IsOctets-drop, kept_up_by_none, AppendsPrefixOf-all, at_refusal, on_refusal, seen_possible, agrees_last, behind_nothing, beginning_behind_nothing, keeps_up, passed_on}
-use Rattle.tokens.specs.Framing.{FillsFrame}
+use Rattle.tokens.specs.Code.Framing.{FillsFrame}
 use Rattle.tokens.proofs.Framing.{IsWhole, is_whole, beside_is, beside_fixed, beside_stands, text_is, beside_answer}
 use Rattle.tokens.proofs.framed.write_beside.Given.{Over}
 use Rattle.tokens.proofs.framed.write_beside.Goals.{In_ok-rest}

@@ -4,9 +4,9 @@ use Rattle.octets.specs.Devices.{appended}
 use Rattle.octets.specs.Faults.{counts}
 use Rattle.octets.specs.Octets.{IsOctets}
 use Rattle.octets.specs.Plan.{OutputTexts, Plan}
-use Rattle.octets.specs.Pumps.{behind}
+use Rattle.octets.specs.Code.Streams.{behind}
 use Rattle.octets.proofs.Lemmas.{not_told, IsOctets-drop, at_refusal, on_refusal, of_refusal, seen_possible, agrees_last, behind_grows, behind_refused, keeps_up, passed_on}
-use Rattle.tokens.specs.Framing.{FillsFrame, IsFraming}
+use Rattle.tokens.specs.Code.Framing.{FillsFrame, IsFraming}
 use Rattle.tokens.proofs.Framing.{IsWhole, is_whole, inside_part, inside_fixed, inside_values_part, inside_answer}
 use Rattle.tokens.proofs.framed.write_inside.Given.{Over}
 use Rattle.tokens.proofs.framed.write_inside.Goals.{After-as_bytes, In_ok-rest}

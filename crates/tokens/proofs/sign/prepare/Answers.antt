@@ -1,12 +1,13 @@
 use Rattle.std.proofs.Common.{◌≡◌, ℕ, List, Err, [], map, ap, sym, subst, ◌∙◌, false, rules}
 use Rattle.octets.specs.declared.refusal.Refusal.{Refusal}
-use Rattle.octets.specs.Outcomes.{is_memory, is_external}
+use Rattle.octets.specs.Outcomes.{is_external}
+use Rattle.octets.specs.Code.Results.{is_memory}
 use Rattle.octets.specs.Plan.{planned}
 use Rattle.keys.specs.Limits.{limits}
-use Rattle.objects.specs.Views.{jws_view}
+use Rattle.objects.specs.Code.Views.{jws_view}
 use Rattle.tokens.specs.Signing.{sig_plan, protected_by}
-use Rattle.tokens.specs.SigningInputs.{HoldEach, start_of}
-use Rattle.tokens.specs.Views.{signing_view, signer_view}
+use Rattle.tokens.specs.Code.SigningInputs.{HoldEach, start_of}
+use Rattle.tokens.specs.Code.Views.{signing_view, signer_view}
 use Rattle.tokens.specs.contracts.signing_input.HmacInputSigningInput.TheImpl.{has_taken-value}
 use Rattle.tokens.proofs.FramedSigning.{by_signing, object_refused, text_refused, unsigned_are, signing_refused, memory_apart}
 use Rattle.tokens.proofs.sign.prepare.Goals as goal

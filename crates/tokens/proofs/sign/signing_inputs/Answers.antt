@@ -1,7 +1,7 @@
 use Rattle.std.proofs.Common.{map, ap, ◌∙◌}
-use Rattle.objects.specs.Views.{signature_view}
-use Rattle.tokens.specs.SigningInputs.{unsigned_protected}
-use Rattle.tokens.specs.Views.{signer_view}
+use Rattle.objects.specs.Code.Views.{signature_view}
+use Rattle.tokens.specs.Code.SigningInputs.{unsigned_protected}
+use Rattle.tokens.specs.Code.Views.{signer_view}
 use Rattle.tokens.specs.contracts.signing_input.HmacInputSigningInput.TheImpl.{has_taken-value}
 use Rattle.tokens.proofs.StartedInputs.{one_started}
 use Rattle.tokens.proofs.sign.signing_inputs.Goals as goal

@@ -1,9 +1,9 @@
 use Rattle.std.proofs.Common.{List, ℕ, ap₂, subst}
-use Rattle.octets.specs.Outcomes.{AgreesUnlessMemory}
+use Rattle.octets.specs.Code.Results.{AgreesUnlessMemory}
 use Rattle.keys.specs.Limits.{limits}
 use Rattle.objects.specs.Jws.{JwsParts, SignatureParts, built}
-use Rattle.objects.specs.Views.{jws_view}
-use Rattle.tokens.specs.SigningInputs.{unsigned_by}
+use Rattle.objects.specs.Code.Views.{jws_view}
+use Rattle.tokens.specs.Code.SigningInputs.{unsigned_by}
 use Rattle.tokens.proofs.sign.unsigned.Goals as goal
 
 pub returns : goal.returns

@@ -1,8 +1,8 @@
 use Rattle.std.proofs.Common.{◌≡◌, map, take}
 use Rattle.serde_json.specs.View.{members_view}
-use Rattle.objects.specs.Views.{signature_parts_view}
-use Rattle.tokens.specs.SigningInputs.{unsigned_part_by}
-use Rattle.tokens.specs.Views.{signer_view}
+use Rattle.objects.specs.Code.Views.{signature_parts_view}
+use Rattle.tokens.specs.Code.SigningInputs.{unsigned_part_by}
+use Rattle.tokens.specs.Code.Views.{signer_view}
 use Rattle.tokens.proofs.sign.unsigned_parts.Given as goal
 
 -- what is known of the signatures of the signers so far

@@ -1,9 +1,9 @@
 use Rattle.std.proofs.Common.{◌≡◌, ◌++◌, [], refl, sym, ap, subst, ◌∙◌, append-nil}
 use Rattle.std.proofs.Math.Seq.{drop-length}
-use Rattle.octets.specs.Base64url.{base64url, whole_groups, part_group}
+use Rattle.octets.specs.Base64url.{base64url, whole_groups}
+use Rattle.octets.specs.Code.Streams.{part_group, encoding_starts}
 use Rattle.octets.specs.Devices.{appended}
-use Rattle.octets.specs.Pumps.{encoding_starts}
-use Rattle.tokens.specs.SigningInputs.{HoldEach}
+use Rattle.tokens.specs.Code.SigningInputs.{HoldEach}
 use Rattle.tokens.proofs.signing_input.take_content.Goals as goal
 
 pub pieces-init : goal.pieces-init

@@ -1,8 +1,9 @@
 use Rattle.std.proofs.Common.{◌≡◌, List, [], length}
 use Rattle.std.specs.Iterator.{IsFinite, size}
-use Rattle.octets.specs.Base64url.{base64url, whole_groups, part_group}
-use Rattle.octets.specs.Devices.{appended, Extends}
-use Rattle.tokens.specs.SigningInputs.{InputStart, HoldEach}
+use Rattle.octets.specs.Base64url.{base64url, whole_groups}
+use Rattle.octets.specs.Code.Streams.{part_group, Extends}
+use Rattle.octets.specs.Devices.{appended}
+use Rattle.tokens.specs.Code.SigningInputs.{InputStart, HoldEach}
 use Rattle.tokens.proofs.signing_input.take_content.Given as goal
 
 -- Each has taken the text of the whole groups of what was read, and the octets after these wait.

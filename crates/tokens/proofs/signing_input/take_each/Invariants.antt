@@ -1,5 +1,5 @@
 use Rattle.std.proofs.Common.{ℕ, List}
-use Rattle.tokens.specs.SigningInputs.{InputStart, HoldEach}
+use Rattle.tokens.specs.Code.SigningInputs.{InputStart, HoldEach}
 use Rattle.tokens.proofs.HeldInputs.{HoldFirst}
 use Rattle.tokens.proofs.signing_input.take_each.Given as goal
 

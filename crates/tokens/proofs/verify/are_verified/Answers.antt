@@ -2,8 +2,8 @@ use Rattle.std.proofs.Common.{rules, tests, ◌∙◌}
 use Rattle.std.proofs.lemmas.Iterator.{YieldsList-from_slice}
 use Rattle.std.proofs.lemmas.Iterator.Search.{all_from_yields_List, any_from_yields_List}
 use Rattle.std.specs.List.{list_any}
-use Rattle.keys.specs.Views.{key_view}
-use Rattle.objects.specs.Views.{jws_view, signature_view}
+use Rattle.keys.specs.Code.Views.{key_view}
+use Rattle.objects.specs.Code.Views.{jws_view, signature_view}
 use Rattle.tokens.specs.Verifying.{verifies}
 use Rattle.tokens.proofs.Tests.{views}
 use Rattle.tokens.proofs.verify.are_verified.Goals as goal

@@ -1,7 +1,7 @@
 use Rattle.std.proofs.Common.{◌≡◌, ◌∙◌, true, Ok, refl, sym, ap, rules}
 use Rattle.octets.specs.Devices.{appended}
 use Rattle.octets.proofs.Lemmas.{AppendsPrefixOf-kept, at_refusal, agrees_last, appended-append}
-use Rattle.objects.specs.Views.{jws_view}
+use Rattle.objects.specs.Code.Views.{jws_view}
 use Rattle.tokens.specs.Verifying.{verifying_by}
 use Rattle.tokens.proofs.verify.jws_verify.Goals as goal
 

@@ -1,6 +1,6 @@
 use Rattle.std.proofs.Common.{[], refl, subst}
 use Rattle.modes.specs.Cbc.{cbc_blocks}
-use Rattle.modes.specs.Views.{HoldsCbc}
+use Rattle.modes.specs.Code.Views.{HoldsCbc}
 use Rattle.ciphers.proofs.Sealers.{pace_of_whole}
 use Rattle.ciphers.proofs.cbc_hmac.CbcHmac.start.Goals as goal
 

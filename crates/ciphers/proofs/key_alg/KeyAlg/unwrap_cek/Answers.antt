@@ -1,5 +1,5 @@
 use Rattle.std.proofs.Common.{rules}
-use Rattle.ciphers.specs.Views.{parameters_view}
+use Rattle.ciphers.specs.Code.Views.{parameters_view}
 use Rattle.ciphers.proofs.Deliveries.{direct_delivers, direct_nothing, unwrapped_delivers, unwrapped_nothing, opened_delivers, opened_nothing}
 use Rattle.ciphers.proofs.key_alg.KeyAlg.unwrap_cek.Goals as goal
 

@@ -2,7 +2,7 @@ use Rattle.std.proofs.Common.{rules, ◌+◌, ◌≤◌, length, sym, ap, ◌∙
 use Rattle.std.proofs.lemmas.List.{take_at, take_all, drop_all}
 use Rattle.ciphers.specs.Delivery.{encrypted_key_of, tag_by, key_tag_of}
 use Rattle.ciphers.specs.KeyWrap.{wrapped}
-use Rattle.ciphers.specs.Views.{parameters_view}
+use Rattle.ciphers.specs.Code.Views.{parameters_view}
 use Rattle.ciphers.proofs.Deliveries.{same_tag}
 use Rattle.ciphers.proofs.key_alg.KeyAlg.wrap_cek.Goals as goal
 

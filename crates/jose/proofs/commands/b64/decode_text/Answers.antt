@@ -1,6 +1,7 @@
 use Rattle.std.proofs.Common.{rules, length, Ok, sym, ◌∙◌, ap, subst, arith, length-append}
 use Rattle.octets.specs.Devices.{appended, AppendsPrefixOf}
-use Rattle.octets.specs.Encoding.{decoding, settling}
+use Rattle.octets.specs.Encoding.{decoding}
+use Rattle.octets.specs.Code.Streams.{settling}
 use Rattle.octets.proofs.Lemmas.{at_refusal, seen_possible, AppendsPrefixOf-Begins, reading_starts, settling_grows, settling_begins, settling_keeps_up, behind_nothing, beginning_behind_nothing, passed_on, whole_stands}
 use Rattle.jose.proofs.commands.b64.decode_text.Goals as goal
 

@@ -3,7 +3,8 @@ use Rattle.std.proofs.Math.Seq.{drop-length}
 use Rattle.octets.specs.declared.refusal.Refusal.TheVariants.{Write}
 use Rattle.octets.specs.Devices.{appended, observed}
 use Rattle.octets.specs.Encoding.{encoding}
-use Rattle.octets.proofs.Lemmas.{encoding_fixes_nothing, AppendsPrefixOf-none, kept_up_by_none, on_success, on_refusal, plan_of_plan, unread_untouched}
+use Rattle.octets.specs.Plan.{plan_map}
+use Rattle.octets.proofs.Lemmas.{encoding_fixes_nothing, AppendsPrefixOf-none, kept_up_by_none, on_success, on_refusal, plan_from-by_plan, unread_untouched}
 use Rattle.jose.specs.Ports.{as_text}
 use Rattle.jose.proofs.Agreement.{agrees_as_text, beginning_map}
 use Rattle.jose.proofs.Doing.{if_weaker}
@@ -22,14 +23,14 @@ returns g c =
     (unread_untouched g.O.Output.written c.args.outputs.now.text c.encode_content.new.out encoding content r encoding_fixes_nothing c.encode_content.ensures.beginning c.encode_content.ensures.uncut)
     (λ e untouched others nothing. untouched nothing others)) in
     rw c.requires.command (record {
-      answer = λ inputs may. rw (plan_of_plan as_text (Ok encoding) inputs.random) (agrees_as_text _ _ _ _ (drop-length (g.O.Output.written c.args.outputs.now.content)) (c.encode_content.ensures.answer inputs.content may.content));
+      answer = λ inputs may. rw (plan_from-by_plan (Ok (plan_map as_text encoding)) inputs.random) (agrees_as_text _ _ _ _ (drop-length (g.O.Output.written c.args.outputs.now.content)) (c.encode_content.ensures.answer inputs.content may.content));
       drawn = on_success r c.encode_content.ensures.finished (λ done inputs may. drawn);
       at_most = λ inputs may. none_drawn random _;
-      beginning = on_refusal r c.encode_content.ensures.beginning (λ part. rw (plan_of_plan as_text (Ok encoding) (appended random random), beginning_map as_text encoding content.octets content.ended) (record { text = part; content = AppendsPrefixOf-none _ _ refl }));
+      beginning = on_refusal r c.encode_content.ensures.beginning (λ part. rw (plan_from-by_plan (Ok (plan_map as_text encoding)) (appended random random), beginning_map as_text encoding content.octets content.ended) (record { text = part; content = AppendsPrefixOf-none _ _ refl }));
       held_back = search rules;
       uncut = search rules;
       unread = if_weaker r _ _ untouched (λ e untouched streams nothing. record { text = λ spared. untouched spared nothing; content = λ others. refl });
-      keeps_up = λ told. rw (plan_of_plan as_text (Ok encoding) (appended random random)) (λ streams some. (c.encode_content.ensures.keeps_up told some, kept_up_by_none _ (λ q. refl) content.octets (g.O.Output.written c.args.outputs.now.content)));
+      keeps_up = λ told. rw (plan_from-by_plan (Ok (plan_map as_text encoding)) (appended random random)) (λ streams some. (c.encode_content.ensures.keeps_up told some, kept_up_by_none _ (λ q. refl) content.octets (g.O.Output.written c.args.outputs.now.content)));
       content_first = search rules;
       in_order = search rules;
       reads_first = search rules;

@@ -4,7 +4,7 @@ use Rattle.keys.specs.Limits.{limits}
 use Rattle.octets.specs.Devices.{appended}
 use Rattle.octets.specs.Plan.{plan_from}
 use Rattle.tokens.specs.Encrypting.{enc_plan}
-use Rattle.jose.specs.Doing.{input_members, output_members}
+use Rattle.jose.specs.Code.Doing.{input_members, output_members}
 use Rattle.jose.specs.Invocations.{settings_view}
 use Rattle.jose.proofs.Doing.{not_read}
 use Rattle.jose.proofs.Fixed.{encrypted_inside}

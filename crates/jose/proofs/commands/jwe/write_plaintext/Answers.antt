@@ -1,9 +1,9 @@
 use Rattle.std.proofs.Common.{◌≡◌, Ok, false}
-use Rattle.objects.specs.Views.{jwe_view}
+use Rattle.objects.specs.Code.Views.{jwe_view}
 use Rattle.keys.specs.KeySets.{key_set}
 use Rattle.keys.specs.Limits.{limits}
 use Rattle.tokens.specs.Decrypting.{decrypted}
-use Rattle.jose.specs.Doing.{output_members}
+use Rattle.jose.specs.Code.Doing.{output_members}
 use Rattle.jose.proofs.Wrote.{wrote_content}
 use Rattle.jose.proofs.commands.jwe.write_plaintext.Goals as goal
 

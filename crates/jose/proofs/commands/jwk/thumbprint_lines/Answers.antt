@@ -3,7 +3,7 @@ use Rattle.std.specs.List.{join_by}
 use Rattle.std.proofs.Math.Seq.{take-length}
 use Rattle.std.proofs.lemmas.List.Folds.{flat_map-map}
 use Rattle.keys.specs.declared.key.Key.{Key}
-use Rattle.keys.specs.Views.{key_view}
+use Rattle.keys.specs.Code.Views.{key_view}
 use Rattle.keys.specs.Thumbprints.{thumbprint_of}
 use Rattle.jose.specs.Jwk.{thumbprint_lines}
 use Rattle.jose.proofs.commands.jwk.thumbprint_lines.Goals as goal

@@ -1,5 +1,5 @@
 use Rattle.std.proofs.Common.{◌≡◌, take, map, string_bytes}
-use Rattle.keys.specs.Views.{key_view}
+use Rattle.keys.specs.Code.Views.{key_view}
 use Rattle.keys.specs.Thumbprints.{thumbprint_of}
 use Rattle.jose.proofs.commands.jwk.thumbprint_lines.Given as goal
 

@@ -4,7 +4,7 @@ use Rattle.keys.specs.Limits.{limits}
 use Rattle.octets.specs.Plan.{by_plan}
 use Rattle.octets.proofs.Lemmas.{on_success, plan_from-by_plan}
 use Rattle.tokens.specs.Signing.{sig_plan}
-use Rattle.jose.specs.Doing.{input_members, output_members}
+use Rattle.jose.specs.Code.Doing.{input_members, output_members}
 use Rattle.jose.specs.Invocations.{settings_view}
 use Rattle.jose.proofs.Doing.{not_read}
 use Rattle.jose.proofs.Draws.{by_plan_drawn, by_plan_refused, none_drawn, nothing_drawn}

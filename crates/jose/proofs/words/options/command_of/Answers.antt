@@ -5,7 +5,7 @@ use Rattle.clap.specs.Simple.{app_of_fields}
 use Rattle.clap.specs.declared.builder.command.Command.{Command, Command-F}
 use Rattle.clap.specs.Words.{App, app_of, with_rule}
 use Rattle.jose.specs.Reading.{bare, rule_for, with_options}
-use Rattle.jose.specs.Rows.{option_entry}
+use Rattle.jose.specs.Code.Rows.{option_entry}
 use Rattle.jose.specs.declared.words.table.OptionRow.{OptionRow}
 use Rattle.jose.proofs.Settings.{no_option}
 use Rattle.jose.proofs.words.options.command_of.Goals as goal

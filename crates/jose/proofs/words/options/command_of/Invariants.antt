@@ -1,7 +1,7 @@
 use Rattle.std.proofs.Common.{◌≡◌, drop, map}
 use Rattle.clap.specs.Words.{app_of}
 use Rattle.jose.specs.Reading.{with_options, app_for}
-use Rattle.jose.specs.Rows.{option_entry}
+use Rattle.jose.specs.Code.Rows.{option_entry}
 use Rattle.jose.proofs.words.options.command_of.Given as goal
 
 -- with the options that are left, it is the whole command

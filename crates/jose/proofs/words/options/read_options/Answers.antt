@@ -3,7 +3,7 @@ use Rattle.std.proofs.lemmas.Bool.{and_parts}
 use Rattle.clap.specs.Words.{App, Kinds, HasKind, app_of, fault_of, is_simple, is_simple_and_free, matches_of}
 use Rattle.clap.specs.Faults.{is_free_app}
 use Rattle.clap.specs.Simple.{built}
-use Rattle.jose.specs.Rows.{option_entry}
+use Rattle.jose.specs.Code.Rows.{option_entry}
 use Rattle.jose.specs.Reading.{settings_of}
 use Rattle.jose.proofs.Parses.{accepted, refused}
 use Rattle.jose.proofs.words.options.read_options.Goals as goal

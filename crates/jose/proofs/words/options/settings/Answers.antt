@@ -3,7 +3,7 @@ use Rattle.std.proofs.lemmas.List.{drop_more}
 use Rattle.clap.specs.Words.{Row, Text, found_of, first_of, rows_of}
 use Rattle.clap.proofs.WalkLemmas.{first_value-rows}
 use Rattle.jose.specs.Reading.{settings_of, setting_before, value_given}
-use Rattle.jose.specs.Rows.{option_entry, takes_of}
+use Rattle.jose.specs.Code.Rows.{option_entry, takes_of}
 use Rattle.jose.specs.Invocations.{settings_view}
 use Rattle.jose.specs.declared.words.table.OptionRow.{OptionRow}
 use Rattle.jose.proofs.Settings.{no_option, setting_before-append}

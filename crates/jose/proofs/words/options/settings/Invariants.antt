@@ -1,7 +1,7 @@
 use Rattle.std.proofs.Common.{◌≡◌, ◌++◌, drop, map}
 use Rattle.clap.specs.Words.{found_of, rows_of}
 use Rattle.jose.specs.Reading.{settings_of}
-use Rattle.jose.specs.Rows.{option_entry}
+use Rattle.jose.specs.Code.Rows.{option_entry}
 use Rattle.jose.specs.Invocations.{settings_view}
 use Rattle.jose.proofs.words.options.settings.Given as goal
 

@@ -1,5 +1,6 @@
-use Rattle.jose.specs.Commands.{commands, has_words}
-use Rattle.jose.specs.Rows.{command_entry}
+use Rattle.jose.specs.Words.{has_words}
+use Rattle.jose.specs.Commands.{commands}
+use Rattle.jose.specs.Code.Rows.{command_entry}
 use Rattle.jose.proofs.Finding.{found_mapped}
 use Rattle.jose.proofs.Table.{found_simple}
 use Rattle.jose.proofs.words.table.command_row.Goals as goal

@@ -1,7 +1,7 @@
 use Rattle.std.proofs.Common.{◌≡◌, ℕ, ◌+◌, ◌-◌, ◌*◌, ◌/◌, ◌<◌, List, [], ◌++◌, length, take, drop, refl, sym, ap, ap₂, subst, ◌∙◌, arith, length-append, length-take, append_assoc}
 use Rattle.std.proofs.lemmas.List.{take_at}
 use Rattle.modes.specs.Cbc.{chained, cbc_blocks}
-use Rattle.modes.specs.Views.{HoldsCbc}
+use Rattle.modes.specs.Code.Views.{HoldsCbc}
 use Rattle.modes.proofs.Chaining.{none_alone}
 use Rattle.modes.proofs.Fed.{fed_previous, fed_text, filled_previous, filled_text}
 use Rattle.modes.proofs.Pieces.{fed_waiting, filled_waiting}

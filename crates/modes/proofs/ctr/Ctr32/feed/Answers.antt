@@ -1,7 +1,7 @@
 use Rattle.std.proofs.Common.{◌++◌, length, sym, ap, ap₂, subst, ◌∙◌}
 use Rattle.std.proofs.lemmas.List.{take_at}
 use Rattle.modes.specs.Ctr.{ctr}
-use Rattle.modes.specs.Views.{HoldsKeyStream}
+use Rattle.modes.specs.Code.Views.{HoldsKeyStream}
 use Rattle.modes.proofs.ctr.Ctr32.feed.Goals as goal
 
 pub returns-clause-fed : goal.returns-clause-fed

@@ -1,7 +1,7 @@
 use Rattle.std.proofs.Common.{◌≡◌, ℕ, ◌+◌, ◌-◌, ◌≤◌, List, ◌++◌, length, take, drop, sym, ap, subst, ◌∙◌, arith, append_assoc, length-drop}
 use Rattle.std.proofs.lemmas.List.{drop-drop, take_rest, take_all}
 use Rattle.modes.specs.Ctr.{ctr}
-use Rattle.modes.specs.Views.{HoldsKeyStream}
+use Rattle.modes.specs.Code.Views.{HoldsKeyStream}
 use Rattle.modes.proofs.Fronts.{take_split, take_written, drop_written}
 use Rattle.modes.proofs.ctr.KeyStream.apply.Goals as goal
 

@@ -1,6 +1,6 @@
 use Rattle.std.proofs.Common.{◌≡◌, ℕ, ◌-◌, ◌≤◌, List, ◌++◌, length, take, drop}
 use Rattle.modes.specs.Ctr.{ctr}
-use Rattle.modes.specs.Views.{HoldsKeyStream}
+use Rattle.modes.specs.Code.Views.{HoldsKeyStream}
 use Rattle.modes.proofs.ctr.KeyStream.apply.Given as goal
 
 abbrev pub invariant-loop-at : goal.invariant-loop-at

@@ -2,7 +2,7 @@ use Rattle.std.proofs.Common.{◌++◌, take, replicate, sym, ap, subst, ◌∙�
 use Rattle.modes.specs.Ctr.{counter_block}
 use Rattle.modes.specs.Gcm.{pre_counter_block, gcm_ciphertext}
 use Rattle.modes.specs.Ghash.{zero_filled}
-use Rattle.modes.specs.Views.{HoldsGhash}
+use Rattle.modes.specs.Code.Views.{HoldsGhash}
 use Rattle.modes.proofs.gcm.Gcm.feed.Goals as goal
 
 pub returns-clause-fed : goal.returns-clause-fed

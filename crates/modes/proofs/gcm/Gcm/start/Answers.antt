@@ -2,7 +2,7 @@ use Rattle.std.proofs.Common.{[], replicate, refl, sym, subst, ◌∙◌, append
 use Rattle.modes.specs.Ctr.{ctr}
 use Rattle.modes.specs.Gcm.{gcm_ciphertext}
 use Rattle.modes.specs.Ghash.{zero_filled}
-use Rattle.modes.specs.Views.{HoldsCtr, HoldsGhash}
+use Rattle.modes.specs.Code.Views.{HoldsCtr, HoldsGhash}
 use Rattle.modes.proofs.Protecting.{second_counter}
 use Rattle.modes.proofs.gcm.Gcm.start.Goals as goal
 

@@ -1,6 +1,6 @@
 use Rattle.std.proofs.Common.{◌≡◌, ◌+◌, ◌-◌, ◌*◌, ◌/◌, ◌<◌, [], ◌++◌, length, take, drop, refl, sym, ap, subst, ◌∙◌, arith, length-append, append-nil}
 use Rattle.modes.specs.Ghash.{ghash_number, numbers}
-use Rattle.modes.specs.Views.{HoldsGhash}
+use Rattle.modes.specs.Code.Views.{HoldsGhash}
 use Rattle.modes.proofs.Numbers.{no_numbers, fed_numbers, filled_numbers}
 use Rattle.modes.proofs.Pieces.{fed_waiting, filled_waiting}
 use Rattle.modes.proofs.ghash.Ghash.feed.Goals as goal

@@ -1,7 +1,7 @@
 use Rattle.std.proofs.Common.{◌≡◌, ◌-◌, ◌%◌, ◌++◌, length, replicate, sym, ap, subst, ◌∙◌, arith, append-nil}
 use Rattle.std.proofs.lemmas.List.{take-replicate}
 use Rattle.modes.specs.Ghash.{zero_filled}
-use Rattle.modes.specs.Views.{HoldsGhash}
+use Rattle.modes.specs.Code.Views.{HoldsGhash}
 use Rattle.modes.proofs.Pieces.{length-waits}
 use Rattle.modes.proofs.ghash.Ghash.pad.Goals as goal
 

@@ -1,6 +1,7 @@
 use Rattle.std.proofs.Common.{◌≡◌, ◌+◌, ◌-◌, ◌*◌, ◌/◌, ◌%◌, ◌<◌, ◌^◌, bit_xor, ap, ap₂, ◌∙◌, arith}
 use Rattle.std.proofs.lemmas.Nat.{and_mask, mod-pow-add}
-use Rattle.modes.specs.Ghash.{shifts, block_product}
+use Rattle.modes.specs.Ghash.{block_product}
+use Rattle.modes.specs.Code.Shifts.{shifts}
 use Rattle.modes.proofs.Chains.{chains, chains_next, zeros_next}
 use Rattle.modes.proofs.Multiples.{halves_taken, none_taken, one_taken, all_taken, rest_more}
 use Rattle.modes.proofs.hash_subkey.HashSubkey.times.Goals as goal

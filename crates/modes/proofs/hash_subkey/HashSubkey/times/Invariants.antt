@@ -1,5 +1,5 @@
 use Rattle.std.proofs.Common.{◌≡◌, ◌-◌, ◌*◌, ◌/◌, ◌%◌, ◌^◌}
-use Rattle.modes.specs.Ghash.{shifts}
+use Rattle.modes.specs.Code.Shifts.{shifts}
 use Rattle.modes.proofs.Chains.{chains}
 use Rattle.modes.proofs.Multiples.{halves_taken}
 use Rattle.modes.proofs.hash_subkey.HashSubkey.times.Given as goal

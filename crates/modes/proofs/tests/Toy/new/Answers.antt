@@ -5,7 +5,7 @@ use Rattle.std.proofs.lemmas.Bool.{cases_lt}
 use Rattle.std.proofs.lemmas.Nat.{xor_lt}
 use Rattle.std.proofs.lemmas.Grind.{common_steps}
 use Rattle.aes.specs.Block.{IsBlock}
-use Rattle.modes.specs.Toy.{turned}
+use Rattle.modes.specs.Code.Toy.{turned}
 use Rattle.modes.proofs.tests.Toy.new.Goals as goal
 
 length-turned : (n : ℕ) (b : List ℕ) → length (turned n b) ≡ 16

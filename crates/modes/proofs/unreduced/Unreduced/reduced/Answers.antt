@@ -1,5 +1,5 @@
 use Rattle.std.proofs.Common.{◌<◌, ◌^◌, ap, ◌∙◌, arith}
-use Rattle.modes.specs.Ghash.{shifts}
+use Rattle.modes.specs.Code.Shifts.{shifts}
 use Rattle.modes.proofs.Reduction.{reduced_is}
 use Rattle.modes.proofs.unreduced.Unreduced.reduced.Goals as goal
 

@@ -1,7 +1,8 @@
 use Rattle.std.proofs.Common.{rules, ◌≡◌, ◌++◌, refl, sym, ap, subst, ◌∙◌, append_assoc, append-nil}
-use Rattle.octets.specs.Base64url.{decoded, settled}
+use Rattle.octets.specs.Base64url.{decoded}
+use Rattle.octets.specs.Code.Streams.{settled, settling_starts}
 use Rattle.octets.specs.Devices.{next_count, AppendsPrefixOf}
-use Rattle.octets.specs.Encoding.{octets_of_groups, settling_starts}
+use Rattle.octets.specs.Encoding.{octets_of_groups}
 use Rattle.octets.specs.LineEnds.{without_line_end}
 use Rattle.octets.specs.Octets.{IsOctets}
 use Rattle.octets.proofs.Lemmas.{AppendsPrefixOf-part, on_success, at_refusal, on_refusal}

@@ -1,6 +1,6 @@
 use Rattle.std.proofs.Common.{◌≡◌, ◌++◌}
 use Rattle.std.specs.Slice.Iter.{chunks_rest, chunks_size}
-use Rattle.octets.specs.Base64url.{settled}
+use Rattle.octets.specs.Code.Streams.{settled}
 use Rattle.octets.specs.Encoding.{octets_of_groups}
 use Rattle.objects.proofs.ReceivedTexts.{IsReadTo}
 use Rattle.objects.proofs.content.payload.write_meaning.Given as goal

@@ -1,7 +1,7 @@
 use Rattle.std.proofs.Common.{option_map, sym, ap, ◌∙◌}
 use Rattle.std.specs.Option.{option_or}
 use Rattle.serde_json.specs.View.{view}
-use Rattle.objects.specs.Views.{part_view}
+use Rattle.objects.specs.Code.Views.{part_view}
 use Rattle.objects.proofs.Names.{seen_first, get_member-all_members}
 use Rattle.objects.proofs.header.Header.get.Goals as goal
 

@@ -2,7 +2,7 @@ use Rattle.std.proofs.Common.{option_map, sym, ap, ◌∙◌}
 use Rattle.serde_json.specs.Find.{get_member}
 use Rattle.serde_json.specs.View.{view}
 use Rattle.serde_json.proofs.Views.{view_of_ref, view-lookup}
-use Rattle.objects.specs.Views.{part_view}
+use Rattle.objects.specs.Code.Views.{part_view}
 use Rattle.objects.proofs.header.parts.part_member.Goals as goal
 
 pub returns : goal.returns

@@ -1,7 +1,7 @@
 use Rattle.std.proofs.Common.{Ok, ap, rules}
 use Rattle.octets.specs.Outcomes.{◌>>=◌}
-use Rattle.objects.specs.Views.{jwe_view, written_view}
-use Rattle.objects.specs.Writing.{all_texts}
+use Rattle.objects.specs.Code.Views.{jwe_view, written_view}
+use Rattle.objects.specs.Code.Writing.{all_texts}
 use Rattle.objects.proofs.JweFrames.{is_jwe_frame}
 use Rattle.objects.proofs.JweWritten.{jwe_refused}
 use Rattle.objects.proofs.jwe.Jwe.frame.Goals as goal

@@ -1,6 +1,6 @@
 use Rattle.std.proofs.Common.{rules, Ok, ap, sym, ◌∙◌}
 use Rattle.keys.specs.Limits.{limits}
-use Rattle.objects.specs.Views.{jwe_view, written_view}
+use Rattle.objects.specs.Code.Views.{jwe_view, written_view}
 use Rattle.objects.proofs.JweWritten.{jwe_whole, jwe_refused}
 use Rattle.objects.proofs.SpellingJweCompact.{written_spells}
 use Rattle.objects.proofs.jwe.Jwe.to_text.Goals as goal

@@ -1,7 +1,7 @@
 use Rattle.std.proofs.Common.{◌≡◌, ◌++◌, map, true}
 use Rattle.std.specs.List.{list_all}
 use Rattle.keys.specs.Json.{member_numbers_are_whole}
-use Rattle.objects.specs.Views.{recipient_parts_view, recipient_members_view}
+use Rattle.objects.specs.Code.Views.{recipient_parts_view, recipient_members_view}
 use Rattle.objects.proofs.jwe.build.members_of_recipients.Given as goal
 
 -- the recipients so far and those that are left are all of them, and the headers of those that are left have whole numbers

@@ -1,7 +1,7 @@
 use Rattle.std.proofs.Common.{◌≡◌, map}
 use Rattle.objects.specs.Jwe.{decoded_recipient}
 use Rattle.objects.specs.Texts.{each}
-use Rattle.objects.specs.Views.{encoded_recipient_view, recipient_members_view}
+use Rattle.objects.specs.Code.Views.{encoded_recipient_view, recipient_members_view}
 use Rattle.objects.proofs.Each.{with_done}
 use Rattle.objects.proofs.jwe.encoded.decoded_recipients.Given as goal
 

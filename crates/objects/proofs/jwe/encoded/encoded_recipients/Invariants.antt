@@ -2,7 +2,7 @@ use Rattle.std.proofs.Common.{◌≡◌, map, drop}
 use Rattle.serde_json.specs.View.{view, items_view}
 use Rattle.objects.specs.Jwe.{encoded_recipient}
 use Rattle.objects.specs.Texts.{each_item}
-use Rattle.objects.specs.Views.{encoded_recipient_view}
+use Rattle.objects.specs.Code.Views.{encoded_recipient_view}
 use Rattle.objects.proofs.Each.{with_done}
 use Rattle.objects.proofs.jwe.encoded.encoded_recipients.Given as goal
 

@@ -1,6 +1,6 @@
 use Rattle.std.proofs.Common.{rules, codes}
 use Rattle.serde_json.specs.View.{view}
-use Rattle.octets.specs.Outcomes.{Agrees}
+use Rattle.octets.specs.Code.Results.{Agrees}
 use Rattle.objects.specs.Jwe.{no_recipient_at, encoded_recipient}
 use Rattle.objects.specs.Texts.{text_at}
 use Rattle.objects.proofs.jwe.encoded.no_recipient_at.Goals as goal

@@ -1,7 +1,7 @@
 use Rattle.std.proofs.Common.{List, ℕ, ap, sym, ◌∙◌}
 use Rattle.std.specs.List.{list_all}
 use Rattle.std.specs.Str.{bytes_eq}
-use Rattle.objects.specs.Views.{recipient_view}
+use Rattle.objects.specs.Code.Views.{recipient_view}
 use Rattle.objects.specs.declared.jwe.recipient.Recipient.{Recipient}
 use Rattle.objects.proofs.Recipients.{one_enc}
 use Rattle.objects.proofs.jwe.recipient.have_one_enc.Goals as goal

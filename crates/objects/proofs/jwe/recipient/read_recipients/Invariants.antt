@@ -2,7 +2,7 @@ use Rattle.std.proofs.Common.{◌≡◌, map}
 use Rattle.serde_json.specs.View.{members_view}
 use Rattle.keys.specs.Limits.{limits}
 use Rattle.objects.specs.Jwe.{recipient_of, recipients_of}
-use Rattle.objects.specs.Views.{recipient_view, recipient_members_view}
+use Rattle.objects.specs.Code.Views.{recipient_view, recipient_members_view}
 use Rattle.objects.proofs.Each.{with_done}
 use Rattle.objects.proofs.jwe.recipient.read_recipients.Given as goal
 

@@ -1,7 +1,7 @@
 use Rattle.std.proofs.Common.{Ok, ap, rules}
 use Rattle.octets.specs.Outcomes.{◌>>=◌}
-use Rattle.objects.specs.Views.{jws_view, written_view}
-use Rattle.objects.specs.Writing.{all_texts}
+use Rattle.objects.specs.Code.Views.{jws_view, written_view}
+use Rattle.objects.specs.Code.Writing.{all_texts}
 use Rattle.objects.proofs.JwsFrames.{is_jws_frame}
 use Rattle.objects.proofs.JwsWritten.{jws_refused}
 use Rattle.objects.proofs.jws.Jws.frame.Goals as goal

@@ -1,6 +1,6 @@
 use Rattle.std.proofs.Common.{rules, Ok, ap, sym, ◌∙◌}
 use Rattle.keys.specs.Limits.{limits}
-use Rattle.objects.specs.Views.{jws_view, written_view}
+use Rattle.objects.specs.Code.Views.{jws_view, written_view}
 use Rattle.objects.proofs.JwsWritten.{jws_whole, jws_refused}
 use Rattle.objects.proofs.SpellingJwsCompact.{written_spells}
 use Rattle.objects.proofs.jws.Jws.to_text.Goals as goal

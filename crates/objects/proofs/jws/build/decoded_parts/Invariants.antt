@@ -3,7 +3,7 @@ use Rattle.std.specs.List.{list_all}
 use Rattle.keys.specs.Json.{member_numbers_are_whole}
 use Rattle.objects.specs.Jws.{decoded_part}
 use Rattle.objects.specs.Texts.{each}
-use Rattle.objects.specs.Views.{signature_parts_view, decoded_signature_view}
+use Rattle.objects.specs.Code.Views.{signature_parts_view, decoded_signature_view}
 use Rattle.objects.proofs.Each.{with_done}
 use Rattle.objects.proofs.jws.build.decoded_parts.Given as goal
 

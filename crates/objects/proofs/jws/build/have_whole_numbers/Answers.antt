@@ -4,7 +4,7 @@ use Rattle.std.proofs.lemmas.Iterator.Search.{all_from_yields_List}
 use Rattle.std.proofs.lemmas.List.Folds.{list_all-map}
 use Rattle.keys.specs.Json.{member_numbers_are_whole}
 use Rattle.objects.specs.Jws.{SignatureParts}
-use Rattle.objects.specs.Views.{signature_parts_view}
+use Rattle.objects.specs.Code.Views.{signature_parts_view}
 use Rattle.objects.proofs.jws.build.have_whole_numbers.Goals as goal
 
 pub returns-clause-whole : goal.returns-clause-whole

@@ -5,7 +5,7 @@ use Rattle.std.proofs.lemmas.List.Folds.{list_all-map}
 use Rattle.std.specs.Prelude.{nat_le}
 use Rattle.serde_json.specs.Data.{members_depth}
 use Rattle.objects.specs.Jws.{SignatureParts}
-use Rattle.objects.specs.Views.{signature_parts_view}
+use Rattle.objects.specs.Code.Views.{signature_parts_view}
 use Rattle.objects.proofs.jws.build.nest_at_most.Goals as goal
 
 pub returns : goal.returns

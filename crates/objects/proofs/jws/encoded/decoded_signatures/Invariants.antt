@@ -1,7 +1,7 @@
 use Rattle.std.proofs.Common.{◌≡◌, map}
 use Rattle.objects.specs.Jws.{decoded_signature}
 use Rattle.objects.specs.Texts.{each}
-use Rattle.objects.specs.Views.{encoded_signature_view, decoded_signature_view}
+use Rattle.objects.specs.Code.Views.{encoded_signature_view, decoded_signature_view}
 use Rattle.objects.proofs.Each.{with_done}
 use Rattle.objects.proofs.jws.encoded.decoded_signatures.Given as goal
 

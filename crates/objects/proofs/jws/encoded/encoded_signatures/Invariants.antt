@@ -2,7 +2,7 @@ use Rattle.std.proofs.Common.{◌≡◌, map, drop}
 use Rattle.serde_json.specs.View.{view, items_view}
 use Rattle.objects.specs.Jws.{encoded_signature}
 use Rattle.objects.specs.Texts.{each_item}
-use Rattle.objects.specs.Views.{encoded_signature_view}
+use Rattle.objects.specs.Code.Views.{encoded_signature_view}
 use Rattle.objects.proofs.Each.{with_done}
 use Rattle.objects.proofs.jws.encoded.encoded_signatures.Given as goal
 

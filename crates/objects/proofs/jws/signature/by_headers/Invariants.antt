@@ -2,7 +2,7 @@ use Rattle.std.proofs.Common.{◌≡◌, map}
 use Rattle.keys.specs.Limits.{limits}
 use Rattle.objects.specs.Jws.{signature_by}
 use Rattle.objects.specs.Texts.{each}
-use Rattle.objects.specs.Views.{headed_signature_view, signature_view}
+use Rattle.objects.specs.Code.Views.{headed_signature_view, signature_view}
 use Rattle.objects.proofs.Each.{with_done}
 use Rattle.objects.proofs.jws.signature.by_headers.Given as goal
 

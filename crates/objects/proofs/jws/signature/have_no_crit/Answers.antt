@@ -3,7 +3,7 @@ use Rattle.std.proofs.lemmas.Iterator.{YieldsList-from_slice}
 use Rattle.std.proofs.lemmas.Iterator.Search.{all_from_yields_List}
 use Rattle.std.proofs.lemmas.List.Folds.{list_all-map}
 use Rattle.objects.specs.Jws.{headers_have_no_crit}
-use Rattle.objects.specs.Views.{headed_signature_view}
+use Rattle.objects.specs.Code.Views.{headed_signature_view}
 use Rattle.objects.proofs.jws.signature.have_no_crit.Goals as goal
 
 pub returns : goal.returns

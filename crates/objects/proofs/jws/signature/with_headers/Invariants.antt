@@ -1,7 +1,7 @@
 use Rattle.std.proofs.Common.{◌≡◌, map}
 use Rattle.objects.specs.Jws.{headed_signature}
 use Rattle.objects.specs.Texts.{each}
-use Rattle.objects.specs.Views.{decoded_signature_view, headed_signature_view}
+use Rattle.objects.specs.Code.Views.{decoded_signature_view, headed_signature_view}
 use Rattle.objects.proofs.Each.{with_done}
 use Rattle.objects.proofs.jws.signature.with_headers.Given as goal
 

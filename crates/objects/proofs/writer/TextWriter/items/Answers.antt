@@ -1,6 +1,6 @@
 use Rattle.std.proofs.Common.{◌≡◌, codes, ◌∙◌}
-use Rattle.objects.specs.Views.{written_view}
-use Rattle.objects.specs.Writing.{opened, closed, separated}
+use Rattle.objects.specs.Code.Views.{written_view}
+use Rattle.objects.specs.Code.Writing.{opened, closed, separated}
 use Rattle.objects.proofs.WrittenItems.{one_more_item}
 use Rattle.objects.proofs.writer.TextWriter.items.Goals as goal
 

@@ -1,6 +1,6 @@
 use Rattle.std.proofs.Common.{◌≡◌, map, take}
-use Rattle.objects.specs.Views.{written_view}
-use Rattle.objects.specs.Writing.{with_items}
+use Rattle.objects.specs.Code.Views.{written_view}
+use Rattle.objects.specs.Code.Writing.{with_items}
 use Rattle.objects.proofs.writer.TextWriter.items.Given as goal
 
 -- those so far are written

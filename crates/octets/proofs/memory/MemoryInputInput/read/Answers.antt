@@ -1,6 +1,6 @@
 use Rattle.std.proofs.Common.{◌≡◌, ◌+◌, ◌++◌, take, drop, length, Ok, ap, ◌∙◌, arith}
 use Rattle.std.proofs.lemmas.Grind.{common_steps}
-use Rattle.octets.specs.Views.{front_of, read_count}
+use Rattle.octets.specs.Code.Views.{front_of, read_count}
 use Rattle.octets.proofs.Contents.{contents_same}
 use Rattle.octets.proofs.Pieces.{take_copied}
 use Rattle.octets.proofs.memory.MemoryInputInput.read.Goals as goal

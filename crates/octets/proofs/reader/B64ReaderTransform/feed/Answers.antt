@@ -2,9 +2,8 @@ use Rattle.std.proofs.Common.{rules, ◌≡◌, ℕ, ◌+◌, ◌-◌, ◌*◌, 
 use Rattle.std.proofs.Math.Seq.{take-append_seam}
 use Rattle.std.proofs.lemmas.List.{drop-take}
 use Rattle.std.proofs.lemmas.Grind.{common_steps}
-use Rattle.octets.specs.Base64url.{decoded, settled, unsettled}
-use Rattle.octets.specs.Encoding.{settling}
-use Rattle.octets.specs.Pumps.{RefusesFrom}
+use Rattle.octets.specs.Base64url.{decoded}
+use Rattle.octets.specs.Code.Streams.{settled, unsettled, settling, RefusesFrom}
 use Rattle.octets.proofs.Agreement.{of_refusal}
 use Rattle.octets.proofs.Decoding.{settled_adds, settled_refuses}
 use Rattle.octets.proofs.Settling.{joined, settled_front, unsettled_front, unsettled-append}

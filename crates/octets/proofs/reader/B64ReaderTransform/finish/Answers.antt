@@ -1,7 +1,7 @@
 use Rattle.std.proofs.Common.{rules, ◌≡◌, length, take, Err, ap, sym, ◌∙◌, arith}
 use Rattle.std.proofs.lemmas.List.{length-take}
 use Rattle.octets.specs.Base64url.{decoded}
-use Rattle.octets.specs.Encoding.{settling}
+use Rattle.octets.specs.Code.Streams.{settling}
 use Rattle.octets.specs.LineEnds.{without_line_end}
 use Rattle.octets.proofs.Agreement.{of_refusal}
 use Rattle.octets.proofs.Decoding.{short_kept, last_decoded, last_refused}

@@ -2,7 +2,8 @@ use Rattle.std.proofs.Common.{◌≡◌, ◌+◌, ◌-◌, ◌*◌, ◌/◌, ◌
 use Rattle.std.proofs.Math.Seq.{take-append_seam}
 use Rattle.std.proofs.lemmas.List.{length-take-le, drop-take}
 use Rattle.std.proofs.lemmas.Grind.{common_steps}
-use Rattle.octets.specs.Base64url.{base64url, whole_groups, part_group}
+use Rattle.octets.specs.Base64url.{base64url, whole_groups}
+use Rattle.octets.specs.Code.Streams.{part_group}
 use Rattle.octets.proofs.Groups.{whole_front, part_front, part-append, base64url_whole-append}
 use Rattle.octets.proofs.writer.B64Writer.feed.Goals as goal
 

@@ -2,10 +2,10 @@ use Rattle.std.proofs.Common.{◌≡◌, ◌∷◌, ◌+◌, drop, map, sym, ap,
 use Rattle.std.proofs.lemmas.Grind.{common_steps}
 use Rattle.std.proofs.lemmas.List.{drop_more}
 use Rattle.keys.specs.Limits.{limits}
-use Rattle.keys.specs.Views.{key_view}
-use Rattle.objects.specs.Views.{recipient_view}
+use Rattle.keys.specs.Code.Views.{key_view}
+use Rattle.objects.specs.Code.Views.{recipient_view}
 use Rattle.tokens.specs.Decrypting.{all_pairs}
-use Rattle.tokens.specs.Views.{pair_view}
+use Rattle.tokens.specs.Code.Views.{pair_view}
 use Rattle.tokens.proofs.PairLists.{few_pairs, one_more_recipient}
 use Rattle.tokens.proofs.decrypt.pairs.all_pairs.Goals as goal
 

@@ -1,10 +1,10 @@
 use Rattle.std.proofs.Common.{◌≡◌, ◌++◌, List, drop, map}
 use Rattle.keys.specs.Limits.{limits}
-use Rattle.keys.specs.Views.{key_view}
+use Rattle.keys.specs.Code.Views.{key_view}
 use Rattle.objects.specs.declared.jwe.recipient.Recipient.{Recipient as Code}
-use Rattle.objects.specs.Views.{recipient_view}
+use Rattle.objects.specs.Code.Views.{recipient_view}
 use Rattle.tokens.specs.Decrypting.{Pair, all_pairs}
-use Rattle.tokens.specs.Views.{pair_view}
+use Rattle.tokens.specs.Code.Views.{pair_view}
 use Rattle.tokens.proofs.decrypt.pairs.all_pairs.Given as goal
 
 -- the pairs so far and those of the recipients that are left are all of them

@@ -1,7 +1,7 @@
 use Rattle.std.proofs.Common.{◌≡◌, ◌≤◌, drop, map}
 use Rattle.keys.specs.Limits.{limits}
 use Rattle.tokens.specs.Decrypting.{are_within}
-use Rattle.tokens.specs.Views.{pair_view}
+use Rattle.tokens.specs.Code.Views.{pair_view}
 use Rattle.tokens.proofs.Iterations.{within_after}
 use Rattle.tokens.proofs.decrypt.pairs.are_within.Given as goal
 

@@ -1,9 +1,9 @@
 use Rattle.std.proofs.Common.{◌≡◌, ◌∷◌, ◌+◌, ◌++◌, drop, map, sym, ap, ◌∙◌, arith}
 use Rattle.std.proofs.lemmas.List.{drop_more}
-use Rattle.keys.specs.Views.{key_view}
-use Rattle.objects.specs.Views.{recipient_view}
+use Rattle.keys.specs.Code.Views.{key_view}
+use Rattle.objects.specs.Code.Views.{recipient_view}
 use Rattle.tokens.specs.Decrypting.{pairs_with}
-use Rattle.tokens.specs.Views.{algorithms_view, pair_view}
+use Rattle.tokens.specs.Code.Views.{algorithms_view, pair_view}
 use Rattle.tokens.proofs.PairLists.{one_more_key}
 use Rattle.tokens.proofs.decrypt.pairs.push_candidates.Goals as goal
 

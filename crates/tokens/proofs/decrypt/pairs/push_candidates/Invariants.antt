@@ -1,9 +1,9 @@
 use Rattle.std.proofs.Common.{◌≡◌, ◌++◌, List, drop, map}
 use Rattle.keys.specs.declared.key.Key.{Key}
-use Rattle.keys.specs.Views.{key_view}
-use Rattle.objects.specs.Views.{recipient_view}
+use Rattle.keys.specs.Code.Views.{key_view}
+use Rattle.objects.specs.Code.Views.{recipient_view}
 use Rattle.tokens.specs.Decrypting.{Pair, pairs_with}
-use Rattle.tokens.specs.Views.{algorithms_view, pair_view}
+use Rattle.tokens.specs.Code.Views.{algorithms_view, pair_view}
 use Rattle.tokens.proofs.decrypt.pairs.push_candidates.Given as goal
 
 -- the pairs so far and those of the keys that are left are all of them

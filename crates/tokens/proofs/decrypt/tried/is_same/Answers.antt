@@ -1,5 +1,5 @@
 use Rattle.std.proofs.Common.{◌≡◌, rules, sym, ◌∙◌}
-use Rattle.tokens.specs.Views.{pair_view}
+use Rattle.tokens.specs.Code.Views.{pair_view}
 use Rattle.tokens.proofs.TriedPairs.{same_opening}
 use Rattle.tokens.proofs.decrypt.tried.is_same.Goals as goal
 

@@ -1,6 +1,6 @@
 use Rattle.std.proofs.Common.{◌-◌, ◌∙◌, sym, ap, arith}
 use Rattle.tokens.specs.Decrypting.{opened_by}
-use Rattle.tokens.specs.Views.{pair_view}
+use Rattle.tokens.specs.Code.Views.{pair_view}
 use Rattle.tokens.proofs.TriedPairs.{none_at}
 use Rattle.tokens.proofs.decrypt.tried.was_tried.Goals as goal
 

@@ -1,6 +1,6 @@
 use Rattle.std.proofs.Common.{◌≡◌, ◌++◌, drop, length, map}
 use Rattle.tokens.specs.Delivering.{drawn_for_all, deliveries_to}
-use Rattle.tokens.specs.Views.{recipient_key_view, encryption_plan_view, delivery_view}
+use Rattle.tokens.specs.Code.Views.{recipient_key_view, encryption_plan_view, delivery_view}
 use Rattle.tokens.proofs.encrypt.deliver.deliver_to_all.Given as goal
 
 -- the deliveries so far and those to the recipients that are left, with the octets that are left, are all of them

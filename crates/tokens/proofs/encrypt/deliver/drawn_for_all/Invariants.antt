@@ -1,6 +1,6 @@
 use Rattle.std.proofs.Common.{◌≡◌, ◌+◌, ◌*◌, ◌≤◌, drop, map}
 use Rattle.tokens.specs.Delivering.{drawn_for_all}
-use Rattle.tokens.specs.Views.{recipient_key_view}
+use Rattle.tokens.specs.Code.Views.{recipient_key_view}
 use Rattle.tokens.proofs.encrypt.deliver.drawn_for_all.Given as goal
 
 -- the octets so far and those of the recipients that are left are all of them

@@ -1,7 +1,7 @@
 use Rattle.std.proofs.Common.{◌≡◌, ◌++◌, map}
-use Rattle.objects.specs.Views.{recipient_parts_view}
+use Rattle.objects.specs.Code.Views.{recipient_parts_view}
 use Rattle.tokens.specs.Encrypting.{recipient_parts_by}
-use Rattle.tokens.specs.Views.{given_view, delivery_view}
+use Rattle.tokens.specs.Code.Views.{given_view, delivery_view}
 use Rattle.tokens.proofs.encrypt.recipients.recipients.Given as goal
 
 -- the recipients so far and those of the deliveries that are left are all of them

@@ -3,7 +3,7 @@ use Rattle.std.proofs.lemmas.Iterator.{YieldsList-from_slice}
 use Rattle.std.proofs.lemmas.Iterator.Search.{all_from_yields_List}
 use Rattle.std.proofs.lemmas.List.Folds.{list_all-map}
 use Rattle.tokens.specs.Choosing.{may_encrypt}
-use Rattle.tokens.specs.Views.{recipient_key_view}
+use Rattle.tokens.specs.Code.Views.{recipient_key_view}
 use Rattle.tokens.proofs.encrypt.settle.all_may_encrypt.Goals as goal
 
 pub returns : goal.returns

@@ -1,6 +1,6 @@
 use Rattle.std.proofs.Common.{◌≡◌, ◌+◌, ◌≤◌, drop, map}
 use Rattle.tokens.specs.Choosing.{password_count}
-use Rattle.tokens.specs.Views.{recipient_key_view}
+use Rattle.tokens.specs.Code.Views.{recipient_key_view}
 use Rattle.tokens.proofs.encrypt.settle.password_count.Given as goal
 
 -- the passwords so far and those of the recipient keys that are left are all of them

@@ -1,9 +1,9 @@
 use Rattle.std.proofs.Common.{◌≡◌, length, map, drop}
-use Rattle.keys.specs.Views.{key_view}
+use Rattle.keys.specs.Code.Views.{key_view}
 use Rattle.objects.specs.Texts.{each}
 use Rattle.objects.proofs.Lemmas.{with_done}
 use Rattle.tokens.specs.Choosing.{recipient_key_by}
-use Rattle.tokens.specs.Views.{recipient_key_view}
+use Rattle.tokens.specs.Code.Views.{recipient_key_view}
 use Rattle.tokens.proofs.encrypt.settle.recipient_keys_by.Given as goal
 
 -- the recipient keys so far and those of the keys that are left are all of them

@@ -1,9 +1,9 @@
 use Rattle.std.proofs.Common.{rules, codes}
 use Rattle.serde_json.specs.View.{view}
-use Rattle.octets.specs.Outcomes.{Agrees}
+use Rattle.octets.specs.Code.Results.{Agrees}
 use Rattle.objects.specs.Headers.{header_at}
 use Rattle.objects.specs.Texts.{text_at}
-use Rattle.objects.specs.Views.{part_view}
+use Rattle.objects.specs.Code.Views.{part_view}
 use Rattle.tokens.specs.EncryptionTemplate.{template_texts}
 use Rattle.tokens.proofs.encrypt.template.template_texts.Goals as goal
 

@@ -3,7 +3,7 @@ use Rattle.std.proofs.lemmas.Iterator.{YieldsList-from_slice}
 use Rattle.std.proofs.lemmas.Iterator.Search.{all_from_yields_List}
 use Rattle.std.proofs.lemmas.List.Folds.{list_all-map}
 use Rattle.tokens.specs.Signing.{may_sign}
-use Rattle.tokens.specs.Views.{signer_view}
+use Rattle.tokens.specs.Code.Views.{signer_view}
 use Rattle.tokens.proofs.sign.settle.all_may_sign.Goals as goal
 
 pub returns : goal.returns

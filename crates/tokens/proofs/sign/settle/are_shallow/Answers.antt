@@ -5,7 +5,7 @@ use Rattle.std.proofs.lemmas.List.Folds.{list_all-map}
 use Rattle.keys.specs.Limits.{limits}
 use Rattle.tokens.specs.Signing.{Signer}
 use Rattle.tokens.specs.Template.{is_shallow}
-use Rattle.tokens.specs.Views.{signer_view}
+use Rattle.tokens.specs.Code.Views.{signer_view}
 use Rattle.tokens.proofs.sign.settle.are_shallow.Goals as goal
 
 pub returns : goal.returns

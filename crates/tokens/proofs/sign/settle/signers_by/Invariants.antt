@@ -1,9 +1,9 @@
 use Rattle.std.proofs.Common.{◌≡◌, map, drop}
-use Rattle.keys.specs.Views.{key_view}
+use Rattle.keys.specs.Code.Views.{key_view}
 use Rattle.objects.specs.Texts.{each}
 use Rattle.objects.proofs.Lemmas.{with_done}
 use Rattle.tokens.specs.Signing.{signer_by}
-use Rattle.tokens.specs.Views.{signer_view, template_view}
+use Rattle.tokens.specs.Code.Views.{signer_view, template_view}
 use Rattle.tokens.proofs.sign.settle.signers_by.Given as goal
 
 -- the signers so far and those of the keys that are left are all of them

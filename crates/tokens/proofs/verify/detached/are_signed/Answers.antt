@@ -2,10 +2,10 @@ use Rattle.std.proofs.Common.{◌≡◌, ◌∷◌, ◌+◌, [], drop, map, sym,
 use Rattle.std.proofs.lemmas.List.{drop_more, nil_from_length}
 use Rattle.std.specs.Vec.Iter.{into_iter_items}
 use Rattle.octets.specs.Base64url.{base64url}
-use Rattle.keys.specs.Views.{key_view}
-use Rattle.objects.specs.Views.{signature_view}
-use Rattle.tokens.specs.SigningInputs.{HoldEach}
-use Rattle.tokens.specs.VerifyingInputs.{starts_for_keys}
+use Rattle.keys.specs.Code.Views.{key_view}
+use Rattle.objects.specs.Code.Views.{signature_view}
+use Rattle.tokens.specs.Code.SigningInputs.{HoldEach}
+use Rattle.tokens.specs.Code.VerifyingInputs.{starts_for_keys}
 use Rattle.tokens.proofs.VerifyingInputs.{have_signed, decided, none_left, are_verified_by_keys}
 use Rattle.tokens.proofs.verify.detached.are_signed.Goals as goal
 

@@ -2,11 +2,11 @@ use Rattle.std.proofs.Common.{◌≡◌, ℕ, List, ◌++◌, ◌||◌, map, dro
 use Rattle.std.specs.List.{list_any}
 use Rattle.std.specs.Vec.Iter.{into_iter_items}
 use Rattle.octets.specs.Base64url.{base64url}
-use Rattle.keys.specs.Views.{key_view}
-use Rattle.objects.specs.Views.{signature_view}
-use Rattle.tokens.specs.SigningInputs.{InputStart, HoldEach}
+use Rattle.keys.specs.Code.Views.{key_view}
+use Rattle.objects.specs.Code.Views.{signature_view}
+use Rattle.tokens.specs.Code.SigningInputs.{InputStart, HoldEach}
 use Rattle.tokens.specs.Verifying.{verifies}
-use Rattle.tokens.specs.VerifyingInputs.{starts_for_key}
+use Rattle.tokens.specs.Code.VerifyingInputs.{starts_for_key}
 use Rattle.tokens.proofs.verify.detached.has_signed.Given as goal
 
 -- The key made one of the signatures so far, or makes one of those that are left, and of these the inputs are left.

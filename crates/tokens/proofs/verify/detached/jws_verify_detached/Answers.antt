@@ -2,12 +2,12 @@ use Rattle.std.proofs.Common.{◌≡◌, ◌++◌, [], false, map, length, sym, 
 use Rattle.octets.specs.Base64url.{base64url}
 use Rattle.octets.specs.Devices.{appended}
 use Rattle.octets.specs.Outcomes.{AgreesUnlessExternal}
-use Rattle.keys.specs.Views.{key_view}
+use Rattle.keys.specs.Code.Views.{key_view}
 use Rattle.objects.specs.HandedIn.{with_payload}
-use Rattle.objects.specs.Views.{jws_view, signature_view}
-use Rattle.tokens.specs.SigningInputs.{HoldEach}
+use Rattle.objects.specs.Code.Views.{jws_view, signature_view}
+use Rattle.tokens.specs.Code.SigningInputs.{HoldEach}
 use Rattle.tokens.specs.Verifying.{verifying_by}
-use Rattle.tokens.specs.VerifyingInputs.{starts_for_keys}
+use Rattle.tokens.specs.Code.VerifyingInputs.{starts_for_keys}
 use Rattle.tokens.specs.contracts.signing_input.HmacInputSigningInput.TheImpl.{has_taken-value}
 use Rattle.tokens.proofs.StandingSignatures.{written_back}
 use Rattle.tokens.proofs.VerifyingInputs.{unwanted}

@@ -1,10 +1,10 @@
 use Rattle.std.proofs.Common.{◌≡◌, ◌++◌, ◌∷◌, [], codes, Some, sym, ap, subst, ◌∙◌}
-use Rattle.keys.specs.Views.{key_view}
-use Rattle.objects.specs.Views.{signature_view}
+use Rattle.keys.specs.Code.Views.{key_view}
+use Rattle.objects.specs.Code.Views.{signature_view}
 use Rattle.tokens.specs.Signatures.{signature_hash}
-use Rattle.tokens.specs.SigningInputs.{InputStart, HoldEach}
+use Rattle.tokens.specs.Code.SigningInputs.{InputStart, HoldEach}
 use Rattle.tokens.specs.Verifying.{candidate_alg}
-use Rattle.tokens.specs.VerifyingInputs.{starts_by}
+use Rattle.tokens.specs.Code.VerifyingInputs.{starts_by}
 use Rattle.tokens.specs.contracts.signing_input.HmacInputSigningInput.TheImpl.{has_taken-value}
 use Rattle.tokens.proofs.StartedInputs.{hold_more}
 use Rattle.tokens.proofs.verify.detached.push_input.Goals as goal

@@ -1,8 +1,8 @@
 use Rattle.std.proofs.Common.{List, [], ◌++◌, map, drop}
-use Rattle.keys.specs.Views.{key_view}
-use Rattle.objects.specs.Views.{signature_view}
-use Rattle.tokens.specs.SigningInputs.{InputStart, HoldEach}
-use Rattle.tokens.specs.VerifyingInputs.{starts_for_key}
+use Rattle.keys.specs.Code.Views.{key_view}
+use Rattle.objects.specs.Code.Views.{signature_view}
+use Rattle.tokens.specs.Code.SigningInputs.{InputStart, HoldEach}
+use Rattle.tokens.specs.Code.VerifyingInputs.{starts_for_key}
 use Rattle.tokens.specs.contracts.signing_input.HmacInputSigningInput.TheImpl.{has_taken-value}
 use Rattle.tokens.proofs.StartedInputs.{AreStarted}
 use Rattle.tokens.proofs.verify.detached.push_inputs.Given as goal

@@ -1,8 +1,8 @@
 use Rattle.std.proofs.Common.{◌≡◌, ◌++◌, codes, false, is_none, rules, sym, ap, ◌∙◌}
 use Rattle.std.specs.Vec.Iter.{into_iter_items}
 use Rattle.octets.specs.Base64url.{base64url}
-use Rattle.keys.specs.Views.{key_view}
-use Rattle.objects.specs.Views.{signature_view}
+use Rattle.keys.specs.Code.Views.{key_view}
+use Rattle.objects.specs.Code.Views.{signature_view}
 use Rattle.tokens.specs.Signatures.{signature_hash}
 use Rattle.tokens.specs.Verifying.{candidate_alg, verifies_by}
 use Rattle.tokens.proofs.VerifyingInputs.{first_for_pair, made_signature}

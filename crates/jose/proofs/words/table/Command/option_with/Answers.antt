@@ -2,7 +2,7 @@ use Rattle.std.proofs.Common.{rules, tests}
 use Rattle.std.proofs.lemmas.Iterator.{YieldsList-from_slice}
 use Rattle.std.proofs.lemmas.Iterator.Search.{find_from_yields_List}
 use Rattle.jose.specs.Commands.{same_role}
-use Rattle.jose.specs.Rows.{option_entry}
+use Rattle.jose.specs.Code.Rows.{option_entry}
 use Rattle.jose.proofs.Finding.{found_mapped}
 use Rattle.jose.proofs.words.table.Command.option_with.Goals as goal
 

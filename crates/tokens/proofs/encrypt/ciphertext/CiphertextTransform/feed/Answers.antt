@@ -1,9 +1,8 @@
 use Rattle.std.proofs.Common.{rules, ◌++◌, Err, ap, ◌∙◌, refl}
-use Rattle.octets.specs.Plan.{as_it_is}
-use Rattle.octets.specs.Pumps.{RefusesFrom}
+use Rattle.octets.specs.Code.Streams.{as_it_is, RefusesFrom}
 use Rattle.octets.proofs.Lemmas.{of_refusal}
 use Rattle.ciphers.specs.Sealing.{IsTooLong}
-use Rattle.tokens.specs.SealedTexts.{sealed_plan}
+use Rattle.tokens.specs.Code.SealedTexts.{sealed_plan}
 use Rattle.tokens.proofs.SealedPlans.{adds, refuses_long}
 use Rattle.tokens.proofs.encrypt.ciphertext.CiphertextTransform.feed.Goals as goal
 

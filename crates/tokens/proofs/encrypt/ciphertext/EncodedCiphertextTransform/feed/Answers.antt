@@ -1,9 +1,9 @@
 use Rattle.std.proofs.Common.{rules, ◌++◌, Err, ap, ◌∙◌, refl}
 use Rattle.octets.specs.Encoding.{encoding}
-use Rattle.octets.specs.Pumps.{RefusesFrom}
+use Rattle.octets.specs.Code.Streams.{RefusesFrom}
 use Rattle.octets.proofs.Lemmas.{of_refusal}
 use Rattle.ciphers.specs.Sealing.{IsTooLong}
-use Rattle.tokens.specs.SealedTexts.{sealed_plan}
+use Rattle.tokens.specs.Code.SealedTexts.{sealed_plan}
 use Rattle.tokens.proofs.SealedPlans.{refuses_long}
 use Rattle.tokens.proofs.encrypt.ciphertext.EncodedCiphertextTransform.feed.Goals as goal
 

@@ -2,7 +2,7 @@ use Rattle.std.proofs.Common.{◌+◌, ◌++◌, take, Ok, ap, sym, ◌∙◌, a
 use Rattle.std.proofs.lemmas.Grind.{common_steps}
 use Rattle.std.proofs.lemmas.Slice.{take-put_mid}
 use Rattle.octets.specs.Encoding.{encoding}
-use Rattle.tokens.specs.SealedTexts.{sealed_plan}
+use Rattle.tokens.specs.Code.SealedTexts.{sealed_plan}
 use Rattle.tokens.proofs.SealedPlans.{text_ends}
 use Rattle.tokens.proofs.encrypt.ciphertext.EncodedCiphertextTransform.finish.Goals as goal
 

@@ -3,7 +3,7 @@ use Rattle.std.proofs.lemmas.List.{length-map}
 use Rattle.octets.specs.Base64url.{base64url}
 use Rattle.octets.specs.Devices.{AppendsPrefixOf}
 use Rattle.octets.proofs.Lemmas.{AppendsPrefixOf-front, AppendsPrefixOf-part, at_refusal}
-use Rattle.objects.specs.Frames.{filled}
+use Rattle.objects.specs.Code.Frames.{filled}
 use Rattle.tokens.proofs.Beginnings.{AppendsPrefixOf-behind}
 use Rattle.tokens.proofs.StandingSignatures.{first_and_others}
 use Rattle.tokens.proofs.encrypt.ciphertext.TagValues.write.Goals as goal

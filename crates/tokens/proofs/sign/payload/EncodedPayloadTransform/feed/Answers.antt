@@ -1,9 +1,9 @@
 use Rattle.std.proofs.Common.{rules, ◌++◌, length, ap, sym, subst, ◌∙◌, arith}
 use Rattle.octets.specs.Base64url.{base64url, whole_groups}
 use Rattle.octets.specs.Encoding.{encoding}
-use Rattle.octets.specs.Pumps.{RefusesFrom}
+use Rattle.octets.specs.Code.Streams.{RefusesFrom}
 use Rattle.octets.proofs.Lemmas.{of_refusal}
-use Rattle.tokens.specs.SigningInputs.{HoldEach}
+use Rattle.tokens.specs.Code.SigningInputs.{HoldEach}
 use Rattle.tokens.proofs.StandingSignatures.{written_back}
 use Rattle.tokens.proofs.sign.payload.EncodedPayloadTransform.feed.Goals as goal
 

@@ -2,7 +2,7 @@ use Rattle.std.proofs.Common.{rules, ◌≡◌, ◌++◌, length, Err, ap, sym, 
 use Rattle.octets.specs.Base64url.{base64url, whole_groups}
 use Rattle.octets.specs.Encoding.{encoding}
 use Rattle.octets.proofs.Lemmas.{of_refusal}
-use Rattle.tokens.specs.SigningInputs.{HoldEach}
+use Rattle.tokens.specs.Code.SigningInputs.{HoldEach}
 use Rattle.tokens.proofs.StandingSignatures.{written_back}
 use Rattle.tokens.proofs.sign.payload.EncodedPayloadTransform.finish.Goals as goal
 

@@ -1,6 +1,6 @@
 use Rattle.std.proofs.Common.{sym, subst}
-use Rattle.octets.specs.Pumps.{encoding_starts}
-use Rattle.tokens.specs.SigningInputs.{HoldEach}
+use Rattle.octets.specs.Code.Streams.{encoding_starts}
+use Rattle.tokens.specs.Code.SigningInputs.{HoldEach}
 use Rattle.tokens.proofs.sign.payload.Payload.start.Goals as goal
 
 pub returns : goal.returns

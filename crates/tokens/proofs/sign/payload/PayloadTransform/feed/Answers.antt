@@ -1,9 +1,8 @@
 use Rattle.std.proofs.Common.{rules, ◌++◌, length, ap, sym, subst, ◌∙◌, arith}
 use Rattle.octets.specs.Base64url.{base64url, whole_groups}
-use Rattle.octets.specs.Plan.{as_it_is}
-use Rattle.octets.specs.Pumps.{RefusesFrom}
+use Rattle.octets.specs.Code.Streams.{as_it_is, RefusesFrom}
 use Rattle.octets.proofs.Lemmas.{of_refusal}
-use Rattle.tokens.specs.SigningInputs.{HoldEach}
+use Rattle.tokens.specs.Code.SigningInputs.{HoldEach}
 use Rattle.tokens.proofs.StandingSignatures.{written_back}
 use Rattle.tokens.proofs.sign.payload.PayloadTransform.feed.Goals as goal
 

@@ -1,6 +1,6 @@
 use Rattle.std.proofs.Common.{List, ℕ, ◌++◌, ◌+◌, ◌≡◌, map, length, string_bytes}
-use Rattle.objects.specs.Frames.{filled}
-use Rattle.tokens.specs.SigningInputs.{InputStart, HoldEach, signature_text}
+use Rattle.objects.specs.Code.Frames.{filled}
+use Rattle.tokens.specs.Code.SigningInputs.{InputStart, HoldEach, signature_text}
 use Rattle.tokens.proofs.WrittenSignatures.{AreLeft}
 use Rattle.tokens.proofs.sign.payload.VecValues.write.Given as goal
 

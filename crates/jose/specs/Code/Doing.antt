@@ -1,17 +1,17 @@
 -- What a command promises of its devices, and what its steps promise, from which that follows.
-use Rattle.std.specs.Prelude.{◌≡◌, ◌⊎◌, ◌++◌, ◌&&◌, ℕ, Bool, true, false, List, [], if◌then◌else◌, option_map, Result, Err, OnOk, OnErr, IfOk, IfErr, IsTrue}
+use Rattle.std.specs.Prelude.{◌≡◌, ◌⊎◌, ◌++◌, ◌&&◌, ℕ, Bool, true, false, List, [], if◌then◌else◌, option_map, Result, Err, OnOk, OnErr, IfOk, IfErr, IsTrue, Ok}
 use Rattle.octets.specs.declared.refusal.Refusal.{Refusal}
 use Rattle.octets.specs.declared.refusal.Refusal.TheVariants.{Read}
 use Rattle.octets.specs.Devices.{IsPossibleInput, IsFinishedOnce}
 use Rattle.octets.specs.Faults.{TellsFaults}
 use Rattle.octets.specs.Outcomes.{AgreesUnlessExternal, is_external}
-use Rattle.octets.specs.Plan.{OutputTexts}
-use Rattle.objects.specs.Texts.{handed_in}
+use Rattle.octets.specs.Plan.{OutputTexts, nothing}
+use Rattle.objects.specs.Texts.{handed_in, handed_out}
 use Rattle.jose.specs.declared.commands.WholeInputs.{WholeInputs}
 use Rattle.jose.specs.declared.ports.Inputs.{Inputs}
 use Rattle.jose.specs.declared.ports.Outputs.{Outputs}
 use Rattle.jose.specs.Invocations.{InvocationView}
-use Rattle.jose.specs.Ports.{ObservedInputs, AppendPrefixesOf, observed_inputs, written_texts, input_counts, output_counts, formed}
+use Rattle.jose.specs.Ports.{ObservedInputs, AppendPrefixesOf, observed_inputs, written_texts, input_counts, output_counts}
 use Rattle.jose.specs.Answer.{Answers, DrawsAll, DrawsNoMore, AreFinished, AreUnfinished, AreUntouched, AreSpared, AreUncut, AreUnread, AreKeptUp, IsContentFirst, AreInOrder, ReadsFirst, DrawsFirst, TakesMemoryFirst, RefusesFirst, HoldsBack, was_read, beginning as beginning_of_run}
 
 -- ---- what contracts see of a device
@@ -101,3 +101,13 @@ pub record WritesWhole {E : Type 0} (output : OutputMembers E) (has_text has_con
   pub no_text : has_text ≡ false → after.text ≡ before.text
   pub no_content : has_content ≡ false → after.content ≡ before.content
   pub faults : TellsFaults [] (output_counts output.failures before after) result
+
+-- what may stand written of an answer, as a whole: nothing before its inputs are read and accepted
+-- (docs/SPECIFICATION.md "Commands", "What is left after a refusal")
+abbrev pub formed : Result OutputTexts Refusal → Bool → OutputTexts
+formed (Ok texts) true = texts
+formed answer read = nothing
+
+-- the text of an object, and its content beside it where that is detached (docs/SPECIFICATION.md "Commands" 4)
+abbrev pub object_texts : Bool → List ℕ → List ℕ → OutputTexts
+object_texts detach content text = record { text = text; content = handed_out detach content }

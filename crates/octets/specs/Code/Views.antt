@@ -1,8 +1,8 @@
 -- Devices as clauses see them.
 use Rattle.std.specs.Prelude.{ℕ, ◌-◌, ◌==◌, min, Bool, List, length, take}
 use Rattle.std.specs.Iterator.{Count, at_most}
-use Rattle.octets.specs.Devices.{most_octets}
 use Rattle.octets.specs.Octets.{IsOctets}
+use Rattle.octets.specs.Code.Streams.{most_octets}
 use Rattle.octets.specs.declared.streams.ReaderInput.{ReaderInput}
 use Rattle.octets.specs.declared.streams.WriterOutput.{WriterOutput}
 

@@ -1,18 +1,18 @@
 -- What values of the code hold, as contracts see it.
 use Rattle.std.specs.Borrow.{Bor}
 use Rattle.std.specs.BTreeMap.{BTreeMap}
-use Rattle.std.specs.Prelude.{ℕ, Bool, true, false, List, Option, Some, None, String, map, string_bytes}
+use Rattle.std.specs.Prelude.{ℕ, Bool, true, false, List, Option, Some, None, String, map, string_bytes, []}
 use Rattle.std.specs.declared.alloc.Global.{Global}
 use Rattle.serde_json.specs.Data.{Members, no_members}
 use Rattle.serde_json.specs.View.{members_view}
 use Rattle.serde_json.specs.declared.value.Value.{Value}
-use Rattle.octets.specs.Base64url.{base64url}
-use Rattle.objects.specs.Headers.{all_members}
-use Rattle.objects.specs.Jwe.{RecipientParts, Recipient, EncodedShared, EncodedRecipient, EncodedContent, EncodedJwe, JweParts, EncryptedObject}
+use Rattle.octets.specs.Base64url.{base64url, decoded}
+use Rattle.objects.specs.Headers.{all_members, protected_members}
+use Rattle.objects.specs.Jwe.{RecipientParts, Recipient, EncodedShared, EncodedRecipient, EncodedContent, EncodedJwe, JweParts, EncryptedObject, encoded_recipient, jwe_members}
 use Rattle.objects.specs.Jws.{SignatureParts, JwsParts, EncodedSignature, EncodedJws, Signature, DecodedSignature, HeadedSignature, SignedObject}
-use Rattle.objects.specs.KeyManagementView.{management_view}
+use Rattle.objects.specs.Code.KeyManagementView.{management_view}
 use Rattle.objects.specs.Texts.{meaning}
-use Rattle.objects.specs.Writing.{Written}
+use Rattle.objects.specs.Code.Writing.{Written}
 use Rattle.objects.specs.declared.content.Content.{Content}
 use Rattle.objects.specs.declared.content.Content.TheVariants.{Text, Octets}
 use Rattle.objects.specs.declared.writer.TextWriter as writer
@@ -41,6 +41,7 @@ use Rattle.objects.specs.declared.content.received_text.ReceivedText as received
 use Rattle.objects.specs.declared.jwe.recipient.Recipient as recipient
 use Rattle.objects.specs.declared.jwe.parts.RecipientMembers as members
 use Rattle.objects.specs.declared.jwe.parts.RecipientParts as parts
+use Rattle.octets.specs.declared.refusal.Refusal.TheVariants.{Header}
 
 -- ---- headers
 
@@ -192,3 +193,16 @@ jwe_view j = record {
 
 abbrev pub written_view : writer.TextWriter → Written
 written_view t = record { finished = map string_bytes t.finished.items; text = string_bytes t.text; later = t.later; places = t.places }
+
+-- the object without its ciphertext
+abbrev pub without_ciphertext : EncryptedObject → EncryptedObject
+without_ciphertext o = record {
+  protected = o.protected;
+  protected_members = o.protected_members;
+  unprotected = o.unprotected;
+  iv = o.iv;
+  aad = o.aad;
+  ciphertext = [];
+  tag = o.tag;
+  recipients = o.recipients;
+}

@@ -9,12 +9,13 @@ use Rattle.tokens.specs.declared.signing_input.HmacInput.{HmacInput}
 use Rattle.tokens.specs.declared.signing_input.HmacInput.TheVariants.{Hs256, Hs384, Hs512}
 use Rattle.octets.specs.declared.refusal.Refusal.{Refusal}
 use Rattle.keys.specs.declared.algorithm.SignatureAlg.{SignatureAlg}
-use Rattle.octets.specs.Base64url.{base64url, whole_groups, part_group}
+use Rattle.octets.specs.Base64url.{base64url, whole_groups}
+use Rattle.octets.specs.Code.Streams.{part_group}
 use Rattle.octets.specs.Plan.{OutputTexts, Plan}
 use Rattle.prf.specs.Hmac.{hmac}
 use Rattle.serde_json.specs.Data.{Members}
 use Rattle.keys.specs.Limits.{Limits, limits}
-use Rattle.objects.specs.Frames.{IsJwsFrame, jws_frame}
+use Rattle.objects.specs.Code.Frames.{IsJwsFrame, jws_frame}
 use Rattle.objects.specs.Jws.{Signature, SignatureParts, SignedObject, built}
 use Rattle.tokens.specs.Signatures.{signature_hash}
 use Rattle.tokens.specs.Signing.{Signer, Signing, protected_by, plan_by}

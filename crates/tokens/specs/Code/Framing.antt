@@ -3,7 +3,7 @@ use Rattle.std.specs.Prelude.{◌≡◌, ℕ, ◌+◌, Bool, true, false, List, 
 use Rattle.octets.specs.declared.refusal.Refusal.{Refusal}
 use Rattle.octets.specs.Octets.{IsOctets}
 use Rattle.octets.specs.Plan.{OutputTexts, Plan, Grows}
-use Rattle.objects.specs.Frames.{filled, first_text}
+use Rattle.objects.specs.Code.Frames.{filled, first_text}
 
 -- what is written of a content and of the values that follow it
 abbrev pub all_in : Bool → List (List ℕ) → List ℕ → List (List ℕ) → OutputTexts

@@ -6,7 +6,7 @@ use Rattle.octets.specs.declared.refusal.Refusal.TheVariants.{NotCompact}
 use Rattle.octets.specs.Base64url.{base64url}
 use Rattle.octets.specs.Outcomes.{◌>>=◌, needs}
 use Rattle.objects.specs.Jwe.{RecipientParts, JweParts, EncryptedObject, parts_of, key_of_first, is_compact}
-use Rattle.objects.specs.Writing.{Written, nothing_written, pushed, opened, closed, with_text, with_header, with_place, with_content, inside, with_list, with_part, with_place_part, with_content_part}
+use Rattle.objects.specs.Code.Writing.{Written, nothing_written, pushed, opened, closed, with_text, with_header, with_place, with_content, inside, with_list, with_part, with_place_part, with_content_part}
 
 -- the header and the encrypted key of a recipient (RFC 7516 section 7.2)
 abbrev pub with_recipient : RecipientParts → Written → Written

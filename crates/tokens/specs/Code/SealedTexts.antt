@@ -3,14 +3,14 @@ use Rattle.std.specs.Prelude.{◌≡◌, ℕ, Bool, false, List, [], ◌∷◌, 
 use Rattle.std.proofs.Common.{zero, suc, refl, ap, ◌∙◌, arith}
 use Rattle.std.proofs.lemmas.List.{nil_from_length}
 use Rattle.octets.specs.declared.refusal.Refusal.{Refusal}
-use Rattle.octets.specs.Base64url.{part_group}
+use Rattle.octets.specs.Code.Streams.{part_group}
 use Rattle.octets.specs.Octets.{IsOctets}
 use Rattle.octets.specs.Outcomes.{◌>>=◌}
 use Rattle.octets.specs.Plan.{OutputTexts, Plan}
 use Rattle.ciphers.specs.Sealing.{Sealed, Sealing, IsTooLong}
-use Rattle.ciphers.specs.Views.{KeepsPace}
+use Rattle.ciphers.specs.Code.Views.{KeepsPace}
 use Rattle.keys.specs.Limits.{Limits, limits}
-use Rattle.objects.specs.Frames.{filled, in_places, first_text, jwe_frame}
+use Rattle.objects.specs.Code.Frames.{filled, in_places, first_text, jwe_frame}
 use Rattle.objects.specs.Jwe.{built}
 use Rattle.objects.specs.Texts.{handed_out}
 use Rattle.tokens.specs.Choosing.{EncryptionPlan}

@@ -1,9 +1,9 @@
 -- What values of the code hold.
 use Rattle.std.specs.Prelude.{ℕ, List, map}
 use Rattle.serde_json.specs.View.{members_view}
-use Rattle.keys.specs.Views.{key_view}
-use Rattle.objects.specs.KeyManagementView.{management_view}
-use Rattle.objects.specs.Views.{part_view, recipient_view}
+use Rattle.keys.specs.Code.Views.{key_view}
+use Rattle.objects.specs.Code.KeyManagementView.{management_view}
+use Rattle.objects.specs.Code.Views.{part_view, recipient_view}
 use Rattle.tokens.specs.declared.sign.template.Template.{Template}
 use Rattle.tokens.specs.declared.sign.signer.Signer.{Signer as CodeSigner}
 use Rattle.tokens.specs.declared.sign.settle.Signing.{Signing as CodeSigning}
@@ -21,7 +21,8 @@ use Rattle.tokens.specs.declared.encrypt.template.TemplateTexts.{TemplateTexts a
 use Rattle.tokens.specs.Algorithms.{Algorithms}
 use Rattle.tokens.specs.EncryptionTemplate.{TemplateTexts, AlgorithmsAsked, EncryptionTemplate}
 use Rattle.tokens.specs.Choosing.{RecipientKey, Given, EncryptionPlan}
-use Rattle.tokens.specs.Decrypting.{Pair, SealedContent, WorkCounts}
+use Rattle.tokens.specs.Decrypting.{Pair, SealedContent}
+use Rattle.tokens.specs.Code.Work.{WorkCounts}
 use Rattle.tokens.specs.Delivering.{Delivery}
 use Rattle.tokens.specs.Template.{SignatureTemplate}
 use Rattle.tokens.specs.Signing.{Signer, Signing}

@@ -3,8 +3,8 @@ use Rattle.std.specs.Prelude.{ℕ, Bool, List}
 use Rattle.std.specs.Iterator.{Count}
 use Rattle.octets.specs.declared.failing.FailingInput.{FailingInput}
 use Rattle.octets.specs.declared.failing.FailingOutput.{FailingOutput}
-use Rattle.octets.specs.Failing.{Course}
-use Rattle.octets.specs.Views.{Contents, Store, front_of, is_read, rest_of}
+use Rattle.octets.specs.Code.Failing.{Course}
+use Rattle.octets.specs.Code.Views.{Contents, Store, front_of, is_read, rest_of}
 
 -- ---- an input
 

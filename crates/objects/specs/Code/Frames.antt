@@ -7,9 +7,9 @@ use Rattle.octets.specs.Octets.{IsOctets}
 use Rattle.octets.specs.Outcomes.{◌>>=◌}
 use Rattle.objects.specs.Jws.{Signature, SignedObject, jws_text}
 use Rattle.objects.specs.Jwe.{EncryptedObject, jwe_text}
-use Rattle.objects.specs.JweWriting.{jwe_written}
-use Rattle.objects.specs.JwsWriting.{jws_written}
-use Rattle.objects.specs.Writing.{all_texts}
+use Rattle.objects.specs.Code.JweWriting.{jwe_written}
+use Rattle.objects.specs.Code.JwsWriting.{jws_written}
+use Rattle.objects.specs.Code.Writing.{all_texts}
 
 -- the texts, with values in the places between them
 abbrev pub filled : List (List ℕ) → List (List ℕ) → List ℕ

@@ -5,7 +5,7 @@ use Rattle.octets.specs.declared.refusal.Refusal.{Refusal}
 use Rattle.octets.specs.declared.refusal.Refusal.TheVariants.{NotCompact}
 use Rattle.octets.specs.Outcomes.{◌>>=◌, needs}
 use Rattle.objects.specs.Jws.{SignatureParts, JwsParts, SignedObject, parts_of, is_compact}
-use Rattle.objects.specs.Writing.{Written, nothing_written, pushed, opened, closed, with_text, with_header, with_place, with_content, inside, with_list, with_place_part, with_content_part}
+use Rattle.objects.specs.Code.Writing.{Written, nothing_written, pushed, opened, closed, with_text, with_header, with_place, with_content, inside, with_list, with_place_part, with_content_part}
 
 -- a signature, and the payload if it is next to it (RFC 7515 section 7.2)
 abbrev pub with_signature : Option (List ℕ) → SignatureParts → Written → Written

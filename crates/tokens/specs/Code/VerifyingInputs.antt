@@ -4,7 +4,7 @@ use Rattle.std.specs.Prelude.{List, [], ◌∷◌, ◌++◌, Option, Some, None}
 use Rattle.keys.specs.declared.algorithm.SignatureAlg.{SignatureAlg}
 use Rattle.keys.specs.Keys.{OctetKey}
 use Rattle.objects.specs.Jws.{Signature}
-use Rattle.tokens.specs.SigningInputs.{InputStart}
+use Rattle.tokens.specs.Code.SigningInputs.{InputStart}
 use Rattle.tokens.specs.Verifying.{candidate_alg}
 
 -- the start for a pair, if it is a candidate

@@ -18,11 +18,11 @@ use Rattle.ciphers.specs.declared.content_alg.ContentSealer.{ContentSealer}
 use Rattle.ciphers.specs.declared.content_alg.ContentSealer.TheVariants.{A128CbcHs256, A192CbcHs384, A256CbcHs512, A128Gcm, A192Gcm, A256Gcm}
 use Rattle.modes.specs.Cbc.{cbc_blocks}
 use Rattle.modes.specs.Gcm.{bit_length, gcm_ciphertext}
-use Rattle.modes.specs.Views as modes
+use Rattle.modes.specs.Code.Views as modes
 use Rattle.modes.specs.declared.gcm.Gcm.{Gcm}
 use Rattle.prf.specs.HashFunction.{HashFunction}
 use Rattle.prf.specs.Sha2.{Sha256, Sha384, Sha512}
-use Rattle.prf.specs.Views as prf
+use Rattle.prf.specs.Code.Views as prf
 
 -- ---- key wrap
 

@@ -1,0 +1,13 @@
+-- What contracts say of values and calls of the code.
+-- objects and their parts
+pub mod Views
+-- the parameters of key management
+pub mod KeyManagementView
+-- texts that are written, with places left for values
+pub mod Writing
+-- the texts of a signed object
+pub mod JwsWriting
+-- the texts of an encrypted object
+pub mod JweWriting
+-- the texts around a content, and what fills them
+pub mod Frames

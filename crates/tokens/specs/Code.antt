@@ -1,0 +1,13 @@
+-- What contracts say of values and calls of the code.
+-- signers, recipients and plans
+pub mod Views
+-- signing inputs that are fed in pieces
+pub mod SigningInputs
+-- signatures that are compared in pieces
+pub mod VerifyingInputs
+-- contents that are written in the places of a text
+pub mod Framing
+-- contents that are sealed as they are read
+pub mod SealedTexts
+-- the work of decrypting
+pub mod Work
