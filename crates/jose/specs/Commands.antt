@@ -1,6 +1,6 @@
 -- The commands of the program, in one table: their words, and what each option takes and names.
 use Prim.Native.String.{String}
-use Rattle.std.specs.Prelude.{ℕ, ◌==◌, Bool, true, false, List, [], ◌∷◌, Option, is_some, find, codes}
+use Rattle.std.specs.Prelude.{ℕ, ◌==◌, Bool, true, false, List, [], ◌∷◌, Option, is_some, find, map, codes}
 use Rattle.std.specs.Str.{byte}
 use Rattle.clap.specs.Words.{Text}
 use Rattle.jose.specs.declared.words.table.Command.{Command}

@@ -5,13 +5,33 @@ use Rattle.std.specs.Str.{bytes_eq}
 use Rattle.clap.specs.Words.{Text}
 use Rattle.octets.specs.declared.refusal.Refusal.{Refusal}
 use Rattle.octets.specs.declared.refusal.Refusal.TheVariants.{Usage}
-use Rattle.octets.specs.Outcomes.{needs}
+use Rattle.octets.specs.Outcomes.{◌>>=◌, needs}
 use Rattle.jose.specs.declared.words.table.Role.{Role}
 use Rattle.jose.specs.declared.words.table.Role.TheVariants.{Hash, Json, Keys, Streamed, Octets, Output, Secret, MadeKey}
 use Rattle.jose.specs.Commands.{OptionEntry, CommandEntry, option, commands}
 use Rattle.jose.specs.Invocations.{InvocationView, Settings, value_at, hash_named}
 use Rattle.jose.specs.Reading.{settings_read}
 use Prim.Native.String.{String}
+
+abbrev pub is_input : Role → Bool
+is_input Json = true
+is_input Keys = true
+is_input Streamed = true
+is_input Octets = true
+is_input other = false
+
+abbrev pub is_output : Role → Bool
+is_output Output = true
+is_output Secret = true
+is_output MadeKey = true
+is_output other = false
+
+abbrev pub has_words : Text → Text → CommandEntry → Bool
+has_words noun verb entry = bytes_eq entry.noun noun && bytes_eq entry.verb verb
+
+-- the command of the table that has these two words
+abbrev pub command_named : Text → Text → Option CommandEntry
+command_named noun verb = find (has_words noun verb) commands
 
 -- ---- standard input and output
 
@@ -46,23 +66,3 @@ invocation_of (noun ∷ (verb ∷ words)) = do
   ok ← needs (nat_eq (unserved_count entry.options settings) 0) Usage
   Ok (record { command = entry.command; options = settings })
 invocation_of words = Err Usage
-
-abbrev pub is_input : Role → Bool
-is_input Json = true
-is_input Keys = true
-is_input Streamed = true
-is_input Octets = true
-is_input other = false
-
-abbrev pub is_output : Role → Bool
-is_output Output = true
-is_output Secret = true
-is_output MadeKey = true
-is_output other = false
-
-abbrev pub has_words : Text → Text → CommandEntry → Bool
-has_words noun verb entry = bytes_eq entry.noun noun && bytes_eq entry.verb verb
-
--- the command of the table that has these two words
-abbrev pub command_named : Text → Text → Option CommandEntry
-command_named noun verb = find (has_words noun verb) commands

@@ -14,6 +14,16 @@ use Rattle.jose.specs.Invocations.{InvocationView}
 use Rattle.jose.specs.Ports.{ObservedInputs, AppendPrefixesOf, observed_inputs, written_texts, input_counts, output_counts}
 use Rattle.jose.specs.Answer.{Answers, DrawsAll, DrawsNoMore, AreFinished, AreUnfinished, AreUntouched, AreSpared, AreUncut, AreUnread, AreKeptUp, IsContentFirst, AreInOrder, ReadsFirst, DrawsFirst, TakesMemoryFirst, RefusesFirst, HoldsBack, was_read, beginning as beginning_of_run}
 
+-- what may stand written of an answer, as a whole: nothing before its inputs are read and accepted
+-- (docs/SPECIFICATION.md "Commands", "What is left after a refusal")
+abbrev pub formed : Result OutputTexts Refusal → Bool → OutputTexts
+formed (Ok texts) true = texts
+formed answer read = nothing
+
+-- the text of an object, and its content beside it where that is detached (docs/SPECIFICATION.md "Commands" 4)
+abbrev pub object_texts : Bool → List ℕ → List ℕ → OutputTexts
+object_texts detach content text = record { text = text; content = handed_out detach content }
+
 -- ---- what contracts see of a device
 
 pub record InputMembers (D : Type 0) : Type 0 where
@@ -101,13 +111,3 @@ pub record WritesWhole {E : Type 0} (output : OutputMembers E) (has_text has_con
   pub no_text : has_text ≡ false → after.text ≡ before.text
   pub no_content : has_content ≡ false → after.content ≡ before.content
   pub faults : TellsFaults [] (output_counts output.failures before after) result
-
--- what may stand written of an answer, as a whole: nothing before its inputs are read and accepted
--- (docs/SPECIFICATION.md "Commands", "What is left after a refusal")
-abbrev pub formed : Result OutputTexts Refusal → Bool → OutputTexts
-formed (Ok texts) true = texts
-formed answer read = nothing
-
--- the text of an object, and its content beside it where that is detached (docs/SPECIFICATION.md "Commands" 4)
-abbrev pub object_texts : Bool → List ℕ → List ℕ → OutputTexts
-object_texts detach content text = record { text = text; content = handed_out detach content }

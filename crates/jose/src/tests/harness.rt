@@ -2,9 +2,7 @@
 ghost use Rattle.jose.specs.Ports.{AreFinite};
 
 use crate::tests::command_words::{DECRYPT, ENCRYPT, VERIFY};
-use crate::tests::library::building::octets;
-use crate::tests::samples::{OCTETS_FROM_0, OCTETS_FROM_1};
-use crate::tests::standards::rfc7516::LINE;
+use crate::tests::samples::{LINE, OCTETS_FROM_0, OCTETS_FROM_1};
 use crate::{Inputs, Outputs, parse, run};
 use keys::KeySet;
 use objects::Jwe;

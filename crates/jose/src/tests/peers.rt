@@ -11,8 +11,7 @@ pub(crate) mod python_several_keys;
 
 use crate::tests::command_words::DECRYPT;
 use crate::tests::harness::{Answer, Given, ROOM, decrypts, encrypts, expect_done, outcome};
-use crate::tests::samples::octets_from_0;
-use crate::tests::standards::rfc7516::LINE;
+use crate::tests::samples::{LINE, octets_from_0};
 use std::process::Abort;
 use std::test::Fail;
 

@@ -4,6 +4,9 @@ use std::alloc::{AllocError, Global};
 use std::process::Abort;
 use std::test::Fail;
 
+/// The plaintext of RFC 7516 appendix A.3, which most tests encrypt.
+pub(crate) const LINE: &[u8] = b"Live long and prosper.";
+
 /// The octets 0 to 127. A command draws as many of them as it needs: first the octets for the keys in order, then a content encryption key,
 /// and then an initialization vector.
 pub(crate) const OCTETS_FROM_0: &[u8] =

@@ -2,8 +2,8 @@
 //! and `peers`.
 use crate::tests::command_words::DECRYPT;
 use crate::tests::harness::{Answer, decrypts, expect_text};
-use crate::tests::samples::with_many;
-use crate::tests::standards::rfc7516::{LINE, RFC7516_A3, RFC7516_A3_BESIDE, RFC7516_KEY};
+use crate::tests::samples::{LINE, with_many};
+use crate::tests::standards::rfc7516::{RFC7516_A3, RFC7516_A3_BESIDE, RFC7516_KEY};
 use octets::Refusal;
 use std::process::Abort;
 use std::test::Fail;

@@ -2,8 +2,7 @@
 //! decrypt. The objects are composed with Python's `cryptography`. The causes are by docs/SPECIFICATION.md.
 use crate::tests::harness::{Answer, decrypts};
 use crate::tests::peers::python_gcm_key_wrap::BY_A128GCMKW;
-use crate::tests::samples::{KEY_TO_15, KEY_TO_23, PASSWORD};
-use crate::tests::standards::rfc7516::LINE;
+use crate::tests::samples::{KEY_TO_15, KEY_TO_23, LINE, PASSWORD};
 use octets::Refusal;
 use std::test::Fail;
 

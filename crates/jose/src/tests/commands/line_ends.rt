@@ -2,9 +2,9 @@
 //! form. The objects are those of RFC 7516 appendix A.3 and of Python's `hmac`.
 use crate::tests::command_words::{DECRYPT, VERIFY};
 use crate::tests::harness::{Answer, Given, expect, expect_text};
-use crate::tests::samples::{ABC, ABC_FLATTENED};
+use crate::tests::samples::{ABC, ABC_FLATTENED, LINE};
 use crate::tests::standards::rfc7515::RFC7515_KEY;
-use crate::tests::standards::rfc7516::{LINE, RFC7516_A3, RFC7516_A3_FLATTENED, RFC7516_KEY};
+use crate::tests::standards::rfc7516::{RFC7516_A3, RFC7516_A3_FLATTENED, RFC7516_KEY};
 use octets::Refusal;
 use std::process::Abort;
 use std::test::Fail;

@@ -6,8 +6,8 @@ use crate::tests::command_words::{
 };
 use crate::tests::contents::{Row, answers_each};
 use crate::tests::harness::Answer;
-use crate::tests::samples::{KEY_16, KEY_32, KEY_TO_15};
-use crate::tests::standards::rfc7516::{LINE, RFC7516_KEY};
+use crate::tests::samples::{KEY_16, KEY_32, KEY_TO_15, LINE};
+use crate::tests::standards::rfc7516::RFC7516_KEY;
 use octets::Refusal;
 use std::test::Fail;
 

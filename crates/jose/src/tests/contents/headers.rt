@@ -13,8 +13,7 @@ use crate::tests::command_words::{
 };
 use crate::tests::contents::long::answers;
 use crate::tests::harness::{Answer, Given, ROOM, expect_done, outcome};
-use crate::tests::samples::{KEY_16, KEY_32, OCTETS_FROM_1, nested};
-use crate::tests::standards::rfc7516::LINE;
+use crate::tests::samples::{KEY_16, KEY_32, LINE, OCTETS_FROM_1, nested};
 use std::alloc::{AllocError, Global};
 use std::process::Abort;
 use std::test::Fail;

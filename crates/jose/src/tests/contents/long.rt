@@ -9,9 +9,8 @@ use crate::tests::harness::{
     Answer, Given, ROOM, comes_back, expect_digest, expect_done, expect_same, outcome,
 };
 use crate::tests::peers::python::BY_DIR;
-use crate::tests::samples::{ABC, KEY_16, KEY_32, OCTETS_FROM_1, TEMPLATE, repeated};
+use crate::tests::samples::{ABC, KEY_16, KEY_32, LINE, OCTETS_FROM_1, TEMPLATE, repeated};
 use crate::tests::standards::rfc7515::RFC7515_KEY;
-use crate::tests::standards::rfc7516::LINE;
 use prf::digest;
 use std::alloc::{AllocError, Global};
 use std::process::Abort;

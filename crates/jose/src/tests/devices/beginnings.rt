@@ -8,8 +8,9 @@ use crate::tests::harness::{
     Answer, Given, expect_beginning, expect_done, expect_same, expect_written, outcome,
     outcome_of_failing,
 };
+use crate::tests::samples::LINE;
 use crate::tests::standards::rfc7515::RFC7515_KEY;
-use crate::tests::standards::rfc7516::{LINE, RFC7516_CIPHERTEXT, RFC7516_KEY, RFC7516_RANDOM};
+use crate::tests::standards::rfc7516::{RFC7516_CIPHERTEXT, RFC7516_KEY, RFC7516_RANDOM};
 use octets::Refusal;
 use std::process::Abort;
 use std::test::Fail;

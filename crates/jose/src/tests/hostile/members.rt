@@ -5,11 +5,9 @@ use crate::tests::hostile::readers::{
     DECRYPTING, ENCRYPTING, FORMING_ENCRYPTED, FORMING_SIGNED, MAKING, NAMING, Reader, SIGNING,
     VERIFYING, answers_to_keys, answers_to_text, changed, with_last,
 };
-use crate::tests::samples::ABC_FLATTENED;
+use crate::tests::samples::{ABC_FLATTENED, LINE};
 use crate::tests::standards::rfc7515::RFC7515_A1;
-use crate::tests::standards::rfc7516::{
-    LINE, RFC7516_A3, RFC7516_A3_FLATTENED, RFC7516_A3_WITH_UNPROTECTED,
-};
+use crate::tests::standards::rfc7516::{RFC7516_A3, RFC7516_A3_FLATTENED, RFC7516_A3_WITH_UNPROTECTED};
 use octets::Refusal;
 use std::test::Fail;
 

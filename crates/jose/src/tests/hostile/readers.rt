@@ -4,11 +4,9 @@ use crate::tests::command_words::{DECRYPT, ENCRYPT, SIGN_COMPACT, VERIFY};
 use crate::tests::harness::{
     Answer, Given, GivenOctets, ROOM, expect, expect_done, outcome_of_octets,
 };
-use crate::tests::samples::{ABC, ABC_FLATTENED, TEMPLATE};
+use crate::tests::samples::{ABC, ABC_FLATTENED, LINE, TEMPLATE};
 use crate::tests::standards::rfc7515::RFC7515_KEY;
-use crate::tests::standards::rfc7516::{
-    LINE, RFC7516_A3_FLATTENED, RFC7516_A3_WITH_AAD, RFC7516_KEY, RFC7516_RANDOM,
-};
+use crate::tests::standards::rfc7516::{RFC7516_A3_FLATTENED, RFC7516_A3_WITH_AAD, RFC7516_KEY, RFC7516_RANDOM};
 use octets::Refusal;
 use std::alloc::{AllocError, Global};
 use std::process::Abort;

@@ -23,6 +23,7 @@ const NUMBERS: &[(&str, Option<Refusal>)] = &[
     ("1e400", Some(Refusal::Json)),
     ("{\"a\":[1,{\"b\":1.5}]}", Some(Refusal::Number)),
     ("{\"a\":1.5,\"a\":1}", None),
+    ("{\"a\":1,\"a\":1.5}", Some(Refusal::Number)),
     ("{\"a\":1e400,\"a\":1}", Some(Refusal::Json)),
     ("01", Some(Refusal::Json)),
     ("", Some(Refusal::Json)),

@@ -3,8 +3,7 @@
 //! that made an object are above it. The keys are the octets from 101 on.
 use crate::tests::command_words::{DECRYPT, VERIFY_ALL};
 use crate::tests::harness::{Answer, decrypts, expect_text};
-use crate::tests::samples::{KEY_16, KEY_24, KEY_32, KEY_48, KEY_64};
-use crate::tests::standards::rfc7516::LINE;
+use crate::tests::samples::{KEY_16, KEY_24, KEY_32, KEY_48, KEY_64, LINE};
 use octets::Refusal;
 use std::process::Abort;
 use std::test::Fail;

@@ -2,8 +2,7 @@
 //! octets. Encrypting makes the same texts, and they open.
 use crate::tests::command_words::ENCRYPT_COMPACT;
 use crate::tests::harness::{Answer, decrypts, encrypts};
-use crate::tests::samples::{KEY_16, KEY_24, KEY_32, OCTETS_FROM_1};
-use crate::tests::standards::rfc7516::LINE;
+use crate::tests::samples::{KEY_16, KEY_24, KEY_32, LINE, OCTETS_FROM_1};
 use std::process::Abort;
 use std::test::Fail;
 

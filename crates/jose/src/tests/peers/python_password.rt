@@ -3,8 +3,7 @@
 use crate::tests::command_words::{ENCRYPT, ENCRYPT_COMPACT};
 use crate::tests::harness::{Answer, decrypts, encrypts};
 use crate::tests::peers::gives_and_opens;
-use crate::tests::samples::{KEY_TO_15, OCTETS_FROM_0, PASSWORD, PASSWORD_128};
-use crate::tests::standards::rfc7516::LINE;
+use crate::tests::samples::{KEY_TO_15, LINE, OCTETS_FROM_0, PASSWORD, PASSWORD_128};
 use std::test::Fail;
 
 /// The password, for each of the other two algorithms.

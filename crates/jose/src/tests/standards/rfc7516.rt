@@ -3,12 +3,10 @@
 use crate::tests::command_words::{ENCRYPT, ENCRYPT_COMPACT};
 use crate::tests::harness::{Answer, decrypts, encrypts, expect_octets, expect_same};
 use crate::tests::library::jwe::expect_management;
+use crate::tests::samples::LINE;
 use objects::{Jwe, Recipient};
 use std::process::Abort;
 use std::test::Fail;
-
-/// The plaintext of appendix A.3, which most tests encrypt.
-pub(crate) const LINE: &[u8] = b"Live long and prosper.";
 
 /// The key of appendix A.3.
 pub(crate) const RFC7516_KEY: &str = "{\"kty\":\"oct\",\"k\":\"GawgguFyGrWKav7AX4VKUg\"}";
