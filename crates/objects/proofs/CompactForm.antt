@@ -1,14 +1,13 @@
 -- An object has a compact text exactly if its members allow one.
-use Rattle.std.proofs.Common.{◌≡◌, ◌↔◌, ℕ, List, [], ◌∷◌, ◌&&◌, Bool, true, false, not, map, length, ◌==◌, Ok, Err, ◌++◌, refl, ap, ◌∙◌, eqb-true}
+use Rattle.std.proofs.Common.{◌≡◌, ◌↔◌, ℕ, List, [], ◌∷◌, ◌&&◌, Bool, true, false, not, map, length, ◌==◌, Ok, Err, refl, ap, eqb-true}
 use Rattle.std.proofs.lemmas.List.{nil_from_length}
 use Rattle.serde_json.specs.Data.{Members, no_members, member}
 use Rattle.octets.specs.declared.refusal.Refusal.TheVariants.{NotCompact}
-use Rattle.octets.specs.Base64url.{base64url}
 use Rattle.octets.specs.Outcomes.{◌>>=◌, needs}
 use Rattle.objects.specs.CompactForm.{HasText, IsOnlySignature, HasOnlySignature, jws_parts_text, JwsCompactFormIsExact, IsOnlyRecipient, HasOnlyRecipient, jwe_parts_text, JweCompactFormIsExact}
 use Rattle.objects.specs.Jwe as jwe
 use Rattle.objects.specs.Jws as jws
-use Rattle.objects.specs.Texts.{has_members, kept}
+use Rattle.objects.specs.Texts.{has_members}
 use Rattle.objects.proofs.ExactJwe as exact_jwe
 use Rattle.objects.proofs.ExactJws as exact_jws
 

@@ -6,13 +6,13 @@ use Rattle.serde_json.specs.Written.{compact_text, members_text}
 use Rattle.octets.specs.declared.refusal.Refusal.{Refusal}
 use Rattle.octets.specs.declared.refusal.Refusal.TheVariants.{NotCompact}
 use Rattle.octets.specs.Base64url.{base64url}
-use Rattle.octets.specs.Outcomes.{◌>>=◌, needs}
+use Rattle.octets.specs.Outcomes.{needs}
 use Rattle.octets.proofs.Lemmas.{steps, passed, same_answer, refused_alike}
 use Rattle.objects.specs.Jwe as jwe
 use Rattle.objects.specs.Jwe.{JweParts, RecipientParts, EncryptedObject, recipient_members, jwe_members, compact_parts, is_compact, jwe_compact_text, jwe_text}
-use Rattle.objects.specs.Code.JweWriting.{with_recipient, with_flattened, with_general, tag_by, with_tag, with_members, jwe_json, with_compact, jwe_written}
+use Rattle.objects.specs.Code.JweWriting.{with_recipient, with_flattened, with_general, tag_by, with_tag, jwe_json, with_compact, jwe_written}
 use Rattle.objects.specs.Values.{Entries, member_if_there, present, objects, text_there, header_there, content_there}
-use Rattle.objects.specs.Code.Writing.{Written, nothing_written, opened, inside}
+use Rattle.objects.specs.Code.Writing.{Written, nothing_written, inside}
 use Rattle.objects.proofs.ListedMembers.{each_entries, listed_is}
 use Rattle.objects.proofs.Members.{put_all}
 use Rattle.objects.proofs.Sorted.{put_sorted}

@@ -6,12 +6,12 @@ use Rattle.serde_json.specs.Written.{compact_text, members_text}
 use Rattle.octets.specs.declared.refusal.Refusal.{Refusal}
 use Rattle.octets.specs.declared.refusal.Refusal.TheVariants.{NotCompact}
 use Rattle.octets.specs.Base64url.{base64url}
-use Rattle.octets.specs.Outcomes.{◌>>=◌, needs}
+use Rattle.octets.specs.Outcomes.{needs}
 use Rattle.octets.proofs.Lemmas.{steps, passed, same_answer, refused_alike}
 use Rattle.objects.specs.Jws as jws
 use Rattle.objects.specs.Jws.{JwsParts, SignatureParts, SignedObject, signature_members, general_members, jws_members, compact_parts, is_compact, jws_compact_text, jws_text}
 use Rattle.objects.specs.Code.JwsWriting.{with_signature, with_signatures, with_compact, with_general, jws_json, jws_written}
-use Rattle.objects.specs.Values.{Entries, present, objects, text_there, header_there, content_there}
+use Rattle.objects.specs.Values.{Entries, present, objects, text_there, content_there}
 use Rattle.objects.specs.Code.Writing.{Written, nothing_written, opened, inside}
 use Rattle.objects.proofs.ListedMembers.{listed_is}
 use Rattle.objects.proofs.Members.{put_all}

@@ -1,10 +1,10 @@
 -- Texts and headers among the members of a JSON text: they are read as they were put in, and are as JSON has them.
-use Rattle.std.proofs.Common.{◌≡◌, ℕ, List, [], ◌∷◌, true, not, nat_le, Option, Some, None, Ok, IsUtf8, refl, ap, ◌∙◌, arith}
+use Rattle.std.proofs.Common.{◌≡◌, ℕ, List, [], ◌∷◌, true, not, nat_le, Some, None, Ok, IsUtf8, refl, ap, ◌∙◌, arith}
 use Rattle.std.proofs.lemmas.Bool.{leb-true}
 use Rattle.std.specs.List.{list_all}
 use Rattle.std.specs.Option.{option_or, ok_or}
 use Rattle.std.specs.Prelude.{option_and_then}
-use Rattle.serde_json.specs.Data.{Data, Members, no_members, member, string, object, depth}
+use Rattle.serde_json.specs.Data.{Members, no_members, member, string, object, depth}
 use Rattle.serde_json.specs.Find.{as_str}
 use Rattle.serde_json.specs.Written.{compact_text}
 use Rattle.octets.specs.declared.refusal.Refusal.TheVariants.{Form}

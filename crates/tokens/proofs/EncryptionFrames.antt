@@ -78,8 +78,8 @@ module _ (compact : Bool) (keys : List OctetKey) (template : List ℕ) (e : Encr
       let round = frame false texts framed in
       before_is (λ octets. built limits (parts_by e random (record { ciphertext = octets; tag = octets })) >>= jwe_text compact false) texts (λ b. (b ∷ []) ∷ []) 1 round.places
       (λ b small.
-          let octet : IsOctets (b ∷ []) = first_or b [] small IsOctets-nil in
-          ap (λ r. r >>= jwe_text compact false) (built_is limits refl keys e random (record { ciphertext = b ∷ []; tag = b ∷ [] }) by w few) ∙ round.filled (b ∷ []) (b ∷ []) octet octet refl)
+      let octet : IsOctets (b ∷ []) = first_or b [] small IsOctets-nil in
+      ap (λ r. r >>= jwe_text compact false) (built_is limits refl keys e random (record { ciphertext = b ∷ []; tag = b ∷ [] }) by w few) ∙ round.filled (b ∷ []) (b ∷ []) octet octet refl)
 
   -- ---- every plaintext
 

@@ -14,7 +14,6 @@ use Rattle.objects.specs.Headers.{protected_members, joint_header, string_there}
 use Rattle.objects.specs.Jws.{SignatureParts, DecodedSignature, HeadedSignature, Signature, SignedObject, decoded_part, headed_signature, signature_by, headers_have_no_crit, signatures_of, signed_object, built, is_compact, jws_text, jws_compact_text}
 use Rattle.objects.specs.KeyManagement.{KeyManagement, key_management}
 use Rattle.objects.specs.Texts.{each, depth_of_each}
-use Rattle.objects.specs.Code.Writing.{Written}
 
 -- ---- each of a list with a value put into it
 

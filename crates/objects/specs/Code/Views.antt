@@ -6,9 +6,9 @@ use Rattle.std.specs.declared.alloc.Global.{Global}
 use Rattle.serde_json.specs.Data.{Members, no_members}
 use Rattle.serde_json.specs.View.{members_view}
 use Rattle.serde_json.specs.declared.value.Value.{Value}
-use Rattle.octets.specs.Base64url.{base64url, decoded}
-use Rattle.objects.specs.Headers.{all_members, protected_members}
-use Rattle.objects.specs.Jwe.{RecipientParts, Recipient, EncodedShared, EncodedRecipient, EncodedContent, EncodedJwe, JweParts, EncryptedObject, encoded_recipient, jwe_members}
+use Rattle.octets.specs.Base64url.{base64url}
+use Rattle.objects.specs.Headers.{all_members}
+use Rattle.objects.specs.Jwe.{RecipientParts, Recipient, EncodedShared, EncodedRecipient, EncodedContent, EncodedJwe, JweParts, EncryptedObject}
 use Rattle.objects.specs.Jws.{SignatureParts, JwsParts, EncodedSignature, EncodedJws, Signature, DecodedSignature, HeadedSignature, SignedObject}
 use Rattle.objects.specs.Code.KeyManagementView.{management_view}
 use Rattle.objects.specs.Texts.{meaning}
@@ -41,7 +41,6 @@ use Rattle.objects.specs.declared.content.received_text.ReceivedText as received
 use Rattle.objects.specs.declared.jwe.recipient.Recipient as recipient
 use Rattle.objects.specs.declared.jwe.parts.RecipientMembers as members
 use Rattle.objects.specs.declared.jwe.parts.RecipientParts as parts
-use Rattle.octets.specs.declared.refusal.Refusal.TheVariants.{Header}
 
 -- ---- headers
 

@@ -8,7 +8,6 @@ use Rattle.keys.specs.declared.algorithm.KeyManagementMode.TheVariants as mode
 use Rattle.keys.specs.Algorithms.{mode_of}
 use Rattle.keys.specs.Limits.{limits}
 use Rattle.objects.specs.Jwe.{EncryptedObject}
-use Rattle.objects.specs.KeyManagement.{Direct, KeyWrap, Password, GcmKeyWrap}
 use Rattle.tokens.specs.Decrypting.{Pair, iterations_of, SealedContent, sealed_content, cek_of, opened_by}
 
 -- iterations of PBKDF2, encrypted keys that were unwrapped, and contents that were opened or tried
