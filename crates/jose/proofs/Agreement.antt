@@ -1,4 +1,4 @@
--- What a command did on one output, seen on both.
+-- What a command did to one output, seen on both outputs.
 use Rattle.std.proofs.Common.{◌≡◌, ℕ, List, [], length, take, nat_le, Bool, true, false, if◌then◌else◌, Result, Ok, Err, refl, sym, ap, ◌∙◌}
 use Rattle.std.specs.Result.{result_unwrap_or, OnErr, IsErrAnd}
 use Rattle.octets.specs.declared.refusal.Refusal.{Refusal}
@@ -21,7 +21,7 @@ pub agrees_as_content : (a : Result (List ℕ) Refusal) (content other : List �
     → AgreesUnlessExternal (a >>= λ x. Ok (as_content x)) (record { text = other; content = content }) r
 agrees_as_content a content other r e h = AgreesUnlessExternal-map as_content a content (record { text = other; content = content }) r (ap (λ q. record { text = q; content = content }) (sym e)) h
 
--- the plan of a made key: the answer that `gen_answer` gives
+-- The plan of a made key has the answer of `gen_answer`.
 pub plan_of_making : (template random : List ℕ) → plan_from (making template) random ≡ (gen_answer limits template random >>= λ x. Ok (without_content (as_text x)))
 unfolding gen_answer
 plan_of_making template random = by_made (made_key limits template)
@@ -37,7 +37,7 @@ plan_of_making template random = by_made (made_key limits template)
         by_test true = refl
         by_test false = refl
 
--- what may stand, put in its place
+-- The beginning that a mapped plan may write is mapped the same way.
 pub beginning_map : (f : List ℕ → OutputTexts) (p : Plan (List ℕ)) (octets : List ℕ) (ended : Bool)
     → beginning_of (plan_map f p) (record { octets = octets; ended = ended }) ≡ f (beginning_of p (record { octets = octets; ended = ended }))
 beginning_map f p octets false = refl
@@ -54,12 +54,12 @@ begun_by_text f none true (Err r) = sym none
 begun_by_text f none false (Ok x) = sym none
 begun_by_text f none false (Err r) = sym none
 
--- a fact at a refusal, by two others
+-- a fact about a refusal, from two others
 pub both_on_refusal : {P Q R : Type 0} (r : Result (Unit {0}) Refusal) → OnErr r P → OnErr r Q → (P → Q → R) → OnErr r R
 both_on_refusal (Ok done) p q f = tt
 both_on_refusal (Err e) p q f = f p q
 
--- a refusal that stands in the answer, unless it is external
+-- A refusal agrees with the answer if it is external or the answer has the same one.
 pub refused : {W : Type 0} (answer : Result W Refusal) (wrote : W) (e : Refusal) (r : Result (Unit {0}) Refusal) → IsErrAnd r (λ refusal. refusal ≡ e)
     → (is_external e ≡ false → answer ≡ Err e) → AgreesUnlessExternal answer wrote r
 refused answer wrote e (Ok done) same f = absurd same

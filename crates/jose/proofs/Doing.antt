@@ -1,4 +1,4 @@
--- What a command promises follows from what its steps promise.
+-- The promises of a command follow from the promises of its steps.
 use Rattle.std.proofs.Common.{◌≡◌, ◌<◌, ◌≤◌, ℕ, List, [], length, Bool, true, false, ◌&&◌, cond, IsTrue, Option, option_map, Result, Ok, Err, OnOk, IfErr, IsErrAnd, inl, inr, refl, sym, ap, subst, ◌∙◌, arith}
 use Rattle.std.proofs.Math.Seq.{drop-length}
 use Rattle.octets.specs.declared.refusal.Refusal.{Refusal}
@@ -22,7 +22,7 @@ use Rattle.jose.proofs.Objects.{beside_ended, begun_of_object, drawn_of_object, 
 
 -- ---- what was seen of the inputs
 
--- it may be all of them
+-- the whole inputs, if nothing follows what was seen of them
 abbrev pub seen_texts : {D : Type 0} → InputMembers D → Inputs D → Inputs D → InputTexts
 seen_texts input old new = record {
   text = appended (input.consumed old.text) (input.consumed new.text);
@@ -39,7 +39,7 @@ all_possible input old new = record {
   random = seen_possible input.consumed input.is_at_end old.random new.random;
 }
 
--- ---- a command that reads its text and its keys whole, and what is handed in beside an object
+-- ---- a command that reads its text, its keys and a content that is handed in with an object, each as a whole
 
 pub record IsReader (v : InvocationView) (has_keys given : Bool) : Type 0 where
   pub text : has_text_input v.command ≡ true
@@ -47,14 +47,14 @@ pub record IsReader (v : InvocationView) (has_keys given : Bool) : Type 0 where
   pub content : has_content_input v ≡ false → given ≡ false
   pub template : has_template v ≡ true
   pub memory : takes_memory v.command ≡ true
-  -- Where the content is handed in, the text and the keys alone refuse nothing, and draw nothing.
+  -- If the content is handed in, the text and the keys alone are not refused, and nothing is drawn.
   pub refuses : (text keys : List ℕ) (refusal : Refusal) → draft_of v text keys ≡ Err refusal → given ≡ false
   pub draws : given ≡ true → (text keys : List ℕ) → drawn_of (draft_of v text keys) ≡ 0
-  -- A command that writes as it reads reads its content so.
+  -- If the command writes as it reads, it has a content, and does not read it as a whole.
   pub streams : holds_back v.command ≡ false → given ≡ false
   pub streamed : holds_back v.command ≡ false → has_content_input v ≡ true
 
--- the inputs beside the content were read
+-- The inputs other than the content were read to their ends exactly if the text was, and the keys too if the command has them.
 pub others_are : {v : InvocationView} {has_keys given : Bool} → IsReader v has_keys given → (seen : ObservedInputs)
     → others_read v seen ≡ (was_read has_keys seen.keys && seen.text.ended)
 others_are {v} is seen = rw (is.keys, is.template) refl
@@ -62,7 +62,7 @@ others_are {v} is seen = rw (is.keys, is.template) refl
 pub drawn_for_none : {D : Type 0} (consumed : D → List ℕ) (old new : D) (most : ℕ) → new ≡ old → length (appended (consumed old) (consumed new)) ≤ most
 drawn_for_none consumed old new most same = subst (λ d. length (appended (consumed old) (consumed d)) ≤ most) (sym same) (none_drawn (consumed old) most)
 
--- The content is untouched where too little is drawn: either it is handed in, and nothing is drawn, or it was not read.
+-- If too few octets are drawn, the content is untouched. If it is handed in, no octets are needed, and otherwise it was not read.
 not_short : {v : InvocationView} {has_keys given : Bool} → IsReader v has_keys given → (P : Type 0) (n : ℕ) (text keys : List ℕ) → (given ≡ false → P) → n < drawn_of (draft_of v text keys) → P
 not_short {v} {has_keys} {given} is P n text keys untouched short = by_given given refl
   where
@@ -70,9 +70,9 @@ not_short {v} {has_keys} {given} is P n text keys untouched short = by_given giv
     by_given true e = let none = is.draws e text keys in absurd (omega (arith, none, short))
     by_given false e = untouched e
 
--- ---- where the command ends before anything is drawn or written
+-- ---- a command that ends before anything is drawn or written
 
--- Memory or an input failed, or what was read whole is refused.
+-- Memory or an input failed, or the text and the keys that were read whole are refused.
 pub ends_early : {D E X : Type 0} {input : InputMembers D} {v : InvocationView} {has_keys given : Bool} {old new : Inputs D} {e : Refusal} {res : Result WholeInputs Refusal} (output : OutputMembers E) (outs : Outputs E)
     → IsReader v has_keys given → ReadsInputs input has_keys given old new res → TellsFaults {X = X} (input_counts input.failures old new) [] (Err e)
     → (is_external e ≡ false → IsTrue (others_read v (seen_of input old new)) × (holds_back v.command ≡ false)
@@ -122,7 +122,7 @@ ends_early {D} {E} {X} {input} {v} {has_keys} {given} {old} {new} {e} output out
       };
     }
 
--- an input could not be read
+-- The inputs could not be read.
 pub not_read : {D E : Type 0} {input : InputMembers D} {v : InvocationView} {has_keys given : Bool} {old new : Inputs D} {e : Refusal} (output : OutputMembers E) (outs : Outputs E)
     → IsReader v has_keys given → ReadsInputs input has_keys given old new (Err e) → (r : Result (Unit {0}) Refusal) → IsErrAnd r (λ refusal. refusal ≡ e) → Does input output v old new outs outs r
 not_read output outs is read = ends_early output outs is read read.faults (λ inside. let outside = read.cause in cc)
@@ -141,7 +141,7 @@ pub if_weaker : {X : Type 0} (r : Result X Refusal) (P Q : Refusal → Type 0) �
 if_weaker (Ok x) P Q p more = tt
 if_weaker (Err e) P Q p more = more e p
 
--- inputs that did not fail, and then outputs
+-- The inputs did not fail, so the result reports the failures of the outputs.
 pub told_both : {X Y : Type 0} (inputs outputs : List Counts) (x : X) (r : Result Y Refusal) → TellsFaults inputs [] (Ok x) → TellsFaults [] outputs r → TellsFaults inputs outputs r
 told_both inputs outputs x (Ok done) i o = record { works = (i.works.0, o.works.1); read = λ told. cc; write = λ told. cc; inputs_told = tt; outputs_told = tt }
 told_both inputs outputs x (Err e) i o = record { works = tt; read = λ told. absurd (o.read told); write = o.write; inputs_told = λ others. i.works.0; outputs_told = o.outputs_told }

@@ -18,7 +18,7 @@ nothing_drawn octets = ap length (drop-length octets)
 pub none_drawn : (octets : List ℕ) (most : ℕ) → length (appended octets octets) ≤ most
 none_drawn octets most = let none = nothing_drawn octets in omega (arith, none)
 
--- ---- one of which a key was made, as the template asks, or which a refused template left as it was
+-- ---- an input from which a key was made, as the template asks, or which a refused template left untouched
 
 abbrev draft_by : Result MadeKey Refusal → Result (Draft OutputTexts) Refusal
 draft_by made = made >>= λ m. Ok (record { drawn = m.len; plan = λ octets. without_content (as_text (key_text m octets)) })
@@ -45,7 +45,7 @@ key_drawn_at_most consumed old new template = by_made (made_key limits template)
     by_made (Ok m) drawn untouched = drawn m refl
     by_made (Err r) drawn untouched = rw (untouched r refl) (none_drawn (consumed old) 0)
 
--- the template is what a making refuses
+-- If the draft of a key is refused, its template is refused the same way.
 pub making_refused : (template : List ℕ) (refusal : Refusal) → making template ≡ Err refusal → made_key limits template ≡ Err refusal
 making_refused template refusal = by_made (made_key limits template)
   where

@@ -1,4 +1,4 @@
--- What is found in a list.
+-- Elements that are found in a list.
 use Rattle.std.proofs.Common.{◌≡◌, Bool, true, false, if◌then◌else◌, List, [], ◌∷◌, map, Option, Some, None, option_map, Bor, refl, ap, ◌∙◌, sym}
 use Rattle.std.proofs.lemmas.Bool.{and_parts}
 use Rattle.std.specs.List.{find, list_all}
@@ -11,13 +11,13 @@ pub option_map-option_map : {X Y Z : Type 0} (f : X → Y) (g : Y → Z) (o : Op
 option_map-option_map f g None = refl
 option_map-option_map f g (Some x) = refl
 
--- what is found among the things is found among their names
+-- The name of the element that is found in a list is found in the list of the names.
 pub found_mapped : {X Y : Type 0} (p : Y → Bool) (f : X → Y) (xs : List X) (names : List Y) (found : Option (Bor X)) → map f xs ≡ names
     → option_map (λ x. x.now) found ≡ find (λ x. p (f x)) xs → option_map (λ x. f x.now) found ≡ find p names
 found_mapped {X} p f xs names found named here =
     option_map-option_map (λ (x : Bor X). x.now) f found ∙ ap (option_map f) here ∙ sym (find-map p f xs) ∙ ap (find p) named
 
--- what is found has what all have
+-- An element that is found passes a test that all elements pass.
 pub found_has : {X : Type 0} (p q : X → Bool) (xs : List X) (x : X) → list_all q xs ≡ true → find p xs ≡ Some x → q x ≡ true
 found_has p q [] x all found = cc
 found_has p q (y ∷ ys) x all found =

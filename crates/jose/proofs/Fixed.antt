@@ -1,4 +1,4 @@
--- What a beginning of the content fixes, and what stands of it.
+-- What a beginning of the content fixes for the output of the content.
 use Rattle.std.proofs.Common.{◌≡◌, ℕ, Bool, true, false, nat_le, take, List, [], length, Result, Ok, Err, refl}
 use Rattle.octets.specs.declared.refusal.Refusal.{Refusal}
 use Rattle.octets.specs.declared.refusal.Refusal.TheVariants.{Random}
@@ -11,7 +11,7 @@ use Rattle.tokens.specs.Choosing.{EncryptionPlan, read_encryption}
 use Rattle.tokens.specs.Encrypting.{random_len, plan_by as encrypting, enc_plan}
 use Rattle.tokens.specs.Signing.{Signing, plan_by as signing, read_signing, sig_plan}
 
--- what is signed inside goes nowhere else
+-- A payload that is inside the text is not written to the other output.
 pub signed_inside : (compact : Bool) (keys : List OctetKey) (template q : List ℕ) → (fixed_by (sig_plan limits compact false keys template) q).content ≡ []
 unfolding sig_plan
 signed_inside compact keys template q = by_answer (read_signing limits compact keys template)
@@ -20,7 +20,7 @@ signed_inside compact keys template q = by_answer (read_signing limits compact k
     by_answer (Ok s) = refl
     by_answer (Err r) = refl
 
--- nor does what is encrypted inside
+-- A ciphertext that is inside the text is not written to the other output.
 pub encrypted_inside : (compact : Bool) (keys : List OctetKey) (template random q : List ℕ) → (fixed_by (plan_from (enc_plan limits compact false keys template) random) q).content ≡ []
 unfolding enc_plan
 encrypted_inside compact keys template random q = by_answer (read_encryption limits compact keys template)

@@ -1,4 +1,4 @@
--- What the commands promise together, from the laws of the crates below.
+-- The promises of the commands together follow from the laws of the crates below.
 use Rattle.std.proofs.Common.{◌≡◌, ◌↔◌, ℕ, suc, nat_le, Bool, true, false, not, ◌==◌, ◌||◌, if◌then◌else◌, List, [], ◌∷◌, ◌++◌, length, take, drop, is_some, Option, Result, Ok, Err, refl, sym, ap, ◌∙◌, subst, drop-cons}
 use Rattle.std.proofs.lemmas.Bool.{and_parts, and_from, or_right}
 use Rattle.std.proofs.lemmas.List.{take-append-drop}
@@ -29,21 +29,21 @@ use Rattle.jose.specs.Headline.{EncryptedIsDecrypted, SignedIsVerified, GoesToCo
 use Rattle.jose.specs.Jwe.{jwe_fmt_answer}
 use Rattle.jose.specs.Jws.{jws_fmt_answer}
 
--- ---- what is encrypted is decrypted
+-- ---- encrypted texts are decrypted
 
--- what is encrypted is encrypted to the keys of a set
+-- If texts are encrypted, they are encrypted to the keys of a set.
 encrypted_to : (limits : Limits) (compact detach : Bool) (template random plaintext : List ℕ) (texts : OutputTexts) (keys : Result (List OctetKey) Refusal)
     → planned (plan_from (keys >>= λ set. encrypting.enc_plan limits compact detach set template) random) plaintext ≡ Ok texts
     → (set : List OctetKey) × ((keys ≡ Ok set) × (planned (plan_from (encrypting.enc_plan limits compact detach set template) random) plaintext ≡ Ok texts))
 encrypted_to limits compact detach template random plaintext texts (Ok set) h = (set, (refl, h))
 encrypted_to limits compact detach template random plaintext texts (Err e) h = cc h
 
--- What other limits read and decrypt as those do under which it is written.
+-- Every object that is read and decrypted under the limits of writing is read and decrypted the same under those of reading.
 pub record ReadsAlike (writing reading : Limits) : Type 0 where
   pub read : (detached : Option (List ℕ)) (text : List ℕ) (o : jwe.EncryptedObject) → jwe.jwe_of writing detached text ≡ Ok o → jwe.jwe_of reading detached text ≡ Ok o
   pub decrypts : (keys : List OctetKey) (o : jwe.EncryptedObject) (plaintext : List ℕ) → decrypted writing keys o ≡ Ok plaintext → decrypted reading keys o ≡ Ok plaintext
 
--- as these do themselves
+-- Every object is read and decrypted the same under the same limits.
 pub alike : (limits : Limits) → ReadsAlike limits limits
 alike limits = record { read = λ detached text o h. h; decrypts = λ keys o plaintext h. h }
 
@@ -64,9 +64,9 @@ encrypted_is_decrypted octets writing reading decrypts stays compact detach keys
       ),
     )
 
--- ---- what is signed is verified
+-- ---- signed texts are verified
 
--- a key set has a key
+-- A key set has a key.
 some_key : (text : List ℕ) (strict : Bool) (keys : List OctetKey) → key_set limits text strict ≡ Ok keys → (key : OctetKey) × (rest : List OctetKey) × (keys ≡ key ∷ rest)
 unfolding key_set value_keys
 some_key text strict keys h =
@@ -82,7 +82,7 @@ some_key text strict keys h =
     of_some [] some same = cc some
     of_some (key ∷ rest) some same = (key, rest, sym same)
 
--- a key of a list stands between the others
+-- A key of a list is between the keys before it and those after it.
 key_between : (keys : List OctetKey) (key : OctetKey) → Contains keys key → (before : List OctetKey) × (after : List OctetKey) × (keys ≡ before ++ key ∷ after)
 key_between keys key is = (
   take is.0 keys,
@@ -98,7 +98,7 @@ record VerifiesAlone (o : jws.SignedObject) (payload : List ℕ) (key : OctetKey
   each : list_any (λ s. verifies o.payload s key) o.signatures ≡ true
   payload_is : o.payload ≡ payload
 
--- which is so where it is verified with this key
+-- This holds if the object is verified with this key alone.
 verifies_alone : (key : OctetKey) (o : jws.SignedObject) (payload : List ℕ) → ((all : Bool) → verifying_by all true (key ∷ []) o ≡ Ok payload) → VerifiesAlone o payload key
 unfolding verifying_by verified_payload
 verifies_alone key o payload h =
@@ -120,7 +120,7 @@ verifies_alone key o payload h =
         let is : o.payload ≡ payload = same_answer o.payload found.0 c.2 ∙ same_answer found.0 payload found.2 in
         (passed supports Unsupported a.0 a.1, passed may KeyDoesNotFit b.0 b.1, passed (are_verified all (key ∷ []) o) NotOpened c.0 c.1, is)
 
--- what some element passes with a key it passes with more keys
+-- If some element passes a test with a key, some element passes it with more keys.
 with_more : {X : Type 0} (test : X → OctetKey → Bool) (key : OctetKey) (rest : List OctetKey) (xs : List X) → list_any (λ x. list_any (test x) (key ∷ [])) xs ≡ true
     → list_any (λ x. list_any (test x) (key ∷ rest)) xs ≡ true
 with_more test key rest [] h = cc h
@@ -130,7 +130,7 @@ with_more test key rest (x ∷ xs) h = by_test (test x key) _ _ _ h (with_more t
     by_test true b c d h later = refl
     by_test false b c d h later = or_right b d (later h)
 
--- so keys of which each alone verifies the object verify it together
+-- So several keys verify the object together if each of them verifies it alone.
 verified_with : (all wanted : Bool) (key : OctetKey) (rest : List OctetKey) (o : jws.SignedObject) (payload : List ℕ) → AllByRecursion (VerifiesAlone o payload) (key ∷ rest)
     → verifying_by all wanted (key ∷ rest) o ≡ Ok (if wanted then payload else [])
 unfolding verifying_by verified_payload
@@ -146,7 +146,7 @@ verified_with all wanted key rest o payload is =
     by_all true = each (key ∷ rest) is
     by_all false = with_more (verifies o.payload) key rest o.signatures is.0.some
 
--- what is signed is signed by the keys of a set
+-- If texts are signed, they are signed with the keys of a set.
 signed_by : (compact detach : Bool) (template payload : List ℕ) (texts : OutputTexts) (keys : Result (List OctetKey) Refusal)
     → planned (keys >>= λ set. signing.sig_plan limits compact detach set template) payload ≡ Ok texts
     → (set : List OctetKey) × ((keys ≡ Ok set) × (planned (signing.sig_plan limits compact detach set template) payload ≡ Ok texts))
@@ -176,9 +176,9 @@ signed_is_verified verifies compact detach keys template payload texts octets h 
       ),
     )
 
--- ---- what goes to compact form
+-- ---- objects go to compact form
 
--- Where what is written is the compact text, where there is one, it is written exactly where there is one.
+-- If a command writes the compact text of the object that it reads, it does so exactly if the object has one.
 goes_there : {O : Type 0} (read : Option (List ℕ) → List ℕ → Result O Refusal) (compact_text : Bool → O → Result (List ℕ) Refusal) (content : O → List ℕ) (Fits : O → Type 0)
     → ((beside : Bool) (o : O) → HasText (compact_text beside o) ↔ Fits o) → ((beside : Bool) (o : O) → ¬ Fits o → compact_text beside o ≡ Err NotCompact)
     → (fmt : Bool → Bool → Option (List ℕ) → List ℕ → Result OutputTexts Refusal)
@@ -204,9 +204,9 @@ pub encrypted_objects_go_there : JweCompactFormIsExact → GoesToCompactForm (jw
 unfolding jwe_fmt_answer
 encrypted_objects_go_there exact = goes_there (jwe.jwe_of limits) jwe.jwe_compact_text (λ o. o.ciphertext) HasOnlyRecipient exact.exists exact.refused (jwe_fmt_answer limits) (λ beside detached text. refl)
 
--- ---- what goes to compact form comes back
+-- ---- objects come back from compact form
 
--- objects that are read from each of their texts, with the content in it or beside it
+-- objects that are read from each of their texts, with the content inside or detached
 module _ {O : Type 0} (read : Option (List ℕ) → List ℕ → Result O Refusal) (json_text : Bool → O → List ℕ) (compact_text : Bool → O → Result (List ℕ) Refusal) (content : O → List ℕ)
     (spelled : (detached : Option (List ℕ)) (text : List ℕ) (o : O) → AreOctetsHandedIn detached → IsOctets text → read detached text ≡ Ok o → (detach : Bool)
     → (read (handed_in detach (content o)) (json_text detach o) ≡ Ok o) × ((text : List ℕ) → compact_text detach o ≡ Ok text → read (handed_in detach (content o)) text ≡ Ok o)) where
@@ -217,7 +217,7 @@ module _ {O : Type 0} (read : Option (List ℕ) → List ℕ → Result O Refusa
   abbrev written : Bool → Bool → O → Result OutputTexts Refusal
   written compact detach o = text_of compact detach o >>= λ text. Ok (record { text = text; content = handed_out detach (content o) })
 
-  -- so what is written of an object that was read is read as this object
+  -- So the texts that are written of an object that was read are read as this object.
   written_is_read : (detached : Option (List ℕ)) (text : List ℕ) (o : O) → AreOctetsHandedIn detached → IsOctets text → read detached text ≡ Ok o
       → (compact detach : Bool) (texts : OutputTexts) → written compact detach o ≡ Ok texts → read (handed_in detach texts.content) texts.text ≡ Ok o
   written_is_read detached text o handed octets is compact detach texts h =

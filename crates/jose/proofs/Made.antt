@@ -1,4 +1,4 @@
--- What `jwk gen` promises follows from the making of a key and the writing of its text.
+-- The promises of `jwk gen` follow from making a key and writing its text.
 use Rattle.std.proofs.Common.{◌≡◌, ◌≢◌, ◌≤◌, ℕ, List, [], ◌∷◌, length, true, false, Result, Ok, Err, OnOk, OnErr, IfErr, inl, inr, refl, subst}
 use Rattle.std.proofs.Math.Seq.{drop-length}
 use Rattle.octets.specs.declared.refusal.Refusal.{Refusal}
@@ -36,7 +36,7 @@ pub record MakesKey {D E : Type 0} (input : InputMembers D) (output : OutputMemb
   pub content_last : (refusal : Refusal) → making template ≡ Err refusal → random' ≡ random
   pub faults : TellsFaults (counts input.failures random random' ∷ []) (counts output.failures text text' ∷ []) r
 
--- the inputs that were read whole did not fail, and then the random input and the output of the text are told
+-- The inputs that were read whole did not fail, so the result reports the failures of the random input and of the output of the text.
 told_of_key : {X : Type 0} (text content keys random random' texts contents : Counts) (x : X) (r : Result (Unit {0}) Refusal) → contents.new ≡ contents.old
     → TellsFaults (text ∷ content ∷ keys ∷ random ∷ []) [] (Ok x) → TellsFaults (random' ∷ []) (texts ∷ []) r
     → TellsFaults (text ∷ content ∷ keys ∷ random' ∷ []) (texts ∷ contents ∷ []) r

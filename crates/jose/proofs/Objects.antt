@@ -1,4 +1,4 @@
--- What is written of an object that is read, and what is read and written beside it.
+-- What is written of an object that was read, and the content that is read or written next to it.
 use Rattle.std.proofs.Common.{◌≡◌, ℕ, List, [], length, Bool, true, false, not, ◌&&◌, ◌||◌, cond, IsTrue, Option, Some, None, Result, Ok, Err, refl, ap, ◌∙◌}
 use lib.Dec.{leb-zero}
 use Rattle.std.specs.Result.{result_unwrap_or}
@@ -11,25 +11,25 @@ use Rattle.objects.specs.Texts.{handed_in}
 use Rattle.jose.specs.Code.Doing.{formed}
 use Rattle.jose.specs.Meanings.{of_object}
 
--- ---- what is beside it
+-- ---- the content next to an object
 
--- what is handed in was read to its end
+-- A content that is handed in was read to its end.
 pub beside_ended : (given ended : Bool) → (IsTrue given → IsTrue ended) → (not given || ended) ≡ true
 beside_ended true ended read = read refl
 beside_ended false ended read = refl
 
--- ---- what is written of it
+-- ---- what is written of an object
 
--- a plan that draws nothing is the plan by any random input
+-- A plan that draws nothing is the same for every random input.
 drawing_nothing : {W : Type 0} (plan : Plan W) (random : List ℕ) → plan_from (Ok (without_random plan)) random ≡ Ok plan
 drawing_nothing plan random = ap (λ test. needs test Random >>= λ u. Ok plan) (leb-zero (length random))
 
--- the answer of a text alone
+-- The draft of a text alone has the answer of this text.
 planned_by_text : {W : Type 0} (a : Result W Refusal) (random : List ℕ) → planned (plan_from (by_text a) random) [] ≡ a
 planned_by_text (Ok texts) random = ap (λ plan. planned plan []) (drawing_nothing (without_content texts) random)
 planned_by_text (Err r) random = refl
 
--- the answer of an object is that by what is handed in
+-- The draft of an object has the answer for the content that is handed in, if there is one.
 pub planned_of_object : (given : Bool) (answer : Option (List ℕ) → Result OutputTexts Refusal) (random content : List ℕ)
     → planned (plan_from (of_object given answer) random) (cond given content []) ≡ answer (handed_in given content)
 planned_of_object true answer random content =
@@ -49,7 +49,7 @@ formed_by_text : (a : Result OutputTexts Refusal) (random : List ℕ) → begun 
 formed_by_text (Ok texts) random = ap (λ plan. begun plan (record { octets = []; ended = true })) (drawing_nothing (without_content texts) random)
 formed_by_text (Err r) random = refl
 
--- What may stand of it is all of the answer, and nothing before what is handed in was read.
+-- All of the answer may be written, but nothing before the other inputs and a content that is handed in were read.
 pub begun_of_object : (given others : Bool) (answer : Option (List ℕ) → Result OutputTexts Refusal) (random : List ℕ) (content : Observed)
     → cond others (begun (plan_from (of_object given answer) random) (cond given content (record { octets = []; ended = true }))) nothing
     ≡ formed (answer (handed_in given content.octets)) (others && (not given || content.ended))
@@ -63,12 +63,12 @@ drawn_by_text : {W : Type 0} (a : Result W Refusal) → drawn_of (by_text a) ≡
 drawn_by_text (Ok texts) = refl
 drawn_by_text (Err r) = refl
 
--- nothing is drawn for it
+-- No random octets are drawn for an object.
 pub drawn_of_object : (given : Bool) (answer : Option (List ℕ) → Result OutputTexts Refusal) → drawn_of (of_object given answer) ≡ 0
 drawn_of_object true answer = refl
 drawn_of_object false answer = drawn_by_text (answer None)
 
--- Where the text and the keys alone refuse it, nothing is handed in.
+-- If the text and the keys alone are refused, no content is handed in.
 pub refused_alone : (given : Bool) (answer : Option (List ℕ) → Result OutputTexts Refusal) (refusal : Refusal)
     → of_object given answer ≡ Err refusal → given ≡ false
 refused_alone true answer refusal is = cc is

@@ -1,4 +1,4 @@
--- What `jws ver` promises where it does not hold its payload.
+-- What `jws ver` promises if it does not hold its payload.
 use Rattle.std.proofs.Common.{◌≡◌, ◌&&◌, ℕ, List, [], ◌∷◌, true, false, IsTrue, Bool, Option, Some, Result, Ok, Err, IfErr, inl, inr, refl, sym, ◌∙◌, arith}
 use Rattle.std.proofs.Math.Seq.{drop-length}
 use Rattle.octets.specs.declared.refusal.Refusal.{Refusal}
@@ -18,7 +18,7 @@ use Rattle.jose.proofs.Doing.{IsWhole, if_always, if_done, if_weaker, others_are
 use Rattle.jose.proofs.Draws.{none_drawn, nothing_drawn}
 use Rattle.jose.proofs.Objects.{planned_of_object}
 
--- the inputs in the order of a run's
+-- The failures of the inputs are reported in the order of a run's inputs.
 told_in_order : {E : Type 0} (failures : E → ℕ) (outs : Outputs E) (text keys content random : Counts) (r : Result (Unit {0}) Refusal) → random.new ≡ random.old → TellsFaults (text ∷ keys ∷ content ∷ []) [] r
     → TellsFaults (text ∷ content ∷ keys ∷ random ∷ []) (output_counts failures outs outs) r
 told_in_order failures outs text keys content random (Ok done) same told = record {

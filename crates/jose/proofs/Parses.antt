@@ -1,4 +1,4 @@
--- What a parse of `clap` says of the words.
+-- What a parse by `clap` says about the words.
 use Rattle.std.proofs.Common.{◌≡◌, List, [], ◌∷◌, Result, Ok, Err, inl, inr, ap, sym, true, false}
 use Rattle.clap.specs.Words.{HasKind, Kinds, Text, fault_of, kind_of, matches_of}
 use Rattle.clap.specs.declared.error.Error.{Error}
@@ -9,7 +9,7 @@ use Rattle.octets.specs.Code.Results.{is_memory}
 use Rattle.jose.specs.Commands.{OptionEntry}
 use Rattle.jose.specs.Reading.{IsRefusalFor, app_for, is_faultless, settings_of, settings_read}
 
--- no fault was found
+-- `clap` found no fault.
 pub accepted : (options : List OptionEntry) (words : List Text) → fault_of (app_for options) words ≡ []
     → settings_read options words ≡ Ok (settings_of options (matches_of (app_for options) words))
 unfolding settings_read
@@ -22,7 +22,7 @@ refused_by settings kinds e r (inl memory) (inr usage) other = absurd (usage.0 m
 refused_by settings [] e r (inr among) (inr usage) other = absurd among
 refused_by settings (k ∷ ks) e r (inr among) (inr usage) other = (ap Err (sym usage.1), ap is_external usage.1)
 
--- a fault was found, or memory ran out
+-- `clap` found a fault, or memory ran out.
 pub refused : (options : List OptionEntry) (words : List Text) (e : Error) (r : Refusal) → HasKind (fault_of (app_for options) words) e → IsRefusalFor (kind_of e) r
     → is_memory r ≡ false → (settings_read options words ≡ Err r) × (is_external r ≡ false)
 unfolding settings_read

@@ -1,4 +1,4 @@
--- Of which kind each command is.
+-- The kind of each command.
 use Prim.Native.String.{String}
 use Rattle.std.proofs.Common.{◌≡◌, Bool, true, false, is_some, Result, Ok, refl, ap}
 use Rattle.std.specs.Option.{ok_or}

@@ -1,4 +1,4 @@
--- Settings, one by one, and by the letters that they are found by.
+-- Settings one by one, and by the letters that find them.
 use Rattle.std.proofs.Common.{◌≡◌, ℕ, ◌==◌, List, [], ◌++◌, Option, Some, None, option_map, string_bytes, refl, ap, ◌∙◌, sym}
 use Rattle.std.specs.List.{find}
 use Rattle.clap.specs.Words.{Text}
@@ -24,6 +24,6 @@ pub setting_before-append : (letter : ℕ) (value : Option Text) (more : List (�
 setting_before-append letter None more = refl
 setting_before-append letter (Some v) more = refl
 
--- what a read of a command's options gives past their end
+-- the option that is read past the end of a command's options
 abbrev pub no_option : OptionRow
 no_option = record { 0 = 0; 1 = record { ref_ptr = (0, 0); now = [] }; 2 = Flag; 3 = Json }

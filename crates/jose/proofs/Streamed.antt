@@ -1,4 +1,4 @@
--- What a command promises that reads its text and its keys whole, and then its content as it writes.
+-- What a command promises if it reads its text and its keys whole, and then its content while it writes.
 use Rattle.std.proofs.Common.{◌≡◌, ◌≢◌, ◌⊎◌, ◌<◌, ◌≤◌, ◌++◌, ℕ, List, [], ◌∷◌, length, Bool, true, false, IsTrue, Option, Some, None, is_some, MutBor, Result, Ok, Err, OnOk, OnErr, IfErr, IsErrAnd, inl, inr, refl, sym, ap, subst, ◌∙◌}
 use Rattle.std.proofs.Math.Seq.{drop-length}
 use Rattle.octets.specs.declared.refusal.Refusal.{Refusal}
@@ -23,22 +23,22 @@ use Rattle.jose.proofs.Doing.{IsReader, ends_early, others_are, if_always, if_we
 
 -- ---- an output that may be lent
 
--- what it was lent as and came back as, or that it was not called
+-- the output as it was lent and as it came back, or the same output twice if it was not lent
 abbrev pub IsBeside : {E : Type 0} → Option (Lent E) → E → E → Type 0
 IsBeside None before after = after ≡ before
 IsBeside (Some it) before after = it ≡ record { old = before; new = after }
 
--- the facts of a call to which none was lent
+-- the facts about a call to which no output was lent
 pub unlent_call : {E : Type 0} (entry : Option (MutBor E)) (exit : Unit {0} ⊎ ((MutBor E × Unit {0}) ⊎ ⊥)) (P : Bool → Option (Lent E) → Type 0) → entry ≡ None → P (is_some entry) (lent entry exit) → P false None
 unlent_call None exit P none p = p
 unlent_call (Some it) exit P none p = cc
 
--- a fact where it is lent
+-- a fact about an output that is lent
 where_lent : {E : Type 0} (l : Option (Lent E)) (P : E → E → Type 0) (before after : E) → IsBeside l before after → is_some l ≡ true → IfLent l P → P before after
 where_lent None P before after is some p = cc
 where_lent (Some it) P before after is some p = subst (λ (l : Lent _). P l.old l.new) is p
 
--- a fact that holds too of one that was not called
+-- a fact about an output that also holds if it is not lent
 lent_or : {E : Type 0} (l : Option (Lent E)) (P : E → E → Type 0) (before after : E) → IsBeside l before after → (is_some l ≡ false → P before before) → IfLent l P → P before after
 lent_or None P before after is same p = subst (P before) (sym is) (same refl)
 lent_or (Some it) P before after is same p = subst (λ (l : Lent _). P l.old l.new) is p
@@ -47,7 +47,7 @@ not_lent : {E : Type 0} (l : Option (Lent E)) (before after : E) → IsBeside l 
 not_lent None before after is none = is
 not_lent (Some it) before after is none = cc
 
--- which of two facts holds where it is lent
+-- one of two facts about an output, the second only if it is lent
 which_lent : {E : Type 0} (l : Option (Lent E)) (Same : Type 0) (endings : E → ℕ) (P : E → E → Type 0) (before after : E) → IsBeside l before after
     → IfLent l (λ old new. (Same × (endings new ≡ endings old)) ⊎ P old new) → (Same × (endings after ≡ endings before)) ⊎ (is_some l ≡ true → P before after)
 which_lent None Same endings P before after is p = inr (λ some. cc)
@@ -66,7 +66,7 @@ some_failed : {E : Type 0} (failures : E → ℕ) (l : Option (Lent E)) (before 
 some_failed failures None before after is some = absurd some
 some_failed failures (Some it) before after is some = subst (λ (l : Lent _). SomeFailed (counts failures l.old l.new ∷ [])) is some
 
--- ---- what the call promises that writes
+-- ---- what the call that writes promises
 
 pub record StreamsLent {D E : Type 0} (input : InputMembers D) (output : OutputMembers E) (draft : Result (Draft OutputTexts) Refusal) (plan : List ℕ → Result (Plan OutputTexts) Refusal) (random random' content content' : D) (text text' : E) (l : Option (Lent E)) (r : Result (Unit {0}) Refusal) : Type 0 where
   pub answer : (octets whole : List ℕ) → IsPossibleInput (observed input.consumed input.is_at_end random random') octets → IsPossibleInput (observed input.consumed input.is_at_end content content') whole
@@ -92,7 +92,7 @@ pub record StreamsLent {D E : Type 0} (input : InputMembers D) (output : OutputM
       → (DidNotFail refusal (counts output.failures text text') → text' ≡ text) × IfLent l (λ old new. refusal ≢ Write → new ≡ old))
   pub faults : TellsFaults (counts input.failures random random' ∷ counts input.failures content content' ∷ []) (counts output.failures text text' ∷ counts_of output.failures l) r
 
--- the inputs that were read whole did not fail, and then those of the call are told
+-- The inputs that were read whole did not fail, so the result reports the failures of the call.
 told_after : {E X : Type 0} (failures : E → ℕ) (l : Option (Lent E)) (before after : E) → IsBeside l before after → (text content content' keys random random' texts : Counts) (x : X) (r : Result (Unit {0}) Refusal)
     → TellsFaults (text ∷ content ∷ keys ∷ random ∷ []) [] (Ok x) → TellsFaults (random' ∷ content' ∷ []) (texts ∷ counts_of failures l) r
     → TellsFaults (text ∷ content' ∷ keys ∷ random' ∷ []) (texts ∷ counts failures before after ∷ []) r
@@ -191,7 +191,7 @@ streamed {D} {E} {input} {output} {v} {draft} {plan} {old} {mid} {random} {conte
       faults = told_after output.failures l before.content after.content beside _ _ _ _ _ _ _ whole r read.faults s.faults;
     }
 
--- ---- where the keys are refused
+-- ---- keys that are refused
 
 told_of_keys : {X Y : Type 0} (inputs : List Counts) (x : X) (e : Refusal) → e ≢ Read → e ≢ Write → TellsFaults inputs [] (Ok x) → TellsFaults {X = Y} inputs [] (Err e)
 told_of_keys inputs x e not_read not_write told = record {
@@ -217,7 +217,7 @@ keys_refused {D} {E} {input} {v} {detach} {old} {new} {read = whole} {e} output 
 
 -- ---- a call without a random input
 
--- a random input that is not read
+-- The result also reports the failures of a random input that is not read, which has none.
 pub told_unread : (random : Counts) (inputs outputs : List Counts) (r : Result (Unit {0}) Refusal) → random.new ≡ random.old → TellsFaults inputs outputs r → TellsFaults (random ∷ inputs) outputs r
 told_unread random inputs outputs (Ok done) same told = record { works = ((same, told.works.0), told.works.1); read = λ is. cc; write = λ is. cc; inputs_told = tt; outputs_told = tt }
 told_unread random inputs outputs (Err e) same told = record { works = tt; read = λ is. inr (told.read is); write = told.write; inputs_told = λ others. (same, told.inputs_told others); outputs_told = told.outputs_told }

@@ -12,7 +12,7 @@ use Rattle.jose.specs.Code.Rows.{command_entry, option_entry}
 use Rattle.jose.specs.Reading.{app_for}
 use Rattle.jose.proofs.Finding.{found_mapped, found_has}
 
--- ---- each command of the table is a simple one of `clap`
+-- ---- each command of the table is a simple command of `clap`
 
 abbrev is_simple_entry : CommandEntry → Bool
 is_simple_entry entry = is_simple_and_free (app_for entry.options)
@@ -40,7 +40,7 @@ by_entry : (found : Option (Bor CommandRow)) (entry : CommandEntry) → option_m
 by_entry None entry is = cc
 by_entry (Some row) entry is = let same : command_entry row.now ≡ entry = cc in ap (λ (e : CommandEntry). e.options) same
 
--- a row is found, and its options are those of the command
+-- A row is found, and its options are those of the command.
 pub options_found : (command : Command) (rows : List CommandRow) (found : Option (Bor CommandRow)) → map command_entry rows ≡ commands
     → option_map (λ row. row.now) found ≡ find (is_for command) rows
     → MatchOption found ⊥ (λ row. map option_entry row.now.options.now ≡ (row_of command).options)

@@ -1,4 +1,5 @@
--- Every answer that is not Limit stays where limits become wider.
+-- Under wider limits every answer that is not Limit stays the same, except that of `jwe enc` if it leaves the number of iterations to the
+-- limits.
 use Rattle.std.proofs.Common.{◌≡◌, ◌≢◌, ◌≤◌, lit≤, ◌&&◌, ◌*◌, ◌||◌, ◌==◌, ℕ, zero, suc, nat_le, not, is_some, Bool, true, false, List, length, take, Option, None, Some, Result, Ok, Err, refl, sym, ap, subst, ◌∙◌, arith}
 use Rattle.std.proofs.lemmas.Bool.{and_parts, and_from, eqb-true, leb-true, le-leb}
 use Rattle.std.specs.List.{list_all, list_any}
@@ -27,7 +28,7 @@ use Rattle.jose.specs.Jws.{jws_fmt_answer}
 use Rattle.jose.proofs.Headline.{ReadsAlike}
 use Rattle.jose.specs.WiderLimits.{AreWider, StaysUnlessLimit, ReadsAsBefore, IsCounted, EncryptsAsBefore}
 
--- those of this profile are wider than those before
+-- The limits of this profile are wider than the earlier ones.
 pub these_are_wider : AreWider earlier_limits limits
 these_are_wider = record {
   keys = refl;
@@ -43,42 +44,42 @@ these_are_wider = record {
 
 -- ---- the steps of an answer
 
--- a refusal that is Limit
+-- If an answer is the refusal Limit, its cause is Limit.
 is_limit : {A : Type 0} (e : Refusal) → (let r : Result A Refusal = Err e in r) ≡ Err Limit → e ≡ Limit
 is_limit e is = cc is
 
--- where both steps stay, so does what they give together
+-- If both steps stay the same, so does the answer of both together.
 then_stays : {A B : Type 0} (r s : Result A Refusal) (f g : A → Result B Refusal) → StaysUnlessLimit r s → ((x : A) → r ≡ Ok x → StaysUnlessLimit (f x) (g x))
     → StaysUnlessLimit (r >>= f) (s >>= g)
 then_stays (Ok x) s f g first later not = rw (first (λ e. cc e)) (later x refl not)
 then_stays (Err e) s f g first later not = rw (first (λ is. not (ap Err (is_limit e is)))) refl
 
--- what is the same stays
+-- An answer that is the same under both limits stays the same.
 same_stays : {A : Type 0} (r s : Result A Refusal) → s ≡ r → StaysUnlessLimit r s
 same_stays r s is not = is
 
--- a limit that is wider is passed where the other is
+-- If the second test passes whenever the first one does, the answer of a test for Limit stays the same.
 test_stays : (a b : Bool) → (a ≡ true → b ≡ true) → StaysUnlessLimit (needs a Limit) (needs b Limit)
 test_stays true b wider not = rw (wider refl) refl
 test_stays false b wider not = absurd (not refl)
 
--- a number within a limit is within a wider one
+-- A number within a limit is within a wider one.
 within_wider : (n a b : ℕ) → a ≤ b → nat_le n a ≡ true → nat_le n b ≡ true
 within_wider n a b wider h = let few : n ≤ a = leb-true n a h in le-leb n b (omega (arith, few, wider))
 
--- where a step is followed alike, it gives the same
+-- If the next steps are the same for every value, so are the answers.
 then_same : {A B : Type 0} (r : Result A Refusal) (f g : A → Result B Refusal) → ((x : A) → g x ≡ f x) → (r >>= g) ≡ (r >>= f)
 then_same (Ok x) f g same = same x
 then_same (Err e) f g same = refl
 
--- the draft of what is settled
+-- the draft of the plan that is settled
 abbrev drafted : Limits → Bool → Bool → Result EncryptionPlan Refusal → Result (Draft OutputTexts) Refusal
 drafted limits compact detach settled = settled >>= λ e. Ok (record { drawn = random_len e; plan = plan_by limits compact detach e })
 
 abbrev settled_by : Limits → Bool → List ℕ → List ℕ → Result EncryptionPlan Refusal
 settled_by limits compact keys template = key_set limits keys true >>= λ set. read_encryption limits compact set template
 
--- so `jwe enc` drafts
+-- This is the draft of `jwe enc`.
 draft_is : (limits : Limits) (compact detach : Bool) (keys template : List ℕ) → enc_answer limits compact detach keys template ≡ drafted limits compact detach (settled_by limits compact keys template)
 unfolding enc_plan
 draft_is limits compact detach keys template = by_set (key_set limits keys true)
@@ -87,13 +88,13 @@ draft_is limits compact detach keys template = by_set (key_set limits keys true)
     by_set (Ok set) = refl
     by_set (Err e) = refl
 
--- what is drafted stays
+-- the answer of the draft stays the same unless it is Limit, and so does the number of octets drawn unless the draft is Limit
 abbrev DraftsAsBefore : Result (Draft OutputTexts) Refusal → Result (Draft OutputTexts) Refusal → List ℕ → List ℕ → Type 0
 DraftsAsBefore a b random plaintext =
     StaysUnlessLimit (planned (plan_from a random) plaintext) (planned (plan_from b random) plaintext) × (a ≢ Err Limit → drawn_of b ≡ drawn_of a)
 
 module _ (narrower wider : Limits) (wide : AreWider narrower wider) where
-  -- ---- keys, which are read alike
+  -- ---- keys, which are read the same under both limits
 
   same_octets : (value : Data) → key_octets wider value ≡ key_octets narrower value
   unfolding key_octets
@@ -142,7 +143,7 @@ module _ (narrower wider : Limits) (wide : AreWider narrower wider) where
 
   -- ---- iterations
 
-  -- those that are within the limits are within wider ones
+  -- Pairs whose iterations are within the limits are within wider ones.
   within_both : (pairs : List Pair) → are_within narrower pairs ≡ true → are_within wider pairs ≡ true
   within_both pairs h =
       let both = and_parts (list_all (λ pair. nat_le (iterations_of pair) narrower.greatest_p2c_read) pairs) (nat_le (all_iterations pairs) narrower.p2c_sum) h in
@@ -186,7 +187,7 @@ module _ (narrower wider : Limits) (wide : AreWider narrower wider) where
 
   -- ---- encrypting
 
-  -- the iterations are chosen alike where they are not left to the limits
+  -- The same number of iterations is chosen if it is not left to the limits.
   same_count : (n : ℕ) (asked : Result (Option ℕ) Refusal) → (n == 0 || is_given asked) ≡ true → chosen_p2c wider n asked ≡ chosen_p2c narrower n asked
   same_count zero asked h = refl
   same_count (suc n) (Err e) h = refl
@@ -197,7 +198,7 @@ module _ (narrower wider : Limits) (wide : AreWider narrower wider) where
       by_test true is h = let zero_is : suc n ≡ 0 = eqb-true (suc n) 0 is in absurd (omega (arith, zero_is))
       by_test false is h = cc h
 
-  -- what may be written may be written under wider limits
+  -- A number of iterations that may be written may also be written under wider limits.
   written_both : (n p2c : ℕ) → p2c_may_be_written narrower n p2c ≡ true → p2c_may_be_written wider n p2c ≡ true
   written_both zero p2c h = refl
   written_both (suc n) p2c h =
@@ -208,7 +209,7 @@ module _ (narrower wider : Limits) (wide : AreWider narrower wider) where
       (and_from (nat_le p2c wider.greatest_p2c) (nat_le (suc n * p2c) wider.p2c_sum) (within_wider p2c narrower.greatest_p2c wider.greatest_p2c wide.greatest_p2c second.0)
       (within_wider (suc n * p2c) narrower.p2c_sum wider.p2c_sum wide.p2c_sum second.1))
 
-  -- headers nest as deep
+  -- The headers may nest as deep as before.
   same_depth : (t : EncryptionTemplate) → (is_shallow wider t.protected && is_shallow wider t.unprotected) ≡ (is_shallow narrower t.protected && is_shallow narrower t.unprotected)
   same_depth t = rw (wide.depth) refl
 
@@ -242,7 +243,7 @@ module _ (narrower wider : Limits) (wide : AreWider narrower wider) where
       then_stays (encryption_template value) _ _ _ (same_stays _ _ refl)
       (λ t is. with_stays compact keys t (λ receivers by_keys. counted value t receivers read is by_keys)))
 
-  -- what is encrypted by what was settled
+  -- The answer of a settled plan for a plaintext stays the same unless it is Limit.
   whole_stays : (compact detach : Bool) (e : EncryptionPlan) (random plaintext : List ℕ)
       → StaysUnlessLimit ((plan_by narrower compact detach e random).whole plaintext) ((plan_by wider compact detach e random).whole plaintext)
   unfolding encrypted jwe.built
@@ -262,7 +263,7 @@ module _ (narrower wider : Limits) (wide : AreWider narrower wider) where
       (λ few passed. same_stays _ _ (ap (λ algs. decoded parts.protected >>= λ octets. jwe.encrypted_object algs octets parts) wide.management)))))))
       (λ o made. same_stays _ _ refl)
 
-  -- by what was settled before, and stays
+  -- If the settled plan stays the same, so do the answer of its draft and the number of octets drawn.
   planned_stays : (compact detach : Bool) (a b : Result EncryptionPlan Refusal) (random plaintext : List ℕ) → StaysUnlessLimit a b
       → DraftsAsBefore (drafted narrower compact detach a) (drafted wider compact detach b) random plaintext
   planned_stays compact detach (Err e) b random plaintext first =
@@ -276,7 +277,7 @@ module _ (narrower wider : Limits) (wide : AreWider narrower wider) where
       by_test true not = whole_stays compact detach e (take (random_len e) random) plaintext not
       by_test false not = refl
 
-  -- ---- what is encrypted
+  -- ---- the answer of `jwe enc`
 
   pub encrypts_as_before : EncryptsAsBefore narrower wider
   encrypts_as_before compact detach keys template random plaintext counted =
@@ -286,9 +287,9 @@ module _ (narrower wider : Limits) (wide : AreWider narrower wider) where
       (subst (λ b. DraftsAsBefore (drafted narrower compact detach (settled_by narrower compact keys template)) b random plaintext) (sym (draft_is wider compact detach keys template))
       (planned_stays compact detach (settled_by narrower compact keys template) (settled_by wider compact keys template) random plaintext settled))
 
-  -- ---- what was encrypted
+  -- ---- objects that were encrypted
 
-  -- an object that is read, and decrypted, is so under wider limits
+  -- An object that is read and decrypted is read and decrypted the same under wider limits.
   pub reads_alike : ReadsAlike narrower wider
   reads_alike = record {
     read = λ detached text o h. jwe_stays detached text (λ e. cc (h, e)) ∙ h;

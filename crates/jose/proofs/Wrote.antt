@@ -1,4 +1,4 @@
--- What is written of an answer on the output of the content alone.
+-- An answer that is written to the output of the content alone.
 use Rattle.std.proofs.Common.{◌≡◌, ◌≢◌, ℕ, List, [], ◌∷◌, true, false, Result, Ok, Err, OnOk, OnErr, IfErr, inl, inr, refl}
 use Rattle.std.proofs.Math.Seq.{drop-length}
 use Rattle.std.specs.Result.{result_unwrap_or}

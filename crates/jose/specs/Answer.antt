@@ -1,4 +1,4 @@
--- The answer of each command: the octets of each output, or the first refusal, from whole inputs.
+-- The answer of each command to whole inputs: the octets of each output, or the first refusal.
 use Rattle.std.specs.Prelude.{◌≡◌, ◌≢◌, ◌⊎◌, ◌<◌, ◌≤◌, ℕ, Bool, true, false, not, ◌&&◌, ◌||◌, IsTrue, List, [], ◌++◌, length, is_some, is_none, if◌then◌else◌, Option, Some, None, Result, Err}
 use Rattle.std.specs.List.{list_any}
 use Rattle.octets.specs.declared.refusal.Refusal.{Refusal}
@@ -29,7 +29,7 @@ has_keys_input command = has_option "k" command
 abbrev pub has_random_input : Command → Bool
 has_random_input command = has_option "R" command
 
--- A device that need not be named is there where it is.
+-- A device whose option may be absent and has no default is there only if the option has a value. Every other device is always there.
 abbrev pub is_there : Takes → Option Text → Bool
 is_there flag value = true
 is_there required value = true
@@ -49,111 +49,115 @@ has_text_output invocation = has_device (option_at "o" invocation.command) invoc
 abbrev pub has_content_output : InvocationView → Bool
 has_content_output invocation = has_device (option_at "O" invocation.command) invocation.options
 
--- ---- how a command goes about its content (docs/SPECIFICATION.md "Commands", "What is left after a refusal")
+-- ---- how a command treats its content (docs/SPECIFICATION.md "Commands", "What is left after a refusal")
 
--- No output is touched before all is accepted, unless the command has an input that is read while an output is written.
+-- A command touches no output before everything is accepted, unless it has an input that is read while an output is written.
 abbrev pub holds_back : Command → Bool
 holds_back command = is_none (option_with Streamed command)
 
--- A command takes memory if it reads JSON, which it holds whole (docs/SPECIFICATION.md "Refusals").
+-- A command needs memory if it reads JSON, which it holds whole (docs/SPECIFICATION.md "Refusals").
 abbrev pub takes_memory : Command → Bool
 takes_memory command = list_any (λ option. is_json option.role) (row_of command).options
 
--- Which of three values belongs to the content: that of what `-I` names, if that is there, and else that of the text, if the command
--- writes as it reads. Any other command has no content.
+-- The one of three values that belongs to the content. It is that of the `-I` input if there is one, and otherwise that of the text if the
+-- command writes as it reads. Any other command has no content.
 abbrev pub content_of : {A : Type 0} → InvocationView → A → A → A → A
 content_of invocation text content nil =
     if has_content_input invocation then content else if holds_back invocation.command then nil else text
 
 -- ---- the answer (docs/SPECIFICATION.md "Commands" and "Refusals")
 
--- what the settings, the text and the keys settle, or the first refusal
+-- the draft that the settings, the text and the keys settle, or the first refusal
 abbrev pub draft_of : InvocationView → List ℕ → List ℕ → Result (Draft OutputTexts) Refusal
 draft_of invocation = draft_for invocation.command invocation.options
 
--- The octets of each output, or the first refusal: the draft's, then that of too few random octets, then the content's.
+-- The octets of each output, or the first refusal. The refusal of the draft comes first, then that of too few random octets, and then that
+-- of the content.
 abbrev pub answer : InvocationView → InputTexts → Result OutputTexts Refusal
 answer invocation inputs =
     planned (plan_from (draft_of invocation inputs.text inputs.keys) inputs.random)
     (content_of invocation inputs.text inputs.content [])
 
--- Whatever the inputs go on to give, the run did as the answer says.
+-- Whatever follows in the inputs, the run did what the answer says, unless memory or a device failed.
 abbrev pub Answers : InvocationView → ObservedInputs → OutputTexts → Result (Unit {0}) Refusal → Type 0
 Answers invocation seen wrote result =
     (inputs : InputTexts) → ArePossibleInputs seen inputs → AgreesUnlessExternal (answer invocation inputs) wrote result
 
--- exactly these octets of the random input were read (docs/SPECIFICATION.md "Commands" 2)
+-- exactly as many octets as the draft asks for were read from the random input (docs/SPECIFICATION.md "Commands" 2)
 abbrev pub DrawsAll : InvocationView → ObservedInputs → Type 0
 DrawsAll invocation seen =
     (inputs : InputTexts) → ArePossibleInputs seen inputs → length seen.random.octets ≡ drawn_of (draft_of invocation inputs.text inputs.keys)
 
--- no others were read (docs/SPECIFICATION.md "Commands" 2)
+-- at most as many octets as the draft asks for were read from the random input (docs/SPECIFICATION.md "Commands" 2)
 abbrev pub DrawsNoMore : InvocationView → ObservedInputs → Type 0
 DrawsNoMore invocation seen =
     (inputs : InputTexts) → ArePossibleInputs seen inputs → length seen.random.octets ≤ drawn_of (draft_of invocation inputs.text inputs.keys)
 
--- ---- what stands after a refusal (docs/SPECIFICATION.md "Commands", "What is left after a refusal")
+-- ---- the outputs after a refusal (docs/SPECIFICATION.md "Commands", "What is left after a refusal")
 
 -- an input that the command has was read to its end
 abbrev pub was_read : Bool → Observed → Bool
 was_read true seen = seen.ended
 was_read false seen = true
 
--- the text is there, and is not the content
+-- the command has a text, and the text is not the content
 abbrev pub has_template : InvocationView → Bool
 has_template invocation = has_text_input invocation.command && (holds_back invocation.command || has_content_input invocation)
 
--- The inputs beside the content have given all that is taken of them. Of a random input the octets so far decide:
--- where they are too few, nothing is made of them.
+-- The keys, if the command has them, were read to their end, and so was the text, if it is not the content. The random input needs no such
+-- test: if too few of its octets were read, there is no plan.
 abbrev pub others_read : InvocationView → ObservedInputs → Bool
 others_read invocation seen =
     was_read (has_keys_input invocation.command) seen.keys && was_read (has_template invocation) seen.text
 
--- what was seen of the content; a command without one has read all of it
+-- what was seen of the content, which is empty and was read to its end if the command has none
 abbrev pub content_seen : InvocationView → ObservedInputs → Observed
 content_seen invocation seen = content_of invocation seen.text seen.content (record { octets = []; ended = true })
 
--- the outputs hold a beginning of these texts: of none before the other inputs are read and accepted
+-- the texts of which the outputs may hold a beginning, which are empty until the other inputs were read and accepted
 abbrev pub beginning : InvocationView → ObservedInputs → OutputTexts
 beginning invocation seen =
     if others_read invocation seen then begun (plan_from (draft_of invocation seen.text.octets seen.keys.octets) seen.random.octets) (content_seen invocation seen)
     else nothing
 
--- Text holds, unless the refusal is Write and the output of the text failed itself. Content holds, unless the refusal is Write: a content
--- beside the text is written first, so the other output may have failed after it.
+-- Text holds, unless the refusal is Write and the output of the text itself failed. Content holds, unless the refusal is Write. A content
+-- next to the text is written first, so the output of the text may have failed after it.
 pub record AreSpared {D : Type 0} (failures : D → ℕ) (old new : Outputs D) (refusal : Refusal) (Text Content : Type 0) : Type 0 where
   pub text : DidNotFail refusal (counts failures old.text new.text) → Text
   pub content : refusal ≢ Write → Content
 
--- A command that holds back has touched an output only where it failed.
+-- If a command holds back, the output of the text is untouched unless it failed itself, and that of the content unless either failed.
 abbrev pub HoldsBack : {D : Type 0} → (D → ℕ) → InvocationView → Outputs D → Outputs D → Refusal → Type 0
 HoldsBack failures invocation old new refusal =
     IsTrue (holds_back invocation.command) → AreSpared failures old new refusal (new.text ≡ old.text) (new.content ≡ old.content)
 
--- An output on which nothing was written is as it was, unless it failed.
+-- If nothing was written to the output of the text, it is untouched unless it failed itself. If nothing was written to that of the content,
+-- it is untouched unless either failed.
 abbrev pub AreUncut : {D : Type 0} → (D → ℕ) → (D → List ℕ) → Outputs D → Outputs D → Refusal → Type 0
 AreUncut failures written old new refusal =
     AreSpared failures old new refusal (written new.text ≡ written old.text → new.text ≡ old.text) (written new.content ≡ written old.content → new.content ≡ old.content)
 
--- Where nothing could be read of the content of a command that writes as it reads, an output is as it was, unless it failed.
+-- If a command writes as it reads, and no octet of its content was read, the output of the text is untouched unless it failed itself, and
+-- that of the content unless either failed.
 abbrev pub AreUnread : {D : Type 0} → (D → ℕ) → InvocationView → ObservedInputs → Outputs D → Outputs D → Refusal → Type 0
 AreUnread failures invocation seen old new refusal =
     holds_back invocation.command ≡ false → (content_seen invocation seen).octets ≡ []
     → AreSpared failures old new refusal (new.text ≡ old.text) (new.content ≡ old.content)
 
--- what so much of the content fixes, where the other inputs are as they were seen
+-- the texts that this beginning of the content fixes, if the other inputs are as they were seen
 abbrev pub fixed_of : InvocationView → ObservedInputs → List ℕ → OutputTexts
 fixed_of invocation seen front = begun (plan_from (draft_of invocation seen.text.octets seen.keys.octets) seen.random.octets) (record { octets = front; ended = false })
 
--- Where the content of a command that writes as it reads fails, and something of it was read, what stands is at most 4,160 octets
--- behind what was read.
+-- If the content of a command that writes as it reads fails after some of it was read, each output has grown at least as far as the content
+-- without its last 4,160 octets fixes it.
 abbrev pub AreKeptUp : {D : Type 0} → (D → List ℕ) → InvocationView → ObservedInputs → Outputs D → Outputs D → Type 0
 AreKeptUp written invocation seen old new =
     holds_back invocation.command ≡ false → (content_seen invocation seen).octets ≢ []
     → KeepsUp (λ front. (fixed_of invocation seen front).text) (content_seen invocation seen).octets (written old.text) (written new.text)
     × KeepsUp (λ front. (fixed_of invocation seen front).content) (content_seen invocation seen).octets (written old.content) (written new.content)
 
--- If the content goes out too, the text is begun only after all of the content was written and its output was finished, once.
+-- Either the text is not begun and the output of the content is not finished, or, if the command has an output of the content, the content
+-- was read to its end and written whole, and this output was finished once.
 abbrev pub IsContentFirst : {D : Type 0} → (D → List ℕ) → (D → Bool) → (D → ℕ) → InvocationView → ObservedInputs → Outputs D → Outputs D → Type 0
 IsContentFirst written is_finished endings invocation seen old new =
     ((new.text ≡ old.text) × (endings new.content ≡ endings old.content))
@@ -163,30 +167,30 @@ IsContentFirst written is_finished endings invocation seen old new =
 
 -- ---- the order of reading (docs/SPECIFICATION.md "Commands", "What is read first")
 
--- No input is touched before the one ahead of it was read to its end: the text, the keys, and then the random input
--- and the content.
+-- No input is touched before those ahead of it were read to their ends. The text comes first, then the keys, and then the random input and
+-- the content.
 pub record AreInOrder {D : Type 0} (invocation : InvocationView) (seen : ObservedInputs) (old new : Inputs D) : Type 0 where
   pub keys : was_read (has_text_input invocation.command) seen.text ≡ false → new.keys ≡ old.keys
   pub random : others_read invocation seen ≡ false → new.random ≡ old.random
   pub content : others_read invocation seen ≡ false → new.content ≡ old.content
 
--- What the octets of the inputs are refused with is refused once each of them was read to its end, but for a content that is
--- read while its text is written.
+-- A refusal other than Memory, Read, Write and Usage comes only after the text, the keys and the content were read to their ends. A content
+-- that is read while its text is written is an exception.
 abbrev pub ReadsFirst : InvocationView → ObservedInputs → Refusal → Type 0
 ReadsFirst invocation seen refusal = is_external refusal ≡ false → refusal ≢ Usage
     → IsTrue (others_read invocation seen && (not (holds_back invocation.command) || (content_seen invocation seen).ended))
 
--- The content is untouched before all octets of the random input are drawn.
+-- The content is untouched until all random octets are drawn.
 abbrev pub DrawsFirst : {D : Type 0} → InvocationView → ObservedInputs → Inputs D → Inputs D → Type 0
 DrawsFirst invocation seen old new =
     length seen.random.octets < drawn_of (draft_of invocation seen.text.octets seen.keys.octets) → new.content ≡ old.content
 
--- Want of memory is answered only by a command that takes memory, and, where it writes as it reads, before the content is touched.
+-- Only a command that needs memory is refused with Memory. If it writes as it reads, the content is still untouched then.
 abbrev pub TakesMemoryFirst : {D : Type 0} → InvocationView → Inputs D → Inputs D → Refusal → Type 0
 TakesMemoryFirst invocation old new refusal = refusal ≡ Memory
     → IsTrue (takes_memory invocation.command) × (holds_back invocation.command ≡ false → new.content ≡ old.content)
 
--- What the text and the keys refuse is refused before the random input and the content are touched.
+-- If the text and the keys are refused, the random input and the content are untouched.
 abbrev pub RefusesFirst : {D : Type 0} → InvocationView → ObservedInputs → Inputs D → Inputs D → Type 0
 RefusesFirst invocation seen old new =
     (refusal : Refusal) → draft_of invocation seen.text.octets seen.keys.octets ≡ Err refusal → (new.random ≡ old.random) × (new.content ≡ old.content)
@@ -199,12 +203,12 @@ AreFinished is_finished endings invocation old new =
     (IsTrue (has_text_output invocation) → IsFinishedOnce is_finished endings old.text new.text)
     × (IsTrue (has_content_output invocation) → IsFinishedOnce is_finished endings old.content new.content)
 
--- The output of a text was not finished, and that of a content was not, if it is the only one.
+-- The output of the text was not finished, and neither was that of the content if the command has no output for a text.
 abbrev pub AreUnfinished : {D : Type 0} → (D → ℕ) → InvocationView → Outputs D → Outputs D → Type 0
 AreUnfinished endings invocation old new =
     (endings new.text ≡ endings old.text) × (has_text_output invocation ≡ false → endings new.content ≡ endings old.content)
 
--- the devices that it has no option for are as they were
+-- the devices that the command has no option for are untouched
 pub record AreUntouched {D E : Type 0} (invocation : InvocationView) (old_inputs new_inputs : Inputs D) (old_outputs new_outputs : Outputs E) : Type 0 where
   pub text : has_text_input invocation.command ≡ false → new_inputs.text ≡ old_inputs.text
   pub content : has_content_input invocation ≡ false → new_inputs.content ≡ old_inputs.content

@@ -1,4 +1,4 @@
--- The commands of the program, in one table: their words, and what each option takes and names.
+-- The commands of the program in one table: the words of each command, and for each option what it takes and names.
 use Prim.Native.String.{String}
 use Rattle.std.specs.Prelude.{ℕ, ◌==◌, Bool, true, false, List, [], ◌∷◌, Option, is_some, find, map, codes}
 use Rattle.std.specs.Str.{byte}
@@ -10,14 +10,15 @@ use Rattle.jose.specs.declared.words.table.Role.TheVariants.{Json, Keys, Streame
 
 -- ---- what a row says (docs/SPECIFICATION.md "Commands")
 
--- what an option takes: nothing, a value that has to be given, a value, or a value with a default
+-- what an option takes: no value, one that must be given, one that may be absent, or one with a default
 pub data Takes : Type 0 where
   flag : Takes
   required : Takes
   optional : Takes
   default : Text → Takes
 
--- its letter, a name for what it is for, what it takes, and what its value names, of which crates/jose/src/words/table.rt says more
+-- An option: its letter, a name that says what it is for, what it takes, and what its value names. crates/jose/src/words/table.rt says more
+-- about what it names.
 pub record OptionEntry : Type 0 where
   pub letter : ℕ
   pub name : Text
@@ -113,7 +114,7 @@ same_role Hash Hash = true
 same_role Nothing Nothing = true
 same_role role other = false
 
--- it is JSON, which may stand in the words
+-- the value names JSON, or is the JSON itself
 abbrev pub is_json : Role → Bool
 is_json Json = true
 is_json Keys = true

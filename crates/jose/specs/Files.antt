@@ -1,4 +1,4 @@
--- Sources and sinks as clauses see them, which of them the value of an option means, and the devices of a run.
+-- Sources and sinks as clauses see them, which of them the value of an option names, and the devices of a run.
 use Rattle.std.specs.Prelude.{◌≡◌, ℕ, ◌&&◌, ◌==◌, Bool, false, List, [], ◌∷◌, map, drop, Option, None, Some, IsSome, IsNone, Result, codes, slice_index, option_map, if◌then◌else◌, ⊤}
 use Rattle.std.specs.declared.io.Error.{Error}
 use Rattle.std.specs.Option.{option_and_then, option_or}
@@ -37,29 +37,29 @@ origin_of (source.Words octets) = words octets.now
 origin_of (source.Standard stdin) = standard_input
 origin_of (source.File files path opened) = input_file path.now
 
--- after a read of n octets: words lose them, and the others stay what they are
+-- the origin after a read of n octets: words lose them, and every other origin stays the same
 abbrev pub after_read : ℕ → Origin → Origin
 after_read n (words octets) = words (drop n octets)
 after_read n origin = origin
 
--- what the source still gives, where it is known: words, and an open file whose octets are known
+-- the octets that the source still has, if they are known: those of the words, and those of an open file whose octets are known
 abbrev pub source_remaining : {R F D : Type 0} → (F → Option (List ℕ)) → Source R F D → Option (List ℕ)
 source_remaining remaining (source.Words octets) = Some octets.now
 source_remaining remaining (source.Standard stdin) = None
 source_remaining remaining (source.File files path opened) = option_and_then remaining opened
 
--- where the source is a file, it is open
+-- if the source is a file, it is open
 abbrev pub IsOpenSource : {R F D : Type 0} → Source R F D → Type 0
 IsOpenSource (source.File files path opened) = IsSome opened
 IsOpenSource other = ⊤
 
--- where the source is a file, it is not open yet
+-- if the source is a file, it is not open yet
 abbrev pub IsUnopenedSource : {R F D : Type 0} → Source R F D → Type 0
 IsUnopenedSource (source.File files path opened) = IsNone opened
 IsUnopenedSource other = ⊤
 
--- What an option's value means: no value no octets, `-` standard input, a text that begins with `{` itself
--- where JSON may stand in the words, and each other text the file of this name.
+-- The origin that an option's value names. No value means no octets, and `-` means standard input. If the option may hold JSON, a text that
+-- begins with `{` is the JSON itself. Any other text is the name of a file.
 abbrev pub origin_named : Bool → Option Text → Origin
 origin_named may_be_json None = words []
 origin_named may_be_json (Some text) =
@@ -67,7 +67,7 @@ origin_named may_be_json (Some text) =
     else if may_be_json && (slice_index text 0 == byte "{") then words text
     else input_file text
 
--- what is read of an option: nothing, where the command has none
+-- the origin of an option's input, which has no octets if the command does not have the option
 abbrev pub origin_at : Option OptionEntry → Settings → Origin
 origin_at None settings = words []
 origin_at (Some option) settings = origin_named (is_json option.role) (value_at option.letter settings)
@@ -79,19 +79,19 @@ standard_input_file = codes "/dev/stdin"
 abbrev pub standard_output_file : Text
 standard_output_file = codes "/dev/stdout"
 
--- the file of an input; octets of the words have none
+-- the file of an input, which octets of the words do not have
 abbrev pub file_of : Origin → Option Text
 file_of (words octets) = None
 file_of standard_input = Some standard_input_file
 file_of (input_file name) = Some name
 
--- the file of random octets where `-R` names none
+-- the file of random octets if `-R` names none
 abbrev pub system_random : Text
 system_random = codes "/dev/urandom"
 
 -- ---- sinks
 
--- nowhere, standard output, or the file of this name, which is made for this purpose and is none of the others
+-- nowhere, standard output, or the file of this name, which is created for this purpose and must be none of the others
 pub data Destination : Type 0 where
   nowhere : Destination
   standard_output : Destination
@@ -105,38 +105,39 @@ destination_of sink.Nowhere = nowhere
 destination_of (sink.Standard stdout) = standard_output
 destination_of (sink.File file) = output_file file.path.now file.purpose (others_of file.apart)
 
--- what the sink holds, where it is known: an open file whose octets are known
+-- the octets that the sink holds, if they are known: those of an open file whose octets are known
 abbrev pub sink_contents : {R F D : Type 0} → (F → Option (List ℕ)) → Sink R F D → Option (List ℕ)
 sink_contents contents (sink.File file) = option_and_then contents file.opened
 sink_contents contents other = None
 
--- where the sink is a file, it is open
+-- if the sink is a file, it is open
 abbrev pub IsOpenSink : {R F D : Type 0} → Sink R F D → Type 0
 IsOpenSink (sink.File file) = IsSome file.opened
 IsOpenSink other = ⊤
 
--- where the sink is a file, it is not open yet
+-- if the sink is a file, it is not open yet
 abbrev pub IsUnopenedSink : {R F D : Type 0} → Sink R F D → Type 0
 IsUnopenedSink (sink.File file) = IsNone file.opened
 IsUnopenedSink other = ⊤
 
--- what is open for this purpose was synchronized, if it is a key
+-- if the purpose is a key, the file is open, and it was synchronized unless it cannot be
 abbrev pub IsKeptFor : {F : Type 0} → Purpose → (F → Result (Unit {0}) Error → Type 0) → Option F → Type 0
 IsKeptFor Key gives None = ⊥
 IsKeptFor Key gives (Some file) = MayBeSynchronized (gives file)
 IsKeptFor other gives opened = ⊤
 
--- The file of a made key was synchronized.
+-- if the sink is the file of a made key, this is open, and it was synchronized unless it cannot be
 abbrev pub IsKept : {R F D : Type 0} → (R → F → Result (Unit {0}) Error → Type 0) → Sink R F D → Type 0
 IsKept gives (sink.File file) = IsKeptFor file.purpose (gives file.files.now) file.opened
 IsKept gives other = ⊤
 
--- the mode of a file that is made: a secret is read and written by its owner alone
+-- the mode of a file that is created: only its owner may read and write a secret or a key
 abbrev pub mode_for : Purpose → ℕ
 mode_for Public = 0o666
 mode_for other = 0o600
 
--- no value means nowhere, `-` standard output, and each other text the file of this name
+-- The destination that an option's value names. No value means nowhere, and `-` means standard output. Any other text is the name of a
+-- file.
 abbrev pub destination_named : Purpose → List (Option Text) → Option Text → Destination
 destination_named purpose others None = nowhere
 destination_named purpose others (Some text) = if bytes_eq text (codes "-") then standard_output else output_file text purpose others
@@ -146,18 +147,18 @@ purpose_of role.Secret = Secret
 purpose_of role.MadeKey = Key
 purpose_of other = Public
 
--- where an option is written to: nowhere, where the command has none
+-- the destination of an option's output, which is nowhere if the command does not have the option
 abbrev pub destination_at : Option OptionEntry → List (Option Text) → Settings → Destination
 destination_at None others settings = nowhere
 destination_at (Some option) others settings = destination_named (purpose_of option.role) others (value_at option.letter settings)
 
 -- ---- the files that an output must not be
 
--- that of the content which is read while an output is written
+-- the file of the content that is read while an output is written
 abbrev pub streamed_file : InvocationView → Option Text
 streamed_file invocation = file_of (origin_at (option_with role.Streamed invocation.command) invocation.options)
 
--- that of the keys
+-- the file of the keys
 abbrev pub keys_file : InvocationView → Option Text
 keys_file invocation = file_of (origin_at (option_with role.Keys invocation.command) invocation.options)
 
@@ -165,7 +166,8 @@ keys_file invocation = file_of (origin_at (option_with role.Keys invocation.comm
 abbrev pub file_written : Option Text → Option Text
 file_written = option_map (λ text. if bytes_eq text (codes "-") then standard_output_file else text)
 
--- Neither output is the file of the content that is read meanwhile, or that of the keys. The text is not that of the content beside it either.
+-- No output may be the file of the content that is read meanwhile, or that of the keys. The output of the text may not be the file of the
+-- other output either.
 abbrev pub text_others : InvocationView → List (Option Text)
 text_others invocation = streamed_file invocation ∷ keys_file invocation ∷ file_written (value_at (byte "O") invocation.options) ∷ []
 
@@ -174,7 +176,7 @@ content_others invocation = streamed_file invocation ∷ keys_file invocation �
 
 -- ---- the devices of a run
 
--- an input over the source that this is, of which nothing was read
+-- an input of this origin, from which nothing was read
 pub record IsNewInput {R F D : Type 0} (origin : Origin) (device : ReaderInput (Source R F D)) : Type 0 where
   pub source : origin_of (reader_of device) ≡ origin
   pub unopened : IsUnopenedSource (reader_of device)
@@ -183,7 +185,7 @@ pub record IsNewInput {R F D : Type 0} (origin : Origin) (device : ReaderInput (
   pub remaining : remaining_of device ≡ at_most most_octets
   pub failures : read_failures_of device ≡ 0
 
--- an output over the sink that this is, to which nothing was written
+-- an output to this destination, to which nothing was written
 pub record IsNewOutput {R F D : Type 0} (destination : Destination) (device : WriterOutput (Sink R F D)) : Type 0 where
   pub sink : destination_of (writer_of device) ≡ destination
   pub unopened : IsUnopenedSink (writer_of device)
@@ -192,14 +194,15 @@ pub record IsNewOutput {R F D : Type 0} (destination : Destination) (device : Wr
   pub endings : endings_of device ≡ 0
   pub failures : write_failures_of device ≡ 0
 
--- each input is the one that its option names, the text that of `-i` or else `-s`, and the random one that of `-R` or else `/dev/urandom`
+-- Each input is the one that its option names. The option of the text is `-i`, or `-s` if the command has no `-i`. The random input is that
+-- of `-R`, or `/dev/urandom` if `-R` has no value.
 pub record AreNewInputs {R F D : Type 0} (invocation : InvocationView) (inputs : Inputs (ReaderInput (Source R F D))) : Type 0 where
   pub text : IsNewInput (origin_at (option_or (option_at "i" invocation.command) (option_at "s" invocation.command)) invocation.options) inputs.text
   pub content : IsNewInput (origin_at (option_at "I" invocation.command) invocation.options) inputs.content
   pub keys : IsNewInput (origin_at (option_at "k" invocation.command) invocation.options) inputs.keys
   pub random : IsNewInput (origin_named false (option_or (value_at (byte "R") invocation.options) (Some system_random))) inputs.random
 
--- each output is the one that its option names, for its purpose, and apart from the files that it must not be
+-- Each output is the one that its option names, with its purpose and the files that it must not be.
 pub record AreNewOutputs {R F D : Type 0} (invocation : InvocationView) (outputs : Outputs (WriterOutput (Sink R F D))) : Type 0 where
   pub text : IsNewOutput (destination_at (option_at "o" invocation.command) (text_others invocation) invocation.options) outputs.text
   pub content : IsNewOutput (destination_at (option_at "O" invocation.command) (content_others invocation) invocation.options) outputs.content

@@ -1,4 +1,4 @@
--- What the commands promise together: what is encrypted is decrypted, what is signed is verified, and what goes to compact form comes back.
+-- What the commands promise together: encrypted texts are decrypted, signed texts are verified, and objects go to compact form and back.
 use Rattle.std.specs.Prelude.{◌≡◌, ◌↔◌, ℕ, Bool, true, false, List, [], ◌∷◌, ◌++◌, length, if◌then◌else◌, Contains, Option, Result, Ok, Err}
 use Rattle.std.specs.List.{AllByRecursion}
 use Rattle.octets.specs.declared.refusal.Refusal.{Refusal}
@@ -22,9 +22,9 @@ use Rattle.jose.specs.Jws.{sig_answer, ver_answer}
 abbrev pub HoldsAlone : Limits → OctetKey → List ℕ → Type 0
 HoldsAlone limits key text = key_set limits text false ≡ Ok (key ∷ [])
 
--- If `jwe enc` writes texts under some limits, these are the text of an object under other limits. Every text that spells this object, with
--- the ciphertext inside or detached, is decrypted to the plaintext with a text of one of the keys alone. The key may decrypt, and opens
--- nothing else at the recipient of a key before it.
+-- If `jwe enc` writes texts under some limits, they are read as an object under other limits. `jwe dec` decrypts every text that is read as
+-- this object, with the ciphertext inside or detached, to the plaintext with any one of the keys alone. This key must be allowed to
+-- decrypt, and must open no other plaintext at the recipients of the keys before it.
 abbrev pub EncryptedIsDecrypted : Limits → Limits → Type 0
 EncryptedIsDecrypted writing reading =
     (compact detach : Bool) (keys template random plaintext : List ℕ) (texts : OutputTexts) → IsOctets random → IsOctets plaintext
@@ -38,13 +38,13 @@ EncryptedIsDecrypted writing reading =
 
 -- ---- `jws sig` and `jws ver` (RFC 7515 sections 5.1 and 5.2)
 
--- the key text holds some of these keys and no others, each of which may verify
+-- every key that the key text holds is one of these and may verify
 abbrev pub HoldsSome : List OctetKey → List ℕ → Type 0
 HoldsSome keys text =
     (held : List OctetKey) × ((key_set limits text false ≡ Ok held) × AllByRecursion (λ key. Contains keys key × (allows key Verify ≡ true)) held)
 
--- If `jws sig` writes texts, these are the text of an object. Every text that spells this object, with the payload inside or detached, is
--- verified with a text of some of the keys, with `-a` and without. The payload is written if it is asked for.
+-- If `jws sig` writes texts, they are read as an object. `jws ver` verifies every text that is read as this object, with the payload inside
+-- or detached, with any one or more of the keys that may verify, with `-a` and without. The payload is written if it is asked for.
 abbrev pub SignedIsVerified : Type 0
 SignedIsVerified = (compact detach : Bool) (keys template payload : List ℕ) (texts : OutputTexts) → IsOctets payload
     → planned (sig_answer limits compact detach keys template) payload ≡ Ok texts
@@ -56,15 +56,15 @@ SignedIsVerified = (compact detach : Bool) (keys template payload : List ℕ) (t
 
 -- ---- `jws fmt` and `jwe fmt` (RFC 7515 section 7 and RFC 7516 section 7)
 
--- An object that is read is written in compact form exactly if it fits, with the content inside or detached. If it does not fit, the refusal
--- is NotCompact.
+-- An object that was read is written in compact form, with the content inside or detached, exactly if it fits. If it does not fit, the
+-- refusal is NotCompact.
 abbrev pub GoesToCompactForm : {O : Type 0} → (Option (List ℕ) → List ℕ → Result O Refusal) → (O → Type 0) → (Bool → Bool → Option (List ℕ) → List ℕ → Result OutputTexts Refusal) → Type 0
 GoesToCompactForm {O} read Fits fmt = (beside : Bool) (detached : Option (List ℕ)) (text : List ℕ) (o : O) → read detached text ≡ Ok o
     → (((compact : OutputTexts) × (fmt true beside detached text ≡ Ok compact)) ↔ Fits o)
     × (¬ Fits o → fmt true beside detached text ≡ Err NotCompact)
 
--- An object that is written in JSON form, then in compact form and then in JSON form again has the same text as at first, with the content
--- inside each text or detached.
+-- If an object is written in JSON form, then in compact form and then in JSON form again, the result is the same as at first. In either
+-- form the content may be inside or detached, but both JSON texts have it in the same place.
 abbrev pub FormatsGoBack : (Bool → Bool → Option (List ℕ) → List ℕ → Result OutputTexts Refusal) → Type 0
 FormatsGoBack fmt = (beside_json beside_compact : Bool) (detached : Option (List ℕ)) (text : List ℕ) (json compact : OutputTexts) → AreOctetsHandedIn detached → IsOctets text
     → fmt false beside_json detached text ≡ Ok json

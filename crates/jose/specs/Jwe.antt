@@ -9,8 +9,8 @@ use Rattle.objects.specs.Jwe.{jwe_of}
 use Rattle.tokens.specs.Encrypting.{enc_plan, written_of}
 use Rattle.tokens.specs.Decrypting.{decrypted}
 
--- the text of a plaintext that is encrypted to the keys, as the template asks, by octets of the random input, with the ciphertext
--- or beside it (docs/SPECIFICATION.md "Encrypting")
+-- the draft by which `jwe enc` encrypts a plaintext to the keys as the template asks, with octets of the random input, and with the
+-- ciphertext inside the text or detached (docs/SPECIFICATION.md "Encrypting")
 abbrev pub enc_answer : Limits → Bool → Bool → List ℕ → List ℕ → Result (Draft OutputTexts) Refusal
 enc_answer limits compact detach keys template = do
   set ← key_set limits keys true
@@ -23,7 +23,7 @@ dec_answer limits keys detached text = do
   jwe ← jwe_of limits detached text
   decrypted limits set jwe
 
--- the text of the object in the other form, or in the same, with the ciphertext or beside it (docs/SPECIFICATION.md "Objects" 5)
+-- the text of the object in JSON form or in compact form, with the ciphertext inside it or detached (docs/SPECIFICATION.md "Objects" 5)
 unfoldable pub jwe_fmt_answer : Limits → Bool → Bool → Option (List ℕ) → List ℕ → Result OutputTexts Refusal
 jwe_fmt_answer limits compact detach detached text = do
   jwe ← jwe_of limits detached text

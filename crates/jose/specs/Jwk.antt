@@ -1,4 +1,4 @@
--- The commands `jwk gen` and `jwk thp`. What `jwk gen` writes is the text of `Rattle.keys.specs.Generating`.
+-- The commands `jwk gen` and `jwk thp`. `Rattle.keys.specs.Generating` defines the text that `jwk gen` writes.
 use Rattle.std.specs.Prelude.{ℕ, false, List, [], ◌∷◌, Result, Ok}
 use Rattle.std.specs.List.{join_by}
 use Rattle.std.specs.Str.{byte}
@@ -13,17 +13,17 @@ use Rattle.keys.specs.Limits.{limits}
 use Rattle.keys.specs.Thumbprints.{thumbprint_of}
 use Rattle.jose.specs.Ports.{as_text}
 
--- the key that a template's text makes, of the octets that are drawn for it (docs/SPECIFICATION.md "Making keys")
+-- the draft of the key that a template's text asks for, made of the octets that are drawn for it (docs/SPECIFICATION.md "Making keys")
 abbrev pub making : List ℕ → Result (Draft OutputTexts) Refusal
 making template = do
   made ← made_key limits template
   Ok (record { drawn = made.len; plan = λ octets. without_content (as_text (key_text made octets)) })
 
--- the thumbprints of the keys, with a line feed between each two (docs/SPECIFICATION.md "Keys" 7)
+-- the thumbprints of the keys, one a line, without a line feed after the last (docs/SPECIFICATION.md "Keys" 7)
 unfoldable pub thumbprint_lines : HashAlg → List OctetKey → List ℕ
 thumbprint_lines hash keys = join_by (λ key. thumbprint_of key hash) (byte "\n" ∷ []) keys
 
--- those of the good keys of a text, in order; a bad one of a set is passed over (docs/SPECIFICATION.md "Keys" 3 and 7)
+-- the thumbprints of the good keys of a text, in order and without any bad key of a set (docs/SPECIFICATION.md "Keys" 3 and 7)
 unfoldable pub thp_answer : HashAlg → List ℕ → Result (List ℕ) Refusal
 thp_answer hash text = do
   keys ← key_set limits text false

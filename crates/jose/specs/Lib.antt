@@ -15,9 +15,9 @@ pub mod Commands
 pub mod Meanings
 -- the answer of a run, and what a refusal leaves
 pub mod Answer
--- what is encrypted is decrypted
+-- what the commands promise together
 pub mod Headline
--- that later limits read what earlier ones wrote
+-- that wider limits keep every answer except Limit
 pub mod WiderLimits
 -- around `run`: the words of a command line
 pub mod Words

@@ -1,4 +1,4 @@
--- What each command means, in one equation for each.
+-- The meaning of each command, in one equation each.
 use Rattle.std.specs.Prelude.{ℕ, Bool, true, false, List, is_some, Option, Some, None, Result, Ok}
 use Rattle.std.specs.Option.{ok_or}
 use Rattle.std.specs.Str.{byte}
@@ -36,12 +36,12 @@ is_all_asked settings = is_some (value_at (byte "a") settings)
 
 -- ---- the commands (docs/SPECIFICATION.md "Commands")
 
--- What is written of an object, as a whole: by the content too, where that is handed in, and else by the text alone.
+-- The draft of an answer about an object, which is written as a whole. If the content is handed in, the answer depends on it too.
 abbrev pub of_object : Bool → (Option (List ℕ) → Result OutputTexts Refusal) → Result (Draft OutputTexts) Refusal
 of_object true answer = Ok (without_random (record { whole = λ content. answer (Some content); fixed = λ front. nothing }))
 of_object false answer = by_text (answer None)
 
--- What the settings, the text and the keys settle, or the first refusal. A text that is the content settles nothing.
+-- The draft that the settings, the text and the keys settle, or the first refusal. A text that is the content settles nothing.
 abbrev pub draft_for : Command → Settings → List ℕ → List ℕ → Result (Draft OutputTexts) Refusal
 draft_for JwkGen settings text keys = making text
 draft_for JwkThp settings text keys = by_text (ok_or (hash_asked settings) Usage >>= λ hash. on_text (thp_answer hash text))

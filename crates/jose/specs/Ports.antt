@@ -57,7 +57,7 @@ pub record ArePossibleInputs (seen : ObservedInputs) (inputs : InputTexts) : Typ
   pub keys : IsPossibleInput seen.keys inputs.keys
   pub random : IsPossibleInput seen.random inputs.random
 
--- each input but the random one ends or fails after finitely many octets
+-- each input except the random one ends or fails after finitely many octets
 pub record AreFinite {D : Type 0} (remaining : D → Count) (inputs : Inputs D) : Type 0 where
   pub text : IsFinite (remaining inputs.text)
   pub content : IsFinite (remaining inputs.content)
@@ -78,7 +78,7 @@ pub record AppendPrefixesOf {D : Type 0} (written : D → List ℕ) (texts : Out
 
 -- ---- failures (docs/SPECIFICATION.md "Devices")
 
--- the counts of the inputs, and of the outputs
+-- the counts of the inputs, and those of the outputs
 abbrev pub input_counts : {D : Type 0} → (D → ℕ) → Inputs D → Inputs D → List Counts
 input_counts failures old new =
     counts failures old.text new.text ∷ counts failures old.content new.content ∷ counts failures old.keys new.keys ∷ counts failures old.random new.random ∷ []

@@ -1,4 +1,5 @@
--- What the operating system is asked. Of each answer it is known only that the system may give it: `gives` is the system's own relation.
+-- The requests to the operating system. All that is known about an answer is that the system may give it: `gives` is the system's own
+-- relation.
 use Rattle.std.specs.Prelude.{◌≡◌, ℤ, pos, ◌≤ℤ◌, ◌⊎◌, ⊤, Bool, true, false, ◌&&◌, ◌==◌, List, [], ◌∷◌, Option, None, Some, option_map, IfSome, Result, Ok, Err}
 use Rattle.std.specs.Borrow.{Bor}
 use Rattle.std.specs.declared.io.Error.{Error}
@@ -9,12 +10,13 @@ use Rattle.jose.specs.declared.system.FileId.{FileId}
 
 -- ---- names of one file
 
--- both are regular files, with one device and one inode
+-- both are regular files, with the same device and the same inode
 abbrev pub are_one : Option FileId → Option FileId → Bool
 are_one (Some file) (Some other) = file.device == other.device && file.inode == other.inode
 are_one file other = false
 
--- The system was asked for the files of both names, and its answers say whether they are one. Without another name it is not asked.
+-- The system was asked for the files of both names, and its answers say whether they are the same file. Without another name it is not
+-- asked, and they are not.
 abbrev pub MayBeOne : (Text → Option FileId → Type 0) → Text → Option Text → Bool → Type 0
 MayBeOne gives path None is_one = is_one ≡ false
 MayBeOne gives path (Some other) is_one =
@@ -25,22 +27,22 @@ abbrev pub IsApart : (Text → Option FileId → Type 0) → Text → List (Opti
 IsApart gives path [] = ⊤
 IsApart gives path (other ∷ others) = MayBeOne gives path other false × IsApart gives path others
 
--- it is one of them
+-- the file of this name is one of the others
 abbrev pub IsNotApart : (Text → Option FileId → Type 0) → Text → List (Option Text) → Type 0
 IsNotApart gives path [] = ⊥
 IsNotApart gives path (other ∷ others) = MayBeOne gives path other true ⊎ IsNotApart gives path others
 
--- the name that the code has of another file
+-- the name of another file, if the code has one
 abbrev pub name_of : Option (Bor Text) → Option Text
 name_of = option_map (λ text. text.now)
 
 -- ---- files on their disk
 
--- by such an error the system says that this is nothing to write to a disk, as a pipe or a terminal
+-- the error by which the system reports that a file, such as a pipe or a terminal, cannot be written to a disk
 abbrev pub CannotBeSynchronized : Error → Type 0
 CannotBeSynchronized e = (error_kind e ≡ InvalidInput) ⊎ (error_kind e ≡ Unsupported)
 
--- The system was asked to write the file to its disk. It did, or it cannot.
+-- The system was asked to write the file to its disk. Either it did, or it reported that this file cannot be written to a disk.
 abbrev pub MayBeSynchronized : (Result (Unit {0}) Error → Type 0) → Type 0
 MayBeSynchronized gives = gives (Ok tt) ⊎ ((e : Error) × (gives (Err e) × CannotBeSynchronized e))
 
@@ -50,12 +52,12 @@ MayBeSynchronized gives = gives (Ok tt) ⊎ ((e : Error) × (gives (Err e) × Ca
 abbrev pub IsStandard : ℤ → Type 0
 IsStandard number = pos 0 ≤ℤ number × number ≤ℤ pos 2
 
--- a file with such a number is held, and no other
+-- a file with the number of a standard stream is held, and a file with any other number is not
 abbrev pub IsHeld : {F : Type 0} → (F → Option ℤ) → F → Option F → Type 0
 IsHeld number file None = IfSome (number file) (λ n. ¬ IsStandard n)
 IsHeld number file (Some held) = (held ≡ file) × IfSome (number file) IsStandard
 
--- The first of the folders that the system opens is held, if it has such a number. If it opens none of them, none is held.
+-- The first folder that the system opens is held if it has the number of a standard stream. If the system opens none of them, none is held.
 abbrev pub HoldsFirst : {F : Type 0} → (Text → Result F Error → Type 0) → (F → Option ℤ) → List Text → Option F → Type 0
 HoldsFirst gives number [] held = held ≡ None
 HoldsFirst {F} gives number (folder ∷ folders) held =

@@ -1,4 +1,5 @@
--- What stays as it is where limits are wider: every answer that is not Limit.
+-- Under wider limits every answer that is not Limit stays the same, except that of `jwe enc` if it leaves the number of iterations to the
+-- limits.
 use Rattle.std.specs.Prelude.{◌≡◌, ◌≢◌, ◌||◌, ◌==◌, ℕ, ◌≤◌, Bool, true, List, Option, Result, Ok, Err}
 use Rattle.serde_json.specs.Data.{Data}
 use Rattle.octets.specs.declared.refusal.Refusal.{Refusal}
@@ -16,7 +17,7 @@ use Rattle.jose.specs.Jws.{ver_answer, jws_fmt_answer}
 
 -- ---- the limits (docs/SPECIFICATION.md "Keys", "Objects", "Encrypting" and "Decrypting")
 
--- The second limits allow all that the first allow. Those of keys and of depth, and the algorithms, are the same.
+-- The second limits allow everything that the first allow. The limits of keys and of depth and the algorithms are the same.
 pub record AreWider (narrower wider : Limits) : Type 0 where
   pub keys : wider.keys ≡ narrower.keys
   pub key_octets : wider.key_octets ≡ narrower.key_octets
@@ -28,13 +29,13 @@ pub record AreWider (narrower wider : Limits) : Type 0 where
   pub p2c_sum : narrower.p2c_sum ≤ wider.p2c_sum
   pub management : wider.management ≡ narrower.management
 
--- ---- what wider limits leave as it is (docs/SPECIFICATION.md "Refusals")
+-- ---- what stays the same under wider limits (docs/SPECIFICATION.md "Refusals")
 
--- an answer other than Limit stays as it is
+-- an answer other than Limit stays the same
 abbrev pub StaysUnlessLimit : {X : Type 0} → Result X Refusal → Result X Refusal → Type 0
 StaysUnlessLimit narrower wider = narrower ≢ Err Limit → wider ≡ narrower
 
--- the answers of `jwe dec`, `jws ver` and both `fmt`, for all keys and objects
+-- For all keys and objects, the answers of `jwe dec`, `jws ver` and both `fmt` stay the same unless they are Limit.
 pub record ReadsAsBefore (narrower wider : Limits) : Type 0 where
   pub dec : (keys : List ℕ) (detached : Option (List ℕ)) (text : List ℕ) → StaysUnlessLimit (dec_answer narrower keys detached text) (dec_answer wider keys detached text)
   pub ver : (all wanted : Bool) (keys : List ℕ) (detached : Option (List ℕ)) (text : List ℕ)
@@ -44,13 +45,14 @@ pub record ReadsAsBefore (narrower wider : Limits) : Type 0 where
   pub jwe_fmt : (compact detach : Bool) (detached : Option (List ℕ)) (text : List ℕ)
       → StaysUnlessLimit (jwe_fmt_answer narrower compact detach detached text) (jwe_fmt_answer wider compact detach detached text)
 
--- no recipient key is a password, or the template gives the iterations
+-- no recipient key is a password, or the template has the number of iterations
 abbrev pub IsCounted : List OctetKey → List ℕ → Type 0
 IsCounted keys text =
     (value : Data) (template : EncryptionTemplate) (recipient_keys : List RecipientKey) → json_value text ≡ Ok value → encryption_template value ≡ Ok template
     → each (recipient_key_by template.asked.management) keys ≡ Ok recipient_keys → (password_count recipient_keys == 0 || is_given template.asked.p2c) ≡ true
 
--- the answer of `jwe enc`, and how many random octets it draws
+-- Suppose that the number of iterations is in the template if there is a password. Then the answer of `jwe enc` stays the same unless it is
+-- Limit. So does the number of random octets that it draws, unless its draft is Limit.
 abbrev pub EncryptsAsBefore : Limits → Limits → Type 0
 EncryptsAsBefore narrower wider =
     (compact detach : Bool) (keys : List ℕ) (template random plaintext : List ℕ) → ((set : List OctetKey) → key_set narrower keys true ≡ Ok set → IsCounted set template)

@@ -1,4 +1,4 @@
--- What the program's arguments ask for.
+-- What the program's words ask for.
 use Rattle.std.specs.Prelude.{ℕ, ◌&&◌, Bool, true, false, not, nat_eq, nat_le, List, ◌∷◌, Option, count_by, is_some, codes, Result, Ok, Err, find}
 use Rattle.std.specs.Option.{ok_or, option_and_then, option_map_or}
 use Rattle.std.specs.Str.{bytes_eq}
@@ -29,7 +29,7 @@ is_output other = false
 abbrev pub has_words : Text → Text → CommandEntry → Bool
 has_words noun verb entry = bytes_eq entry.noun noun && bytes_eq entry.verb verb
 
--- the command of the table that has these two words
+-- the command of the table with these two words
 abbrev pub command_named : Text → Text → Option CommandEntry
 command_named noun verb = find (has_words noun verb) commands
 
@@ -38,7 +38,7 @@ command_named noun verb = find (has_words noun verb) commands
 abbrev pub is_dash : Option Text → Bool
 is_dash value = option_map_or (λ text. bytes_eq text (codes "-")) value false
 
--- the option has such a role, and its value is `-`
+-- the option's role passes the test, and its value is `-`
 abbrev pub names_standard : (Role → Bool) → Settings → OptionEntry → Bool
 names_standard is settings option = is option.role && is_dash (value_at option.letter settings)
 
@@ -47,7 +47,7 @@ standard_count is options settings = count_by (names_standard is settings) optio
 
 -- ---- the words
 
--- the value of an option for a hash names one of the four
+-- if the option is for a hash, its value names one of the four
 abbrev pub is_served : Role → Option Text → Bool
 is_served Hash value = is_some (option_and_then hash_named value)
 is_served other value = true
@@ -55,8 +55,8 @@ is_served other value = true
 abbrev pub unserved_count : List OptionEntry → Settings → ℕ
 unserved_count options settings = count_by (λ option. not (is_served option.role (value_at option.letter settings))) options
 
--- Two words pick the command, and the others are its options. At most one input is standard input,
--- and at most one output is standard output.
+-- The first two words select the command, and the others are its options. At most one input is standard input, at most one output is standard
+-- output, and an option for a hash names one of the four.
 unfoldable pub invocation_of : List Text → Result InvocationView Refusal
 invocation_of (noun ∷ (verb ∷ words)) = do
   entry ← ok_or (command_named noun verb) Usage

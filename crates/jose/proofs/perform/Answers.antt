@@ -5,7 +5,7 @@ use Rattle.jose.specs.Words.{invocation_of}
 use Rattle.jose.specs.Runs.{Serves}
 use Rattle.jose.proofs.perform.Goals as goal
 
--- without arguments there are no words, which are no command
+-- Without arguments there are no words, and so there is no command: the refusal is Usage.
 nothing_is_asked : (R F D : Type 0) {A : Type 0} (text : A → Text) (args : List A) → length args < 1 → Serves R F D (drop 1 (map text args)) (Err Usage)
 unfolding invocation_of
 nothing_is_asked R F D text [] below = refl

@@ -2,7 +2,7 @@ use Rattle.std.proofs.Common.{ℕ, List, [], Bor, inl, inr}
 use Rattle.jose.proofs.Mapped.{mapped-at}
 use Rattle.jose.proofs.placeholder.Goals as goal
 
--- what no index below the length reads
+-- a default that no index below the length reads
 abbrev no_folder : Bor (List ℕ)
 no_folder = record { ref_ptr = (0, 0); now = [] }
 

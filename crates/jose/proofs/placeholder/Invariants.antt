@@ -2,7 +2,7 @@ use Rattle.std.proofs.Common.{Option, drop, map}
 use Rattle.jose.specs.System.{HoldsFirst}
 use Rattle.jose.proofs.placeholder.Given as goal
 
--- what the folders that are left decide, all of them do
+-- if the folders that are left decide what is held, all folders decide the same
 abbrev pub invariant-loop-folder : goal.invariant-loop-folder
 invariant-loop-folder g l =
     let gives = g.S.System.open_gives l.system in

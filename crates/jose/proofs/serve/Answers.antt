@@ -8,7 +8,7 @@ use Rattle.jose.specs.Words.{invocation_of}
 use Rattle.jose.specs.Runs.{Serves}
 use Rattle.jose.proofs.serve.Goals as goal
 
--- what `parse` refuses with is memory's refusal, or that of the words
+-- A refusal of `parse` is Memory or the refusal of the words.
 refused : (R F D : Type 0) (words : List Text) (refusal : Refusal) (result : Result (Unit {0}) Refusal) → result ≡ Err refusal
     → (is_memory refusal ≡ false → (invocation_of words ≡ Err refusal) × (is_external refusal ≡ false))
     → (result ≡ Err Memory) ⊎ Serves R F D words result

@@ -1,4 +1,4 @@
--- What a command promises of its devices, and what its steps promise, from which that follows.
+-- What a command promises about its devices, and what its steps promise, from which this follows.
 use Rattle.std.specs.Prelude.{◌≡◌, ◌⊎◌, ◌++◌, ◌&&◌, ℕ, Bool, true, false, List, [], if◌then◌else◌, option_map, Result, Err, OnOk, OnErr, IfOk, IfErr, IsTrue, Ok}
 use Rattle.octets.specs.declared.refusal.Refusal.{Refusal}
 use Rattle.octets.specs.declared.refusal.Refusal.TheVariants.{Read}
@@ -14,13 +14,13 @@ use Rattle.jose.specs.Invocations.{InvocationView}
 use Rattle.jose.specs.Ports.{ObservedInputs, AppendPrefixesOf, observed_inputs, written_texts, input_counts, output_counts}
 use Rattle.jose.specs.Answer.{Answers, DrawsAll, DrawsNoMore, AreFinished, AreUnfinished, AreUntouched, AreSpared, AreUncut, AreUnread, AreKeptUp, IsContentFirst, AreInOrder, ReadsFirst, DrawsFirst, TakesMemoryFirst, RefusesFirst, HoldsBack, was_read, beginning as beginning_of_run}
 
--- what may stand written of an answer, as a whole: nothing before its inputs are read and accepted
+-- the texts of an answer that may be written as a whole, which are empty until its inputs are read and accepted
 -- (docs/SPECIFICATION.md "Commands", "What is left after a refusal")
 abbrev pub formed : Result OutputTexts Refusal → Bool → OutputTexts
 formed (Ok texts) true = texts
 formed answer read = nothing
 
--- the text of an object, and its content beside it where that is detached (docs/SPECIFICATION.md "Commands" 4)
+-- the text of an object, and its content next to it if this is detached (docs/SPECIFICATION.md "Commands" 4)
 abbrev pub object_texts : Bool → List ℕ → List ℕ → OutputTexts
 object_texts detach content text = record { text = text; content = handed_out detach content }
 
@@ -49,7 +49,7 @@ seen_of input old new = observed_inputs input.consumed input.is_at_end old new
 
 -- ---- a command
 
--- All that `run` promises of an invocation, clause by clause.
+-- Everything that `run` promises about an invocation, clause by clause.
 pub record Does {D E : Type 0} (input : InputMembers D) (output : OutputMembers E) (invocation : InvocationView) (old new : Inputs D) (before after : Outputs E) (result : Result (Unit {0}) Refusal) : Type 0 where
   pub answer : Answers invocation (seen_of input old new) (written_texts output.written before after) result
   pub drawn : OnOk result (DrawsAll invocation (seen_of input old new))
@@ -72,11 +72,11 @@ pub record Does {D E : Type 0} (input : InputMembers D) (output : OutputMembers 
 
 -- ---- reading whole inputs
 
--- the octets of an input that is read, and none of one that is not
+-- the octets of an input if it is read, and otherwise none
 abbrev pub where_read : Bool → List ℕ → List ℕ
 where_read is_read whole = if is_read then whole else []
 
--- The text is read to its end, then the keys, if they are asked for, and then the content, if it is handed in. It fails only if memory
+-- The text is read to its end, then the keys if they are asked for, and then the content if it is handed in. Reading fails only if memory
 -- or a device fails.
 pub record ReadsInputs {D : Type 0} (input : InputMembers D) (has_keys given : Bool) (old new : Inputs D) (result : Result WholeInputs Refusal) : Type 0 where
   pub text : IfOk result (λ read. (whole : List ℕ) → IsPossibleInput (seen_of input old new).text whole → whole ≡ read.text.items)
@@ -93,10 +93,10 @@ pub record ReadsInputs {D : Type 0} (input : InputMembers D) (has_keys given : B
   pub cause : IfErr result (λ refusal. is_external refusal ≡ true)
   pub faults : TellsFaults (input_counts input.failures old new) [] result
 
--- ---- writing what they answer
+-- ---- writing the answer to whole inputs
 
--- An answer that is made of whole inputs is written, the content first where the command has an output for it. Nothing is touched before
--- the answer is there.
+-- The answer to whole inputs is written, with the content first if the command has an output for it. No output is touched before the answer
+-- is ready.
 pub record WritesWhole {E : Type 0} (output : OutputMembers E) (has_text has_content : Bool) (answer : Result OutputTexts Refusal) (before after : Outputs E) (result : Result (Unit {0}) Refusal) : Type 0 where
   pub agrees : AgreesUnlessExternal answer (written_texts output.written before after) result
   pub beginning : OnErr result (AppendPrefixesOf output.written (formed answer true) before after)

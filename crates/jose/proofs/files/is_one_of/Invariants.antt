@@ -2,7 +2,7 @@ use Rattle.std.proofs.Common.{drop, map}
 use Rattle.jose.specs.System.{IsApart, IsNotApart, name_of}
 use Rattle.jose.proofs.files.is_one_of.Given as goal
 
--- what holds of the names that are left holds of all of them
+-- if the file is apart from the names that are left, or is one of them, this is also true of all names
 abbrev pub invariant-loop-other : goal.invariant-loop-other
 invariant-loop-other g l =
     let gives = g.R.System.id_gives l.files in

@@ -6,7 +6,7 @@ use Rattle.jose.proofs.Headline.{encrypted_is_decrypted}
 use Rattle.jose.proofs.WiderLimits.{these_are_wider, reads_alike}
 use Rattle.jose.proofs.laws.what_was_encrypted_is_decrypted.Goals as goal
 
--- under the earlier limits what is written may be read
+-- Under the earlier limits, everything that is written may be read.
 earlier_are_sound : AreSound earlier_limits
 earlier_are_sound = record { depth = lit≤ tt; some = lit≤ tt; whole = lit≤ tt; read = lit≤ tt; algorithms = refl }
 

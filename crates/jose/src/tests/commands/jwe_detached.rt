@@ -5,7 +5,10 @@ use crate::tests::command_words::{
 use crate::tests::harness::{Answer, Given, comes_back, expect, expect_rows};
 use crate::tests::peers::python::BY_DIR;
 use crate::tests::samples::LINE;
-use crate::tests::standards::rfc7516::{RFC7516_A3, RFC7516_A3_BESIDE, RFC7516_A3_FLATTENED, RFC7516_A3_FLATTENED_BESIDE, RFC7516_CIPHERTEXT, RFC7516_KEY, RFC7516_RANDOM};
+use crate::tests::standards::rfc7516::{
+    RFC7516_A3, RFC7516_A3_BESIDE, RFC7516_A3_FLATTENED, RFC7516_A3_FLATTENED_BESIDE,
+    RFC7516_CIPHERTEXT, RFC7516_KEY, RFC7516_RANDOM,
+};
 use octets::Refusal;
 use std::test::Fail;
 

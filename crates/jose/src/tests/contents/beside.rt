@@ -7,8 +7,14 @@ use crate::tests::command_words::{
 };
 use crate::tests::contents::{Row, answers_each};
 use crate::tests::harness::Answer;
-use crate::tests::samples::{ABC_BESIDE, ABC_FLATTENED_BESIDE, ABC_GENERAL_BESIDE, ABC_WITH_HEADER, EMPTY_SIGNED, KEY_16, KEY_32, KEY_48, KEY_64, KEY_TO_15, KEY_TO_23, KEY_TO_31, LINE};
-use crate::tests::standards::rfc7516::{RFC7516_A3_BESIDE, RFC7516_A3_FLATTENED_BESIDE, RFC7516_A3_WITH_AAD, RFC7516_A3_WITH_UNPROTECTED, RFC7516_CIPHERTEXT};
+use crate::tests::samples::{
+    ABC_BESIDE, ABC_FLATTENED_BESIDE, ABC_GENERAL_BESIDE, ABC_WITH_HEADER, EMPTY_SIGNED, KEY_16,
+    KEY_32, KEY_48, KEY_64, KEY_TO_15, KEY_TO_23, KEY_TO_31, LINE,
+};
+use crate::tests::standards::rfc7516::{
+    RFC7516_A3_BESIDE, RFC7516_A3_FLATTENED_BESIDE, RFC7516_A3_WITH_AAD,
+    RFC7516_A3_WITH_UNPROTECTED, RFC7516_CIPHERTEXT,
+};
 use octets::Refusal;
 use std::test::Fail;
 

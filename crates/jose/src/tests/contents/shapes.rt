@@ -4,7 +4,10 @@ use crate::tests::command_words::{DECRYPT, ENCRYPT, FORMAT_JWE, FORMAT_JWS, SIGN
 use crate::tests::contents::long::answers;
 use crate::tests::harness::{Answer, expect_octets};
 use crate::tests::library::building::octets;
-use crate::tests::samples::{ABC, ABC_BESIDE, ABC_FLATTENED_BESIDE, EMPTY_SIGNED, KEY_32, LINE, PASSWORD, repeated, with_many};
+use crate::tests::samples::{
+    ABC, ABC_BESIDE, ABC_FLATTENED_BESIDE, EMPTY_SIGNED, KEY_32, LINE, PASSWORD, repeated,
+    with_many,
+};
 use crate::tests::standards::rfc7515::RFC7515_KEY;
 use crate::tests::standards::rfc7516::{RFC7516_A3, RFC7516_KEY};
 use objects::Jws;

@@ -6,9 +6,13 @@ use crate::tests::command_words::{
     CHECK_ALL_BESIDE, CHECK_BESIDE, DECRYPT, ENCRYPT_COMPACT, SIGN_COMPACT, VERIFY, VERIFY_BESIDE,
 };
 use crate::tests::harness::{expect_octets, expect_same, owned};
-use crate::tests::samples::{ABC, ABC_BESIDE, ABC_FLATTENED_BESIDE, ABC_GENERAL_BESIDE, LINE, TEMPLATE, TWO_KEYS};
+use crate::tests::samples::{
+    ABC, ABC_BESIDE, ABC_FLATTENED_BESIDE, ABC_GENERAL_BESIDE, LINE, TEMPLATE, TWO_KEYS,
+};
 use crate::tests::standards::rfc7515::RFC7515_KEY;
-use crate::tests::standards::rfc7516::{RFC7516_A3, RFC7516_A3_BESIDE, RFC7516_CIPHERTEXT, RFC7516_KEY, RFC7516_RANDOM};
+use crate::tests::standards::rfc7516::{
+    RFC7516_A3, RFC7516_A3_BESIDE, RFC7516_CIPHERTEXT, RFC7516_KEY, RFC7516_RANDOM,
+};
 use crate::{Inputs, Outputs, parse, run};
 use octets::{Failing, FailingInput, FailingOutput, MemoryInput, Refusal};
 use std::alloc::Global;

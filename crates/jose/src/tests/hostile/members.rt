@@ -7,7 +7,9 @@ use crate::tests::hostile::readers::{
 };
 use crate::tests::samples::{ABC_FLATTENED, LINE};
 use crate::tests::standards::rfc7515::RFC7515_A1;
-use crate::tests::standards::rfc7516::{RFC7516_A3, RFC7516_A3_FLATTENED, RFC7516_A3_WITH_UNPROTECTED};
+use crate::tests::standards::rfc7516::{
+    RFC7516_A3, RFC7516_A3_FLATTENED, RFC7516_A3_WITH_UNPROTECTED,
+};
 use octets::Refusal;
 use std::test::Fail;
 

@@ -6,7 +6,9 @@ use crate::tests::harness::{
 };
 use crate::tests::samples::{ABC, ABC_FLATTENED, LINE, TEMPLATE};
 use crate::tests::standards::rfc7515::RFC7515_KEY;
-use crate::tests::standards::rfc7516::{RFC7516_A3_FLATTENED, RFC7516_A3_WITH_AAD, RFC7516_KEY, RFC7516_RANDOM};
+use crate::tests::standards::rfc7516::{
+    RFC7516_A3_FLATTENED, RFC7516_A3_WITH_AAD, RFC7516_KEY, RFC7516_RANDOM,
+};
 use octets::Refusal;
 use std::alloc::{AllocError, Global};
 use std::process::Abort;

@@ -2,7 +2,7 @@
 //! flattened form without and with the additional data `a`. The call that made an object is above it. The keys are the octets from 101 on.
 use crate::tests::harness::Answer;
 use crate::tests::peers::expect_each;
-use crate::tests::samples::{KEY_16, KEY_24, KEY_32, KEY_64, KEY_8, LINE};
+use crate::tests::samples::{KEY_8, KEY_16, KEY_24, KEY_32, KEY_64, LINE};
 use std::test::Fail;
 
 /// Objects by jwcrypto.

@@ -3,7 +3,10 @@
 use crate::tests::command_words::{ENCRYPT, ENCRYPT_COMPACT};
 use crate::tests::harness::{Answer, Given, ROOM, decrypts, encrypts, expect, outcome};
 use crate::tests::peers::gives_and_opens;
-use crate::tests::samples::{A128GCMKW_KEY, A192GCMKW_KEY, A256GCMKW_KEY, KEY_16_TO_31, KEY_TO_15, KEY_TO_23, KEY_TO_31, LINE, PASSWORD_128, octets_from_0, with_many};
+use crate::tests::samples::{
+    A128GCMKW_KEY, A192GCMKW_KEY, A256GCMKW_KEY, KEY_16_TO_31, KEY_TO_15, KEY_TO_23, KEY_TO_31,
+    LINE, PASSWORD_128, octets_from_0, with_many,
+};
 use octets::Refusal;
 use prf::digest;
 use std::test::Fail;

@@ -3,7 +3,9 @@
 use crate::tests::command_words::ENCRYPT;
 use crate::tests::harness::{Answer, Given, decrypts, encrypts, expect, expect_work};
 use crate::tests::peers::gives_and_opens;
-use crate::tests::samples::{KEY_16_TO_31, KEY_TO_15, KEY_TO_23, KEY_TO_31, LINE, OCTETS_FROM_0, octets_from_0, with_many};
+use crate::tests::samples::{
+    KEY_16_TO_31, KEY_TO_15, KEY_TO_23, KEY_TO_31, LINE, OCTETS_FROM_0, octets_from_0, with_many,
+};
 use std::test::Fail;
 use tokens::Work;
 

@@ -12,7 +12,7 @@ join_by-map : {X Y A : Type 0} (f : X → Y) (g : Y → List A) (sep : List A) (
 join_by-map f g sep [] = refl
 join_by-map f g sep (x ∷ xs) = ap (λ l. g (f x) ++ l) (flat_map-map (λ y. sep ++ g y) f xs)
 
--- the same texts joined
+-- The joined text is that of the thumbprint lines.
 pub returns-clause-text : goal.returns-clause-text
 unfolding thumbprint_lines
 returns-clause-text c =

@@ -7,7 +7,7 @@ use Rattle.jose.proofs.Agreement.{refused}
 use Rattle.jose.proofs.Draws.{key_drawn, key_drawn_at_most, making_refused}
 use Rattle.jose.proofs.commands.jwk.write_key.Goals as goal
 
--- ---- the template is refused, or too little is drawn
+-- ---- the template is refused, or too few octets are drawn
 
 pub returns-in_err-key-clause-answer : goal.returns-in_err-key-clause-answer
 returns-in_err-key-clause-answer g c octets octets_may =

@@ -18,7 +18,7 @@ loop-option-init c =
     in
     ap (with_options (map option_entry c.args.options.now)) made
 
--- one more option
+-- Adding the next option leads to the same whole command.
 one_more : (left rest : List OptionRow) (o : OptionRow) (old new all : App) → left ≡ o ∷ rest → new ≡ with_rule old (rule_for (option_entry o))
     → with_options (map option_entry left) old ≡ all → with_options (map option_entry rest) new ≡ all
 one_more left rest o old new all here added whole = ap (with_options (map option_entry rest)) added ∙ ap (λ l. with_options (map option_entry l) old) (sym here) ∙ whole

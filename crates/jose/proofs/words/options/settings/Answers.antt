@@ -9,7 +9,7 @@ use Rattle.jose.specs.declared.words.table.OptionRow.{OptionRow}
 use Rattle.jose.proofs.Settings.{no_option, setting_before-append}
 use Rattle.jose.proofs.words.options.settings.Goals as goal
 
--- one more option
+-- Adding the setting of the next option leads to the same settings.
 one_more : (so_far now : List (ℕ × Text)) (left rest : List OptionRow) (o : OptionRow) (rows : List Row) (all : List (ℕ × Text)) (value : Option Text)
     → left ≡ o ∷ rest → value ≡ value_given (takes_of o.2) (first_of o.1.now rows) → now ≡ so_far ++ setting_before o.0 value []
     → so_far ++ settings_of (map option_entry left) rows ≡ all → now ++ settings_of (map option_entry rest) rows ≡ all
