@@ -55,8 +55,8 @@ is_served other value = true
 abbrev pub unserved_count : List OptionEntry → Settings → ℕ
 unserved_count options settings = count_by (λ option. not (is_served option.role (value_at option.letter settings))) options
 
--- The first two words select the command, and the others are its options. At most one input is standard input, at most one output is standard
--- output, and an option for a hash names one of the four.
+-- The first two words select the command, and the others are its options. At most one input is standard input, at most one output is
+-- standard output, and an option for a hash names one of the four.
 unfoldable pub invocation_of : List Text → Result InvocationView Refusal
 invocation_of (noun ∷ (verb ∷ words)) = do
   entry ← ok_or (command_named noun verb) Usage
