@@ -20,7 +20,7 @@ pub record Parameters : Type 0 where
   pub p2s : List ℕ
   pub p2c : ℕ
 
--- ---- what is asked of a key and of parameters
+-- ---- the IV of AES-GCM key wrap
 
 -- the length of the IV of a key wrap in octets: 96 bits (section 4.7.1.1)
 abbrev pub key_iv_len : ℕ

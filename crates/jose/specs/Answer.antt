@@ -59,8 +59,8 @@ holds_back command = is_none (option_with Streamed command)
 abbrev pub takes_memory : Command → Bool
 takes_memory command = list_any (λ option. is_json option.role) (row_of command).options
 
--- The one of three values that belongs to the content. It is that of the `-I` input if there is one, and otherwise that of the text if the
--- command writes as it reads. Any other command has no content.
+-- Which of three values is that of the content: the second if there is an `-I` input, and otherwise the first, that of the text, if the
+-- command writes as it reads. Any other command has no content, and the third.
 abbrev pub content_of : {A : Type 0} → InvocationView → A → A → A → A
 content_of invocation text content nil =
     if has_content_input invocation then content else if holds_back invocation.command then nil else text
@@ -120,8 +120,8 @@ beginning invocation seen =
     if others_read invocation seen then begun (plan_from (draft_of invocation seen.text.octets seen.keys.octets) seen.random.octets) (content_seen invocation seen)
     else nothing
 
--- Text holds, unless the refusal is Write and the output of the text itself failed. Content holds, unless the refusal is Write. A content
--- next to the text is written first, so the output of the text may have failed after it.
+-- Text holds, unless the refusal is Write and the output of the text itself failed. Content holds, unless the refusal is Write: the content
+-- is written before the text, so it may be written when the output of the text fails.
 pub record AreSpared {D : Type 0} (failures : D → ℕ) (old new : Outputs D) (refusal : Refusal) (Text Content : Type 0) : Type 0 where
   pub text : DidNotFail refusal (counts failures old.text new.text) → Text
   pub content : refusal ≢ Write → Content
@@ -148,8 +148,8 @@ AreUnread failures invocation seen old new refusal =
 abbrev pub fixed_of : InvocationView → ObservedInputs → List ℕ → OutputTexts
 fixed_of invocation seen front = begun (plan_from (draft_of invocation seen.text.octets seen.keys.octets) seen.random.octets) (record { octets = front; ended = false })
 
--- If the content of a command that writes as it reads fails after some of it was read, each output has grown at least as far as the content
--- without its last 4,160 octets fixes it.
+-- If a command writes as it reads, and some of its content was read, each output has grown at least as far as the content without its last
+-- 4,160 octets fixes it. `run` promises this if the content fails.
 abbrev pub AreKeptUp : {D : Type 0} → (D → List ℕ) → InvocationView → ObservedInputs → Outputs D → Outputs D → Type 0
 AreKeptUp written invocation seen old new =
     holds_back invocation.command ≡ false → (content_seen invocation seen).octets ≢ []

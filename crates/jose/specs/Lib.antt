@@ -17,7 +17,7 @@ pub mod Meanings
 pub mod Answer
 -- what the commands promise together
 pub mod Headline
--- that wider limits keep every answer except Limit
+-- that answers stay the same under wider limits
 pub mod WiderLimits
 -- around `run`: the words of a command line
 pub mod Words

@@ -10,7 +10,7 @@ use Rattle.jose.specs.declared.system.FileId.{FileId}
 
 -- ---- names of one file
 
--- both are regular files, with the same device and the same inode
+-- both names have a file, with the same device and the same inode
 abbrev pub are_one : Option FileId → Option FileId → Bool
 are_one (Some file) (Some other) = file.device == other.device && file.inode == other.inode
 are_one file other = false

@@ -289,7 +289,7 @@ jwe_members ciphertext p [] = general_members ciphertext p []
 jwe_members ciphertext p (r ∷ []) = flattened_members ciphertext p r
 jwe_members ciphertext p (r ∷ (other ∷ rest)) = general_members ciphertext p (r ∷ (other ∷ rest))
 
--- the JSON text: the compact text of the object with these members
+-- the JSON text: that of the value with these members, without spaces
 unfoldable pub members_text : Bool → JweParts → List ℕ
 members_text detach parts = compact_text (object (present (jwe_members (content_there detach (base64url parts.ciphertext)) parts parts.recipients)))
 
@@ -340,7 +340,7 @@ jwe_text false detach o = Ok (json_text detach o)
 
 -- ---- what is written is read, and what is read can be written (docs/SPECIFICATION.md "Objects")
 
--- Texts and headers are JSON values, so their numbers are whole. The other members are octets.
+-- Texts are UTF-8, and unprotected headers are JSON values, so their numbers are whole. The other members are octets.
 pub record AreMembers (parts : JweParts) : Type 0 where
   pub protected : IsUtf8 parts.protected
   pub unprotected : AreJsonMembers parts.unprotected
@@ -350,8 +350,7 @@ pub record AreMembers (parts : JweParts) : Type 0 where
   pub tag : IsOctets parts.tag
   pub recipients : AllByRecursion (λ r. AreJsonMembers r.header × IsOctets r.encrypted_key) parts.recipients
 
--- Making an object of members is the same as reading their JSON text, with a detached ciphertext handed in. It never refuses with Number,
--- since the numbers of these members are whole.
+-- Making an object of members is the same as reading their JSON text, with a detached ciphertext handed in.
 abbrev pub BuildingIsReading : Type 0
 BuildingIsReading = (limits : Limits) (parts : JweParts) → AreMembers parts → (detach : Bool) → built limits parts ≡ jwe_of limits (handed_in detach parts.ciphertext) (members_text detach parts)
 

@@ -206,7 +206,7 @@ jws_members payload [] = general_members payload []
 jws_members payload (s ∷ []) = signature_members payload s
 jws_members payload (s ∷ (other ∷ rest)) = general_members payload (s ∷ (other ∷ rest))
 
--- the JSON text: the compact text of the object with these members
+-- the JSON text: that of the value with these members, without spaces
 unfoldable pub members_text : Bool → JwsParts → List ℕ
 members_text detach parts = compact_text (object (present (jws_members (content_there detach (base64url parts.payload)) parts.signatures)))
 
@@ -245,13 +245,12 @@ jws_text false detach o = Ok (json_text detach o)
 
 -- ---- what is written is read, and what is read can be written (docs/SPECIFICATION.md "Objects")
 
--- Texts and headers are JSON values, so their numbers are whole. The other members are octets.
+-- Texts are UTF-8, and unprotected headers are JSON values, so their numbers are whole. The other members are octets.
 pub record AreMembers (parts : JwsParts) : Type 0 where
   pub payload : IsOctets parts.payload
   pub signatures : AllByRecursion (λ s. IsUtf8 s.protected × (AreJsonMembers s.header × IsOctets s.signature)) parts.signatures
 
--- Making an object of members is the same as reading their JSON text, with a detached payload handed in. It never refuses with Number,
--- since the numbers of these members are whole.
+-- Making an object of members is the same as reading their JSON text, with a detached payload handed in.
 abbrev pub BuildingIsReading : Type 0
 BuildingIsReading = (limits : Limits) (parts : JwsParts) → AreMembers parts → (detach : Bool) → built limits parts ≡ jws_of limits (handed_in detach parts.payload) (members_text detach parts)
 

@@ -1,5 +1,5 @@
--- Reading the texts of JWS and JWE objects (RFC 7515 section 7, RFC 7516 section 7): their form, the parts of a compact text, and the
--- members of a JSON text.
+-- The texts of JWS and JWE objects (RFC 7515 section 7, RFC 7516 section 7): their form, the parts of a compact text, the members of a JSON
+-- text, and a content that is detached.
 use Rattle.std.specs.Prelude.{ℕ, ◌+◌, ◌==◌, ◌||◌, ◌&&◌, Bool, true, false, not, List, [], ◌∷◌, ◌++◌, take, drop, is_none, position, nat_le, if◌then◌else◌, Option, Some, None, option_and_then, IfSome, Result, Ok, Err}
 use Rattle.std.specs.List.{find}
 use Rattle.std.specs.Option.{ok_or}

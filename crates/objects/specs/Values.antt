@@ -1,5 +1,5 @@
--- The members of the JSON value whose compact text is the text of an object (RFC 7515 section 7.2, RFC 7516 section 7.2). They are in byte
--- order of their names, and empty ones are left out (docs/SPECIFICATION.md "Objects" 5).
+-- JSON values by lists of their members (RFC 7515 section 7.2, RFC 7516 section 7.2). The pages of the objects list them in byte order of
+-- their names, and say which are left out if they are empty (docs/SPECIFICATION.md "Objects" 5).
 use Rattle.std.specs.Prelude.{ℕ, Bool, true, false, List, [], ◌∷◌, Option, Some, None}
 use Rattle.serde_json.specs.Data.{Data, string, object, Items, no_items, item, Members, no_members, member}
 

@@ -7,14 +7,14 @@ pub mod Octets
 pub mod Base64url
 -- the line end of a compact text
 pub mod LineEnds
+-- what a call did to an input and to an output
+pub mod Devices
+-- what a call is to write, by its content
+pub mod Plan
 -- contents that are encoded or decoded as they are read
 pub mod Encoding
 -- searches through all octet strings, on paper
 pub mod Search
--- what a call is to write, by its content
-pub mod Plan
--- what a call did to an input and to an output
-pub mod Devices
 -- which devices failed, and that each failure is reported
 pub mod Faults
 -- how much is written when a content fails

@@ -48,7 +48,7 @@ plan_map f plan = record {
   fixed = λ front. f (plan.fixed front);
 }
 
--- The texts of both outputs grow so.
+-- The texts of both outputs grow as more is read, and are beginnings of the whole texts.
 pub record BothGrow (plan : Plan OutputTexts) : Type 0 where
   pub text : Grows (plan_map (λ texts. texts.text) plan)
   pub content : Grows (plan_map (λ texts. texts.content) plan)
@@ -72,7 +72,7 @@ abbrev pub drawn_of : {W : Type 0} → Result (Draft W) Refusal → ℕ
 drawn_of (Ok draft) = draft.drawn
 drawn_of (Err r) = 0
 
--- the plan by the first octets of a random input, or Random if these are too few
+-- the plan by the first octets of a random input, or the refusal of the draft, or Random if these octets are too few
 abbrev pub plan_from : {W : Type 0} → Result (Draft W) Refusal → List ℕ → Result (Plan W) Refusal
 plan_from draft random = do
   d ← draft
@@ -93,7 +93,7 @@ by_text answer = answer >>= λ text. Ok (without_random (without_content text))
 abbrev pub planned : {W : Type 0} → Result (Plan W) Refusal → List ℕ → Result W Refusal
 planned plan content = plan >>= λ p. p.whole content
 
--- What may be written: nothing before the other inputs were read to their ends and accepted.
+-- what may be written after this much of the content was read: nothing if there is no plan
 abbrev pub begun : Result (Plan OutputTexts) Refusal → Observed → OutputTexts
 begun (Ok plan) seen = beginning_of plan seen
 begun (Err r) seen = nothing

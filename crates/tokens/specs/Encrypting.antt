@@ -144,8 +144,8 @@ written_of compact detach o = do
 abbrev pub ciphertext_fixed : EncryptionPlan → List ℕ → List ℕ → List ℕ
 ciphertext_fixed e random front = (sealing_by e random).fixed (within_longest (sealing_by e random).longest front)
 
--- It fixes the text before the ciphertext, and whole groups of this ciphertext. A text with a detached ciphertext is written only after
--- the ciphertext.
+-- A beginning of the plaintext fixes the text before the ciphertext, and the base64url text of the whole groups of three octets of this
+-- ciphertext. A text with a detached ciphertext is written only after the ciphertext.
 abbrev pub text_fixed : Limits → Bool → Bool → EncryptionPlan → List ℕ → List ℕ → List ℕ
 text_fixed _ compact true e random ciphertext = []
 text_fixed limits compact false e random ciphertext = text_before limits compact e random ++ base64url (whole_groups ciphertext)

@@ -111,13 +111,13 @@ written_of compact detach o = do
 abbrev pub text_before : Limits → Bool → Signing → List ℕ
 text_before limits compact s = before_content (λ payload. signed limits s payload >>= jws_text compact false)
 
--- A beginning of the payload fixes the text before the payload, and the text of its own whole groups. A text with a detached payload is
--- written only after the payload.
+-- A beginning of the payload fixes the text before the payload, and the base64url text of the whole groups of three octets that were read.
+-- A text with a detached payload is written only after the payload.
 abbrev pub text_fixed : Limits → Bool → Bool → Signing → List ℕ → List ℕ
 text_fixed _ compact true s front = []
 text_fixed limits compact false s front = text_before limits compact s ++ base64url (whole_groups front)
 
--- what is written by the payload
+-- what is written for each payload
 abbrev pub plan_by : Limits → Bool → Bool → Signing → Plan OutputTexts
 plan_by limits compact detach s = record {
   whole = λ payload. signed limits s payload >>= written_of compact detach;
