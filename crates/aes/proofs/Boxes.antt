@@ -1,4 +1,4 @@
--- The S-box's sum of bits, its undoing, and that the two boxes undo one another.
+-- The sum of bits in the S-box, its inverse, and that the two boxes undo each other.
 use Rattle.std.proofs.Common.{◌≡◌, ℕ, zero, suc, ◌*◌, ◌^◌, ◌<◌, refl, sym, ap, subst, ◌∙◌, arith, zero-mul, one-mul}
 use Rattle.std.proofs.lemmas.Nat.{pow_pos, pow_below}
 use Rattle.aes.specs.Polynomial.{polynomial_sum}
@@ -28,7 +28,7 @@ pub inverse_s_box-lt : (y : ℕ) → inverse_s_box y < 256
 unfolding inverse_s_box
 inverse_s_box-lt y = inverse-lt (inverse_s_box_sum y) (inverse_s_box_sum-lt y)
 
--- ---- the two undo one another
+-- ---- the two boxes undo each other
 
 sum_undone : (b : ℕ) → b < 256 → inverse_s_box_sum (s_box_sum b) ≡ b
 unfolding all_below s_box_sum s_box_bit inverse_s_box_sum inverse_s_box_bit polynomial_sum

@@ -1,4 +1,4 @@
--- States by their columns, and the steps of a round on them.
+-- The columns of a state, and the steps of a round on them.
 use Rattle.std.proofs.Common.{◌≡◌, ℕ, zero, suc, ◌+◌, ◌-◌, ◌*◌, ◌%◌, ◌<◌, List, [], ◌∷◌, length, get_or, slice_index, bit_xor, refl, sym, ap, ap₂, ◌∙◌, arith}
 use Rattle.std.specs.Int.{w32, to_le_bytes, from_le_bytes}
 use Rattle.aes.specs.Polynomial.{polynomial_sum}
@@ -12,9 +12,9 @@ use Rattle.aes.proofs.Squares.{at-square, same_square}
 use Rattle.aes.proofs.Matrices.{mix, inverse_mix}
 use Rattle.aes.proofs.Words.{by_row, octet_xor, octet_of_bytes}
 
--- ---- words by their octets
+-- ---- the octets of a word
 
--- a word made of four octets
+-- A word that is made of four octets has these octets.
 pub four_octets : (f : ℕ → ℕ) (p q s t n : ℕ) → p < 256 → q < 256 → s < 256 → t < 256 → n ≡ from_le_bytes w32 (p ∷ q ∷ s ∷ t ∷ [])
     → p ≡ f 0 → q ≡ f 1 → s ≡ f 2 → t ≡ f 3 → (r : ℕ) → r < 4 → octet n r ≡ f r
 four_octets f p q s t n hp hq hs ht is ep eq es et r h =
@@ -27,13 +27,13 @@ four_octets f p q s t n hp hq hs ht is ep eq es et r h =
     small (suc (suc (suc zero))) = ht
     small (suc (suc (suc (suc i)))) = omega arith
 
--- ---- blocks by their columns
+-- ---- the columns of a block
 
 at-block : (s : List ℕ) (r c : ℕ) → r < 4 → c < 4 → at (block_of s) r c ≡ octet (slice_index s c) r
 unfolding block_of
 at-block s r c h k = at-square (λ r c. octet (slice_index s c) r) r c h k
 
--- a block whose columns are these
+-- A block is determined by its columns.
 pub columns_are : (v w x y : ℕ) (b : List ℕ) → length b ≡ 16
     → ((r : ℕ) → r < 4 → octet v r ≡ at b r 0) → ((r : ℕ) → r < 4 → octet w r ≡ at b r 1) → ((r : ℕ) → r < 4 → octet x r ≡ at b r 2) → ((r : ℕ) → r < 4 → octet y r ≡ at b r 3)
     → block_of (v ∷ w ∷ x ∷ y ∷ []) ≡ b
@@ -41,7 +41,7 @@ unfolding block_of
 columns_are v w x y b size p q s t = same_square (λ r c. octet (slice_index (v ∷ w ∷ x ∷ y ∷ []) c) r) b size (λ r c hr hc.
     by_row (λ c. (r : ℕ) → r < 4 → octet (slice_index (v ∷ w ∷ x ∷ y ∷ []) c) r ≡ at b r c) p q s t c hc r hr)
 
--- the octets of four words, in their order
+-- The octets of four words are written in their order.
 pub written : (s p q t u : List ℕ) → p ≡ to_le_bytes w32 (slice_index s 0) → q ≡ to_le_bytes w32 (slice_index s 1) → t ≡ to_le_bytes w32 (slice_index s 2) → u ≡ to_le_bytes w32 (slice_index s 3)
     → slice_index p 0 ∷ slice_index p 1 ∷ slice_index p 2 ∷ slice_index p 3 ∷
     slice_index q 0 ∷ slice_index q 1 ∷ slice_index q 2 ∷ slice_index q 3 ∷
@@ -73,7 +73,7 @@ key_column ks s m i c v hc e is r h =
     ∙ ap₂ bit_xor (sym (at-block s r c h hc)) (is r h ∙ ap (λ j. word ks j r) e)
     ∙ sym (at-square (λ r c. bit_xor (at (block_of s) r c) (word ks (4 * m + c) r)) r c h hc)
 
--- column c of a block with the S-box on each octet and turned rows, where t has the columns c, c + 1, c + 2 and c + 3
+-- If t has the columns c, c + 1, c + 2 and c + 3, its octets give column c of the block after the S-box and the shift of the rows.
 pub sub_shift_column : (s t : List ℕ) (c : ℕ) → c < 4 → ((k : ℕ) → k < 4 → slice_index t k ≡ slice_index s ((c + k) % 4))
     → (r : ℕ) → r < 4 → s_box (octet (slice_index t r) r) ≡ at (shift_rows (sub_bytes (block_of s))) r c
 sub_shift_column s t c hc around r h =
@@ -84,7 +84,7 @@ sub_shift_column s t c hc around r h =
     ∙ sym (at-square (λ r c. s_box (at (block_of s) r c)) r d h hd)
     ∙ sym (at-square (λ r c. at (sub_bytes (block_of s)) r ((c + r) % 4)) r c h hc)
 
--- the same with the inverses, where t has the columns c, c - 1, c - 2 and c - 3
+-- If t has the columns c, c - 1, c - 2 and c - 3, its octets give column c of the block after the inverse steps.
 pub inverse_shift_sub_column : (s t : List ℕ) (c : ℕ) → c < 4 → ((k : ℕ) → k < 4 → slice_index t k ≡ slice_index s ((c + 4 - k) % 4))
     → (r : ℕ) → r < 4 → inverse_s_box (octet (slice_index t r) r) ≡ at (inverse_sub_bytes (inverse_shift_rows (block_of s))) r c
 inverse_shift_sub_column s t c hc around r h =
@@ -94,13 +94,13 @@ inverse_shift_sub_column s t c hc around r h =
     ∙ ap inverse_s_box (sym (at-block s r d h hd) ∙ sym (at-square (λ r c. at (block_of s) r ((c + 4 - r) % 4)) r c h hc))
     ∙ sym (at-square (λ r c. inverse_s_box (at (inverse_shift_rows (block_of s)) r c)) r c h hc)
 
--- four words that are multiples of one column, turned and summed
+-- The sum of four multiples of one column, each rotated, is a sum of products.
 pub sum_of_multiples : (q w : List ℕ) (x : ℕ → ℕ) → ((k : ℕ) → k < 4 → IsColumnTimes q (x k) (slice_index w k))
     → (r : ℕ) → polynomial_sum (λ k. octet (slice_index w k) ((r + 4 - k) % 4)) 4 ≡ polynomial_sum (λ k. octet_product (slice_index q ((r + 4 - k) % 4)) (x k)) 4
 sum_of_multiples q w x is r =
     polynomial_sum-ext (λ k. octet (slice_index w k) ((r + 4 - k) % 4)) (λ k. octet_product (slice_index q ((r + 4 - k) % 4)) (x k)) 4 (λ k l. is k l ((r + 4 - k) % 4) (omega arith))
 
--- the column q of the matrix m is in each other one too, turned
+-- the other columns of the matrix m are rotations of its column q
 abbrev pub IsTurned : List ℕ → (ℕ → ℕ → ℕ) → Type 0
 IsTurned q m = (r k : ℕ) → r < 4 → k < 4 → slice_index q ((r + 4 - k) % 4) ≡ m r k
 
@@ -126,7 +126,7 @@ inverse_mix_turned r k h l = by_row (λ r. (k : ℕ) → k < 4 → slice_index (
     (by_row (λ k. slice_index (14 ∷ 9 ∷ 13 ∷ 11 ∷ []) ((3 + 4 - k) % 4) ≡ inverse_mix 3 k) refl refl refl refl)
     r h k l
 
--- the columns from c on, and back from c
+-- the columns from c on, forward and back
 abbrev pub from_column : ℕ → List ℕ → List ℕ
 from_column c s = slice_index s (c % 4) ∷ slice_index s ((c + 1) % 4) ∷ slice_index s ((c + 2) % 4) ∷ slice_index s ((c + 3) % 4) ∷ []
 
@@ -144,7 +144,7 @@ back_around s c = by_row (λ k. slice_index (back_from_column c s) k ≡ slice_i
     (ap (slice_index s) (let e : (c + 2) % 4 ≡ (c + 4 - 2) % 4 = omega arith in e))
     (ap (slice_index s) (let e : (c + 1) % 4 ≡ (c + 4 - 3) % 4 = omega arith in e))
 
--- turned rows and the inverse of the S-box, the sum with the round key and the inverse matrix
+-- The sum of products is an octet of the block after the inverse row shift, the inverse S-box, the round key and the inverse matrix.
 pub inverse_round_mixed : (ks s : List ℕ) (m i c r : ℕ) → c < 4 → i ≡ 4 * m + c → r < 4
     → polynomial_sum
     (λ k. octet_product (slice_index (14 ∷ 9 ∷ 13 ∷ 11 ∷ []) ((r + 4 - k) % 4)) (bit_xor (inverse_s_box (octet (slice_index (back_from_column c s) k) k)) (word ks i k))) 4
@@ -156,7 +156,7 @@ inverse_round_mixed ks s m i c r hc e h =
     ap₂ bit_xor (inverse_shift_sub_column s (back_from_column c s) c hc (back_around s c) k l) (ap (λ j. word ks j k) e)
     ∙ sym (at-square (λ r c. bit_xor (at b r c) (word ks (4 * m + c) r)) k c l hc)) r h
 
--- the S-box, turned rows and the matrix
+-- The sum of products is an octet of the block after the S-box, the row shift and the matrix.
 pub sub_shift_mixed : (s : List ℕ) (c r : ℕ) → c < 4 → r < 4
     → polynomial_sum (λ k. octet_product (slice_index (2 ∷ 1 ∷ 1 ∷ 3 ∷ []) ((r + 4 - k) % 4)) (s_box (octet (slice_index (from_column c s) k) k))) 4 ≡ at (mix_columns (shift_rows (sub_bytes (block_of s)))) r c
 sub_shift_mixed s c r hc h = mix_column (2 ∷ 1 ∷ 1 ∷ 3 ∷ []) mix mix_turned (shift_rows (sub_bytes (block_of s))) (λ k. s_box (octet (slice_index (from_column c s) k) k)) c hc

@@ -1,4 +1,4 @@
--- Each entry of a table is what the field gives.
+-- Each entry of a table is the value computed in the field.
 use Rattle.std.proofs.Common.{◌≡◌, ℕ, ◌<◌, ◌&&◌, ◌==◌, nat_lt, [], ◌∷◌, slice_index, refl, sym, ap, ◌∙◌, true, eqb-true, ltb-true}
 use Rattle.std.proofs.lemmas.Bool.{and_parts}
 use Rattle.aes.specs.declared.tables.TheConstants.{S_BOX, INVERSE_S_BOX, MIXED_S_BOX, INVERSE_MIX}
@@ -16,7 +16,7 @@ pub s_box_at : (x : ℕ) → x < 256 → slice_index S_BOX x ≡ s_box x
 unfolding all_below quick quick_powers x_times polynomial_remainder polynomial_sum s_box_bit s_box_sum s_box
 s_box_at x h = equal_below (slice_index S_BOX) (λ x. s_box_sum (power x)) 256 x refl h ∙ ap s_box_sum (sym (inverse_is x h))
 
--- the S-box sends the entry for y to y
+-- The S-box maps the entry for y to y.
 sent_back : (y : ℕ) → y < 256 → (nat_lt (slice_index INVERSE_S_BOX y) 256 && (slice_index S_BOX (slice_index INVERSE_S_BOX y) == y)) ≡ true
 unfolding all_below
 sent_back y h = all_below_at (λ y. nat_lt (slice_index INVERSE_S_BOX y) 256 && (slice_index S_BOX (slice_index INVERSE_S_BOX y) == y)) 256 y refl h

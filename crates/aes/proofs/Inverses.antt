@@ -1,4 +1,4 @@
--- The power 254 is the inverse, and there is no other.
+-- The power 254 is the inverse, and there is no other inverse.
 use Rattle.std.proofs.Common.{◌≡◌, ◌≢◌, ℕ, zero, suc, ◌^◌, ◌<◌, ◌≤◌, ◌==◌, ◌&&◌, ◌↔◌, Bool, true, false, cond, refl, sym, ap, subst, ◌∙◌, arith, eqb-true, eq-eqb}
 use Rattle.std.proofs.lemmas.Bool.{and_parts}
 use Rattle.std.proofs.lemmas.Nat.{pow_below}
@@ -13,7 +13,7 @@ use Rattle.aes.proofs.Below.{all_below, all_below_at, equal_below}
 abbrev pub quick_square : ℕ → ℕ
 quick_square p = quick 8 p p
 
--- product times p ^ 2 ^ 1, .., p ^ 2 ^ n
+-- the product times p ^ 2 ^ 1, .., p ^ 2 ^ n
 unfoldable pub quick_powers : ℕ → ℕ → ℕ → ℕ
 quick_powers zero p product = product
 quick_powers (suc n) p product = let s = quick_square p in quick_powers n s (quick 8 product s)
@@ -31,7 +31,7 @@ quick_powers-lt (suc n) p product h l =
 pub power-lt : (x : ℕ) → x < 256 → power x < 256
 power-lt x h = quick_powers-lt 7 x 1 h (omega arith)
 
--- ---- it undoes the product
+-- ---- the inverse undoes the product
 
 -- y undoes the product by x on the eight powers of x
 unfoldable pub undoes : ℕ → ℕ → Bool
@@ -76,7 +76,7 @@ power_undoes x n h l = linear_agree 8 (λ n. octet_product y (octet_product (suc
 only_power : (x n : ℕ) → suc x < 256 → n < 256 → octet_product (suc x) n ≡ 1 → n ≡ power (suc x)
 only_power x n h l e = sym (power_undoes x n h l) ∙ ap (octet_product (power (suc x))) e ∙ times_one (power (suc x)) (power-lt (suc x) h)
 
--- ---- so the search finds it
+-- ---- the search finds the inverse
 
 choice : (b : Bool) (n r y : ℕ) → (b ≡ true → n ≡ y) → (b ≡ false → r ≡ y) → cond b n r ≡ y
 choice true n r y t f = t refl
@@ -122,7 +122,7 @@ pub inverse_zero : octet_inverse 0 ≡ 0
 unfolding octet_inverse
 inverse_zero = none_found 256 (omega arith)
 
--- the inverse of the inverse
+-- The inverse of the inverse of x is x.
 pub inverse_twice : (x : ℕ) → x < 256 → octet_inverse (octet_inverse x) ≡ x
 inverse_twice zero h = ap octet_inverse inverse_zero ∙ inverse_zero
 inverse_twice (suc x) h =

@@ -10,7 +10,7 @@ use Rattle.aes.proofs.Xor.{xor_lt}
 use Rattle.aes.proofs.Products.{octet_product-lt}
 use Rattle.aes.proofs.Boxes.{s_box-lt}
 
--- the octets before word i are all that it needs
+-- Word i depends only on the octets before it.
 pub next_word-same : (nk : ℕ) (v w : List ℕ) (i r : ℕ) → 0 < nk → nk ≤ i → r < 4 → ((p : ℕ) → p < 4 * i → slice_index v p ≡ slice_index w p) → next_word nk v i r ≡ next_word nk w i r
 next_word-same nk v w i r pos h l same =
     ap₂ bit_xor (same (4 * (i - nk) + r) (omega arith))
@@ -28,7 +28,7 @@ module _ (nk : ℕ) (k : List ℕ) (pos : 0 < nk) (size : length k ≡ 4 * nk) w
   key_words-front zero p h = refl
   key_words-front (suc n) p h = get_or_append_left (key_words nk k n) _ 0 p (omega (arith, length-key_words n)) ∙ key_words-front n p h
 
-  -- each word after the key's own is the next one of those before it
+  -- Each word after those of the key is computed from the words before it.
   key_words-next : (n i r : ℕ) → nk ≤ i → i < nk + n → r < 4 → word (key_words nk k n) i r ≡ next_word nk (key_words nk k n) i r
   unfolding key_words
   key_words-next zero i r h l m = absurd (omega arith)
@@ -70,7 +70,7 @@ module _ (nk : ℕ) (k : List ℕ) (pos : 0 < nk) (size : length k ≡ 4 * nk) w
   unfolding key_expansion
   key_octet p h = sym (key_words-front (3 * nk + 28) p (omega arith))
 
-  -- the octet at place p, from a list with the octets before it
+  -- The octet at place p is computed from any list with the same octets before it.
   pub next_key_octet : (v : List ℕ) (p : ℕ) → 4 * nk ≤ p → p < 16 * (nk + 7) → ((q : ℕ) → q < p → slice_index v q ≡ slice_index (key_expansion nk k) q) → next_word nk v (p / 4) (p % 4) ≡ slice_index (key_expansion nk k) p
   unfolding key_expansion
   next_key_octet v p h l same =

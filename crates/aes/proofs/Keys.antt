@@ -1,4 +1,4 @@
--- The cipher of a key's words.
+-- The cipher with the words of a key.
 use Rattle.std.proofs.Common.{◌≡◌, ℕ, ◌+◌, ◌<◌, List, slice_index, refl, sym, ap, subst, ◌∙◌}
 use Rattle.std.proofs.Math.Path.{fun_ext}
 use Rattle.aes.specs.KeyExpansion.{key_expansion}
@@ -26,7 +26,7 @@ encrypted_block_is_cipher nk k small =
     subst (λ e. IsCipher e (inverse_cipher (nk + 6) (key_expansion nk k))) (fun_ext (encrypts nk k (key_expansion nk k) refl))
     (makes_cipher nk k (key_expansion nk k) refl small)
 
--- two blocks that the key sends to one
+-- Two blocks that the key encrypts to the same block are equal.
 pub one_block : (nk : ℕ) (k c b d : List ℕ) → ((i : ℕ) → slice_index k i < 256) → IsDecryptedBlock nk k c b → IsDecryptedBlock nk k c d → b ≡ d
 one_block nk k c b d small p q =
     let w = key_expansion nk k in

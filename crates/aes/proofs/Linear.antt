@@ -10,7 +10,7 @@ use Rattle.aes.proofs.Xor.{xor_comm, xor_self, xor_shifted, xor_times_pow, bit_t
 use Rattle.aes.proofs.Polynomial.{polynomial_remainder-xor, polynomial_remainder-small, polynomial_remainder-zero}
 use Rattle.aes.proofs.Rows.{rows_of, next_power, linear_agree, rows_all}
 
--- what is linear sends 0 to 0
+-- A linear function maps 0 to 0.
 linear_zero : (h : ℕ → ℕ) → IsLinear h → h 0 ≡ 0
 linear_zero h l = l 0 0 ∙ xor_self (h 0)
 
@@ -49,7 +49,7 @@ powers c (suc n) k h l =
 -- ---- the remainder of a product
 
 module _ (d m p : ℕ) where
-  -- a coefficient's multiple of a remainder is the remainder of the multiple
+  -- The remainder of a multiple by a bit is the multiple of the remainder.
   multiple : (b r : ℕ) → (b ≡ 0) ⊎ (b ≡ 1) → polynomial_remainder d m d (b * r) ≡ b * polynomial_remainder d m d r
   multiple b r (inl z) = ap (λ x. polynomial_remainder d m d (x * r)) z ∙ ap (polynomial_remainder d m d) (zero-mul r) ∙ polynomial_remainder-zero d m d ∙ sym (ap (λ x. x * polynomial_remainder d m d r) z ∙ zero-mul (polynomial_remainder d m d r))
   multiple b r (inr o) = ap (λ x. polynomial_remainder d m d (x * r)) o ∙ ap (polynomial_remainder d m d) (one-mul r) ∙ sym (ap (λ x. x * polynomial_remainder d m d r) o ∙ one-mul (polynomial_remainder d m d r))

@@ -1,4 +1,4 @@
--- The two column mixes undo one another.
+-- The two column mixes undo each other.
 use Rattle.std.proofs.Common.{◌≡◌, ℕ, zero, suc, ◌+◌, ◌*◌, ◌^◌, ◌/◌, ◌%◌, ◌<◌, true, false, cond, ◌==◌, List, [], ◌∷◌, length, bit_xor, slice_index, refl, ap, subst, ◌∙◌, arith}
 use Rattle.aes.specs.Polynomial.{polynomial_sum, polynomial_remainder, polynomial_product}
 use Rattle.aes.specs.Octet.{octet_product}
@@ -17,7 +17,7 @@ through n m r j x = polynomial_sum (λ k. octet_product (n r k) (octet_product (
 abbrev pub diagonal : ℕ → ℕ → ℕ → ℕ
 diagonal r j x = cond (r == j) x 0
 
--- each octet through n after m comes back to its own row
+-- n undoes m: each octet comes back to its own row and to no other
 abbrev pub Undoes : (ℕ → ℕ → ℕ) → (ℕ → ℕ → ℕ) → Type 0
 Undoes n m = (r j x : ℕ) → r < 4 → j < 4 → x < 256 → through n m r j x ≡ diagonal r j x
 
@@ -38,7 +38,7 @@ times_matrix-undone n m u b len small = same_square (λ r c. polynomial_sum (λ 
     ∙ polynomial_sum-ext (λ j. through n m r j (at b j c)) (λ j. diagonal r j (at b j c)) 4 (λ j hj. u r j (at b j c) hr hj (small (j + 4 * c)))
     ∙ diagonal_sum (λ j. at b j c) r hr)
 
--- ---- by the eight powers of x alone
+-- ---- it suffices to test the eight powers of x
 
 diagonal_linear : (r j : ℕ) → LinearBelow 8 (diagonal r j)
 diagonal_linear r j = elim (r == j) as (λ b. LinearBelow 8 (λ x. cond b x 0)) [ true ↦ (refl, λ x y h k. refl) | false ↦ (refl, λ x y h k. refl) ]
@@ -52,7 +52,7 @@ through_linear n m r j = (
       ∙ polynomial_sum-xor (λ k. octet_product (n r k) (octet_product (m k j) x)) (λ k. octet_product (n r k) (octet_product (m k j) y)) 4,
 )
 
--- number i + 8 j + 32 r of the tests
+-- If all 128 tests pass, n undoes m on the powers of x. Test number i + 8 j + 32 r is the one for r, j and the power i.
 basis : (n m : ℕ → ℕ → ℕ) → all_below (λ t. through n m (t / 32) (t / 8 % 4) (2 ^ (t % 8)) == diagonal (t / 32) (t / 8 % 4) (2 ^ (t % 8))) 128 ≡ true → (r j i : ℕ) → r < 4 → j < 4 → i < 8 → through n m r j (2 ^ i) ≡ diagonal r j (2 ^ i)
 basis n m e r j i hr hj hi =
     let t = i + 8 * j + 32 * r in

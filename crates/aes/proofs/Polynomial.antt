@@ -15,11 +15,11 @@ polynomial_remainder-xor d m (suc k) p q =
     ∙ xor_swap p q (bit_at p (d + k) * (m * 2 ^ k)) (bit_at q (d + k) * (m * 2 ^ k)))
     ∙ polynomial_remainder-xor d m k (bit_xor p (bit_at p (d + k) * (m * 2 ^ k))) (bit_xor q (bit_at q (d + k) * (m * 2 ^ k)))
 
--- a step at a coefficient that is 0
+-- A step at a coefficient that is 0 changes nothing.
 pub no_step : (p b m : ℕ) → b ≡ zero → bit_xor p (b * m) ≡ p
 no_step p b m z = ap (λ x. bit_xor p (x * m)) z ∙ ap (bit_xor p) (zero-mul m) ∙ xor_zero_r p
 
--- a polynomial of degree below d is its own remainder
+-- A polynomial of degree below d is its own remainder.
 pub polynomial_remainder-small : (d m k p : ℕ) → p < 2 ^ d → polynomial_remainder d m k p ≡ p
 unfolding polynomial_remainder
 polynomial_remainder-small d m zero p h = refl
@@ -27,7 +27,7 @@ polynomial_remainder-small d m (suc k) p h =
     ap (polynomial_remainder d m k) (no_step p (bit_at p (d + k)) (m * 2 ^ k) (bit_at_above p d (d + k) h (omega arith)))
     ∙ polynomial_remainder-small d m k p h
 
--- a remainder is one at every number of steps that suffices
+-- The remainder is the same for every sufficient number of steps.
 pub polynomial_remainder-less : (d m k p : ℕ) → p < 2 ^ (d + k) → polynomial_remainder d m (suc k) p ≡ polynomial_remainder d m k p
 unfolding polynomial_remainder
 polynomial_remainder-less d m k p h = ap (polynomial_remainder d m k) (no_step p (bit_at p (d + k)) (m * 2 ^ k) (bit_at_above p (d + k) (d + k) h (omega arith)))
@@ -35,7 +35,7 @@ polynomial_remainder-less d m k p h = ap (polynomial_remainder d m k) (no_step p
 twice_pow : (m k : ℕ) → m * 2 ^ suc k ≡ m * 2 ^ k * 2 ^ 1
 twice_pow m k = ap (λ x. m * 2 ^ x) (let e : suc k ≡ k + 1 = omega arith in e) ∙ ap (λ x. m * x) (pow-add 2 k 1) ∙ sym (mul_assoc m (2 ^ k) (2 ^ 1))
 
--- the remainder of x times p is that of x times the remainder of p
+-- The remainder of x times p is the remainder of x times the remainder of p.
 pub polynomial_remainder-shift : (d m k p : ℕ) → polynomial_remainder d m (suc k) (p * 2 ^ 1) ≡ polynomial_remainder d m 1 (polynomial_remainder d m k p * 2 ^ 1)
 unfolding polynomial_remainder
 polynomial_remainder-shift d m zero p = refl
@@ -52,7 +52,7 @@ polynomial_remainder-zero d m k = polynomial_remainder-small d m k zero (pow_pos
 
 -- ---- products
 
--- a bit's multiples of a sum
+-- The sum of the multiples by a bit is the multiple of the sum.
 bit_times_sum : (b : ℕ) (f : ℕ → ℕ) (n : ℕ) → (b ≡ zero) ⊎ (b ≡ 1) → polynomial_sum (λ j. b * f j) n ≡ b * polynomial_sum f n
 bit_times_sum b f n (inl z) = polynomial_sum-ext (λ j. b * f j) (λ j. zero) n (λ i l. ap (λ x. x * f i) z ∙ zero-mul (f i)) ∙ polynomial_sum-zero n ∙ sym (ap (λ x. x * polynomial_sum f n) z ∙ zero-mul (polynomial_sum f n))
 bit_times_sum b f n (inr o) = polynomial_sum-ext (λ j. b * f j) f n (λ i l. ap (λ x. x * f i) o ∙ one-mul (f i)) ∙ sym (ap (λ x. x * polynomial_sum f n) o ∙ one-mul (polynomial_sum f n))
@@ -64,7 +64,7 @@ row b n i c h o =
     ∙ bit_times_sum c (λ j. bit_at b j * 2 ^ j * 2 ^ i) n o
     ∙ ap (λ x. c * x) (sym (polynomial_sum-map (λ x. x * 2 ^ i) (zero-mul (2 ^ i)) (λ x y. sym (xor_times_pow x y i)) (λ j. bit_at b j * 2 ^ j) n) ∙ ap (λ x. x * 2 ^ i) (bits_sum b n ∙ mod-eq_of_lt h))
 
--- the product by rows: the sum of the a_i (x ^ i b)
+-- A product is the sum of its rows, the a_i times x ^ i b.
 pub polynomial_product-rows : (n a b : ℕ) → b < 2 ^ n → polynomial_product n a b ≡ polynomial_sum (λ i. bit_at a i * (b * 2 ^ i)) n
 unfolding polynomial_product
 polynomial_product-rows n a b h =

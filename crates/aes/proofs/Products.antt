@@ -1,4 +1,4 @@
--- The product of octets: the steps by which it is computed, and that it is linear.
+-- The product of octets: the steps that compute it, and that it is linear.
 use Rattle.std.proofs.Common.{◌≡◌, ℕ, zero, suc, ◌+◌, ◌*◌, ◌^◌, ◌/◌, ◌%◌, ◌<◌, ◌≤◌, ◌⊎◌, cond, ◌==◌, bit_and, bit_xor, refl, sym, ap, ap₂, subst, ◌∙◌, arith, zero-mul, one-mul, mul_assoc, mul-one, mul-zero, pow-add, eq-eqb, ne_eqb, ltb-true, nat_lt, ⊎_elim}
 use Rattle.std.proofs.lemmas.Bool.{cond-true, cond-false}
 use Rattle.std.specs.Int.{bit_at}
@@ -18,7 +18,7 @@ pub all_rows : (a b : ℕ) → b < 256 → rem (rows_of a b 8) ≡ octet_product
 unfolding octet_product
 all_rows a b h = rows_all 7 0x11b a b h
 
--- ---- the product by Horner's steps, which computes fast
+-- ---- the product by Horner's steps, which is fast to compute
 
 -- the product by x
 unfoldable pub x_times : ℕ → ℕ
@@ -41,7 +41,7 @@ rows-front a b k =
     (λ j l. ap₂ (λ x y. x * y) (bit_at-suc a j) (ap (λ i. b * 2 ^ i) (let e : suc j ≡ j + 1 = omega arith in e) ∙ ap (λ x. b * x) (pow-add 2 j 1) ∙ sym (mul_assoc b (2 ^ j) (2 ^ 1))) ∙ sym (mul_assoc (bit_at (a / 2) j) (b * 2 ^ j) (2 ^ 1)))
     ∙ sym (polynomial_sum-map (λ x. x * 2 ^ 1) (zero-mul (2 ^ 1)) (λ x y. sym (xor_times_pow x y 1)) (λ j. bit_at (a / 2) j * (b * 2 ^ j)) k))
 
--- a bit's multiple of an octet
+-- The multiple of an octet by a bit is an octet.
 bit_times-lt : (a b : ℕ) → b < 256 → a % 2 * b < 256
 bit_times-lt a b h = ⊎_elim
     (λ z. subst (λ x. x * b < 256) (sym (sym (bit_at_lowest a) ∙ z)) (subst (λ x. x < 256) (sym (zero-mul b)) (omega arith)))
@@ -61,7 +61,7 @@ quick-rows (suc k) a b h l =
 pub quick_is : (a b : ℕ) → b < 256 → octet_product a b ≡ quick 8 a b
 quick_is a b l = sym (quick-rows 8 a b (omega arith) l ∙ all_rows a b l)
 
--- ---- the product is an octet, and linear
+-- ---- the product is an octet and linear
 
 x_times-lt : (a : ℕ) → a < 256 → x_times a < 256
 unfolding all_below x_times polynomial_remainder
@@ -93,7 +93,7 @@ octet_product-xor a x y h k =
 pub octet_product-zero : (a : ℕ) → octet_product a 0 ≡ 0
 octet_product-zero a = sym (all_rows a 0 (omega arith)) ∙ ap rem (polynomial_sum-ext (λ j. bit_at a j * (0 * 2 ^ j)) (λ j. 0) 8 (λ j l. ap (λ x. bit_at a j * x) (zero-mul (2 ^ j)) ∙ mul-zero (bit_at a j)) ∙ polynomial_sum-zero 8) ∙ polynomial_remainder-zero 8 0x11b 8
 
--- the product of a sum of octets
+-- The product with a sum of octets is the sum of the products.
 pub octet_product-sum : (a : ℕ) (f : ℕ → ℕ) (n : ℕ) → ((i : ℕ) → i < n → f i < 256) → octet_product a (polynomial_sum f n) ≡ polynomial_sum (λ i. octet_product a (f i)) n
 unfolding polynomial_sum
 octet_product-sum a f zero h = octet_product-zero a
@@ -103,7 +103,7 @@ octet_product-sum a f (suc n) h =
 
 -- ---- the steps of the code
 
--- what the code computes for x times a
+-- x times a, as the code computes it
 abbrev pub doubled : ℕ → ℕ
 doubled a = cond (bit_and a 128 == 0) (bit_and a 127 * 2 % 256) (bit_xor (bit_and a 127 * 2 % 256) 27)
 

@@ -1,4 +1,4 @@
--- The remainder has a lower degree and differs by a multiple, and only one polynomial does.
+-- The remainder has a lower degree and differs by a multiple. Only one polynomial has both properties.
 use Rattle.std.proofs.Common.{◌≡◌, ◌≢◌, ℕ, zero, suc, ◌+◌, ◌*◌, ◌%◌, ◌^◌, ◌<◌, ◌≤◌, bit_xor, sym, ap, ap₂, subst, ◌∙◌, arith, ◌⊎◌, inl, inr, ⊎_elim, mod-eq_of_lt, zero-mul, one-mul, pow-add}
 use Rattle.std.specs.Int.{bit_at}
 use Rattle.std.proofs.Math.Nat.{mul-lt-mul_of_pos_right}
@@ -11,7 +11,7 @@ use Rattle.aes.specs.Remainder.{IsOfDegree, IsMultiple, IsRemainder}
 use Rattle.aes.proofs.Xor.{xor_comm, xor_assoc, xor_lt, xor_self, xor_swap, xor_twice, xor_zero_l, xor_zero_r, bit_times-xor, bit_at-shifted, bit_cases, polynomial_sum-ext, polynomial_sum-xor, polynomial_sum-map, polynomial_sum-zero}
 use Rattle.aes.proofs.Polynomial.{no_step, polynomial_remainder-xor, polynomial_remainder-small, polynomial_remainder-zero, polynomial_product-rows}
 
--- a number below 2 ^ (n + 1) whose bit n is 0
+-- A number below 2 ^ (n + 1) whose bit n is 0 is below 2 ^ n.
 no_top : (x n : ℕ) → x < 2 ^ suc n → bit_at x n ≡ 0 → x < 2 ^ n
 no_top x n h z =
     let more : 2 ^ suc n ≡ 2 ^ (1 + n) = ap (λ k. 2 ^ k) (let e : suc n ≡ 1 + n = omega arith in e) in
@@ -19,7 +19,7 @@ no_top x n h z =
     let is : x ≡ x % 2 ^ n = sym all ∙ mod-pow-add x 1 n ∙ ap (λ b. b * 2 ^ n + x % 2 ^ n) z ∙ (let e : 0 * 2 ^ n + x % 2 ^ n ≡ x % 2 ^ n = omega arith in e) in
     subst (λ v. v < 2 ^ n) (sym is) (mod_below x (2 ^ n) (pow_pos n))
 
--- ---- the product of q and m, by rows
+-- ---- the product of q and m, as a sum of rows
 
 abbrev rows : ℕ → ℕ → ℕ → ℕ
 rows m q n = polynomial_sum (λ i. bit_at q i * (m * 2 ^ i)) n
@@ -68,7 +68,7 @@ module _ (d m : ℕ) (degree : IsOfDegree d m) where
   shifted_top : (k : ℕ) → bit_at (m * 2 ^ k) (d + k) ≡ 1
   shifted_top k = ap (bit_at (m * 2 ^ k)) (let e : d + k ≡ k + d = omega arith in e) ∙ bit_at-shifted m k d ∙ degree.leading
 
-  -- ---- the remainder's degree
+  -- ---- the degree of the remainder
 
   step : ℕ → ℕ → ℕ
   step k p = bit_xor p (bit_at p (d + k) * (m * 2 ^ k))
@@ -104,7 +104,7 @@ module _ (d m : ℕ) (degree : IsOfDegree d m) where
       digit_below b (inl z) = subst (λ v. v < 2 ^ n) (sym (ap (λ c. c * 2 ^ k) z ∙ zero-mul (2 ^ k))) (pow_pos n)
       digit_below b (inr o) = subst (λ v. v < 2 ^ n) (sym (ap (λ c. c * 2 ^ k) o ∙ one-mul (2 ^ k))) (pow_below k n (omega (arith, l)))
 
-  -- the last two change places
+  -- The last two terms of a sum may be exchanged.
   turn : (a t r : ℕ) → bit_xor (bit_xor a t) r ≡ bit_xor (bit_xor a r) t
   turn a t r = xor_assoc a t r ∙ ap (bit_xor a) (xor_comm t r) ∙ sym (xor_assoc a r t)
 

@@ -1,4 +1,4 @@
--- The rounds are undone by their inverse, and the other way round, for every number of rounds and every key words.
+-- For every number of rounds and all key words, the rounds and the inverse rounds undo each other.
 use Rattle.std.proofs.Common.{◌≡◌, ℕ, zero, suc, ◌+◌, ◌-◌, ◌<◌, List, slice_index, ap, ◌∙◌, arith}
 use Rattle.aes.specs.State.{sub_bytes, shift_rows, mix_columns, add_round_key}
 use Rattle.aes.specs.Block.{IsBlock, IsCipher}

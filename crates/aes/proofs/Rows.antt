@@ -1,4 +1,4 @@
--- The product by rows, modulo m of degree d: the sum of the a_i times the remainders of x ^ i b.
+-- The product modulo m of degree d as a sum of rows: the a_i times the remainders of x ^ i b.
 use Rattle.std.proofs.Common.{◌≡◌, ℕ, zero, suc, ◌+◌, ◌*◌, ◌^◌, ◌<◌, ◌≤◌, bit_xor, sym, ap, ap₂, subst, ◌∙◌, arith, zero-mul, one-mul, mul_assoc, pow-add, lt_of_lt_of_le, pow_mono, ⊎_elim, mod-eq_of_lt}
 use Rattle.std.specs.Int.{bit_at}
 use Rattle.std.proofs.lemmas.Nat.{pow_pos, shl_below, pow_below}
@@ -31,7 +31,7 @@ rows_all e m a b h =
     polynomial_remainder-less (suc e) m e (rows_of a b (suc e)) (row_below a b (suc e) (suc e) (suc e + e) h (omega arith))
     ∙ ap (polynomial_remainder (suc e) m e) (sym (polynomial_product-rows (suc e) a b h))
 
--- ---- linear maps of polynomials of degree below n, by the powers of x
+-- ---- linear functions of polynomials of degree below n, determined by the powers of x
 
 abbrev pub LinearBelow : ℕ → (ℕ → ℕ) → Type 0
 LinearBelow n f = (f 0 ≡ 0) × ((x y : ℕ) → x < 2 ^ n → y < 2 ^ n → f (bit_xor x y) ≡ bit_xor (f x) (f y))
@@ -58,7 +58,7 @@ same_sum n f g lf lg x (suc k) h e =
         ⊎_elim (λ z. let s = ap (λ c. c * 2 ^ k) z ∙ zero-mul (2 ^ k) in ap f s ∙ lf.0 ∙ sym (ap g s ∙ lg.0))
         (λ o. let s = ap (λ c. c * 2 ^ k) o ∙ one-mul (2 ^ k) in ap f s ∙ e k (omega arith) ∙ sym (ap g s)) (bit_cases x k)
 
--- two linear maps that agree on the powers of x agree
+-- Two linear functions that agree on the powers of x are equal.
 pub linear_agree : (n : ℕ) (f g : ℕ → ℕ) → LinearBelow n f → LinearBelow n g → ((i : ℕ) → i < n → f (2 ^ i) ≡ g (2 ^ i)) → (x : ℕ) → x < 2 ^ n → f x ≡ g x
 linear_agree n f g lf lg e x h =
     let whole : polynomial_sum (λ i. bit_at x i * 2 ^ i) n ≡ x = bits_sum x n ∙ mod-eq_of_lt h in

@@ -13,7 +13,7 @@ at-square f r c h k =
     get_or-map-range_with_len (λ n. f (n % 4) (n / 4)) 0 16 (r + 4 * c) (r + 4 * c) 0 (omega arith) (omega arith)
     ∙ ap₂ f (let e : (r + 4 * c) % 4 ≡ r = omega arith in e) (let e : (r + 4 * c) / 4 ≡ c = omega arith in e)
 
--- a state with the octets of f
+-- A block that has the octets of f is the state of f.
 pub same_square : (f : ℕ → ℕ → ℕ) (b : List ℕ) → length b ≡ 16 → ((r c : ℕ) → r < 4 → c < 4 → f r c ≡ at b r c) → square f ≡ b
 same_square f b n h = ext_get_or 0 (square f) b (length-square f ∙ sym n) (λ i l.
     let r : i % 4 < 4 = omega arith in

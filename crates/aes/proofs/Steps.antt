@@ -1,4 +1,4 @@
--- Each step of a round gives a block, and is undone by its inverse.
+-- Each step of a round makes a block, and is undone by its inverse.
 use Rattle.std.proofs.Common.{◌≡◌, ℕ, ◌+◌, ◌-◌, ◌*◌, ◌/◌, ◌%◌, ◌<◌, ◌≤◌, List, bit_xor, slice_index, sym, ap, subst, ◌∙◌, arith, ⊎_elim}
 use Rattle.std.proofs.lemmas.List.{get_or_past}
 use Rattle.std.proofs.lemmas.Bool.{cases_lt}
@@ -47,7 +47,7 @@ times_is_block m b k = square_is_block (λ r c. polynomial_sum (λ j. octet_prod
 pub key_is_block : (w b : List ℕ) (m : ℕ) → ((i : ℕ) → slice_index w i < 256) → IsBlock b → IsBlock (add_round_key w m b)
 key_is_block w b m small k = square_is_block (λ r c. bit_xor (at b r c) (word w (4 * m + c) r)) (λ r c h l. xor_lt 8 _ _ (k.octets (r + 4 * c)) (small (4 * (4 * m + c) + r)))
 
--- ---- undone
+-- ---- undoing the steps
 
 pub key_twice : (w b : List ℕ) (m : ℕ) → IsBlock b → add_round_key w m (add_round_key w m b) ≡ b
 key_twice w b m k = same_square (λ r c. bit_xor (at (add_round_key w m b) r c) (word w (4 * m + c) r)) b k.sixteen (λ r c hr hc.

@@ -1,4 +1,4 @@
--- Words by their octets, and the steps of a round on them.
+-- The octets of words, and the steps of a round on them.
 use Rattle.std.proofs.Common.{◌≡◌, ℕ, zero, suc, ◌+◌, ◌-◌, ◌*◌, ◌/◌, ◌%◌, ◌^◌, ◌<◌, List, [], ◌∷◌, length, get_or, slice_index, bit_or, bit_xor, refl, sym, ap, ap₂, subst, ◌∙◌, arith, add-zero}
 use Rattle.std.specs.Int.{w32, from_le_bytes, rotate_left}
 use Rattle.std.proofs.lemmas.Nat.{pow_pos, mod_low, mod-pow-add, or_shifted, shl-shr, shr_below, xor_mod, xor_shr, le_bytes_4}
@@ -6,7 +6,7 @@ use Rattle.aes.specs.Polynomial.{polynomial_sum}
 use Rattle.aes.specs.Code.Words.{octet}
 use Rattle.aes.proofs.Xor.{xor_zero_l}
 
--- what holds at each of the four rows
+-- A fact that holds in each of the four rows holds in every row.
 pub by_row : (P : ℕ → Type 0) → P 0 → P 1 → P 2 → P 3 → (r : ℕ) → r < 4 → P r
 by_row P p q s t zero h = p
 by_row P p q s t (suc zero) h = q
@@ -28,7 +28,7 @@ octet_of_bytes bs n l small e r = ap (λ x. slice_index x r) (le_bytes_4 bs n l 
 
 -- ---- rotations
 
--- the low k bits above the others
+-- In a rotation, the low k bits move above the others.
 turned : (k j a : ℕ) → j + k ≡ 32 → a < 2 ^ 32 → bit_or (a * 2 ^ j % 2 ^ 32) (a / 2 ^ k) ≡ a % 2 ^ k * 2 ^ j + a / 2 ^ k
 turned k j a e h =
     let clear : a * 2 ^ j % 2 ^ j ≡ 0 = ap (λ x. x % 2 ^ j) (sym (add-zero (a * 2 ^ j))) ∙ mod_low a j 0 (pow_pos j) in

@@ -9,11 +9,11 @@ pub use lib.Bits.{xor_assoc, xor_comm, xor_zero_l, xor_zero_r, xor_self, xor_blo
 pub xor_left_comm : (a b c : ℕ) → bit_xor a (bit_xor b c) ≡ bit_xor b (bit_xor a c)
 xor_left_comm a b c = sym (xor_assoc a b c) ∙ ap (λ x. bit_xor x c) (xor_comm a b) ∙ xor_assoc b a c
 
--- the middle two change places
+-- In a sum of two sums, the two middle terms may be exchanged.
 pub xor_swap : (a b c d : ℕ) → bit_xor (bit_xor a b) (bit_xor c d) ≡ bit_xor (bit_xor a c) (bit_xor b d)
 xor_swap a b c d = xor_assoc a b (bit_xor c d) ∙ ap (bit_xor a) (xor_left_comm b c d) ∙ sym (xor_assoc a c (bit_xor b d))
 
--- what is added twice falls away
+-- A term that is added twice cancels out.
 pub xor_twice : (a b : ℕ) → bit_xor (bit_xor a b) b ≡ a
 xor_twice a b = xor_assoc a b b ∙ ap (bit_xor a) (xor_self b) ∙ xor_zero_r a
 
@@ -39,13 +39,13 @@ unfolding polynomial_sum
 polynomial_sum-zero zero = refl
 polynomial_sum-zero (suc n) = ap (λ x. bit_xor x zero) (polynomial_sum-zero n)
 
--- a map that keeps sums
+-- A function that preserves sums of two preserves every sum.
 pub polynomial_sum-map : (h : ℕ → ℕ) → h zero ≡ zero → ((a b : ℕ) → h (bit_xor a b) ≡ bit_xor (h a) (h b)) → (f : ℕ → ℕ) (n : ℕ) → h (polynomial_sum f n) ≡ polynomial_sum (λ i. h (f i)) n
 unfolding polynomial_sum
 polynomial_sum-map h z l f zero = z
 polynomial_sum-map h z l f (suc n) = l (polynomial_sum f n) (f n) ∙ ap (λ x. bit_xor x (h (f n))) (polynomial_sum-map h z l f n)
 
--- two sums change places
+-- The order of two sums may be exchanged.
 pub polynomial_sum-swap : (f : ℕ → ℕ → ℕ) (n m : ℕ) → polynomial_sum (λ i. polynomial_sum (f i) m) n ≡ polynomial_sum (λ j. polynomial_sum (λ i. f i j) n) m
 unfolding polynomial_sum
 polynomial_sum-swap f zero m = sym (polynomial_sum-zero m)
@@ -66,7 +66,7 @@ bit_cases n i = bit_below (bit_at n i) (bit_at-lt n i)
     bit_below (suc zero) h = inr refl
     bit_below (suc (suc b)) h = absurd (omega arith)
 
--- a bit's multiple
+-- The multiple by a sum of two bits is the sum of the multiples.
 pub bit_times-xor : (a b c : ℕ) → a < 2 → b < 2 → ((a + b) % 2) * c ≡ bit_xor (a * c) (b * c)
 bit_times-xor zero zero c h k = zero-mul c ∙ ap₂ bit_xor (sym (zero-mul c)) (sym (zero-mul c))
 bit_times-xor zero (suc zero) c h k = sym (xor_zero_l (1 * c)) ∙ ap (λ x. bit_xor x (1 * c)) (sym (zero-mul c))
@@ -79,7 +79,7 @@ pub bit_at-shifted : (n k i : ℕ) → bit_at (n * 2 ^ k) (k + i) ≡ bit_at n i
 bit_at-shifted n k i =
     ap (λ x. bit_at x (k + i)) (sym (add-zero (n * 2 ^ k))) ∙ bit_at_cat_high n k zero (k + i) (pow_pos k) (omega arith) ∙ ap (bit_at n) (let e : k + i - k ≡ i = omega arith in e)
 
--- a number is the sum of its bits
+-- A number is the sum of its bits.
 pub bits_sum : (b n : ℕ) → polynomial_sum (λ j. bit_at b j * 2 ^ j) n ≡ b % 2 ^ n
 unfolding polynomial_sum
 bits_sum b zero = omega arith

@@ -1,4 +1,4 @@
--- The delivery of content encryption keys, by the way that the code goes.
+-- The delivery of content encryption keys, in the way of the code.
 use Rattle.std.proofs.Common.{◌≡◌, ◌≤◌, ℕ, ◌%◌, true, List, [], length, refl, sym, ap, ap₂, ◌∙◌, subst, Option, Some, None, IfSome, IfNone, arith}
 use Rattle.std.specs.Bool.{Decides}
 use Rattle.std.proofs.lemmas.Bool.Decides.{Decides-eqb, Decides-and}
@@ -14,32 +14,33 @@ use Rattle.modes.specs.Gcm.{gcm_ciphertext, gcm_tag}
 use Rattle.modes.specs.Code.Opening.{IsGcmOpening}
 use Rattle.octets.specs.Octets.{IsOctets}
 
--- GCM makes no octets of none
+-- The GCM ciphertext of no octets is empty.
 pub none_encrypted : (e : List ℕ → List ℕ) (iv : List ℕ) → gcm_ciphertext e iv [] ≡ []
 unfolding gcm_ciphertext ctr
 none_encrypted e iv = refl
 
--- the same octets have the same tag
+-- Equal octets have equal tags.
 pub same_tag : (e : List ℕ → List ℕ) (iv other cek copy : List ℕ) → iv ≡ other → cek ≡ copy → gcm_tag e iv [] (gcm_ciphertext e iv cek) ≡ gcm_tag e other [] (gcm_ciphertext e other copy)
 same_tag e iv other cek copy a b = ap₂ (λ i k. gcm_tag e i [] (gcm_ciphertext e i k)) a b
 
--- and the same opening
+-- Equal octets have the same opening.
 pub same_opening : (e : List ℕ → List ℕ) (iv other c copy tag p q : List ℕ) → iv ≡ other → c ≡ copy → p ≡ q → IsGcmOpening e iv [] c tag p → IsGcmOpening e other [] copy tag q
 same_opening e iv other c copy tag p q a b d o =
     subst (λ x. IsGcmOpening e other [] copy tag x) d (subst (λ x. IsGcmOpening e other [] x tag p) b (subst (λ x. IsGcmOpening e x [] c tag p) a o))
 
--- what is opened is as long
+-- An opening is as long as its ciphertext.
 pub opening_long : (e : List ℕ → List ℕ) (iv c tag p : List ℕ) → IsGcmOpening e iv [] c tag p → length p ≡ length c
 opening_long e iv c tag p o = sym (length-gcm_ciphertext e iv p) ∙ ap length o.is_ciphertext
 
 module _ (enc : ContentAlg) (key : List ℕ) (p : Parameters) (encrypted : List ℕ) where
-  -- the test of a content encryption key decides that it has its length, is encrypted to the octets that were received, and agrees
+  -- The test of a content encryption key decides three facts: it has the right length, it is encrypted to the received octets, and it
+  -- agrees.
   pub decided : (way : Way) (cek : List ℕ) → Decides (is_delivered_by way enc key p encrypted cek)
       ((length cek ≡ cek_len enc) × ((encrypted_by way p cek ≡ encrypted) × (agrees_by way key p cek ≡ true)))
   decided way cek =
       Decides-and _ _ (Decides-eqb (length cek) (cek_len enc)) (Decides-and _ _ (bytes_eq-Decides (encrypted_by way p cek) encrypted) (λ h. h, λ h. h))
 
-  -- the same for a known way
+  -- If a fact holds in a known way, it holds in an equal way.
   pub by_way : (P : (List ℕ → Type 0) → Type 0) (way known : Way) → known ≡ way → P (Delivers known enc key p encrypted) → P (Delivers way enc key p encrypted)
   by_way P way known is h = subst (λ w. P (Delivers w enc key p encrypted)) is h
 

@@ -1,4 +1,4 @@
--- What a beginning of a plaintext fixes of the ciphertext goes on as more is read, and begins the whole ciphertext.
+-- The part of the ciphertext that a beginning of the plaintext fixes grows as more is read, and begins the whole ciphertext.
 use Rattle.std.proofs.Common.{◌≡◌, ℕ, ◌+◌, ◌-◌, ◌*◌, ◌/◌, ◌%◌, List, ◌++◌, length, drop, map, slice_index, bit_xor, refl, sym, ◌∙◌, ap, arith, append_assoc, append-nil}
 use Rattle.std.proofs.lemmas.List.FromFn.{length-map-range_with_len, get_or-map-range_with_len}
 use Rattle.std.specs.List.{range_with_len}
@@ -12,7 +12,7 @@ use Rattle.modes.specs.Gcm.{gcm_ciphertext}
 use Rattle.modes.proofs.Lemmas.{none_alone, blocks_behind, whole_of, length-whole, whole_and_rest, waits_short, ctr-append}
 use Rattle.octets.specs.Plan.{Begins}
 
--- the whole blocks of a beginning come first
+-- The whole blocks of a beginning begin those of the plaintext.
 blocks_grow : (e : List ℕ → List ℕ) (iv p q : List ℕ) → Begins (cbc_blocks e iv p) (cbc_blocks e iv (p ++ q))
 blocks_grow e iv p q =
     let n : ℕ = length p / 16 in
@@ -30,7 +30,7 @@ blocks_grow e iv p q =
           ∙ ap (λ t. t ++ cbc_blocks e last (waits ++ q)) (sym own);
     }
 
--- the padding comes last
+-- The whole blocks of a beginning begin the padded ciphertext.
 padded_grows : (e : List ℕ → List ℕ) (iv p q : List ℕ) → Begins (cbc_blocks e iv p) (cbc e iv (p ++ q))
 unfolding cbc pad
 padded_grows e iv p q =
@@ -38,7 +38,7 @@ padded_grows e iv p q =
     let more = blocks_grow e iv p (q ++ replicate left left) in
     record { rest = more.rest; continues = ap (cbc_blocks e iv) (append_assoc p q (replicate left left)) ∙ more.continues }
 
--- each octet has its own octet of the key stream
+-- In counter mode, the ciphertext of a beginning begins the whole ciphertext.
 stream_grows : (e : List ℕ → List ℕ) (f p q : List ℕ) → Begins (ctr e f p) (ctr e f (p ++ q))
 stream_grows e f p q =
     let octet : ℕ → ℕ = λ i. bit_xor (slice_index q i) (stream_octet e f (length p + i)) in
@@ -48,7 +48,7 @@ stream_grows e f p q =
       continues = ctr-append e f p q rest (length-map-range_with_len octet 0 (length q)) (λ i l. get_or-map-range_with_len octet 0 (length q) i i 0 l (omega arith));
     }
 
--- so it is with each family
+-- In each family, the fixed part grows.
 fixed_grows_in : (family : ContentFamily) (cek iv aad p q : List ℕ) → Begins ((sealing_in family cek iv aad).fixed p) ((sealing_in family cek iv aad).fixed (p ++ q))
 unfolding gcm_ciphertext
 fixed_grows_in (aes_cbc_hmac nk f) cek iv aad p q = blocks_grow _ iv p q
@@ -59,12 +59,12 @@ unfolding gcm_ciphertext
 ciphertext_grows_in (aes_cbc_hmac nk f) cek iv aad p q = padded_grows _ iv p q
 ciphertext_grows_in (aes_gcm nk) cek iv aad p q = stream_grows _ _ p q
 
--- and with each algorithm: what p fixes goes on
+-- With each algorithm, the fixed part grows.
 pub fixed_grows : (alg : ContentAlg) (cek iv aad p q : List ℕ) → Begins ((sealing alg cek iv aad).fixed p) ((sealing alg cek iv aad).fixed (p ++ q))
 unfolding sealing
 fixed_grows alg = fixed_grows_in (content_family alg)
 
--- and it begins the ciphertext
+-- With each algorithm, the fixed part begins the ciphertext.
 pub ciphertext_grows : (alg : ContentAlg) (cek iv aad p q : List ℕ) → Begins ((sealing alg cek iv aad).fixed p) ((sealing alg cek iv aad).sealed (p ++ q)).ciphertext
 unfolding sealing
 ciphertext_grows alg = ciphertext_grows_in (content_family alg)

@@ -35,7 +35,7 @@ back_half b x = record {
 pub part_is_half : (p : List ℕ) (i : ℕ) → IsOctets p → 8 * i + 8 ≤ length p → IsHalf (part p i)
 part_is_half p i o h = record { eight = length-chunk 8 p i h; octets = chunk_octets 8 p i o }
 
--- the second half is written anew
+-- The second half is overwritten.
 pub written_behind : (x y z : List ℕ) → length x ≡ 8 → length z ≡ 8 → put_mid 8 8 (x ++ z) y ≡ x ++ y
 written_behind x y z h k =
     ap₂ (λ s t. s ++ (y ++ t)) (take_at x z 8 h) (ap (drop 8) (drop_at x z 8 h) ∙ drop_all 8 z (omega (arith, k)))

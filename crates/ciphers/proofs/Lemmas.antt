@@ -1,4 +1,4 @@
--- What the crates above cite of these proofs, and nothing else.
+-- The lemmas of these proofs that the crates above cite.
 pub use Rattle.ciphers.proofs.Growing.{fixed_grows, ciphertext_grows}
 pub use Rattle.ciphers.proofs.Tags.{some_tag}
 pub use Rattle.ciphers.proofs.Deliveries.{decided}

@@ -1,4 +1,4 @@
--- What is opened, and an encrypted key that delivers, are octets.
+-- A ciphertext and a tag that open, and an encrypted key that delivers, are octets.
 use Rattle.std.proofs.Common.{◌≡◌, ℕ, suc, ◌+◌, ◌*◌, ◌/◌, ◌<◌, ◌≤◌, List, [], ◌∷◌, ◌++◌, length, drop, slice_index, subst, arith}
 use Rattle.aes.specs.Block.{IsCipher}
 use Rattle.aes.specs.Cipher.{encrypted_block}
@@ -21,12 +21,12 @@ use Rattle.prf.specs.HashFunction.{HashFunction, IsHashFunction}
 use Rattle.prf.specs.Hmac.{hmac}
 use Rattle.prf.specs.Pbkdf2.{pbkdf2}
 
--- the tag of a hash function is octets
+-- The tag made with a hash function is octets.
 cbc_tag_octets : (f : HashFunction) → IsHashFunction f → (mac_key iv aad c : List ℕ) → IsOctets (cbc_tag f mac_key iv aad c)
 unfolding cbc_tag hmac
 cbc_tag_octets f is mac_key iv aad c = IsOctets-take _ _ (is.octets _)
 
--- two parts or more are wrapped to octets
+-- If at least two parts are wrapped, the result is octets.
 wrapped_octets : (e d : List ℕ → List ℕ) → IsCipher e d → (p : List ℕ) → IsOctets p → 16 ≤ length p → IsOctets (wrapped e p)
 unfolding wrapped
 wrapped_octets e d law p octets two =
@@ -34,12 +34,12 @@ wrapped_octets e d law p octets two =
     joined_octets (table e p (6 * n)) (suc n) 0 (λ k l. (table_is_half e d law p octets two (6 * n) (0 + k) (omega arith)).octets)
 
 module _ (cipher : (nk : ℕ) (k : List ℕ) → ((i : ℕ) → slice_index k i < 256) → IsCipher (encrypted_block nk k) (inverse_cipher (nk + 6) (key_expansion nk k))) where
-  -- with CBC the ciphertext is octets
+  -- The ciphertext of CBC is octets.
   under_cbc : (nk n : ℕ) (cek iv p : List ℕ) → IsOctets cek → IsOctets iv → length iv ≡ 16 → IsOctets p → IsOctets (cbc (encrypted_block nk (drop n cek)) iv p)
   under_cbc nk n cek iv p key start sixteen octets =
       cbc_octets _ _ (cipher nk (drop n cek) (IsOctets-drop n cek key)) iv (record { sixteen = sixteen; octets = start }) p octets
 
-  -- a ciphertext and a tag that open are octets
+  -- A ciphertext and a tag that open are octets.
   pub opened_is_octets : (alg : ContentAlg) (cek iv aad c tag p : List ℕ) → IsOctets cek → IsOctets iv → IsOpening alg cek iv aad c tag p → IsOctets c × IsOctets tag
   unfolding sealing
   opened_is_octets alg cek iv aad c tag p key start o =
@@ -53,12 +53,12 @@ module _ (cipher : (nk : ℕ) (k : List ℕ) → ((i : ℕ) → slice_index k i 
           (gcm_ciphertext_octets _ _ (cipher nk cek key) iv p fits start o.octets, gcm_tag_octets _ _ (cipher nk cek key) iv aad _ fits start)
 
   module _ (derives : (f : HashFunction) (password salt : List ℕ) (c len : ℕ) → IsHashFunction f → IsOctets (pbkdf2 f password salt c len)) where
-    -- a derived key is octets
+    -- A derived key is octets.
     pub derived : (f : HashFunction) (name : List ℕ) (len : ℕ) (key p2s : List ℕ) (p2c : ℕ) → IsHashFunction f → IsOctets (derived_key f name len key p2s p2c)
     unfolding derived_key
     derived f name len key p2s p2c is = derives f key (name ++ 0 ∷ p2s) p2c len is
 
-    -- an encrypted key that delivers is octets, and so is the tag that is made with it
+    -- An encrypted key that delivers is octets, and so is the tag that is made with it.
     pub delivering_is_octets : (alg : KeyAlg) (enc : ContentAlg) (key : List ℕ) (p : Parameters) (encrypted cek : List ℕ) → IsOctets key → IsOctets p.iv
         → IsDelivered alg enc key p encrypted cek → IsOctets encrypted × IsOctets (key_tag_of alg key p cek)
     unfolding key_tag_of

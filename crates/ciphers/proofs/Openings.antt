@@ -1,4 +1,4 @@
--- What opens under the ciphers of both families, and what was started.
+-- Openings under the ciphers of both families, and the sealing that was started.
 use Rattle.std.proofs.Common.{◌<◌, ◌≡◌, ◌≢◌, ℕ, ◌≤◌, List, length, take, [], refl, sym, ap, subst, ◌∙◌, arith, ⊎_elim, Option, Some, None, IfSome, IfNone}
 use Rattle.std.proofs.lemmas.Bool.{cases_lt}
 use Rattle.std.proofs.lemmas.List.{places}
@@ -33,7 +33,7 @@ module _ (e : List ℕ → List ℕ) (f : HashFunction) (mac_key iv aad c tag : 
     },
   )
 
-  -- the tag of what opens is the one that is compared
+  -- If a ciphertext and a tag open, the tag is the one that the code compares.
   pub right_tag : (p : List ℕ) → Opens (cbc_hmac e f mac_key iv aad) c tag p → tag ≡ cbc_tag f mac_key iv aad c
   right_tag p o = sym (sym (ap (cbc_tag f mac_key iv aad) o.ciphertext) ∙ o.is_tag)
 
@@ -71,7 +71,7 @@ module _ (e : List ℕ → List ℕ) (iv aad c tag : List ℕ) where
   stays_gcm None none = λ p o. none p (of_gcm p o)
   stays_gcm (Some n) none = tt
 
--- ---- what was started
+-- ---- the sealing that was started
 
 pub gcm_begins : {B : Type 0} (encrypted : B → List ℕ → List ℕ) (x : Gcm B) (e : List ℕ → List ℕ) (iv other aad : List ℕ)
     → other ≡ iv → modes.HoldsGcm encrypted x e other aad [] → HoldsGcmSealing encrypted x (gcm e iv aad) []

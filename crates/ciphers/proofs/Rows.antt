@@ -1,4 +1,4 @@
--- The facts of each row that the laws need: the lengths of content encryption keys, and the hash functions.
+-- The facts about each row that the laws need: the lengths of content encryption keys and the hash functions.
 use Rattle.std.proofs.Common.{◌≡◌, ◌%◌, ◌≤◌, refl, lit≤}
 use Rattle.std.specs.Bool.{⊤}
 use Rattle.ciphers.specs.Algorithms.{ContentFamily, aes_cbc_hmac, aes_gcm, content_family, KeyFamily, pbes2, key_family}
@@ -10,7 +10,7 @@ use Rattle.ciphers.specs.declared.key_alg.KeyAlg.TheVariants.{Dir, A128Kw, A192K
 use Rattle.prf.specs.HashFunction.{HashFunction, IsHashFunction}
 use Rattle.prf.specs.Code.Sha2Laws.{sha256_is_hash_function, sha384_is_hash_function, sha512_is_hash_function}
 
--- a hash function, whose half is not empty
+-- a hash function with at least two octets of output
 pub record IsHash (f : HashFunction) : Type 0 where
   pub law : IsHashFunction f
   pub two : 2 ≤ f.output_len
@@ -19,7 +19,7 @@ abbrev pub HasHash : ContentFamily → Type 0
 HasHash (aes_cbc_hmac nk f) = IsHash f
 HasHash (aes_gcm nk) = ⊤
 
--- a content encryption key can be wrapped, and has 64 octets at most
+-- a content encryption key may be wrapped and has at most 64 octets
 pub record IsContentRow (family : ContentFamily) : Type 0 where
   pub parts : cek_len_in family % 8 ≡ 0
   pub two : 16 ≤ cek_len_in family

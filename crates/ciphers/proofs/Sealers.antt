@@ -1,4 +1,4 @@
--- A running sealing, from what it was fed to what it gives.
+-- A running sealing, from the plaintext that it was fed to the ciphertext that it returns.
 use Rattle.std.proofs.Common.{◌≡◌, ℕ, ◌+◌, ◌*◌, ◌/◌, ◌≤◌, List, ◌++◌, length, take, sym, ap, subst, ◌∙◌, arith, length-append, Result, Ok, Err, IfOk, OnOk}
 use Rattle.std.proofs.lemmas.List.{take_at, take-take, length-take-le}
 use Rattle.ciphers.specs.Code.Views.{KeepsPace, HoldsGcmSealing}
@@ -10,7 +10,7 @@ use Rattle.modes.specs.declared.gcm.Gcm.{Gcm}
 use Rattle.octets.specs.declared.refusal.Refusal.{Refusal}
 use Rattle.prf.specs.HashFunction.{HashFunction}
 
--- the blocks that are whole after a further piece
+-- After a further piece, the whole blocks are as many as the length says.
 pub whole_after : (e : List ℕ → List ℕ) (iv p piece out : List ℕ) (n : ℕ)
     → cbc_blocks e iv (p ++ piece) ≡ cbc_blocks e iv p ++ take n out → n ≤ length out
     → 16 * (length p / 16) + n ≡ 16 * (length (p ++ piece) / 16) → length (cbc_blocks e iv p) ≡ 16 * (length p / 16)
@@ -23,14 +23,14 @@ pub pace_of_whole : (f : HashFunction) (s : Sealing) (e : List ℕ → List ℕ)
 pace_of_whole f s e mac_key iv aad p is whole =
     subst (λ t. KeepsPace t p) (sym is) (record { within = omega (arith, whole); nearly = omega (arith, whole) })
 
--- the first half of what stands at the front
+-- The first half of a longer text is the first half of the text at its front.
 pub first_half : (copy out rest code : List ℕ) (len l : ℕ) → len ≡ l → copy ≡ take (len / 2) out → take len out ≡ code → len ≤ length out
     → take (len / 2) (copy ++ rest) ≡ take (l / 2) code
 first_half copy out rest code len l same is_copy is_code h =
     take_at copy rest (len / 2) (ap length is_copy ∙ length-take-le (len / 2) out (omega (arith, h)))
     ∙ is_copy ∙ sym (take-take (len / 2) len out (omega arith)) ∙ ap (take (len / 2)) is_code ∙ ap (λ m. take (m / 2) code) same
 
--- a piece that GCM took, where it took it
+-- If GCM accepts a piece, the sealing holds the plaintext with this piece.
 pub gcm_fed : {B : Type 0} (encrypted : B → List ℕ → List ℕ) (x y : Gcm B) (s : Sealing) (p piece out : List ℕ) (r : Result ℕ Refusal) (k : HoldsGcmSealing encrypted x s p)
     → length piece ≤ length out
     → IfOk r (λ n. n ≡ length piece) → OnOk r (modes.HoldsGcm encrypted y k.e k.iv k.aad (p ++ piece))

@@ -1,4 +1,4 @@
--- The table of the key wrap: its rows from one to the next, and back.
+-- The table of the key wrap: from one row to the next, and back.
 use Rattle.std.proofs.Common.{◌≡◌, ◌≢◌, ℕ, zero, suc, ◌+◌, ◌-◌, ◌*◌, ◌/◌, ◌%◌, ◌^◌, ◌<◌, ◌≤◌, ◌==◌, Bool, true, false, if◌then◌else◌, List, ◌++◌, length, take, drop, map, sym, ap, ap₂, subst, ◌∙◌, arith, rules, refl, ⊎_elim}
 use Rattle.std.specs.List.{between, range_with_len, concat}
 use Rattle.std.proofs.lemmas.Bool.{cases_eq, cond-true, cond-false, eq-eqb, ne_eqb}
@@ -29,13 +29,13 @@ module _ (e : List ℕ → List ℕ) (p : List ℕ) (t i : ℕ) (turn : i ≡ t 
   unfolding table
   table_kept j ne = cond-false (j == t % (length p / 8)) _ _ (ne_eqb j (t % (length p / 8)) (λ same. ne (same ∙ sym turn)))
 
--- ---- its columns
+-- ---- the columns of the table
 
 half_either : (b : Bool) (x y : List ℕ) → IsHalf x → IsHalf y → IsHalf (if b then x else y)
 half_either true x y h k = h
 half_either false x y h k = k
 
--- the parts stand within the list
+-- Each part is within the list.
 pub within : (p : List ℕ) (i : ℕ) → i < length p / 8 → 8 * i + 8 ≤ length p
 within p i l = omega arith
 
@@ -105,7 +105,7 @@ module _ (e : List ℕ → List ℕ) (p : List ℕ) (t i : ℕ) (turn : i ≡ t 
   in_range : i < length p / 8
   in_range = subst (λ k. k < length p / 8) (sym turn) (turn_within p t two)
 
-  -- step t + 1 of wrapping
+  -- Step t + 1 of wrapping leads to the next row.
   pub next_row : (a r a' r' : List ℕ) → IsRow e p t a r → length r' ≡ 8
       → a' ≡ xor_count (suc t) (take 8 (e (a ++ part r i))) → r' ≡ drop 8 (e (a ++ part r i))
       → IsRow e p (suc t) a' (put_mid (8 * i) 8 r r')
@@ -123,7 +123,7 @@ module _ (e : List ℕ → List ℕ) (p : List ℕ) (t i : ℕ) (turn : i ≡ t 
       }
 
   module _ (d : List ℕ → List ℕ) (law : IsCipher e d) (few : suc t < 2 ^ 64) where
-    -- step t + 1 of unwrapping, from a row of the table
+    -- Step t + 1 of unwrapping leads from a row of the table to the previous one.
     pub previous_row : IsOctets p → (a r a' r' : List ℕ) → IsRow e p (suc t) a r
         → a' ≡ take 8 (d (xor_count (suc t) a ++ part r i)) → r' ≡ drop 8 (d (xor_count (suc t) a ++ part r i))
         → IsRow e p t a' (put_mid (8 * i) 8 r r')
@@ -153,7 +153,7 @@ module _ (e : List ℕ → List ℕ) (p : List ℕ) (t i : ℕ) (turn : i ≡ t 
               (cases_eq j i);
         }
 
-    -- and to one
+    -- If step t + 1 of unwrapping leads to a row of the table, it started from the next row.
     pub row_after : (a r a' r' : List ℕ) → IsHalf a → IsHalf (part r i) → length r ≡ length p → length r' ≡ 8
         → a' ≡ take 8 (d (xor_count (suc t) a ++ part r i)) → r' ≡ drop 8 (d (xor_count (suc t) a ++ part r i))
         → IsRow e p t a' (put_mid (8 * i) 8 r r') → IsRow e p (suc t) a r
@@ -176,7 +176,7 @@ module _ (e : List ℕ → List ℕ) (p : List ℕ) (t i : ℕ) (turn : i ≡ t 
               (cases_eq j i);
         }
 
--- ---- the steps as the code's loops take them: from t to t + 1 or back, by a write to `r[8 * i..8 * i + 8]`
+-- ---- the steps of the code's loops: from t to t + 1 or back, by a write to `r[8 * i..8 * i + 8]`
 
 module _ (e : List ℕ → List ℕ) (p : List ℕ) (t i : ℕ) (turn : i ≡ t % (length p / 8)) (two : 16 ≤ length p) (a r a' r' : List ℕ) (eight : length r' ≡ 8) where
   one_part : 8 ≡ 8 * i + 8 - 8 * i

@@ -11,7 +11,7 @@ use Rattle.modes.proofs.Lemmas.{length-xor}
 use Rattle.prf.specs.HashFunction.{HashFunction, IsHashFunction}
 use Rattle.prf.specs.Hmac.{hmac}
 
--- half of a MAC of two octets or more
+-- Half of a MAC of at least two octets is not empty.
 some_cbc_tag : (f : HashFunction) → IsHashFunction f → 2 ≤ f.output_len → (mac_key iv aad c : List ℕ) → 1 ≤ length (cbc_tag f mac_key iv aad c)
 unfolding cbc_tag hmac
 some_cbc_tag f is two mac_key iv aad c =
@@ -19,14 +19,14 @@ some_cbc_tag f is two mac_key iv aad c =
     let long : length mac ≡ f.output_len = is.digests _ in
     omega (arith, two, long, length-take (f.output_len / 2) mac)
 
--- a block
+-- The tag of GCM is not empty.
 some_gcm_tag : (e : List ℕ → List ℕ) (iv aad c : List ℕ) → 1 ≤ length (gcm_tag e iv aad c)
 unfolding gcm_tag ghash
 some_gcm_tag e iv aad c =
     let long : length (gcm_hash e aad c) ≡ 16 = refl in
     omega (arith, long, length-xor (gcm_hash e aad c) (e (pre_counter_block iv)))
 
--- so it is with each algorithm
+-- The tag of each algorithm is not empty.
 pub some_tag : (alg : ContentAlg) (cek iv aad p : List ℕ) → 1 ≤ length ((sealing alg cek iv aad).sealed p).tag
 unfolding sealing
 some_tag alg cek iv aad p = in_family (content_family alg) (content_row alg).hash

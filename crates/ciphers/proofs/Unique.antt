@@ -1,4 +1,4 @@
--- At most one plaintext has a ciphertext, whatever the algorithm.
+-- With every algorithm, at most one plaintext has a given ciphertext.
 use Rattle.std.proofs.Common.{◌≡◌, ℕ, ◌+◌, ◌*◌, ◌<◌, List, length, drop, slice_index, sym, subst, ◌∙◌}
 use Rattle.std.proofs.lemmas.List.{get_or-drop}
 use Rattle.aes.specs.Block.{IsBlock, IsCipher}

@@ -1,4 +1,4 @@
--- There is at most one unwrapping: two tables with the same last row have the same first one.
+-- A text has at most one unwrapping: two tables with the same last row have the same first row.
 use Rattle.std.proofs.Common.{◌≡◌, ℕ, zero, suc, ◌+◌, ◌*◌, ◌/◌, ◌%◌, ◌^◌, ◌<◌, ◌≤◌, List, ◌++◌, length, take, drop, sym, ap, subst, ◌∙◌, arith, refl, take-append-drop, length-take, length-drop}
 use Rattle.aes.specs.Block.{IsCipher}
 use Rattle.ciphers.specs.KeyWrap.{xor_count, part, IsKeyData, IsUnwrapping}
@@ -7,7 +7,7 @@ use Rattle.ciphers.proofs.Table.{length-wrapped, row_of_wrapped, first_row_is, p
 use borrow.Rule.Slice.PartMut.{put_mid}
 
 module _ (e d : List ℕ → List ℕ) (law : IsCipher e d) where
-  -- the last row of an unwrapping's table is the wrapped text
+  -- The last row of an unwrapping's table is the wrapped text.
   pub last_row : (p a r : List ℕ) → length a ≡ 8 → IsUnwrapping e (a ++ r) p → length r ≡ length p → IsRow e p (6 * (length p / 8)) a r
   last_row p a r eight u long =
       row_of_wrapped e d law p u.key_data.octets u.key_data.two a r u.key_data.parts eight long u.wraps

@@ -1,4 +1,4 @@
--- The compact text of a value that is as JSON texts have it is UTF-8.
+-- The compact text of a JSON value is UTF-8.
 use Rattle.std.proofs.Common.{ℕ, suc, ◌^◌, ◌<◌, pos, negsuc, List, [], ◌∷◌, ◌++◌, Bool, true, false, decimal, IsUtf8, refl, arith}
 use Rattle.std.proofs.lemmas.Fmt.{IsAscii-decimal}
 use Rattle.std.proofs.lemmas.Str.{IsUtf8-append, IsUtf8-from_ascii, IsUtf8-nil}

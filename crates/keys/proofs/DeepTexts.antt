@@ -1,4 +1,4 @@
--- The compact text of a value that nests too deep is not read.
+-- The compact text of a value that nests too deeply is not read.
 use Rattle.std.proofs.Common.{◌≡◌, ◌<◌, inl, inr, ℕ, zero, suc, List, [], ◌∷◌, ◌++◌, length, None, option_and_then, Ok, refl, sym, ap, ◌∙◌, arith, append_assoc, append-nil}
 use Rattle.std.proofs.lemmas.Bool.{cases_lt}
 use Rattle.json.specs.Json as json
@@ -18,7 +18,7 @@ use Rattle.keys.specs.JsonTexts.{IsJson, DeepTextsAreRefused}
 use Rattle.keys.proofs.ReadingBack.{HasNumbers_outline, depth_outline}
 use Rattle.keys.proofs.Readings.{no_reading}
 
--- no value begins with a closing bracket
+-- No value begins with a closing bracket.
 not_end : (j : json.Json) (rest : List Token) → json.after_end_array (tree.json_tokens j ++ rest) ≡ None
 not_end json.null rest = refl
 not_end (json.boolean b) rest = refl
@@ -27,7 +27,7 @@ not_end (json.string s) rest = refl
 not_end (json.array js) rest = refl
 not_end (json.object ms) rest = refl
 
--- ---- the tokens of what nests deeper are not read: the first that is too deep is where the reader stops
+-- ---- the reader stops at the first token that is too deep, so it does not read the tokens of a deeper value
 
 mutual
   unfolding json.value json.items json.members
@@ -69,7 +69,7 @@ mutual
             ∙ ap (json.parse_map (json.member k j)) (members_stop ms d n rest (omega arith))
       ]
 
--- ---- so its text is not
+-- ---- the text is not read
 
 not_read : (d : Data) → IsJson d → max_depth < depth d → read (compact_text d) ≡ None
 not_read d is deep =

@@ -1,4 +1,4 @@
--- How deep the parts of a value nest.
+-- The depth of the parts of a value.
 use Rattle.std.proofs.Common.{◌≡◌, ◌≤◌, ◌<◌, ℕ, Bool, true, false, max, nat_le, refl, arith}
 use Rattle.std.proofs.lemmas.Bool.{le-leb, lt-leb, leb-true, leb-false}
 use Rattle.std.specs.Prelude.{◌&&◌}
@@ -15,6 +15,6 @@ by_first false q a b n h k =
     let x : n < a = leb-false a n h in
     lt-leb (max a b) n (omega arith)
 
--- both are at most n exactly where the greater is
+-- The greater of two numbers is at most n exactly if both numbers are.
 pub nat_le-max : (a b n : ℕ) → nat_le (max a b) n ≡ (nat_le a n && nat_le b n)
 nat_le-max a b n = by_first (nat_le a n) (nat_le b n) a b n refl refl

@@ -1,4 +1,4 @@
--- A member of a value with no float has none.
+-- The members of a value without floats have no float.
 use Rattle.std.proofs.Common.{◌≡◌, ℕ, List, Bool, true, false, Option, Some, Less, Equal, Greater, Ordering, nat_cmp, refl}
 use Rattle.std.specs.Cmp.Lexicographic.{slice_cmp}
 use Rattle.std.specs.Ordering.{match_ordering}
@@ -30,7 +30,7 @@ no_float_in_member name (string s) e h is = cc is
 no_float_in_member name (array ds) e h is = cc is
 no_float_in_member name (object ms) e h is = in_members name ms e h is
 
--- ---- a member that is put in
+-- ---- a member that is inserted
 
 pub neither_of : (a b : Bool) → a ≡ false → b ≡ false → (a || b) ≡ false
 neither_of true b h k = cc h

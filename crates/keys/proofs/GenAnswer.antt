@@ -1,4 +1,4 @@
--- The result of making a key, compared with the key of the whole random input.
+-- Making a key, compared with the key that is made from the whole random input.
 use Rattle.std.proofs.Common.{◌≡◌, ◌<◌, ◌+◌, ℕ, List, ◌++◌, true, false, nat_le, length, take, Result, Ok, Err, IfOk, IfErr, String, Global, string_bytes, IsTrue, refl, ap, ◌∙◌, sym, arith, length-append}
 use Rattle.std.proofs.lemmas.Bool.{le-leb, lt-leb}
 use Rattle.std.proofs.lemmas.List.{take_at}
@@ -15,7 +15,7 @@ not_memory : (r : Refusal) → is_external r ≡ false → is_memory r ≡ false
 not_memory Memory h = cc h
 not_memory r h = refl
 
--- the text of a made key with the random octets
+-- the text of the key, made with the random octets
 abbrev made_of_octets : List ℕ → MadeKey → Result (List ℕ) Refusal
 made_of_octets octets made = needs (nat_le made.len (length octets)) Random >>= (λ enough. Ok (key_text made (take made.len octets)))
 
@@ -23,7 +23,7 @@ gen_answer_of : (template octets : List ℕ) → gen_answer limits template octe
 unfolding gen_answer
 gen_answer_of template octets = refl
 
--- a refused template
+-- If the template is refused, so is the whole call.
 pub template_refused : {X : Type 0} (view : X → MadeKey) (template octets : List ℕ) (e : Refusal) (result : Result (String Global) Refusal) → result ≡ Err e
     → AgreesUnlessMemory view (Err e) (made_key limits template) → GivesUnlessExternal string_bytes result (gen_answer limits template octets)
 template_refused view template octets e (Ok text) is agrees = absurd (cc is)
@@ -32,7 +32,7 @@ template_refused view template octets e (Err r) is agrees = λ inner.
     let refused : made_key limits template ≡ Err e = (agrees (not_memory e (ap is_external (sym same) ∙ inner))).0 in
     gen_answer_of template octets ∙ ap (λ made. made >>= made_of_octets octets) refused ∙ ap Err (sym same)
 
--- the random input ended too early, or failed
+-- If there are fewer random octets than needed, the refusal is Random.
 too_few : (made : MadeKey) (octets : List ℕ) → length octets < made.len → made_of_octets octets made ≡ Err Random
 too_few made octets h = ap (λ enough. needs enough Random >>= (λ _. Ok (key_text made (take made.len octets)))) (lt-leb made.len (length octets) h)
 
@@ -55,7 +55,7 @@ draw_refused template octets made seen old new wanted e (Err r) is makes len fai
     let cause = drawing_cause octets made seen old new wanted len possible e fails (ap is_external (sym same) ∙ inner) in
     gen_answer_of template octets ∙ ap (λ found. found >>= made_of_octets octets) makes ∙ too_few made octets cause.1 ∙ ap Err (sym (same ∙ cause.0))
 
--- the key's text, or no memory for it
+-- If the key is made, its text is returned, or the refusal is Memory.
 pub text_made : (template octets drawn : List ℕ) (made : MadeKey) (seen : Observed) (result : Result (String Global) Refusal) → made_key limits template ≡ Ok made → length drawn ≡ made.len → seen.octets ≡ drawn
     → IfOk result (λ text. string_bytes text ≡ key_text made drawn) → IfErr result (λ e. e ≡ Memory) → IsPossibleInput seen octets → GivesUnlessExternal string_bytes result (gen_answer limits template octets)
 text_made template octets drawn made seen (Err e) makes len is text memory possible = λ inner. absurd (cc (ap is_external (sym memory) ∙ inner))

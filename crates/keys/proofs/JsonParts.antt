@@ -1,4 +1,4 @@
--- What is found in a value that is as JSON texts have it, put into it or taken out of it.
+-- The parts of a JSON value: members that are found, inserted or removed.
 use Rattle.std.proofs.Common.{◌≡◌, ◌≤◌, ◌<◌, ℕ, List, max, Option, Some, refl, ap, ◌∙◌, arith, Ordering, Less, Equal, Greater, nat_cmp, IsUtf8}
 use Rattle.std.proofs.lemmas.Cmp.{nat_list_cmp_total}
 use Rattle.std.specs.Cmp.Lexicographic.{slice_cmp}
@@ -77,7 +77,7 @@ before_without l k (member m e ms) p =
 pub greater : (k l : List ℕ) → slice_cmp nat_cmp k l ≡ Greater → slice_cmp nat_cmp l k ≡ Less
 greater k l is = nat_list_cmp_total.antisymm l k ∙ ap ordering_reverse is
 
--- ---- a member that is put in
+-- ---- a member that is inserted
 
 put_by : (o : Ordering) (k l : List ℕ) (d e : Data) (ms : Members) → slice_cmp nat_cmp k l ≡ o → IsUtf8 k → IsJson d → AreJsonMembers (member l e ms) → AreJsonMembers (put k d ms)
     → AreJsonMembers (match_ordering o (member k d (member l e ms)) (member l d ms) (member l e (put k d ms)))
@@ -99,7 +99,7 @@ depth_put : (k : List ℕ) (d : Data) (ms : Members) → members_depth (put k d 
 depth_put k d no_members = omega arith
 depth_put k d (member l e ms) = depth_put_by (slice_cmp nat_cmp k l) k l d e ms (put k d ms) (depth_put k d ms)
 
--- ---- a member that is taken out
+-- ---- a member that is removed
 
 without_by : (o : Ordering) (l : List ℕ) (e : Data) (ms less : Members) → IsBefore l less → AreJsonMembers (member l e ms) → AreJsonMembers less → AreJsonMembers (match_ordering o (member l e less) ms (member l e less))
 without_by Less l e ms less p h more = (h.0, p, h.2, more)

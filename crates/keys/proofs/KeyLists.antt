@@ -1,4 +1,4 @@
--- The keys of objects, one after another.
+-- The keys that are read from objects, one after another.
 use Rattle.std.proofs.Common.{◌≡◌, suc, Bool, true, false, List, [], ◌∷◌, ◌++◌, length, map, Result, Ok, Err, refl, sym, ap, ◌∙◌, append_assoc}
 use Rattle.std.proofs.lemmas.List.{map-append}
 use Rattle.serde_json.specs.View.{view, items_view}
@@ -10,12 +10,12 @@ use Rattle.keys.specs.Code.Views.{key_view}
 use Rattle.keys.specs.Limits.{limits}
 use Rattle.keys.specs.KeySets.{before, unless_bad, octet_keys, items_count}
 
--- the keys so far stand before those that are left
+-- the keys so far, followed by those that are left
 abbrev pub after : List OctetKey → Result (List OctetKey) Refusal → Result (List OctetKey) Refusal
 after done (Ok keys) = Ok (done ++ keys)
 after done (Err refusal) = Err refusal
 
--- the keys so far, and those of the objects that are left
+-- the keys so far, followed by those of the objects that are left
 abbrev pub keys_with : Bool → List Key → List Value → Result (List OctetKey) Refusal
 keys_with strict done left = after (map key_view done) (octet_keys limits strict (items_view left))
 
@@ -42,7 +42,7 @@ keys_with-passed done value left refusal is = ap (λ r. after (map key_view done
 pub keys_with-refused : (done : List Key) (value : Value) (left : List Value) (refusal : Refusal) → octet_key limits (view value) ≡ Err refusal → keys_with true done (value ∷ left) ≡ Err refusal
 keys_with-refused done value left refusal is = ap (λ r. after (map key_view done) (unless_bad true r (octet_keys limits true (items_view left)))) is
 
--- the items of a view are as many as the values
+-- The number of items of a view is the number of values.
 pub items_counted : (values : List Value) → items_count (items_view values) ≡ length values
 items_counted [] = refl
 items_counted (value ∷ values) = ap suc (items_counted values)
@@ -51,7 +51,7 @@ pub keys_counted : (keys : List Key) → length (map key_view keys) ≡ length k
 keys_counted [] = refl
 keys_counted (key ∷ keys) = ap suc (keys_counted keys)
 
--- what keys hold is octets
+-- The octets of keys are octets.
 pub have_octets : (keys : List Key) → AreOctetKeys (map key_view keys)
 have_octets [] = tt
 have_octets (key ∷ keys) = (key.known, have_octets keys)

@@ -21,7 +21,7 @@ pub strings_are_items : (texts : List (Bor (List ℕ))) → items_of (map (λ t.
 strings_are_items [] = refl
 strings_are_items (text ∷ texts) = ap (item (string text.now)) (strings_are_items texts)
 
--- ---- a map's entries beside the members that they stand for
+-- ---- the entries of a map and the members that they represent
 
 removed_at : (o : Ordering) (e : Entry) (es rest : List Entry) (ms : Members) → members_view rest ≡ ms
     → members_view (cond (is_eq o) es (e ∷ rest)) ≡ match_ordering o (member (string_bytes e.0) (view e.1) ms) (members_view es) (member (string_bytes e.0) (view e.1) ms)
@@ -37,11 +37,11 @@ is_some-option_map : {A B : Type 0} (f : A → B) (o : Option A) → is_some (op
 is_some-option_map f None = refl
 is_some-option_map f (Some a) = refl
 
--- whether a map has a key is whether the members have the name
+-- A map has a key exactly if the members have its name.
 pub has_member : (name : List ℕ) (es : List Entry) → is_some (lookup (is_at (λ k. slice_cmp nat_cmp name (string_bytes k))) es) ≡ is_some (get_member name (members_view es))
 has_member name es = sym (is_some-option_map view (lookup (is_at (λ k. slice_cmp nat_cmp name (string_bytes k))) es)) ∙ ap is_some (view-lookup name es)
 
--- ---- what is chosen by two tests
+-- ---- a choice by two tests
 
 pub by_first : {X : Type 0} (p q : Bool) (x y : X) → p ≡ true → x ≡ (if p then x else (if q then x else y))
 by_first true q x y h = refl

@@ -1,4 +1,4 @@
--- The keys of a text have octets.
+-- The keys that are read from a text are octets.
 use Rattle.std.proofs.Common.{◌≡◌, ℕ, Bool, true, false, not, nat_le, ◌==◌, List, [], ◌∷◌, length, codes, Option, Some, None, option_and_then, Result, Ok, Err, refl, ap, subst, if◌then◌else◌}
 use Rattle.std.specs.Option.{ok_or}
 use Rattle.std.specs.Str.{bytes_eq}
@@ -22,7 +22,7 @@ use Rattle.keys.proofs.ValuesRead.{reads_json}
 
 -- ---- one key
 
--- the text of a member is octets
+-- The text of a member is octets.
 member_octets : (name text : List ℕ) (value : Data) → IsJson value → string_member name value ≡ Ok text → IsOctets text
 unfolding string_member
 member_octets name text value json h = by_member (get name value) refl h
@@ -35,7 +35,7 @@ decoded_or_key : (r : Result (List ℕ) Refusal) (octets : List ℕ) → or_key 
 decoded_or_key (Ok x) octets h = ap Ok (same_answer x octets h)
 decoded_or_key (Err e) octets h = cc h
 
--- so is what it means
+-- The octets that this text means are octets.
 k_octets : (limits : Limits) (value : Data) (octets : List ℕ) → IsJson value → key_octets limits value ≡ Ok octets → IsOctets octets
 unfolding key_octets
 k_octets limits value octets json h =

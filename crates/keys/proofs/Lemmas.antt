@@ -1,4 +1,4 @@
--- What the crates above cite of these proofs, and nothing else.
+-- The lemmas of these proofs that the crates above cite.
 pub use Rattle.keys.proofs.TextOctets.{octets_of_utf8, string_octets}
 pub use Rattle.keys.proofs.CompactTexts.{text_is_utf8}
 pub use Rattle.keys.proofs.ReadingBack.{numbers_whole, reads_back}

@@ -1,4 +1,4 @@
--- A key that is made has no float where its template has none.
+-- A key that is made has no float, if its template has none.
 use Rattle.std.proofs.Common.{◌≡◌, ℕ, List, [], ◌∷◌, Bool, true, false, if◌then◌else◌, Option, Some, None, is_some, codes, Less, Equal, Greater, Ordering, nat_cmp, Ok, refl, ap}
 use Rattle.std.specs.Cmp.Lexicographic.{slice_cmp}
 use Rattle.std.specs.Option.{ok_or}

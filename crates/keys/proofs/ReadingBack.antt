@@ -1,4 +1,4 @@
--- The compact text of a value that is as JSON texts have it reads as that value.
+-- The compact text of a JSON value reads as this value.
 use Rattle.std.proofs.Common.{◌≡◌, ◌≤◌, ℕ, pos, negsuc, List, [], true, is_some, Some, Ok, option_map, option_and_then, refl, sym, ap, ◌∙◌, arith, append-nil, Ordering, Less, Greater, nat_cmp}
 use Rattle.std.proofs.lemmas.Bool.{and_from, or_right}
 use Rattle.std.proofs.lemmas.Cmp.{nat_list_cmp_total}
@@ -24,7 +24,7 @@ use Rattle.keys.specs.JsonTexts.{IsJsonNumber, IsBefore, IsJson, AreJsonItems, A
 use Rattle.keys.proofs.CompactTexts.{text_is_utf8}
 use Rattle.keys.proofs.Readings.{reading_of_text}
 
--- ---- members that come in their order go in at the end
+-- ---- members that come in order are inserted at the end
 
 abbrev joined : Members → Members → Members
 joined no_members ms = ms
@@ -56,7 +56,7 @@ joined_none : (done : Members) → joined done no_members ≡ done
 joined_none no_members = refl
 joined_none (member k d done) = ap (member k d) (joined_none done)
 
--- ---- what stands in the text is the value
+-- ---- the text has the value
 
 number_reads : (n : Num) → IsJsonNumber n → number_of (number_text n) ≡ Some n
 number_reads (unsigned n) h = number_of-decimal n h
@@ -133,7 +133,7 @@ read_back d is shallow =
     (ap (json.value max_depth) (text ∙ sym (append-nil (tree.json_tokens j))) ∙ value-json_tokens j max_depth [] (omega (arith, depth_outline d)))
     ∙ of_outline d is
 
--- ---- its numbers are whole
+-- ---- the numbers are whole
 
 number_is_whole : (n : Num) → IsJsonNumber n → is_whole n ≡ true
 number_is_whole (unsigned n) h = or_right (is_some (as_i64 (unsigned n))) true refl

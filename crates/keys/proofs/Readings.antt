@@ -1,4 +1,4 @@
--- What octets read as.
+-- The value that octets read as.
 use Rattle.std.proofs.Common.{◌≡◌, ℕ, List, Bool, true, false, Some, None, Ok, Err, cond, refl, ap, ◌∙◌}
 use Rattle.std.proofs.lemmas.Str.{IsUtf8-from_is_utf8, is_utf8-from_IsUtf8}
 use Rattle.std.specs.Option.{ok_or}
@@ -15,7 +15,7 @@ reading_by b octets e = ap (λ t. cond t (ok_or (read octets) Json) (Err Json)) 
 pub reading_of_text : (octets : List ℕ) (value : Data) → IsUtf8 octets → read octets ≡ Some value → json_reading octets ≡ Ok value
 reading_of_text octets value utf8 is = reading_by true octets (is_utf8-from_IsUtf8 octets utf8) ∙ ap (λ o. ok_or o Json) is
 
--- octets that are no UTF-8, or no JSON
+-- Octets that are not UTF-8, or not JSON, are refused as Json.
 no_reading_by : (b : Bool) (octets : List ℕ) → is_utf8 octets ≡ b → (IsUtf8 octets → read octets ≡ None) → json_reading octets ≡ Err Json
 no_reading_by true octets e none = reading_by true octets e ∙ ap (λ o. ok_or o Json) (none (IsUtf8-from_is_utf8 octets e))
 no_reading_by false octets e none = reading_by false octets e

@@ -9,7 +9,7 @@ use Rattle.serde_json.specs.View.{view, items_view}
 use Rattle.serde_json.specs.declared.value.Value.{Value}
 use Rattle.keys.specs.Members.{strings_of}
 
--- the texts so far, and those of the values that are left
+-- the texts so far, followed by those of the values that are left
 abbrev pub texts_with : List (String Global) → List Value → Option (List (List ℕ))
 texts_with done left = option_map (λ texts. map string_bytes done ++ texts) (strings_of (items_view left))
 
@@ -34,7 +34,7 @@ pub texts_with-other : (done : List (String Global)) (v : Value) (left : List Va
 texts_with-other done v left is =
     ap (λ o. option_map (λ texts. map string_bytes done ++ texts) (option_and_then (λ t. option_map (λ texts. t ∷ texts) (strings_of (items_view left))) o)) is
 
--- whether some text of the list is as asked
+-- Some text of the list passes a test exactly if some string does.
 pub any_text : (asked : List ℕ → Bool) (texts : List (String Global)) → list_any asked (map string_bytes texts) ≡ list_any (λ text. asked (string_bytes text)) texts
 any_text asked [] = refl
 any_text asked (text ∷ texts) = ap (λ rest. asked (string_bytes text) || rest) (any_text asked texts)

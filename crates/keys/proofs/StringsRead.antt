@@ -98,7 +98,7 @@ pair_scalar h l p q =
 
 -- ---- the content of a string
 
--- what is known of the bytes before and of those that are left
+-- the text before and the text that is left, together or each, are UTF-8
 abbrev Given : Within → List ℕ → List ℕ → Type 0
 Given plain done left = IsUtf8 (done ++ left)
 Given after_backslash done left = IsUtf8 done × IsUtf8 left
@@ -167,7 +167,7 @@ content_gives (after_high h) done (s ∷ u ∷ a ∷ b ∷ c ∷ d ∷ xs) g =
     (λ _. tt)))
     (λ _. tt)
 
--- the string that text begins with, after its quote
+-- the string at the beginning of the text, if there is one, is UTF-8
 abbrev pub IsTextIfThere : Option (List ℕ) → Type 0
 IsTextIfThere None = ⊤
 IsTextIfThere (Some s) = IsUtf8 s

@@ -1,4 +1,4 @@
--- UTF-8 is octets, and so is the text of a string.
+-- UTF-8 and the texts of strings are octets.
 use Rattle.std.proofs.Common.{◌≡◌, ℕ, ◌+◌, ◌/◌, ◌<◌, true, List, [], ◌∷◌, Some, IsUtf8, ⊎_elim, subst, arith}
 use Rattle.std.proofs.lemmas.Bool.{and_parts, cond_both, ltb-true}
 use lib.Dec.{ltb}
@@ -9,11 +9,11 @@ use Rattle.octets.specs.Octets.{IsOctets}
 use Rattle.octets.proofs.Lemmas.{IsOctets-nil, first_or, IsOctets-append}
 use Rattle.keys.specs.JsonTexts.{IsJson}
 
--- no character is beyond the last
+-- Every character is at most U+10FFFF.
 below : (c : ℕ) → scalar c ≡ true → c < 1114112
 below c is = ⊎_elim (λ (low : c < 55296). omega arith) (λ high. high.1) (scalar_cases c is)
 
--- an octet with six bits, after the first one of a character
+-- A later byte of a character is an octet.
 later : (n : ℕ) (rest : List ℕ) → IsOctets rest → IsOctets (next n ∷ rest)
 later n rest h = first_or (next n) rest (omega arith) h
 

@@ -1,4 +1,4 @@
--- The strings and names of UTF-8 text are UTF-8, from its bytes to its JSON.
+-- The strings and names that are read from UTF-8 text are UTF-8, from the bytes to the JSON.
 use Rattle.std.proofs.Common.{◌≡◌, ℕ, Bool, true, false, List, [], ◌∷◌, ◌++◌, length, drop, Option, Some, None, cond, refl, sym, subst, arith, append_assoc, IsUtf8}
 use Rattle.std.proofs.lemmas.Bool.{cond_both, eqb-true}
 use Rattle.std.specs.List.{starts_with}

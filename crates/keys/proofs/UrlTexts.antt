@@ -1,4 +1,4 @@
--- A text of letters, digits, `-` and `_` stands in JSON as it is.
+-- A text of letters, digits, `-` and `_` is written in JSON without escapes.
 use Rattle.std.proofs.Common.{◌≡◌, ◌<◌, ◌≤◌, ℕ, true, nat_lt, List, [], ◌∷◌, ◌++◌, refl, ap, ap₂, arith}
 use Rattle.std.proofs.lemmas.Bool.{and_from, lt-ltb}
 use Rattle.std.proofs.lemmas.Bool.Decides.{nat_tests}

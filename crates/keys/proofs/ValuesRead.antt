@@ -1,4 +1,4 @@
--- What a text reads as has each name once, in order, UTF-8 strings, and whole numbers of 64 bits.
+-- A value that is read from a text has each name once and in order, its strings are UTF-8, and its numbers are whole and have 64 bits.
 use Rattle.std.proofs.Common.{◌≡◌, ℕ, zero, suc, ◌^◌, ◌<◌, ◌≤◌, pos, negsuc, neg_ℤ, List, [], ◌∷◌, Bool, true, false, cond, Option, Some, None, option_map, option_and_then, Result, Ok, Err, nat_lt, nat_le, refl, ap, sym, ◌∙◌, subst, arith, Ordering, Less, Equal, Greater, nat_cmp, IsUtf8}
 use Rattle.std.proofs.lemmas.Bool.{and_parts, ltb-true, leb-true}
 use Rattle.std.proofs.lemmas.Str.{IsUtf8-from_is_utf8}
@@ -23,7 +23,7 @@ use Rattle.keys.proofs.TokensRead.{HasTexts, ItemsHaveTexts, MembersHaveTexts, t
 use Rattle.keys.specs.Json.{json_reading, json_value, is_whole, numbers_are_whole, item_numbers_are_whole, member_numbers_are_whole}
 use Rattle.keys.specs.JsonTexts.{IsJsonNumber, IsBefore, IsJson, AreJsonItems, AreJsonMembers, ReadsJson}
 
--- ---- where there is a value, it has the fact
+-- ---- if there is a value, the fact holds of it
 
 abbrev Every : {A : Type 0} → (A → Type 0) → Option A → Type 0
 Every P None = ⊤
@@ -41,7 +41,7 @@ every_cond : {A : Type 0} (P : A → Type 0) (b : Bool) (x y : Option A) → (b 
 every_cond P true x y f g = f refl
 every_cond P false x y f g = g
 
--- ---- values whose floats are left open
+-- ---- values whose floats are not restricted
 
 abbrev IsTidyNumber : Num → Type 0
 IsTidyNumber (unsigned n) = n < 2 ^ 64
@@ -147,7 +147,7 @@ mutual
   json_members no_members h w = tt
   json_members (member k d ms) h w = let p = and_parts (numbers_are_whole d) _ w in (h.0, h.1, json_of d h.2 p.0, json_members ms h.3 p.1)
 
--- ---- what a text reads as
+-- ---- the value that a text reads as
 
 last_has : (text : List ℕ) (o : Option (json.Json × List Token)) → IsUtf8 text → json.value max_depth (tokens text) ≡ o → Every HasTexts (option_and_then (λ p. json.if_last p.0 p.1) o)
 last_has text None u e = tt

@@ -1,4 +1,4 @@
--- The product of two blocks, bit by bit, by the laws of polynomials.
+-- The product of two blocks, bit by bit, from the laws of polynomials.
 use Rattle.std.proofs.Common.{◌≡◌, ℕ, suc, ◌+◌, ◌-◌, ◌*◌, ◌/◌, ◌%◌, ◌^◌, ◌<◌, List, [], ◌∷◌, ◌++◌, length, map, get_or, slice_index, bit_and, bit_xor, refl, sym, ap, ap₂, ◌∙◌, arith, zero-mul, one-mul, mul-one, add-one, length-append, get_or-append-add}
 use Rattle.std.specs.Int.{bit_at}
 use Rattle.std.specs.List.{range_with_len}
@@ -12,7 +12,7 @@ use Rattle.aes.specs.PolynomialLaws.{IsLinear, PolynomialLaws}
 use Rattle.modes.specs.Ghash.{reflect, modulus, block_product, times_h, ghash_number}
 use Rattle.modes.specs.Code.Shifts.{shifted}
 
--- the remainder of x ^ i times the polynomial of h; and what the first i coefficients of x make of the product
+-- the remainder of x ^ i times the polynomial of h; and the part of the product that comes from the first i coefficients of x
 abbrev pub power_of : ℕ → ℕ → ℕ
 power_of h i = polynomial_remainder 128 modulus 128 (reflect h * 2 ^ i)
 
@@ -36,14 +36,14 @@ shift_high v e =
     let o : v % 2 ≡ 1 = is_one (v % 2) (mod_below v 2 (omega arith)) (λ z. e (and_mask v 1 ∙ z)) in
     sym (ap (λ b. bit_xor (v / 2) (b * (0xe1 * 2 ^ 120))) o ∙ ap (bit_xor (v / 2)) (one-mul (0xe1 * 2 ^ 120)))
 
--- the middle two change places
+-- In a sum of two sums, the two middle terms may be exchanged.
 pub xor_swap : (a b c d : ℕ) → bit_xor (bit_xor a b) (bit_xor c d) ≡ bit_xor (bit_xor a c) (bit_xor b d)
 xor_swap a b c d =
     xor_assoc a b (bit_xor c d)
     ∙ ap (bit_xor a) (sym (xor_assoc b c d) ∙ ap (λ x. bit_xor x d) (xor_comm b c) ∙ xor_assoc c b d)
     ∙ sym (xor_assoc a c (bit_xor b d))
 
--- the code's step and the multiple of x, at each power of x
+-- The step of the code and the multiplication by x agree at each power of x.
 steps_agree : map (λ i. reflect (shifted (2 ^ i))) (range_with_len 0 128) ≡ map (λ i. polynomial_remainder 128 modulus 1 (reflect (2 ^ i) * 2)) (range_with_len 0 128)
 unfolding reflect shifted polynomial_sum polynomial_remainder
 steps_agree = refl
@@ -124,7 +124,7 @@ module _ (laws : PolynomialLaws) where
       ∙ reflect_linear (product_of x h 128) (product_of y h 128)
       ∙ ap₂ bit_xor (sym (product_is x h)) (sym (product_is y h))
 
-  -- one more block: the sum so far and the block, times h
+  -- With one more block, the hash is the sum of the hash so far and the block, times h.
   pub one_more : (h : ℕ) (xs : List ℕ) (x : ℕ) → block_product (bit_xor (ghash_number h xs) x) h ≡ ghash_number h (xs ++ x ∷ [])
   unfolding ghash_number polynomial_sum times_h
   one_more h xs x = sym (

@@ -1,4 +1,4 @@
--- Blocks of octets, and lists joined.
+-- Blocks of octets, and joined lists.
 use Rattle.std.proofs.Common.{◌≡◌, ℕ, zero, suc, ◌+◌, ◌*◌, ◌<◌, ◌≤◌, List, ◌++◌, length, map, sym, ap, ap₂, ◌∙◌, arith, refl, append_assoc}
 use Rattle.std.specs.List.{range_with_len, concat}
 use Rattle.aes.specs.Block.{IsBlock}
@@ -9,7 +9,7 @@ use Rattle.modes.specs.Cbc.{block}
 pub block_is_block : (p : List ℕ) (i : ℕ) → IsOctets p → 16 * i + 16 ≤ length p → IsBlock (block p i)
 block_is_block p i o h = record { sixteen = length-chunk 16 p i h; octets = chunk_octets 16 p i o }
 
--- ---- n + k lists joined, and as many others that are the same
+-- ---- n + k joined lists, and as many other lists that are the same
 
 module _ (f : ℕ → List ℕ) where
   pub joined-add : (n k a : ℕ) → concat (map f (range_with_len a (n + k))) ≡ concat (map f (range_with_len a n)) ++ concat (map f (range_with_len (a + n) k))

@@ -1,4 +1,4 @@
--- Chaining over a text in pieces.
+-- Chaining over a text that comes in pieces.
 use Rattle.std.proofs.Common.{◌≡◌, ℕ, zero, suc, ◌+◌, ◌*◌, ◌/◌, ◌<◌, ◌≤◌, List, [], ◌++◌, length, drop, map, sym, ap, ap₂, ◌∙◌, arith, refl, length-append, length-drop}
 use Rattle.std.specs.List.{between, range_with_len, concat}
 use Rattle.std.proofs.lemmas.List.{length-take-le}
@@ -15,12 +15,12 @@ blocks_are e iv p n h = ap (λ k. concat (map (chained e iv p) (range_with_len 1
 pub none_alone : (e : List ℕ → List ℕ) (iv w : List ℕ) → length w < 16 → cbc_blocks e iv w ≡ []
 none_alone e iv w h = blocks_are e iv w 0 (omega arith)
 
--- a list is the ciphertext where each of its blocks is
+-- A list is the ciphertext if each of its blocks is.
 pub blocks_from : (e : List ℕ → List ℕ) (iv p c : List ℕ) (n : ℕ) → length p / 16 ≡ n → length c ≡ 16 * n → ((i : ℕ) → i < n → block c i ≡ chained e iv p (suc i)) → c ≡ cbc_blocks e iv p
 blocks_from e iv p c n h k same =
     sym (blocks_are e iv p n h ∙ chunks_joined 16 (chained e iv p) n 1 c k (λ i l. same i l ∙ ap (chained e iv p) (let z : suc i ≡ 1 + i = omega arith in z)))
 
--- one block more, as the code adds it
+-- One more block is added as in the code.
 pub chained_more : (e : List ℕ → List ℕ) (iv p previous : List ℕ) (i : ℕ) → previous ≡ chained e iv p i → length previous ≡ 16 → 16 * i + 16 ≤ length p
     → e (xor_octets previous (between (16 * i) (16 * i + 16) p)) ≡ chained e iv p (suc i)
 unfolding chained
@@ -28,7 +28,7 @@ chained_more e iv p previous i is long room =
     let sixteen : length (block p i) ≡ 16 = length-take-le 16 (drop (16 * i) p) (omega (arith, length-drop (16 * i) p)) in
     ap e (ap (xor_octets previous) (chunk_is 16 p i) ∙ xor_turned previous (block p i) (long ∙ sym sixteen) ∙ ap (xor_octets (block p i)) is)
 
--- ---- behind whole blocks it goes on from the last of their ciphertext
+-- ---- after whole blocks, chaining goes on from the last block of their ciphertext
 
 module _ (e : List ℕ → List ℕ) (iv m : List ℕ) (n : ℕ) (whole : length m ≡ 16 * n) (q : List ℕ) where
   pub chained_front : (i : ℕ) → i ≤ n → chained e iv (m ++ q) i ≡ chained e iv m i

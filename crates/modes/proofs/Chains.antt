@@ -1,4 +1,4 @@
--- Horner's rule in two chains of products that are not reduced, over both halves of a block at once.
+-- Horner's rule with two chains of unreduced products, over both halves of a block at once.
 use Rattle.std.proofs.Common.{◌≡◌, ℕ, ◌+◌, ◌-◌, ◌*◌, ◌/◌, ◌%◌, ◌^◌, ◌≤◌, bit_xor, sym, ap, ap₂, ◌∙◌, arith}
 use Rattle.std.specs.Int.Bits.{xor_assoc, xor_comm}
 use Rattle.std.proofs.Math.Nat.{mul_assoc, mul-mod_left}
@@ -8,19 +8,19 @@ use Rattle.modes.specs.Code.Shifts.{shifts}
 use Rattle.modes.proofs.BlockProduct.{xor_swap}
 use Rattle.modes.proofs.Shifts.{shifts_plus, shifts_turned, shifts_whole, shifts_part, shifts_quotient, shifts_linear}
 
--- the sum of both: the odd one is four bits further on
+-- the sum of both chains; the odd one is four bits further on
 abbrev pub chains : ℕ → ℕ → ℕ
 chains even odd = bit_xor even (odd / 2 ^ 4)
 
--- the multiples of two groups of four bits, one of either half
+-- the multiples of two groups of four bits, one from each half
 abbrev pub multiples : ℕ → ℕ → ℕ
 multiples front back = bit_xor (front * 2 ^ 128) (back * 2 ^ 64)
 
--- what a step adds to the sum
+-- the terms that a step adds to the sum
 abbrev pub added : ℕ → ℕ → ℕ → ℕ → ℕ
 added even odd even_back odd_back = bit_xor (multiples even even_back) (bit_xor (odd * 2 ^ 124) (odd_back * 2 ^ 60))
 
--- a step of the sum
+-- A step of both chains is a step of their sum.
 pub chains_next : (a b even odd even_back odd_back : ℕ)
     → chains (bit_xor (a / 2 ^ 8) (multiples even even_back)) (bit_xor (b / 2 ^ 8) (multiples odd odd_back)) ≡ bit_xor (chains a b / 2 ^ 8) (added even odd even_back odd_back)
 chains_next a b even odd even_back odd_back =
@@ -33,7 +33,7 @@ chains_next a b even odd even_back odd_back =
     ∙ xor_swap (a / 2 ^ 8) (multiples even even_back) (b / 2 ^ 4 / 2 ^ 8) (bit_xor (odd * 2 ^ 124) (odd_back * 2 ^ 60))
     ∙ ap (λ v. bit_xor v (added even odd even_back odd_back)) (sym (xor_shr a (b / 2 ^ 4) 8))
 
--- a multiple of 2 ^ n ends in k zeros
+-- A multiple of 2 ^ n ends in k zeros, if k is at most n.
 ends_in_zeros : (v n k : ℕ) → k ≤ n → v * 2 ^ n % 2 ^ k ≡ 0
 ends_in_zeros v n k l =
     ap (λ j. v * 2 ^ j % 2 ^ k) (let e : n ≡ n - k + k = omega (arith, l) in e)
@@ -43,7 +43,7 @@ ends_in_zeros v n k l =
 sum_ends_in_zeros : (a b k : ℕ) → a % 2 ^ k ≡ 0 → b % 2 ^ k ≡ 0 → bit_xor a b % 2 ^ k ≡ 0
 sum_ends_in_zeros a b k e f = xor_mod a b k ∙ ap₂ bit_xor e f
 
--- of the zeros that the sum ends in, a step takes eight
+-- A step uses up eight of the zeros at the end of the sum.
 pub zeros_next : (sum k even odd even_back odd_back : ℕ) → k ≤ 60 → sum % 2 ^ (k + 8) ≡ 0 → bit_xor (sum / 2 ^ 8) (added even odd even_back odd_back) % 2 ^ k ≡ 0
 zeros_next sum k even odd even_back odd_back l e =
     sum_ends_in_zeros (sum / 2 ^ 8) (added even odd even_back odd_back) k
@@ -57,7 +57,7 @@ zeros_next sum k even odd even_back odd_back l e =
     (ends_in_zeros odd_back 60 k l)))
 
 module _ (laws : PolynomialLaws) where
-  -- what a step adds, as a block
+  -- As a block, the terms that a step adds are the sum of the four shifted products.
   added_is : (even odd even_back odd_back : ℕ)
       → shifts (added even odd even_back odd_back) 128 ≡ bit_xor (bit_xor even (shifts odd 4)) (shifts (bit_xor even_back (shifts odd_back 4)) 64)
   added_is even odd even_back odd_back =
@@ -69,7 +69,7 @@ module _ (laws : PolynomialLaws) where
       ∙ xor_swap even (shifts even_back 64) (shifts odd 4) (shifts (shifts odd_back 4) 64)
       ∙ ap (bit_xor (bit_xor even (shifts odd 4))) (sym (shifts_linear laws 64 even_back (shifts odd_back 4)))
 
-  -- Horner's step over both halves at once, where front and back are what was summed of either
+  -- A step of the sum is Horner's step over both halves at once, if the sum so far is that of front and back.
   pub one_step : (sum front back even odd even_back odd_back : ℕ) → sum % 2 ^ 8 ≡ 0 → shifts sum 128 ≡ bit_xor front (shifts back 64)
       → shifts (bit_xor (sum / 2 ^ 8) (added even odd even_back odd_back)) 128
       ≡ bit_xor (bit_xor (shifts front 8) (bit_xor even (shifts odd 4))) (shifts (bit_xor (shifts back 8) (bit_xor even_back (shifts odd_back 4))) 64)
@@ -86,7 +86,7 @@ module _ (laws : PolynomialLaws) where
       ∙ xor_swap (shifts front 8) (shifts (shifts back 8) 64) f (shifts b 64)
       ∙ ap (bit_xor (bit_xor (shifts front 8) f)) (sym (shifts_linear laws 64 (shifts back 8) b))
 
-  -- two steps by four bits, in one
+  -- Two steps of four bits are one step of eight.
   pub two_nibbles : (a b c first second : ℕ) → bit_xor (shifts a 4) first ≡ b → bit_xor (shifts b 4) second ≡ c → bit_xor (shifts a 8) (bit_xor second (shifts first 4)) ≡ c
   two_nibbles a b c first second one two =
       ap (bit_xor (shifts a 8)) (xor_comm second (shifts first 4))

@@ -1,4 +1,4 @@
--- Counter mode: the counter's steps, and the key stream by position.
+-- Counter mode: the steps of the counter, and the key stream at each place.
 use Rattle.std.proofs.Common.{◌≡◌, ℕ, ◌+◌, ◌-◌, ◌*◌, ◌/◌, ◌%◌, ◌^◌, ◌<◌, ◌≤◌, List, ◌++◌, length, take, drop, map, get_or, slice_index, bit_xor, w32, refl, sym, ap, ap₂, subst, ◌∙◌, arith, rules, length-append, length-drop, take-append-drop, append-nil, ext_get_or, ⊎_elim}
 use Rattle.std.specs.Int.{from_be_bytes, to_be_bytes}
 use Rattle.std.specs.List.{range_with_len}
@@ -48,7 +48,7 @@ module _ (f : List ℕ) (sixteen : length f ≡ 16) where
 
 -- ---- the key stream
 
--- the first octets of the text are those of its beginning, and the others have their own octets of the key stream
+-- The first octets of the ciphertext are those of the beginning, and each later octet has its own octet of the key stream.
 module _ (e : List ℕ → List ℕ) (f p q : List ℕ) where
   pub length-ctr : (x : List ℕ) → length (ctr e f x) ≡ length x
   unfolding ctr
@@ -58,7 +58,7 @@ module _ (e : List ℕ → List ℕ) (f p q : List ℕ) where
   unfolding ctr
   octet-ctr x i l = get_or-map-range_with_len (λ i. bit_xor (slice_index x i) (stream_octet e f i)) 0 (length x) i i 0 l (omega arith)
 
-  -- what is added to q behind p
+  -- After p, the ciphertext of q is added.
   pub ctr-append : (x : List ℕ) → length x ≡ length q → ((i : ℕ) → i < length q → get_or x i 0 ≡ bit_xor (slice_index q i) (stream_octet e f (length p + i)))
       → ctr e f (p ++ q) ≡ ctr e f p ++ x
   ctr-append x long own = ext_get_or 0 (ctr e f (p ++ q)) (ctr e f p ++ x)
@@ -78,7 +78,7 @@ module _ (e : List ℕ → List ℕ) (f p q : List ℕ) where
       ∙ sym (get_or-append_right (ctr e f p) x (length p) i 0 (length-ctr p) b))
       (cases_lt i (length p)))
 
--- the octets q with as many of s from octet u on, which are the next of the key stream
+-- The ciphertext of q is q plus the octets of s from octet u on, if these are the next ones of the key stream.
 pub with_stream : (e : List ℕ → List ℕ) (f p q s : List ℕ) (u : ℕ) → ((i : ℕ) → i < length q → slice_index s (u + i) ≡ stream_octet e f (length p + i))
     → ctr e f (p ++ q) ≡ ctr e f p ++ xor_octets q (take (length q) (drop u s))
 unfolding xor_octets
@@ -93,7 +93,7 @@ with_stream e f p q s u next =
     ∙ get_or-drop u s i 0
     ∙ next i l))
 
--- the counter with its last four octets written anew
+-- The counter is increased by overwriting its last four octets.
 pub counted_up : (u four y : List ℕ) (n : ℕ) → length u ≡ 16 → four ≡ take 4 (drop 12 u) → n ≡ from_be_bytes w32 four → y ≡ to_be_bytes w32 ((n + 1) % 2 ^ 32)
     → put_mid 12 4 u y ≡ counter_block u 1
 unfolding counter_block
@@ -103,10 +103,10 @@ counted_up u four y n sixteen is_four is_n is_y =
     ap (λ t. take 12 u ++ (y ++ t)) (drop_all 4 (drop 12 u) (omega (arith, rest)))
     ∙ ap (λ t. take 12 u ++ t) (append-nil y ∙ is_y ∙ ap (λ m. to_be_bytes w32 ((m + 1) % 2 ^ 32)) number)
 
--- ---- the code's steps behind a text p
+-- ---- the steps of the code after a text p
 
 module _ (e : List ℕ → List ℕ) (f p : List ℕ) where
-  -- all blocks are used, and those from place n on are made anew
+  -- If all blocks are used, the blocks from place n on are made again.
   pub made_anew : (s t : KeyStream) (n : ℕ) → s.used ≡ 256 → n < 16 → HoldsKeyStream s e f p → t.used ≡ 16 * n
       → ((m : ℕ) → s.counter ≡ counter_block f m → t.counter ≡ counter_block f (m + (16 - n)))
       → ((m : ℕ) → s.counter ≡ counter_block f m → (i : ℕ) → n ≤ i → i < 16 → block t.blocks i ≡ e (counter_block f (m + (i - n))))
@@ -128,7 +128,7 @@ module _ (e : List ℕ → List ℕ) (f p : List ℕ) where
             ∙ ap (slice_index (e (counter_block f ((length p + i) / 16)))) (let d : i % 16 ≡ (length p + i) % 16 = omega (arith, even) in d);
       }
 
-  -- as many octets are used as q has
+  -- The octets of q are counted as used.
   pub counts_on : (s t : KeyStream) (q : List ℕ) → HoldsKeyStream s e f p → s.used + length q ≤ 256
       → t.blocks ≡ s.blocks → t.counter ≡ s.counter → t.used ≡ s.used + length q → HoldsKeyStream t e f (p ++ q)
   counts_on s t q k room blocks counter used =

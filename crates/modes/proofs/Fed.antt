@@ -1,11 +1,11 @@
--- A text that was fed, and what comes by the next piece.
+-- The text that was fed, and the output for the next piece.
 use Rattle.std.proofs.Common.{◌≡◌, ℕ, ◌+◌, ◌-◌, ◌*◌, ◌/◌, ◌%◌, ◌<◌, List, [], ◌++◌, length, take, drop, replicate, sym, ap, ap₂, ◌∙◌, arith, length-append, append-nil}
 use Rattle.std.proofs.lemmas.List.{length-replicate, take-replicate}
 use Rattle.modes.specs.Cbc.{pad, chained, cbc_blocks, cbc}
 use Rattle.modes.proofs.Pieces.{whole_of, length-whole, whole_and_rest, length-waits, waits_short, longer, together, full, blocks, left, joined, sixteen, length-blocks, filled_whole, left_short}
 use Rattle.modes.proofs.Chaining.{none_alone, chained_front, chained_back, blocks_behind}
 
--- ---- w waits after the text p; the piece x completes the whole blocks t, and then v waits
+-- ---- w is waiting after the text p; the piece x completes the whole blocks t, and then v is waiting
 
 module _ (e : List ℕ → List ℕ) (iv p previous w : List ℕ) (is : previous ≡ chained e iv p (length p / 16)) (waits : w ≡ drop (16 * (length p / 16)) p)
     (x t v : List ℕ) (k : ℕ) (same : w ++ x ≡ t ++ v) (whole : length t ≡ 16 * k) (short : length v < 16) where
@@ -42,7 +42,7 @@ module _ (e : List ℕ → List ℕ) (iv p previous w : List ℕ) (is : previous
       ∙ ap (λ s. cbc_blocks e previous t ++ s) (none_alone e _ v short)
       ∙ append-nil (cbc_blocks e previous t))
 
--- ---- the piece fills the block that waits, and more
+-- ---- the piece fills the block that is waiting, and more
 
 module _ (e : List ℕ → List ℕ) (iv p previous w : List ℕ) (is : previous ≡ chained e iv p (length p / 16)) (waits : w ≡ drop (16 * (length p / 16)) p)
     (front rest : List ℕ) (fills : length w + length front ≡ 16) where
@@ -67,7 +67,7 @@ module _ (e : List ℕ → List ℕ) (iv p previous w : List ℕ) (is : previous
 
 module _ (e : List ℕ → List ℕ) (iv p previous w : List ℕ) (is : previous ≡ chained e iv p (length p / 16)) (waits : w ≡ drop (16 * (length p / 16)) p)
     (n : ℕ) (fills : length w + n ≡ 16) where
-  -- as many octets as are missing
+  -- The number n is that of the missing octets.
   missing : n ≡ 16 - length p % 16
   missing = omega (arith, fills, length-waits p w waits)
 

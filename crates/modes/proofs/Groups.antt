@@ -13,7 +13,7 @@ use borrow.Rule.Slice.PartMut.{put_mid}
 pub length-within : (p : List ℕ) (s t : ℕ) → t ≤ length p → length (between s t p) ≡ t - s
 length-within p s t h = length-take-le (t - s) (drop s p) (omega (arith, length-drop s p, h))
 
--- `&p[s..t]` for a whole number a of blocks before s
+-- The slice `&p[s..t]`, which begins after a blocks, has the blocks of p from block a on.
 pub block_within : (p : List ℕ) (a i s t : ℕ) → s ≡ 16 * a → 16 * (a + i) + 16 ≤ t → block (between s t p) i ≡ block p (a + i)
 block_within p a i s t start room =
     let n = t - s - 16 * i in
@@ -35,7 +35,7 @@ block_xor x y i same room =
     ∙ at-xor x y (16 * i + j) (omega (arith, room, m))
     ∙ sym (at-xor (block x i) (block y i) j (omega (arith, m, wide)) ∙ ap₂ bit_xor (at_block x i j m) (at_block y i j m)))
 
--- ---- x written over a whole number of blocks, from block a on
+-- ---- x overwrites a whole number of blocks, from block a on
 
 module _ (r x : List ℕ) (a n s : ℕ) (start : s ≡ 16 * a) (long : length x ≡ n) (room : s + n ≤ length r) where
   abbrev pub now : List ℕ

@@ -1,4 +1,4 @@
--- What the crates above cite of these proofs, and nothing else.
+-- The lemmas of these proofs that the crates above cite.
 pub use Rattle.modes.proofs.Sums.{length-xor}
 pub use Rattle.modes.proofs.Chaining.{none_alone, blocks_behind}
 pub use Rattle.modes.proofs.Pieces.{whole_of, length-whole, whole_and_rest, waits_short}

@@ -1,4 +1,4 @@
--- The product of a block and H, four bits a look-up: the multiples of H, and Horner's rule.
+-- The product of a block and H with four bits for each look-up: the multiples of H, and Horner's rule.
 use Rattle.std.proofs.Common.{◌≡◌, ◌≢◌, ℕ, zero, suc, ◌+◌, ◌-◌, ◌*◌, ◌/◌, ◌%◌, ◌^◌, ◌<◌, List, [], ◌∷◌, map, get_or, slice_index, bit_xor, refl, sym, ap, ap₂, subst, ⊎_elim, ◌∙◌, arith, zero-mul, one-mul, mul-one}
 use Rattle.std.specs.Int.{bit_at}
 use Rattle.std.specs.Int.Bits.{xor_comm, xor_zero_r, xor_shifted}
@@ -123,7 +123,7 @@ module _ (laws : PolynomialLaws) where
       (ap₂ before (both 14 1 _ _ m14 m1)
       refl)))))))))))))))
 
-  -- entry n of the table that three steps by x make
+  -- Entry n of the table, which is made with three steps by x, is the product of n and h.
   pub multiple_is : (h a b c n : ℕ) → h < 2 ^ 128 → a ≡ shifted h → b ≡ shifted a → c ≡ shifted b → n < 16
       → slice_index (table h a b c) n ≡ block_product (n * 2 ^ 124) h
   unfolding shifts
@@ -148,7 +148,7 @@ module _ (laws : PolynomialLaws) where
       ∙ ap shifted (sym (ap (λ p. block_product p h) (sym (pow-add 2 i 1)) ∙ at_power h (i + 1) s (omega (arith, m)))))
       l
 
-  -- where no bit is shifted out, a factor x ^ k may stand before the product
+  -- If no bit is shifted out, a factor x ^ k may be moved before the product.
   pub raised : (h v k : ℕ) → h < 2 ^ 128 → v * 2 ^ k < 2 ^ 128 → block_product v h ≡ shifts (block_product (v * 2 ^ k) h) k
   unfolding shifts
   raised h v zero s l = ap (λ v. block_product v h) (sym (mul-one v))
@@ -162,7 +162,7 @@ abbrev pub taken : ℕ → ℕ → ℕ
 taken x i = x % 2 ^ (4 * i) * 2 ^ (128 - 4 * i)
 
 module _ (x i : ℕ) (l : i < 32) where
-  -- the same one nibble further on
+  -- these nibbles, shifted by one more nibble
   abbrev passed : ℕ
   passed = x % 2 ^ (4 * i) * 2 ^ (124 - 4 * i)
 
@@ -188,7 +188,7 @@ module _ (x i : ℕ) (l : i < 32) where
       ∙ sym (xor_shifted n 124 passed passed_lt)
       ∙ xor_comm (n * 2 ^ 124) passed
 
-  -- one nibble more
+  -- One more nibble is processed.
   one_nibble : (laws : PolynomialLaws) (h : ℕ) → h < 2 ^ 128
       → bit_xor (shifts (block_product (taken x i) h) 4) (block_product (x / 2 ^ (4 * i) % 16 * 2 ^ 124) h) ≡ block_product (taken x (i + 1)) h
   one_nibble laws h s = sym (
@@ -197,7 +197,7 @@ module _ (x i : ℕ) (l : i < 32) where
       ∙ ap (λ v. bit_xor v (block_product (x / 2 ^ (4 * i) % 16 * 2 ^ 124) h))
       (raised laws h passed 4 s (omega (arith, passed_lt)) ∙ ap (λ v. shifts (block_product v h) 4) passed_is))
 
--- an octet more of one of the halves, by the multiples of its two nibbles
+-- One more octet of a half is processed, with the multiples of its two nibbles.
 one_octet : (laws : PolynomialLaws) (x i h : ℕ) → i < 8 → h < 2 ^ 128
     → bit_xor (shifts (block_product (taken x (2 * i)) h) 8)
     (bit_xor (block_product (x / 2 ^ (8 * i) / 2 ^ 4 % 16 * 2 ^ 124) h) (shifts (block_product (x / 2 ^ (8 * i) % 16 * 2 ^ 124) h) 4))
@@ -213,7 +213,7 @@ one_octet laws x i h l s =
     ∙ one_nibble x (2 * i + 1) (omega (arith, l)) laws h s
     ∙ ap (λ j. at (taken x j)) (let e : 2 * i + 1 + 1 ≡ 2 * (i + 1) = omega arith in e))
 
--- the product of what was taken of both halves of x, i octets of each
+-- the product of the last i octets of both halves of x
 abbrev pub halves_taken : ℕ → ℕ → ℕ → ℕ
 halves_taken x i h = bit_xor (block_product (taken (x / 2 ^ 64) (2 * i)) h) (shifts (block_product (taken (x % 2 ^ 64) (2 * i)) h) 64)
 
@@ -225,7 +225,7 @@ none_taken laws x h =
     shifts_whole 0 128
     ∙ sym (ap₂ (λ a b. bit_xor a (shifts b 64)) (nothing_taken laws (x / 2 ^ 64) h) (nothing_taken laws (x % 2 ^ 64) h) ∙ ap (bit_xor 0) (shifts_whole 0 64))
 
--- the code's step over both, whose four multiples these are
+-- The step of the code processes one more octet of both halves, with these four multiples.
 pub one_taken : (laws : PolynomialLaws) (x i h sum even odd even_back odd_back : ℕ) → i < 8 → h < 2 ^ 128
     → sum % 2 ^ 8 ≡ 0 → shifts sum 128 ≡ halves_taken x i h
     → even ≡ block_product (x / 2 ^ 64 / 2 ^ (8 * i) / 2 ^ 4 % 16 * 2 ^ 124) h

@@ -7,7 +7,7 @@ use Rattle.modes.specs.Ghash.{numbers}
 use Rattle.octets.proofs.Lemmas.{chunk_front, chunk_back}
 use Rattle.modes.proofs.Pieces.{whole_of, length-whole, whole_and_rest, waits_short, longer, left, joined, sixteen, filled_whole, left_short}
 
--- block i as a number; and the first n of them
+-- block i as a number; and the first n blocks as numbers
 abbrev pub number : List ℕ → ℕ → ℕ
 number p i = from_be_bytes w128 (block p i)
 
@@ -37,7 +37,7 @@ same f g (suc n) a b h =
     ∙ h (i + 1) (omega arith)
     ∙ ap g (let e : b + (i + 1) ≡ b + 1 + i = omega arith in e)))
 
--- behind whole blocks
+-- After whole blocks, the numbers of the following blocks are appended.
 pub numbers_behind : (m q : List ℕ) (n : ℕ) → length m ≡ 16 * n → numbers (m ++ q) ≡ numbers m ++ numbers q
 numbers_behind m q n whole =
     let k = length q / 16 in
@@ -51,10 +51,10 @@ numbers_behind m q n whole =
     ∙ ap (number q) (let e : i ≡ 0 + i = omega arith in e))
     ∙ sym (numbers_are q k refl))
 
--- ---- w waits after the text p
+-- ---- w is waiting after the text p
 
 module _ (p w : List ℕ) (waits : w ≡ drop (16 * (length p / 16)) p) where
-  -- the piece x completes the whole blocks t, and then v waits
+  -- If the piece x completes the whole blocks t, and v is waiting then, the numbers of t are appended.
   pub fed_numbers : (x t v : List ℕ) (k : ℕ) → w ++ x ≡ t ++ v → length t ≡ 16 * k → length v < 16 → numbers (p ++ x) ≡ numbers p ++ numbers t
   fed_numbers x t v k same whole short =
       let n = length p / 16 in
@@ -65,7 +65,7 @@ module _ (p w : List ℕ) (waits : w ≡ drop (16 * (length p / 16)) p) where
       (sym (ap numbers (sym (whole_and_rest p w waits)) ∙ numbers_behind (whole_of p) w n size ∙ ap (λ s. numbers (whole_of p) ++ s) (no_numbers w (waits_short p w waits)) ∙ append-nil (numbers (whole_of p))))
       (numbers_behind t v k whole ∙ ap (λ s. numbers t ++ s) (no_numbers v short) ∙ append-nil (numbers t))
 
-  -- a piece fills the block that waits, and more
+  -- A piece fills the block that is waiting, and more blocks.
   pub filled_numbers : (front rest : List ℕ) → length w + length front ≡ 16 → numbers (p ++ (front ++ rest)) ≡ (numbers p ++ numbers (w ++ front)) ++ numbers (take (length rest / 16 * 16) rest)
   filled_numbers front rest fills =
       let more = take (length rest / 16 * 16) rest in

@@ -17,7 +17,7 @@ use Rattle.modes.proofs.Opening.{chained_is_block}
 use Rattle.modes.proofs.Padding.{pad_octets}
 use Rattle.modes.proofs.Sums.{xor_is_block}
 
--- lists of octets joined are octets
+-- Joined lists of octets are octets.
 pub joined_octets : (f : ℕ → List ℕ) (n a : ℕ) → ((k : ℕ) → k < n → IsOctets (f (a + k))) → IsOctets (concat (map f (range_with_len a n)))
 joined_octets f zero a h = IsOctets-nil
 joined_octets f (suc n) a h =
@@ -25,7 +25,7 @@ joined_octets f (suc n) a h =
     IsOctets-append (f a) (concat (map f (range_with_len (a + 1) n))) (subst (λ k. IsOctets (f k)) start (h 0 (omega arith)))
     (joined_octets f n (a + 1) (λ k l. subst (λ m. IsOctets (f m)) (let e : a + (k + 1) ≡ a + 1 + k = omega arith in e) (h (k + 1) (omega arith))))
 
--- the octets of a number are octets
+-- The bytes of a number are octets.
 bytes_octets : (w : Width) (n : ℕ) → IsOctets (to_be_bytes w n)
 bytes_octets w n = high_first (byte_len w) n
   where
@@ -37,14 +37,14 @@ bytes_octets w n = high_first (byte_len w) n
     high_first zero n = IsOctets-nil
     high_first (suc k) n = first_or (byte_at k n) (bytes_high_first k n) (at k n) (high_first k n)
 
--- the ciphertext of CBC is octets
+-- The ciphertext of CBC is octets.
 pub cbc_octets : (e d : List ℕ → List ℕ) → IsCipher e d → (iv : List ℕ) → IsBlock iv → (p : List ℕ) → IsOctets p → IsOctets (cbc e iv p)
 unfolding cbc cbc_blocks
 cbc_octets e d law iv start p octets =
     joined_octets (chained e iv (pad p)) (length (pad p) / 16) 1
     (λ k l. (chained_is_block e d law iv start (pad p) (pad_octets p octets) (1 + k) (omega arith)).octets)
 
--- a counter block is a block
+-- A counter block is a block.
 counter_is_block : (f : List ℕ) (n : ℕ) → IsBlock f → IsBlock (counter_block f n)
 unfolding counter_block
 counter_is_block f n b =
@@ -54,14 +54,14 @@ counter_is_block f n b =
       octets = IsOctets-append (take 12 f) (to_be_bytes w32 m) (IsOctets-take 12 f b.octets) (bytes_octets w32 m);
     }
 
--- so is the one before the first
+-- The counter block before the first one is a block.
 pre_counter_is_block : (iv : List ℕ) → length iv ≡ 12 → IsOctets iv → IsBlock (pre_counter_block iv)
 pre_counter_is_block iv twelve octets = record {
   sixteen = length-append iv (0 ∷ 0 ∷ 0 ∷ 1 ∷ []) ∙ omega (arith, twelve);
   octets = IsOctets-append iv (0 ∷ 0 ∷ 0 ∷ 1 ∷ []) octets (λ i. search rules);
 }
 
--- octets with a key stream of blocks added are octets
+-- The ciphertext of counter mode is octets.
 ctr_octets : (e : List ℕ → List ℕ) (f p : List ℕ) → ((n : ℕ) → IsBlock (e (counter_block f n))) → IsOctets p → IsOctets (ctr e f p)
 ctr_octets e f p blocks octets i = ⊎_elim
     (λ (l : i < length (ctr e f p)).
@@ -70,19 +70,19 @@ ctr_octets e f p blocks octets i = ⊎_elim
     (λ l. subst (λ v. v < 256) (sym (get_or_past (ctr e f p) i 0 l)) (let z : 0 < 256 = omega arith in z))
     (cases_lt i (length (ctr e f p)))
 
--- the ciphertext of GCM is octets
+-- The ciphertext of GCM is octets.
 pub gcm_ciphertext_octets : (e d : List ℕ → List ℕ) → IsCipher e d → (iv p : List ℕ) → length iv ≡ 12 → IsOctets iv → IsOctets p → IsOctets (gcm_ciphertext e iv p)
 unfolding gcm_ciphertext
 gcm_ciphertext_octets e d law iv p twelve start octets =
     let f = counter_block (pre_counter_block iv) 1 in
     ctr_octets e f p (λ n. law.gives_block _ (counter_is_block f n (counter_is_block (pre_counter_block iv) 1 (pre_counter_is_block iv twelve start)))) octets
 
--- a hash is a block
+-- A hash is a block.
 hash_is_block : (h x : List ℕ) → IsBlock (ghash h x)
 unfolding ghash
 hash_is_block h x = record { sixteen = refl; octets = bytes_octets w128 (ghash_number (from_be_bytes w128 h) (numbers x)) }
 
--- the tag of GCM is octets
+-- The tag of GCM is octets.
 pub gcm_tag_octets : (e d : List ℕ → List ℕ) → IsCipher e d → (iv aad c : List ℕ) → length iv ≡ 12 → IsOctets iv → IsOctets (gcm_tag e iv aad c)
 unfolding gcm_tag
 gcm_tag_octets e d law iv aad c twelve start =

@@ -1,4 +1,4 @@
--- The blocks of CBC and those of its opening determine one another.
+-- The blocks of CBC and those of its opening determine each other.
 use Rattle.std.proofs.Common.{◌≡◌, ◌≢◌, ℕ, zero, suc, ◌+◌, ◌-◌, ◌*◌, ◌/◌, ◌%◌, ◌<◌, ◌≤◌, List, length, take, map, sym, ap, ap₂, subst, ◌∙◌, arith, refl}
 use Rattle.std.specs.List.{range_with_len, concat}
 use Rattle.aes.specs.Block.{IsBlock, IsCipher}
@@ -11,13 +11,13 @@ use Rattle.modes.proofs.Chaining.{blocks_are, blocks_from}
 use Rattle.modes.proofs.Sums.{length-xor, xor_is_block, xor_twice}
 use Rattle.modes.proofs.Padding.{length-pad, pad_octets, pad_ends, pad_is_unique, unpadded}
 
--- a block opens by itself and the one before
+-- The opening of a block depends only on this block and the one before it.
 pub opened_same : (d : List ℕ → List ℕ) (iv b c : List ℕ) (i : ℕ) → ((j : ℕ) → j ≤ i → block b j ≡ block c j) → opened_block d iv b i ≡ opened_block d iv c i
 unfolding opened_block before
 opened_same d iv b c zero same = ap (λ x. xor_octets (d x) iv) (same 0 (omega arith))
 opened_same d iv b c (suc i) same = ap₂ (λ x y. xor_octets (d x) y) (same (suc i) (omega arith)) (same i (omega arith))
 
--- the first by the IV, and each later one by the block before
+-- The first block is opened with the IV, and each later one with the block before it.
 pub opened_first : (d : List ℕ → List ℕ) (iv c : List ℕ) (i : ℕ) → i ≡ 0 → xor_octets (d (block c i)) iv ≡ opened_block d iv c i
 unfolding opened_block before
 opened_first d iv c zero e = refl
@@ -119,7 +119,7 @@ module _ (e d : List ℕ → List ℕ) (law : IsCipher e d) (iv : List ℕ) (sta
     unfolding cbc
     opened_cbc = opens_to (pad p) (pad_octets p small) (suc (length p / 16)) (length-pad p)
 
-    -- the last block of a ciphertext opens to a block that ends in padding
+    -- The last block of a ciphertext opens to a block that ends in padding.
     pub last_is_padded : IsPadded (opened_block d iv (cbc e iv p) (length (cbc e iv p) / 16 - 1)) (16 - length p % 16)
     last_is_padded =
         subst (λ b. IsPadded b (16 - length p % 16))
@@ -132,7 +132,7 @@ module _ (e d : List ℕ → List ℕ) (law : IsCipher e d) (iv : List ℕ) (sta
       pad_is_unique p q (same_chunks 16 (suc (length p / 16)) (pad p) (pad q) (length-pad p) (length-pad q ∙ ap (λ k. 16 * suc k) (sym count))
       (λ i l. sym (opened_cbc p x i l) ∙ ap (λ s. opened_block d iv s i) same ∙ opened_cbc q y i (subst (λ k. i < suc k) count l)))
 
-  -- a ciphertext whose last block opens to one that ends in padding is that of the rest
+  -- If the last block of a ciphertext opens to a block that ends in padding, the ciphertext is that of the text without the padding.
   pub opens : (c : List ℕ) (v : ℕ) → IsOctets c → length c / 16 ≢ 0 → length c % 16 ≡ 0 → IsPadded (opened_block d iv c (length c / 16 - 1)) v
       → cbc e iv (take (length c - v) (opened_blocks d iv c)) ≡ c
   unfolding cbc

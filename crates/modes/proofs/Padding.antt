@@ -6,7 +6,7 @@ use Rattle.octets.specs.Octets.{IsOctets}
 use Rattle.modes.specs.Cbc.{block, pad}
 use Rattle.modes.specs.Code.Opening.{IsPadded}
 
--- how many octets are added
+-- the number of octets that are added
 abbrev pub added : List ℕ → ℕ
 added p = 16 - length p % 16
 
@@ -34,7 +34,7 @@ pad_octets p small i = ⊎_elim
 pub at_block : (q : List ℕ) (k j : ℕ) → j < 16 → slice_index (block q k) j ≡ slice_index q (16 * k + j)
 at_block q k j h = get_or-take 16 (drop (16 * k) q) j 0 h ∙ get_or-drop (16 * k) q j 0
 
--- the last block of a padded text ends in the padding
+-- The last block of a padded text ends in the padding.
 pub pad_ends : (p : List ℕ) → IsPadded (block (pad p) (length p / 16)) (added p)
 pad_ends p = record {
   above = omega arith;
@@ -56,7 +56,7 @@ pad_is_unique p q same =
     one_padding (block (pad q) (length q / 16)) (added p) (added q) (subst (λ k. IsPadded (block (pad q) k) (added p)) blocks (subst (λ x. IsPadded (block x (length p / 16)) (added p)) same (pad_ends p))) (pad_ends q) in
     sym (front p) ∙ ap (take (length p)) same ∙ ap (λ k. take k (pad q)) (let e : length p ≡ length q = omega (arith, blocks, padding) in e) ∙ front q
 
--- a text whose last block ends in padding is the padded form of the rest
+-- A text whose last block ends in padding is the padded form of the text without this padding.
 pub unpadded : (q : List ℕ) (n v : ℕ) → length q ≡ 16 * suc n → IsPadded (block q n) v → pad (take (length q - v) q) ≡ q
 unfolding pad
 unpadded q n v len x =

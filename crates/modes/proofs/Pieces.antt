@@ -1,4 +1,4 @@
--- A text in pieces. Octets that are no whole block yet wait.
+-- A text that comes in pieces. The octets that do not fill a block are waiting.
 use Rattle.std.proofs.Common.{◌≡◌, ℕ, ◌+◌, ◌-◌, ◌*◌, ◌/◌, ◌%◌, ◌<◌, List, ◌++◌, length, take, drop, sym, ap, ◌∙◌, arith, length-append, length-take, length-drop, append_assoc}
 use Rattle.std.proofs.lemmas.List.{drop_at, take_all, take-append-drop}
 
@@ -6,7 +6,7 @@ use Rattle.std.proofs.lemmas.List.{drop_at, take_all, take-append-drop}
 abbrev pub whole_of : List ℕ → List ℕ
 whole_of p = take (16 * (length p / 16)) p
 
--- ---- w waits after the text p; the piece x completes the whole blocks t, and then v waits
+-- ---- w is waiting after the text p; the piece x completes the whole blocks t, and then v is waiting
 
 module _ (p w : List ℕ) (waits : w ≡ drop (16 * (length p / 16)) p) where
   pub length-whole : length (whole_of p) ≡ 16 * (length p / 16)
@@ -36,10 +36,10 @@ module _ (p w : List ℕ) (waits : w ≡ drop (16 * (length p / 16)) p) where
         sym (drop_at (whole_of p ++ t) v (16 * (length (p ++ x) / 16)) (omega (arith, length-append (whole_of p) t, length-whole, whole, together)))
         ∙ ap (drop (16 * (length (p ++ x) / 16))) (append_assoc (whole_of p) t v ∙ sym longer)
 
--- ---- the piece fills the block that waits, and more
+-- ---- the piece fills the block that is waiting, and more
 
 module _ (w front rest : List ℕ) (fills : length w + length front ≡ 16) where
-  -- the block that was filled, the whole blocks after it, and what waits then
+  -- the block that was filled, the whole blocks after it, and the octets that are waiting then
   abbrev pub full : List ℕ
   full = w ++ front
 

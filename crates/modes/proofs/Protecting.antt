@@ -1,4 +1,4 @@
--- GCM: counter mode undoes itself, and what is hashed comes in whole blocks.
+-- GCM: counter mode undoes itself, and the hash is over whole blocks.
 use Rattle.std.proofs.Common.{◌≡◌, ℕ, ◌+◌, ◌-◌, ◌%◌, ◌^◌, ◌<◌, List, [], ◌∷◌, ◌++◌, length, replicate, get_or, bit_xor, w32, refl, sym, ap, ap₂, subst, ◌∙◌, arith, length-append, append_assoc, append-nil, ext_get_or}
 use Rattle.std.specs.Int.{from_be_bytes, to_be_bytes}
 use Rattle.std.proofs.lemmas.List.{take_at, drop_at, length-replicate}
@@ -37,7 +37,7 @@ pub length-gcm_ciphertext : (e : List ℕ → List ℕ) (iv p : List ℕ) → le
 unfolding gcm_ciphertext
 length-gcm_ciphertext e iv p = length-ctr e (counter_block (pre_counter_block iv) 1) [] [] p
 
--- the counter block after J0
+-- The counter block after J0 is the IV with the number 2.
 pub second_counter : (iv : List ℕ) → length iv ≡ 12 → counter_block (pre_counter_block iv) 1 ≡ iv ++ 0 ∷ 0 ∷ 0 ∷ 2 ∷ []
 unfolding counter_block
 second_counter iv twelve =
@@ -63,13 +63,13 @@ filled_behind x y whole =
     let long = length-append x y in
     append_assoc x y _ ∙ ap (λ n. x ++ (y ++ replicate n 0)) (let e : (16 - length (x ++ y) % 16) % 16 ≡ (16 - length y % 16) % 16 = omega (arith, whole, long) in e)
 
--- both lengths behind whole blocks
+-- After whole blocks, both lengths fill a block.
 pub lengths_behind : (x a b : List ℕ) → length a ≡ 8 → length b ≡ 8 → zero_filled ((zero_filled x ++ a) ++ b) ≡ (zero_filled x ++ a) ++ b
 lengths_behind x a b eight other =
     filled_already ((zero_filled x ++ a) ++ b)
     (omega (arith, filled_whole x, length-append (zero_filled x ++ a) b, length-append (zero_filled x) a, eight, other))
 
--- the tag of what was hashed
+-- The tag is the hash of the padded texts and their lengths, plus the mask.
 pub tag_is : (e : List ℕ → List ℕ) (iv aad c a b mask result : List ℕ)
     → result ≡ xor_octets (ghash (e (replicate 16 0)) ((zero_filled (zero_filled aad ++ c) ++ a) ++ b)) mask
     → a ≡ bit_length aad → b ≡ bit_length c → mask ≡ e (pre_counter_block iv) → result ≡ gcm_tag e iv aad c

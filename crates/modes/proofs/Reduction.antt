@@ -1,4 +1,4 @@
--- Products before their reduction, as numbers of 256 bits in two halves, and the one reduction.
+-- Products before their reduction, as numbers of 256 bits in two halves, and the reduction.
 use Rattle.std.proofs.Common.{◌≡◌, ℕ, ◌+◌, ◌*◌, ◌/◌, ◌%◌, ◌^◌, ◌<◌, map, get_or, bit_xor, refl, sym, ap, ap₂, subst, ◌∙◌, arith}
 use Rattle.std.specs.Int.Bits.{xor_comm, xor_zero_r, xor_shifted}
 use Rattle.std.specs.List.{range_with_len}
@@ -12,7 +12,7 @@ use Rattle.modes.proofs.Shifts.{shifts_whole, shifts_linear}
 
 -- ---- the two halves of a number of 256 bits
 
--- a shift to the right by n bits, whose last n come to the other half
+-- In a shift to the right by n bits, the last n bits of one half move to the other half.
 pub right_is : (high low n m : ℕ) → n + m ≡ 128 → low < 2 ^ 128
     → high / 2 ^ n * 2 ^ 128 + bit_xor (low / 2 ^ n) (high * 2 ^ m % 2 ^ 128) ≡ (high * 2 ^ 128 + low) / 2 ^ n
 right_is high low n m e s =
@@ -41,11 +41,11 @@ right_is high low n m e s =
         ∙ sym (add-mul (high / 2 ^ n * 2 ^ n) (high % 2 ^ n) (2 ^ m))
         ∙ ap (λ a. a * 2 ^ m) (shr_split high n)
 
--- the sum of two
+-- The sum of two numbers is the sum of their halves.
 pub sum_is : (a b c d : ℕ) → b < 2 ^ 128 → d < 2 ^ 128 → bit_xor a c * 2 ^ 128 + bit_xor b d ≡ bit_xor (a * 2 ^ 128 + b) (c * 2 ^ 128 + d)
 sum_is a b c d s t = sym (xor_block 128 a c b d s t)
 
--- two multiples, the second 64 bits on
+-- Two multiples are added, the second of which is 64 bits further on.
 pub step_is : (front back : ℕ) → bit_xor front (back / 2 ^ 64) * 2 ^ 128 + back * 2 ^ 64 % 2 ^ 128 ≡ bit_xor (front * 2 ^ 128) (back * 2 ^ 64)
 step_is front back =
     ap (λ b. bit_xor front (back / 2 ^ 64) * 2 ^ 128 + b) (sym (xor_comm 0 (back * 2 ^ 64 % 2 ^ 128) ∙ xor_zero_r (back * 2 ^ 64 % 2 ^ 128)))
@@ -54,19 +54,19 @@ step_is front back =
 
 -- ---- the reduction
 
--- to the left by k bits
+-- a shift to the left by k bits
 abbrev left : ℕ → ℕ → ℕ
 left k v = v * 2 ^ k % 2 ^ 128
 
--- the terms from x ^ 128 on, with those that come there once more
+-- the terms from x ^ 128 on, and those that reduction adds to them
 abbrev pub past : ℕ → ℕ
 past v = bit_xor (bit_xor (bit_xor v (left 127 v)) (left 126 v)) (left 121 v)
 
--- x ^ 128 as 1 + x + x ^ 2 + x ^ 7
+-- the reduction, in which x ^ 128 is 1 + x + x ^ 2 + x ^ 7
 abbrev pub folded : ℕ → ℕ
 folded v = bit_xor (bit_xor (bit_xor v (v / 2 ^ 1)) (v / 2 ^ 2)) (v / 2 ^ 7)
 
--- 128 steps of one bit and the code's reduction agree at each power of x
+-- At each power of x, 128 steps of one bit and the reduction of the code agree.
 powers_folded : map (λ i. shifts (2 ^ i) 128) (range_with_len 0 128) ≡ map (λ i. folded (past (2 ^ i))) (range_with_len 0 128)
 unfolding shifted shifts
 powers_folded = refl
@@ -77,7 +77,7 @@ power_folded i l =
     ∙ ap (λ xs. get_or xs i 0) powers_folded
     ∙ get_or-map-range_with_len (λ i. folded (past (2 ^ i))) 0 128 i i 0 l (omega arith)
 
--- the sum of f and g is linear if both are
+-- The sum of two linear functions is linear.
 both_linear : (f g : ℕ → ℕ) → IsLinear f → IsLinear g → IsLinear (λ v. bit_xor (f v) (g v))
 both_linear f g is_f is_g a b = ap₂ bit_xor (is_f a b) (is_g a b) ∙ xor_swap (f a) (f b) (g a) (g b)
 
@@ -97,7 +97,7 @@ module _ (laws : PolynomialLaws) where
       (both_linear (λ v. bit_xor v (left 127 v)) (left 126) (both_linear (λ v. v) (left 127) (λ a b. refl) (left_linear 127)) (left_linear 126))
       (left_linear 121)
 
-  -- the code's reduction
+  -- The code reduces a number as 128 steps of one bit do.
   pub reduced_is : (high low : ℕ) → low < 2 ^ 128 → bit_xor high (folded (past low)) ≡ shifts (high * 2 ^ 128 + low) 128
   reduced_is high low s = sym (
       ap (λ v. shifts v 128) (sym (xor_shifted high 128 low s))

@@ -1,4 +1,4 @@
--- A block times x ^ n, by steps of one bit.
+-- A block times x ^ n, in steps of one bit.
 use Rattle.std.proofs.Common.{◌≡◌, ℕ, zero, suc, ◌+◌, ◌*◌, ◌/◌, ◌%◌, ◌^◌, bit_xor, refl, sym, ap, ap₂, ◌∙◌, arith, zero-mul, mul-one}
 use Rattle.std.specs.Int.Bits.{xor_zero_r}
 use Rattle.std.proofs.Math.Nat.{mul_assoc, pow-succ'}
@@ -19,14 +19,14 @@ unfolding shifts
 shifts_plus v m zero = ap (shifts v) (let e : m ≡ m + 0 = omega arith in e)
 shifts_plus v m (suc n) = ap shifted (shifts_plus v m n) ∙ ap (shifts v) (let e : suc (m + n) ≡ m + suc n = omega arith in e)
 
--- in either order
+-- The order of two shifts does not matter.
 pub shifts_turned : (v m n : ℕ) → shifts (shifts v m) n ≡ shifts (shifts v n) m
 shifts_turned v m n = shifts_plus v m n ∙ ap (shifts v) (let e : m + n ≡ n + m = omega arith in e) ∙ sym (shifts_plus v n m)
 
 pub power_more : (v k : ℕ) → v * 2 ^ suc k ≡ v * 2 * 2 ^ k
 power_more v k = ap (λ p. v * p) (pow-succ' 2 k) ∙ sym (mul_assoc v 2 (2 ^ k))
 
--- where the last k bits are 0, no bit is shifted out
+-- If the last k bits are 0, no bit is shifted out.
 pub shifts_whole : (v k : ℕ) → shifts (v * 2 ^ k) k ≡ v
 unfolding shifts
 shifts_whole v zero = mul-one v
@@ -35,11 +35,11 @@ shifts_whole v (suc k) =
     ∙ ap shifted (shifts_whole (v * 2) k)
     ∙ shifted_double v
 
--- where only some are 0, those are the first to go
+-- If more than k bits are shifted, the k zeros are shifted out first.
 pub shifts_part : (v k n : ℕ) → shifts (v * 2 ^ k) (k + n) ≡ shifts v n
 shifts_part v k n = sym (shifts_plus (v * 2 ^ k) k n) ∙ ap (λ w. shifts w n) (shifts_whole v k)
 
--- a shift that loses no bit, before the others and after them
+-- A shift that loses no bit may come before the other shifts or after them.
 pub shifts_quotient : (v k n : ℕ) → v % 2 ^ k ≡ 0 → shifts (v / 2 ^ k) n ≡ shifts (shifts v n) k
 shifts_quotient v k n e =
     let whole : v / 2 ^ k * 2 ^ k ≡ v = omega (arith, shr_split v k, e) in
@@ -48,7 +48,7 @@ shifts_quotient v k n e =
     ∙ sym (shifts_plus v k n)
     ∙ shifts_turned v k n
 
--- a sum goes to the sum
+-- The shift of a sum is the sum of the shifts.
 module _ (laws : PolynomialLaws) where
   pub shifts_linear : (n : ℕ) → IsLinear (λ v. shifts v n)
   unfolding shifts

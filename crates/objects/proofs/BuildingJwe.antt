@@ -1,4 +1,4 @@
--- An encrypted object is made of members, or refused, as their JSON text is read.
+-- Building an encrypted object of members has the same result as reading their JSON text: the same object, or the same refusal.
 use Rattle.std.proofs.Common.{◌≡◌, ◌≤◌, ℕ, List, [], ◌∷◌, length, map, codes, Bool, true, false, nat_le, Option, Result, Ok, Err, inl, inr, refl, sym, ap, ◌∙◌, subst, true≢false, arith}
 use Rattle.std.proofs.lemmas.Bool.{cases_lt, le-leb, and_from}
 use Rattle.std.proofs.lemmas.List.{length-map}
@@ -22,11 +22,11 @@ use Rattle.objects.proofs.ReadJson.{IsShallow, header_shallow}
 use Rattle.objects.proofs.Spelling.{object_form, object_value}
 use Rattle.objects.proofs.SpellingJwe.{entries, unprotected_found, texts_read, no_texts_read, recipient_spelled, parts_spelled, decoding, decoding_is, members_json, object_json}
 
--- the value of the JSON text
+-- the members of the JSON text
 abbrev members_of : Bool → JweParts → Members
 members_of detach parts = put_all (entries detach (parts_spelled parts))
 
--- a text is read by its value
+-- If the JSON text reads as its own value, the object is read from this value.
 read_value : (limits : Limits) (detached : Option (List ℕ)) (ms : Members) (r : Result EncodedJwe Refusal) → json_value (compact_text (object ms)) ≡ Ok (object ms) → encoded_in_json detached (object ms) ≡ r
     → jwe_of limits detached (compact_text (object ms)) ≡ (r >>= decoded_object limits)
 unfolding jwe_of encoded_jwe
@@ -36,11 +36,11 @@ refuse_value : (limits : Limits) (detached : Option (List ℕ)) (ms : Members) �
 unfolding jwe_of encoded_jwe
 refuse_value limits detached ms value = rw (object_form ms, value) refl
 
--- there are texts of recipients where there are recipients
+-- If there are recipients, their texts are there.
 some_texts : (parts : JweParts) → nat_le 1 (length parts.recipients) ≡ true → nat_le 1 (length (parts_spelled parts).recipients) ≡ true
 some_texts parts some = ap (nat_le 1) (length-map parts.recipients recipient_spelled) ∙ some
 
--- ---- where no header is too deep
+-- ---- if no header is too deep
 
 built_shallow : (limits : Limits) (parts : JweParts) → AreMembers parts → headers_are_shallow parts ≡ true → built limits parts ≡ (needs (nat_le 1 (length parts.recipients)) Form >>= λ some. decoding limits parts)
 unfolding built
@@ -66,9 +66,9 @@ read_shallow limits parts members shallow detach b some =
         read_value limits (handed_in detach parts.ciphertext) (members_of detach parts) (Err Form) value (no_texts_read detach parts.ciphertext (parts_spelled parts) (ap (map recipient_spelled) is))
     by_count false (r ∷ rs) is some value = absurd (true≢false (sym (le-leb 1 (length (r ∷ rs)) (omega arith)) ∙ ap (λ l. nat_le 1 (length l)) (sym is) ∙ some))
 
--- ---- where one is
+-- ---- if a header is too deep
 
--- what nests at most as deep as a text may has no header that is too deep
+-- If the whole value nests at most as deep as a text may, no header is too deep.
 recipients_nest : (parts : JweParts) → AreMembers parts → (detach : Bool) → IsShallow 127 (object (members_of detach parts)) → (rs : List RecipientParts) → parts.recipients ≡ rs
     → nest_at_most (depth_of_each (length parts.recipients)) parts.recipients ≡ true
 recipients_nest parts members detach value [] is = ap (λ l. nest_at_most (depth_of_each (length l)) l) is
@@ -114,7 +114,7 @@ building_is_reading limits parts members detach =
 
 -- ---- the text itself
 
--- what is read of it is the value of its members, or nothing
+-- If the JSON text reads as a value, the text is the compact text of this value.
 read_as_written : (detach : Bool) (parts : JweParts) → AreMembers parts → (value : Data) → json_value (compact_text (object (members_of detach parts))) ≡ Ok value
     → compact_text (object (members_of detach parts)) ≡ compact_text value
 read_as_written detach parts members value read =

@@ -11,7 +11,7 @@ use Rattle.objects.specs.Texts.{has_members}
 use Rattle.objects.proofs.ExactJwe as exact_jwe
 use Rattle.objects.proofs.ExactJws as exact_jws
 
--- a text that is refused unless a test passes is there exactly if P holds, which the test decides
+-- If a test decides P, a text that needs this test is there exactly if P holds, and is refused otherwise.
 decided : (fits : Bool) (P : Type 0) (text : List ℕ) → (fits ≡ true → P) → (P → fits ≡ true)
     → (HasText (needs fits NotCompact >>= λ _. Ok text) ↔ P) × (¬ P → (needs fits NotCompact >>= λ _. Ok text) ≡ Err NotCompact)
 decided true P text so is = ((λ there. so refl, λ p. (text, refl)), λ none. absurd (none (so refl)))

@@ -1,4 +1,4 @@
--- Texts between dots: joined they are split again as they were, and what a text is split into is joined to the text.
+-- Splitting a text at its dots and joining parts with dots undo each other.
 use Rattle.std.proofs.Common.{◌≡◌, ℕ, ◌+◌, List, [], ◌∷◌, ◌++◌, length, take, drop, Bool, true, false, cond, position, Some, None, Ok, refl, sym, ap, ◌∙◌, arith}
 use Rattle.std.proofs.Math.Seq.{take-append_seam, drop-append-add}
 use Rattle.std.proofs.lemmas.Bool.{eqb-true}
@@ -24,7 +24,7 @@ pub all_no_dot : (xs : List ℕ) → IsUrlText xs → HasNoDot xs
 all_no_dot [] h = tt
 all_no_dot (x ∷ xs) h = (no_dot_by x (is_dot x) refl h.0, all_no_dot xs h.1)
 
--- ---- where the first dot stands
+-- ---- the place of the first dot
 
 from_zero : (xs : List ℕ) → position is_dot xs ≡ position_from is_dot 0 xs
 from_zero xs = position_from-zero is_dot xs

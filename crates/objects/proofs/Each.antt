@@ -1,4 +1,4 @@
--- Lists whose elements are read one after another, and the lists that they are seen as.
+-- Lists whose elements are read one after another, and lists that are views of others.
 use Rattle.std.proofs.Common.{◌≡◌, ℕ, suc, List, [], ◌∷◌, ◌++◌, length, map, Result, Ok, Err, refl, sym, ap, ◌∙◌, append_assoc, arith}
 use Rattle.std.proofs.lemmas.List.{append-nil, length-map, map-append}
 use Rattle.std.proofs.lemmas.List.Folds.{list_all-map}
@@ -6,7 +6,7 @@ use Rattle.octets.specs.declared.refusal.Refusal.{Refusal}
 use Rattle.octets.specs.Outcomes.{◌>>=◌}
 use Rattle.objects.specs.Texts.{each}
 
--- the results so far, and then those of reading the rest
+-- the results so far, followed by those of reading the rest
 abbrev pub with_done : {X Y : Type 0} → (X → Result Y Refusal) → List Y → List X → Result (List Y) Refusal
 with_done read done rest = each read rest >>= λ others. Ok (done ++ others)
 
@@ -30,7 +30,7 @@ pub with_one_refused : {X Y : Type 0} (read : X → Result Y Refusal) (done : Li
     → read x ≡ Err e → with_done read done (x ∷ rest) ≡ Err e
 with_one_refused read done x rest e is = rw is refl
 
--- one more is read, in lists that are seen as others
+-- One more element is read, in lists that are views of others.
 pub one_more : {A B X Y : Type 0} (read : X → Result Y Refusal) (given : A → X) (made : B → Y) (all : Result (List Y) Refusal) (done all_done : List B) (a : A) (left rest : List A) (b : B)
     → all ≡ with_done read (map made done) (map given left) → left ≡ a ∷ rest → read (given a) ≡ Ok (made b) → all_done ≡ done ++ b ∷ []
     → all ≡ with_done read (map made all_done) (map given rest)
@@ -38,7 +38,7 @@ one_more read given made all done all_done a left rest b so_far is reads more =
     so_far ∙ ap (λ l. with_done read (map made done) (map given l)) is ∙ with_one_more read (map made done) (given a) (map given rest) (made b) reads
     ∙ ap (λ d. with_done read d (map given rest)) (sym (map-append made done (b ∷ [])) ∙ ap (map made) (sym more))
 
--- there are as many results as elements
+-- There are as many results as elements.
 pub as_many : {X Y : Type 0} (read : X → Result Y Refusal) (xs : List X) (ys : List Y) → each read xs ≡ Ok ys → length ys ≡ length xs
 as_many read [] ys h = none ys h
   where
@@ -54,18 +54,18 @@ as_many read (x ∷ xs) ys h = many_by (read x) (each read xs) h (as_many read x
     many_by (Ok f) (Err r) h later = cc h
     many_by (Err r) others h later = cc h
 
--- the same for lists that are seen as others
+-- For views of lists, too, there are as many results as elements.
 pub as_many_views : {A B X Y : Type 0} (read : X → Result Y Refusal) (given : A → X) (made : B → Y) (xs : List A) (ys : List B) → each read (map given xs) ≡ Ok (map made ys) → length ys ≡ length xs
 as_many_views read given made xs ys h = sym (length-map ys made) ∙ as_many read (map given xs) (map made ys) h ∙ length-map xs given
 
--- when none are left, there are as many results as elements
+-- If no element is left, there are as many results as elements.
 pub as_many_done : {A B X Y : Type 0} (read : X → Result Y Refusal) (given : A → X) (made : B → Y) (xs left : List A) (ys : List B)
     → each read (map given xs) ≡ with_done read (map made ys) (map given left) → length left ≡ 0 → length ys ≡ length xs
 as_many_done read given made xs [] ys so_far none = as_many_views read given made xs ys (so_far ∙ ap Ok (append-nil (map made ys)))
 as_many_done read given made xs (a ∷ left) ys so_far none = absurd (omega (arith, none))
 
--- for a loop that reads one element after another
+-- rules for a loop that reads one element after another
 pub ruleset reading = (with_none_done, one_more, with_one_refused, as_many_done)
 
--- a test of each, seen by a view
+-- rules for a test of each element, seen by a view
 pub ruleset views = (list_all-map, length-map)

@@ -1,4 +1,4 @@
--- A compact text of an encrypted object that is read is the compact text of the object, except for a line end.
+-- If an encrypted object is read from a compact text, this text without its line end is the compact text of the object.
 use Rattle.std.proofs.Common.{◌≡◌, ℕ, List, [], ◌∷◌, ◌++◌, length, Bool, true, map, Option, Ok, is_some, refl, sym, ap, ◌∙◌, subst}
 use Rattle.std.specs.List.{AllByRecursion}
 use Rattle.octets.specs.declared.refusal.Refusal.TheVariants.{Limit}
@@ -18,7 +18,7 @@ use Rattle.objects.proofs.MadeJwe.{IsRecipient, AreSpelled, compact, compact_are
 use Rattle.objects.proofs.MadeOf.{object_is}
 use Rattle.objects.proofs.TextOctets.{text_is}
 
--- the texts of the parts of a compact text: those of one recipient, only a protected header, and the part from which the ciphertext is read
+-- the texts of a compact text: one recipient, only a protected header, and the part from which the ciphertext is read
 pub record IsCompact (detached : Option (List ℕ)) (text : List ℕ) (t : EncodedJwe) : Type 0 where
   pub unprotected : t.shared.unprotected ≡ no_members
   pub aad : t.shared.aad ≡ []
@@ -30,7 +30,7 @@ pub record IsCompact (detached : Option (List ℕ)) (text : List ℕ) (t : Encod
   pub ciphertext : content_by detached part ≡ Ok t.content.ciphertext
   pub between_dots : text ≡ t.shared.protected ++ 46 ∷ (recipient.encrypted_key ++ 46 ∷ (t.content.iv ++ 46 ∷ (part ++ 46 ∷ t.content.tag)))
 
--- so they are if the text is these parts joined
+-- The texts are those of a compact text, if the text is their parts joined.
 of_parts : (detached : Option (List ℕ)) (text protected key iv part ciphertext tag : List ℕ) → IsOctets part → content_by detached part ≡ Ok ciphertext
     → text ≡ protected ++ 46 ∷ (key ++ 46 ∷ (iv ++ 46 ∷ (part ++ 46 ∷ tag))) → IsCompact detached text (compact protected key iv ciphertext tag)
 of_parts detached text protected key iv part ciphertext tag octets read whole = record {
@@ -45,7 +45,7 @@ of_parts detached text protected key iv part ciphertext tag octets read whole = 
   between_dots = whole;
 }
 
--- a text that is split in five is its parts with dots between them
+-- A text that is split into five parts is these parts with dots between them.
 joined_of_five : (text : List ℕ) (first second : List ℕ × List ℕ) (others : List ℕ × List ℕ × List ℕ) → split_at_dot text ≡ Ok first → split_at_dot first.1 ≡ Ok second
     → three_parts second.1 ≡ Ok others → text ≡ first.0 ++ 46 ∷ (second.0 ++ 46 ∷ (others.0 ++ 46 ∷ (others.1 ++ 46 ∷ others.2)))
 joined_of_five text first second others a b c =
@@ -65,7 +65,7 @@ texts_of_compact detached text t octets h =
     subst (IsCompact detached text) {x = texts} (same_answer texts t d.2)
     (of_parts detached text a.0.0 b.0.0 c.0.0 c.0.1 d.0 c.0.2 others.1 d.1 (joined_of_five text a.0 b.0 c.0 a.1 b.1 c.1))
 
--- an object that is read has the members that its texts spell
+-- An object that is read has the members that its texts spell.
 object_spelled : (limits : Limits) (t : EncodedJwe) (o : EncryptedObject) → decoded_object limits t ≡ Ok o → AreSpelled t (parts_of o)
 unfolding decoded_object
 object_spelled limits t o h =
@@ -74,7 +74,7 @@ object_spelled limits t o h =
     let c = steps (decoded_members t) _ o b.2 in
     parts_spelled t (parts_of o) (c.1 ∙ ap Ok (sym (object_is limits.management b.0 c.0 o c.2)))
 
--- a compact text can hold one recipient without a header, if nothing is shared that is not protected
+-- An object has a compact text if it has one recipient without a header, and no shared header and no additional data.
 pub compact_text_is : (detach : Bool) (o : EncryptedObject) (r : RecipientParts) → map recipient_parts_of o.recipients ≡ r ∷ [] → o.unprotected ≡ no_members → r.header ≡ no_members → o.aad ≡ []
     → jwe_compact_text detach o ≡ Ok (o.protected ++ 46 ∷ (base64url r.encrypted_key ++ 46 ∷ (base64url o.iv ++ 46 ∷ (kept detach (base64url o.ciphertext) ++ 46 ∷ base64url o.tag))))
 unfolding jwe_compact_text
@@ -85,7 +85,7 @@ compact_text_is detach o r alone unprotected header aad =
     let fits : is_compact o o.recipients ≡ true = rw (one.1, unprotected, no_header, aad) refl in
     rw fits (ap Ok (ap (λ key. o.protected ++ 46 ∷ (base64url key ++ 46 ∷ (base64url o.iv ++ 46 ∷ (kept detach (base64url o.ciphertext) ++ 46 ∷ base64url o.tag)))) key))
 
--- its parts with dots between them are that text
+-- The parts with dots between them are this text.
 joined_is : (a b c d e part : List ℕ) (o : EncryptedObject) (r : RecipientParts) → o.protected ≡ a → b ≡ base64url r.encrypted_key → c ≡ base64url o.iv → d ≡ part → e ≡ base64url o.tag
     → o.protected ++ 46 ∷ (base64url r.encrypted_key ++ 46 ∷ (base64url o.iv ++ 46 ∷ (part ++ 46 ∷ base64url o.tag))) ≡ a ++ 46 ∷ (b ++ 46 ∷ (c ++ 46 ∷ (d ++ 46 ∷ e)))
 joined_is a b c d e part o r protected key iv same tag = rw (protected, key, iv, same, tag) refl

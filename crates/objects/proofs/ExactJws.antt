@@ -1,4 +1,4 @@
--- A compact text of a signed object that is read is the compact text of the object, except for a line end.
+-- If a signed object is read from a compact text, this text without its line end is the compact text of the object.
 use Rattle.std.proofs.Common.{◌≡◌, ℕ, List, [], ◌∷◌, ◌++◌, length, Bool, map, Option, Ok, is_some, refl, sym, ap, ◌∙◌, subst}
 use Rattle.std.specs.List.{AllByRecursion}
 use Rattle.octets.specs.declared.refusal.Refusal.TheVariants.{Limit}
@@ -18,7 +18,7 @@ use Rattle.objects.proofs.MadeOf.{signed_is}
 use Rattle.octets.proofs.Lemmas.{steps, same_answer}
 use Rattle.objects.proofs.TextOctets.{text_is}
 
--- the texts of the parts of a compact text: those of one signature without an unprotected header, and the part from which the payload is read
+-- the texts of a compact text: one signature without an unprotected header, and the part from which the payload is read
 pub record IsCompact (detached : Option (List ℕ)) (text : List ℕ) (t : EncodedJws) : Type 0 where
   pub signature : EncodedSignature
   pub alone : t.signatures ≡ signature ∷ []
@@ -44,7 +44,7 @@ texts_of_compact detached text t octets h =
       between_dots = joined_of_three text a.0 a.1;
     })
 
--- an object that is read has the payload and the signatures that its texts spell
+-- the object has the payload and the signatures that its texts spell
 pub record IsSpelled (t : EncodedJws) (o : SignedObject) : Type 0 where
   pub payload : decoded t.payload ≡ Ok o.payload
   pub decoded_signatures : List DecodedSignature
@@ -60,7 +60,7 @@ object_spelled limits t o h =
     let is = signed_is limits.management b.0 c.0 o c.2 in
     record { payload = b.1 ∙ ap Ok (sym is.payload); decoded_signatures = c.0; decodes = c.1; signatures = is.signatures }
 
--- a compact text can hold one signature without an unprotected header
+-- An object has a compact text if it has one signature without an unprotected header.
 pub compact_text_is : (detach : Bool) (o : SignedObject) (s : SignatureParts) → map signature_parts_of o.signatures ≡ s ∷ [] → s.header ≡ no_members
     → jws_compact_text detach o ≡ Ok (s.protected ++ 46 ∷ (kept detach (base64url o.payload) ++ 46 ∷ base64url s.signature))
 unfolding jws_compact_text
@@ -70,7 +70,7 @@ compact_text_is detach o s alone header =
     rw (one.1, no_header)
     (ap Ok (ap (λ s. compact_parts detach o.payload (s ∷ [])) one.2))
 
--- its parts with dots between them are that text
+-- The parts with dots between them are this text.
 joined_is : (a b c part : List ℕ) (s : SignatureParts) → s.protected ≡ a → b ≡ part → c ≡ base64url s.signature → s.protected ++ 46 ∷ (part ++ 46 ∷ base64url s.signature) ≡ a ++ 46 ∷ (b ++ 46 ∷ c)
 joined_is a b c part s protected same signature = rw (protected, same, signature) refl
 

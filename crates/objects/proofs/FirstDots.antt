@@ -1,4 +1,4 @@
--- Dots that are found by lanes, and octets at the front of a text that are no dots.
+-- Finding dots with lanes, and octets at the front of a text that are not dots.
 use Rattle.std.proofs.Common.{◌≡◌, ℕ, zero, suc, ◌+◌, ◌-◌, ◌*◌, ◌≤◌, nat_eq, nat_lt, Bool, true, false, not, cond, List, [], ◌∷◌, ◌++◌, map, length, take, drop, position, Some, None, option_map, refl, sym, ap, ◌∙◌, subst, arith, length-drop}
 use Rattle.std.proofs.lemmas.Bool.{ltb-true, ltb-false, lt-ltb, le-ltb}
 use Rattle.std.proofs.lemmas.List.{take-append-drop, take_all}
@@ -6,7 +6,7 @@ use Rattle.std.proofs.lemmas.List.Sums.{prefix_len-le-length}
 use Rattle.std.specs.List.{prefix_len, position_or_len}
 use lib.Lanes.{mask_l}
 
--- some bit of a mask is set if some lane passes
+-- A mask has a bit that is set exactly if some lane passes.
 pub some_set : {X : Type 0} (p : X → Bool) (xs : List X) → not (nat_eq (mask_l (map p xs)) 0) ≡ nat_lt (position_or_len p xs) (length xs)
 some_set p [] = refl
 some_set p (x ∷ xs) = by_first (p x) (mask_l (map p xs)) (position_or_len p xs) (length xs) (some_set p xs)
@@ -15,7 +15,7 @@ some_set p (x ∷ xs) = by_first (p x) (mask_l (map p xs)) (position_or_len p xs
     by_first true mask at n rest = grind arith
     by_first false mask at n rest = grind (arith, rest)
 
--- what passes at the front of a list passes at the front of a longer one
+-- The elements that pass at the front of a list also pass at the front of a longer list.
 front_passes : {X : Type 0} (p : X → Bool) (xs ys : List X) → prefix_len p xs ≤ prefix_len p (xs ++ ys)
 front_passes p [] ys = omega arith
 front_passes p (x ∷ xs) ys = by_first (p x) (front_passes p xs ys)
@@ -24,7 +24,7 @@ front_passes p (x ∷ xs) ys = by_first (p x) (front_passes p xs ys)
     by_first true le = omega (arith, le)
     by_first false le = omega arith
 
--- if the first n pass, the front that passes is these and the front of the rest that passes
+-- If the first n elements pass, all that pass at the front are these and those that pass at the front of the rest.
 pub passed_on : {X : Type 0} (p : X → Bool) (xs : List X) (n : ℕ) → n ≤ prefix_len p xs → prefix_len p xs ≡ n + prefix_len p (drop n xs)
 passed_on p xs zero le = omega arith
 passed_on p [] (suc n) le = absurd (omega (arith, le))
@@ -35,14 +35,14 @@ passed_on p (x ∷ xs) (suc n) le = by_first (p x) (passed_on p xs n) le
     by_first true rest le = let later = rest (omega (arith, le)) in omega (arith, later)
     by_first false rest le = absurd (omega (arith, le))
 
--- the same with a block of k after them, all of which pass
+-- If the next k elements also pass, the first n + k do.
 pub block_passed : {X : Type 0} (p : X → Bool) (xs : List X) (n k : ℕ) → n ≤ prefix_len p xs → k ≤ prefix_len p (take k (drop n xs)) → n + k ≤ prefix_len p xs
 block_passed p xs n k le block =
     let more : prefix_len p (take k (drop n xs)) ≤ prefix_len p (drop n xs) =
     subst (λ l. prefix_len p (take k (drop n xs)) ≤ prefix_len p l) (take-append-drop k (drop n xs)) (front_passes p (take k (drop n xs)) (drop k (drop n xs))) in
     omega (arith, passed_on p xs n le, block, more)
 
--- if none is among the first n, the first in the rest is the first of all
+-- If none of the first n elements passes, the first one that passes is the first one of the rest.
 pub found_behind : {X : Type 0} (p : X → Bool) (xs : List X) (n : ℕ) → n ≤ position_or_len p xs → position p xs ≡ option_map (λ i. n + i) (position p (drop n xs))
 found_behind p xs n le =
     let at : position_or_len p xs ≡ n + position_or_len p (drop n xs) = passed_on (λ x. not (p x)) xs n le in
@@ -59,11 +59,11 @@ found_behind p xs n le =
         let more = ltb-false _ _ is in
         rw (le-ltb (position_or_len p xs) (length xs) (omega (arith, at, long, most, more))) refl
 
--- the same with the rest as a part of the list
+-- The rest may also be written as a part of the list.
 pub found_in_rest : {X : Type 0} (p : X → Bool) (xs : List X) (n : ℕ) → n ≤ position_or_len p xs → position p xs ≡ option_map (λ i. n + i) (position p (take (length xs - n) (drop n xs)))
 found_in_rest p xs n le =
     found_behind p xs n le ∙ ap (λ rest. option_map (λ i. n + i) (position p rest)) (sym (take_all (length xs - n) (drop n xs) (omega (arith, length-drop n xs))))
 
--- the first n are in the list
+-- The first n elements are within the list.
 pub known_within : {X : Type 0} (p : X → Bool) (xs : List X) (n : ℕ) → n ≤ position_or_len p xs → n ≤ length xs
 known_within p xs n le = omega (arith, le, prefix_len-le-length (λ x. not (p x)) xs)

@@ -1,4 +1,4 @@
--- The text of a signed object whose payload is detached is read alike with every payload.
+-- The text of a signed object with a detached payload is read the same with every payload.
 use Rattle.std.proofs.Common.{◌≡◌, ℕ, List, [], ◌∷◌, Bool, true, false, not, if◌then◌else◌, codes, length, Some, Result, Ok, Err, refl, sym, ap, ◌∙◌}
 use Rattle.serde_json.specs.Data.{Data, Items, no_members}
 use Rattle.octets.specs.declared.refusal.Refusal.{Refusal}
@@ -14,9 +14,9 @@ use Rattle.objects.specs.HandedIn.{PayloadIsHandedIn, with_payload}
 use Rattle.objects.specs.Jws.{EncodedSignature, EncodedJws, Signature, DecodedSignature, SignedObject, encoded_signature, signature_objects, encoded_in_json, encoded_in_compact, encoded_jws, decoded_signature, signatures_of, signed_object, decoded_object, jws_of}
 use Rattle.objects.specs.Texts.{each, each_item, is_json_form, three_parts, text_at, content_by, has_text}
 
--- ---- the members of a text, but for the content
+-- ---- the members of a text, except the content
 
--- of a JSON text, by its own text of the content and by its list of signatures
+-- the signatures of a JSON text, which has no text of a content of its own
 abbrev listed : Result (List ℕ) Refusal → Result Items Refusal → Result (List EncodedSignature) Refusal
 listed own objects = do
   text ← own
@@ -34,7 +34,7 @@ abbrev signatures_in : Bool → List ℕ → Result (List EncodedSignature) Refu
 signatures_in json text =
     if json then (json_value text >>= λ value. listed (text_at (codes "payload") value) (signature_objects value)) else in_parts (three_parts (without_line_end text))
 
--- with the text of a content beside them
+-- the texts of an object: the text of the content and the signatures
 abbrev beside : List ℕ → Result (List EncodedSignature) Refusal → Result EncodedJws Refusal
 beside content signatures = signatures >>= λ list. Ok (record { payload = base64url content; signatures = list })
 
@@ -79,7 +79,7 @@ in_text content text = by_form (is_json_form text)
 
 -- ---- the object
 
--- by the signatures
+-- the object that is made of the signatures
 abbrev of_list : Limits → List ℕ → List EncodedSignature → Result SignedObject Refusal
 of_list limits content list = do
   few ← needs (are_few limits (length list)) Limit
@@ -103,7 +103,7 @@ unfolding jws_of
 by_list limits content text is =
     ap (λ texts. texts >>= decoded_object limits) (in_text content text) ∙ jws_list limits content (signatures_in (is_json_form text) text) is
 
--- its payload alone differs
+-- With another payload, the object differs only in its payload.
 other_payload : (limits : Limits) (content : List ℕ) (list : Result (List EncodedSignature) Refusal)
     → (list >>= of_list limits content) ≡ ((list >>= of_list limits []) >>= λ o. Ok (with_payload content o))
 unfolding signed_object

@@ -1,4 +1,4 @@
--- A text that is split at dots is its parts with dots between them, which are octets as it is.
+-- A text that is split at dots is its parts with dots between them. If the text is octets, so are the parts.
 use Rattle.std.proofs.Common.{◌≡◌, ℕ, suc, ◌+◌, ◌-◌, ◌==◌, List, [], ◌∷◌, ◌++◌, length, slice_index, take, drop, Bool, true, false, cond, position, Option, Some, None, Result, Ok, is_none, refl, sym, ap, ◌∙◌, arith, add-one, subst}
 use Rattle.std.proofs.lemmas.Bool.{cond_both, eqb-true}
 use Rattle.std.proofs.lemmas.Iterator.Adapters.{position_from-zero}
@@ -13,7 +13,7 @@ use Rattle.objects.specs.Texts.{is_dot, parts_at, split_at_dot, three_parts}
 
 -- ---- one dot
 
--- where a dot is found, the list is what stands before it, the dot, and what stands after it
+-- If a dot is found, the list is the part before it, the dot, and the part after it.
 found_by : (b : Bool) (x : ℕ) (xs : List ℕ) (k n : ℕ) → is_dot x ≡ b → cond b (Some k) (position_from is_dot (k + 1) xs) ≡ Some n
     → (position_from is_dot (k + 1) xs ≡ Some n → (j : ℕ) × (n ≡ k + 1 + j) × (xs ≡ take j xs ++ 46 ∷ drop (j + 1) xs))
     → (j : ℕ) × (n ≡ k + j) × (x ∷ xs ≡ take j (x ∷ xs) ++ 46 ∷ drop (j + 1) (x ∷ xs))
@@ -64,7 +64,7 @@ joined_of_three text parts h =
 around_dot : (a b : List ℕ) → IsOctets (a ++ 46 ∷ b) → IsOctets a × IsOctets b
 around_dot a b h = (IsOctets-front a (46 ∷ b) h, λ i. IsOctets-back a (46 ∷ b) h (suc i))
 
--- the parts of octets are octets
+-- The parts of octets are octets.
 pub split_octets : (text : List ℕ) (parts : List ℕ × List ℕ) → IsOctets text → split_at_dot text ≡ Ok parts → IsOctets parts.0 × IsOctets parts.1
 split_octets text parts octets h = around_dot parts.0 parts.1 (subst IsOctets (joined_of_split text parts h) octets)
 
@@ -74,7 +74,7 @@ three_octets text parts octets h =
     let others = around_dot parts.1 parts.2 first.1 in
     (first.0, others.0, others.1)
 
--- and so they are without a line end
+-- Octets without their line end are octets.
 pub line_octets : (text : List ℕ) → IsOctets text → IsOctets (without_line_end text)
 unfolding without_line_end
 line_octets text octets =

@@ -1,4 +1,4 @@
--- The texts that stand round the ciphertext and the tag of an encrypted object.
+-- The texts around the ciphertext and the tag of an encrypted object.
 use Rattle.std.proofs.Common.{◌≡◌, ◌||◌, ℕ, suc, List, [], ◌∷◌, ◌++◌, length, codes, Bool, true, false, nat_le, if◌then◌else◌, Ok, refl, sym, ap, ◌∙◌, subst, arith}
 use Rattle.std.proofs.lemmas.Bool.{le-leb}
 use Rattle.octets.specs.declared.refusal.Refusal.TheVariants.{NotCompact}
@@ -36,7 +36,7 @@ general_fills (r ∷ []) w values v f = f
 general_fills (r ∷ (other ∷ rest)) w values v f =
     fills_closed (codes "]") _ values _ (items_fill (r ∷ (other ∷ rest)) _ values _ (fills_opened (codes "[") _ values _ (fills_named (codes "recipients") w values v f)))
 
--- octets have a text
+-- The text of octets is not empty, if there are any.
 some_text : (octets : List ℕ) → IsOctets octets → nat_le 1 (length octets) ≡ true → (c : ℕ) × ((rest : List ℕ) × (base64url octets ≡ c ∷ rest))
 some_text octets is some = by_text (base64url octets) refl
   where
@@ -47,7 +47,7 @@ some_text octets is some = by_text (base64url octets) refl
         cc both
     by_text (c ∷ rest) h = (c, (rest, h))
 
--- so a tag that is not empty is a member, or has a place
+-- If the tag is not empty or places are left, the tag is written as a member or gets a place.
 pub tag_is_placed : (tag : List ℕ) (w : Written) → IsOctets tag → (w.places || nat_le 1 (length tag)) ≡ true → with_place (codes "tag") tag w ≡ with_tag tag w
 tag_is_placed tag w is h = by_places w.places refl h
   where
@@ -58,7 +58,7 @@ tag_is_placed tag w is h = by_places w.places refl h
         let value : with_text (codes "tag") (base64url tag) w ≡ place_by false (codes "tag") tag w = rw text.1.1 refl in
         ap (λ b. place_by b (codes "tag") tag w) e ∙ sym value
 
--- and an empty one is neither
+-- If the tag is empty and no places are left, nothing is written.
 pub tag_is_absent : (tag : List ℕ) (w : Written) → (w.places || nat_le 1 (length tag)) ≡ false → w ≡ with_tag tag w
 tag_is_absent tag w h = by_places w.places tag h
   where
@@ -67,7 +67,7 @@ tag_is_absent tag w h = by_places w.places tag h
     by_places false [] h = rw no_octets refl
     by_places false (x ∷ tag) h = let both : true ≡ false = sym (le-leb 1 (length (x ∷ tag)) (omega arith)) ∙ h in cc both
 
--- a tag that is not empty has a place
+-- A tag that is not empty fills its place.
 tag_fills : (own tag : List ℕ) (w : Written) (values : List (List ℕ)) (v : Written) → IsOctets tag → nat_le 1 (length tag) ≡ true → Fills w values v
     → Fills (with_tag own w) (values ++ base64url tag ∷ []) (with_tag tag v)
 tag_fills own tag w values v is some f =
@@ -80,13 +80,13 @@ tag_fills own tag w values v is some f =
 
 -- ---- in either form
 
--- With any ciphertext and tag in its places, it is the text of the object with these in place of its own.
+-- Filled with a ciphertext and a tag, the texts are those of the object with these in place of its own.
 record IsRound (compact detach : Bool) (o : EncryptedObject) (w : Written) (ciphertext tag : List ℕ) : Type 0 where
   whole : Written
   written : jwe_written false compact detach (sealed_with o ciphertext tag) ≡ Ok whole
   fills : Fills w (in_places detach ciphertext [] ++ base64url tag ∷ []) whole
 
--- neither decides whether the object has a compact text
+-- The ciphertext and the tag do not decide whether the object has a compact text.
 same_fit : (o : EncryptedObject) (ciphertext tag : List ℕ) (rs : List Recipient) → is_compact (sealed_with o ciphertext tag) rs ≡ is_compact o rs
 same_fit o ciphertext tag [] = refl
 same_fit o ciphertext tag (r ∷ []) = refl
@@ -126,7 +126,7 @@ round false detach o w h ciphertext tag octets tagged some =
     subst (λ w. IsRound false detach o w ciphertext tag) (same_answer _ w h)
     (record { whole = jwe_json false detach (parts_of (sealed_with o ciphertext tag)); written = refl; fills = json_fills detach o ciphertext tag octets tagged some })
 
--- so its texts stand round them
+-- The texts of the object are a frame for a ciphertext and a tag.
 texts_are : (compact detach : Bool) (o : EncryptedObject) (w : Written) → jwe_written true compact detach o ≡ Ok w → IsJweFrame compact detach o (all_texts w)
 texts_are compact detach o w h = record {
   places = let r = round compact detach o w h [] (0 ∷ []) IsOctets-nil zero_octet refl in places_count w _ r.whole r.fills ∙ count detach;

@@ -1,5 +1,5 @@
--- The texts of an encrypted object, as they are written: the JSON text is the compact text of the object that has its members, and a
--- compact text is its parts between dots.
+-- Writing the texts of an encrypted object. The JSON text is the compact text of the object with its members, and a compact text is its
+-- parts with dots between them.
 use Rattle.std.proofs.Common.{◌≡◌, ℕ, List, [], ◌∷◌, ◌++◌, map, codes, Bool, true, false, Some, Ok, Err, refl, sym, ap, ◌∙◌, subst, append_assoc}
 use Rattle.serde_json.specs.Data.{array, object, Items, Members, no_members}
 use Rattle.serde_json.specs.Written.{compact_text, members_text}
@@ -21,7 +21,7 @@ use Rattle.objects.proofs.WrittenMembers.{Begins, is_whole, begins_closed, begin
 
 -- ---- the members, in order
 
--- those of one recipient, and the list of several, in front of others
+-- the members of one recipient, or nothing for several, before other members
 abbrev flattened_before : List RecipientParts → Entries → Entries
 flattened_before [] later = later
 flattened_before (r ∷ []) later = (codes "encrypted_key", text_there (base64url r.encrypted_key)) ∷ (codes "header", header_there r.header) ∷ later
@@ -45,7 +45,7 @@ abbrev in_order : Bool → JweParts → List RecipientParts → Entries
 in_order detach p rs =
     (codes "aad", text_there (base64url p.aad)) ∷ (codes "ciphertext", content_there detach (base64url p.ciphertext)) ∷ flattened_before rs (middle_members p rs)
 
--- so they stand in either form
+-- The members are in this order in either form.
 in_order_is : (detach : Bool) (p : JweParts) (rs : List RecipientParts) → in_order detach p rs ≡ jwe_members (content_there detach (base64url p.ciphertext)) p rs
 in_order_is detach p [] = refl
 in_order_is detach p (r ∷ []) = refl
@@ -101,7 +101,7 @@ tag_begins tag ms tail w all b =
 
 -- ---- the JSON text
 
--- what is written is the text of the members
+-- The text that is written is the text of the members.
 json_is_written : (detach : Bool) (parts : JweParts) → (jwe_json false detach parts).text ≡ jwe.members_text detach parts
 unfolding jwe.members_text
 json_is_written detach p =
@@ -120,7 +120,7 @@ json_is_written detach p =
     is_whole _ all (begins_closed (codes "}") _ [] all (begins_header (codes "unprotected") p.unprotected no_members [] _ all refl tag))
     ∙ ap (λ es. compact_text (object (present es))) (in_order_is detach p p.recipients)
 
--- so the text is that of the members however they are put in
+-- The text of the members does not depend on the order in which they are inserted.
 pub members_are_written : (detach : Bool) (parts : JweParts) → jwe.members_text detach parts ≡ compact_text (object (put_all (entries detach (parts_spelled parts))))
 unfolding jwe.members_text
 members_are_written detach p =
@@ -128,14 +128,14 @@ members_are_written detach p =
 
 -- ---- the compact text
 
--- its parts stand between dots; that of a detached ciphertext is empty
+-- The parts are written with dots between them. The part of a detached ciphertext is empty.
 compact_is : (detach : Bool) (p : JweParts) → (with_compact (inside detach p.ciphertext) p (nothing_written false)).text ≡ compact_parts detach p
 compact_is true p = simp append_assoc
 compact_is false p = simp append_assoc
 
 -- ---- in either form
 
--- the text is what is written
+-- The text of the object is the text that is written.
 pub jwe_whole : (compact detach : Bool) (o : EncryptedObject) (w : Written) → jwe_written false compact detach o ≡ Ok w → jwe_text compact detach o ≡ Ok w.text
 unfolding jwe_compact_text
 jwe_whole true detach o w h =
@@ -143,7 +143,7 @@ jwe_whole true detach o w h =
     rw (passed _ NotCompact fits.0 fits.1) (ap Ok (sym (compact_is detach (jwe.parts_of o)) ∙ ap (λ (w : Written). w.text) (same_answer _ w fits.2)))
 jwe_whole false detach o w h = ap Ok (sym (json_is_written detach (jwe.parts_of o)) ∙ ap (λ (w : Written). w.text) (same_answer _ w h))
 
--- where it is refused, so is the text
+-- If writing is refused, the text of the object is refused with the same cause.
 pub jwe_refused : (places compact detach : Bool) (o : EncryptedObject) (e : Refusal) → jwe_written places compact detach o ≡ Err e → (e ≡ NotCompact) × (jwe_text compact detach o ≡ Err NotCompact)
 unfolding jwe_compact_text
 jwe_refused places true detach o e h = refused_alike (is_compact o o.recipients) NotCompact e _ (compact_parts detach (jwe.parts_of o)) h

@@ -1,4 +1,4 @@
--- The texts that stand round the payload and the signatures of a signed object.
+-- The texts around the payload and the signatures of a signed object.
 use Rattle.std.proofs.Common.{◌≡◌, ℕ, suc, ◌+◌, List, [], ◌∷◌, ◌++◌, length, map, codes, Bool, true, false, if◌then◌else◌, None, Ok, refl, sym, ap, ◌∙◌, subst, arith, append_assoc, append-nil}
 use Rattle.std.proofs.lemmas.List.{length-map}
 use Rattle.octets.specs.declared.refusal.Refusal.TheVariants.{NotCompact}
@@ -14,9 +14,9 @@ use Rattle.objects.proofs.JwsWritten.{jws_whole}
 use Rattle.objects.proofs.Places.{Fills, is_filled, places_count, fills_nothing, fills_pushed, fills_closed, fills_opened, fills_separated, fills_named, fills_text, fills_header, fills_place, fills_content, fills_place_part, fills_content_part, places_are, texts_count}
 use Rattle.octets.proofs.Lemmas.{IsOctets-nil, steps, passed, same_answer}
 
--- ---- the JSON texts round any payload and signatures
+-- ---- the JSON texts around a payload and signatures
 
--- the members behind the payload
+-- The members after the payload leave a place for the signature, which the octets fill.
 ends_fill : (s : Signature) (octets : List ℕ) (w : Written) (values : List (List ℕ)) (v : Written) → IsOctets octets → Fills w values v
     → Fills (with_place (codes "signature") s.signature (with_text (codes "protected") s.protected w)) (values ++ base64url octets ∷ [])
     (with_place (codes "signature") octets (with_text (codes "protected") s.protected v))
@@ -55,7 +55,7 @@ signatures_fill detach own payload (s ∷ (t ∷ rest)) (x ∷ (y ∷ octets)) w
 
 -- ---- in either form
 
--- With any payload and signatures in its places, it is the text of the object with these in place of its own.
+-- Filled with a payload and signatures, the texts are those of the object with these in place of its own.
 record IsRound (compact detach : Bool) (o : SignedObject) (w : Written) (payload : List ℕ) (octets : List (List ℕ)) : Type 0 where
   whole : Written
   written : jws_written false compact detach (signed_with o payload octets) ≡ Ok whole
@@ -86,7 +86,7 @@ round false detach o w h payload octets is all long =
       fills = fills_closed (codes "}") _ _ _ (signatures_fill detach o.payload payload o.signatures octets _ _ is all long (fills_opened (codes "{") _ [] _ fills_nothing));
     })
 
--- so its texts stand round them
+-- The texts of the object are a frame for a payload and signatures.
 texts_are : (compact detach : Bool) (o : SignedObject) (w : Written) → jws_written true compact detach o ≡ Ok w → IsJwsFrame compact detach o (all_texts w)
 texts_are compact detach o w h = record {
   places =

@@ -1,5 +1,5 @@
--- The texts of a signed object, as they are written: the JSON text is the compact text of the object that has its members, and a
--- compact text is its parts between dots.
+-- Writing the texts of a signed object. The JSON text is the compact text of the object with its members, and a compact text is its parts
+-- with dots between them.
 use Rattle.std.proofs.Common.{◌≡◌, ℕ, List, [], ◌∷◌, ◌++◌, codes, Bool, true, false, None, Some, Ok, Err, refl, sym, ap, ◌∙◌, append_assoc}
 use Rattle.serde_json.specs.Data.{Data, string, array, object, Members, no_members, member}
 use Rattle.serde_json.specs.Written.{compact_text, members_text}
@@ -32,11 +32,11 @@ signature_begins detach payload s tail w all b =
     let protected = begins_text (codes "protected") s.protected (present last) tail _ all refl content in
     begins_place (codes "signature") s.signature no_members tail _ all refl protected
 
--- each of a list is written so
+-- Each signature of a list is written as its members.
 each_begins : WritesEach (with_signature None) (signature_members None)
 each_begins s tail w all b = signature_begins true [] s tail w all b
 
--- behind the brace of an object its members are still to be written
+-- After the opening brace of the object, its members are still to be written.
 general_begins : (detach : Bool) (payload : List ℕ) (ss : List SignatureParts)
     → Begins (with_general (inside detach payload) ss (opened (codes "{") (nothing_written false))) (codes "}")
     (compact_text (object (present (general_members (content_there detach (base64url payload)) ss))))
@@ -54,12 +54,12 @@ signatures_begin detach payload (s ∷ []) =
     signature_begins detach payload s [] _ _ (begins_object (present (signature_members (content_there detach (base64url payload)) s)))
 signatures_begin detach payload (s ∷ (other ∷ rest)) = general_begins detach payload (s ∷ (other ∷ rest))
 
--- what is written is the text of the members
+-- The text that is written is the text of the members.
 json_is_written : (detach : Bool) (parts : JwsParts) → (jws_json false detach parts).text ≡ jws.members_text detach parts
 unfolding jws.members_text
 json_is_written detach parts = is_whole _ _ (begins_closed (codes "}") _ [] _ (signatures_begin detach parts.payload parts.signatures))
 
--- the members are in order
+-- The members of a signature are in order.
 same_members : (s : SignatureParts) → put_all (signature_entries (signature_spelled s)) ≡ present (signature_members None s)
 same_members s = put_sorted (signature_entries (signature_spelled s)) refl
 
@@ -73,7 +73,7 @@ members_sorted detach payload (s ∷ (other ∷ rest)) =
     ∙ ap (λ items. present ((codes "payload", content_there detach (base64url payload)) ∷ (codes "signatures", Some (array items)) ∷ []))
     (listed_is signature_entries signature_spelled (signature_members None) same_members ss)
 
--- so the text is that of the members however they are put in
+-- The text of the members does not depend on the order in which they are inserted.
 pub members_are_written : (detach : Bool) (parts : JwsParts) → jws.members_text detach parts ≡ compact_text (object (put_all (entries detach (parts_spelled parts))))
 unfolding jws.members_text
 members_are_written detach parts = ap (λ ms. compact_text (object ms)) (sym (members_sorted detach parts.payload parts.signatures))
@@ -87,7 +87,7 @@ compact_is false payload (s ∷ rest) = simp append_assoc
 
 -- ---- in either form
 
--- the text is what is written
+-- The text of the object is the text that is written.
 pub jws_whole : (compact detach : Bool) (o : SignedObject) (w : Written) → jws_written false compact detach o ≡ Ok w → jws_text compact detach o ≡ Ok w.text
 unfolding jws_compact_text
 jws_whole true detach o w h =
@@ -95,7 +95,7 @@ jws_whole true detach o w h =
     rw (passed _ NotCompact fits.0 fits.1) (ap Ok (sym (compact_is detach o.payload (jws.parts_of o).signatures) ∙ ap (λ (w : Written). w.text) (same_answer _ w fits.2)))
 jws_whole false detach o w h = ap Ok (sym (json_is_written detach (jws.parts_of o)) ∙ ap (λ (w : Written). w.text) (same_answer _ w h))
 
--- where it is refused, so is the text
+-- If writing is refused, the text of the object is refused with the same cause.
 pub jws_refused : (places compact detach : Bool) (o : SignedObject) (e : Refusal) → jws_written places compact detach o ≡ Err e → (e ≡ NotCompact) × (jws_text compact detach o ≡ Err NotCompact)
 unfolding jws_compact_text
 jws_refused places true detach o e h = refused_alike (is_compact o.signatures) NotCompact e _ (compact_parts detach o.payload (jws.parts_of o).signatures) h

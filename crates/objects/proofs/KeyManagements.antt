@@ -1,4 +1,4 @@
--- What a header says of the management of a key is that of its algorithm.
+-- The key management that is read from a header fits its algorithm.
 use Rattle.std.proofs.Common.{◌≡◌, ℕ, Bool, true, false, nat_le, List, length, codes, if◌then◌else◌, Option, Some, None, Result, Ok, Err, refl, sym, ap, ◌∙◌}
 use Rattle.std.proofs.lemmas.Bool.{and_from}
 use Rattle.std.specs.Option.{ok_or}
@@ -16,7 +16,7 @@ use Rattle.objects.specs.KeyManagement.{KeyManagement, Unknown, Direct, KeyWrap,
 use Rattle.objects.specs.Code.KeyManagementView.{are_password_parameters, is_management_in, is_management_of}
 use Rattle.octets.proofs.Lemmas.{steps, passed, same_answer, is_there}
 
--- a salt that is read has at least 8 octets
+-- A salt that is read has at least 8 octets.
 salt_is_long : (header : Members) (p2s : List ℕ) → salt_parameter (codes "p2s") header ≡ Ok (Some p2s) → nat_le 8 (length p2s) ≡ true
 unfolding salt_parameter
 salt_is_long header p2s h =
@@ -37,7 +37,7 @@ salt_is_long header p2s h =
     by_text None h = cc h
     by_text (Some text) h = by_octets (decoded text) h
 
--- so what is read of a password is as it has to be
+-- The parameters of a password that are read are valid.
 password_is : (header : Members) (m : KeyManagement) → password_management header ≡ Ok m → (p2s : List ℕ) × (p2c : ℕ) × (are_password_parameters p2s p2c ≡ true) × (Password p2s p2c ≡ m)
 unfolding password_management
 password_is header m h =

@@ -1,4 +1,4 @@
--- What the crates above cite of these proofs, and nothing else.
+-- The lemmas of these proofs that the crates above cite.
 pub use Rattle.objects.specs.Values.{Entries}
 pub use Rattle.objects.proofs.Names.{get_member-all_members}
 pub use Rattle.objects.proofs.Each.{with_done, as_many, reading}

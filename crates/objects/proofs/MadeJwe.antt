@@ -20,7 +20,7 @@ use Rattle.objects.proofs.EachRead.{all_read, all_pass, all_then}
 use Rattle.objects.proofs.Joined.{split_octets, three_octets}
 use Rattle.objects.proofs.ReadJson.{text_is_json, IsShallow, IsHeader, AreObjects, no_header, header_whole, text_octets, header_shallow, alone, listed, each_is, of_text}
 
--- ---- the texts are octets, but that of the ciphertext, which decodes to octets, and the headers are as JSON has them
+-- ---- the headers are JSON and the texts are octets, except that of the ciphertext, which decodes to octets
 
 pub record IsRecipient (n : ℕ) (t : EncodedRecipient) : Type 0 where
   pub header : IsHeader n t.header
@@ -101,7 +101,7 @@ json_are detached handed d t is h =
 
 -- ---- in compact form
 
--- the texts of these parts of a compact text
+-- the texts of a compact text with these parts
 abbrev pub compact : List ℕ → List ℕ → List ℕ → List ℕ → List ℕ → EncodedJwe
 compact protected encrypted_key iv ciphertext tag = record {
   shared = record { protected = protected; unprotected = no_members; aad = [] };
@@ -138,7 +138,7 @@ texts_are detached handed text t octets h =
 
 -- ---- the members
 
--- a recipient has the header and the encrypted key that its texts spell
+-- the recipient has the header and the encrypted key that its texts spell
 pub record IsSpelled (t : EncodedRecipient) (r : RecipientParts) : Type 0 where
   pub header : r.header ≡ t.header
   pub encrypted_key : decoded t.encrypted_key ≡ Ok r.encrypted_key
@@ -149,7 +149,7 @@ recipient_spelled t r h =
     let a = steps (decoded t.encrypted_key) _ r h in
     subst (IsSpelled t) (same_answer _ r a.2) (record { header = refl; encrypted_key = a.1 })
 
--- an object has the members that its texts spell
+-- the object has the members that its texts spell
 pub record AreSpelled (t : EncodedJwe) (parts : JweParts) : Type 0 where
   pub protected : parts.protected ≡ t.shared.protected
   pub unprotected : parts.unprotected ≡ t.shared.unprotected
@@ -169,7 +169,7 @@ parts_spelled t parts h =
     let e = steps (decoded t.content.tag) _ parts d.2 in
     subst (AreSpelled t) (same_answer _ parts e.2) (record { protected = refl; unprotected = refl; aad = a.1; recipients = b.1; iv = c.1; ciphertext = d.1; tag = e.1 })
 
--- the members of a recipient are as JSON and octets have them
+-- the members of a recipient are JSON and octets
 abbrev IsMade : ℕ → RecipientParts → Type 0
 IsMade n r = IsHeader n r.header × IsOctets r.encrypted_key
 
@@ -178,7 +178,7 @@ recipient_made n t r is h =
     let spelled = recipient_spelled t r h in
     (subst (IsHeader n) (sym spelled.header) is.header, octets_of_meaning t.encrypted_key r.encrypted_key is.encrypted_key spelled.encrypted_key)
 
--- and so they are of all
+-- The members of all recipients are JSON and octets.
 recipients_made : (ts : List EncodedRecipient) (rs : List RecipientParts) → AllByRecursion (IsRecipient (depth_of_each (length ts))) ts → each decoded_recipient ts ≡ Ok rs
     → AllByRecursion (IsMade (depth_of_each (length rs))) rs
 recipients_made ts rs are h =

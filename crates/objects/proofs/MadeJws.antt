@@ -20,7 +20,7 @@ use Rattle.objects.proofs.Joined.{three_octets}
 use Rattle.objects.proofs.ReadJson.{text_is_json, IsShallow, IsHeader, AreObjects, no_header, header_whole, text_octets, required_octets, header_shallow, alone, listed, each_is, of_text}
 use Rattle.octets.proofs.Lemmas.{steps, passed, same_answer, octets_of_meaning}
 
--- ---- the texts are octets, but that of the payload, which decodes to octets, and the headers are as JSON has them
+-- ---- the headers are JSON and the texts are octets, except that of the payload, which decodes to octets
 
 pub record IsSignature (n : ℕ) (t : EncodedSignature) : Type 0 where
   pub protected : IsOctets t.protected
@@ -91,7 +91,7 @@ texts_are detached handed text t octets h =
 
 -- ---- the members
 
--- a signature has the members that its texts spell, and is decoded from them as from its texts
+-- the signature has the members that its texts spell, and is decoded from them the same
 pub record IsSpelled (t : EncodedSignature) (s : DecodedSignature) : Type 0 where
   pub protected : s.parts.protected ≡ t.protected
   pub header : s.parts.header ≡ t.header
@@ -106,7 +106,7 @@ signature_spelled t s h =
     let parts : SignatureParts = record { protected = t.protected; header = t.header; signature = a.0 } in
     subst (IsSpelled t) (same_answer _ s b.2) (record { protected = refl; header = refl; signature = a.1; again = ap (λ r. r >>= λ octets. Ok (record { octets = octets; parts = parts })) b.1 })
 
--- the members of a signature are as JSON and octets have them
+-- the members of a signature are JSON and octets
 abbrev IsMade : ℕ → SignatureParts → Type 0
 IsMade n s = IsUtf8 s.protected × IsHeader n s.header × IsOctets s.signature
 

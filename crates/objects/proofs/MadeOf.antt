@@ -59,7 +59,7 @@ signature_is algs d s h =
     let c = steps (key_management algs b.0 a.0) _ s b.2 in
     ap signature_parts_of (sym (same_answer _ s c.2))
 
--- what is known of the object of a payload and these signatures
+-- the object has the payload and these signatures
 pub record IsSigned (octets : List ℕ) (decoded : List DecodedSignature) (o : SignedObject) : Type 0 where
   pub payload : o.payload ≡ octets
   pub signatures : map signature_parts_of o.signatures ≡ map (λ (d : DecodedSignature). d.parts) decoded

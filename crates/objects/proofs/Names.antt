@@ -1,4 +1,4 @@
--- The members of several parts, name by name.
+-- The members of several parts, by name.
 use Rattle.std.proofs.Common.{◌≡◌, ℕ, List, Bool, true, false, not, Option, Some, None, option_map, is_some, Ordering, Less, Equal, Greater, nat_cmp, is_eq, true≢false, refl, sym, ap, ◌∙◌}
 use Rattle.std.proofs.lemmas.Map.Text.{is_eq-slice_cmp}
 use Rattle.std.proofs.lemmas.Slice.Eq.{bytes_eq-Decides}
@@ -11,7 +11,7 @@ use Rattle.serde_json.specs.Find.{get_member}
 use Rattle.serde_json.proofs.Views.{get_member-put, get_member-put_other}
 use Rattle.objects.specs.Headers.{overlap, union, are_disjoint, all_members, HasAllMembers}
 
--- ---- names that are one, and names that differ
+-- ---- equal and different names
 
 one_name : (k l : List ℕ) → slice_cmp nat_cmp k l ≡ Equal → k ≡ l
 one_name k l is = (bytes_eq-Decides k l).0 (sym (is_eq-slice_cmp k l) ∙ ap is_eq is)
@@ -27,7 +27,7 @@ found_at Less k l d rest all other is later = get_member-put_other k l d all (tw
 found_at Equal k l d rest all other is later = rw (one_name k l is) (get_member-put l d all)
 found_at Greater k l d rest all other is later = get_member-put_other k l d all (two_names Greater k l is refl) ∙ later
 
--- it is that of the first part, or else that of the other
+-- The member of a union is that of the first part, or else that of the other.
 pub get_member-union : (name : List ℕ) (part other : Members) → get_member name (union part other) ≡ option_or (get_member name part) (get_member name other)
 get_member-union name no_members other = refl
 get_member-union name (member l d rest) other = found_at (slice_cmp nat_cmp name l) name l d rest (union rest other) other refl (get_member-union name rest other)
@@ -37,7 +37,7 @@ pub get_member-all_members : (name : List ℕ) (protected unprotected per_recipi
 get_member-all_members name protected unprotected per_recipient =
     get_member-union name protected (union unprotected per_recipient) ∙ ap (option_or (get_member name protected)) (get_member-union name unprotected per_recipient)
 
--- the first that is found, seen as its value
+-- The view of the first value that is there is the first of the views.
 pub seen_first : {A : Type 0} (seen : A → Data) (first second third : Option A)
     → option_map seen (option_or (option_or first second) third) ≡ option_or (option_map seen first) (option_or (option_map seen second) (option_map seen third))
 seen_first seen None None third = refl
@@ -65,7 +65,7 @@ absent_at Less name l d e rest other is apart later here = later (neither _ _ ap
 absent_at Equal name l d e rest other is apart later here = rw (one_name name l is) (is_none _ (neither _ _ apart).0)
 absent_at Greater name l d e rest other is apart later here = later (neither _ _ apart).1 here
 
--- a name of a part is not in the other
+-- If two parts do not overlap, a name of one is not in the other.
 absent_in_other : (name : List ℕ) (d : Data) (part other : Members) → overlap part other ≡ false → get_member name part ≡ Some d → get_member name other ≡ None
 absent_in_other name d no_members other apart here = cc here
 absent_in_other name d (member l e rest) other apart here =

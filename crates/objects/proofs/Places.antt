@@ -1,4 +1,4 @@
--- What is written with places left for values, beside what is written with these values at once.
+-- Texts that are written with places for values, and the same texts with the values written at once.
 use Rattle.std.proofs.Common.{◌≡◌, ℕ, suc, ◌+◌, List, [], ◌∷◌, ◌++◌, length, map, codes, Bool, true, false, if◌then◌else◌, refl, sym, ap, ◌∙◌, subst, arith, append_assoc, append-nil, length-append}
 use Rattle.std.proofs.lemmas.List.{length-map}
 use Rattle.serde_json.specs.Data.{Data, string, object, Members, no_members, member}
@@ -13,7 +13,7 @@ use Rattle.objects.proofs.Characters.{IsUrlText}
 
 -- ---- values in places
 
--- the finished texts, each with a value behind it
+-- the finished texts, each followed by a value
 abbrev front : List (List ℕ) → List (List ℕ) → List ℕ
 front [] values = []
 front (text ∷ rest) [] = text ++ front rest []
@@ -33,7 +33,7 @@ front_more (t ∷ texts) [] text value h = absurd (omega (arith, h))
 front_more (t ∷ texts) (v ∷ values) text value h =
     ap (λ l. t ++ (v ++ l)) (front_more texts values text value (omega (arith, h))) ∙ simp append_assoc
 
--- with these values in the places that were left, the one is what the other is
+-- the text with places becomes the other one when these values are inserted
 pub record Fills (w : Written) (values : List (List ℕ)) (v : Written) : Type 0 where
   pub leaves : w.places ≡ true
   pub whole : v.places ≡ false
@@ -67,7 +67,7 @@ fills_closed x w values v f = let p = fills_pushed x w values v f in record { le
 pub fills_opened : (x : List ℕ) (w : Written) (values : List (List ℕ)) (v : Written) → Fills w values v → Fills (opened x w) values (opened x v)
 fills_opened x w values v f = let p = fills_pushed x w values v f in record { leaves = p.leaves; whole = p.whole; count = p.count; text = p.text; later = refl }
 
--- a place takes the value
+-- A place takes the value.
 fills_left : (own octets : List ℕ) (w : Written) (values : List (List ℕ)) (v : Written) → Fills w values v → Fills (slot_by true own w) (values ++ base64url octets ∷ []) (slot_by false octets v)
 fills_left own octets w values v f =
     let value : List ℕ = base64url octets in
@@ -108,7 +108,7 @@ pub fills_header : (name : List ℕ) (header : Members) (w : Written) (values : 
 fills_header name no_members w values v f = f
 fills_header name (member k d header) w values v f = fills_value name (object (member k d header)) w values v f
 
--- between quotes the text of octets, which needs no escape, is the value
+-- In quotes, the base64url text of octets is a JSON string, since it needs no escape.
 quoted_text : (octets : List ℕ) (w : Written) → IsUrlText (base64url octets)
     → pushed (codes "\"") (slot_by false octets (pushed (codes "\"") w)) ≡ pushed (compact_text (string (base64url octets))) w
 quoted_text octets w plain =
@@ -120,7 +120,7 @@ comma_places : (b : Bool) (w : Written) → (comma_by b w).places ≡ w.places
 comma_places true w = refl
 comma_places false w = refl
 
--- so a member is written, or a place for it is left
+-- A member is written, or a place is left for its value.
 pub placed : (name octets : List ℕ) (w : Written) → IsOctets octets → pushed (codes "\"") (with_slot octets (pushed (codes "\"") (named name w))) ≡ with_place name octets w
 placed name octets w is = subst (λ b. pushed (codes "\"") (slot_by b octets (pushed (codes "\"") (named name w))) ≡ with_place name octets w) (sym (comma_places w.later w)) (by_places w.places)
   where
@@ -138,7 +138,7 @@ fills_place name own octets w values v is f =
     (subst (λ b. Fills (place_by true name own w) both (place_by b name octets v)) (sym f.whole)
     (subst (Fills (place_by true name own w) both) (quoted_text octets (named name v) (has_url_characters octets is)) left))
 
--- that of a content stands before all others
+-- The member of a content comes before all others.
 pub fills_content : (name : List ℕ) (detach : Bool) (own content : List ℕ) (w v : Written) → IsOctets content → Fills w [] v
     → Fills (with_content name (inside detach own) w) (in_places detach content []) (with_content name (inside detach content) v)
 fills_content name true own content w v is f = f
@@ -160,12 +160,12 @@ fills_content_part false own content w v f = fills_place_part own content w [] v
 
 -- ---- the values of all places
 
--- those of a content and of others behind it
+-- The values of all places are the text of the content and the texts of the others.
 pub places_are : (detach : Bool) (content : List ℕ) (others : List (List ℕ)) → in_places detach content [] ++ map base64url others ≡ in_places detach content others
 places_are true content others = refl
 places_are false content others = refl
 
--- with the text behind the last, there are as many texts
+-- There is one text more than there are values.
 pub texts_count : (detach : Bool) (content : List ℕ) (others : List (List ℕ)) → suc (length (in_places detach content others)) ≡ (if detach then 1 else 2) + length others
 texts_count true content others = ap suc (length-map others base64url) ∙ omega arith
 texts_count false content others = ap (λ n. suc (suc n)) (length-map others base64url) ∙ omega arith

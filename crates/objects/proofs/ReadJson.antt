@@ -1,4 +1,4 @@
--- What is read of a JSON value: texts of octets, and headers that are as JSON has them and nest less deep than the value.
+-- The results of reading a JSON value: texts that are octets, and headers that are JSON and nest less deeply than the value.
 use Rattle.std.proofs.Common.{◌≡◌, ◌≤◌, ℕ, suc, List, [], Bool, true, false, Option, Some, None, Ok, IsUtf8, length, nat_le, refl, sym, ap, subst, arith}
 use Rattle.std.proofs.lemmas.Bool.{and_parts, cond_both}
 use Rattle.std.specs.List.{AllByRecursion}
@@ -23,22 +23,22 @@ use Rattle.objects.proofs.EachRead.{all_items_read, as_many_items}
 use Rattle.objects.proofs.Joined.{line_octets}
 use Rattle.objects.proofs.TextOctets.{text_is}
 
--- a text that decodes is UTF-8
+-- A text that decodes is UTF-8.
 pub text_is_json : (text octets : List ℕ) → IsOctets text → decoded text ≡ Ok octets → IsUtf8 text
 text_is_json text octets is h =
     let same : text ≡ base64url octets = text_is text octets is h in
     subst IsUtf8 (sym same) (url_texts_are_json (base64url octets) (has_url_characters octets (octets_of_meaning text octets is h))).0
 
--- a value that is as JSON texts have it, and nests at most so deep
+-- the value is JSON and at most n deep
 pub record IsShallow (n : ℕ) (d : Data) : Type 0 where
   pub json : IsJson d
   pub shallow : depth d ≤ n
 
--- what a text reads as is such a value
+-- A text reads as a JSON value that is at most 127 deep.
 value_shallow : (text : List ℕ) (d : Data) → json_value text ≡ Ok d → IsShallow 127 d
 value_shallow text d h = let is = reads_json text d h in record { json = is.0; shallow = is.1 }
 
--- what is read of a text in JSON form, or else without its line end
+-- If P holds of everything that is read from a JSON value or from a line, it holds of everything that is read from a text.
 pub of_text : {T : Type 0} (P : T → Type 0) (json : Data → Result T Refusal) (compact : List ℕ → Result T Refusal) → ((d : Data) (t : T) → IsShallow 127 d → json d ≡ Ok t → P t)
     → ((line : List ℕ) (t : T) → IsOctets line → compact line ≡ Ok t → P t) → (b : Bool) (text : List ℕ) (t : T) → IsOctets text
     → (if b then (json_value text >>= json) else compact (without_line_end text)) ≡ Ok t → P t
@@ -47,16 +47,16 @@ of_text P json compact of_json of_compact true text t octets h =
     of_json a.0 t (value_shallow text a.0 a.1) a.2
 of_text P json compact of_json of_compact false text t octets h = of_compact (without_line_end text) t (line_octets text octets) h
 
--- a header whose members are so
+-- the members are JSON, and the header is at most n deep
 pub record IsHeader (n : ℕ) (header : Members) : Type 0 where
   pub json : AreJsonMembers header
   pub shallow : depth (object header) ≤ n
 
--- a header without members
+-- The empty header is JSON and at most 1 deep.
 pub no_header : (n : ℕ) → 1 ≤ n → IsHeader n no_members
 no_header n some = record { json = tt; shallow = some }
 
--- its numbers are whole
+-- The numbers of a header are whole.
 pub header_whole : (n : ℕ) (header : Members) → IsHeader n header → member_numbers_are_whole header ≡ true
 header_whole n header is = numbers_whole (object header) is.json
 
@@ -91,24 +91,24 @@ header_by n name d (Some value) header some is e h =
     let members = keep_json.members_of value header found.0 (object_is (as_object value) header h) in
     record { json = members.0; shallow = omega (arith, is.shallow, found.1, members.1) }
 
--- a header nests less deep than the object that it is in
+-- A header nests less deeply than the object that it is in.
 pub header_shallow : (n : ℕ) (name : List ℕ) (d : Data) (header : Members) → 1 ≤ n → IsShallow (suc n) d → header_at name d ≡ Ok header → IsHeader n header
 unfolding header_at
 header_shallow n name d header some is h = header_by n name d (get name d) header some is refl h
 
--- ---- objects, alone or in a list
+-- ---- objects, one or a list
 
--- at least one, none of which nests too deep for its header
+-- at least one object, each no deeper than its header may be
 pub record AreObjects (items : Items) : Type 0 where
   pub json : AreJsonItems items
   pub shallow : items_depth items ≤ suc (depth_of_each (items_count items))
   pub some : 1 ≤ items_count items
 
--- a value alone
+-- A single value is a list of one object.
 pub alone : (d : Data) → IsShallow 127 d → AreObjects (item d no_items)
 alone d is = record { json = (is.json, tt); shallow = omega (arith, is.shallow); some = omega arith }
 
--- however many there are, each may nest so deep
+-- For any number of objects, each may be at least 124 deep.
 listed_at_least : (n : ℕ) → 124 ≤ depth_of_each n
 listed_at_least n = cond_both (nat_le n 1) 126 124 (λ k. 124 ≤ k) (λ _. omega arith) (λ _. omega arith)
 
@@ -116,7 +116,7 @@ some_items : (items : Items) → has_items items ≡ true → 1 ≤ items_count 
 some_items no_items h = cc h
 some_items (item d rest) h = omega arith
 
--- those of a list that is found in a value
+-- A list of objects in a value has at least one object, and none is deeper than its header may be.
 pub listed : (name : List ℕ) (d list : Data) (items : Items) → IsShallow 127 d → get name d ≡ Some list → object_list list ≡ Ok items → AreObjects items
 unfolding object_list
 listed name d list items is e h =
@@ -128,7 +128,7 @@ listed name d list items is e h =
     let some = some_items a.0 (and_parts (has_items a.0) (are_objects a.0) (passed _ Form b.0 b.1)).0 in
     subst AreObjects same (record { json = inner.0; shallow = omega (arith, is.shallow, found.1, inner.1, listed_at_least (items_count a.0)); some = some })
 
--- what is read of each, where it is read so of one
+-- If P holds of the result of reading each object, it holds of all results.
 pub each_is : {Y : Type 0} (P : ℕ → Y → Type 0) (read : Data → Result Y Refusal) → ((n : ℕ) (d : Data) (y : Y) → 1 ≤ n → IsShallow (suc n) d → read d ≡ Ok y → P n y)
     → (items : Items) (ys : List Y) → AreObjects items → each_item read items ≡ Ok ys → AllByRecursion (P (depth_of_each (length ys))) ys × (1 ≤ length ys)
 each_is {Y = Y} P read one items ys are h =

@@ -1,4 +1,4 @@
--- Lists of recipients beside the lists that they stand for.
+-- Lists of recipients and the views of them.
 use Rattle.std.proofs.Common.{◌≡◌, ℕ, ◌≤◌, List, [], ◌∷◌, length, map, slice_index_or, sym, ap, ◌∙◌, arith}
 use Rattle.std.proofs.lemmas.List.Folds.{list_all-map}
 use Rattle.std.specs.List.{list_all}
@@ -7,11 +7,11 @@ use Rattle.objects.specs.Jwe.{have_enc, have_one_enc}
 use Rattle.objects.specs.Code.Views.{recipient_view}
 use Rattle.objects.specs.declared.jwe.recipient.Recipient.{Recipient as Code}
 
--- whether all have this `enc`
+-- All views have this `enc` exactly if all recipients do.
 all_have_enc : (enc : List ℕ) (recipients : List Code) → have_enc enc (map recipient_view recipients) ≡ list_all (λ (r : Code). bytes_eq (recipient_view r).enc enc) recipients
 all_have_enc enc = list_all-map (λ r. bytes_eq r.enc enc) recipient_view
 
--- whether all have that of the first
+-- All views have the same `enc` exactly if all recipients have that of the first.
 pub one_enc : (recipients : List Code) (first : Code) → 1 ≤ length recipients → first ≡ slice_index_or recipients 0 first
     → have_one_enc (map recipient_view recipients) ≡ list_all (λ (r : Code). bytes_eq (recipient_view r).enc (recipient_view first).enc) recipients
 one_enc [] first some is = absurd (omega arith)

@@ -1,4 +1,4 @@
--- Members that are put in one after another stand in the order of their names.
+-- Members that are inserted one after another are in the order of their names.
 use Rattle.std.proofs.Common.{◌≡◌, ℕ, List, [], ◌∷◌, Bool, true, false, ◌&&◌, cond, Option, Some, None, Ordering, Less, Equal, Greater, nat_cmp, refl, sym, ap, ◌∙◌}
 use Rattle.std.proofs.lemmas.Bool.{and_parts}
 use Rattle.std.specs.Cmp.Lexicographic.{slice_cmp}
@@ -26,22 +26,22 @@ greater Less h = cc h
 greater Equal h = cc h
 greater Greater h = refl
 
--- the name stands before all of these
+-- the name comes before all of these
 abbrev is_first : List ℕ → Entries → Bool
 is_first name [] = true
 is_first name (e ∷ rest) = is_less (slice_cmp nat_cmp name e.0) && is_first name rest
 
--- it stands before all from a place on, and behind those in front of it
+-- the name comes before all entries from some place on, and after those before this place
 abbrev has_place : List ℕ → Entries → Bool
 has_place name [] = true
 has_place name (e ∷ rest) = cond (is_first name (e ∷ rest)) true (is_greater (slice_cmp nat_cmp name e.0) && has_place name rest)
 
--- there it is put
+-- the entry is inserted at this place
 abbrev placed : List ℕ → Option Data → Entries → Entries
 placed name o [] = (name, o) ∷ []
 placed name o (e ∷ rest) = cond (is_first name (e ∷ rest)) ((name, o) ∷ e ∷ rest) (e ∷ placed name o rest)
 
--- a member is put before those that stand behind it
+-- A member is inserted before an entry with a later name.
 put_before : (name other : List ℕ) (d : Data) (o : Option Data) (ms : Members) → is_less (slice_cmp nat_cmp name other) ≡ true → put name d ms ≡ member name d ms
     → put name d (member_if_there other o ms) ≡ member name d (member_if_there other o ms)
 put_before name other d None ms is later = later
@@ -53,7 +53,7 @@ put_first name d (e ∷ rest) h =
     let parts = and_parts (is_less (slice_cmp nat_cmp name e.0)) (is_first name rest) h in
     put_before name e.0 d e.1 (present rest) parts.0 (put_first name d rest parts.1)
 
--- and behind those that stand before it
+-- A member is inserted after an entry with an earlier name.
 put_behind : (name other : List ℕ) (d : Data) (o : Option Data) (ms more : Members) → is_greater (slice_cmp nat_cmp name other) ≡ true → put name d ms ≡ more
     → put name d (member_if_there other o ms) ≡ member_if_there other o more
 put_behind name other d None ms more is later = later
@@ -71,7 +71,7 @@ put_placed : (name : List ℕ) (d : Data) (es : Entries) → has_place name es �
 put_placed name d [] h = refl
 put_placed name d (e ∷ rest) h = put_by (is_first name (e ∷ rest)) name d e rest refl h (put_placed name d rest)
 
--- an absent one changes nothing
+-- An absent entry changes nothing.
 absent_by : (b : Bool) (name : List ℕ) (e : List ℕ × Option Data) (rest : Entries) → present (placed name None rest) ≡ present rest
     → present (cond b ((name, None) ∷ e ∷ rest) (e ∷ placed name None rest)) ≡ present (e ∷ rest)
 absent_by true name e rest later = refl
@@ -81,7 +81,7 @@ absent_placed : (name : List ℕ) (es : Entries) → present (placed name None e
 absent_placed name [] = refl
 absent_placed name (e ∷ rest) = absent_by (is_first name (e ∷ rest)) name e rest (absent_placed name rest)
 
--- all in order
+-- all entries in order
 abbrev pub sorted : Entries → Entries
 sorted [] = []
 sorted (e ∷ rest) = placed e.0 e.1 (sorted rest)

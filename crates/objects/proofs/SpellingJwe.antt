@@ -1,4 +1,4 @@
--- The texts of an encrypted object's members: they are read of its JSON text, and as the object.
+-- The texts of an encrypted object's members: they are read from its JSON text, and the object is read from them.
 use Rattle.std.proofs.Common.{◌≡◌, ℕ, suc, ◌+◌, List, [], ◌∷◌, ◌++◌, length, map, codes, Bool, true, nat_le, Option, Some, None, Result, Ok, Err, refl, ap, ◌∙◌, arith}
 use Rattle.std.proofs.lemmas.Bool.{and_parts, le-leb}
 use Rattle.std.proofs.lemmas.List.{length-map}
@@ -30,11 +30,11 @@ use Rattle.keys.proofs.Lemmas.{octets_of_utf8}
 
 -- ---- the members of the JSON text
 
--- those of a recipient, from the last one that is put in
+-- the members of a recipient, from the one that is inserted last
 abbrev pub recipient_entries : EncodedRecipient → Entries
 recipient_entries t = (codes "header", header_there t.header) ∷ (codes "encrypted_key", text_there t.encrypted_key) ∷ []
 
--- those beside the recipients
+-- the members other than the recipients
 abbrev pub own_entries : Bool → EncodedJwe → Entries
 own_entries detach t =
     (codes "unprotected", header_there t.shared.unprotected) ∷ (codes "tag", text_there t.content.tag) ∷ (codes "protected", text_there t.shared.protected)
@@ -43,18 +43,18 @@ own_entries detach t =
 abbrev pub entries : Bool → EncodedJwe → Entries
 entries detach t = own_entries detach t ++ each_entries (codes "recipients") recipient_entries t.recipients
 
--- a recipient is read where its members stand
+-- A recipient is read from its members.
 recipient_found : (es : Entries) (t : EncodedRecipient) → first_there (codes "encrypted_key") es ≡ option_or (text_there t.encrypted_key) None
     → first_there (codes "header") es ≡ option_or (header_there t.header) None → encoded_recipient (object (put_all es)) ≡ Ok t
 unfolding encoded_recipient
 recipient_found es t key header = rw (text_found (codes "encrypted_key") es t.encrypted_key key, header_found (codes "header") es t.header header) refl
 
--- beside a list of recipients stand no members of one
+-- Next to a list of recipients, there are no members of a single one.
 nothing_beside : (detach : Bool) (t : EncodedJwe) (list : Data) → no_recipient_at (object (put_all (own_entries detach t ++ (codes "recipients", Some list) ∷ []))) ≡ Ok tt
 unfolding no_recipient_at
 nothing_beside detach t list = rw (recipient_found (own_entries detach t ++ (codes "recipients", Some list) ∷ []) (record { header = no_members; encrypted_key = [] }) refl refl) refl
 
--- so recipients are read, one or a list of them
+-- Recipients are read, one or a list of them.
 recipients_are_read : (detach : Bool) (t : EncodedJwe) → ReadsEach (codes "recipients") recipient_entries encoded_recipient no_recipient_at (own_entries detach t)
 recipients_are_read detach t = record {
   has_no_list = λ r. get_member-put_all (codes "recipients") (own_entries detach t ++ recipient_entries r);
@@ -64,17 +64,17 @@ recipients_are_read detach t = record {
   nothing = nothing_beside detach t;
 }
 
--- the objects of recipients are found so
+-- The objects of recipients are found the same way.
 by_list : (value : Data) (list : Option Data) → recipients_by value list ≡ objects_by no_recipient_at value list
 by_list value None = refl
 by_list value (Some list) = refl
 
--- the shared header is read as it was put in
+-- The shared header is read as it was inserted.
 pub unprotected_found : (detach : Bool) (t : EncodedJwe) → header_at (codes "unprotected") (object (put_all (entries detach t))) ≡ Ok t.shared.unprotected
 unprotected_found detach t =
     header_found (codes "unprotected") (entries detach t) t.shared.unprotected (in_front (codes "recipients") recipient_entries t.recipients (codes "unprotected") _ refl (λ r. refl))
 
--- all texts are read as they were put in, beside a ciphertext that is handed in where it is detached
+-- All texts are read as they were inserted, with the ciphertext that is handed in if it is detached.
 pub texts_read : (detach : Bool) (ciphertext : List ℕ) (t : EncodedJwe) → base64url ciphertext ≡ t.content.ciphertext → nat_le 1 (length t.recipients) ≡ true
     → encoded_in_json (handed_in detach ciphertext) (object (put_all (entries detach t))) ≡ Ok t
 unfolding encoded_in_json encoded_shared recipient_objects encoded_content
@@ -95,7 +95,7 @@ texts_read detach ciphertext t same some =
       text_found (codes "tag") es t.content.tag (front (codes "tag") _ refl (λ r. refl)),
     ) refl
 
--- with no recipient they are refused
+-- Without a recipient, the members are refused.
 pub no_texts_read : (detach : Bool) (ciphertext : List ℕ) (t : EncodedJwe) → t.recipients ≡ [] → encoded_in_json (handed_in detach ciphertext) (object (put_all (entries detach t))) ≡ Err Form
 unfolding encoded_in_json encoded_shared recipient_objects
 no_texts_read detach ciphertext t none =
@@ -111,7 +111,7 @@ no_texts_read detach ciphertext t none =
       found,
     ) refl
 
--- the texts of a recipient's members, and of all members
+-- the texts of a recipient's members
 abbrev pub recipient_spelled : RecipientParts → EncodedRecipient
 recipient_spelled p = record { header = p.header; encrypted_key = base64url p.encrypted_key }
 
@@ -122,17 +122,17 @@ parts_spelled p = record {
   content = record { iv = base64url p.iv; ciphertext = base64url p.ciphertext; tag = base64url p.tag };
 }
 
--- those of an object
+-- the texts of an object's members
 abbrev pub spelled : EncryptedObject → EncodedJwe
 spelled o = parts_spelled (parts_of o)
 
 -- ---- the members of which an object is made
 
--- an object has their texts
+-- An object has the texts of the parts that it is made of.
 pub object_keeps : (algs : List KeyManagementAlg) (octets : List ℕ) (parts : JweParts) (o : EncryptedObject) → encrypted_object algs octets parts ≡ Ok o → spelled o ≡ parts_spelled parts
 object_keeps algs octets parts o h = ap parts_spelled (object_is algs octets parts o h)
 
--- what holds of an object that is made of these parts
+-- an object that is built of these parts
 pub record IsBuilt (limits : Limits) (parts : JweParts) (o : EncryptedObject) : Type 0 where
   pub shallow : headers_are_shallow parts ≡ true
   pub some : nat_le 1 (length parts.recipients) ≡ true
@@ -158,14 +158,14 @@ jwe_is_built limits parts o h =
       made = e.2;
     }
 
--- what is left of building where the members are read
+-- the steps of building after the members are read
 abbrev pub decoding : Limits → JweParts → Result EncryptedObject Refusal
 decoding limits parts = do
   few ← needs (are_few limits (length parts.recipients)) Limit
   octets ← decoded parts.protected
   encrypted_object limits.management octets parts
 
--- the texts of the parts decode to these
+-- The texts of the parts decode to the parts.
 parts_read : (parts : JweParts) → AreMembers parts → decoded_members (parts_spelled parts) ≡ Ok parts
 unfolding decoded_members decoded_recipient
 parts_read parts members =
@@ -180,18 +180,18 @@ parts_read parts members =
       round parts.tag members.tag,
     ) refl
 
--- and are read so
+-- Reading the texts of the parts takes the same steps as building.
 pub decoding_is : (limits : Limits) (parts : JweParts) → AreMembers parts → decoded_object limits (parts_spelled parts) ≡ decoding limits parts
 unfolding decoded_object
 decoding_is limits parts members = rw (length-map parts.recipients recipient_spelled, parts_read parts members) refl
 
--- as the object
+-- The object is read from the texts of its parts.
 pub object_read : (limits : Limits) (parts : JweParts) (o : EncryptedObject) → AreMembers parts → IsBuilt limits parts o → decoded_object limits (parts_spelled parts) ≡ Ok o
 object_read limits parts o members is = decoding_is limits parts members ∙ rw (is.few, is.decodes) is.made
 
 -- ---- the texts
 
--- they have letters, digits, `-` and `_` alone
+-- the texts have only letters, digits, `-` and `_`
 pub record HasUrlTexts (t : EncodedJwe) : Type 0 where
   pub protected : IsUrlText t.shared.protected
   pub aad : IsUrlText t.shared.aad
@@ -210,7 +210,7 @@ url_texts limits parts o members is = record {
   tag = has_url_characters parts.tag members.tag;
 }
 
--- the members of a recipient are as JSON has them, and nest no deeper than its header
+-- The members of a recipient are JSON and nest no deeper than its header may.
 recipient_json : (n : ℕ) (p : RecipientParts) → AreJsonMembers p.header × IsOctets p.encrypted_key → nat_le (depth (object p.header)) n ≡ true
     → AreJsonEntries n (recipient_entries (recipient_spelled p))
 recipient_json n p members shallow = (
@@ -218,7 +218,7 @@ recipient_json n p members shallow = (
   (text_entry n (codes "encrypted_key") (base64url p.encrypted_key) refl (spelled_is_json p.encrypted_key members.1), tt),
 )
 
--- so are those beside the recipients, behind which others are
+-- The members other than the recipients are JSON, if those after them are.
 own_json : (n : ℕ) (parts : JweParts) → AreMembers parts → nat_le (depth (object parts.unprotected)) n ≡ true → (detach : Bool) (later : Entries) → AreJsonEntries n later
     → AreJsonEntries n (own_entries detach (parts_spelled parts) ++ later)
 own_json n parts members shallow detach later are =
@@ -230,7 +230,7 @@ own_json n parts members shallow detach later are =
     let aad = text_entry n (codes "aad") (base64url parts.aad) refl (spelled_is_json parts.aad members.aad) in
     (unprotected, (tag, (protected, (iv, (ciphertext, (aad, are))))))
 
--- so are all members, where no header is too deep
+-- If no header is too deep, all members are JSON and not too deep.
 pub members_json : (parts : JweParts) → AreMembers parts → headers_are_shallow parts ≡ true → (detach : Bool) → AreJsonEntries header_depth (entries detach (parts_spelled parts))
 members_json parts members shallow detach =
     let n : ℕ = depth_of_each (length parts.recipients) in
@@ -239,7 +239,7 @@ members_json parts members shallow detach =
     let recipients = each_json (codes "recipients") recipient_spelled recipient_entries parts.recipients (name_is_json (codes "recipients") refl) each in
     own_json header_depth parts members both.0 detach (each_entries (codes "recipients") recipient_entries (map recipient_spelled parts.recipients)) recipients
 
--- and they are however deep these are
+-- However deep the headers are, all members are JSON.
 pub object_json : (parts : JweParts) → AreMembers parts → (detach : Bool) → IsJson (object (put_all (entries detach (parts_spelled parts))))
 object_json parts members detach =
     let most = bounded (λ (p : RecipientParts). depth (object p.header)) parts.recipients in

@@ -1,4 +1,4 @@
--- What the JSON text of an encrypted object spells is the object, and so is what its compact text spells.
+-- An encrypted object is read from its JSON text and from its compact text.
 use Rattle.std.proofs.Common.{◌≡◌, ◌==◌, ◌&&◌, ℕ, List, [], ◌∷◌, length, map, Bool, true, false, not, Ok, refl, sym, ap, ◌∙◌, subst, arith}
 use Rattle.std.proofs.lemmas.Bool.{and_parts, eqb-true}
 use Rattle.serde_json.specs.Data.{no_members}
@@ -25,7 +25,7 @@ compact protected key iv ciphertext tag = record {
   content = record { iv = iv; ciphertext = ciphertext; tag = tag };
 }
 
--- such parts are read as they were joined, beside a ciphertext that is handed in where it is detached
+-- The parts are read as they were joined, with the ciphertext that is handed in if it is detached.
 split_in_five : (detach : Bool) (protected key iv ciphertext tag : List ℕ) → HasUrlTexts (compact protected key iv (base64url ciphertext) tag)
     → encoded_in_compact (handed_in detach ciphertext) (between_dots (protected ∷ key ∷ iv ∷ kept detach (base64url ciphertext) ∷ tag ∷ [])) ≡ Ok (compact protected key iv (base64url ciphertext) tag)
 unfolding encoded_in_compact
@@ -37,12 +37,12 @@ split_in_five detach protected key iv ciphertext tag h =
     let others = three_of_joined iv part tag (all_no_dot iv h.iv) no_dot (all_no_dot tag h.tag) in
     rw (first, second, others, kept_read detach ciphertext) refl
 
--- no octets have no text
+-- If there are no octets, their text is empty.
 no_text : (xs : List ℕ) → (length xs == 0) ≡ true → base64url xs ≡ []
 no_text [] h = spells_six_bits [] (λ i. omega arith)
 no_text (x ∷ xs) h = absurd (omega (arith, eqb-true _ 0 h))
 
--- an object that a compact text can hold has one recipient, and no other texts than such a text
+-- An object that fits into compact form has one recipient, and only the texts of a compact text.
 only_recipient : (o : EncryptedObject) (rs : List Recipient) → o.recipients ≡ rs → is_compact o rs ≡ true
     → spelled o ≡ compact o.protected (base64url (key_of_first (map recipient_parts_of rs))) (base64url o.iv) (base64url o.ciphertext) (base64url o.tag)
 only_recipient o [] is fits = cc fits
@@ -52,7 +52,7 @@ only_recipient o (r ∷ []) is fits =
     rw (is, no_member o.unprotected first.0, no_member r.header others.0, no_text o.aad others.1) refl
 only_recipient o (r ∷ (other ∷ rest)) is fits = cc fits
 
--- a compact text is read by its parts
+-- If the object is read from its texts, it is read from the compact text of these.
 read_compact : (limits : Limits) (detach : Bool) (protected key iv ciphertext tag : List ℕ) (o : EncryptedObject) → HasUrlTexts (compact protected key iv (base64url ciphertext) tag)
     → decoded_object limits (compact protected key iv (base64url ciphertext) tag) ≡ Ok o
     → jwe_of limits (handed_in detach ciphertext) (between_dots (protected ∷ key ∷ iv ∷ kept detach (base64url ciphertext) ∷ tag ∷ [])) ≡ Ok o
@@ -63,7 +63,7 @@ read_compact limits detach protected key iv ciphertext tag o url h =
     let all = joined_characters parts (url.protected, (url.keys.0, (url.iv, (kept_characters detach (base64url ciphertext) url.ciphertext, (url.tag, tt))))) in
     rw (no_json_form text all, no_line_end text all, split_in_five detach protected key iv ciphertext tag url) h
 
--- an object is what its compact text spells
+-- An object is read from its compact text.
 compact_text_spells : (limits : Limits) (parts : JweParts) (o : EncryptedObject) → AreMembers parts → IsBuilt limits parts o → (detach : Bool)
     → (text : List ℕ) → jwe_compact_text detach o ≡ Ok text → jwe_of limits (handed_in detach o.ciphertext) text ≡ Ok o
 unfolding jwe_compact_text
@@ -82,21 +82,21 @@ compact_text_spells limits parts o members is detach text h =
     ∙ read_compact limits detach protected key iv o.ciphertext tag o (subst HasUrlTexts texts (url_texts limits parts o members is))
     (ap (decoded_object limits) (sym texts) ∙ object_read limits parts o members is)
 
--- an object is what its JSON text spells, which is that of its members
+-- An object is read from its JSON text.
 json_text_spells : (limits : Limits) (parts : JweParts) (o : EncryptedObject) → AreMembers parts → built limits parts ≡ Ok o → (detach : Bool)
     → jwe_of limits (handed_in detach o.ciphertext) (json_text detach o) ≡ Ok o
 json_text_spells limits parts o members h detach =
     let is = jwe_is_built limits parts o h in
     ap (λ (p : JweParts). jwe_of limits (handed_in detach p.ciphertext) (members_text detach p)) (object_is limits.management is.octets parts o is.made) ∙ sym (building_is_reading limits parts members detach) ∙ h
 
--- an object that is made of its members is what its texts spell
+-- An object that is built of its members is read from its texts.
 pub texts_spell_objects : TextsSpellObjects
 texts_spell_objects limits parts o members h detach =
     (json_text_spells limits parts o members h detach, compact_text_spells limits parts o members (jwe_is_built limits parts o h) detach)
 
--- ---- what is written
+-- ---- the text that is written
 
--- in either form the text spells an object that can be made
+-- In either form, an object that can be made is read from its text.
 pub written_spells : (limits : Limits) (compact detach : Bool) (o : EncryptedObject) (text : List ℕ) → IsMade limits o → jwe_text compact detach o ≡ Ok text
     → jwe_of limits (handed_in detach o.ciphertext) text ≡ Ok o
 written_spells limits true detach o text made h = (texts_spell_objects limits made.0 o made.1.0 made.1.1 detach).1 text h

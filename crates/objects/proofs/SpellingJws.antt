@@ -1,4 +1,4 @@
--- The texts of a signed object's members: they are read of its JSON text, and as the object.
+-- The texts of a signed object's members: they are read from its JSON text, and the object is read from them.
 use Rattle.std.proofs.Common.{◌≡◌, ℕ, suc, List, [], ◌∷◌, ◌++◌, length, map, codes, Bool, true, nat_le, Option, Some, None, Result, Ok, Err, IsUtf8, refl, sym, ap, ap₂, ◌∙◌}
 use Rattle.std.proofs.lemmas.Bool.{le-leb}
 use Rattle.std.proofs.lemmas.List.{length-map, map-id}
@@ -28,25 +28,25 @@ use Rattle.keys.proofs.Lemmas.{octets_of_utf8}
 
 -- ---- the members of the JSON text
 
--- those of a signature, from the last one that is put in
+-- the members of a signature, from the one that is inserted last
 abbrev pub signature_entries : EncodedSignature → Entries
 signature_entries t = (codes "header", header_there t.header) ∷ (codes "signature", Some (string t.signature)) ∷ (codes "protected", text_there t.protected) ∷ []
 
--- that beside the signatures
+-- the member other than the signatures
 abbrev own_entries : Bool → EncodedJws → Entries
 own_entries detach t = (codes "payload", content_there detach t.payload) ∷ []
 
 abbrev pub entries : Bool → EncodedJws → Entries
 entries detach t = own_entries detach t ++ each_entries (codes "signatures") signature_entries t.signatures
 
--- a signature is read where its members stand
+-- A signature is read from its members.
 signature_found : (es : Entries) (t : EncodedSignature) → first_there (codes "protected") es ≡ option_or (text_there t.protected) None
     → first_there (codes "header") es ≡ option_or (header_there t.header) None → first_there (codes "signature") es ≡ Some (string t.signature) → encoded_signature (object (put_all es)) ≡ Ok t
 unfolding encoded_signature
 signature_found es t protected header signature =
     rw (text_found (codes "protected") es t.protected protected, header_found (codes "header") es t.header header, required_found (codes "signature") es t.signature signature) refl
 
--- beside a list of signatures stand no members of one
+-- Next to a list of signatures, there are no members of a single one.
 nothing_beside : (detach : Bool) (t : EncodedJws) (list : Data) → no_signature_at (object (put_all (own_entries detach t ++ (codes "signatures", Some list) ∷ []))) ≡ Ok tt
 unfolding no_signature_at
 nothing_beside detach t list =
@@ -54,7 +54,7 @@ nothing_beside detach t list =
     let no_signature : get (codes "signature") (object (put_all es)) ≡ None = get_member-put_all (codes "signature") es in
     rw (text_found (codes "protected") es [] refl, header_found (codes "header") es no_members refl, no_signature) refl
 
--- so signatures are read, one or a list of them
+-- Signatures are read, one or a list of them.
 signatures_are_read : (detach : Bool) (t : EncodedJws) → ReadsEach (codes "signatures") signature_entries encoded_signature no_signature_at (own_entries detach t)
 signatures_are_read detach t = record {
   has_no_list = λ s. get_member-put_all (codes "signatures") (own_entries detach t ++ signature_entries s);
@@ -64,12 +64,12 @@ signatures_are_read detach t = record {
   nothing = nothing_beside detach t;
 }
 
--- the objects of signatures are found so
+-- The objects of signatures are found the same way.
 by_list : (value : Data) (list : Option Data) → signatures_by value list ≡ objects_by no_signature_at value list
 by_list value None = refl
 by_list value (Some list) = refl
 
--- all texts are read as they were put in, beside a payload that is handed in where it is detached
+-- All texts are read as they were inserted, with the payload that is handed in if it is detached.
 pub texts_read : (detach : Bool) (payload : List ℕ) (t : EncodedJws) → base64url payload ≡ t.payload → nat_le 1 (length t.signatures) ≡ true
     → encoded_in_json (handed_in detach payload) (object (put_all (entries detach t))) ≡ Ok t
 unfolding encoded_in_json signature_objects
@@ -79,7 +79,7 @@ texts_read detach payload t same some =
     let found = each_read (codes "signatures") signature_entries encoded_signature no_signature_at (own_entries detach t) (signatures_are_read detach t) t.signatures some in
     rw (content_found detach (codes "payload") (entries detach t) payload t.payload same (front (codes "payload") _ refl (λ s. refl)), by_list value (get (codes "signatures") value), found.1, found.2) refl
 
--- with no signature they are refused
+-- Without a signature, the members are refused.
 pub no_texts_read : (detach : Bool) (payload : List ℕ) (t : EncodedJws) → base64url payload ≡ t.payload → t.signatures ≡ [] → encoded_in_json (handed_in detach payload) (object (put_all (entries detach t))) ≡ Err Form
 unfolding encoded_in_json signature_objects
 no_texts_read detach payload t same none =
@@ -88,20 +88,20 @@ no_texts_read detach payload t same none =
     let found = none_read (codes "signatures") signature_entries encoded_signature no_signature_at (own_entries detach t) (signatures_are_read detach t) t.signatures none in
     rw (content_found detach (codes "payload") (entries detach t) payload t.payload same (front (codes "payload") _ refl (λ s. refl)), by_list value (get (codes "signatures") value), found) refl
 
--- the texts of a signature's members, and of all members
+-- the texts of a signature's members
 abbrev pub signature_spelled : SignatureParts → EncodedSignature
 signature_spelled p = record { protected = p.protected; header = p.header; signature = base64url p.signature }
 
 abbrev pub parts_spelled : JwsParts → EncodedJws
 parts_spelled p = record { payload = base64url p.payload; signatures = map signature_spelled p.signatures }
 
--- those of an object
+-- the texts of an object's members
 abbrev pub spelled : SignedObject → EncodedJws
 spelled o = parts_spelled (parts_of o)
 
 -- ---- the members of which an object is made
 
--- what holds of an object that is made of these parts
+-- an object that is built of these parts
 pub record IsBuilt (limits : Limits) (parts : JwsParts) (o : SignedObject) : Type 0 where
   pub shallow : nest_at_most (depth_of_each (length parts.signatures)) parts.signatures ≡ true
   pub some : nat_le 1 (length parts.signatures) ≡ true
@@ -133,25 +133,25 @@ decoded_is p d h =
     let a = steps (decoded p.protected) _ d h in
     ap (λ (d : DecodedSignature). d.parts) (sym (same_answer _ d a.2))
 
--- an object has these members
+-- The parts of an object are those that it is built of.
 pub parts_are : (limits : Limits) (parts : JwsParts) (o : SignedObject) → IsBuilt limits parts o → parts_of o ≡ parts
 parts_are limits parts o is =
     let signed = signed_is limits.management parts.payload is.decoded o is.made in
     let kept = each_keeps decoded_part (λ p. p) (λ (d : DecodedSignature). d.parts) decoded_is parts.signatures is.decoded is.decodes ∙ map-id parts.signatures in
     ap₂ (λ payload signatures. let p : JwsParts = record { payload = payload; signatures = signatures } in p) signed.payload (signed.signatures ∙ kept)
 
--- and so their texts
+-- An object has the texts of the parts that it is built of.
 pub object_keeps : (limits : Limits) (parts : JwsParts) (o : SignedObject) → IsBuilt limits parts o → spelled o ≡ parts_spelled parts
 object_keeps limits parts o is = ap parts_spelled (parts_are limits parts o is)
 
--- what is left of building where the members are read
+-- the steps of building after the members are read
 abbrev pub decoding : Limits → JwsParts → Result SignedObject Refusal
 decoding limits parts = do
   few ← needs (are_few limits (length parts.signatures)) Limit
   signatures ← each decoded_part parts.signatures
   signed_object limits.management parts.payload signatures
 
--- the texts of the parts are read so
+-- Reading the texts of the parts takes the same steps as building.
 pub decoding_is : (limits : Limits) (parts : JwsParts) → AreMembers parts → decoded_object limits (parts_spelled parts) ≡ decoding limits parts
 unfolding decoded_object decoded_signature
 decoding_is limits parts members =
@@ -159,17 +159,17 @@ decoding_is limits parts members =
     let reads = each_alike decoded_part decoded_signature signature_spelled (λ p h. rw (round p.signature h.1.1) refl) parts.signatures members.signatures in
     rw (length-map parts.signatures signature_spelled, round parts.payload members.payload, reads) refl
 
--- as the object
+-- The object is read from the texts of its parts.
 pub object_read : (limits : Limits) (parts : JwsParts) (o : SignedObject) → AreMembers parts → IsBuilt limits parts o → decoded_object limits (parts_spelled parts) ≡ Ok o
 object_read limits parts o members is = decoding_is limits parts members ∙ rw (is.few, is.decodes) is.made
 
 -- ---- the texts
 
--- the texts of a signature have letters, digits, `-` and `_` alone
+-- the texts of a signature have only letters, digits, `-` and `_`
 abbrev AreUrlTexts : EncodedSignature → Type 0
 AreUrlTexts s = IsUrlText s.protected × IsUrlText s.signature
 
--- so have those of an object
+-- the texts of an object have only these characters
 pub record HasUrlTexts (t : EncodedJws) : Type 0 where
   pub payload : IsUrlText t.payload
   pub signatures : AllByRecursion AreUrlTexts t.signatures
@@ -186,7 +186,7 @@ url_texts limits parts o members is = record {
   signatures = all_images AreUrlTexts signature_spelled (λ p h. h) parts.signatures (each_all decoded_part (signature_url_texts) parts.signatures is.decoded is.decodes members.signatures);
 }
 
--- the members of a signature are as JSON has them, and nest no deeper than its header
+-- The members of a signature are JSON and nest no deeper than its header may.
 signature_json : (n : ℕ) (p : SignatureParts) → IsUtf8 p.protected × (AreJsonMembers p.header × IsOctets p.signature) → nat_le (depth (object p.header)) n ≡ true
     → AreJsonEntries n (signature_entries (signature_spelled p))
 signature_json n p members shallow =
@@ -198,7 +198,7 @@ signature_json n p members shallow =
 payload_json : (n : ℕ) (parts : JwsParts) → AreMembers parts → (detach : Bool) → IsUtf8 (codes "payload") × IsJsonIfThere n (content_there detach (base64url parts.payload))
 payload_json n parts members detach = content_entry detach n (codes "payload") (base64url parts.payload) refl (spelled_is_json parts.payload members.payload)
 
--- so are all members, where no header is too deep
+-- If no header is too deep, all members are JSON and not too deep.
 pub members_json : (parts : JwsParts) → AreMembers parts → nest_at_most (depth_of_each (length parts.signatures)) parts.signatures ≡ true → (detach : Bool)
     → AreJsonEntries header_depth (entries detach (parts_spelled parts))
 members_json parts members nest detach =
@@ -207,7 +207,7 @@ members_json parts members nest detach =
     let each = all_both (signature_json n) parts.signatures members.signatures shallow in
     (payload_json header_depth parts members detach, each_json (codes "signatures") signature_spelled signature_entries parts.signatures (name_is_json (codes "signatures") refl) each)
 
--- and they are however deep these are
+-- However deep the headers are, all members are JSON.
 pub object_json : (parts : JwsParts) → AreMembers parts → (detach : Bool) → IsJson (object (put_all (entries detach (parts_spelled parts))))
 object_json parts members detach =
     let most = bounded (λ (p : SignatureParts). depth (object p.header)) parts.signatures in

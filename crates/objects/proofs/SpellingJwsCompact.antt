@@ -1,4 +1,4 @@
--- What the JSON text of a signed object spells is the object, and so is what its compact text spells.
+-- A signed object is read from its JSON text and from its compact text.
 use Rattle.std.proofs.Common.{◌≡◌, ℕ, List, [], ◌∷◌, map, Bool, true, false, Ok, refl, sym, ap, ◌∙◌, subst}
 use Rattle.serde_json.specs.Data.{no_members}
 use Rattle.octets.specs.declared.refusal.Refusal.TheVariants.{NotCompact}
@@ -19,7 +19,7 @@ use Rattle.octets.proofs.Lemmas.{steps, passed, same_answer}
 abbrev compact : List ℕ → List ℕ → List ℕ → EncodedJws
 compact protected payload signature = record { payload = payload; signatures = record { protected = protected; header = no_members; signature = signature } ∷ [] }
 
--- such parts are read as they were joined, beside a payload that is handed in where it is detached
+-- The parts are read as they were joined, with the payload that is handed in if it is detached.
 split_in_three : (detach : Bool) (protected payload signature : List ℕ) → HasUrlTexts (compact protected (base64url payload) signature)
     → encoded_in_compact (handed_in detach payload) (between_dots (protected ∷ kept detach (base64url payload) ∷ signature ∷ [])) ≡ Ok (compact protected (base64url payload) signature)
 unfolding encoded_in_compact
@@ -29,7 +29,7 @@ split_in_three detach protected payload signature h =
     let parts = three_of_joined protected part signature (all_no_dot protected h.signatures.0.0) no_dot (all_no_dot signature h.signatures.0.1) in
     rw (parts, kept_read detach payload) refl
 
--- the one signature of an object that a compact text can hold: its texts, and those between dots
+-- the single signature of an object that fits into compact form: its texts, and their compact text
 record IsAlone (detach : Bool) (o : SignedObject) (signatures : List Signature) : Type 0 where
   protected : List ℕ
   signature : List ℕ
@@ -46,7 +46,7 @@ only_signature detach o (s ∷ []) is fits = record {
 }
 only_signature detach o (s ∷ (other ∷ rest)) is fits = cc fits
 
--- a compact text is read by its parts
+-- If the object is read from its texts, it is read from the compact text of these.
 read_compact : (limits : Limits) (detach : Bool) (protected payload signature : List ℕ) (o : SignedObject) → HasUrlTexts (compact protected (base64url payload) signature)
     → decoded_object limits (compact protected (base64url payload) signature) ≡ Ok o
     → jws_of limits (handed_in detach payload) (between_dots (protected ∷ kept detach (base64url payload) ∷ signature ∷ [])) ≡ Ok o
@@ -57,7 +57,7 @@ read_compact limits detach protected payload signature o url h =
     let all = joined_characters parts (url.signatures.0.0, (kept_characters detach (base64url payload) url.payload, (url.signatures.0.1, tt))) in
     rw (no_json_form text all, no_line_end text all, split_in_three detach protected payload signature url) h
 
--- an object is what its compact text spells
+-- An object is read from its compact text.
 compact_text_spells : (limits : Limits) (parts : JwsParts) (o : SignedObject) → AreMembers parts → IsBuilt limits parts o → (detach : Bool)
     → (text : List ℕ) → jws_compact_text detach o ≡ Ok text → jws_of limits (handed_in detach o.payload) text ≡ Ok o
 unfolding jws_compact_text
@@ -69,21 +69,21 @@ compact_text_spells limits parts o members is detach text h =
     ∙ read_compact limits detach one.protected o.payload one.signature o (subst HasUrlTexts texts (url_texts limits parts o members is))
     (ap (decoded_object limits) (sym texts) ∙ object_read limits parts o members is)
 
--- an object is what its JSON text spells, which is that of its members
+-- An object is read from its JSON text.
 json_text_spells : (limits : Limits) (parts : JwsParts) (o : SignedObject) → AreMembers parts → built limits parts ≡ Ok o → (detach : Bool)
     → jws_of limits (handed_in detach o.payload) (json_text detach o) ≡ Ok o
 json_text_spells limits parts o members h detach =
     let same = parts_are limits parts o (jws_is_built limits parts o h) in
     ap (λ (p : JwsParts). jws_of limits (handed_in detach p.payload) (members_text detach p)) same ∙ sym (building_is_reading limits parts members detach) ∙ h
 
--- an object that is made of its members is what its texts spell
+-- An object that is built of its members is read from its texts.
 pub texts_spell_objects : TextsSpellObjects
 texts_spell_objects limits parts o members h detach =
     (json_text_spells limits parts o members h detach, compact_text_spells limits parts o members (jws_is_built limits parts o h) detach)
 
--- ---- what is written
+-- ---- the text that is written
 
--- in either form the text spells an object that can be made
+-- In either form, an object that can be made is read from its text.
 pub written_spells : (limits : Limits) (compact detach : Bool) (o : SignedObject) (text : List ℕ) → IsMade limits o → jws_text compact detach o ≡ Ok text
     → jws_of limits (handed_in detach o.payload) text ≡ Ok o
 written_spells limits true detach o text made h = (texts_spell_objects limits made.0 o made.1.0 made.1.1 detach).1 text h

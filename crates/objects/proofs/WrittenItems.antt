@@ -3,7 +3,7 @@ use Rattle.std.proofs.Common.{◌≡◌, ℕ, ◌+◌, ◌<◌, List, [], ◌∷
 use Rattle.std.proofs.lemmas.List.{map_more, length-map}
 use Rattle.objects.specs.Code.Writing.{Written, opened, closed, separated, with_items}
 
--- one more behind those that were written
+-- One more object is written after the others.
 items_more : {X : Type 0} (with_one : X → Written → Written) (xs : List X) (x : X) (w : Written)
     → with_items with_one (xs ++ x ∷ []) w ≡ closed (codes "}") (with_one x (opened (codes "{") (separated (with_items with_one xs w))))
 items_more with_one [] x w = refl
@@ -18,10 +18,10 @@ one_more_item with_one seen xs i x start w so_far lt at =
     ∙ sym (items_more with_one front (seen x) start)
     ∙ ap (λ y. with_items with_one (front ++ seen y ∷ []) start) at ∙ ap (λ l. with_items with_one l start) (sym (map_more seen xs i x lt))
 
--- what is seen of what is seen
+-- The view of a view is one view.
 pub map_map : {A B C : Type 0} (g : B → C) (f : A → B) (xs : List A) → map g (map f xs) ≡ map (λ x. g (f x)) xs
 map_map g f [] = refl
 map_map g f (x ∷ xs) = ap (λ rest. g (f x) ∷ rest) (map_map g f xs)
 
--- a list by what is seen of each
+-- rules for a view of each element of a list
 pub ruleset seen = (map_map, length-map)

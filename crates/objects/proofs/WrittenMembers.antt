@@ -1,4 +1,4 @@
--- Members that are written one after another, beside the compact text of the object that has them.
+-- Members that are written one after another, and the compact text of the object with these members.
 use Rattle.std.proofs.Common.{◌≡◌, ℕ, List, [], ◌∷◌, ◌++◌, codes, Bool, true, false, refl, sym, ap, ◌∙◌, subst, append_assoc, append-nil}
 use Rattle.std.specs.List.{list_all}
 use Rattle.serde_json.specs.Data.{Data, string, array, object, Members, no_members, member}
@@ -10,12 +10,12 @@ use Rattle.objects.specs.Values.{Entries, member_if_there, present, objects, tex
 use Rattle.objects.proofs.Characters.{IsUrlText}
 use Rattle.objects.proofs.EachRead.{all_passed}
 
--- what is written, with no place left in it, and then the rest make all of a text
+-- the text that is written, without places, and the rest make up a text
 pub record Begins (w : Written) (rest all : List ℕ) : Type 0 where
   pub whole : w.places ≡ false
   pub text : w.text ++ rest ≡ all
 
--- with no rest it is all
+-- If no rest is left, the text is complete.
 pub is_whole : (w : Written) (all : List ℕ) → Begins w [] all → w.text ≡ all
 is_whole w all b = sym (append-nil w.text) ∙ b.text
 
@@ -27,7 +27,7 @@ at_rest w rest other all same b = subst (λ r. Begins w r all) same b
 begins_pushed : (x : List ℕ) (w : Written) (rest all : List ℕ) → Begins w (x ++ rest) all → Begins (pushed x w) rest all
 begins_pushed x w rest all b = record { whole = b.whole; text = append_assoc w.text x rest ∙ b.text }
 
--- so does one that a bracket closes or opens
+-- With a closing or opening bracket, the text still begins the whole.
 pub begins_closed : (x : List ℕ) (w : Written) (rest all : List ℕ) → Begins w (x ++ rest) all → Begins (closed x w) rest all
 begins_closed x w rest all b = let p = begins_pushed x w rest all b in record { whole = p.whole; text = p.text }
 
@@ -36,7 +36,7 @@ begins_opened x w rest all b = let p = begins_pushed x w rest all b in record { 
 
 -- ---- names and values
 
--- a text of these characters needs no escape
+-- A base64url text needs no escape.
 quoted : (text rest : List ℕ) → IsUrlText text → compact_text (string text) ++ rest ≡ codes "\"" ++ (text ++ (codes "\"" ++ rest))
 quoted text rest is = ap (λ t. t ++ rest) (url_texts_are_json text is).1 ∙ ap (λ t. 34 ∷ t) (append_assoc text (34 ∷ []) rest)
 
@@ -44,7 +44,7 @@ begins_comma : (b : Bool) (w : Written) (rest all : List ℕ) → Begins w (comm
 begins_comma true w rest all b = begins_pushed (codes ",") w rest all b
 begins_comma false w rest all b = b
 
--- behind its name stands the value
+-- After its name, the value is still to be written.
 begins_named : (name : List ℕ) (d : Data) (ms : Members) (tail : List ℕ) (w : Written) (all : List ℕ) → list_all is_url_character name ≡ true
     → Begins w (members_text w.later (member name d ms) ++ tail) all → Begins (named name w) (compact_text d ++ (members_text true ms ++ tail)) all
 begins_named name d ms tail w all is b =
@@ -63,20 +63,20 @@ begins_value name d ms tail w all is b = begins_pushed (compact_text d) (named n
 
 -- ---- members
 
--- a text is written where it is there
+-- A text is written if it is there.
 pub begins_text : (name text : List ℕ) (ms : Members) (tail : List ℕ) (w : Written) (all : List ℕ) → list_all is_url_character name ≡ true
     → Begins w (members_text w.later (member_if_there name (text_there text) ms) ++ tail) all → Begins (with_text name text w) (members_text (with_text name text w).later ms ++ tail) all
 begins_text name [] ms tail w all is b = b
 begins_text name (c ∷ text) ms tail w all is b = begins_value name (string (c ∷ text)) ms tail w all is b
 
--- so is a header
+-- A header is written if it is there.
 pub begins_header : (name : List ℕ) (header ms : Members) (tail : List ℕ) (w : Written) (all : List ℕ) → list_all is_url_character name ≡ true
     → Begins w (members_text w.later (member_if_there name (header_there header) ms) ++ tail) all
     → Begins (with_header name header w) (members_text (with_header name header w).later ms ++ tail) all
 begins_header name no_members ms tail w all is b = b
 begins_header name (member k d header) ms tail w all is b = begins_value name (object (member k d header)) ms tail w all is b
 
--- the text of octets is a value
+-- The text of octets is written as a value.
 pub begins_place : (name octets : List ℕ) (ms : Members) (tail : List ℕ) (w : Written) (all : List ℕ) → list_all is_url_character name ≡ true
     → Begins w (members_text w.later (member name (string (base64url octets)) ms) ++ tail) all
     → Begins (with_place name octets w) (members_text (with_place name octets w).later ms ++ tail) all
@@ -84,7 +84,7 @@ begins_place name octets ms tail w all is b =
     subst (λ p. Begins (place_by p name octets w) (members_text (place_by p name octets w).later ms ++ tail) all) (sym b.whole)
     (begins_value name (string (base64url octets)) ms tail w all is b)
 
--- that of a content is there unless it is detached
+-- The text of a content is written unless it is detached.
 pub begins_content : (name : List ℕ) (detach : Bool) (content : List ℕ) (ms : Members) (tail : List ℕ) (w : Written) (all : List ℕ) → list_all is_url_character name ≡ true
     → Begins w (members_text w.later (member_if_there name (content_there detach (base64url content)) ms) ++ tail) all
     → Begins (with_content name (inside detach content) w) (members_text (with_content name (inside detach content) w).later ms ++ tail) all
@@ -93,7 +93,7 @@ begins_content name false content ms tail w all is b = begins_place name content
 
 -- ---- lists
 
--- each is written up to the brace behind its members
+-- each element is written up to the closing brace after its members
 abbrev pub WritesEach : {X : Type 0} → (X → Written → Written) → (X → Entries) → Type 0
 WritesEach {X} with_one members = (x : X) (tail : List ℕ) (w : Written) (all : List ℕ)
     → Begins w (members_text w.later (present (members x)) ++ tail) all → Begins (with_one x w) (codes "}" ++ tail) all
@@ -123,6 +123,6 @@ begins_list name with_one members xs writes ms tail w all is b =
 
 -- ---- the whole text
 
--- behind its brace the members of an object are still to be written
+-- After its opening brace, the members of an object are still to be written.
 pub begins_object : (ms : Members) → Begins (opened (codes "{") (nothing_written false)) (members_text false ms ++ []) (compact_text (object ms))
 begins_object ms = record { whole = refl; text = ap (λ t. 123 ∷ t) (append-nil (members_text false ms)) }

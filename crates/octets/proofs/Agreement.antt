@@ -1,4 +1,4 @@
--- What a call did on an output, held against its answer.
+-- The effect of a call on an output, compared with its answer.
 use Rattle.std.proofs.Common.{◌≡◌, List, [], ◌++◌, ℕ, length, Bool, true, Result, Ok, Err, OnOk, OnErr, IfErr, IsTrue, refl, sym, ◌∙◌, ap, subst, append-nil, rules}
 use Rattle.std.proofs.Math.Seq.{drop-append_seam}
 use lib.Dec.{leb-zero}
@@ -15,53 +15,53 @@ AgreesUnlessExternal-map f a w v (Err r) e h = λ inside. ap (λ q. q >>= λ x. 
 
 -- ---- drafts
 
--- where nothing is drawn any random input will do
+-- A plan that draws nothing is the same for every random input.
 enough : {W : Type 0} (plan : Plan W) (random : List ℕ) → plan_from (Ok (without_random plan)) random ≡ Ok plan
 enough plan random = ap (λ test. needs test Random >>= λ u. Ok plan) (leb-zero (length random))
 
--- a plan that draws nothing is the plan by any random input
+-- The draft of a plan that draws nothing leads to this plan for every random input.
 pub plan_from-by_plan : {W : Type 0} (plan : Result (Plan W) Refusal) (random : List ℕ) → plan_from (by_plan plan) random ≡ plan
 plan_from-by_plan (Ok p) random = enough p random
 plan_from-by_plan (Err r) random = refl
 
 -- ---- answers
 
--- an answer by a plan, put in its place
+-- The answer of a mapped plan is the mapped answer of the plan.
 pub planned_map : {W V : Type 0} (f : W → V) (plan : Result (Plan W) Refusal) (content : List ℕ)
     → planned (plan >>= λ p. Ok (plan_map f p)) content ≡ (planned plan content >>= λ w. Ok (f w))
 planned_map f (Ok p) content = refl
 planned_map f (Err r) content = refl
 
--- an answer without a content
+-- A plan without a content has the same answer for every content.
 pub planned_without_content : {W : Type 0} (f : List ℕ → W) (a : Result (List ℕ) Refusal) (nil : List ℕ)
     → planned (a >>= λ x. Ok (without_content (f x))) nil ≡ (a >>= λ x. Ok (f x))
 planned_without_content f (Ok x) nil = refl
 planned_without_content f (Err r) nil = refl
 
--- a fact at an answer, by another
+-- If a fact holds on success and implies another, the other holds on success.
 pub on_success : {X P Q : Type 0} (r : Result X Refusal) → OnOk r P → (P → Q) → OnOk r Q
 on_success (Ok done) p f = f p
 on_success (Err e) p f = tt
 
--- a fact at a refusal, as everywhere
+-- A fact that always holds also holds on refusal.
 pub at_refusal : {X P : Type 0} (r : Result X Refusal) → P → OnErr r P
 at_refusal (Ok done) p = tt
 at_refusal (Err e) p = p
 
--- a fact at a refusal, by another
+-- If a fact holds on refusal and implies another, the other holds on refusal.
 pub on_refusal : {X P Q : Type 0} (r : Result X Refusal) → OnErr r P → (P → Q) → OnErr r Q
 on_refusal (Ok done) p f = tt
 on_refusal (Err e) p f = f p
 
--- a fact of the refusal
+-- A fact about a refusal holds of the result with this refusal.
 pub of_refusal : {X : Type 0} (P : Refusal → Type 0) (r : Result X Refusal) (e : Refusal) → r ≡ Err e → P e → IfErr r P
 of_refusal P r e is fact = subst (λ r. IfErr r P) (sym is) fact
 
--- what was seen of an input may be all of it
+-- The octets that were read may be the whole input.
 pub seen_possible : {D : Type 0} (consumed : D → List ℕ) (is_at_end : D → Bool) (old new : D) → IsPossibleInput (observed consumed is_at_end old new) (appended (consumed old) (consumed new))
 seen_possible consumed is_at_end old new = record { rest = []; continues = sym (append-nil (appended (consumed old) (consumed new))); ends = λ _. refl; octets = search rules }
 
--- ---- the last call decides: it worked, or an output failed
+-- ---- the last call decides: it succeeded, or an output failed
 
 pub agrees_last : {W P : Type 0} (answer : Result W Refusal) (wrote : W) (r : Result (Unit {0}) Refusal) → OnOk r P → OnErr r (r ≡ Err Write) → (P → answer ≡ Ok wrote)
     → AgreesUnlessExternal answer wrote r
@@ -76,7 +76,7 @@ agrees_last answer wrote (Err e) all cause f = λ inside.
 pub appended-append : (old p : List ℕ) → appended old (old ++ p) ≡ p
 appended-append old p = drop-append_seam old p
 
--- no other input is possible
+-- If an input was read to its end, the whole input is what was read.
 pub whole_is : {D : Type 0} (consumed : D → List ℕ) (is_at_end : D → Bool) (old new : D) (items whole : List ℕ) → consumed new ≡ consumed old ++ items → IsTrue (is_at_end new)
     → IsPossibleInput (observed consumed is_at_end old new) whole → whole ≡ items
 whole_is consumed is_at_end old new items whole e at_end possible =
@@ -85,7 +85,7 @@ whole_is consumed is_at_end old new items whole e at_end possible =
 
 -- ---- two outputs that were written
 
--- all of both texts is there
+-- If both texts were written, they are exactly what was added to the two outputs.
 pub both_written : (texts : OutputTexts) (old new old_beside new_beside : List ℕ) → new ≡ old ++ texts.text → new_beside ≡ old_beside ++ texts.content
     → texts ≡ record { text = appended old new; content = appended old_beside new_beside }
 both_written texts old new old_beside new_beside text content =

@@ -40,7 +40,7 @@ symbols (a ∷ b ∷ c ∷ rest) h =
     let more : AreUrl (encode_symbols alphabet rest) = symbols rest (λ i. h (suc (suc (suc i)))) in
     (symbol (a / 4) (omega arith), (symbol (a % 4 * 16 + b / 16) (omega arith), (symbol (b % 16 * 4 + c / 64) (omega arith), (symbol (c % 64) (omega arith), more))))
 
--- three octets later, four characters later
+-- After three more octets, the characters are four further on.
 later : (a b c : ℕ) (rest : List ℕ) (j : ℕ) → six_bits (a ∷ b ∷ c ∷ rest) (suc (suc (suc (suc j)))) ≡ six_bits rest j
 later a b c rest j =
     let at : 6 * suc (suc (suc (suc j))) / 8 ≡ suc (suc (suc (6 * j / 8))) = omega arith in
@@ -48,7 +48,7 @@ later a b c rest j =
     let next : suc (suc (suc (6 * j / 8))) + 1 ≡ suc (suc (suc (6 * j / 8 + 1))) = omega arith in
     rw (at, bit, next) refl
 
--- the symbol of this value is that of the other
+-- Equal values have the same symbol.
 same : (v w : ℕ) → v ≡ w → get_or alphabet v 0 ≡ get_or alphabet w 0
 same v w e = ap (λ s. get_or alphabet s 0) e
 

@@ -12,7 +12,7 @@ use borrow.Rule.Slice.PartMut.{put_mid}
 abbrev pub chunk : ℕ → List ℕ → ℕ → List ℕ
 chunk w p i = take w (drop (w * i) p)
 
--- ---- where it begins
+-- ---- the beginning of a chunk
 
 times_add : (w n i : ℕ) → w * (n + i) ≡ w * n + w * i
 times_add w n zero = ap (λ k. w * k) (let e : n + 0 ≡ n = omega arith in e) ∙ (let e : w * n ≡ w * n + w * 0 = omega arith in e)
@@ -24,13 +24,13 @@ times_add w n (suc i) =
 times_one_more : (w i : ℕ) → w * (i + 1) ≡ w + w * i
 times_one_more w i = ap (λ k. w * k) (add-one i) ∙ mul-suc w i ∙ omega arith
 
--- a chunk ends where a later one begins, or before
+-- A chunk ends at the beginning of a later one, or before it.
 times_below : (w j i : ℕ) → j < i → w * j + w ≤ w * i
 times_below w j i l = subst (λ n. n ≤ w * i) (mul-suc w j) (mul-le-mul_left w (let e : suc j ≤ i = omega arith in e))
 
 -- ---- a chunk
 
--- `&p[w * i..w * i + w]`
+-- The slice `&p[w * i..w * i + w]` is chunk i.
 pub chunk_is : (w : ℕ) (p : List ℕ) (i : ℕ) → between (w * i) (w * i + w) p ≡ chunk w p i
 chunk_is w p i = ap (λ n. take n (drop (w * i) p)) (let e : w * i + w - w * i ≡ w = omega arith in e)
 
@@ -43,7 +43,7 @@ chunk_octets w p i o k = ⊎_elim
     (λ l. subst (λ v. v < 256) (sym (get_or_past (chunk w p i) k 0 (omega (arith, l, length-take w (drop (w * i) p))))) (let z : 0 < 256 = omega arith in z))
     (cases_lt k w)
 
--- ---- chunks of two lists joined, of which the first is whole chunks
+-- ---- chunks of two joined lists, the first of which consists of whole chunks
 
 pub chunk_front : (w : ℕ) (m q : List ℕ) (i : ℕ) → w * i + w ≤ length m → chunk w (m ++ q) i ≡ chunk w m i
 chunk_front w m q i h =
@@ -86,7 +86,7 @@ module _ (w : ℕ) (r x : List ℕ) (i n : ℕ) (wide : n ≡ w) (room : w * i +
       ∙ ⊎_elim (λ l. below j l) (λ l. above j (omega (arith, ne, l))) (cases_lt j i)
       ∙ chunk_is w r j
 
-  -- what the other chunks are and the new one is, all are
+  -- If the other chunks are those of f and the new one is, all chunks are those of f.
   pub chunk_more : (f : ℕ → List ℕ) → x ≡ f i → (j : ℕ) → (j ≢ i → chunk w r j ≡ f j) → chunk w written j ≡ f j
   chunk_more f is j other = ⊎_elim
       (λ (s : j ≡ i). ap (chunk w written) s ∙ chunk_written ∙ is ∙ ap f (sym s))
@@ -106,7 +106,7 @@ chunks_joined w f (suc n) a r h k =
     ∙ ap f (let e : a + (i + 1) ≡ a + 1 + i = omega arith in e)))
     ∙ take-append-drop w r
 
--- two lists with the same chunks
+-- Two lists with the same chunks are equal.
 pub same_chunks : (w n : ℕ) (r p : List ℕ) → length r ≡ w * n → length p ≡ w * n → ((i : ℕ) → i < n → chunk w r i ≡ chunk w p i) → r ≡ p
 same_chunks w n r p h k same =
     let from : (i : ℕ) → chunk w p i ≡ chunk w p (0 + i) = λ i. ap (chunk w p) (let e : i ≡ 0 + i = omega arith in e) in

@@ -1,14 +1,14 @@
--- Inputs over memory, whose octets are known to be octets.
+-- Inputs in memory, whose items are known to be octets.
 use Rattle.std.proofs.Common.{◌≡◌, ℕ, List, take, ap, subst, ◌∙◌}
 use Rattle.std.proofs.Math.Bridge.{le_prop}
 use Rattle.octets.specs.Octets.{IsOctets}
 use Rattle.octets.specs.Code.Views.{Contents}
 
--- that they are octets has one proof
+-- There is only one proof that the items are octets.
 one_proof : (octets : List ℕ) → IsProp ((n : ℕ) → IsOctets (take n octets))
 one_proof octets = hlevel le_prop
 
--- two with the same octets, at the same place and of the same step
+-- Two inputs with the same octets, position and step are equal.
 pub contents_same : (a b : Contents) → a.octets ≡ b.octets → a.position ≡ b.position → a.step ≡ b.step → a ≡ b
 contents_same a b octets position step =
     let made : (xs : List ℕ) → ℕ → ℕ → ((n : ℕ) → IsOctets (take n xs)) → Contents =

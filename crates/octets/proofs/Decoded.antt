@@ -1,4 +1,4 @@
--- What a text decodes to: octets, and group by group.
+-- Decoding a text: the result is octets, and groups are decoded one by one.
 use Rattle.std.proofs.Common.{◌≡◌, ℕ, zero, suc, ◌+◌, ◌*◌, ◌/◌, ◌%◌, ◌<◌, ◌≤◌, List, [], ◌∷◌, ◌++◌, length, take, drop, slice_index, Option, Some, None, Result, Ok, Err, ◌⊎◌, inl, inr, refl, sym, ◌∙◌, ap, subst, arith, length-append}
 use Rattle.std.proofs.Math.Seq.{take-append_seam, drop-append_seam}
 use Rattle.std.proofs.lemmas.List.{length-take-le, take-append-drop}
@@ -128,7 +128,7 @@ same_front a b c d e len = (
   sym (drop-append_seam a b) ∙ ap (drop (length a)) e ∙ ap (λ n. drop n (c ++ d)) len ∙ drop-append_seam c d,
 )
 
--- groups and the rest of a text with a meaning have meanings, which make it up
+-- If a text of whole groups and a rest decodes, the groups decode to the first octets and the rest to the others.
 pub parts_of_meaning : (g r z : List ℕ) → IsOctets (g ++ r) → length g % 4 ≡ 0 → decoded (g ++ r) ≡ Ok z
     → (decoded g ≡ Ok (take (length g / 4 * 3) z)) × (decoded r ≡ Ok (drop (length g / 4 * 3) z))
 parts_of_meaning g r z bytes groups ok =
@@ -152,7 +152,7 @@ meaning_of_parts g r x y bytes groups front back =
     ap (λ l. decoded (l ++ r)) tg ∙ ap (λ l. decoded (base64url x ++ l)) tr ∙ ap decoded (sym (base64url-append x y whole))
     ∙ meaning_of_text (x ++ y) (IsOctets-append x y (octets_of_meaning g x hg front) (octets_of_meaning r y hr back))
 
--- no text means no octets
+-- The empty text decodes to no octets.
 pub decoded-nil : decoded [] ≡ Ok []
 unfolding decoded groups_error groups_bytes scan_steps
 decoded-nil = refl

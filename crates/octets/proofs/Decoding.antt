@@ -1,4 +1,4 @@
--- A text that is decoded as it is read.
+-- A text that is decoded while it is read.
 use Rattle.std.proofs.Common.{◌≡◌, ℕ, suc, ◌+◌, ◌-◌, ◌*◌, ◌/◌, ◌%◌, ◌==◌, ◌≤◌, Bool, true, false, cond, List, [], ◌∷◌, ◌++◌, length, take, drop, slice_index, Result, Ok, Err, inl, inr, refl, sym, ◌∙◌, ap, subst, arith, append_assoc, append-nil, length-append}
 use Rattle.std.proofs.Math.Seq.{take-append-add, take-length}
 use Rattle.std.proofs.lemmas.List.{take-append-le, take-append-drop, take-take, get_or-append_right, nil_from_length, length-take}
@@ -19,7 +19,7 @@ use Rattle.octets.specs.Plan.{Begins, Grows, beginning_of}
 
 -- ---- line ends
 
--- at most two characters are taken off
+-- At most two characters are removed as a line end.
 pub cut : (text : List ℕ) → (n : ℕ) × (without_line_end text ≡ take n text) × (length text ≤ n + 2)
 unfolding without_line_end
 cut text = by_tests (slice_index text (length text - 1) == 10) (slice_index text (length text - 2) == 13)
@@ -29,7 +29,7 @@ cut text = by_tests (slice_index text (length text - 1) == 10) (slice_index text
     by_tests true false = (length text - 1, refl, omega arith)
     by_tests false c = (length text, sym (take-length text), omega arith)
 
--- what is settled stays
+-- The settled part of a beginning is a beginning of the whole text without its line end.
 pub settled_kept : (p r : List ℕ) → (more : List ℕ) × (without_line_end (p ++ r) ≡ settled p ++ more)
 unfolding settled
 settled_kept p r =
@@ -65,7 +65,7 @@ some_kept g h long =
     ∙ by_tests_kept (slice_index h (length h - 1) == 10) (slice_index h (length h - 2) == 13) g (g ++ h) (take (length (g ++ h) - 1) (g ++ h)) (take (length (g ++ h) - 2) (g ++ h))
     h (take (length h - 1) h) (take (length h - 2) h) refl (ap (λ n. take n (g ++ h)) one ∙ take-append-add g h (length h - 1)) (ap (λ n. take n (g ++ h)) two ∙ take-append-add g h (length h - 2))
 
--- the line end is among what waits
+-- The line end is in the part that is waiting.
 pub waiting_kept : (p : List ℕ) → without_line_end p ≡ settled p ++ without_line_end (unsettled p)
 waiting_kept p = elim (cases_lt (length (settled p)) 1) [
   | inl none ↦
@@ -76,12 +76,12 @@ waiting_kept p = elim (cases_lt (length (settled p)) 1) [
       ap without_line_end (sym (settled-unsettled p)) ∙ some_kept (settled p) (unsettled p) (omega (arith, some, length-settled p, length-unsettled p))
 ]
 
--- ---- what is settled decides
+-- ---- the settled part decides
 
 settled_octets : (p : List ℕ) → IsOctets p → IsOctets (settled p)
 settled_octets p h = IsOctets-front (settled p) (unsettled p) (subst IsOctets (sym (settled-unsettled p)) h)
 
--- where they mean nothing no text that goes on does
+-- If the settled part does not decode, no text that continues it does.
 pub refused_whole : (p r : List ℕ) → IsOctets (p ++ r) → ((z : List ℕ) → decoded (settled p) ≡ Ok z → ⊥) → decoded (without_line_end (p ++ r)) ≡ Err Base64
 refused_whole p r octets none = by_answer (decoded (without_line_end (p ++ r))) refl
   where
@@ -108,9 +108,9 @@ last_refused p octets back = by_answer (decoded (without_line_end p)) refl
         cc both
     by_answer (Err e) is = ap Err (decodes_exactly.refusal (without_line_end p) e is)
 
--- ---- what may stand
+-- ---- the part that may be written
 
--- the octets of good groups come first
+-- The octets of valid groups come first.
 octets_of_good : (g h x : List ℕ) → IsOctets g → length g % 4 ≡ 0 → decoded g ≡ Ok x → octets_of_groups (g ++ h) ≡ x ++ octets_of_groups h
 unfolding octets_of_groups
 octets_of_good [] h x octets groups ok =
@@ -131,12 +131,12 @@ good_octets : (g x : List ℕ) → IsOctets g → length g % 4 ≡ 0 → decoded
 unfolding octets_of_groups
 good_octets g x octets groups ok = ap octets_of_groups (sym (append-nil g)) ∙ octets_of_good g [] x octets groups ok ∙ append-nil x
 
--- of a text that begins nothing is settled, and nothing waits
+-- At the start, nothing is settled and nothing is waiting.
 pub reading_starts : (waiting : List ℕ) → waiting ≡ [] → (waiting ≡ unsettled []) × (decoded (settled []) ≡ Ok (octets_of_groups (settled [])))
 unfolding settled octets_of_groups
 reading_starts waiting none = (none ∙ sym unsettled-nil, decoded-nil)
 
--- what is settled of a text goes on by the octets of the groups that a piece completes
+-- The groups that a piece completes add their octets to the settled ones.
 pub settled_adds : (p piece text : List ℕ) → IsOctets (p ++ piece) → decoded (settled p) ≡ Ok (octets_of_groups (settled p)) → decoded (settled (unsettled p ++ piece)) ≡ Ok text
     → (decoded (settled (p ++ piece)) ≡ Ok (octets_of_groups (settled (p ++ piece)))) × (octets_of_groups (settled (p ++ piece)) ≡ octets_of_groups (settled p) ++ text)
 settled_adds p piece text octets front back =
@@ -144,12 +144,12 @@ settled_adds p piece text octets front back =
     let same = good_octets (settled (p ++ piece)) (octets_of_groups (settled p) ++ text) (settled_octets (p ++ piece) octets) (are_groups (p ++ piece)) both in
     (both ∙ ap Ok (sym same), same)
 
--- and no text that goes on means anything, where these mean nothing
+-- If the groups that a piece completes do not decode, every text that continues is refused.
 pub settled_refuses : (p piece : List ℕ) → decoded (settled (unsettled p ++ piece)) ≡ Err Base64 → RefusesFrom settling (p ++ piece) Base64
 settled_refuses p piece none rest octets =
     refused_whole (p ++ piece) rest octets (λ z. no_settled-append p piece z (IsOctets-front (p ++ piece) rest octets) none)
 
--- ---- what is settled, held against what is fixed
+-- ---- the settled part compared with the fixed part
 
 pub settling_grows : Grows settling
 settling_grows = record {
@@ -163,7 +163,7 @@ settling_grows = record {
     settled_begins : (p : List ℕ) → Begins (octets_of_groups (settled p)) (octets_of_groups p)
     settled_begins p = subst (λ l. Begins (octets_of_groups (settled p)) (octets_of_groups l)) (settled-unsettled p) (groups_go_on (settled p) (unsettled p))
 
--- what may stand of what is settled begins what may stand
+-- The octets that are settled begin the octets that may be written.
 pub settling_begins : (p : List ℕ) (ended : Bool) → Begins (beginning_of settling (record { octets = p; ended = ended })) (beginning_of decoding (record { octets = p; ended = ended }))
 settling_begins p false = subst (λ l. Begins (octets_of_groups (settled p)) (octets_of_groups l)) (settled-unsettled p) (groups_go_on (settled p) (unsettled p))
 settling_begins p true = by_answer (decoding.whole p)
@@ -172,7 +172,7 @@ settling_begins p true = by_answer (decoding.whole p)
     by_answer (Ok w) = record { rest = []; continues = sym (append-nil w) }
     by_answer (Err r) = subst (λ l. Begins (octets_of_groups (settled p)) (octets_of_groups l)) (settled-unsettled p) (groups_go_on (settled p) (unsettled p))
 
--- and is as long as what all but some last characters fix
+-- The settled part has at least as many octets as the text fixes without its last 4,160 characters.
 pub settling_keeps_up : (p : List ℕ) → length (octets_of_groups (take (length p - 4160) p)) ≤ length (octets_of_groups (settled p))
 unfolding settled
 settling_keeps_up p =

@@ -46,7 +46,7 @@ is_whole p = omega (arith, length-whole_groups p)
 regrouped : (p q : List ℕ) → p ++ q ≡ whole_groups p ++ (part_group p ++ q)
 regrouped p q = ap (λ x. x ++ q) (sym (whole-part p)) ∙ append_assoc (whole_groups p) (part_group p) q
 
--- after p came q: the text of the whole groups goes on by that of the groups that q completes
+-- If q comes after p, the text of the whole groups is continued by the text of the groups that q completes.
 pub base64url_whole-append : (p q : List ℕ) → base64url (whole_groups (p ++ q)) ≡ base64url (whole_groups p) ++ base64url (whole_groups (part_group p ++ q))
 base64url_whole-append p q =
     ap (λ x. base64url (whole_groups x)) (regrouped p q) ∙ ap base64url (whole_groups-append (whole_groups p) (part_group p ++ q) (is_whole p))
@@ -55,7 +55,7 @@ base64url_whole-append p q =
 pub part-append : (p q : List ℕ) → part_group (p ++ q) ≡ part_group (part_group p ++ q)
 part-append p q = ap part_group (regrouped p q) ∙ part_group-append (whole_groups p) (part_group p ++ q) (is_whole p)
 
--- all of the text
+-- The text is the text of the whole groups and that of the rest.
 pub base64url_whole_part : (p : List ℕ) → base64url p ≡ base64url (whole_groups p) ++ base64url (part_group p)
 base64url_whole_part p = ap base64url (sym (whole-part p)) ∙ base64url-append (whole_groups p) (part_group p) (is_whole p)
 
@@ -64,7 +64,7 @@ unfolding base64url
 length-base64url p =
     ap length (append-nil (encode_symbols (engine_symbols url_safe_no_pad) p)) ∙ length-encode_symbols (engine_symbols url_safe_no_pad) p
 
--- the groups at the front of cells that hold the octets
+-- The groups at the front of the cells are the whole groups of the octets in them.
 pub whole_front : (cells octets : List ℕ) (all : ℕ) → take all cells ≡ octets → length octets ≡ all → take (all / 3 * 3) cells ≡ whole_groups octets
 unfolding whole_groups
 whole_front cells octets all e len =

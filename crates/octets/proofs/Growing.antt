@@ -1,4 +1,4 @@
--- Plans of base64url whose beginnings go on.
+-- Plans of base64url, whose fixed parts grow.
 use Rattle.std.proofs.Common.{◌≡◌, ℕ, zero, suc, ◌<◌, ◌-◌, ◌%◌, ◌==◌, ◌≤◌, Bool, true, false, cond, List, [], ◌∷◌, ◌++◌, length, take, drop, slice_index, Result, Ok, Err, ◌⊎◌, inl, inr, refl, sym, ◌∙◌, ap, subst, arith, append_assoc, length-append}
 use Rattle.std.proofs.Math.Seq.{take-length}
 use Rattle.std.proofs.lemmas.List.{take-append-drop, length-take-le, length-drop}
@@ -46,7 +46,7 @@ groups_go_on (a ∷ b ∷ []) q = record { rest = octets_of_groups (a ∷ b ∷ 
 groups_go_on (a ∷ b ∷ c ∷ []) q = record { rest = octets_of_groups (a ∷ b ∷ c ∷ q); continues = refl }
 groups_go_on (a ∷ b ∷ c ∷ d ∷ rest) q = and_goes_on (decoded (a ∷ b ∷ c ∷ d ∷ [])) (octets_of_groups rest) (octets_of_groups (rest ++ q)) (groups_go_on rest q)
 
--- a line end is cut off at a character that no base64url text has
+-- A line end is cut off at a character that is not in the base64url alphabet.
 cut_at : (text : List ℕ) → (n : ℕ) × (without_line_end text ≡ take n text) × (n < length text → is_url_character (slice_index text n) ≡ false)
 unfolding without_line_end
 cut_at text = by_tests (slice_index text (length text - 1) == 10) (slice_index text (length text - 2) == 13) refl refl
@@ -109,19 +109,19 @@ decoding_grows = record {
       begins_cut p q w c.0 octets c.2 (ap decoded (sym c.1) ∙ ok);
 }
 
--- ---- what is fixed is the longest
+-- ---- the fixed part is the longest possible
 
--- a group of four characters with a meaning means three octets
+-- A group of four characters that decodes means three octets.
 three_of_four : (a b c d : ℕ) (o : List ℕ) → IsOctets (a ∷ b ∷ c ∷ d ∷ []) → decoded (a ∷ b ∷ c ∷ d ∷ []) ≡ Ok o → length o ≡ 3
 three_of_four a b c d o octets ok =
     let text = text_of_meaning (a ∷ b ∷ c ∷ d ∷ []) o octets ok in
     omega (arith, ap length text, length-base64url o)
 
--- whole groups whose text begins fewer than four characters are none
+-- If the text of whole groups begins fewer than four characters, there are no groups.
 none_in_few : (text y : List ℕ) → length text < 4 → length y % 3 ≡ 0 → Begins (base64url y) text → length y ≡ 0
 none_in_few text y few groups b = omega (arith, few, groups, ap length b.continues, length-append (base64url y) b.rest, length-base64url y)
 
--- whole groups whose text begins a text: none, or the first group and those of the rest
+-- If the text of whole groups begins a text, there are no groups, or the first group and those of the rest.
 first_group : (a b c d : ℕ) (rest y : List ℕ) → 0 < length y → length y % 3 ≡ 0 → Begins (base64url y) (a ∷ b ∷ c ∷ d ∷ rest)
     → ((a ∷ b ∷ c ∷ d ∷ []) ≡ base64url (take 3 y)) × Begins (base64url (drop 3 y)) rest
 first_group a b c d rest y some groups begins =
@@ -201,8 +201,8 @@ as_it_is_grows = record {
   whole = λ p q w octets e. record { rest = q; continues = cc e };
 }
 
--- ---- what is written once all is read
+-- ---- a content that is written after everything was read
 
--- an output to which nothing is written before then keeps up
+-- An output to which nothing is written before the end keeps up.
 pub kept_up_by_none : (fixed : List ℕ → List ℕ) → ((q : List ℕ) → fixed q ≡ []) → (read old : List ℕ) → KeepsUp fixed read old old
 kept_up_by_none fixed none read old = omega (arith, ap length (none (take (length read - most_behind) read)))

@@ -1,4 +1,4 @@
--- What the crates above cite of these proofs, and nothing else.
+-- The lemmas of these proofs that the crates above cite.
 pub use Rattle.octets.proofs.Meanings.{meaning_of_text, decodes_exactly}
 pub use Rattle.octets.proofs.Spared.{not_told, stands_first, not_begun}
 pub use Rattle.octets.proofs.Unread.{encoding_fixes_nothing, decoding_fixes_nothing, unread_untouched}

@@ -17,12 +17,12 @@ refused_by : (r : Result (List ℕ) DecodeError) (e : Refusal) → or_base64 r �
 refused_by (Ok y) e h = cc h
 refused_by (Err d) e h = cc h
 
--- what has a meaning is its text
+-- A text that decodes is the text of the octets that it means.
 pub text_of_meaning : (text x : List ℕ) → IsOctets text → decoded text ≡ Ok x → text ≡ base64url x
 unfolding decoded base64url
 text_of_meaning text x octets h = decode_of_strict url_safe_no_pad text x (refl, refl) octets (ok_of (decode_of url_safe_no_pad text) x h)
 
--- the text of octets means them
+-- The text of octets decodes to these octets.
 pub meaning_of_text : (x : List ℕ) → IsOctets x → decoded (base64url x) ≡ Ok x
 unfolding decoded base64url
 meaning_of_text x octets = ap or_base64 (decode_of-encode_of url_safe_no_pad x refl octets)

@@ -5,18 +5,18 @@ use Rattle.std.proofs.lemmas.List.{take-append-le, take-append-drop, drop-append
 use Rattle.std.proofs.lemmas.Slice.{put_mid-paste}
 use borrow.Rule.Slice.PartMut.{put_mid}
 
--- the next n of a list, after they were copied to the front of the cells
+-- The next n elements of a list were copied to the front of the cells.
 pub take_copied : (at n : ℕ) (xs copied rest : List ℕ) → copied ≡ take n (drop at xs) → length copied ≡ n
     → take (at + n) xs ≡ take at xs ++ take n (copied ++ rest)
 take_copied at n xs copied rest e len =
     take-add at n xs ∙ ap (λ q. take at xs ++ q) (sym e ∙ sym (take-append_seam copied rest) ∙ ap (λ m. take m (copied ++ rest)) len)
 
--- some of a list was taken, and then n more
+-- After some elements of a list, n more were consumed.
 pub taken_more : (all before now xs : List ℕ) (f n : ℕ) → before ≡ all ++ take f xs → now ≡ before ++ take n (drop f xs) → now ≡ all ++ take (f + n) xs
 taken_more all before now xs f n old new =
     new ∙ ap (λ q. q ++ take n (drop f xs)) old ∙ append_assoc all (take f xs) (take n (drop f xs)) ∙ ap (λ q. all ++ q) (sym (take-add f n xs))
 
--- f cells are filled, and then n more
+-- After f cells, n more are filled.
 pub take-filled : (f k n : ℕ) (xs ys : List ℕ) → f ≤ length xs → length ys ≡ k → n ≤ length ys
     → take (f + n) (put_mid f k xs ys) ≡ take f xs ++ take n ys
 take-filled f k n xs ys in_range len le =
@@ -27,14 +27,14 @@ take-filled f k n xs ys in_range len le =
     ∙ take-append-le (f + n) (take f xs ++ ys) (drop (f + k) xs) (omega (arith, length-append (take f xs) ys, front))
     ∙ ap (λ m. take (m + n) (take f xs ++ ys)) (sym front) ∙ take-append-add (take f xs) ys n
 
--- as many cells as before
+-- The number of cells stays the same.
 pub length-filled : (f k : ℕ) (xs ys : List ℕ) → f ≤ length xs → k ≡ length xs - f → length ys ≡ k → length (put_mid f k xs ys) ≡ length xs
 length-filled f k xs ys in_range rest len =
     ap length (put_mid-paste f k xs ys ys k refl refl (sym len))
     ∙ length-append (take f xs ++ take k ys) (drop (f + k) xs)
     ∙ omega (arith, length-append (take f xs) (take k ys), length-take-le f xs in_range, length-take-le k ys (omega arith), length-drop (f + k) xs)
 
--- what lies behind octets that were put into the front of a part is as it was in the whole
+-- Writing octets to the front of a part leaves the elements after them as they were in the whole.
 pub drop-part : (n k : ℕ) (put whole : List ℕ) → n ≤ length put → n ≤ length (take k whole) → drop n put ≡ drop n (take k whole) → drop n (put ++ drop k whole) ≡ drop n whole
 drop-part n k put whole within fits same =
     drop-append-le n put (drop k whole) within ∙ ap (λ l. l ++ drop k whole) same ∙ sym (drop-append-le n (take k whole) (drop k whole) fits)

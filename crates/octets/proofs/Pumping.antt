@@ -14,7 +14,7 @@ use Rattle.octets.proofs.Decoded.{IsOctets-append, IsOctets-nil}
 use Rattle.octets.proofs.Prefixes.{AppendsPrefixOf-all, AppendsPrefixOf-kept}
 use Rattle.octets.proofs.Streaming.{Due, Last, may_stand, read_more}
 
--- ---- plans behind a text
+-- ---- plans after a text
 
 begins_behind : (before x y : List ℕ) → Begins x y → Begins (before ++ x) (before ++ y)
 begins_behind before x y b = record { rest = b.rest; continues = ap (λ l. before ++ l) b.continues ∙ sym (append_assoc before x b.rest) }
@@ -47,7 +47,7 @@ behind_refused before plan content e h = by_answer (plan.whole content) refl
     by_answer (Ok text) is = let never : Ok (before ++ text) ≡ Err e = ap (λ a. a >>= λ text. Ok (before ++ text)) (sym is) ∙ h in cc never
     by_answer (Err r) is = ap (λ a. a >>= λ text. Ok (before ++ text)) (sym is) ∙ h
 
--- behind nothing it is the plan itself
+-- A plan after the empty text is the plan itself.
 pub behind_nothing : (plan : Plan (List ℕ)) (content : List ℕ) → (behind [] plan).whole content ≡ plan.whole content
 behind_nothing plan content = by_answer (plan.whole content)
   where
@@ -59,7 +59,7 @@ pub beginning_behind_nothing : (plan : Plan (List ℕ)) (p : List ℕ) (ended : 
 beginning_behind_nothing plan p false = refl
 beginning_behind_nothing plan p true = ap (λ a. result_unwrap_or a (plan.fixed p)) (behind_nothing plan p)
 
--- ---- what was read
+-- ---- the octets read
 
 pub extends_itself : (l : List ℕ) → Extends l l
 extends_itself l = sym (append-nil l) ∙ ap (λ x. l ++ x) (sym (drop-length l))
@@ -78,9 +78,9 @@ octets_kept first read now octets same = subst (λ l. IsOctets (appended first l
 pub something_read : (n : ℕ) (buf p l : List ℕ) → (n ≡ 0 → ⊥) → n ≤ length buf → l ≡ p ++ take n buf → l ≡ [] → ⊥
 something_read n buf p l some room is none = some (omega (arith, room, ap length is, ap length none, length-append p (take n buf), length-take n buf))
 
--- ---- what is due
+-- ---- the text that is due
 
--- The text before is due, where nothing else is fixed.
+-- At the start, the text before the plan is due, if the plan fixes nothing yet.
 pub first_due : (before : List ℕ) (plan : Plan (List ℕ)) (read written : List ℕ) → plan.fixed [] ≡ [] → Due (behind before plan) read read written written before
 first_due before plan read written is =
     let none : appended read read ≡ [] = drop-length read in record {
@@ -90,11 +90,11 @@ first_due before plan read written is =
       due = ap (λ l. written ++ l) (sym (ap (λ l. before ++ l) (ap plan.fixed none ∙ is) ∙ append-nil before));
     }
 
--- nothing more was read
+-- If nothing more was read, the same text is due.
 pub due_read : (plan : Plan (List ℕ)) (first read now old_written written text : List ℕ) → Due plan first read old_written written text → now ≡ read → Due plan first now old_written written text
 due_read plan first read now old_written written text d same = subst (λ l. Due plan first l old_written written text) (sym same) d
 
--- a piece was read, and the text that it adds is due too
+-- If a piece was read, the text that it adds is also due.
 pub due_more : (plan : Plan (List ℕ)) (first read now old_written written piece front text : List ℕ) → Due plan first read old_written written front → now ≡ read ++ piece → IsOctets piece
     → plan.fixed (appended first read ++ piece) ≡ plan.fixed (appended first read) ++ text → Due plan first now old_written written (front ++ text)
 due_more plan first read now old_written written piece front text d more octets adds =
@@ -107,7 +107,7 @@ due_more plan first read now old_written written piece front text d more octets 
           ∙ ap (λ l. old_written ++ l) (sym adds ∙ ap plan.fixed (sym same));
     }
 
--- some of it was written
+-- If a part of the text was written, the rest is due.
 pub due_rest : (plan : Plan (List ℕ)) (first read old_written written front text now : List ℕ) → Due plan first read old_written written (front ++ text) → now ≡ written ++ front
     → Due plan first read old_written now text
 due_rest plan first read old_written written front text now d e = record {
@@ -117,7 +117,7 @@ due_rest plan first read old_written written front text now d e = record {
   due = ap (λ l. l ++ text) e ∙ append_assoc written front text ∙ d.due;
 }
 
--- the transform refused a piece, and no more was written
+-- If the transform refuses a piece, the output holds a beginning of what may be written.
 pub refused_may_stand : (plan : Plan (List ℕ)) (grows : Grows plan) (first read now old_written written piece text : List ℕ) (ended : Bool) → Due plan first read old_written written text → now ≡ read ++ piece → IsOctets piece
     → AppendsPrefixOf (beginning_of plan (record { octets = appended first now; ended = ended })) old_written written
 refused_may_stand plan grows first read now old_written written piece text ended d more octets =
@@ -157,30 +157,30 @@ refused_all plan first read now piece whole ended e extends octets more is refus
 
 -- ---- the length after a failure of the content
 
--- All that a beginning of what was read fixes stands.
+-- Everything that a beginning of the input fixes was written.
 pub stands_as_long : (plan : Plan (List ℕ)) → Grows plan → (p q old_written written : List ℕ) → written ≡ old_written ++ plan.fixed (p ++ q) → length old_written + length (plan.fixed p) ≤ length written
 stands_as_long plan grows p q old_written written e =
     let b = grows.more p q in
     omega (arith, ap length e, length-append old_written (plan.fixed (p ++ q)), ap length b.continues, length-append (plan.fixed p) b.rest)
 
--- So it keeps up, where this is what the plan fixes.
+-- The output keeps up, if the plan fixes these octets.
 pub keeps_up : (plan : Plan (List ℕ)) → Grows plan → (fixed : List ℕ → List ℕ) → ((q : List ℕ) → fixed q ≡ plan.fixed q) → (p old written : List ℕ) → written ≡ old ++ plan.fixed p → KeepsUp fixed p old written
 keeps_up plan grows fixed same p old written e =
     let n : ℕ = length p - most_behind in
     let long = stands_as_long plan grows (take n p) (drop n p) old written (e ∙ ap (λ l. old ++ plan.fixed l) (sym (take-append-drop n p))) in
     omega (arith, long, ap length (same (take n p)))
 
--- ---- the end of the content, from without
+-- ---- the end of the content, seen from outside
 
--- a refusal is passed on
+-- A refusal is passed on.
 pub passed_on : {W : Type 0} (answer : Result W Refusal) (wrote : W) (r : Result (Unit {0}) Refusal) (e : Refusal) → r ≡ Err e → (is_external e ≡ false → answer ≡ Err e) → AgreesUnlessExternal answer wrote r
 passed_on answer wrote r e is refused = subst (AgreesUnlessExternal answer wrote) (sym is) refused
 
--- the call refused as the plan does
+-- The call refuses as the plan does.
 pub agrees_err : {X W : Type 0} (answer : Result W Refusal) (view : X → W) (r : Result X Refusal) (e : Refusal) → r ≡ Err e → answer ≡ Err e → GivesUnlessExternal view r answer
 agrees_err answer view r e is none = subst (λ r. GivesUnlessExternal view r answer) (sym is) (λ inside. none)
 
--- all of it stands, once the end was found
+-- If the end was found, the whole text is on the output.
 pub whole_stands : (plan : Plan (List ℕ)) (first read old written now : List ℕ) (ended : Bool) → IsTrue ended → plan.whole (appended first read) ≡ Ok (appended old written) → Extends old written → now ≡ written
     → AppendsPrefixOf (beginning_of plan (record { octets = appended first read; ended = ended })) old now
 whole_stands plan first read old written now ended at_end whole extends same =

@@ -1,4 +1,4 @@
--- Base64url texts that come in pieces: what is settled of them, and what waits.
+-- Base64url texts that come in pieces: the part that is settled and the part that is waiting.
 use Rattle.std.proofs.Common.{◌≡◌, refl, [], ℕ, ◌+◌, ◌-◌, ◌*◌, ◌/◌, ◌%◌, ◌≤◌, List, ◌++◌, length, take, drop, Ok, Err, sym, ◌∙◌, ap, subst, arith, append_assoc, length-append}
 use Rattle.std.proofs.Math.Seq.{take-append-add, drop-append-add}
 use Rattle.std.proofs.lemmas.List.{length-take-le, length-drop, take-append-drop, take-take}
@@ -19,7 +19,7 @@ pub unsettled_front : (cells text : List ℕ) (all k : ℕ) → take all cells �
 unfolding unsettled
 unsettled_front cells text all k e len is = ap (drop k) e ∙ ap (λ n. drop n text) (is ∙ ap (λ n. (n - 2) / 4 * 4) (sym len))
 
--- what waited, and a piece after it, in cells
+-- The waiting characters are in the cells, followed by the piece.
 pub joined : (waiting cells piece view : List ℕ) (count : ℕ) → count ≤ length waiting → take count waiting ≡ view
     → take (length (take count waiting) + length piece) cells ≡ take count waiting ++ piece
     → (take (count + length piece) cells ≡ view ++ piece) × (length (view ++ piece) ≡ count + length piece)
@@ -29,7 +29,7 @@ joined waiting cells piece view count fits seen e =
       length-append view piece ∙ ap (λ n. n + length piece) (ap length (sym seen) ∙ held),
     )
 
--- ---- after a text came a piece
+-- ---- a piece after a text
 
 pub settled-unsettled : (text : List ℕ) → settled text ++ unsettled text ≡ text
 unfolding settled unsettled
@@ -64,14 +64,14 @@ unsettled-append p q =
 pub are_groups : (p : List ℕ) → length (settled p) % 4 ≡ 0
 are_groups p = omega (arith, length-settled p)
 
--- what is settled goes on
+-- The octets of the groups that a piece completes follow the settled ones.
 pub decoded_settled-append : (p q x y : List ℕ) → IsOctets (p ++ q) → decoded (settled p) ≡ Ok x → decoded (settled (unsettled p ++ q)) ≡ Ok y → decoded (settled (p ++ q)) ≡ Ok (x ++ y)
 decoded_settled-append p q x y octets front back =
     let e = settled-append p q in
     let front_octets : IsOctets (settled (p ++ q)) = IsOctets-front (settled (p ++ q)) (unsettled (p ++ q)) (subst IsOctets (sym (settled-unsettled (p ++ q))) octets) in
     ap decoded e ∙ meaning_of_parts (settled p) (settled (unsettled p ++ q)) x y (subst IsOctets e front_octets) (are_groups p) front back
 
--- and has no meaning where the groups that a piece completes have none
+-- If the groups that a piece completes do not decode, the settled part does not.
 pub no_settled-append : (p q z : List ℕ) → IsOctets (p ++ q) → decoded (settled (unsettled p ++ q)) ≡ Err Base64 → decoded (settled (p ++ q)) ≡ Ok z → ⊥
 no_settled-append p q z octets none some =
     let e = settled-append p q in

@@ -1,21 +1,21 @@
--- An output that did not fail, even if the other did.
+-- An output that did not fail, even if the other one did.
 use Rattle.std.proofs.Common.{◌≡◌, ◌≢◌, ◌⊎◌, ℕ, refl, [], ◌∷◌, Result, OnErr, inl, inr, arith}
 use Rattle.octets.specs.declared.refusal.Refusal.{Refusal}
 use Rattle.octets.specs.declared.refusal.Refusal.TheVariants.{Write}
 use Rattle.octets.specs.Faults.{Counts, SomeFailed, DidNotFail}
 use Rattle.octets.proofs.Agreement.{at_refusal}
 
--- if it is the only output that may be reported, none is reported
+-- If the only output that may be reported did not fail, the refusal is not Write.
 pub not_told : (e : Refusal) (c : Counts) → (e ≡ Write → SomeFailed (c ∷ [])) → DidNotFail e c → e ≢ Write
 not_told e c told spared is = elim (told is) [
   | inl failed ↦ absurd (omega (arith, failed, (spared is).0, (spared is).1))
   | inr none ↦ none
 ]
 
--- a content that was written whole, in place of a text that is not begun
+-- The content was written whole, and the text was not begun.
 pub stands_first : {E F W : Type 0} (P : Type 0) (r : Result (Unit {0}) Refusal) → E → F → W → OnErr r (P ⊎ (E × F × W))
 stands_first P r ended finished whole = at_refusal r (inr (ended, finished, whole))
 
--- a text that is not begun, because the content was not finished
+-- The text was not begun, because the content was not finished.
 pub not_begun : {D : Type 0} (endings : D → ℕ) (Q : Type 0) (r : Result (Unit {0}) Refusal) (out old new : D) → endings new ≡ endings old → OnErr r (((out ≡ out) × (endings new ≡ endings old)) ⊎ Q)
 not_begun endings Q r out old new same = at_refusal {P = ((out ≡ out) × (endings new ≡ endings old)) ⊎ Q} r (inl (refl, same))

@@ -1,4 +1,4 @@
--- A command that writes what its plan fixes as it reads its content.
+-- A command that writes the part that its plan fixes while it reads its content.
 use Rattle.std.proofs.Common.{◌≡◌, ℕ, ◌≤◌, List, [], ◌++◌, length, take, Bool, true, false, Result, Ok, Err, IsTrue, subst, refl, sym, ◌∙◌, ap, arith, append_assoc, append-nil, length-append}
 use Rattle.std.proofs.Math.Seq.{drop-append_seam}
 use Rattle.std.specs.Result.{result_unwrap_or}
@@ -10,16 +10,16 @@ use Rattle.octets.proofs.Decoded.{IsOctets-nil, IsOctets-append}
 use Rattle.octets.specs.Plan.{Plan, Begins, Grows, beginning_of}
 use Rattle.octets.proofs.Prefixes.{AppendsPrefixOf-all, AppendsPrefixOf-front}
 
--- ---- what was read, and what stands
+-- ---- the octets read and written
 
--- Of the content this was read, and all that it fixes stands, once the text that is due is written too.
+-- These octets of the content were read. Everything that they fix is on the output once the text that is due is written.
 pub record Due (plan : Plan (List ℕ)) (old_read read old_written written text : List ℕ) : Type 0 where
   pub extends : Extends old_read read
   pub octets : IsOctets (appended old_read read)
   pub grown : length old_written ≤ length written
   pub due : written ++ text ≡ old_written ++ plan.fixed (appended old_read read)
 
--- no more is due
+-- nothing more is due
 abbrev pub Stands : Plan (List ℕ) → List ℕ → List ℕ → List ℕ → List ℕ → Type 0
 Stands plan old_read read old_written written = Due plan old_read read old_written written []
 
@@ -27,7 +27,7 @@ pub read_more : (first read now piece : List ℕ) → Extends first read → now
 read_more first read now piece e more =
     ap (appended first) (more ∙ ap (λ l. l ++ piece) e ∙ append_assoc first (appended first read) piece) ∙ drop-append_seam first (appended first read ++ piece)
 
--- the text was written
+-- After the text is written, nothing more is due.
 pub Stands-written : (plan : Plan (List ℕ)) (first read old_written written text now : List ℕ) → Due plan first read old_written written text → now ≡ written ++ text
     → Stands plan first read old_written now
 Stands-written plan first read old_written written text now d e = record {
@@ -37,7 +37,7 @@ Stands-written plan first read old_written written text now d e = record {
   due = append-nil now ∙ e ∙ d.due;
 }
 
--- ---- what may stand
+-- ---- the output that may be there
 
 begins : (plan : Plan (List ℕ)) → Grows plan → (p : List ℕ) (ended : Bool) → IsOctets p → Begins (plan.fixed p) (beginning_of plan (record { octets = p; ended = ended }))
 begins plan grows p false octets = record { rest = []; continues = sym (append-nil (plan.fixed p)) }
@@ -50,7 +50,7 @@ begins plan grows p true octets = by_answer (plan.whole p) refl
 pub AppendsPrefixOf-Begins : (front all old new : List ℕ) → Begins front all → AppendsPrefixOf front old new → AppendsPrefixOf all old new
 AppendsPrefixOf-Begins front all old new b h = subst (λ text. AppendsPrefixOf text old new) (sym b.continues) (AppendsPrefixOf-front front b.rest old new h)
 
--- some of the text that was due was written, and then no more
+-- If only a part of the text that is due is written, the output holds a beginning of what may be written.
 pub may_stand : (plan : Plan (List ℕ)) → Grows plan → (first read old_written written text now : List ℕ) (ended : Bool) → Due plan first read old_written written text
     → AppendsPrefixOf text written now → AppendsPrefixOf (beginning_of plan (record { octets = appended first read; ended = ended })) old_written now
 may_stand plan grows first read old_written written text now ended d part =
@@ -58,7 +58,7 @@ may_stand plan grows first read old_written written text now ended d part =
     (begins plan grows (appended first read) ended d.octets)
     (omega (arith, d.grown, part.0), ap (take (length now)) (sym d.due) ∙ part.1)
 
--- no more was written
+-- If nothing more is written, the output holds a beginning of what may be written.
 pub stands : (plan : Plan (List ℕ)) → Grows plan → (first read old_written written : List ℕ) (ended : Bool) → Stands plan first read old_written written
     → AppendsPrefixOf (beginning_of plan (record { octets = appended first read; ended = ended })) old_written written
 stands plan grows first read old_written written ended s =
@@ -66,7 +66,7 @@ stands plan grows first read old_written written ended s =
 
 -- ---- the end was found
 
--- the last text makes the answer whole
+-- the last text completes the answer
 pub record Last (plan : Plan (List ℕ)) (first read old_written written text : List ℕ) : Type 0 where
   pub answer : List ℕ
   pub grown : length old_written ≤ length written
@@ -80,7 +80,7 @@ last_may_stand plan first read old_written written text now ended l at_end part 
     ap (λ b. beginning_of plan (record { octets = appended first read; ended = b })) at_end ∙ ap (λ a. result_unwrap_or a (plan.fixed (appended first read))) l.is in
     subst (λ t. AppendsPrefixOf t old_written now) (sym is) (omega (arith, l.grown, part.0), ap (take (length now)) (sym l.due) ∙ part.1)
 
--- ---- an output that nothing was written to
+-- ---- an output to which nothing was written
 
 pub untouched_more : {D : Type 0} (written : D → List ℕ) (old out now : D) (text : List ℕ) → length (written old) ≤ length (written out) → (written out ≡ written old → out ≡ old)
     → written now ≡ written out ++ text → (length text ≡ 0 → now ≡ out) → written now ≡ written old → now ≡ old

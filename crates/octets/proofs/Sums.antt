@@ -1,4 +1,4 @@
--- Octets added to others by exclusive or, as far as a loop has come.
+-- Octets that are added to others by exclusive or, as far as a loop has come.
 use Rattle.std.proofs.Common.{◌≡◌, ℕ, zero, suc, ◌+◌, ◌*◌, ◌<◌, ◌≤◌, List, [], ◌∷◌, ◌++◌, length, take, drop, get_or, slice_index, slice_set, bit_xor, refl, sym, ap, ap₂, ◌∙◌, arith, append_assoc, append-nil}
 use Rattle.std.proofs.Math.Seq.{take-add}
 use Rattle.std.proofs.lemmas.List.{drop-drop, drop_at, take_at, set_at, get_or_at, take_all, drop_all, take_more, drop_more, length-take-le}
@@ -14,7 +14,7 @@ zip2-append f [] us (y ∷ ys) vs h = absurd (omega arith)
 zip2-append f (x ∷ xs) us [] vs h = absurd (omega arith)
 zip2-append f (x ∷ xs) us (y ∷ ys) vs h = ap (λ l. f x y ∷ l) (zip2-append f xs us ys vs (omega arith))
 
--- the block at a place of the chunks
+-- The chunk at an index is the slice at its place.
 pub chunk_at : {A : Type 0} (n k i : ℕ) (xs : List A) (d : List A) → i < k → get_or (first_chunks n k xs) i d ≡ chunk (n * i) n xs
 chunk_at n zero i xs d h = absurd (omega arith)
 chunk_at n (suc k) zero xs d h = let none : n * 0 ≡ 0 = omega arith in sym (ap (λ j. take n (drop j xs)) none)
@@ -22,11 +22,11 @@ chunk_at n (suc k) (suc i) xs d h =
     let next : n * suc i ≡ n + n * i = omega arith in
     chunk_at n k i (drop n xs) d (omega arith) ∙ ap (take n) (drop-drop (n * i) n xs) ∙ sym (ap (λ j. take n (drop j xs)) next)
 
--- the first octets are added, and the others are as they were
+-- the first octets with the others added, and the rest as it was
 abbrev pub summed : List ℕ → List ℕ → ℕ → List ℕ
 summed b f at = zip2 bit_xor (take at b) (take at f) ++ drop at b
 
--- one block more
+-- One more block is added.
 pub sum_block : (into b f : List ℕ) (n at next : ℕ) → length b ≡ length f → next ≡ at + n → next ≤ length b → length into ≡ length b → into ≡ summed b f at
     → put_chunk at into (zip2 bit_xor (chunk at n into) (chunk at n f)) ≡ summed b f next
 sum_block into b f n at next same is room long e =
@@ -47,7 +47,7 @@ sum_block into b f n at next same is room long e =
     ap (λ c. put_chunk at into (zip2 bit_xor (take n c) (chunk at n f))) here ∙ put ∙ ap₂ (λ p r. p ++ (ys ++ r)) before rest
     ∙ sym (append_assoc done ys (drop next b)) ∙ sym (ap (λ p. p ++ drop next b) more)
 
--- one octet more
+-- One more octet is added.
 pub sum_octet : (into b f : List ℕ) (i : ℕ) → length b ≡ length f → i < length b → into ≡ summed b f i → slice_set into i (bit_xor (get_or into i 0) (get_or f i 0)) ≡ summed b f (i + 1)
 sum_octet into b f i same room e =
     let done = zip2 bit_xor (take i b) (take i f) in
@@ -69,7 +69,7 @@ zip2_at (x ∷ b) [] k same room = absurd (omega arith)
 zip2_at (x ∷ b) (y ∷ f) zero same room = refl
 zip2_at (x ∷ b) (y ∷ f) (suc k) same room = zip2_at b f k (omega arith) (omega arith)
 
--- all octets
+-- All octets are added.
 pub sum_whole : (into b f : List ℕ) (i : ℕ) → length b ≡ length f → length b ≤ i → into ≡ summed b f i → into ≡ xor_octets b f
 unfolding xor_octets
 sum_whole into b f i same past e =

@@ -13,7 +13,7 @@ use Rattle.octets.specs.Base64url.{base64url}
 use Rattle.octets.proofs.Decoded.{decoded-nil}
 use Rattle.octets.proofs.Groups.{base64url-nil}
 
--- nothing was written of it
+-- the plan fixes nothing for the empty content
 abbrev pub FixesNothing : Plan (List ℕ) → Type 0
 FixesNothing plan = (ended : Bool) → beginning_of plan (record { octets = []; ended = ended }) ≡ []
 
@@ -27,12 +27,12 @@ unfolding without_line_end octets_of_groups
 decoding_fixes_nothing true = ap (λ answer. result_unwrap_or answer []) decoded-nil
 decoding_fixes_nothing false = refl
 
--- only nothing was appended
+-- If a beginning of the empty text was appended, nothing was.
 appended_nothing : (old new : List ℕ) → AppendsPrefixOf [] old new → new ≡ old
 appended_nothing old new part =
     sym part.1 ∙ ap (take (length new)) (append-nil old) ∙ take_all (length new) old part.0
 
--- So an output is unchanged, if it is unchanged when nothing was written.
+-- If nothing could be read, every refusal except Write leaves the output untouched.
 pub unread_untouched : {D : Type 0} (written : D → List ℕ) (old new : D) (plan : Plan (List ℕ)) (seen : Observed) (r : Result (Unit {0}) Refusal) → FixesNothing plan
     → OnErr r (AppendsPrefixOf (beginning_of plan seen) (written old) (written new)) → IfErr r (λ refusal. refusal ≢ Write → written new ≡ written old → new ≡ old)
     → IfErr r (λ refusal. seen.octets ≡ [] → refusal ≢ Write → new ≡ old)

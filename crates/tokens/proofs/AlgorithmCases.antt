@@ -1,4 +1,4 @@
--- What is so of each algorithm: its name, the keys that it takes, and the parameters that it reads.
+-- Facts about each algorithm: its name, the lengths of its keys, and the parameters that it reads.
 use Rattle.std.proofs.Common.{◌≡◌, ℕ, zero, suc, ◌*◌, ◌<◌, ◌≤◌, ◌||◌, Bool, true, false, not, nat_lt, nat_le, List, [], ◌∷◌, length, slice_index, if◌then◌else◌, Option, Some, None, is_none, IsUtf8, refl, sym, ap, subst, ◌∙◌, arith}
 use Rattle.std.proofs.lemmas.Bool.{and_parts, ltb-true, eqb-true, leb-true}
 use Rattle.std.proofs.lemmas.Bool.Decides.{Decides-eqb, Decides-and}
@@ -39,14 +39,14 @@ use Rattle.tokens.specs.Signatures.{signature_hash}
 
 -- ---- names
 
--- the name of a signature algorithm names it
+-- The name of a signature algorithm is looked up as this algorithm.
 pub signature_named : (alg : SignatureAlg) → signature_alg_of (signature_name alg) ≡ Some alg
 unfolding signature_alg_of
 signature_named Hs256 = refl
 signature_named Hs384 = refl
 signature_named Hs512 = refl
 
--- the name of a key management names it
+-- The name of a key management algorithm is looked up as this algorithm.
 pub management_named : (alg : KeyManagementAlg) → management_alg_of (management_name alg) ≡ Some alg
 unfolding management_alg_among
 management_named Dir = refl
@@ -60,7 +60,7 @@ management_named A128GcmKw = refl
 management_named A192GcmKw = refl
 management_named A256GcmKw = refl
 
--- so does that of a content encryption
+-- The name of a content encryption algorithm is looked up as this algorithm.
 pub encryption_named : (enc : ContentEncryptionAlg) → encryption_alg_of (encryption_name enc) ≡ Some enc
 unfolding encryption_alg_of
 encryption_named A128CbcHs256 = refl
@@ -70,7 +70,7 @@ encryption_named A128Gcm = refl
 encryption_named A192Gcm = refl
 encryption_named A256Gcm = refl
 
--- what is found by a name has this name
+-- An element that is found by a name has this name.
 found_by_name : {A : Type 0} (name_of : A → List ℕ) (name : List ℕ) (a : A) (algs : List A) → find (λ alg. bytes_eq name (name_of alg)) algs ≡ Some a → name ≡ name_of a
 found_by_name name_of name a [] h = cc h
 found_by_name name_of name a (first ∷ rest) h = by_test (bytes_eq name (name_of first)) refl (found_by_name name_of name a rest) h
@@ -80,22 +80,22 @@ found_by_name name_of name a (first ∷ rest) h = by_test (bytes_eq name (name_o
     by_test true is later h = let same : first ≡ a = cc h in (bytes_eq-Decides name (name_of first)).0 is ∙ ap name_of same
     by_test false is later h = later h
 
--- so a name that names a signature algorithm is its name
+-- A name that is looked up as a signature algorithm is the name of this algorithm.
 pub signature_name_is : (name : List ℕ) (alg : SignatureAlg) → signature_alg_of name ≡ Some alg → name ≡ signature_name alg
 unfolding signature_alg_of
 signature_name_is name alg h = found_by_name signature_name name alg signature_algs h
 
--- one that names a key management is its name
+-- A name that is looked up as a key management algorithm is the name of this algorithm.
 pub management_name_is : (name : List ℕ) (alg : KeyManagementAlg) → management_alg_of name ≡ Some alg → name ≡ management_name alg
 unfolding management_alg_among
 management_name_is name alg h = found_by_name management_name name alg management_algs h
 
--- and one that names a content encryption is its name
+-- A name that is looked up as a content encryption algorithm is the name of this algorithm.
 pub encryption_name_is : (name : List ℕ) (enc : ContentEncryptionAlg) → encryption_alg_of name ≡ Some enc → name ≡ encryption_name enc
 unfolding encryption_alg_of
 encryption_name_is name enc h = found_by_name encryption_name name enc encryption_algs h
 
--- what a test finds so of all algorithms is so of each that is found
+-- If all algorithms pass a test, each algorithm that is found passes it.
 passes : {A : Type 0} (test is : A → Bool) (algs : List A) (a : A) → list_all test algs ≡ true → find is algs ≡ Some a → test a ≡ true
 passes test is [] a all found = cc found
 passes test is (first ∷ others) a all found =
@@ -121,7 +121,7 @@ of_encryption test all enc = passes test (λ x. bytes_eq (encryption_name enc) (
 abbrev is_ascii : List ℕ → Bool
 is_ascii text = list_all (λ c. nat_lt c 128) text
 
--- ASCII characters are text
+-- Text in ASCII is UTF-8.
 ascii_is_text : (text : List ℕ) → is_ascii text ≡ true → IsUtf8 text
 ascii_is_text text h = IsUtf8-from_ascii text (all_below text h)
   where
@@ -130,7 +130,7 @@ ascii_is_text text h = IsUtf8-from_ascii text (all_below text h)
     all_below (c ∷ cs) h zero = ltb-true c 128 (and_parts (nat_lt c 128) (list_all (λ c. nat_lt c 128) cs) h).0
     all_below (c ∷ cs) h (suc i) = all_below cs (and_parts (nat_lt c 128) (list_all (λ c. nat_lt c 128) cs) h).1 i
 
--- the names are text
+-- The names of the algorithms are UTF-8.
 pub signature_is_text : (alg : SignatureAlg) → IsUtf8 (signature_name alg)
 signature_is_text alg = ascii_is_text (signature_name alg) (of_signature (λ alg. is_ascii (signature_name alg)) refl alg)
 
@@ -140,7 +140,7 @@ management_is_text alg = ascii_is_text (management_name alg) (of_management (λ 
 pub encryption_is_text : (enc : ContentEncryptionAlg) → IsUtf8 (encryption_name enc)
 encryption_is_text enc = ascii_is_text (encryption_name enc) (of_encryption (λ enc. is_ascii (encryption_name enc)) refl enc)
 
--- no algorithm of signatures is one of key management
+-- No name of a signature algorithm is the name of a key management algorithm.
 pub no_management : (alg : SignatureAlg) → management_alg_of (signature_name alg) ≡ None
 unfolding management_alg_among
 no_management alg = is_nothing (management_alg_of (signature_name alg)) (of_signature (λ alg. is_none (management_alg_of (signature_name alg))) refl alg)
@@ -149,19 +149,19 @@ no_management alg = is_nothing (management_alg_of (signature_name alg)) (of_sign
     is_nothing None h = refl
     is_nothing (Some a) h = cc h
 
--- the hash of a signature is a hash function
+-- The hash of a signature algorithm is a hash function.
 pub signature_hash_law : (alg : SignatureAlg) → IsHashFunction (signature_hash alg)
 signature_hash_law Hs256 = sha256_is_hash_function
 signature_hash_law Hs384 = sha384_is_hash_function
 signature_hash_law Hs512 = sha512_is_hash_function
 
--- ---- the rows of both crates
+-- ---- the rows of the algorithms in both crates
 
--- both crates give a content encryption key the same length
+-- In both crates a content encryption key has the same length.
 pub same_cek_len : (enc : ContentEncryptionAlg) → cek_len enc ≡ ciphers.cek_len (content_alg enc)
 same_cek_len enc = eqb-true (cek_len enc) (ciphers.cek_len (content_alg enc)) (of_encryption (λ enc. cek_len enc == ciphers.cek_len (content_alg enc)) refl enc)
 
--- and an algorithm of key management the same row
+-- In both crates a key management algorithm has the same row.
 pub has_one_row : (alg : KeyManagementAlg) → HasOneRow alg
 has_one_row Dir = record { mode = refl; kek_len = refl; name = tt }
 has_one_row A128Kw = record { mode = refl; kek_len = refl; name = tt }
@@ -174,7 +174,7 @@ has_one_row A128GcmKw = record { mode = refl; kek_len = refl; name = tt }
 has_one_row A192GcmKw = record { mode = refl; kek_len = refl; name = tt }
 has_one_row A256GcmKw = record { mode = refl; kek_len = refl; name = tt }
 
--- so what is so of the four families is so of each algorithm
+-- If something holds in each of the four families, it holds of each algorithm.
 by_row : (P : KeyManagementMode → ℕ → KeyFamily → Type 0) → P mode.Direct 0 direct → ((nk : ℕ) → P mode.KeyWrap (4 * nk) (aes_key_wrap nk))
     → ((f : HashFunction) (name : List ℕ) (nk : ℕ) → P mode.Password (4 * nk) (pbes2 f name nk)) → ((nk : ℕ) → P mode.GcmKeyWrap (4 * nk) (aes_gcm_key_wrap nk))
     → (alg : KeyManagementAlg) → P (mode_of alg) (kek_len alg) (key_family (key_alg alg))
@@ -195,7 +195,7 @@ last : (a b : Bool) → (a && b) ≡ true → b ≡ true
 last true b h = h
 last false b h = cc h
 
--- a length that the algorithm takes is one that its cipher takes
+-- A key that fits an algorithm has a length that the cipher of this algorithm accepts.
 pub is_key_of : (alg : KeyManagementAlg) (enc : ContentEncryptionAlg) (key : OctetKey) → fits key (Encryption alg enc) ≡ true → IsKeyOf (key_alg alg) key.octets
 unfolding fits
 is_key_of alg enc key h =
@@ -203,7 +203,7 @@ is_key_of alg enc key h =
     (λ h. tt) (λ nk h. eqb-true (length key.octets) (4 * nk) h) (λ f name nk h. tt) (λ nk h. eqb-true (length key.octets) (4 * nk) h)
     alg (last _ (has_len (key_len (Encryption alg enc)) (length key.octets)) h)
 
--- a key that is used directly has the length of a content encryption key
+-- A key that is used directly and fits has the length of a content encryption key.
 pub direct_key_fits : (alg : KeyManagementAlg) (enc : ContentEncryptionAlg) (key : OctetKey) → is_direct alg ≡ true → fits key (Encryption alg enc) ≡ true
     → length key.octets ≡ ciphers.cek_len (content_alg enc)
 unfolding fits
@@ -213,13 +213,13 @@ direct_key_fits alg enc key is h =
     alg is (last _ (has_len (key_len (Encryption alg enc)) (length key.octets)) h)
     ∙ same_cek_len enc
 
--- a content encryption key has 64 octets at most
+-- A content encryption key has at most 64 octets.
 pub cek_size : (enc : ContentEncryptionAlg) → ciphers.cek_len (content_alg enc) ≤ 64
 cek_size enc = leb-true (ciphers.cek_len (content_alg enc)) 64 (of_encryption (λ enc. nat_le (ciphers.cek_len (content_alg enc)) 64) refl enc)
 
 -- ---- the parameters of key management
 
--- the count that a header gives is one that its algorithm takes
+-- The number of iterations in a header is one that the algorithm accepts.
 pub counts : (alg : KeyManagementAlg) (m : KeyManagement) → is_management_of (Some alg) m ≡ true → IsCountOf (key_alg alg) (parameters_by m).p2c
 counts alg m =
     by_row (λ mode n k. is_management_in mode m ≡ true → IsCountIn k (parameters_by m).p2c) (λ h. tt) (λ nk h. tt) (λ f name nk. of_password m) (λ nk h. tt) alg
@@ -228,7 +228,7 @@ counts alg m =
     of_password (Password p2s p2c) h = leb-true 1 p2c (last (nat_le 8 (length p2s)) (nat_le 1 p2c) h)
     of_password m h = cc h
 
--- and the number of iterations is the one that the header gives
+-- The number of iterations that are made is the one in the header.
 pub iterations_made : (alg : KeyManagementAlg) (m : KeyManagement) → is_management_of (Some alg) m ≡ true → iteration_count (key_alg alg) (parameters_by m).p2c ≡ iterations_by m
 iterations_made alg m =
     by_row (λ mode n k. is_management_in mode m ≡ true → iterations_in k (parameters_by m).p2c ≡ iterations_by m)
@@ -250,12 +250,12 @@ iterations_made alg m =
     of_gcm (GcmKeyWrap iv tag) h = refl
     of_gcm m h = cc
 
--- where a password is counted at least once, the algorithm takes the count
+-- If a password gets at least one iteration, the algorithm accepts the number of iterations.
 pub counts_where_password : (alg : KeyManagementAlg) (p2c : ℕ) → (not (is_password_based alg) || nat_le 1 p2c) ≡ true → IsCountOf (key_alg alg) p2c
 counts_where_password alg p2c =
     by_row (λ m n k. (not (is_password m) || nat_le 1 p2c) ≡ true → IsCountIn k p2c) (λ h. tt) (λ nk h. tt) (λ f name nk h. leb-true 1 p2c h) (λ nk h. tt) alg
 
--- the octets that are drawn for an algorithm are an initialization vector of its length, where it reads one
+-- The octets that are drawn for an algorithm are an initialization vector of the right length, if the algorithm reads one.
 pub iv_of_drawn : (alg : KeyManagementAlg) (drawn : List ℕ) → length drawn ≡ drawn_by alg → IsIvOf (key_alg alg) drawn
 iv_of_drawn alg drawn =
     by_row (λ m n k. length drawn ≡ drawn_in m → IsIvIn k drawn) (λ long. tt) (λ nk long. tt) (λ f name nk long. tt) (λ nk long. long) alg
@@ -263,7 +263,7 @@ iv_of_drawn alg drawn =
 -- ---- deliveries
 
 module _ (enc : ContentAlg) (key drawn : List ℕ) (p2c : ℕ) (cek : List ℕ) where
-  -- the parameters that an algorithm does not read do not matter to the tag
+  -- The tag of the key is the same with the parameters that are written as with those that are drawn.
   pub tag_alike : (alg : KeyManagementAlg) (tag : List ℕ)
       → key_tag_of (key_alg alg) key (parameters_by (management_with alg drawn p2c tag)) cek ≡ key_tag_of (key_alg alg) key (parameters_with drawn p2c) cek
   unfolding key_tag_of
@@ -271,12 +271,12 @@ module _ (enc : ContentAlg) (key drawn : List ℕ) (p2c : ℕ) (cek : List ℕ) 
       by_row (λ m n k. (let p = parameters_by (delivered_in m drawn p2c tag) in tag_by (way_in k key p) p cek) ≡ (let p = parameters_with drawn p2c in tag_by (way_in k key p) p cek))
       refl (λ nk. refl) (λ f name nk. refl) (λ nk. refl) alg
 
-  -- an initialization vector that is read is the one that was drawn
+  -- An initialization vector that is read is octets, if the drawn ones are.
   pub iv_is_octets : (alg : KeyManagementAlg) (tag : List ℕ) → IsOctets drawn → IsOctets (parameters_by (management_with alg drawn p2c tag)).iv
   iv_is_octets alg tag octets =
       by_row (λ m n k. IsOctets (parameters_by (delivered_in m drawn p2c tag)).iv) IsOctets-nil (λ nk. IsOctets-nil) (λ f name nk. IsOctets-nil) (λ nk. octets) alg
 
-  -- what is encrypted with the octets that are drawn is delivered by the parameters that are written
+  -- the parameters with which the key was encrypted: the drawn octets and the number of iterations
   abbrev given : Parameters
   given = parameters_with drawn p2c
 

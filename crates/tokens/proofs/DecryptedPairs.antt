@@ -1,5 +1,5 @@
--- The pairs of a key and the recipients that encrypting makes: they take no more iterations than the limits allow, and the first that
--- opens gives the plaintext.
+-- The pairs of a key and the recipients that encryption makes. They need no more iterations than the limits allow, and the first of them
+-- that opens returns the plaintext.
 use Rattle.std.proofs.Common.{◌≡◌, ℕ, suc, ◌+◌, ◌*◌, ◌≤◌, nat_le, Bool, true, false, if◌then◌else◌, List, [], ◌∷◌, ◌++◌, length, map, take, drop, Option, Some, None, is_some, Ok, refl, ap, arith}
 use Rattle.std.proofs.lemmas.Bool.{and_from, or_left, le-leb}
 use Rattle.std.specs.List.{AllByRecursion, list_all, list_any}
@@ -22,20 +22,20 @@ use Rattle.tokens.proofs.EncryptedHeaders.{made_by}
 
 -- ---- the pairs
 
--- the algorithms by which a recipient is delivered the content encryption key
+-- the algorithms with which a recipient receives the content encryption key
 abbrev pub algorithms_by : EncryptionPlan → RecipientKey → Algorithms
 algorithms_by e r = record { management = r.management; encryption = e.encryption }
 
--- its recipient, with a key
+-- the pair of a recipient that was made and a key
 abbrev pub pair_by : EncryptionPlan → List ℕ → OctetKey → RecipientKey × List ℕ → Pair
 pair_by e cek key x = record { recipient = made_by e cek x; algorithms = algorithms_by e x.0; key = key }
 
--- the recipient names them
+-- The recipient names these algorithms.
 algorithms_are : (e : EncryptionPlan) (cek : List ℕ) (x : RecipientKey × List ℕ) → algorithms_of management_algs (made_by e cek x) ≡ Some (algorithms_by e x.0)
 unfolding algorithms_of
 algorithms_are e cek x = rw (management_named, encryption_named) refl
 
--- so the key and the recipient are a pair where the key is a candidate
+-- The key and the recipient are a pair exactly if the key is a candidate.
 pairs_are : (e : EncryptionPlan) (cek : List ℕ) (key : OctetKey) (x : RecipientKey × List ℕ)
     → pairs_of management_algs (key ∷ []) (made_by e cek x) ≡ (if is_candidate (algorithms_by e x.0) key then pair_by e cek key x ∷ [] else [])
 pairs_are e cek key x = rw algorithms_are (by_test (is_candidate (algorithms_by e x.0) key))
@@ -47,12 +47,12 @@ pairs_are e cek key x = rw algorithms_are (by_test (is_candidate (algorithms_by 
 
 -- ---- their iterations
 
--- each pair takes no more than the most that are read, and all together take at most n
+-- No pair needs more than `most` iterations, and all pairs together need at most n.
 pub record TakeAtMost (most n : ℕ) (pairs : List Pair) : Type 0 where
   pub each_few : list_all (λ pair. nat_le (iterations_of pair) most) pairs ≡ true
   pub all_few : all_iterations pairs ≤ n
 
--- a password alone takes iterations
+-- Only a password needs iterations.
 iterations_in : (m : KeyManagementMode) (drawn : List ℕ) (p2c : ℕ) (tag : List ℕ) → iterations_by (delivered_in m drawn p2c tag) ≡ (if is_password m then p2c else 0)
 iterations_in mode.Direct drawn p2c tag = refl
 iterations_in mode.KeyWrap drawn p2c tag = refl
@@ -62,13 +62,13 @@ iterations_in mode.GcmKeyWrap drawn p2c tag = refl
 iterations_are : (alg : KeyManagementAlg) (drawn : List ℕ) (p2c : ℕ) (tag : List ℕ) → iterations_by (management_with alg drawn p2c tag) ≡ (if is_password_based alg then p2c else 0)
 iterations_are alg drawn p2c tag = iterations_in (mode_of alg) drawn p2c tag
 
--- one more recipient counts for the iterations of its pair
+-- With one more recipient, the iterations of its pair are added.
 one_more : (most : ℕ) (password : Bool) (n p2c : ℕ) → (password ≡ true → p2c ≤ most)
     → (let i : ℕ = if password then p2c else 0 in (i ≤ most) × (i + n * p2c ≤ (if password then suc n else n) * p2c))
 one_more most true n p2c few = (few refl, omega arith)
 one_more most false n p2c few = (omega arith, omega arith)
 
--- so the pairs of all recipients take as many for each password
+-- All recipients together need at most `p2c` iterations for each password.
 pub take_at_most : (most : ℕ) (e : EncryptionPlan) (cek : List ℕ) (key : OctetKey) (recipient_keys : List RecipientKey) (drawn : List ℕ)
     → AllByRecursion (λ r. is_password_based r.management ≡ true → e.p2c ≤ most) recipient_keys
     → TakeAtMost most (password_count recipient_keys * e.p2c) (all_pairs management_algs (key ∷ []) (map (made_by e cek) (with_drawn recipient_keys drawn)))
@@ -89,18 +89,18 @@ take_at_most most e cek key (r ∷ rest) drawn few =
         let here = one_more most (is_password_based r.management) (password_count rest) e.p2c few.0 in
         record { each_few = all.each_few; all_few = omega (arith, here.1, all.all_few) }
 
--- ---- what they open
+-- ---- what the pairs open
 
--- what holds of all elements of two lists holds of those of each
+-- If something holds of all elements of two joined lists, it holds of all elements of each.
 all_of_both : {X : Type 0} (P : X → Type 0) (xs ys : List X) → AllByRecursion P (xs ++ ys) → AllByRecursion P xs × AllByRecursion P ys
 all_of_both P [] ys all = (tt, all)
 all_of_both P (x ∷ xs) ys all = let both = all_of_both P xs ys all.1 in ((all.0, both.0), both.1)
 
--- the pair opens nothing but a plaintext
+-- the pair opens no other plaintext
 abbrev OpensOnly : SealedContent → List ℕ → Pair → Type 0
 OpensOnly s plaintext pair = (other : List ℕ) → opened_by s pair ≡ Some other → other ≡ plaintext
 
--- pairs that open nothing else may stand before one that opens it
+-- If some pairs open no other plaintext, and later pairs open this one, all pairs together open it.
 opened_later : (s : SealedContent) (plaintext : List ℕ) (pairs later : List Pair) → AllByRecursion (OpensOnly s plaintext) pairs → first_opened s later ≡ Some plaintext
     → first_opened s (pairs ++ later) ≡ Some plaintext
 opened_later s plaintext [] later only h = h
@@ -110,11 +110,11 @@ opened_later s plaintext (pair ∷ pairs) later only h = by_opened (opened_by s 
     by_opened None is rest = rest
     by_opened (Some other) is rest = ap Some (only.0 other is)
 
--- what a recipient with this key opens, by which it is a candidate
+-- a recipient with this key is a candidate and opens the plaintext
 abbrev pub Opens : EncryptionPlan → List ℕ → OctetKey → SealedContent → List ℕ → RecipientKey × List ℕ → Type 0
 Opens e cek key s plaintext x = x.0.key ≡ key → (is_candidate (algorithms_by e x.0) key ≡ true) × (opened_by s (pair_by e cek key x) ≡ Some plaintext)
 
--- so the first pair that opens gives the plaintext, where the key opens nothing else at the recipient of a key before it
+-- The first pair that opens returns the plaintext, if the key opens no other plaintext at the recipients of the keys before it.
 pub first_opens : (e : EncryptionPlan) (cek : List ℕ) (key : OctetKey) (s : SealedContent) (plaintext : List ℕ) (before after : List OctetKey) (xs : List (RecipientKey × List ℕ))
     → map (λ x. x.0.key) xs ≡ before ++ key ∷ after → AllByRecursion (Opens e cek key s plaintext) xs
     → AllByRecursion (OpensOnly s plaintext) (all_pairs management_algs (key ∷ []) (take (length before) (map (made_by e cek) xs)))
@@ -133,18 +133,18 @@ first_opens e cek key s plaintext (k ∷ before) after (x ∷ rest) keys all onl
 
 -- ---- what is decrypted
 
--- a recipient that is made is supported
+-- If there is a recipient, a recipient that was made is supported.
 pub supported : (e : EncryptionPlan) (cek : List ℕ) (xs : List (RecipientKey × List ℕ)) → 1 ≤ length xs → list_any (λ r. is_some (algorithms_of management_algs r)) (map (made_by e cek) xs) ≡ true
 supported e cek [] some = absurd (omega arith)
 supported e cek (x ∷ rest) some =
     or_left (is_some (algorithms_of management_algs (made_by e cek x))) (list_any (λ r. is_some (algorithms_of management_algs r)) (map (made_by e cek) rest)) (ap is_some (algorithms_are e cek x))
 
--- pairs of which one opens are some
+-- If the pairs open a plaintext, there is a pair.
 some_pairs : (s : SealedContent) (plaintext : List ℕ) (pairs : List Pair) → first_opened s pairs ≡ Some plaintext → has_pairs pairs ≡ true
 some_pairs s plaintext [] h = cc h
 some_pairs s plaintext (pair ∷ pairs) h = refl
 
--- so the object is decrypted to the plaintext
+-- If the pairs open the plaintext within the limits, the object is decrypted to it.
 pub opened_is_decrypted : (limits : Limits) → limits.management ≡ management_algs → (key : OctetKey) (o : EncryptedObject) (plaintext : List ℕ) → list_any (λ r. is_some (algorithms_of management_algs r)) o.recipients ≡ true
     → TakeAtMost limits.greatest_p2c_read limits.p2c_sum (all_pairs management_algs (key ∷ []) o.recipients) → first_opened (sealed_content o) (all_pairs management_algs (key ∷ []) o.recipients) ≡ Some plaintext
     → decrypted limits (key ∷ []) o ≡ Ok plaintext

@@ -1,4 +1,4 @@
--- The content encryption key, which is delivered to each recipient with the octets that are drawn for it.
+-- The content encryption key, and its delivery to each recipient with the octets that are drawn for it.
 use Rattle.std.proofs.Common.{◌≡◌, ℕ, suc, ◌+◌, ◌≤◌, ◌||◌, Bool, true, false, not, List, [], ◌∷◌, length, take, drop, map, if◌then◌else◌, Some, None, refl, sym, ap, ◌∙◌, subst, arith, length-drop}
 use Rattle.std.proofs.lemmas.List.{length-take-le}
 use Rattle.std.proofs.lemmas.Bool.{lt-leb, not-true, or_parts}
@@ -21,18 +21,18 @@ use Rattle.tokens.proofs.SettledEncryptions.{Receives, Settles}
 
 -- ---- the recipients with the octets that are drawn for them
 
--- these follow one another
+-- each recipient with its octets, in order
 abbrev pub with_drawn : List RecipientKey → List ℕ → List (RecipientKey × List ℕ)
 with_drawn [] drawn = []
 with_drawn (r ∷ rest) drawn = (r, take (drawn_for r) drawn) ∷ with_drawn rest (drop (drawn_for r) drawn)
 
--- a recipient that is so, with just as many octets as are drawn for it
+-- a fact about the recipient, and as many octets as are drawn for it
 pub record IsDrawn (P : RecipientKey → Type 0) (x : RecipientKey × List ℕ) : Type 0 where
   pub holds : P x.0
   pub octets : IsOctets x.1
   pub long : length x.1 ≡ drawn_for x.0
 
--- where each recipient is so, each has its octets
+-- If a fact holds of each recipient and enough octets are drawn, each recipient has its octets.
 pub all_drawn : (P : RecipientKey → Type 0) (recipient_keys : List RecipientKey) (drawn : List ℕ) → AllByRecursion P recipient_keys → IsOctets drawn → length drawn ≡ drawn_for_all recipient_keys
     → AllByRecursion (IsDrawn P) (with_drawn recipient_keys drawn)
 all_drawn P [] drawn all octets long = tt
@@ -44,7 +44,7 @@ all_drawn P (r ∷ rest) drawn all octets long =
       all_drawn P rest (drop n drawn) all.1 (IsOctets-drop n drawn octets) later,
     )
 
--- and there are as many
+-- There are as many recipients with octets as recipients.
 pub as_many_drawn : (recipient_keys : List RecipientKey) (drawn : List ℕ) → length (with_drawn recipient_keys drawn) ≡ length recipient_keys
 as_many_drawn [] drawn = refl
 as_many_drawn (r ∷ rest) drawn = ap suc (as_many_drawn rest (drop (drawn_for r) drawn))
@@ -53,20 +53,20 @@ as_many_drawn (r ∷ rest) drawn = ap suc (as_many_drawn rest (drop (drawn_for r
 abbrev pub delivery : EncryptionPlan → List ℕ → RecipientKey × List ℕ → Delivery
 delivery e cek x = delivery_to e cek x.0 x.1
 
--- the deliveries are those to the recipients with their octets
+-- The deliveries are those to the recipients with their octets.
 pub deliveries_are : (e : EncryptionPlan) (cek : List ℕ) (recipient_keys : List RecipientKey) (drawn : List ℕ) → deliveries_to e cek recipient_keys drawn ≡ map (delivery e cek) (with_drawn recipient_keys drawn)
 deliveries_are e cek [] drawn = refl
 deliveries_are e cek (r ∷ rest) drawn = ap (λ others. delivery_to e cek r (take (drawn_for r) drawn) ∷ others) (deliveries_are e cek rest (drop (drawn_for r) drawn))
 
--- ---- what is chosen or drawn
+-- ---- a key that is used directly or drawn
 
--- It has its length, and is the key that is used directly, where one is.
+-- The content encryption key has the right length. If a key is used directly, it is this key.
 pub record IsCek (enc : ContentEncryptionAlg) (recipient_keys : List RecipientKey) (cek : List ℕ) : Type 0 where
   pub octets : IsOctets cek
   pub fits : length cek ≡ cek_len (content_alg enc)
   pub direct : AllByRecursion (λ r. is_direct r.management ≡ true → cek ≡ r.key.octets) recipient_keys
 
--- so it is for one recipient
+-- For a single recipient, the direct key or the drawn octets are the content encryption key.
 cek_of_one : (enc : ContentEncryptionAlg) (r : RecipientKey) (drawn : List ℕ) (direct : Bool) → is_direct r.management ≡ direct → fits r.key (EncryptionWith r.management enc) ≡ true
     → IsOctets r.key.octets → IsOctets drawn → length drawn ≡ drawn_cek (if direct then Some r.key.octets else None) (cek_len (content_alg enc))
     → IsCek enc (r ∷ []) (unwrap_or (if direct then Some r.key.octets else None) drawn)
@@ -77,12 +77,12 @@ cek_of_one enc r drawn true is fit octets random long = record {
 }
 cek_of_one enc r drawn false is fit octets random long = record { octets = random; fits = long; direct = (λ e. cc (is, e), tt) }
 
--- several recipients use no key directly
+-- If no recipient uses its key directly, this is true of each of them.
 none_direct : (recipient_keys : List RecipientKey) → list_any (λ r. is_direct r.management) recipient_keys ≡ false → AllByRecursion (λ r. is_direct r.management ≡ false) recipient_keys
 none_direct [] h = tt
 none_direct (r ∷ rest) h = let both = or_parts (is_direct r.management) (list_any (λ r. is_direct r.management) rest) h in (both.0, none_direct rest both.1)
 
--- so the key, or what is drawn, is the content encryption key
+-- The direct key or the drawn octets are the content encryption key of all recipients.
 pub cek_is : (enc : ContentEncryptionAlg) (recipient_keys : List RecipientKey) (drawn : List ℕ) → direct_key_is_alone recipient_keys ≡ true → 1 ≤ length recipient_keys
     → AllByRecursion (λ r. fits r.key (EncryptionWith r.management enc) ≡ true) recipient_keys → AllByRecursion (λ r. IsOctets r.key.octets) recipient_keys → IsOctets drawn
     → length drawn ≡ drawn_cek (direct_key recipient_keys) (cek_len (content_alg enc)) → IsCek enc recipient_keys (unwrap_or (direct_key recipient_keys) drawn)
@@ -100,15 +100,15 @@ cek_is enc (r ∷ (other ∷ rest)) drawn together some fit octets random long =
     } in
     subst (λ direct. IsCek enc all (unwrap_or (if direct then Some r.key.octets else None) drawn)) (sym none.0) made
 
--- ---- how it is delivered
+-- ---- how the key is delivered
 
--- The recipient is delivered the content encryption key, by a key of octets and an initialization vector of octets.
+-- The recipient is delivered the content encryption key. Its key and its initialization vector are octets.
 pub record Delivers (e : EncryptionPlan) (cek : List ℕ) (x : RecipientKey × List ℕ) : Type 0 where
   pub key : IsOctets x.0.key.octets
   pub iv : IsOctets (parameters_by (delivery e cek x).management).iv
   pub delivers : IsDelivered (key_alg x.0.management) (content_alg e.encryption) x.0.key.octets (parameters_by (delivery e cek x).management) (delivery e cek x).encrypted_key cek
 
--- so it is where it is the content encryption key of the recipients
+-- A recipient is delivered every content encryption key that has the right length and is its direct key, if it uses one.
 delivered_to : (e : EncryptionPlan) (cek : List ℕ) (x : RecipientKey × List ℕ) → IsOctets cek → length cek ≡ cek_len (content_alg e.encryption) → IsOctets x.0.key.octets
     → (is_direct x.0.management ≡ true → cek ≡ x.0.key.octets) → IsOctets x.1 → length x.1 ≡ drawn_for x.0 → Delivers e cek x
 delivered_to e cek x octets fits key direct drawn long =
@@ -122,9 +122,9 @@ delivered_to e cek x octets fits key direct drawn long =
       };
     }
 
--- ---- by the octets that are drawn
+-- ---- with the octets that are drawn
 
--- where the keys are octets, so are those of the recipients
+-- If the keys are octets, so are the keys of the recipients.
 octet_keys : (recipient_keys : List RecipientKey) (keys : List OctetKey) → map (λ r. r.key) recipient_keys ≡ keys → AreOctetKeys keys → AllByRecursion (λ r. IsOctets r.key.octets) recipient_keys
 octet_keys recipient_keys keys same octets = of_images recipient_keys (subst AreOctetKeys (sym same) octets)
   where
@@ -132,11 +132,11 @@ octet_keys recipient_keys keys same octets = of_images recipient_keys (subst Are
     of_images [] all = tt
     of_images (r ∷ rest) all = (all.0, of_images rest all.1)
 
--- the octets after those of the recipients
+-- After the octets for the recipients, there are enough for the content encryption key and the initialization vector.
 pub after_long : (e : EncryptionPlan) (random : List ℕ) → length random ≡ random_len e → length (after_recipients e random) ≡ cek_drawn e + iv_len (content_alg e.encryption)
 after_long e random long = length-drop (drawn_for_all e.recipient_keys) random ∙ omega (arith, long)
 
--- the content encryption key of the recipients
+-- The content encryption key fits the recipients.
 pub cek_by_is : (keys : List OctetKey) (e : EncryptionPlan) (random : List ℕ) → Settles keys e → AreOctetKeys keys → IsOctets random → length random ≡ random_len e
     → IsCek e.encryption e.recipient_keys (cek_by e random)
 cek_by_is keys e random by key_octets octets long =
@@ -145,18 +145,18 @@ cek_by_is keys e random by key_octets octets long =
     (octet_keys e.recipient_keys keys by.keys_are key_octets) (IsOctets-take (cek_drawn e) later (IsOctets-drop (drawn_for_all e.recipient_keys) random octets))
     (length-take-le (cek_drawn e) later (omega (arith, after_long e random long)))
 
--- the recipients with the octets that are drawn
+-- the recipients with the octets that are drawn for each
 abbrev pub drawn_by_each : EncryptionPlan → List ℕ → List (RecipientKey × List ℕ)
 drawn_by_each e random = with_drawn e.recipient_keys (for_recipients e random)
 
--- each has its octets, ..
+-- Each recipient has its octets.
 pub each_drawn : (P : RecipientKey → Type 0) (e : EncryptionPlan) (random : List ℕ) → AllByRecursion P e.recipient_keys → IsOctets random → length random ≡ random_len e
     → AllByRecursion (IsDrawn P) (drawn_by_each e random)
 each_drawn P e random all octets long =
     let n : ℕ = drawn_for_all e.recipient_keys in
     all_drawn P e.recipient_keys (for_recipients e random) all (IsOctets-take n random octets) (length-take-le n random (omega (arith, long)))
 
--- .. and is delivered the content encryption key
+-- Each recipient is delivered the content encryption key.
 pub each_delivered : (keys : List OctetKey) (e : EncryptionPlan) (random : List ℕ) → Settles keys e → AreOctetKeys keys → IsOctets random → length random ≡ random_len e
     → AllByRecursion (Delivers e (cek_by e random)) (drawn_by_each e random)
 each_delivered keys e random by key_octets octets long =

@@ -1,4 +1,4 @@
--- The headers that are written of the deliveries to recipients, and the recipients that are read from them.
+-- The headers that are written for the deliveries to the recipients, and the recipients that are read from them.
 use Rattle.std.proofs.Common.{◌≡◌, ℕ, suc, ◌≤◌, true, false, List, [], ◌∷◌, length, take, map, Ok, sym, ◌∙◌, ap, subst, arith}
 use Rattle.std.proofs.lemmas.Bool.{lt-leb}
 use Rattle.std.proofs.lemmas.Simd.{map-map}
@@ -27,7 +27,7 @@ use Rattle.tokens.proofs.JointParameters.{parameters_of, with_parameters_is, awa
 use Rattle.tokens.proofs.ReadLists.{each_made}
 use Rattle.tokens.proofs.SettledEncryptions.{joint_of, Receives, Settles}
 
--- the laws of ciphers that say what is octets
+-- laws of the ciphers that say which values are octets
 pub record OctetLaws : Type 0 where
   pub opened : (alg : ContentAlg) (cek iv aad c tag p : List ℕ) → IsOctets cek → IsOctets iv → IsOpening alg cek iv aad c tag p → IsOctets c × IsOctets tag
   pub delivering : (alg : KeyAlg) (enc : ContentAlg) (key : List ℕ) (p : Parameters) (encrypted cek : List ℕ) → IsOctets key → IsOctets p.iv
@@ -35,11 +35,11 @@ pub record OctetLaws : Type 0 where
 
 -- ---- the parameters
 
--- those of the delivery to a recipient
+-- the parameters of the delivery to a recipient
 abbrev pub parameters_for : EncryptionPlan → List ℕ → RecipientKey × List ℕ → Entries
 parameters_for e cek x = parameters_of e.given (delivery e cek x)
 
--- A recipient is delivered the content encryption key with the octets that are drawn for it, and the encrypted key and the parameters are
+-- A recipient is delivered the content encryption key with the octets that are drawn for it. The encrypted key and the parameters are
 -- octets.
 pub record IsReady (e : EncryptionPlan) (cek : List ℕ) (x : RecipientKey × List ℕ) : Type 0 where
   pub receives : Receives e x.0
@@ -47,7 +47,7 @@ pub record IsReady (e : EncryptionPlan) (cek : List ℕ) (x : RecipientKey × Li
   pub parameters : AreParameters (delivery e cek x).management
   pub encrypted : IsOctets (delivery e cek x).encrypted_key
 
--- so it is where the laws of ciphers hold
+-- If the laws of the ciphers hold, each recipient that receives and is delivered the key is ready.
 ready : OctetLaws → (e : EncryptionPlan) (cek : List ℕ) (x : RecipientKey × List ℕ) → IsDrawn (Receives e) x → Delivers e cek x → IsReady e cek x
 ready laws e cek x drawn delivers =
     let alg = x.0.management in
@@ -69,13 +69,13 @@ pub record IsHeaded (e : EncryptionPlan) (cek : List ℕ) (header own : Members)
   pub joint : IsJoint header e.unprotected own (parameters_for e cek x) (joint_of e)
   pub written : IsHeader own
 
--- the names of the parameters are free
+-- No name of the parameters is used in the joint header.
 free : (e : EncryptionPlan) (cek : List ℕ) (x : RecipientKey × List ℕ) → IsReady e cek x → AreFree (joint_of e) (parameters_for e cek x)
 free e cek x is =
     let awaits = is.receives.awaits in
     free_names e.given.alg e.given.p2c _ (delivery e cek x).management (joint_of e) awaits.alg_there (awaits_management e.given.alg e.given.p2c x.0.management x.1 e.p2c _ (joint_of e) awaits)
 
--- the protected header has those of one recipient, ..
+-- If there is one recipient, its parameters are in the protected header.
 headed_one : (e : EncryptionPlan) (cek : List ℕ) (x : RecipientKey × List ℕ) → IsReady e cek x → are_disjoint e.protected e.unprotected no_members ≡ true
     → IsHeaded e cek (with_parameters e.given (delivery e cek x) e.protected) no_members x
 headed_one e cek x is disjoint = record {
@@ -83,7 +83,7 @@ headed_one e cek x is disjoint = record {
   written = empty_header;
 }
 
--- .. and the header of a recipient those of one among several
+-- If there are several recipients, the parameters of each are in its own header.
 headed_among : (e : EncryptionPlan) (cek : List ℕ) (x : RecipientKey × List ℕ) → are_disjoint e.protected e.unprotected no_members ≡ true → IsReady e cek x
     → IsHeaded e cek e.protected (with_parameters e.given (delivery e cek x) no_members) x
 headed_among e cek x disjoint is = record {
@@ -91,7 +91,7 @@ headed_among e cek x disjoint is = record {
   written = header_with e.given (delivery e cek x) no_members empty_header is.parameters;
 }
 
--- so the headers of recipients may be written, and the joint headers have their parameters
+-- The protected header and the headers of the recipients may be written, and the joint headers have the parameters.
 headed : (e : EncryptionPlan) (cek : List ℕ) (recipient_keys : List RecipientKey) (drawn : List ℕ) → IsHeader e.protected → are_disjoint e.protected e.unprotected no_members ≡ true → 1 ≤ length recipient_keys
     → AllByRecursion (IsReady e cek) (with_drawn recipient_keys drawn)
     → (let header = protected_header e.given (is_alone recipient_keys) (deliveries_to e cek recipient_keys drawn) e.protected in
@@ -108,20 +108,20 @@ headed e cek (r ∷ (other ∷ rest)) drawn may disjoint some all =
     subst (λ alone. let header = protected_header e.given alone (deliveries_to e cek (r ∷ (other ∷ rest)) drawn) e.protected in
     IsHeader header × AllByRecursion (λ x. IsHeaded e cek header (per_recipient_header e.given alone (delivery e cek x)) x) xs) (sym several) (may, each_headed)
 
--- ---- what is written by random octets
+-- ---- what is written with random octets
 
--- each recipient is delivered the content encryption key, and has its headers
+-- the recipient is delivered the content encryption key and has its headers
 pub record IsWritten (e : EncryptionPlan) (random : List ℕ) (x : RecipientKey × List ℕ) : Type 0 where
   pub ready : IsReady e (cek_by e random) x
   pub headed : IsHeaded e (cek_by e random) (header_of e random) (per_recipient_header e.given (is_alone e.recipient_keys) (delivery e (cek_by e random) x)) x
 
--- the protected header may be written, and reads back
+-- The protected header may be written and reads back, and each recipient is written.
 pub record Writes (e : EncryptionPlan) (random : List ℕ) : Type 0 where
   pub header : IsHeader (header_of e random)
   pub back : ReadsBack (header_of e random)
   pub each_written : AllByRecursion (IsWritten e random) (drawn_by_each e random)
 
--- so what is settled is written, by just as many random octets as are drawn
+-- If exactly as many random octets are drawn as needed, every plan that is settled is written.
 pub writes : OctetLaws → (keys : List OctetKey) (e : EncryptionPlan) (random : List ℕ) → Settles keys e → AreOctetKeys keys → IsOctets random → length random ≡ random_len e → Writes e random
 writes laws keys e random by key_octets octets long =
     let cek : List ℕ = cek_by e random in
@@ -137,22 +137,22 @@ writes laws keys e random by key_octets octets long =
 
 -- ---- the recipients
 
--- what is given of a recipient
+-- the parts that are passed on for a recipient
 abbrev pub given_by : EncryptionPlan → List ℕ → RecipientKey × List ℕ → RecipientParts
 given_by e cek x = recipient_parts_by e.given (is_alone e.recipient_keys) (delivery e cek x)
 
--- the recipient that is made of it
+-- the recipient that is made of these parts
 abbrev pub made_by : EncryptionPlan → List ℕ → RecipientKey × List ℕ → Recipient
 made_by e cek x = recipient (per_recipient_header e.given (is_alone e.recipient_keys) (delivery e cek x)) (delivery e cek x) e.encryption
 
--- the recipients are given by the recipient keys with their octets
+-- The parts of the recipients are those of the recipient keys with their octets.
 pub recipients_are : (e : EncryptionPlan) (random : List ℕ) → recipients_by e random ≡ map (given_by e (cek_by e random)) (drawn_by_each e random)
 recipients_are e random =
     let cek : List ℕ = cek_by e random in
     let by : Delivery → RecipientParts = recipient_parts_by e.given (is_alone e.recipient_keys) in
     ap (map by) (deliveries_are e cek e.recipient_keys (for_recipients e random)) ∙ map-map by (delivery e cek) (drawn_by_each e random)
 
--- so they are read
+-- The recipients are read from these parts.
 pub recipients_are_read : (keys : List OctetKey) (e : EncryptionPlan) (random : List ℕ) → Settles keys e → Writes e random
     → each (recipient_of management_algs (header_of e random) e.unprotected) (map (given_by e (cek_by e random)) (drawn_by_each e random))
     ≡ Ok (map (made_by e (cek_by e random)) (drawn_by_each e random))

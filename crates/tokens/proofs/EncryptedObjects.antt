@@ -1,4 +1,4 @@
--- What is encrypted: the object that keys and a template settle for a plaintext by the random octets that are drawn.
+-- Encryption: the object that keys and a template settle for a plaintext, with the random octets that are drawn.
 use Rattle.std.proofs.Common.{◌≡◌, ℕ, ◌<◌, Bool, true, not, nat_le, List, [], ◌∷◌, length, take, map, Option, Some, None, Ok, refl, sym, ◌∙◌, ap, arith, length-drop}
 use Rattle.std.proofs.lemmas.Bool.{and_from, leb-true, le-leb}
 use Rattle.std.proofs.lemmas.Bool.Decides.{Decides-not, Decides-ltb}
@@ -39,7 +39,7 @@ pub use Rattle.tokens.proofs.SettledEncryptions.{Settles, settles}
 
 -- ---- the object
 
--- what is made of the members
+-- the object that is made of the members
 abbrev pub object_by : EncryptionPlan → List ℕ → Sealed → EncryptedObject
 object_by e random s = record {
   protected = base64url (header_by e random);
@@ -52,21 +52,21 @@ object_by e random s = record {
   recipients = map (made_by e (cek_by e random)) (drawn_by_each e random);
 }
 
--- all recipients that are made have the content encryption that was chosen
+-- All recipients that are made have the chosen content encryption.
 all_have_enc : (e : EncryptionPlan) (cek : List ℕ) (xs : List (RecipientKey × List ℕ)) → list_all (λ r. bytes_eq r.enc (encryption_name e.encryption)) (map (made_by e cek) xs) ≡ true
 all_have_enc e cek [] = refl
 all_have_enc e cek (x ∷ rest) = and_from _ _ ((bytes_eq-Decides (encryption_name e.encryption) (encryption_name e.encryption)).1 refl) (all_have_enc e cek rest)
 
--- so it is the same for all
+-- All recipients that are made have the same content encryption.
 one_enc : (e : EncryptionPlan) (cek : List ℕ) (xs : List (RecipientKey × List ℕ)) → have_one_enc (map (made_by e cek) xs) ≡ true
 one_enc e cek [] = refl
 one_enc e cek (x ∷ rest) = all_have_enc e cek (x ∷ rest)
 
--- as many recipients are given as there are recipient keys
+-- There are as many recipients as recipient keys.
 as_many : (e : EncryptionPlan) (random : List ℕ) → length (map (given_by e (cek_by e random)) (drawn_by_each e random)) ≡ length e.recipient_keys
 as_many e random = length-map (drawn_by_each e random) (given_by e (cek_by e random)) ∙ as_many_drawn e.recipient_keys (for_recipients e random)
 
--- so the object is built of its members
+-- The object is built from its members.
 pub built_is : (limits : Limits) → limits.management ≡ management_algs → (keys : List OctetKey) (e : EncryptionPlan) (random : List ℕ) (s : Sealed) → Settles keys e → Writes e random → are_few limits (length e.recipient_keys) ≡ true
     → built limits (parts_by e random s) ≡ Ok (object_by e random s)
 unfolding built encrypted_object recipients_of_one_enc
@@ -105,31 +105,30 @@ built_is limits known keys e random s by is few =
       plain,
     ) refl
 
--- what is built has no more recipient keys than an object may have recipients
+-- If an object is built, there are no more recipient keys than an object may have recipients.
 pub few_recipient_keys : (limits : Limits) (e : EncryptionPlan) (random : List ℕ) (s : Sealed) (o : EncryptedObject) → built limits (parts_by e random s) ≡ Ok o → are_few limits (length e.recipient_keys) ≡ true
 few_recipient_keys limits e random s o made =
     let given : length (recipients_by e random) ≡ length e.recipient_keys = rw recipients_are (as_many e random) in
     ap (λ k. are_few limits k) (sym given) ∙ (jwe_is_built limits (parts_by e random s) o made).few
 
--- ---- what is sealed
+-- ---- sealing
 
--- a plaintext that passes the test is not too long
+-- A plaintext that passes the test is not too long.
 short_enough : (longest : Option ℕ) (n : ℕ) → not (is_longer n longest) ≡ true → IsSomeAnd longest (λ most. most < n) → ⊥
 short_enough None n h long = absurd long
 short_enough (Some most) n h long = (Decides-not _ (Decides-ltb most n)).0 h long
 
--- what is sealed is of a plaintext that is not too long
+-- If a plaintext is sealed, it is not too long, and the result is its sealing.
 pub sealed_is : (s : Sealing) (p : List ℕ) (made : Sealed) → sealed_by s p ≡ Ok made → (IsTooLong s p → ⊥) × (s.sealed p ≡ made)
 unfolding sealed_by
 sealed_is s p made h =
     let a = steps (needs (not (is_longer (length p) s.longest)) Limit) (λ short. Ok (s.sealed p)) made h in
     (short_enough s.longest (length p) (passed _ Limit a.0 a.1), same_answer (s.sealed p) made a.2)
 
--- ---- what is encrypted
+-- ---- encryption
 
--- What is encrypted by just as many random octets as are drawn: what the plaintext is sealed to, and the object that is made of it. The
--- content encryption key is delivered to each recipient, the plaintext opens what is sealed, and the members are as JSON has them, or
--- octets.
+-- The result of encrypting with exactly as many random octets as are needed: the sealed plaintext and the object that is made of it. Each
+-- recipient is delivered the content encryption key, the sealed plaintext opens to the plaintext, and the members are JSON or octets.
 pub record IsEncrypted (limits : Limits) (e : EncryptionPlan) (random plaintext : List ℕ) (o : EncryptedObject) : Type 0 where
   pub sealed : Sealed
   pub delivers : AllByRecursion (Delivers e (cek_by e random)) (drawn_by_each e random)
@@ -138,7 +137,7 @@ pub record IsEncrypted (limits : Limits) (e : EncryptionPlan) (random plaintext 
   pub made : built limits (parts_by e random sealed) ≡ Ok o
   pub is : object_by e random sealed ≡ o
 
--- the members are as JSON has them, or octets
+-- The members are JSON or octets.
 are_members : (keys : List OctetKey) (e : EncryptionPlan) (random : List ℕ) (s : Sealed) → Settles keys e → Writes e random → IsOctets random
     → IsOctets s.ciphertext → IsOctets s.tag → AreMembers (parts_by e random s)
 are_members keys e random s by w random_octets ciphertext tag =
@@ -154,13 +153,13 @@ are_members keys e random s by w random_octets ciphertext tag =
       recipients = rw recipients_are (all_images {P = IsWritten e random} P (given_by e (cek_by e random)) (λ x is. (is.headed.written.json, is.ready.encrypted)) (drawn_by_each e random) w.each_written);
     }
 
--- the steps of encrypting
+-- Encryption seals the plaintext and then builds the object.
 pub encrypting_steps : (limits : Limits) (e : EncryptionPlan) (random plaintext : List ℕ) (o : EncryptedObject) → encrypted limits e random plaintext ≡ Ok o
     → (s : Sealed) × (sealed_by (sealing_by e random) plaintext ≡ Ok s) × (built limits (parts_by e random s) ≡ Ok o)
 unfolding encrypted
 encrypting_steps limits e random plaintext o h = steps (sealed_by (sealing_by e random) plaintext) (λ s. built limits (parts_by e random s)) o h
 
--- all this holds of it
+-- If an object is encrypted, all these facts hold of it.
 pub is_encrypted : OctetLaws → (limits : Limits) → limits.management ≡ management_algs → (keys : List OctetKey) (e : EncryptionPlan) (random plaintext : List ℕ) (o : EncryptedObject) → AreOctetKeys keys → IsOctets random → IsOctets plaintext
     → length random ≡ random_len e → Settles keys e → encrypted limits e random plaintext ≡ Ok o → IsEncrypted limits e random plaintext o
 is_encrypted laws limits known keys e random plaintext o key_octets random_octets octets long by h =
@@ -196,7 +195,7 @@ is_encrypted laws limits known keys e random plaintext o key_octets random_octet
       is = same_answer (object_by e random s) o (sym (built_is limits known keys e random s by w (few_recipient_keys limits e random s o made.2)) ∙ made.2);
     }
 
--- what is written of an object is its text, and its ciphertext beside it where this is detached
+-- The texts that are written for an object are its text and, if the ciphertext is detached, its ciphertext next to it.
 pub written_is : (compact detach : Bool) (o : EncryptedObject) (texts : OutputTexts) → written_of compact detach o ≡ Ok texts
     → (jwe_text compact detach o ≡ Ok texts.text) × (handed_out detach o.ciphertext ≡ texts.content)
 written_is compact detach o texts h =
@@ -205,7 +204,7 @@ written_is compact detach o texts h =
     let same : beside text.0 ≡ texts = same_answer (beside text.0) texts text.2 in
     (text.1 ∙ ap (λ (t : OutputTexts). Ok t.text) same, ap (λ (t : OutputTexts). t.content) same)
 
--- what a template and keys settle, and the plan by the random octets that are drawn
+-- If a plan is drawn, a template and keys settle an encryption, there are enough random octets, and the plan is that of the encryption.
 pub plan_is : (limits : Limits) (compact detach : Bool) (keys : List OctetKey) (template random : List ℕ) (plan : Plan OutputTexts) → plan_from (enc_plan limits compact detach keys template) random ≡ Ok plan
     → (e : EncryptionPlan) × (read_encryption limits compact keys template ≡ Ok e) × (length (take (random_len e) random) ≡ random_len e)
     × (plan_by limits compact detach e (take (random_len e) random) ≡ plan)

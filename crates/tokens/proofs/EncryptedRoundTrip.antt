@@ -1,4 +1,4 @@
--- What is encrypted decrypts with each key alone that may decrypt.
+-- Every encrypted object is decrypted with each key alone that may decrypt.
 use Rattle.std.proofs.Common.{◌≡◌, ℕ, ◌*◌, Bool, true, false, List, [], ◌∷◌, ◌++◌, length, map, take, drop, Some, Ok, refl, sym, ◌∙◌, ap, subst, arith}
 use Rattle.std.specs.List.{AllByRecursion}
 use Rattle.octets.specs.Octets.{IsOctets}
@@ -33,14 +33,14 @@ pub record Laws : Type 0 where
   pub delivers : DeliversExactly
   pub spells : TextsSpellObjects
 
--- the object is read from its text in either form, and from its ciphertext where this is detached
+-- The object is read from its text in either form, and from its ciphertext if this is detached.
 text_is_read : Laws → (limits : Limits) (compact detach : Bool) (parts : JweParts) (o : EncryptedObject) (text : List ℕ) → AreMembers parts → built limits parts ≡ Ok o → jwe_text compact detach o ≡ Ok text
     → jwe_of limits (handed_in detach o.ciphertext) text ≡ Ok o
 text_is_read laws limits true detach parts o text members is h = (laws.spells limits parts o members is detach).1 text h
 text_is_read laws limits false detach parts o text members is h =
     ap (jwe_of limits (handed_in detach o.ciphertext)) (sym (same_answer (json_text detach o) text h)) ∙ (laws.spells limits parts o members is detach).0
 
--- so the object is read from what is written of it
+-- The object is read from the texts that are written for it.
 written_is_read : Laws → (limits : Limits) (compact detach : Bool) (parts : JweParts) (o : EncryptedObject) (texts : OutputTexts) → AreMembers parts → built limits parts ≡ Ok o → written_of compact detach o ≡ Ok texts
     → jwe_of limits (handed_in detach texts.content) texts.text ≡ Ok o
 written_is_read laws limits compact detach parts o texts members is h =
@@ -48,13 +48,13 @@ written_is_read laws limits compact detach parts o texts members is h =
     let beside : handed_in detach texts.content ≡ handed_in detach o.ciphertext = ap (handed_in detach) (sym written.1) ∙ handed_back detach o.ciphertext in
     ap (λ content. jwe_of limits content texts.text) beside ∙ text_is_read laws limits compact detach parts o texts.text members is written.0
 
--- a key that may decrypt and fits is a candidate
+-- A key that may decrypt and fits is a candidate.
 candidate_is : (e : EncryptionPlan) (r : RecipientKey) → allows r.key (management_operations r.management).1 ≡ true → fits r.key (EncryptionWith r.management e.encryption) ≡ true
     → is_candidate (algorithms_by e r) r.key ≡ true
 unfolding is_candidate
 candidate_is e r may fit = rw (may, fit) refl
 
--- what is delivered opens what is sealed
+-- A recipient that is delivered the key opens the sealed plaintext.
 opened_is : Laws → (e : EncryptionPlan) (cek : List ℕ) (x : RecipientKey × List ℕ) (s : SealedContent) (plaintext : List ℕ) → IsOctets s.iv → Delivers e cek x
     → IsOpening (content_alg e.encryption) cek s.iv s.aad s.ciphertext s.tag plaintext → opened_by s (pair_by e cek x.0.key x) ≡ Some plaintext
 unfolding opened_by cek_of
@@ -63,7 +63,7 @@ opened_is laws e cek x s plaintext start is opens =
     rw ((laws.delivers (key_alg x.0.management) (content_alg e.encryption) x.0.key.octets (parameters_by r.management) r.encrypted_key cek is.key).1 is.delivers)
     ((laws.opens (content_alg e.encryption) cek s.iv s.aad s.ciphertext s.tag plaintext is.delivers.octets start).1 opens)
 
--- so a recipient's key that may decrypt opens the plaintext
+-- A recipient's key that may decrypt opens the plaintext.
 key_opens : Laws → (e : EncryptionPlan) (cek : List ℕ) (key : OctetKey) (x : RecipientKey × List ℕ) (s : SealedContent) (plaintext : List ℕ) → IsOctets s.iv → Receives e x.0
     → (x.0.key ≡ key → allows key (management_operations x.0.management).1 ≡ true) → Delivers e cek x
     → IsOpening (content_alg e.encryption) cek s.iv s.aad s.ciphertext s.tag plaintext → Opens e cek key s plaintext x
@@ -72,12 +72,12 @@ key_opens laws e cek key x s plaintext start receives may delivers opens same =
     subst (λ k. (is_candidate (algorithms_by e x.0) k ≡ true) × (opened_by s (pair_by e cek k x) ≡ Some plaintext)) same
     (candidate_is e x.0 may_own receives.fit, opened_is laws e cek x s plaintext start delivers opens)
 
--- the keys of recipients with their octets
+-- The keys of recipients with their octets are the keys of the recipients.
 keys_of_drawn : (recipient_keys : List RecipientKey) (drawn : List ℕ) → map (λ x. x.0.key) (with_drawn recipient_keys drawn) ≡ map (λ r. r.key) recipient_keys
 keys_of_drawn [] drawn = refl
 keys_of_drawn (r ∷ rest) drawn = ap (λ keys. r.key ∷ keys) (keys_of_drawn rest (drop (drawn_for r) drawn))
 
--- the object is decrypted with each key alone that may decrypt
+-- The object is decrypted with each key alone that may decrypt.
 decrypts : Laws → (limits : Limits) → limits.management ≡ management_algs → (before after : List OctetKey) (key : OctetKey) (e : EncryptionPlan) (random plaintext : List ℕ) (o : EncryptedObject) → Settles (before ++ key ∷ after) e → TakesFew limits e → IsOctets random
     → length random ≡ random_len e → AllByRecursion (λ r. r.key ≡ key → allows key (management_operations r.management).1 ≡ true) e.recipient_keys
     → (is : IsEncrypted limits e random plaintext o) → OpensNoOther (length before) key (object_by e random is.sealed) plaintext
@@ -98,7 +98,7 @@ decrypts laws limits known before after key e random plaintext o by few random_o
     (record { each_few = most.each_few; all_few = omega (arith, most.all_few, few.all_few) })
     (first_opens e cek key s plaintext before after xs (keys_of_drawn e.recipient_keys (for_recipients e random) ∙ by.keys_are) each_opens only)
 
--- so what is written of it is that of an object which is decrypted
+-- The texts that are written are read as an object that is decrypted.
 read_and_decrypted : Laws → (limits : Limits) → limits.management ≡ management_algs → (compact detach : Bool) (keys : List OctetKey) (e : EncryptionPlan) (random plaintext : List ℕ) (texts : OutputTexts)
     → AreOctetKeys keys → IsOctets random → IsOctets plaintext → length random ≡ random_len e → Settles keys e → TakesFew limits e
     → (encrypted limits e random plaintext >>= written_of compact detach) ≡ Ok texts
@@ -118,7 +118,7 @@ read_and_decrypted laws limits known compact detach keys e random plaintext text
       ),
     )
 
--- and so it is where keys and a template settle what is encrypted
+-- This holds of every encryption that keys and a template settle.
 pub encrypted_decrypts : Laws → (limits : Limits) → AreSound limits → EncryptedDecrypts limits
 encrypted_decrypts laws limits sound compact detach keys template random plaintext texts key_octets random_octets octets h =
     let plan = steps (plan_from (enc_plan limits compact detach keys template) random) (λ p. p.whole plaintext) texts h in

@@ -1,4 +1,4 @@
--- What the text of a template says: headers that may be written, and the algorithms, and the count of iterations, that it asks for.
+-- The content of a template's text: headers that may be written, and the algorithms and the number of iterations that it asks for.
 use Rattle.std.proofs.Common.{◌≡◌, ℕ, ◌&&◌, Bool, true, false, List, [], ◌∷◌, codes, Option, Some, None, is_none, option_map, Result, Ok, Err, refl, sym, ◌∙◌, ap, subst}
 use Rattle.std.proofs.lemmas.Bool.{not-true, and_parts}
 use Rattle.std.specs.Option.{ok_or}
@@ -27,8 +27,8 @@ use Rattle.tokens.proofs.JointParameters.{as_count}
 
 -- ---- what the headers ask for
 
--- They have no name in common, and no member that is refused. The joint header names the algorithms, and has the count, that are
--- asked for, and it lacks what encryption writes.
+-- The headers have no name in common and no member that is refused. The joint header has the algorithms and the number of iterations that
+-- are asked for, and none of the members that encryption writes.
 pub record Asks (p u : Members) (asked : AlgorithmsAsked) : Type 0 where
   pub disjoint : are_disjoint p u no_members ≡ true
   pub plain : has_no_crit_or_zip p ≡ true
@@ -40,7 +40,7 @@ pub record Asks (p u : Members) (asked : AlgorithmsAsked) : Type 0 where
   pub no_iv : get_member (codes "iv") (all_members p u no_members) ≡ None
   pub no_tag : get_member (codes "tag") (all_members p u no_members) ≡ None
 
--- a name that is supported is that of the algorithm
+-- If a name is supported, it is the name of the algorithm that is asked for.
 asked_by : {A : Type 0} (of : List ℕ → Option A) (name_of : A → List ℕ) (supported : Option A → Result (Option A) Refusal) (name : List ℕ) (asked : Option A)
     → ((a : A) → of name ≡ Some a → name ≡ name_of a) → supported None ≡ Err Unsupported → ((a : A) → supported (Some a) ≡ Ok (Some a)) → supported (of name) ≡ Ok asked
     → Some name ≡ option_map name_of asked
@@ -50,17 +50,17 @@ asked_by of name_of supported name asked names none some h = by_found (of name) 
     by_found None e h = cc (none, h)
     by_found (Some a) e h = ap Some (names a e) ∙ ap (option_map name_of) (same_answer (Some a) asked (sym (some a) ∙ h))
 
--- so is that of the key management, if there is one
+-- If a key management algorithm is asked for, the header has its name.
 management_is : (name : Option (List ℕ)) (asked : Option KeyManagementAlg) → management_asked name ≡ Ok asked → name ≡ option_map management_name asked
 management_is None asked h = ap (option_map management_name) (same_answer None asked h)
 management_is (Some name) asked h = asked_by management_alg_of management_name supported_management name asked (management_name_is name) refl (λ a. refl) h
 
--- and that of the content encryption
+-- If a content encryption is asked for, the header has its name.
 encryption_is : (name : Option (List ℕ)) (asked : Option ContentEncryptionAlg) → encryption_asked name ≡ Ok asked → name ≡ option_map encryption_name asked
 encryption_is None asked h = ap (option_map encryption_name) (same_answer None asked h)
 encryption_is (Some name) asked h = asked_by encryption_alg_of encryption_name supported_encryption name asked (encryption_name_is name) refl (λ a. refl) h
 
--- where a joint header is made, its parts have no name in common
+-- If a joint header is made, its parts have no name in common.
 joined : {B : Type 0} (p u own : Members) (f : Members → Result B Refusal) (y : B) → (joint_header p u own >>= f) ≡ Ok y → (are_disjoint p u own ≡ true) × (f (all_members p u own) ≡ Ok y)
 unfolding joint_header
 joined p u own f y h = by_test (are_disjoint p u own) h
@@ -69,7 +69,7 @@ joined p u own f y h = by_test (are_disjoint p u own) h
     by_test true h = (refl, h)
     by_test false h = cc h
 
--- a header that leaves the parameters to encryption has none of them
+-- A header that leaves the parameters to encryption has no `p2s`, no `iv` and no `tag`.
 none_there : (header : Members) → leaves_parameters header ≡ true
     → (get_member (codes "p2s") header ≡ None) × (get_member (codes "iv") header ≡ None) × (get_member (codes "tag") header ≡ None)
 none_there header left =
@@ -80,7 +80,7 @@ none_there header left =
     gone : (o : Option Data) → is_none o ≡ true → o ≡ None
     gone o none = not_there o (not-true _ none)
 
--- so the headers ask for the algorithms
+-- The headers ask for the algorithms that are read from them.
 asks : (p u : Members) (asked : AlgorithmsAsked) → algorithms_asked p u ≡ Ok asked → Asks p u asked
 unfolding algorithms_asked string_parameter number_parameter
 asks p u asked h =
@@ -109,14 +109,14 @@ asks p u asked h =
 
 -- ---- the template
 
--- its headers are JSON, and ask for the algorithms; its additional data are octets
+-- The headers of the template are JSON and ask for the algorithms. Its additional data are octets.
 pub record IsTemplate (t : EncryptionTemplate) : Type 0 where
   pub protected : AreJsonMembers t.protected
   pub unprotected : AreJsonMembers t.unprotected
   pub aad : IsOctets t.aad
   pub asks : Asks t.protected t.unprotected t.asked
 
--- a text in JSON is octets
+-- A text in JSON is octets.
 text_octets : (d : Data) (name text : List ℕ) → IsJson d → text_at name d ≡ Ok text → IsOctets text
 unfolding text_at
 text_octets d name text json h = by_found (get name d) refl h
@@ -133,7 +133,7 @@ text_octets d name text json h = by_found (get name d) refl h
     by_found None e is = subst IsOctets (same_answer [] text is) IsOctets-nil
     by_found (Some v) e is = by_value v (keep_json.found name d v json e).0 is
 
--- the texts of a template are JSON
+-- The headers among the texts of a template are JSON, and the additional data are octets.
 texts_json : (d : Data) (texts : TemplateTexts) → IsJson d → template_texts d ≡ Ok texts → AreJsonMembers texts.protected × AreJsonMembers texts.unprotected × IsOctets texts.aad
 unfolding template_texts
 texts_json d texts json h =
@@ -145,7 +145,7 @@ texts_json d texts json h =
     subst (λ (t : TemplateTexts). AreJsonMembers t.protected × AreJsonMembers t.unprotected × IsOctets t.aad) (same_answer _ texts aad.2)
     (members_json d (codes "protected") protected.0 json protected.1, members_json d (codes "unprotected") unprotected.0 json unprotected.1, text_octets d (codes "aad") aad.0 json aad.1)
 
--- all this holds of the template that a value is
+-- A template that is read from JSON has these properties.
 pub is_template : (d : Data) (t : EncryptionTemplate) → IsJson d → encryption_template d ≡ Ok t → IsTemplate t
 unfolding encryption_template
 is_template d t json h =

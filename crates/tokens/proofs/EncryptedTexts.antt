@@ -1,4 +1,4 @@
--- What keys and a template settle makes an object of every plaintext that is not too long, and its texts.
+-- If keys and a template settle an encryption, every plaintext that is not too long has an object, and this object has texts.
 use Rattle.std.proofs.Common.{◌≡◌, ℕ, ◌≤◌, ◌&&◌, ◌==◌, Bool, true, false, not, List, [], ◌∷◌, length, map, take, Ok, IfErr, refl, sym, ap, ◌∙◌, subst, arith}
 use Rattle.std.proofs.lemmas.Bool.{and_parts, leb-true}
 use Rattle.std.proofs.lemmas.List.{length-map}
@@ -22,19 +22,19 @@ use Rattle.tokens.proofs.EncryptedObjects.{object_by, built_is, plan_is}
 use Rattle.tokens.proofs.SoundLimits.{these_are_sound}
 use Rattle.tokens.proofs.SettledEncryptions.{Settles, holds_no_more, settles, stands_alone}
 
--- a header without members
+-- An empty header has no members.
 no_members_there : (header : Members) → is_empty header ≡ true → not (has_members header) ≡ true
 no_members_there no_members h = refl
 no_members_there (member k d rest) h = cc h
 
--- where nothing more is to be held, compact form can hold an object with one recipient
+-- An object with one recipient fits into compact form, if it has no unprotected header and no additional data.
 fits : (e : EncryptionPlan) (cek : List ℕ) (o : EncryptedObject) (xs : List (RecipientKey × List ℕ)) → is_alone e.recipient_keys ≡ true → length xs ≡ length e.recipient_keys → 1 ≤ length e.recipient_keys
     → not (has_members o.unprotected) ≡ true → (length o.aad == 0) ≡ true → is_compact o (map (made_by e cek) xs) ≡ true
 fits e cek o [] alone long some unprotected aad = absurd (omega (arith, long))
 fits e cek o (x ∷ []) alone long some unprotected aad = rw (unprotected, alone, aad) refl
 fits e cek o (x ∷ (other ∷ rest)) alone long some unprotected aad = absurd (omega (arith, long, leb-true (length e.recipient_keys) 1 alone))
 
--- so the object has a text
+-- The object has a text.
 pub has_text : (compact detach : Bool) (e : EncryptionPlan) (random : List ℕ) (s : Sealed) → holds_no_more compact e ≡ true → 1 ≤ length e.recipient_keys
     → (text : List ℕ) × (jwe_text compact detach (object_by e random s) ≡ Ok text)
 unfolding jwe_compact_text
@@ -47,7 +47,7 @@ has_text true detach e random s alone some =
     (compact_parts detach (parts_of o), rw held refl)
 has_text false detach e random s alone some = (json_text detach (object_by e random s), refl)
 
--- and every plaintext that is not too long
+-- A plaintext is refused only with Limit.
 whole_text : (compact detach : Bool) (keys : List OctetKey) (e : EncryptionPlan) (random plaintext : List ℕ) → Settles keys e → Writes e random → are_few limits (length e.recipient_keys) ≡ true
     → holds_no_more compact e ≡ true → IfErr ((plan_by limits compact detach e random).whole plaintext) (λ refusal. refusal ≡ Limit)
 unfolding encrypted sealed_by
@@ -60,7 +60,7 @@ whole_text compact detach keys e random plaintext by w few alone = by_test (not 
         let s : Sealed = (sealing_by e random).sealed plaintext in
         rw (built_is limits refl keys e random s by w few, (has_text compact detach e random s alone by.some).1) tt
 
--- so it is by every plan that keys and a template settle
+-- This holds of every plan that keys and a template settle.
 pub encrypting_makes_texts : OctetLaws → EncryptingMakesTexts
 encrypting_makes_texts laws compact detach keys template random plaintext plan few key_octets octets h =
     let is = plan_is limits compact detach keys template random plan h in

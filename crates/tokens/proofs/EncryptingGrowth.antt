@@ -1,4 +1,4 @@
--- The plan of encrypting, which goes on as its plaintext does.
+-- The plan of encryption grows with the plaintext.
 use Rattle.std.proofs.Common.{◌≡◌, ℕ, zero, suc, Bool, true, false, List, [], ◌∷◌, ◌++◌, length, take, Option, Some, None, if◌then◌else◌, Ok, refl, sym, ◌∙◌, ap, subst, arith}
 use Rattle.octets.specs.Base64url.{base64url, whole_groups}
 use Rattle.octets.specs.Octets.{IsOctets}
@@ -21,20 +21,20 @@ use Rattle.tokens.proofs.EncryptedObjects.{OctetLaws, few_recipient_keys, encryp
 use Rattle.tokens.proofs.SoundLimits.{these_are_sound}
 use Rattle.tokens.proofs.EncryptionFrames.{has_frame, frame, text_before_is, whole_is}
 
--- ---- what is fixed of the ciphertext
+-- ---- the fixed part of the ciphertext
 
--- the first octets go on
+-- The first octets grow with the plaintext.
 take_grows : (n : ℕ) (p q : List ℕ) → Begins (take n p) (take n (p ++ q))
 take_grows zero p q = record { rest = []; continues = refl }
 take_grows (suc n) [] q = record { rest = take (suc n) q; continues = refl }
 take_grows (suc n) (x ∷ p) q = let more = take_grows n p q in record { rest = more.rest; continues = ap (λ l. x ∷ l) more.continues }
 
--- so does what is within the longest plaintext
+-- The part within the longest plaintext grows with the plaintext.
 within_grows : (longest : Option ℕ) (p q : List ℕ) → Begins (within_longest longest p) (within_longest longest (p ++ q))
 within_grows None p q = record { rest = q; continues = refl }
 within_grows (Some most) p q = take_grows most p q
 
--- what is fixed goes on
+-- The fixed part of the ciphertext grows with the plaintext.
 pub more_fixed : (e : EncryptionPlan) (random p q : List ℕ) → Begins (ciphertext_fixed e random p) (ciphertext_fixed e random (p ++ q))
 more_fixed e random p q =
     let s = sealing_by e random in
@@ -43,7 +43,7 @@ more_fixed e random p q =
     subst (λ l. Begins (s.fixed front) (s.fixed l)) (sym more.continues)
     (fixed_grows (content_alg e.encryption) (cek_by e random) (iv_by e random) (additional_authenticated_data (base64url (header_by e random)) e.aad) front more.rest)
 
--- and begins the ciphertext, where the plaintext is not too long
+-- The fixed part begins the ciphertext, if the plaintext is not too long.
 pub fixed_begins : (e : EncryptionPlan) (random p q : List ℕ) → (IsTooLong (sealing_by e random) (p ++ q) → ⊥) → Begins (ciphertext_fixed e random p) ((sealing_by e random).sealed (p ++ q)).ciphertext
 fixed_begins e random p q short =
     let s = sealing_by e random in
@@ -52,12 +52,12 @@ fixed_begins e random p q short =
 
 -- ---- the text
 
--- what is fixed of it goes on as what is fixed of the ciphertext does
+-- The fixed part of the text grows with the fixed part of the ciphertext.
 text_goes_on : (compact detach : Bool) (e : EncryptionPlan) (random x y : List ℕ) → Begins x y → Begins (text_fixed limits compact detach e random x) (text_fixed limits compact detach e random y)
 text_goes_on compact true e random x y b = empty_begins []
 text_goes_on compact false e random x y b = begins_behind (text_before limits compact e random) _ _ (groups_grow x y b)
 
--- and begins the frame with the ciphertext and the tag in it
+-- The fixed part of the text begins the frame that is filled with the ciphertext and the tag.
 text_begins : (compact detach : Bool) (e : EncryptionPlan) (random : List ℕ) (texts : List (List ℕ)) (x : List ℕ) (s : Sealed)
     → (detach ≡ false → text_before limits compact e random ≡ first_text (Ok texts)) → length texts ≡ (if detach then 2 else 3) → Begins x s.ciphertext
     → Begins (text_fixed limits compact detach e random x) (filled texts (in_places detach s.ciphertext (s.tag ∷ [])))
@@ -66,9 +66,9 @@ text_begins compact false e random texts x s before places b =
     subst (λ t. Begins (t ++ base64url (whole_groups x)) (filled texts (in_places false s.ciphertext (s.tag ∷ [])))) (sym (before refl))
     (frame_begins texts x s.ciphertext (s.tag ∷ []) (omega (arith, places)) b)
 
--- ---- what is encrypted
+-- ---- everything that is written
 
--- by just as many random octets as are drawn, what is fixed begins what is written
+-- If exactly as many random octets are drawn as needed, the fixed part begins everything that is written.
 written_begins : OctetLaws → (compact detach : Bool) (keys : List OctetKey) (template : List ℕ) (e : EncryptionPlan) (random p q : List ℕ) (texts : OutputTexts) → AreOctetKeys keys → IsOctets random
     → IsOctets (p ++ q) → length random ≡ random_len e → read_encryption limits compact keys template ≡ Ok e → (plan_by limits compact detach e random).whole (p ++ q) ≡ Ok texts
     → BothBegin ((plan_by limits compact detach e random).fixed p) texts
@@ -91,7 +91,7 @@ written_begins laws compact detach keys template e random p q texts key_octets r
       content = handed_out_begins detach front s.ciphertext begins;
     })
 
--- so the plan grows, as each that a template and keys settle does
+-- Every plan that a template and keys settle grows.
 pub encrypting_grows : OctetLaws → EncryptingGrows
 encrypting_grows laws compact detach keys template random plan key_octets random_octets h =
     let is = plan_is limits compact detach keys template random plan h in

@@ -1,4 +1,4 @@
--- What is planned where keys and a template settle an encryption, and all is drawn.
+-- The plan if keys and a template settle an encryption and all random octets are drawn.
 use Rattle.std.proofs.Common.{◌≡◌, ℕ, Bool, true, List, ◌++◌, length, take, nat_le, Ok, refl, sym, ap, ◌∙◌, arith, length-append}
 use Rattle.std.proofs.lemmas.Bool.{le-leb}
 use Rattle.std.proofs.lemmas.List.{take-append-le}
@@ -9,7 +9,7 @@ use Rattle.keys.specs.Limits.{Limits}
 use Rattle.tokens.specs.Choosing.{EncryptionPlan, read_encryption}
 use Rattle.tokens.specs.Encrypting.{enc_plan, random_len, plan_by}
 
--- by the octets that are drawn, whatever the random input goes on to give, the plan is theirs
+-- The plan depends only on the octets that are drawn, whatever follows in the random input.
 pub plan_of_drawn : (limits : Limits) (compact detach : Bool) (keys : List OctetKey) (template : List ℕ) (e : EncryptionPlan) (random octets rest : List ℕ)
     → read_encryption limits compact keys template ≡ Ok e → length random ≡ random_len e → octets ≡ random ++ rest
     → plan_from (enc_plan limits compact detach keys template) octets ≡ Ok (plan_by limits compact detach e random)

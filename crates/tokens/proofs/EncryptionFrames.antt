@@ -1,4 +1,4 @@
--- The texts that stand round the ciphertext and the tag of what is encrypted.
+-- The texts around the ciphertext and the tag of an encrypted object.
 use Rattle.std.proofs.Common.{◌≡◌, ℕ, ◌≤◌, Bool, true, false, List, [], ◌∷◌, ◌++◌, length, Result, Ok, Err, refl, sym, ap, ◌∙◌, subst, arith, length-drop}
 use Rattle.std.proofs.lemmas.Bool.{le-leb}
 use Rattle.octets.specs.declared.refusal.Refusal.{Refusal}
@@ -33,7 +33,7 @@ use Rattle.tokens.proofs.EncryptingPlans.{plan_of_drawn}
 use Rattle.tokens.proofs.SoundLimits.{these_are_sound}
 use Rattle.tokens.proofs.SettledEncryptions.{Settles, settles, stands_alone}
 
--- keys and a template settle an encryption, and so many octets are drawn as it takes
+-- keys and a template settle an encryption, and exactly as many octets are drawn as it needs
 module _ (compact : Bool) (keys : List OctetKey) (template : List ℕ) (e : EncryptionPlan) (random : List ℕ)
     (is : read_encryption limits compact keys template ≡ Ok e) (few : are_few limits (length e.recipient_keys) ≡ true) (laws : OctetLaws) (key_octets : AreOctetKeys keys)
     (random_octets : IsOctets random) (long : length random ≡ random_len e) where
@@ -43,7 +43,7 @@ module _ (compact : Bool) (keys : List OctetKey) (template : List ℕ) (e : Encr
   w : Writes e random
   w = writes laws keys e random by key_octets random_octets long
 
-  -- the object without a ciphertext has a frame
+  -- The object without a ciphertext has a frame.
   pub has_frame : (detach : Bool) → (texts : List (List ℕ)) × (frame_by limits compact detach e random ≡ Ok texts)
   has_frame detach = by_written (jwe_written true compact detach (object_by e random unsealed)) refl
     where
@@ -58,13 +58,13 @@ module _ (compact : Bool) (keys : List OctetKey) (template : List ℕ) (e : Encr
           cc both
 
   module _ (detach : Bool) (texts : List (List ℕ)) (framed : frame_by limits compact detach e random ≡ Ok texts) where
-    -- the texts stand round the ciphertext and the tag of the object
+    -- The texts are the frame of the object.
     pub frame : IsJweFrame compact detach (object_by e random unsealed) texts
     frame =
         is_jwe_frame compact detach (object_by e random unsealed) texts
         (sym (ap (λ r. r >>= jwe_frame compact detach) (built_is limits refl keys e random unsealed by w few)) ∙ framed)
 
-    -- round every ciphertext and tag they are what is written of the object of these
+    -- Filled with a ciphertext and a tag, the texts are those that are written for the object of these.
     texts_are : (s : Sealed) → IsOctets s.ciphertext → IsOctets s.tag → 1 ≤ length s.tag
         → (built limits (parts_by e random s) >>= written_of compact detach) ≡ Ok (record { text = filled texts (in_places detach s.ciphertext (s.tag ∷ [])); content = handed_out detach s.ciphertext })
     texts_are s ciphertext tag some =
@@ -72,7 +72,7 @@ module _ (compact : Bool) (keys : List OctetKey) (template : List ℕ) (e : Encr
         ∙ ap (λ r. r >>= λ text. Ok (record { text = text; content = handed_out detach s.ciphertext }))
         (frame.filled s.ciphertext s.tag ciphertext tag (le-leb 1 (length s.tag) some))
 
-  -- before every ciphertext stands the first of them
+  -- The text before every ciphertext is the first text of the frame.
   pub text_before_is : (texts : List (List ℕ)) → frame_by limits compact false e random ≡ Ok texts → text_before limits compact e random ≡ first_text (Ok texts)
   text_before_is texts framed =
       let round = frame false texts framed in
@@ -94,7 +94,7 @@ module _ (compact : Bool) (keys : List OctetKey) (template : List ℕ) (e : Encr
           opens = record { octets = octets; short = short; ciphertext = refl; is_tag = refl };
         })
 
-    -- they are what is written of it
+    -- Filled with the sealed plaintext, the texts are those that are written.
     pub whole_is : (detach : Bool) (texts : List (List ℕ)) → frame_by limits compact detach e random ≡ Ok texts → (p : List ℕ) (sealed : Sealed) → IsOctets p → sealed_by (sealing_by e random) p ≡ Ok sealed
         → (plan_by limits compact detach e random).whole p ≡ Ok (record { text = filled texts (in_places detach sealed.ciphertext (sealed.tag ∷ [])); content = handed_out detach sealed.ciphertext })
     unfolding encrypted
@@ -106,7 +106,7 @@ module _ (compact : Bool) (keys : List OctetKey) (template : List ℕ) (e : Encr
         ∙ subst (λ x. (built limits (parts_by e random x) >>= written_of compact detach) ≡ Ok (record { text = filled texts (in_places detach x.ciphertext (x.tag ∷ [])); content = handed_out detach x.ciphertext })) is_sealed.1
         (texts_are detach texts framed ((sealing_by e random).sealed p) both.0 both.1 some)
 
--- ---- what is settled before there is a plaintext
+-- ---- before there is a plaintext
 
 pub is_unsealed : {S : Type 0} (is_sealing : S → Sealing → List ℕ → Type 0) (compact detach : Bool) (keys : List OctetKey) (template : List ℕ) (e : EncryptionPlan) (random octets rest : List ℕ) (sealer : S) (texts : List (List ℕ))
     → read_encryption limits compact keys template ≡ Ok e → are_few limits (length e.recipient_keys) ≡ true → OctetLaws → AreOctetKeys keys → IsOctets random

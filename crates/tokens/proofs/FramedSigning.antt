@@ -1,4 +1,4 @@
--- The texts that stand round the payload and the signatures of what is signed, and what may stand of them.
+-- The texts around the payload and the signatures of a signed object, and the part of them that may be written.
 use Rattle.std.proofs.Common.{◌≡◌, ℕ, Bool, true, false, List, [], ◌∷◌, length, map, codes, Result, Ok, Err, refl, sym, ap, ap₂, ◌∙◌, append_assoc}
 use Rattle.std.proofs.lemmas.List.{length-map}
 use Rattle.std.specs.List.{AllByRecursion}
@@ -52,7 +52,7 @@ parts_alike : (header : Members) (payload : List ℕ) (signers : List Signer)
 parts_alike header payload [] = refl
 parts_alike header payload (s ∷ signers) = ap (λ l. signature_by header payload s ∷ l) (parts_alike header payload signers)
 
--- what is signed is the object without a payload, with this and the signatures put into it
+-- The signed object is the object without a payload, with the payload and the signatures inserted.
 signed_alike : (s : Signing) (payload : List ℕ) → signed limits s payload ≡ (unsigned_by limits s >>= λ o. Ok (signed_with o payload (map (octets_by payload) s.signers)))
 unfolding signed unsigned_by
 signed_alike s payload =
@@ -68,7 +68,7 @@ given_texts : (header : Members) (signers : List Signer)
 given_texts header [] = refl
 given_texts header (s ∷ signers) = ap (λ l. protected_by s ∷ l) (given_texts header signers)
 
--- its signatures have the texts of the protected headers
+-- The signatures of the object without a payload have the texts of the signers' protected headers.
 pub unsigned_are : (s : Signing) (o : SignedObject) → unsigned_by limits s ≡ Ok o → unsigned_protected o.signatures ≡ map protected_by s.signers
 unfolding unsigned_by
 unsigned_are s o made =
@@ -104,21 +104,21 @@ module _ (compact detach : Bool) (s : Signing) (o : SignedObject) (texts : List 
   object_text payload octets =
       frame.filled payload (map (octets_by payload) s.signers) octets (all_octets payload s.signers) (length-map s.signers (octets_by payload) ∙ sym (unsigned_count s o made))
 
-  -- it fills the texts
+  -- Filled with the payload and the signatures, the texts are those that are written.
   pub whole_is : (payload : List ℕ) → IsOctets payload
       → (plan_by limits compact detach s).whole payload ≡ Ok (record { text = filled texts (in_places detach payload (map (octets_by payload) s.signers)); content = handed_out detach payload })
   whole_is payload octets =
       ap (λ r. r >>= written_of compact detach) (signed_is_with s o payload made)
       ∙ is_written compact detach (signed_with o payload (map (octets_by payload) s.signers)) _ (object_text payload octets)
 
--- the text before a payload is the first of them
+-- The text before the payload is the first text of the frame.
 pub text_before_is : (compact : Bool) (s : Signing) (o : SignedObject) (texts : List (List ℕ)) → unsigned_by limits s ≡ Ok o → IsJwsFrame compact false o texts
     → text_before limits compact s ≡ first_text (Ok texts)
 text_before_is compact s o texts made frame =
     before_is (λ payload. signed limits s payload >>= jws_text compact false) texts (λ b. map (octets_by (b ∷ [])) s.signers) (length o.signatures) frame.places
     (λ b small. ap (λ r. r >>= jws_text compact false) (signed_is_with s o (b ∷ []) made) ∙ object_text compact false s o texts made frame (b ∷ []) (first_or b [] small IsOctets-nil))
 
--- what is written has a frame
+-- If texts are written, the object has a frame.
 pub has_frame : (compact detach : Bool) (s : Signing) (payload : List ℕ) (written : OutputTexts) → (plan_by limits compact detach s).whole payload ≡ Ok written
     → (o : SignedObject) × (texts : List (List ℕ)) × (unsigned_by limits s ≡ Ok o) × (jws_frame compact detach o ≡ Ok texts)
 has_frame compact detach s payload written h = by_object (unsigned_by limits s) refl
@@ -132,7 +132,7 @@ has_frame compact detach s payload written h = by_object (unsigned_by limits s) 
     by_object (Ok o) made = by_texts o (jws_written true compact detach o) made refl
     by_object (Err e) made = cc (sym h ∙ object_refused compact detach s payload e made)
 
--- ---- what may stand
+-- ---- what may be written
 
 pub by_signing : (compact detach : Bool) (keys : List OctetKey) (template : List ℕ) (s : Signing) → read_signing limits compact keys template ≡ Ok s
     → sig_plan limits compact detach keys template ≡ Ok (plan_by limits compact detach s)
@@ -146,6 +146,6 @@ signing_refused compact detach keys template payload e h = ap (λ r. planned (r 
 
 -- ---- causes
 
--- a cause that is not memory
+-- A refusal that is not of the kind Memory is not Memory.
 pub memory_apart : (e : Refusal) → is_memory e ≡ false → e ≡ Memory → ⊥
 memory_apart e h is = let both : true ≡ false = sym (ap is_memory is) ∙ h in cc both

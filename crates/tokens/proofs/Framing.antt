@@ -1,4 +1,4 @@
--- What stands written of a content inside the texts of a frame or beside them, and of the values that follow it.
+-- Writing a content inside the texts of a frame or next to them, and then the values that follow it.
 use Rattle.std.proofs.Common.{◌≡◌, ℕ, Bool, true, false, List, [], ◌∷◌, ◌++◌, Result, Ok, Err, IsTrue, refl, sym, ap, ◌∙◌, subst, append_assoc, append-nil}
 use Rattle.std.specs.Result.{result_unwrap_or}
 use Rattle.octets.specs.declared.refusal.Refusal.{Refusal}
@@ -12,13 +12,13 @@ use Rattle.objects.specs.Code.Frames.{filled}
 use Rattle.tokens.specs.Code.Framing.{IsFraming}
 use Rattle.tokens.proofs.Beginnings.{AppendsPrefixOf-behind}
 
--- an input that was read to its end was this
+-- If an input was read to its end, the octets read are the payload.
 pub all_read : (p payload : List ℕ) (ended : Bool) → IsPossibleInput (record { octets = p; ended = ended }) payload → IsTrue ended → payload ≡ p
 all_read p payload ended may at_end = may.continues ∙ ap (λ rest. p ++ rest) (may.ends at_end) ∙ append-nil p
 
 -- ---- the content is whole
 
--- what all of it goes out as, behind a text
+-- All of the content was written, after a text.
 pub record IsWhole (before : List ℕ) (content : Plan (List ℕ)) (p old out : List ℕ) : Type 0 where
   pub text : List ℕ
   pub is : content.whole p ≡ Ok text
@@ -33,7 +33,7 @@ is_whole before content p old out whole extends =
       written = extends ∙ ap (λ l. old ++ l) (sym (same_answer (before ++ made.0) (appended old out) made.2));
     }
 
--- what may stand is what the plan is, once all is read
+-- If everything was read, all that the plan returns may be written.
 stands_whole : (plan : Plan OutputTexts) (p : List ℕ) (ended : Bool) (texts : OutputTexts) → IsTrue ended → plan.whole p ≡ Ok texts → beginning_of plan (record { octets = p; ended = ended }) ≡ texts
 stands_whole plan p ended texts at_end is =
     ap (λ b. beginning_of plan (record { octets = p; ended = b })) at_end ∙ ap (λ a. result_unwrap_or a (plan.fixed p)) is
@@ -57,12 +57,12 @@ module _ (content : Plan (List ℕ)) (values : List ℕ → List (List ℕ)) (pl
     inside_begins p false octets = record { rest = []; continues = ap (λ (t : OutputTexts). t.text) (f.fixed p) ∙ sym (append-nil _) }
     inside_begins p true octets = by_answer p (content.whole p) octets refl
 
-    -- the first text, and the content's behind it, was written in part
+    -- If the first text and the content's text are written in part, the text of the plan is written in part.
     pub inside_part : (p : List ℕ) (ended : Bool) (old new : List ℕ) → IsOctets p → AppendsPrefixOf (beginning_of (behind first content) (record { octets = p; ended = ended })) old new
         → AppendsPrefixOf (beginning_of plan (record { octets = p; ended = ended })).text old new
     inside_part p ended old new octets part = AppendsPrefixOf-Begins _ _ old new (inside_begins p ended octets) part
 
-    -- what so much of it fixes
+    -- The part of the text that is fixed is the first text and the fixed part of the content's text.
     pub inside_fixed : (q : List ℕ) → (plan.fixed q).text ≡ (behind first content).fixed q
     inside_fixed q = ap (λ (t : OutputTexts). t.text) (f.fixed q)
 
@@ -70,21 +70,21 @@ module _ (content : Plan (List ℕ)) (values : List ℕ → List (List ℕ)) (pl
       so_far : (value : List ℕ) → out ++ value ≡ old ++ (first ++ (w.text ++ value))
       so_far value = ap (λ l. l ++ value) w.written ∙ append_assoc old (first ++ w.text) value ∙ ap (λ l. old ++ l) (append_assoc first w.text value)
 
-      -- the values were written in part
+      -- If the values are written in part, the text of the plan is written in part.
       pub inside_values_part : (new : List ℕ) → AppendsPrefixOf (filled rest (values p)) out new → AppendsPrefixOf (beginning_of plan (record { octets = p; ended = ended })).text old new
       inside_values_part new part =
           let is = stands_whole plan p ended _ at_end (f.whole p w.text octets w.is) in
           subst (λ t. AppendsPrefixOf t old new) (append_assoc first w.text (filled rest (values p)) ∙ sym (ap (λ (t : OutputTexts). t.text) is))
           (AppendsPrefixOf-behind (first ++ w.text) (filled rest (values p)) old new (subst (λ l. AppendsPrefixOf (filled rest (values p)) l new) w.written part))
 
-      -- all was written
+      -- If everything is written, the plan returns exactly the text that was written.
       pub inside_answer : (payload new : List ℕ) → IsPossibleInput (record { octets = p; ended = ended }) payload → new ≡ out ++ filled rest (values p)
           → plan.whole payload ≡ Ok (record { text = appended old new; content = [] })
       inside_answer payload new may e =
           ap plan.whole (all_read p payload ended may at_end) ∙ f.whole p w.text octets w.is
           ∙ ap (λ t. Ok (record { text = t; content = [] })) (sym (ap (appended old) (e ∙ so_far (filled rest (values p))) ∙ appended-append old _))
 
-  -- ---- beside the texts
+  -- ---- next to the texts
 
   module _ (texts : List (List ℕ)) (f : IsFraming true texts content values plan) where
     beside_by_answer : (p : List ℕ) (a : Result (List ℕ) Refusal) → IsOctets p → content.whole p ≡ a
@@ -92,7 +92,7 @@ module _ (content : Plan (List ℕ)) (values : List ℕ → List (List ℕ)) (pl
     beside_by_answer p (Ok text) octets h = sym (ap (λ r. (result_unwrap_or r (plan.fixed p)).content) (f.whole p text octets h))
     beside_by_answer p (Err e) octets h = sym (ap (λ r. (result_unwrap_or r (plan.fixed p)).content) (f.refused p e h) ∙ ap (λ (t : OutputTexts). t.content) (f.fixed p))
 
-    -- what may stand beside the text is what may stand of the content
+    -- The part of the content that may be written is the part that the plan allows on the output of the content.
     pub beside_is : (p : List ℕ) (ended : Bool) → IsOctets p → beginning_of content (record { octets = p; ended = ended }) ≡ (beginning_of plan (record { octets = p; ended = ended })).content
     beside_is p false octets = sym (ap (λ (t : OutputTexts). t.content) (f.fixed p))
     beside_is p true octets = beside_by_answer p (content.whole p) octets refl
@@ -104,15 +104,15 @@ module _ (content : Plan (List ℕ)) (values : List ℕ → List (List ℕ)) (pl
       beside_whole : plan.whole p ≡ Ok (record { text = filled texts (values p); content = w.text })
       beside_whole = f.whole p w.text octets w.is
 
-      -- all of the content stands
+      -- All of the content that may be written was written.
       pub beside_stands : out ≡ old ++ (beginning_of plan (record { octets = p; ended = ended })).content
       beside_stands = w.written ∙ ap (λ (t : OutputTexts). old ++ t.content) (sym (stands_whole plan p ended _ at_end beside_whole))
 
-      -- and the texts may
+      -- The filled texts are the text that may be written.
       pub text_is : filled texts (values p) ≡ (beginning_of plan (record { octets = p; ended = ended })).text
       text_is = ap (λ (t : OutputTexts). t.text) (sym (stands_whole plan p ended _ at_end beside_whole))
 
-      -- all was written
+      -- If everything is written, the plan returns exactly what was written on both outputs.
       pub beside_answer : (payload old_text new : List ℕ) → IsPossibleInput (record { octets = p; ended = ended }) payload → new ≡ old_text ++ filled texts (values p)
           → plan.whole payload ≡ Ok (record { text = appended old_text new; content = appended old out })
       beside_answer payload old_text new may e =

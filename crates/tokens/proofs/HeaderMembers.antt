@@ -1,4 +1,4 @@
--- A map's entries beside the members that they stand for.
+-- The entries of a map and the members that they represent.
 use Rattle.std.proofs.Common.{◌≡◌, List, [], ◌∷◌, length, ◌==◌, String, string_bytes, Global, true, false, Result, Ok, Err, IfOk, sym, ap, ◌∙◌, refl}
 use Rattle.std.proofs.Math.Dec.{eqb-suc-zero}
 use Rattle.std.specs.BTreeMap.{BTreeMap}
@@ -13,7 +13,7 @@ pub empty_members : (entries : List Entry) → is_empty (members_view entries) �
 empty_members [] = refl
 empty_members (entry ∷ entries) = sym (eqb-suc-zero (length entries))
 
--- the members of a header that has some are its text
+-- The text of a header that is not empty is the compact text of its members.
 pub text_of_some : (entries : List Entry) → (length entries == 0) ≡ false → header_text (members_view entries) ≡ compact_text (object (members_view entries))
 text_of_some [] h = cc h
 text_of_some (entry ∷ entries) h = refl
@@ -22,7 +22,7 @@ pub text_of_none : (entries : List Entry) → (length entries == 0) ≡ true →
 text_of_none [] h = refl
 text_of_none (entry ∷ entries) h = let no : false ≡ true = sym (eqb-suc-zero (length entries)) ∙ h in cc no
 
--- what is written of a header that has some members
+-- The text that is written for a header that is not empty is the text of the header.
 pub written_text : {E : Type 0} (m : BTreeMap (String Global) Value) (result : Result (String Global) E) → members_have_float (members_view m.entries) ≡ false → (length m.entries == 0) ≡ false
     → IfOk result (λ text. has_float (view (Object m)) ≡ false → string_bytes text ≡ compact_text (view (Object m)))
     → IfOk result (λ text. string_bytes text ≡ header_text (members_view m.entries))

@@ -16,7 +16,7 @@ use Rattle.tokens.specs.Template.{header_text, is_shallow}
 
 -- ---- the headers of a value
 
--- a header in a JSON value is JSON
+-- A header in a JSON value is JSON.
 pub members_json : (d : Data) (name : List ℕ) (m : Members) → IsJson d → header_at name d ≡ Ok m → AreJsonMembers m
 unfolding header_at
 members_json d name m json h = by_found (get name d) refl h
@@ -31,16 +31,16 @@ members_json d name m json h = by_found (get name d) refl h
 
 -- ---- the text of a header
 
--- it is octets, and reads back
+-- The text of the header is octets and reads back.
 pub record ReadsBack (m : Members) : Type 0 where
   pub members : protected_members (header_text m) ≡ Ok m
   pub octets : IsOctets (header_text m)
 
--- a header that nests no deeper than limits allow may stand in a text, where they allow no more than that
+-- If the limits allow no more depth than a text may have, a header within the limits may be in a text.
 pub stands : (limits : Limits) (m : Members) → limits.depth ≤ listed_header_depth → is_shallow limits m ≡ true → depth (object m) ≤ listed_header_depth
 stands limits m most h = let few : depth (object m) ≤ limits.depth = leb-true (depth (object m)) limits.depth h in omega (arith, most, few)
 
--- so it is where the header is JSON, and may stand in a text
+-- The text of a header reads back, if the header is JSON and not nested too deeply for a text.
 pub read_back : (m : Members) → AreJsonMembers m → depth (object m) ≤ listed_header_depth → ReadsBack m
 unfolding protected_members members_of_json
 read_back no_members json shallow = record { members = refl; octets = IsOctets-nil }
@@ -57,7 +57,7 @@ read_back (member k value rest) json shallow =
     by_length false e back = rw back refl
     by_length true e back = absurd (omega (arith, leb-true _ 0 e))
 
--- it may stand there among those of so many recipients or signatures
+-- A header that may be in a text may be there for any number of recipients or signatures.
 pub shallow_enough : (d n : ℕ) → d ≤ listed_header_depth → nat_le d (depth_of_each n) ≡ true
 shallow_enough d n h = by_few (nat_le n 1)
   where

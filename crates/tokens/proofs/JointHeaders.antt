@@ -1,4 +1,4 @@
--- Headers into which entries are put: what the joint header then has, and that no name stands in two of its parts.
+-- Headers with entries inserted: the members of the joint header, and that its parts have no name in common.
 use Rattle.std.proofs.Common.{◌≡◌, ℕ, ◌≤◌, lit≤, ◌||◌, Bool, true, false, cond, List, [], ◌∷◌, codes, Option, Some, None, is_some, is_none, IsUtf8, Ordering, Less, Equal, Greater, nat_cmp, is_eq, true≢false, refl, sym, ap, ◌∙◌, arith}
 use Rattle.std.proofs.lemmas.Bool.{and_parts, or_from, or_parts, not-true}
 use Rattle.std.proofs.lemmas.Cmp.{nat_list_cmp_total, tied_itself}
@@ -19,14 +19,14 @@ use Rattle.objects.specs.Jwe.{has_no_crit_or_zip}
 use Rattle.objects.specs.Texts.{listed_header_depth}
 use Rattle.objects.proofs.Lemmas.{get_member-all_members, Entries, put_if_there, first_there, IsJsonIfThere, AreJsonEntries}
 
--- ---- entries that are put into a header
+-- ---- entries that are inserted into a header
 
--- the header with entries, put in from the last one on
+-- the header with entries, inserted from the last one to the first
 abbrev pub put_onto : Members → Entries → Members
 put_onto header [] = header
 put_onto header (e ∷ rest) = put_if_there e.0 e.1 (put_onto header rest)
 
--- with one more, this is found where it has the name and is there
+-- With one more entry, this entry is found if it has the name and is there.
 found_by : (b : Bool) (name other : List ℕ) (d : Option Data) (members : Members) (first later : Option Data) → bytes_eq name other ≡ b → get_member name members ≡ option_or first later
     → get_member name (put_if_there other d members) ≡ option_or (cond b (option_or d first) first) later
 found_by true name other None ms first later is there = there
@@ -35,29 +35,29 @@ found_by true name other (Some d) ms first later is there = rw ((bytes_eq-Decide
 found_by false name other (Some d) ms first later is there =
     get_member-put_other name other d ms (λ same. true≢false (sym ((bytes_eq-Decides name other).1 same) ∙ is)) ∙ there
 
--- the first entry that is there is found, or else what stood in the header
+-- The first entry that is there is found, or else the member of the header.
 pub get_member-put_onto : (name : List ℕ) (header : Members) (es : Entries) → get_member name (put_onto header es) ≡ option_or (first_there name es) (get_member name header)
 get_member-put_onto name header [] = refl
 get_member-put_onto name header (e ∷ rest) =
     found_by (bytes_eq name e.0) name e.0 e.1 (put_onto header rest) (first_there name rest) (get_member name header) refl (get_member-put_onto name header rest)
 
--- the name of an entry that is there is free in a header
+-- a header does not have the name of an entry, if the entry is there
 abbrev pub IsFree : Members → List ℕ → Option Data → Type 0
 IsFree header name None = Unit {0}
 IsFree header name (Some d) = get_member name header ≡ None
 
--- so are the names of all entries that are there
+-- a header does not have the name of any entry that is there
 abbrev pub AreFree : Members → Entries → Type 0
 AreFree header es = AllByRecursion (λ e. IsFree header e.0 e.1) es
 
--- with one more entry, by whether it has the name
+-- With one more entry, the header still does not have the name of a value that is found among the entries.
 free_by : (b : Bool) (header : Members) (name other : List ℕ) (d : Data) (o first : Option Data) → bytes_eq name other ≡ b → IsFree header other o
     → (first ≡ Some d → get_member name header ≡ None) → cond b (option_or o first) first ≡ Some d → get_member name header ≡ None
 free_by false header name other d o first is free later here = later here
 free_by true header name other d None first is free later here = later here
 free_by true header name other d (Some e) first is free later here = rw ((bytes_eq-Decides name other).0 is) free
 
--- then the name of what is found of entries is free
+-- If an entry is found, the header does not have its name.
 free_there : (header : Members) (name : List ℕ) (d : Data) (es : Entries) → AreFree header es → first_there name es ≡ Some d → get_member name header ≡ None
 free_there header name d [] free here = cc here
 free_there header name d (e ∷ rest) free here =
@@ -65,16 +65,16 @@ free_there header name d (e ∷ rest) free here =
 
 -- ---- headers with no name in common
 
--- a name of one is not in the other
+-- no name of one header is in the other
 abbrev Apart : Members → Members → Type 0
 Apart part other = (name : List ℕ) (d : Data) → get_member name part ≡ Some d → get_member name other ≡ None
 
--- what is not there
+-- An option without a value is None.
 pub not_there : (o : Option Data) → is_some o ≡ false → o ≡ None
 not_there None h = refl
 not_there (Some d) h = cc h
 
--- with one more member in one, by the order of the names
+-- If the names of two headers are apart, they still are with one more member in one of them, wherever its name is in the order.
 apart_at : (o : Ordering) (name l : List ℕ) (d e : Data) (rest other : Members) → slice_cmp nat_cmp name l ≡ o → is_some (get_member l other) ≡ false
     → (get_member name rest ≡ Some d → get_member name other ≡ None) → match_ordering o (get_member name rest) (Some e) (get_member name rest) ≡ Some d → get_member name other ≡ None
 apart_at Less name l d e rest other is none later here = later here
@@ -83,21 +83,21 @@ apart_at Equal name l d e rest other is none later here =
     rw same (not_there (get_member l other) none)
 apart_at Greater name l d e rest other is none later here = later here
 
--- so it is where no name stands in both
+-- If two headers do not overlap, their names are apart.
 apart : (part other : Members) → overlap part other ≡ false → Apart part other
 apart no_members other h name d here = cc here
 apart (member l e rest) other h name d here =
     let both = or_parts (is_some (get_member l other)) (overlap rest other) h in
     apart_at (slice_cmp nat_cmp name l) name l d e rest other refl both.0 (apart rest other both.1 name d) here
 
--- without the first member of one they still have none in common
+-- If the names of two headers are apart, they still are without the first member of one.
 later_apart : (o : Ordering) (name l : List ℕ) (d e : Data) (rest other : Members) → slice_cmp nat_cmp name l ≡ o → Apart (member l e rest) other
     → get_member name rest ≡ Some d → get_member name other ≡ None
 later_apart Less name l d e rest other is apart here = apart name d (rw is here)
 later_apart Equal name l d e rest other is apart here = apart name e (rw is refl)
 later_apart Greater name l d e rest other is apart here = apart name d (rw is here)
 
--- and only there
+-- If the names of two headers are apart, they do not overlap.
 no_overlap : (part other : Members) → Apart part other → overlap part other ≡ false
 no_overlap no_members other apart = refl
 no_overlap (member l e rest) other apart =
@@ -107,7 +107,7 @@ no_overlap (member l e rest) other apart =
 
 -- ---- the joint header
 
--- a name that is not in it is in none of two parts
+-- A name that is not in the joint header is in none of its two parts.
 absent : (name : List ℕ) (p u : Members) → get_member name (all_members p u no_members) ≡ None → (get_member name p ≡ None) × (get_member name u ≡ None)
 absent name p u h = neither (get_member name p) (get_member name u) (sym (get_member-all_members name p u no_members) ∙ h)
   where
@@ -116,7 +116,7 @@ absent name p u h = neither (get_member name p) (get_member name u) (sym (get_me
     neither None (Some d) h = cc h
     neither (Some d) y h = cc h
 
--- the parts of a header without members that are refused have none either
+-- If a joint header has no `crit` and no `zip`, neither have its parts.
 pub plain_parts : (p u : Members) → has_no_crit_or_zip (all_members p u no_members) ≡ true → (has_no_crit_or_zip p ≡ true) × (has_no_crit_or_zip u ≡ true)
 plain_parts p u h =
     let header = all_members p u no_members in
@@ -125,24 +125,24 @@ plain_parts p u h =
     let zip = absent (codes "zip") p u (not_there (get_member (codes "zip") header) (not-true _ both.1)) in
     (rw (crit.0, zip.0) refl, rw (crit.1, zip.1) refl)
 
--- The parts of a joint header have no name in common, and together they have entries beside the members of another header.
+-- The parts of a joint header have no name in common, and together they have the entries and the members of another header.
 pub record IsJoint (p u own : Members) (es : Entries) (before : Members) : Type 0 where
   pub disjoint : are_disjoint p u own ≡ true
   pub members : (name : List ℕ) → get_member name (all_members p u own) ≡ option_or (first_there name es) (get_member name before)
 
--- three parts have no name in common where no two have
+-- Three parts are disjoint if no two of them overlap.
 disjoint_parts : (p u own : Members) → overlap p u ≡ false → overlap p own ≡ false → overlap u own ≡ false → are_disjoint p u own ≡ true
 disjoint_parts p u own a b c = rw (a, b, c) refl
 
--- a header without members has none in common with another
+-- A header does not overlap the empty header.
 no_names : (part : Members) → overlap part no_members ≡ false
 no_names part = no_overlap part no_members (λ name d here. refl)
 
--- two parts that are disjoint have no name in common
+-- Two parts that are disjoint do not overlap.
 overlap_of : (p u : Members) → are_disjoint p u no_members ≡ true → overlap p u ≡ false
 overlap_of p u h = (or_parts (overlap p u) (overlap p no_members || overlap u no_members) (not-true _ h)).0
 
--- entries of free names may be put into the protected header, ..
+-- Entries with unused names may be inserted into the protected header.
 pub into_protected : (p u : Members) (es : Entries) → are_disjoint p u no_members ≡ true → AreFree (all_members p u no_members) es → IsJoint (put_onto p es) u no_members es (all_members p u no_members)
 into_protected p u es h free = record {
   disjoint = disjoint_parts (put_onto p es) u no_members (no_overlap (put_onto p es) u all_apart) (no_names (put_onto p es)) (no_names u);
@@ -162,7 +162,7 @@ into_protected p u es h free = record {
     all_apart : Apart (put_onto p es) u
     all_apart name d here = apart_by (first_there name es) name d refl (sym (get_member-put_onto name p es) ∙ here)
 
--- .. or into the header of a recipient
+-- Entries with unused names may be inserted into the header of a recipient.
 pub into_own : (p u : Members) (es : Entries) → are_disjoint p u no_members ≡ true → AreFree (all_members p u no_members) es → IsJoint p u (put_onto no_members es) es (all_members p u no_members)
 into_own p u es h free = record {
   disjoint = disjoint_parts p u (put_onto no_members es) (overlap_of p u h) (no_overlap p (put_onto no_members es) (λ name. own_apart name (get_member name p) (λ none. (absent name p u none).0)))
@@ -187,24 +187,24 @@ into_own p u es h free = record {
 
 -- ---- headers that may be written
 
--- a header as JSON has it, which may stand in a text, with no member that is refused
+-- The header is JSON, is not nested too deeply for a text, and has no `crit` and no `zip`.
 pub record IsHeader (header : Members) : Type 0 where
   pub json : AreJsonMembers header
   pub shallow : depth (object header) ≤ listed_header_depth
   pub plain : has_no_crit_or_zip header ≡ true
 
--- members stay JSON, and nest no deeper, with one more entry
+-- With one more entry, members are still JSON and nested no deeper.
 one_more : (name : List ℕ) (o : Option Data) (ms : Members) (n : ℕ) → IsUtf8 name → IsJsonIfThere 0 o → AreJsonMembers ms × (members_depth ms ≤ n)
     → AreJsonMembers (put_if_there name o ms) × (members_depth (put_if_there name o ms) ≤ n)
 one_more name None ms n text is all = all
 one_more name (Some d) ms n text is all = let more = keep_json.put_in name d ms text is.0 all.0 in (more.0, omega (arith, more.1, is.1, all.1))
 
--- and with all entries
+-- With all entries, members are still JSON and nested no deeper.
 json_onto : (header : Members) (es : Entries) → AreJsonEntries 0 es → AreJsonMembers header → AreJsonMembers (put_onto header es) × (members_depth (put_onto header es) ≤ members_depth header)
 json_onto header [] all json = (json, omega arith)
 json_onto header (e ∷ rest) all json = one_more e.0 e.1 (put_onto header rest) (members_depth header) all.0.0 all.0.1 (json_onto header rest all.1 json)
 
--- so it is with entries that are neither `crit` nor `zip`, and do not nest
+-- A header may still be written with entries that do not nest and are neither `crit` nor `zip`.
 pub header_onto : (header : Members) (es : Entries) → IsHeader header → AreJsonEntries 0 es → first_there (codes "crit") es ≡ None → first_there (codes "zip") es ≡ None → IsHeader (put_onto header es)
 header_onto header es is all crit zip =
     let json = json_onto header es all is.json in
@@ -214,6 +214,6 @@ header_onto header es is all crit zip =
       plain = rw (get_member-put_onto (codes "crit") header es, get_member-put_onto (codes "zip") header es, crit, zip) is.plain;
     }
 
--- a header without members is one
+-- The empty header may be written.
 pub empty_header : IsHeader no_members
 empty_header = record { json = tt; shallow = lit≤ tt; plain = refl }

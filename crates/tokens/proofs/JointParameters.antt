@@ -1,4 +1,4 @@
--- The parameters that are written of a delivery, as entries: the joint header with them names the algorithms, and has the parameters of
+-- The parameters that are written for a delivery, as entries. With them, the joint header names the algorithms and has the parameters of
 -- key management.
 use Rattle.std.proofs.Common.{◌≡◌, ℕ, ◌≤◌, ◌<◌, ◌^◌, Bool, true, false, nat_le, List, [], ◌∷◌, length, codes, Option, Some, None, option_and_then, option_map, is_some, Ok, IsUtf8, refl, ◌∙◌, ap, arith}
 use Rattle.std.proofs.lemmas.Bool.{le-leb}
@@ -25,34 +25,34 @@ use Rattle.tokens.specs.Encrypting.{with_management, with_parameters}
 use Rattle.tokens.proofs.AlgorithmCases.{management_named, management_is_text, encryption_is_text}
 use Rattle.tokens.proofs.JointHeaders.{put_onto, IsFree, AreFree, IsJoint, IsHeader, header_onto}
 
--- ---- entries that are there unless the template gives them
+-- ---- entries that are there unless the template has them
 
--- a value, unless something is given
+-- a value, unless another one is given
 abbrev pub unless : Bool → Data → Option Data
 unless true value = None
 unless false value = Some value
 
--- the name of an entry is free where it is free if the entry is there
+-- The name of an optional entry is unused if it is unused whenever the entry is there.
 pub free_unless : (given : Bool) (header : Members) (name : List ℕ) (value : Data) → (given ≡ false → get_member name header ≡ None) → IsFree header name (unless given value)
 free_unless true header name value free = tt
 free_unless false header name value free = free refl
 
--- and its value is JSON where it is JSON if it is there
+-- The value of an optional entry is JSON if it is JSON whenever the entry is there.
 json_unless : (given : Bool) (value : Data) → (given ≡ false → IsJsonIfThere 0 (Some value)) → IsJsonIfThere 0 (unless given value)
 json_unless true value json = tt
 json_unless false value json = json refl
 
--- What a header has under a name, by a reading: it is given and read so, or it is not there.
+-- a header has a value under a name, or nothing if no value is given
 abbrev pub IsGiven : {X : Type 0} → (Data → Option X) → Bool → Option Data → X → Type 0
 IsGiven read true found x = if_there read found ≡ Ok (Some x)
 IsGiven read false found x = found ≡ None
 
--- what is not given is not there
+-- If a value is not given, it is not there.
 pub not_given : {X : Type 0} (read : Data → Option X) (given : Bool) (found : Option Data) (x : X) → IsGiven read given found x → given ≡ false → found ≡ None
 not_given read true found x is h = cc h
 not_given read false found x is h = is
 
--- where nothing is read, nothing is there
+-- If no value is read, no value is there.
 pub nothing_there : {X : Type 0} (read : Data → Option X) (found : Option Data) → if_there read found ≡ Ok None → found ≡ None
 nothing_there read None h = refl
 nothing_there read (Some d) h = by_value (read d) h
@@ -61,13 +61,13 @@ nothing_there read (Some d) h = by_value (read d) h
     by_value None h = cc h
     by_value (Some y) h = cc h
 
--- what may be asked for, and is what is chosen if it is, is given so
+-- A value that may be asked for is given if it is asked for, provided that it is the chosen one.
 pub given_if_asked : {A X : Type 0} (read : Data → Option X) (name_of : A → X) (found : Option Data) (asked : Option A) (chosen : A) → if_there read found ≡ Ok (option_map name_of asked)
     → ((a : A) → asked ≡ Some a → a ≡ chosen) → IsGiven read (is_some asked) found (name_of chosen)
 given_if_asked read name_of found None chosen is same = nothing_there read found is
 given_if_asked read name_of found (Some a) chosen is same = is ∙ ap (λ a. Ok (Some (name_of a))) (same a refl)
 
--- what is given, or else put in, is read
+-- The value that is given or inserted is the value that is read.
 pub there_with : {X : Type 0} (read : Data → Option X) (given : Bool) (value : Data) (x : X) (found : Option Data) → read value ≡ Some x → IsGiven read given found x
     → if_there read (option_or (option_or (unless given value) None) found) ≡ Ok (Some x)
 there_with read true value x found reads is = is
@@ -75,11 +75,11 @@ there_with read false value x found reads is = rw reads refl
 
 -- ---- the parameters of a delivery
 
--- a value as a count of iterations
+-- a value as a number of iterations
 abbrev pub as_count : Data → Option ℕ
 as_count value = option_and_then as_u64 (as_number value)
 
--- those of key management, with the name of the algorithm: the count of iterations and the name, unless they are given
+-- the parameters of key management with the name of the algorithm; the name and the number of iterations only if they are not given
 abbrev pub parameters : Bool → Bool → List ℕ → KeyManagement → Entries
 parameters named counted alg Unknown = (codes "alg", unless named (string alg)) ∷ []
 parameters named counted alg Direct = (codes "alg", unless named (string alg)) ∷ []
@@ -89,21 +89,21 @@ parameters named counted alg (Password p2s p2c) =
 parameters named counted alg (GcmKeyWrap iv tag) =
     (codes "tag", Some (string (base64url tag))) ∷ (codes "iv", Some (string (base64url iv))) ∷ (codes "alg", unless named (string alg)) ∷ []
 
--- those of a delivery
+-- the parameters of a delivery
 abbrev pub parameters_of : Given → Delivery → Entries
 parameters_of given d = parameters given.alg given.p2c (management_name d.alg) d.management
 
--- a name is put in unless it is given
+-- A name is inserted unless it is given.
 pub with_name_is : (given : Bool) (parameter name : List ℕ) (header : Members) → with_name given parameter name header ≡ put_if_there parameter (unless given (string name)) header
 with_name_is true parameter name header = refl
 with_name_is false parameter name header = refl
 
--- so is the count of iterations
+-- The number of iterations is inserted unless it is given.
 with_p2c_is : (given : Bool) (p2c : ℕ) (header : Members) → with_p2c given p2c header ≡ put_if_there (codes "p2c") (unless given (number (unsigned p2c))) header
 with_p2c_is true p2c header = refl
 with_p2c_is false p2c header = refl
 
--- so the parameters of key management are put in after the name of the algorithm
+-- The name of the algorithm is inserted first, and then the parameters of key management.
 with_management_is : (named counted : Bool) (alg : List ℕ) (m : KeyManagement) (header : Members)
     → with_management counted m (with_name named (codes "alg") alg header) ≡ put_onto header (parameters named counted alg m)
 with_management_is named counted alg Unknown header = with_name_is named (codes "alg") alg header
@@ -116,18 +116,18 @@ with_management_is named counted alg (Password p2s p2c) header =
 with_management_is named counted alg (GcmKeyWrap iv tag) header =
     ap (λ ms. put (codes "tag") (string (base64url tag)) (put (codes "iv") (string (base64url iv)) ms)) (with_name_is named (codes "alg") alg header)
 
--- and those of a delivery
+-- The parameters of a delivery are inserted.
 pub with_parameters_is : (given : Given) (d : Delivery) (header : Members) → with_parameters given d header ≡ put_onto header (parameters_of given d)
 with_parameters_is given d header = with_management_is given.alg given.p2c (management_name d.alg) d.management header
 
--- the count of iterations that a header gives or lacks; it is not 0, and a number of JSON
+-- The header has this number of iterations or none. The number is not 0, and is a number of JSON.
 pub record Counted (counted : Bool) (p2c : ℕ) (header : Members) : Type 0 where
   pub there : IsGiven as_count counted (get_member (codes "p2c") header) p2c
   pub some : 1 ≤ p2c
   pub whole : p2c < 2 ^ 64
 
--- A joint header gives, or lacks, the name of the algorithm and, for a password, the count of iterations; and it lacks what encryption
--- writes.
+-- The joint header has the name of the algorithm or none and, for a password, the number of iterations or none. It has none of the
+-- parameters that encryption writes.
 pub record Awaits (named counted password : Bool) (alg : List ℕ) (p2c : ℕ) (header : Members) : Type 0 where
   pub alg_there : IsGiven as_str named (get_member (codes "alg") header) alg
   pub count : password ≡ true → Counted counted p2c header
@@ -135,7 +135,7 @@ pub record Awaits (named counted password : Bool) (alg : List ℕ) (p2c : ℕ) (
   pub no_iv : get_member (codes "iv") header ≡ None
   pub no_tag : get_member (codes "tag") header ≡ None
 
--- so does another that has the same under their names
+-- This also holds of another header that has the same values under these names.
 pub still_awaits : (named counted password : Bool) (alg : List ℕ) (p2c : ℕ) (before after : Members) → get_member (codes "alg") after ≡ get_member (codes "alg") before
     → get_member (codes "p2c") after ≡ get_member (codes "p2c") before → get_member (codes "p2s") after ≡ get_member (codes "p2s") before
     → get_member (codes "iv") after ≡ get_member (codes "iv") before → get_member (codes "tag") after ≡ get_member (codes "tag") before
@@ -148,7 +148,7 @@ still_awaits named counted password alg p2c before after same_alg same_p2c same_
   no_tag = same_tag ∙ is.no_tag;
 }
 
--- a joint header lacks the parameters of key management, but that it may give the count of iterations
+-- the joint header has none of the parameters of key management, except possibly the number of iterations
 abbrev pub AwaitsManagement : Bool → KeyManagement → Members → Type 0
 AwaitsManagement counted Unknown header = Unit {0}
 AwaitsManagement counted Direct header = Unit {0}
@@ -156,7 +156,7 @@ AwaitsManagement counted KeyWrap header = Unit {0}
 AwaitsManagement counted (Password p2s p2c) header = (get_member (codes "p2s") header ≡ None) × IsGiven as_count counted (get_member (codes "p2c") header) p2c
 AwaitsManagement counted (GcmKeyWrap iv tag) header = (get_member (codes "tag") header ≡ None) × (get_member (codes "iv") header ≡ None)
 
--- so it does by what was drawn for an algorithm
+-- This holds of the parameters that are drawn for an algorithm.
 awaits_in : (named counted : Bool) (m : KeyManagementMode) (name drawn : List ℕ) (p2c : ℕ) (tag : List ℕ) (header : Members)
     → Awaits named counted (is_password m) name p2c header → AwaitsManagement counted (delivered_in m drawn p2c tag) header
 awaits_in named counted mode.Direct name drawn p2c tag header is = tt
@@ -168,7 +168,7 @@ pub awaits_management : (named counted : Bool) (alg : KeyManagementAlg) (drawn :
     → Awaits named counted (is_password_based alg) (management_name alg) p2c header → AwaitsManagement counted (management_with alg drawn p2c tag) header
 awaits_management named counted alg drawn p2c tag header is = awaits_in named counted (mode_of alg) (management_name alg) drawn p2c tag header is
 
--- then the names of the parameters are free
+-- No name of the parameters is used in the joint header.
 pub free_names : (named counted : Bool) (alg : List ℕ) (m : KeyManagement) (header : Members) → IsGiven as_str named (get_member (codes "alg") header) alg → AwaitsManagement counted m header
     → AreFree header (parameters named counted alg m)
 free_names named counted alg m header alg_there is = by_management m is
@@ -184,7 +184,7 @@ free_names named counted alg m header alg_there is = by_management m is
         (is.0, (free_unless counted header (codes "p2c") (number (unsigned p2c)) (not_given as_count counted (get_member (codes "p2c") header) p2c is.1), (name, tt)))
     by_management (GcmKeyWrap iv tag) is = (is.0, (is.1, (name, tt)))
 
--- The parameters of key management are octets, and those of a password as they are drawn and read.
+-- the parameters of key management are octets, and those of a password are as they are drawn and read
 abbrev pub AreParameters : KeyManagement → Type 0
 AreParameters Unknown = Unit {0}
 AreParameters Direct = Unit {0}
@@ -192,7 +192,7 @@ AreParameters KeyWrap = Unit {0}
 AreParameters (Password p2s p2c) = IsOctets p2s × (length p2s ≡ salt_len) × (1 ≤ p2c) × (p2c < 2 ^ 64)
 AreParameters (GcmKeyWrap iv tag) = IsOctets iv × IsOctets tag
 
--- so they are by what was drawn for an algorithm, where the tag that was made is octets
+-- The parameters that are drawn for an algorithm are octets, if the tag is.
 parameters_in : (m : KeyManagementMode) (drawn : List ℕ) (p2c : ℕ) (tag : List ℕ) → IsOctets drawn → length drawn ≡ drawn_in m
     → (is_password m ≡ true → (1 ≤ p2c) × (p2c < 2 ^ 64)) → IsOctets tag → AreParameters (delivered_in m drawn p2c tag)
 parameters_in mode.Direct drawn p2c tag octets long count tag_octets = tt
@@ -204,7 +204,7 @@ pub are_parameters : (alg : KeyManagementAlg) (drawn : List ℕ) (p2c : ℕ) (ta
     → (is_password_based alg ≡ true → (1 ≤ p2c) × (p2c < 2 ^ 64)) → IsOctets tag → AreParameters (management_with alg drawn p2c tag)
 are_parameters alg drawn p2c tag octets long count tag_octets = parameters_in (mode_of alg) drawn p2c tag octets long count tag_octets
 
--- and then they are JSON
+-- Parameters that are octets are JSON.
 json_parameters : (named counted : Bool) (alg : List ℕ) (m : KeyManagement) → IsUtf8 alg → AreParameters m → AreJsonEntries 0 (parameters named counted alg m)
 json_parameters named counted alg m text is = by_management m is
   where
@@ -226,7 +226,7 @@ json_parameters named counted alg m text is = by_management m is
         ((is_name (codes "p2s") refl, url_json p2s is.0), ((is_name (codes "p2c") refl, count_json), (name, tt)))
     by_management (GcmKeyWrap iv tag) is = ((is_name (codes "tag") refl, url_json tag is.1), ((is_name (codes "iv") refl, url_json iv is.0), (name, tt)))
 
--- they are not the members that are refused, nor the name of the content encryption
+-- The parameters are neither `crit` nor `zip`, and not the name of the content encryption.
 no_crit : (named counted : Bool) (alg : List ℕ) (m : KeyManagement) → first_there (codes "crit") (parameters named counted alg m) ≡ None
 no_crit named counted alg Unknown = refl
 no_crit named counted alg Direct = refl
@@ -248,14 +248,14 @@ no_enc named counted alg KeyWrap = refl
 no_enc named counted alg (Password p2s p2c) = refl
 no_enc named counted alg (GcmKeyWrap iv tag) = refl
 
--- so a header stays one that may be written
+-- With the parameters of a delivery, a header may still be written.
 pub header_with : (given : Given) (d : Delivery) (header : Members) → IsHeader header → AreParameters d.management → IsHeader (with_parameters given d header)
 header_with given d header is parameters =
     let name : List ℕ = management_name d.alg in
     rw with_parameters_is (header_onto header (parameters_of given d) is (json_parameters given.alg given.p2c name d.management (management_is_text d.alg) parameters)
     (no_crit given.alg given.p2c name d.management) (no_zip given.alg given.p2c name d.management))
 
--- as with the name of a content encryption
+-- With the name of a content encryption, a header may still be written.
 pub header_with_enc : (given : Bool) (enc : ContentEncryptionAlg) (header : Members) → IsHeader header → IsHeader (put_onto header ((codes "enc", unless given (string (encryption_name enc))) ∷ []))
 header_with_enc given enc header is =
     let value : Data = string (encryption_name enc) in
@@ -264,7 +264,7 @@ header_with_enc given enc header is =
 
 -- ---- the recipient that is read
 
--- a header has the parameters of key management
+-- the header has the parameters of key management
 abbrev HasManagement : KeyManagement → Members → Type 0
 HasManagement Unknown header = Unit {0}
 HasManagement Direct header = Unit {0}
@@ -274,7 +274,7 @@ HasManagement (Password p2s p2c) header =
 HasManagement (GcmKeyWrap iv tag) header =
     (if_there as_str (get_member (codes "iv") header) ≡ Ok (Some (base64url iv))) × (if_there as_str (get_member (codes "tag") header) ≡ Ok (Some (base64url tag)))
 
--- so those of a password are read
+-- The parameters of a password are read from a header that has them.
 read_password : (salt : List ℕ) (p2c : ℕ) (header : Members) → HasManagement (Password salt p2c) header → AreParameters (Password salt p2c) → password_management header ≡ Ok (Password salt p2c)
 unfolding password_management salt_parameter string_parameter number_parameter
 read_password salt p2c header there is =
@@ -282,12 +282,12 @@ read_password salt p2c header there is =
     let some : nat_le 1 p2c ≡ true = le-leb 1 p2c is.2 in
     rw (there.0, decodes_exactly.round_trip salt is.0, enough, there.1, some) refl
 
--- and those of a key wrap by AES in GCM
+-- The parameters of a key wrap with AES GCM are read from a header that has them.
 read_gcm_key_wrap : (iv tag : List ℕ) (header : Members) → HasManagement (GcmKeyWrap iv tag) header → AreParameters (GcmKeyWrap iv tag) → gcm_management header ≡ Ok (GcmKeyWrap iv tag)
 unfolding gcm_management octets_parameter string_parameter
 read_gcm_key_wrap iv tag header there is = rw (there.0, decodes_exactly.round_trip iv is.0, there.1, decodes_exactly.round_trip tag is.1) refl
 
--- by an algorithm and what was drawn for it
+-- The parameters that were drawn for an algorithm are read from a header that has them.
 read_in : (m : KeyManagementMode) (drawn : List ℕ) (p2c : ℕ) (tag : List ℕ) (header : Members) → HasManagement (delivered_in m drawn p2c tag) header
     → AreParameters (delivered_in m drawn p2c tag) → management_in m header ≡ Ok (delivered_in m drawn p2c tag)
 read_in mode.Direct drawn p2c tag header there is = refl
@@ -309,11 +309,11 @@ recipient own d enc = record {
   management = d.management;
 }
 
--- where a header has entries beside the members of another
+-- a header has the entries and the members of another header
 abbrev HasEntries : Members → Entries → Members → Type 0
 HasEntries header es before = (name : List ℕ) → get_member name header ≡ option_or (first_there name es) (get_member name before)
 
--- a joint header with the parameters of key management has them, beside what awaited them
+-- A joint header into which the parameters of key management were inserted has them.
 management_there : (named counted : Bool) (alg : List ℕ) (m : KeyManagement) (header before : Members) → HasEntries header (parameters named counted alg m) before
     → AwaitsManagement counted m before → HasManagement m header
 management_there named counted alg Unknown header before members is = tt
@@ -325,7 +325,7 @@ management_there named counted alg (Password p2s p2c) header before members is =
 )
 management_there named counted alg (GcmKeyWrap iv tag) header before members is = (ap (if_there as_str) (members (codes "iv")), ap (if_there as_str) (members (codes "tag")))
 
--- and the name of the algorithm
+-- The parameters have the name of the algorithm, unless it is given.
 name_found : (named counted : Bool) (alg : List ℕ) (m : KeyManagement) → first_there (codes "alg") (parameters named counted alg m) ≡ option_or (unless named (string alg)) None
 name_found named counted alg Unknown = refl
 name_found named counted alg Direct = refl
@@ -339,7 +339,7 @@ name_there named counted alg m header before members is =
     ap (if_there as_str) (members (codes "alg") ∙ ap (λ found. option_or found (get_member (codes "alg") before)) (name_found named counted alg m))
     ∙ there_with as_str named (string alg) alg (get_member (codes "alg") before) refl is
 
--- it is read where the joint header has the parameters beside what awaits them
+-- The recipient is read if the joint header has the parameters of the delivery.
 pub recipient_is_read : (given : Given) (alg : KeyManagementAlg) (drawn : List ℕ) (p2c : ℕ) (tag key : List ℕ) (enc : ContentEncryptionAlg) (p u own before : Members)
     → (let d : Delivery = record { alg = alg; management = management_with alg drawn p2c tag; encrypted_key = key } in
     IsJoint p u own (parameters_of given d) before → Awaits given.alg given.p2c (is_password_based alg) (management_name alg) p2c before

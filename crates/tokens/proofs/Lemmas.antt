@@ -1,3 +1,3 @@
--- What the crates above cite of these proofs, and nothing else.
+-- The lemmas of these proofs that the crates above cite.
 pub use Rattle.tokens.proofs.RecipientKeys.{all_pass_other}
 pub use Rattle.tokens.proofs.Beginnings.{handed_back}

@@ -1,4 +1,4 @@
--- Objects that need none of the further algorithms of key management are read and decrypted alike.
+-- Objects that need none of the further key management algorithms are read and decrypted the same without them.
 use Rattle.std.proofs.Common.{◌≡◌, ℕ, Bool, true, false, not, ◌||◌, is_some, List, [], ◌∷◌, ◌++◌, length, codes, if◌then◌else◌, Option, Some, None, Result, Ok, refl, sym, ap, subst, ◌∙◌}
 use Rattle.std.specs.List.{list_all, list_any, AllByRecursion}
 use Rattle.std.specs.Option.{option_or}
@@ -25,7 +25,7 @@ use Rattle.tokens.specs.MoreAlgorithms.{knowing, needs_no_more, OpensAlike}
 
 -- ---- names
 
--- a name is looked up among the first algorithms, and then among the others
+-- A name is looked up among the first algorithms, and then among the others.
 found_among : (known further : List KeyManagementAlg) (name : List ℕ)
     → management_alg_among (known ++ further) name ≡ option_or (management_alg_among known name) (management_alg_among further name)
 unfolding management_alg_among
@@ -37,7 +37,7 @@ found_among (alg ∷ known) further name = by_test (bytes_eq name (management_na
     by_test true all first others rest = refl
     by_test false all first others rest = rest
 
--- so one that needs none of the others names the same with them
+-- A name that needs none of the further algorithms is looked up the same with them.
 named_alike : (known further : List KeyManagementAlg) (name : List ℕ) → needs_no_more known further name ≡ true
     → management_alg_among (known ++ further) name ≡ management_alg_among known name
 named_alike known further name enough = found_among known further name ∙ by_found (management_alg_among known name) (management_alg_among further name) enough
@@ -49,7 +49,7 @@ named_alike known further name enough = found_among known further name ∙ by_fo
 
 -- ---- lists
 
--- What is read of each is read alike of all, where it is so of each that is read.
+-- If each element that is read with a property is read the same by another reading, so is the list.
 each_alike : {X Y : Type 0} (P : Y → Type 0) (read other : X → Result Y Refusal) → ((x : X) (y : Y) → P y → read x ≡ Ok y → other x ≡ Ok y)
     → (xs : List X) (ys : List Y) → AllByRecursion P ys → each read xs ≡ Ok ys → each other xs ≡ Ok ys
 each_alike P read other alike [] ys all h = h
@@ -62,7 +62,7 @@ each_alike P read other alike (x ∷ xs) ys all h =
 
 -- ---- the steps of reading
 
--- of a recipient
+-- the recipient that is read
 abbrev recipient_with : RecipientParts → List ℕ → List ℕ → KeyManagement → Recipient
 recipient_with parts alg enc q = record { header = parts.header; encrypted_key = parts.encrypted_key; alg = alg; enc = enc; management = q }
 
@@ -72,7 +72,7 @@ recipient_made : (algs : List KeyManagementAlg) (p u header : Members) (parts : 
 unfolding recipient_of recipient_by
 recipient_made algs p u header parts alg enc q a b c d = rw (a, b, c, d) refl
 
--- of an encrypted object
+-- the encrypted object that is read
 abbrev object_with : JweParts → Members → List Recipient → EncryptedObject
 object_with parts protected recipients = record {
   protected = parts.protected;
@@ -91,14 +91,14 @@ object_made : (algs : List KeyManagementAlg) (octets : List ℕ) (parts : JwePar
 unfolding encrypted_object recipients_of_one_enc
 object_made algs octets parts protected recipients a b c d = rw (a, b, c, d) refl
 
--- and of its text
+-- The text of an encrypted object is decoded and then read as the object.
 text_read : (limits : Limits) (algs : List KeyManagementAlg) (detached : Option (List ℕ)) (text octets : List ℕ) (texts : EncodedJwe) (parts : JweParts) → encoded_jwe detached text ≡ Ok texts
     → are_few limits (length texts.recipients) ≡ true → decoded texts.shared.protected ≡ Ok octets → decoded_members texts ≡ Ok parts
     → jwe_of (knowing limits algs) detached text ≡ encrypted_object algs octets parts
 unfolding jwe_of decoded_object
 text_read limits algs detached text octets texts parts a b c d = rw (a, b, c, d) refl
 
--- of a signature
+-- the signature that is read
 abbrev signature_with : HeadedSignature → List ℕ → Signature
 signature_with s alg = record { protected = s.parts.protected; protected_members = s.members; header = s.parts.header; signature = s.parts.signature; alg = alg }
 
@@ -107,29 +107,29 @@ signature_made : (algs : List KeyManagementAlg) (s : HeadedSignature) (header : 
 unfolding signature_by
 signature_made algs s header alg q a b c = rw (a, b, c) refl
 
--- of a signed object
+-- The steps of reading lead to the signed object.
 signed_made : (algs : List KeyManagementAlg) (payload : List ℕ) (decoded : List DecodedSignature) (headed : List HeadedSignature) (signatures : List Signature)
     → each headed_signature decoded ≡ Ok headed → each (signature_by algs) headed ≡ Ok signatures → list_all jws.headers_have_no_crit headed ≡ true
     → signed_object algs payload decoded ≡ Ok (record { payload = payload; signatures = signatures })
 unfolding signed_object signatures_of
 signed_made algs payload decoded headed signatures a b c = rw (a, b, c) refl
 
--- and of its text
+-- The text of a signed object is decoded and then read as the object.
 signed_text_read : (limits : Limits) (algs : List KeyManagementAlg) (detached : Option (List ℕ)) (text payload : List ℕ) (texts : EncodedJws) (signatures : List DecodedSignature)
     → encoded_jws detached text ≡ Ok texts → are_few limits (length texts.signatures) ≡ true → decoded texts.payload ≡ Ok payload
     → each decoded_signature texts.signatures ≡ Ok signatures → jws_of (knowing limits algs) detached text ≡ signed_object algs payload signatures
 unfolding jws_of jws.decoded_object
 signed_text_read limits algs detached text payload texts signatures a b c d = rw (a, b, c, d) refl
 
--- ---- where enough names name the same among two lists of algorithms
+-- ---- if two lists of algorithms look up enough names the same
 module _ (limits : Limits) (algs others : List KeyManagementAlg) (enough : List ℕ → Bool)
     (alike : (name : List ℕ) → enough name ≡ true → management_alg_among algs name ≡ management_alg_among others name) where
-  -- the management of a key is read alike
+  -- The key management is read the same.
   management_alike : (header : Members) (alg : List ℕ) (q : KeyManagement) → enough alg ≡ true → key_management algs alg header ≡ Ok q → key_management others alg header ≡ Ok q
   management_alike header alg q is h =
       ap (λ found. management_by found header) (sym (alike alg is)) ∙ h
 
-  -- a recipient that is read is read alike
+  -- A recipient is read the same.
   recipient_alike : (p u : Members) (parts : RecipientParts) (r : Recipient) → enough r.alg ≡ true → recipient_of algs p u parts ≡ Ok r → recipient_of others p u parts ≡ Ok r
   unfolding recipient_of recipient_by
   recipient_alike p u parts r is h =
@@ -141,7 +141,7 @@ module _ (limits : Limits) (algs others : List KeyManagementAlg) (enough : List 
       let read = management_alike header.0 alg.0 management.0 (ap enough named ∙ is) management.1 in
       recipient_made others p u header.0 parts alg.0 enc.0 management.0 header.1 alg.1 enc.1 read ∙ management.2
 
-  -- so is an encrypted object
+  -- An encrypted object is read the same.
   object_alike : (octets : List ℕ) (parts : JweParts) (o : EncryptedObject) → list_all (λ r. enough r.alg) o.recipients ≡ true → encrypted_object algs octets parts ≡ Ok o
       → encrypted_object others octets parts ≡ Ok o
   unfolding encrypted_object recipients_of_one_enc
@@ -161,7 +161,7 @@ module _ (limits : Limits) (algs others : List KeyManagementAlg) (enough : List 
       object_made others octets parts protected.0 recipients.0 protected.1 read_alike (passed _ Header one.0 one.1) (passed _ Unsupported plain.0 plain.1)
       ∙ ap (λ rs. let r : Result EncryptedObject Refusal = Ok (object_with parts protected.0 rs) in r) same ∙ plain.2
 
-  -- of a text
+  -- The text of an encrypted object is read the same.
   read_alike : (detached : Option (List ℕ)) (text : List ℕ) (o : EncryptedObject) → list_all (λ r. enough r.alg) o.recipients ≡ true → jwe_of (knowing limits algs) detached text ≡ Ok o
       → jwe_of (knowing limits others) detached text ≡ Ok o
   unfolding jwe_of decoded_object
@@ -172,7 +172,7 @@ module _ (limits : Limits) (algs others : List KeyManagementAlg) (enough : List 
       let parts = steps (decoded_members texts.0) _ o octets.2 in
       text_read limits others detached text octets.0 texts.0 parts.0 texts.1 (passed _ Limit few.0 few.1) octets.1 parts.1 ∙ object_alike octets.0 parts.0 o all parts.2
 
-  -- so is a signature
+  -- A signature is read the same.
   signature_alike : (h : HeadedSignature) (s : Signature) → enough s.alg ≡ true → signature_by algs h ≡ Ok s → signature_by others h ≡ Ok s
   unfolding signature_by
   signature_alike d s is h =
@@ -183,7 +183,7 @@ module _ (limits : Limits) (algs others : List KeyManagementAlg) (enough : List 
       let read = management_alike header.0 alg.0 management.0 (ap enough named ∙ is) management.1 in
       signature_made others d header.0 alg.0 management.0 header.1 alg.1 read ∙ management.2
 
-  -- and a signed object
+  -- A signed object is read the same.
   signed_object_alike : (payload : List ℕ) (decoded : List DecodedSignature) (o : SignedObject) → list_all (λ s. enough s.alg) o.signatures ≡ true → signed_object algs payload decoded ≡ Ok o
       → signed_object others payload decoded ≡ Ok o
   unfolding signed_object signatures_of
@@ -201,7 +201,7 @@ module _ (limits : Limits) (algs others : List KeyManagementAlg) (enough : List 
       signed_made others payload decoded headed.0 signatures.0 headed.1 read_alike (passed _ Unsupported plain.0 plain.1)
       ∙ ap (λ ss. let r : Result SignedObject Refusal = Ok (record { payload = payload; signatures = ss }) in r) same ∙ read.2
 
-  -- of a text
+  -- The text of a signed object is read the same.
   signed_read_alike : (detached : Option (List ℕ)) (text : List ℕ) (o : SignedObject) → list_all (λ s. enough s.alg) o.signatures ≡ true → jws_of (knowing limits algs) detached text ≡ Ok o
       → jws_of (knowing limits others) detached text ≡ Ok o
   unfolding jws_of jws.decoded_object
@@ -213,13 +213,13 @@ module _ (limits : Limits) (algs others : List KeyManagementAlg) (enough : List 
       signed_text_read limits others detached text payload.0 texts.0 signatures.0 texts.1 (passed _ Limit few.0 few.1) payload.1 signatures.1
       ∙ signed_object_alike payload.0 signatures.0 o all signatures.2
 
-  -- the pairs that are tried are the same
+  -- The pairs that are tried are the same.
   pairs_alike : (keys : List OctetKey) (recipients : List Recipient) → AllByRecursion (λ r. enough r.alg ≡ true) recipients → all_pairs algs keys recipients ≡ all_pairs others keys recipients
   unfolding algorithms_of
   pairs_alike keys [] all = refl
   pairs_alike keys (r ∷ rest) all = rw (alike r.alg all.0, pairs_alike keys rest all.1) refl
 
-  -- and as many algorithms are supported
+  -- With both lists of algorithms, some recipient is supported, or with neither.
   supported_alike : (recipients : List Recipient) → AllByRecursion (λ r. enough r.alg ≡ true) recipients
       → list_any (λ r. is_some (algorithms_of algs r)) recipients ≡ list_any (λ r. is_some (algorithms_of others r)) recipients
   unfolding algorithms_of

@@ -1,4 +1,4 @@
--- Keys that receive a content encryption key: what a test of all of them says of each, and what is counted over them.
+-- Keys that receive a content encryption key: facts about each of them that follow from a test of all, and sums over all of them.
 use Rattle.std.proofs.Common.{◌≡◌, ℕ, zero, suc, ◌≤◌, Bool, true, false, not, nat_le, List, [], ◌∷◌, length, map, Some, None, Ok, refl, sym, ap, ◌∙◌, arith}
 use Rattle.std.proofs.lemmas.Bool.{leb-true, le-leb, lt-leb, and_parts, and_from, or_left, or_right}
 use Rattle.std.proofs.lemmas.List.{length-map}
@@ -23,24 +23,24 @@ use Rattle.tokens.specs.Encrypting.{direct_key}
 use Rattle.tokens.specs.Code.Views.{recipient_key_view}
 use Rattle.tokens.proofs.AlgorithmCases.{direct_key_fits}
 
--- a step that went on is one whose test holds
+-- If a check succeeds, its test holds.
 pub held : (test : Bool) (refusal : Refusal) (done : Unit {0}) → Ok done ≡ needs test refusal → test ≡ true
 held true refusal done on = refl
 held false refusal done on = cc on
 
--- where a test of each implies another, all that pass the first pass the other
+-- If one test implies another for each element, and all elements pass the first, all pass the other.
 pub all_pass_other : {X : Type 0} (p q : X → Bool) (xs : List X) → ((x : X) → p x ≡ true → q x ≡ true) → list_all p xs ≡ true → list_all q xs ≡ true
 all_pass_other p q [] implies all = refl
 all_pass_other p q (x ∷ xs) implies all =
     let parts = and_parts (p x) (list_all p xs) all in
     and_from (q x) (list_all q xs) (implies x parts.0) (all_pass_other p q xs implies parts.1)
 
--- what each passes, all pass
+-- If each element passes a test, all of them pass it.
 pub all_pass : {X : Type 0} (q : X → Bool) (xs : List X) → ((x : X) → q x ≡ true) → list_all q xs ≡ true
 all_pass q [] each = refl
 all_pass q (x ∷ xs) each = and_from (q x) (list_all q xs) (each x) (all_pass q xs each)
 
--- where none passes a test, all pass its opposite
+-- If no element passes a test, all elements pass its negation.
 pub none_passes : {X : Type 0} (p : X → Bool) (xs : List X) → not (list_any p xs) ≡ true → list_all (λ x. not (p x)) xs ≡ true
 none_passes p [] none = refl
 none_passes p (x ∷ xs) none = by_first (p x) (list_any p xs) (list_all (λ y. not (p y)) xs) (none_passes p xs) none
@@ -49,12 +49,12 @@ none_passes p (x ∷ xs) none = by_first (p x) (list_any p xs) (list_all (λ y. 
     by_first true b c rest none = cc none
     by_first false b c rest none = rest none
 
--- a test of some, seen by a view
+-- A test of the elements of a mapped list is a test of the elements of the list.
 pub list_any-map : {X Y : Type 0} (p : X → Bool) (h : Y → X) (ys : List Y) → list_any p (map h ys) ≡ list_any (λ y. p (h y)) ys
 list_any-map p h [] = refl
 list_any-map p h (y ∷ ys) = ap (λ others. p (h y) || others) (list_any-map p h ys)
 
--- all that may encrypt fit
+-- If all keys may encrypt, all of them fit.
 pub all_fit : (enc : ContentEncryptionAlg) (recipient_keys : List Code) → list_all (may_encrypt enc) (map recipient_key_view recipient_keys) ≡ true
     → list_all (λ r. fits (key_view r.key.now) (EncryptionWith r.management enc)) recipient_keys ≡ true
 all_fit enc recipient_keys all =
@@ -62,7 +62,7 @@ all_fit enc recipient_keys all =
     (λ r may. (and_parts (allows (key_view r.key.now) (management_operations r.management).0) (fits (key_view r.key.now) (EncryptionWith r.management enc)) may).1)
     (sym (list_all-map (may_encrypt enc) recipient_key_view recipient_keys) ∙ all)
 
--- where there are several that stand together, none is used directly
+-- If several keys are allowed together, none of them is used directly.
 pub all_stand_together : (recipient_keys : List Code) → direct_key_is_alone (map recipient_key_view recipient_keys) ≡ true
     → list_all (λ r. not (is_direct r.management) || nat_le (length recipient_keys) 1) recipient_keys ≡ true
 all_stand_together recipient_keys together =
@@ -75,7 +75,7 @@ all_stand_together recipient_keys together =
         all_pass_other (λ r. not (is_direct r.management)) (λ r. not (is_direct r.management) || false) recipient_keys (λ r is. or_left (not (is_direct r.management)) false is)
         (sym (list_all-map (λ r. not (is_direct r.management)) recipient_key_view recipient_keys) ∙ none_passes (λ r. is_direct r.management) (map recipient_key_view recipient_keys) together)
 
--- where the number of iterations may be written, a password takes one at least
+-- If the number of iterations may be written, each password needs at least one.
 pub all_counted : (p2c : ℕ) (recipient_keys : List Code) → p2c_may_be_written limits (password_count (map recipient_key_view recipient_keys)) p2c ≡ true
     → list_all (λ r. not (is_password_based r.management) || nat_le 1 p2c) recipient_keys ≡ true
 all_counted p2c recipient_keys written = by_count (password_count (map recipient_key_view recipient_keys)) refl written
@@ -97,7 +97,7 @@ all_counted p2c recipient_keys written = by_count (password_count (map recipient
         let some : nat_le 1 p2c ≡ true = le-leb 1 p2c (omega (arith, enough)) in
         all_pass (λ r. not (is_password_based r.management) || nat_le 1 p2c) recipient_keys (λ r. or_right (not (is_password_based r.management)) (nat_le 1 p2c) some)
 
--- the key that is used directly has the length of a content encryption key
+-- A key that is used directly has the length of a content encryption key.
 pub direct_fits : (enc : ContentEncryptionAlg) (recipient_keys : List Code) (key : List ℕ) → list_all (λ r. fits (key_view r.key.now) (EncryptionWith r.management enc)) recipient_keys ≡ true
     → direct_key (map recipient_key_view recipient_keys) ≡ Some key → length key ≡ ciphers.cek_len (content_alg enc)
 direct_fits enc [] key fit is = cc is
@@ -112,7 +112,7 @@ direct_fits enc (r ∷ rest) key fit is =
         ap length (sym same) ∙ direct_key_fits r.management enc (key_view r.key.now) direct fit
     by_use false direct fit is = cc is
 
--- a key that is used directly is the content encryption key, since it is alone
+-- A key that is used directly is the content encryption key, since it is the only key.
 pub direct_is_cek : (recipient_keys : List Code) (drawn cek : List ℕ) → list_all (λ r. not (is_direct r.management) || nat_le (length recipient_keys) 1) recipient_keys ≡ true
     → cek ≡ unwrap_or (direct_key (map recipient_key_view recipient_keys)) drawn → AllByRecursion (λ r. r.management ≡ Dir → cek ≡ (key_view r.key.now).octets) recipient_keys
 direct_is_cek [] drawn cek alone is = tt

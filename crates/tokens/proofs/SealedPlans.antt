@@ -1,4 +1,4 @@
--- A plaintext that is sealed as it is read, and what is written of its ciphertext.
+-- A plaintext that is sealed while it is read, and the ciphertext that is written of it.
 use Rattle.std.proofs.Common.{◌≡◌, ℕ, ◌<◌, ◌≤◌, true, false, List, [], ◌++◌, length, Option, Some, None, Result, Ok, Err, IfOk, refl, sym, ap, ◌∙◌, subst, arith, append_assoc, append-nil, length-append, ⊎_elim, take_all}
 use Rattle.std.specs.Option.{IsSomeAnd}
 use Rattle.std.proofs.lemmas.Bool.{lt-ltb, le-ltb, cases_lt}
@@ -14,34 +14,34 @@ use Rattle.ciphers.specs.Sealing.{Sealing, IsTooLong}
 use Rattle.tokens.specs.Encrypting.{sealed_by, within_longest}
 use Rattle.tokens.specs.Code.SealedTexts.{sealed_plan}
 
--- ---- plaintexts that are too long, and others
+-- ---- plaintexts that are too long, and plaintexts that are not
 
--- where a length is too great, a greater one is
+-- If a length is too great, so is every greater length.
 grown_longer : (n m : ℕ) (longest : Option ℕ) → n ≤ m → IsSomeAnd longest (λ most. most < n) → is_longer m longest ≡ true
 grown_longer n m None grown h = absurd h
 grown_longer n m (Some most) grown h = lt-ltb most m (omega arith)
 
--- where a length is not too great, the test fails
+-- If a length is not too great, the test fails.
 not_longer : (n : ℕ) (longest : Option ℕ) → (IsSomeAnd longest (λ most. most < n) → ⊥) → is_longer n longest ≡ false
 not_longer n None short = refl
 not_longer n (Some most) short = le-ltb most n (omega arith)
 
--- what begins with too long a plaintext is refused
+-- If a beginning is too long, the whole plaintext is refused.
 pub too_long : (s : Sealing) (p whole rest : List ℕ) → IsTooLong s p → whole ≡ p ++ rest → sealed_by s whole ≡ Err Limit
 unfolding sealed_by
 too_long s p whole rest long is = rw (grown_longer (length p) (length whole) s.longest (omega (arith, ap length is, length-append p rest)) long) refl
 
--- and one that is not too long is sealed
+-- A plaintext that is not too long is sealed.
 pub is_sealed : (s : Sealing) (p : List ℕ) → (IsTooLong s p → ⊥) → sealed_by s p ≡ Ok (s.sealed p)
 unfolding sealed_by
 is_sealed s p short = rw (not_longer (length p) s.longest short) refl
 
--- nothing is not too long
+-- The empty plaintext is not too long.
 nothing_short : (longest : Option ℕ) → IsSomeAnd longest (λ most. most < 0) → ⊥
 nothing_short None long = absurd long
 nothing_short (Some most) long = absurd (omega (arith, long))
 
--- all of what is not too long is within the longest plaintext
+-- If a plaintext is not too long, each beginning of it is within the longest plaintext.
 pub all_within : (longest : Option ℕ) (p q : List ℕ) → (IsSomeAnd longest (λ most. most < length (p ++ q)) → ⊥) → within_longest longest p ≡ p
 all_within None p q short = refl
 all_within (Some most) p q short =
@@ -51,13 +51,13 @@ all_within (Some most) p q short =
 within : (s : Sealing) (p : List ℕ) → (IsTooLong s p → ⊥) → within_longest s.longest p ≡ p
 within s p short = all_within s.longest p [] (subst (λ l. IsSomeAnd s.longest (λ most. most < length l) → ⊥) (sym (append-nil p)) short)
 
--- ---- what stands of the ciphertext
+-- ---- the fixed part of the ciphertext
 
--- what is fixed by what is not too long
+-- If a beginning is not too long, it fixes the part of the ciphertext that the plan fixes.
 pub fixed_is : (plan : Plan (List ℕ)) (s : Sealing) (p : List ℕ) → (IsTooLong s p → ⊥) → (sealed_plan plan s).fixed p ≡ plan.fixed (s.fixed p)
 fixed_is plan s p short = ap (λ l. plan.fixed (s.fixed l)) (within s p short)
 
--- what the next piece adds to it
+-- The next piece adds its text to the fixed part.
 pub adds : (plan : Plan (List ℕ)) (s : Sealing) (p piece taken text : List ℕ) → (IsTooLong s p → ⊥) → (IsTooLong s (p ++ piece) → ⊥) → s.fixed (p ++ piece) ≡ s.fixed p ++ taken
     → plan.fixed (s.fixed p ++ taken) ≡ plan.fixed (s.fixed p) ++ text → (sealed_plan plan s).fixed (p ++ piece) ≡ (sealed_plan plan s).fixed p ++ text
 adds plan s p piece taken text short more fixed written =
@@ -65,11 +65,11 @@ adds plan s p piece taken text short more fixed written =
 
 -- ---- the end of the plaintext
 
--- all of it is written
+-- The plan writes all of the ciphertext.
 pub sealed_whole : (plan : Plan (List ℕ)) (s : Sealing) (p w : List ℕ) → (IsTooLong s p → ⊥) → plan.whole (s.sealed p).ciphertext ≡ Ok w → (sealed_plan plan s).whole p ≡ Ok w
 sealed_whole plan s p w short whole = ap (λ r. r >>= λ sealed. plan.whole sealed.ciphertext) (is_sealed s p short) ∙ whole
 
--- what is left of the ciphertext, as base64url in two parts
+-- The end of the ciphertext is written as base64url in two parts.
 pub text_ends : (s : Sealing) (p last text more : List ℕ) → (IsTooLong s p → ⊥) → (s.sealed p).ciphertext ≡ s.fixed p ++ last → base64url (whole_groups (s.fixed p ++ last)) ≡ base64url (whole_groups (s.fixed p)) ++ text
     → base64url (s.fixed p ++ last) ≡ base64url (whole_groups (s.fixed p ++ last)) ++ more → (sealed_plan encoding s).whole p ≡ Ok ((sealed_plan encoding s).fixed p ++ (text ++ more))
 text_ends s p last text more short is fed finished =
@@ -77,22 +77,22 @@ text_ends s p last text more short is fed finished =
     let all : base64url (s.sealed p).ciphertext ≡ front ++ (text ++ more) = ap base64url is ∙ finished ∙ ap (λ l. l ++ more) fed ∙ append_assoc front text more in
     sealed_whole encoding s p (base64url (s.sealed p).ciphertext) short refl ∙ ap Ok (all ∙ ap (λ l. l ++ (text ++ more)) (sym (fixed_is encoding s p short)))
 
--- and as it is
+-- The end of the ciphertext is written as it is.
 pub octets_end : (s : Sealing) (p last : List ℕ) → (IsTooLong s p → ⊥) → (s.sealed p).ciphertext ≡ s.fixed p ++ last → (sealed_plan as_it_is s).whole p ≡ Ok ((sealed_plan as_it_is s).fixed p ++ last)
 octets_end s p last short is = sealed_whole as_it_is s p (s.sealed p).ciphertext short refl ∙ ap Ok (is ∙ ap (λ l. l ++ last) (sym (fixed_is as_it_is s p short)))
 
 -- ---- refusals
 
--- what begins so is too long
+-- Every plaintext that begins with too long a beginning is refused.
 pub refuses_long : (plan : Plan (List ℕ)) (s : Sealing) (p : List ℕ) → IsTooLong s p → RefusesFrom (sealed_plan plan s) p Limit
 refuses_long plan s p long rest octets = ap (λ r. r >>= λ sealed. plan.whole sealed.ciphertext) (too_long s p (p ++ rest) rest long refl)
 
--- a fact at an answer, by three others
+-- If three facts together imply a fourth, the fourth holds of an answer of which the three hold.
 pub if_ok_all : {X : Type 0} {P Q R T : X → Type 0} (r : Result X Refusal) → IfOk r P → IfOk r Q → IfOk r R → ((x : X) → P x → Q x → R x → T x) → IfOk r T
 if_ok_all (Ok x) p q r f = f x p q r
 if_ok_all (Err e) p q r f = tt
 
--- by one
+-- If a fact implies another, the other holds of an answer of which the first holds.
 pub map_ok : {X : Type 0} {P Q : X → Type 0} (r : Result X Refusal) → IfOk r P → ((x : X) → P x → Q x) → IfOk r Q
 map_ok (Ok x) p f = f x p
 map_ok (Err e) p f = tt

@@ -1,5 +1,5 @@
--- What a template and keys settle: headers that may be written, and for each key in order a recipient key, whose parameters the joint
--- header awaits.
+-- The encryption that a template and keys settle: headers that may be written, and a recipient key for each key, in order. The joint
+-- header awaits the parameters of each recipient key.
 use Rattle.std.proofs.Common.{◌≡◌, ℕ, zero, suc, ◌*◌, ◌≤◌, ◌&&◌, ◌==◌, Bool, true, false, nat_le, List, [], ◌∷◌, length, map, codes, if◌then◌else◌, Option, Some, None, is_some, Result, Ok, Err, refl, sym, ◌∙◌, ap, subst, arith}
 use Rattle.std.proofs.lemmas.Bool.{and_parts, leb-true}
 use Rattle.std.proofs.lemmas.List.{map-id}
@@ -32,21 +32,22 @@ use Rattle.tokens.proofs.JointHeaders.{put_onto, IsJoint, into_protected, IsHead
 use Rattle.tokens.proofs.JointParameters.{unless, free_unless, IsGiven, not_given, nothing_there, given_if_asked, there_with, as_count, with_name_is, Counted, Awaits, still_awaits, header_with_enc}
 use Rattle.tokens.proofs.ReadLists.{each_gives}
 
--- the joint header, where nothing is written for a recipient
+-- the joint header before anything is written for a recipient
 abbrev pub joint_of : EncryptionPlan → Members
 joint_of e = all_members e.protected e.unprotected no_members
 
--- it awaits the parameters of a recipient
+-- the joint header awaits the parameters of a recipient
 abbrev pub AwaitsRecipient : EncryptionPlan → RecipientKey → Type 0
 AwaitsRecipient e r = Awaits e.given.alg e.given.p2c (is_password_based r.management) (management_name r.management) e.p2c (joint_of e)
 
--- so it does, and the key fits
+-- the joint header awaits the parameters, and the key fits
 pub record Receives (e : EncryptionPlan) (r : RecipientKey) : Type 0 where
   pub fit : fits r.key (EncryptionWith r.management e.encryption) ≡ true
   pub awaits : AwaitsRecipient e r
 
--- The recipient keys are those of the keys in order, at least one, and a key that is used directly is the only one. The headers may be written and have no name in common, the joint header names the content encryption,
--- and the additional data are octets.
+-- There is at least one recipient key. The recipient keys are those of the keys in order, and a key that is used directly is the only
+-- one. The headers may be written and have no name in common. The joint header names the content encryption, and the additional data are
+-- octets.
 pub record Settles (keys : List OctetKey) (e : EncryptionPlan) : Type 0 where
   pub keys_are : map (λ r. r.key) e.recipient_keys ≡ keys
   pub some : 1 ≤ length e.recipient_keys
@@ -58,21 +59,21 @@ pub record Settles (keys : List OctetKey) (e : EncryptionPlan) : Type 0 where
   pub unprotected : IsHeader e.unprotected
   pub aad : IsOctets e.aad
 
--- the iterations of each password, and of all together, are no more than are read
+-- the iterations of each password, and of all together, are within the limits of reading
 pub record TakesFew (limits : Limits) (e : EncryptionPlan) : Type 0 where
   pub each_few : AllByRecursion (λ r. is_password_based r.management ≡ true → e.p2c ≤ limits.greatest_p2c_read) e.recipient_keys
   pub all_few : password_count e.recipient_keys * e.p2c ≤ limits.p2c_sum
 
 -- ---- the algorithms
 
--- a recipient key has the key
+-- A recipient key has the key that it was made of.
 key_is : (asked : Option KeyManagementAlg) (key : OctetKey) (r : RecipientKey) → recipient_key_by asked key ≡ Ok r → r.key ≡ key
 unfolding recipient_key_by
 key_is asked key r h =
     let a = steps (chosen_management asked key) _ r h in
     ap (λ (r : RecipientKey). r.key) (sym (same_answer _ r a.2))
 
--- and the key management that the template names, where it does
+-- If the template names a key management algorithm, a recipient key has it.
 management_kept : (asked : Option KeyManagementAlg) (key : OctetKey) (r : RecipientKey) → recipient_key_by asked key ≡ Ok r → (a : KeyManagementAlg) → asked ≡ Some a → a ≡ r.management
 unfolding recipient_key_by
 management_kept None key r h a e = cc e
@@ -81,7 +82,7 @@ management_kept (Some b) key r h a e =
     let asks : b ≡ a = cc e in
     sym asks ∙ ap (λ (r : RecipientKey). r.management) same
 
--- so is its content encryption, and there is a recipient key
+-- If the template names a content encryption, it is chosen. There is a recipient key.
 encryption_kept : (asked : Option ContentEncryptionAlg) (recipient_keys : List RecipientKey) (enc : ContentEncryptionAlg) → encryption_for asked recipient_keys ≡ Ok enc
     → (1 ≤ length recipient_keys) × ((a : ContentEncryptionAlg) → asked ≡ Some a → a ≡ enc)
 encryption_kept asked [] enc h = cc h
@@ -90,7 +91,7 @@ encryption_kept (Some b) (r ∷ rest) enc h = (omega arith, λ a e. cc (e, h))
 
 -- ---- the iterations
 
--- where a recipient key is a password, there are passwords
+-- If a recipient key is a password, the number of passwords is not 0.
 password_counts : (recipient_keys : List RecipientKey) (n : ℕ) → password_count recipient_keys ≤ n → AllByRecursion (λ r. is_password_based r.management ≡ true → 1 ≤ n) recipient_keys
 password_counts [] n few = tt
 password_counts (r ∷ rest) n few = by_test (is_password_based r.management) refl (password_counts rest n) few
@@ -100,9 +101,9 @@ password_counts (r ∷ rest) n few = by_test (is_password_based r.management) re
     by_test true is later few = (λ e. omega (arith, few), later (omega (arith, few)))
     by_test false is later few = (λ e. cc (is, e), later few)
 
--- ---- all that is settled
+-- ---- everything that is settled
 
--- what is settled by these recipient keys, algorithms and headers
+-- the encryption with these recipient keys, algorithms and headers
 abbrev encryption_by : EncryptionTemplate → List RecipientKey → ContentEncryptionAlg → ℕ → Members → EncryptionPlan
 encryption_by t recipient_keys encryption p2c protected = record {
   encryption = encryption;
@@ -114,7 +115,7 @@ encryption_by t recipient_keys encryption p2c protected = record {
   aad = t.aad;
 }
 
--- where compact form is asked for, it can hold what is settled
+-- compact form, if it is asked for, has room for the encryption
 abbrev pub holds_no_more : Bool → EncryptionPlan → Bool
 holds_no_more compact e = if compact then is_alone e.recipient_keys && (is_empty e.unprotected && (length e.aad == 0)) else true
 
@@ -122,16 +123,16 @@ holds_no_more compact e = if compact then is_alone e.recipient_keys && (is_empty
 abbrev with_enc : EncryptionTemplate → ContentEncryptionAlg → Members
 with_enc t enc = with_name (is_some t.asked.encryption) (codes "enc") (encryption_name enc) t.protected
 
--- a recipient key that may encrypt, and whose parameters are awaited, receives
+-- A recipient key that may encrypt and whose parameters are awaited receives the content encryption key.
 receives : (e : EncryptionPlan) (r : RecipientKey) → may_encrypt e.encryption r ≡ true → AwaitsRecipient e r → Receives e r
 receives e r may awaits = record {
   fit = (and_parts (allows r.key (management_operations r.management).0) (fits r.key (EncryptionWith r.management e.encryption)) may).1;
   awaits = awaits;
 }
 
--- ---- where what may be written may be read
+-- ---- if everything that may be written may be read
 module _ (limits : Limits) (sound : AreSound limits) where
-  -- how many iterations are written
+  -- If the number of iterations may be written, it is at least 1 and within the limits.
   within : (n p2c : ℕ) → p2c_may_be_written limits (suc n) p2c ≡ true → (1 ≤ p2c) × (p2c ≤ limits.greatest_p2c) × (suc n * p2c ≤ limits.p2c_sum)
   within n p2c h =
       let first = and_parts (nat_le limits.least_p2c p2c) (nat_le p2c limits.greatest_p2c && nat_le (suc n * p2c) limits.p2c_sum) h in
@@ -139,18 +140,18 @@ module _ (limits : Limits) (sound : AreSound limits) where
       let least : limits.least_p2c ≤ p2c = leb-true limits.least_p2c p2c first.0 in
       (omega (arith, least, sound.some), leb-true p2c limits.greatest_p2c second.0, leb-true (suc n * p2c) limits.p2c_sum second.1)
 
-  -- so all passwords together take few enough
+  -- All passwords together need few enough iterations.
   few_iterations : (n p2c : ℕ) → p2c_may_be_written limits n p2c ≡ true → n * p2c ≤ limits.p2c_sum
   few_iterations zero p2c h = omega arith
   few_iterations (suc n) p2c h = (within n p2c h).2
 
-  -- and each no more than are read
+  -- Each password needs no more iterations than may be read.
   each_few : (recipient_keys : List RecipientKey) (n p2c : ℕ) → p2c_may_be_written limits n p2c ≡ true → AllByRecursion (λ r. is_password_based r.management ≡ true → 1 ≤ n) recipient_keys
       → AllByRecursion (λ r. is_password_based r.management ≡ true → p2c ≤ limits.greatest_p2c_read) recipient_keys
   each_few recipient_keys zero p2c h some = all_then _ _ (λ r none password. absurd (omega (arith, none password))) recipient_keys some
   each_few recipient_keys (suc n) p2c h some = all_then _ _ (λ r _ password. omega (arith, (within n p2c h).1, sound.read)) recipient_keys some
 
-  -- where there are passwords, the header gives their count, or it is free
+  -- If there are passwords, the header has the number of iterations or none.
   counted : (n : ℕ) (asked : Result (Option ℕ) Refusal) (p2c : ℕ) (header : Members) → if_there as_count (get_member (codes "p2c") header) ≡ asked → chosen_p2c limits n asked ≡ Ok p2c
       → p2c_may_be_written limits n p2c ≡ true → 1 ≤ n → Counted (is_given asked) p2c header
   counted zero asked p2c header is chosen written some = absurd (omega arith)
@@ -162,7 +163,7 @@ module _ (limits : Limits) (sound : AreSound limits) where
       let count = within n p2c written in
       record { there = is ∙ ap (λ k. Ok (Some k)) (same_answer m p2c chosen); some = count.0; whole = omega (arith, count.1, sound.whole) }
 
-  -- the joint header of a template awaits the parameters of each recipient
+  -- The joint header of a template awaits the parameters of each recipient.
   awaits : (p u : Members) (asked : AlgorithmsAsked) (recipient_keys : List RecipientKey) (p2c : ℕ) → Asks p u asked → chosen_p2c limits (password_count recipient_keys) asked.p2c ≡ Ok p2c
       → p2c_may_be_written limits (password_count recipient_keys) p2c ≡ true → (r : RecipientKey) → ((a : KeyManagementAlg) → asked.management ≡ Some a → a ≡ r.management)
       → (is_password_based r.management ≡ true → 1 ≤ password_count recipient_keys)
@@ -177,7 +178,7 @@ module _ (limits : Limits) (sound : AreSound limits) where
         no_tag = is.no_tag;
       }
 
-  -- what is chosen for a template and keys, one step after another
+  -- the choices for a template and keys, one step after another
   record IsChosen (compact : Bool) (keys : List OctetKey) (t : EncryptionTemplate) (recipient_keys : List RecipientKey) (enc : ContentEncryptionAlg) (p2c : ℕ) : Type 0 where
     by_keys : each (recipient_key_by t.asked.management) keys ≡ Ok recipient_keys
     together : direct_key_is_alone recipient_keys ≡ true
@@ -188,7 +189,7 @@ module _ (limits : Limits) (sound : AreSound limits) where
     written : p2c_may_be_written limits (password_count recipient_keys) p2c ≡ true
     alone : compact_has_room compact recipient_keys t ≡ true
 
-  -- the steps of settling
+  -- An encryption that is settled consists of the choices of these steps.
   chosen : (compact : Bool) (keys : List OctetKey) (t : EncryptionTemplate) (e : EncryptionPlan) → settle_encryption limits compact keys t ≡ Ok e
       → (recipient_keys : List RecipientKey) × (enc : ContentEncryptionAlg) × (p2c : ℕ) × IsChosen compact keys t recipient_keys enc p2c × (encryption_by t recipient_keys enc p2c (with_enc t enc) ≡ e)
   unfolding settle_encryption
@@ -213,7 +214,7 @@ module _ (limits : Limits) (sound : AreSound limits) where
       } in
       (recipient_keys.0, encryption.0, p2c.0, all, same_answer _ e alone.2)
 
-  -- so it is settled
+  -- An encryption with these choices is settled.
   settled_by : (compact : Bool) (keys : List OctetKey) (t : EncryptionTemplate) (rs : List RecipientKey) (enc : ContentEncryptionAlg) (p2c : ℕ) → IsTemplate t → IsChosen compact keys t rs enc p2c
       → Settles keys (encryption_by t rs enc p2c (with_enc t enc)) × TakesFew limits (encryption_by t rs enc p2c (with_enc t enc))
   settled_by compact keys t rs enc p2c is by =
@@ -252,7 +253,7 @@ module _ (limits : Limits) (sound : AreSound limits) where
       subst (λ p. Settles keys (encryption_by t rs enc p2c p) × TakesFew limits (encryption_by t rs enc p2c p)) (sym (with_name_is given (codes "enc") (encryption_name enc) t.protected))
       (settles, few)
 
-  -- all this holds of what a template's text and keys settle
+  -- The encryption that a template's text and keys settle has all these properties.
   settled : (compact : Bool) (keys : List OctetKey) (template : List ℕ) (e : EncryptionPlan) → read_encryption limits compact keys template ≡ Ok e
       → Settles keys e × TakesFew limits e × (holds_no_more compact e ≡ true)
   unfolding read_encryption
@@ -264,14 +265,14 @@ module _ (limits : Limits) (sound : AreSound limits) where
       let both = settled_by compact keys t.0 by.0 by.1 by.2 is by.3 in
       subst (λ e. Settles keys e × TakesFew limits e × (holds_no_more compact e ≡ true)) by.4 (both.0, both.1, by.3.alone)
 
-  -- so keys and a template settle an encryption, ..
+  -- Keys and a template settle the encryption that is read from them.
   pub settles : (compact : Bool) (keys : List OctetKey) (template : List ℕ) (e : EncryptionPlan) → read_encryption limits compact keys template ≡ Ok e → Settles keys e
   settles compact keys template e h = (settled compact keys template e h).0
 
-  -- .. which takes few iterations, ..
+  -- The encryption needs few enough iterations.
   pub takes_few : (compact : Bool) (keys : List OctetKey) (template : List ℕ) (e : EncryptionPlan) → read_encryption limits compact keys template ≡ Ok e → TakesFew limits e
   takes_few compact keys template e h = (settled compact keys template e h).1
 
-  -- .. and which compact form can hold where it is asked for
+  -- If compact form is asked for, it has room for the encryption.
   pub stands_alone : (compact : Bool) (keys : List OctetKey) (template : List ℕ) (e : EncryptionPlan) → read_encryption limits compact keys template ≡ Ok e → holds_no_more compact e ≡ true
   stands_alone compact keys template e h = (settled compact keys template e h).2

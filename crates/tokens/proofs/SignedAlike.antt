@@ -1,4 +1,4 @@
--- An object is built alike by any payload and any octets of its signatures.
+-- An object is built the same way with every payload and all octets of its signatures.
 use Rattle.std.proofs.Common.{◌≡◌, ℕ, Bool, true, false, nat_le, List, [], ◌∷◌, length, codes, Result, Ok, Err, refl, sym, ap, arith}
 use Rattle.std.specs.List.{list_all}
 use Rattle.serde_json.specs.Data.{Members, no_members, object, depth}
@@ -15,7 +15,7 @@ use Rattle.objects.specs.Jws.{SignatureParts, DecodedSignature, HeadedSignature,
 use Rattle.objects.specs.KeyManagement.{KeyManagement, key_management}
 use Rattle.objects.specs.Texts.{each, depth_of_each}
 
--- ---- each of a list with a value put into it
+-- ---- a value inserted into each element of a list
 
 abbrev pub with_all : {X : Type 0} → (X → List ℕ → X) → List X → List (List ℕ) → List X
 with_all put [] values = []
@@ -175,7 +175,7 @@ built_alike limits own payload parts values =
     by_tests true true true false r = refl
     by_tests true true true true r = by_decoded r
 
--- where no text of the object is compact, none is with other octets
+-- With other octets in its signatures, an object fits into compact form exactly if it did before.
 compact_alike : (ss : List Signature) (values : List (List ℕ)) → is_compact (with_octets ss values) ≡ is_compact ss
 compact_alike [] values = refl
 compact_alike (s ∷ []) [] = refl

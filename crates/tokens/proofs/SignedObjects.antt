@@ -27,15 +27,15 @@ use Rattle.tokens.proofs.HeaderTexts.{ReadsBack, read_back, stands, shallow_enou
 use Rattle.tokens.proofs.ReadLists.{each_gives, each_made, all_pass}
 use Rattle.tokens.proofs.SigningTemplates.{IsTemplate, is_template, IsSettled, settled_signer}
 
--- ---- what is settled
+-- ---- the signing that is settled
 
--- The protected header of a signer reads back, the joint header is good and names the algorithm, and the key may sign by it.
+-- The protected header of the signer reads back. The joint header is valid and names the algorithm, and the key may sign with it.
 pub record Signs (header : Members) (s : Signer) : Type 0 where
   pub settled : IsSettled header s
   pub back : ReadsBack s.protected
   pub may : may_sign s ≡ true
 
--- the signers are those of the keys in order
+-- the signers are those of the keys, in order
 pub record IsSigning (compact : Bool) (keys : List OctetKey) (s : Signing) : Type 0 where
   pub template : SignatureTemplate
   pub by_keys : each (signer_by template) keys ≡ Ok s.signers
@@ -45,7 +45,7 @@ pub record IsSigning (compact : Bool) (keys : List OctetKey) (s : Signing) : Typ
   pub shallow : is_shallow limits s.header ≡ true
   pub alone : compact_has_room compact s ≡ true
 
--- where the protected header is shallow enough and the key may sign, a signer that is settled signs
+-- A settled signer signs, if its protected header is shallow enough and its key may sign.
 may_and_shallow : (header : Members) (s : Signer) → IsSettled header s → (may_sign s ≡ true) × (is_shallow limits s.protected ≡ true) → Signs header s
 may_and_shallow header s is tests = record { settled = is; back = read_back s.protected is.json (stands limits s.protected (lit≤ tt) tests.1); may = tests.0 }
 
@@ -78,7 +78,7 @@ is_signing compact keys text s h =
 
 -- ---- the object
 
--- what each signer makes: the octets of the protected header, its members, and the signature with the name of the algorithm
+-- the decoded signature of a signer: the octets of the protected header, its members and the signature
 abbrev decoded_by : Members → List ℕ → Signer → DecodedSignature
 decoded_by header payload s = record { octets = header_text s.protected; parts = signature_by header payload s }
 
@@ -97,7 +97,7 @@ made_by header payload s = record {
 abbrev pub object_by : Signing → List ℕ → SignedObject
 object_by s payload = record { payload = payload; signatures = map (made_by s.header payload) s.signers }
 
--- each step gives it
+-- The signature of a signer is decoded to these parts.
 decodes : (header : Members) (payload : List ℕ) (s : Signer) → Signs header s → decoded_part (signature_by header payload s) ≡ Ok (decoded_by header payload s)
 unfolding decoded_part
 decodes header payload s is = rw (meaning_of_text (header_text s.protected) is.back.octets) refl
@@ -110,7 +110,7 @@ makes : (header : Members) (payload : List ℕ) (s : Signer) → Signs header s 
 unfolding jws.signature_by joint_header string_there
 makes header payload s is = rw (is.settled.disjoint, is.settled.alg, no_management s.alg) refl
 
--- so signing makes the object of its signers' signatures
+-- Signing makes the object of the signers' signatures.
 pub signed_is : (compact : Bool) (keys : List OctetKey) (s : Signing) (payload : List ℕ) → IsSigning compact keys s → nat_le 1 (length s.signers) ≡ true → are_few limits (length s.signers) ≡ true
     → signed limits s payload ≡ Ok (object_by s payload)
 unfolding signed built signed_object signatures_of
@@ -131,14 +131,14 @@ signed_is compact keys s payload is some few =
     all_pass headers_have_no_crit (headed_by s.header payload) (λ x h. and_from (has_no_crit x.protected) (has_no_crit s.header) h.settled.plain is.plain) s.signers is.signs in
     rw (shallow, whole, some_parts, few_parts, decoded, headed, made, plain) refl
 
--- ---- what is written of it
+-- ---- the texts of the object
 
--- an object that has a text is written so
+-- If an object has a text, this text and the detached payload are written.
 pub is_written : (compact detach : Bool) (o : SignedObject) (text : List ℕ) → jws_text compact detach o ≡ Ok text
     → written_of compact detach o ≡ Ok (record { text = text; content = handed_out detach o.payload })
 is_written compact detach o text h = rw h refl
 
--- what is written is the object's text, and its payload where it is detached
+-- The texts that are written are the object's text and, if it is detached, its payload.
 pub written_is : (compact detach : Bool) (o : SignedObject) (texts : OutputTexts) → written_of compact detach o ≡ Ok texts
     → (jws_text compact detach o ≡ Ok texts.text) × (texts.content ≡ handed_out detach o.payload)
 written_is compact detach o texts h =

@@ -1,4 +1,4 @@
--- What is signed verifies with each key alone that may verify.
+-- Every signed object is verified with each key alone that may verify.
 use Rattle.std.proofs.Common.{◌≡◌, ℕ, nat_le, Bool, true, false, List, [], ◌∷◌, ◌++◌, length, map, is_some, Option, Ok, IsUtf8, refl, sym, ap, ◌∙◌, subst}
 use Rattle.std.proofs.lemmas.Bool.{and_parts, and_from, or_left}
 use Rattle.std.proofs.lemmas.List.{length-map}
@@ -32,34 +32,34 @@ use Rattle.tokens.proofs.ReadLists.{some_passes}
 use Rattle.tokens.proofs.SignedObjects.{Signs, IsSigning, is_signing, made_by, object_by, signed_is, written_is}
 use Rattle.tokens.proofs.SigningTemplates.{key_is}
 
--- ---- the object is what its text spells
+-- ---- the object is the one that its text spells
 
--- a signature is octets
+-- A signature is octets.
 pub signature_octets : (alg : SignatureAlg) (key protected payload : List ℕ) → IsOctets (signature_of alg key protected payload)
 unfolding signature_of hmac
 signature_octets alg key protected payload = (signature_hash_law alg).octets _
 
--- the members of a signature are as they have to be
+-- The members of a signature are well formed.
 signature_members : (header : Members) (payload : List ℕ) → AreJsonMembers header → (s : Signer) → Signs header s
     → (let p = signature_by header payload s in IsUtf8 p.protected × (AreJsonMembers p.header × IsOctets p.signature))
 signature_members header payload json s is =
     let url = has_url_characters (header_text s.protected) is.back.octets in
     ((url_texts_are_json (protected_by s) url).0, (json, signature_octets s.alg s.key.octets (protected_by s) payload))
 
--- so are those of the object
+-- The members of the object are well formed.
 are_members : (s : Signing) (payload : List ℕ) → IsOctets payload → AreJsonMembers s.header → AllByRecursion (Signs s.header) s.signers → AreMembers (parts_by s payload)
 are_members s payload octets json signs = record {
   payload = octets;
   signatures = all_images (λ (p : SignatureParts). IsUtf8 p.protected × (AreJsonMembers p.header × IsOctets p.signature)) (signature_by s.header payload) (signature_members s.header payload json) s.signers signs;
 }
 
--- the object is read from its text in either form, where it is read from each
+-- If an object is read from its JSON text and its compact text, it is read from its text in the form that was asked for.
 form_is_read : (compact detach : Bool) (handed : Option (List ℕ)) (o : SignedObject) (text : List ℕ) → jws_of limits handed (json_text detach o) ≡ Ok o
     → ((text : List ℕ) → jws_compact_text detach o ≡ Ok text → jws_of limits handed text ≡ Ok o) → jws_text compact detach o ≡ Ok text → jws_of limits handed text ≡ Ok o
 form_is_read true detach handed o text json compact h = compact text h
 form_is_read false detach handed o text json compact h = ap (jws_of limits handed) (sym (same_answer (json_text detach o) text h)) ∙ json
 
--- so what is written is read as the object that signing makes
+-- The texts that are written are read as the object that signing makes.
 texts_are_read : TextsSpellObjects → (compact detach : Bool) (keys : List OctetKey) (s : Signing) (payload : List ℕ) (texts : OutputTexts) → IsOctets payload → IsSigning compact keys s
     → (signed limits s payload >>= written_of compact detach) ≡ Ok texts → jws_of limits (handed_in detach texts.content) texts.text ≡ Ok (object_by s payload)
 unfolding signed
@@ -77,31 +77,31 @@ texts_are_read spells compact detach keys s payload texts octets is h =
     ∙ sym o.1
     ∙ signed_is compact keys s payload is some few
 
--- ---- and the key verifies it
+-- ---- the key verifies the object
 
 -- a key that may verify, and the signature of its signer
 module _ (template : SignatureTemplate) (header : Members) (key : OctetKey) (payload : List ℕ) (may : allows key Verify ≡ true) where
-  -- the signature names the algorithm
+  -- The algorithm that the signature names is supported.
   supported : (s : Signer) → signer_by template key ≡ Ok s → Signs header s → is_some (signature_alg_of (made_by header payload s).alg) ≡ true
   supported s by is = rw (signature_named s.alg) refl
 
-  -- which the key fits, since it signed by it
+  -- The key fits the algorithm, since it signed with it.
   fits_alg : (s : Signer) → signer_by template key ≡ Ok s → Signs header s → fits key (SignedWith s.alg) ≡ true
   fits_alg s by is =
       ap (λ k. fits k (SignedWith s.alg)) (sym (key_is template key s by)) ∙ (and_parts (allows s.key Sign) (fits s.key (SignedWith s.alg)) is.may).1
 
-  -- so they are a candidate
+  -- The signature and the key are a candidate pair.
   candidate : (s : Signer) → signer_by template key ≡ Ok s → Signs header s → may_verify (made_by header payload s) key ≡ true
   candidate s by is = rw (signature_named s.alg, may, fits_alg s by is) refl
 
-  -- and the key verifies the signature
+  -- The key verifies the signature.
   verified : (s : Signer) → signer_by template key ≡ Ok s → Signs header s → verifies payload (made_by header payload s) key ≡ true
   verified s by is =
       let same : bytes_eq (signature_of s.alg s.key.octets (protected_by s) payload) (signature_of s.alg key.octets (protected_by s) payload) ≡ true =
       (bytes_eq-Decides _ _).1 (ap (λ (k : OctetKey). signature_of s.alg k.octets (protected_by s) payload) (key_is template key s by)) in
       rw (signature_named s.alg, may, fits_alg s by is, same) refl
 
--- so the object is verified with this key alone, and gives the payload
+-- The object is verified with this key alone, which returns the payload.
 payload_verified : (compact all : Bool) (before : List OctetKey) (key : OctetKey) (after : List OctetKey) (s : Signing) (payload : List ℕ) → allows key Verify ≡ true
     → IsSigning compact (before ++ key ∷ after) s → verifying_by all true (key ∷ []) (object_by s payload) ≡ Ok payload
 unfolding verifying_by verified_payload

@@ -1,4 +1,4 @@
--- What keys and a template settle makes an object of every payload, and its texts.
+-- If keys and a template settle a signing, every payload has an object, and this object has texts.
 use Rattle.std.proofs.Common.{◌≡◌, ℕ, suc, ◌≤◌, ◌&&◌, nat_le, Bool, true, false, not, List, [], ◌∷◌, length, map, Ok, refl, sym, ap, ◌∙◌, arith}
 use Rattle.std.proofs.lemmas.Bool.{and_parts, leb-true}
 use Rattle.serde_json.specs.Data.{Members, no_members, member}
@@ -13,7 +13,7 @@ use Rattle.tokens.specs.Signing.{Signer, Signing, signer_by, compact_has_room, r
 use Rattle.tokens.specs.Template.{is_empty}
 use Rattle.tokens.proofs.SignedObjects.{is_signing, made_by, object_by, signed_is, is_written}
 
--- where compact form can hold what is settled, it can hold the object
+-- An empty header has no members.
 no_members_there : (header : Members) → is_empty header ≡ true → not (has_members header) ≡ true
 no_members_there no_members h = refl
 no_members_there (member k d rest) h = cc h
@@ -25,7 +25,7 @@ fits header payload (s ∷ (other ∷ rest)) alone some =
     let few : suc (suc (length rest)) ≤ 1 = leb-true (suc (suc (length rest))) 1 (and_parts (nat_le (suc (suc (length rest))) 1) (is_empty header) alone).0 in
     absurd (omega arith)
 
--- so the object has a text
+-- The object has a text.
 has_text : (compact detach : Bool) (s : Signing) (payload : List ℕ) → compact_has_room compact s ≡ true → nat_le 1 (length s.signers) ≡ true
     → (text : List ℕ) × (jws_text compact detach (object_by s payload) ≡ Ok text)
 unfolding jws_compact_text

@@ -1,4 +1,4 @@
--- The plan of signing, which goes on as its payload does.
+-- The plan of signing grows with the payload.
 use Rattle.std.proofs.Common.{◌≡◌, ℕ, Bool, true, false, List, [], ◌++◌, map, Ok, refl, sym, ◌∙◌, subst, arith}
 use Rattle.octets.specs.Base64url.{base64url, whole_groups}
 use Rattle.octets.specs.Octets.{IsOctets}
@@ -13,12 +13,12 @@ use Rattle.tokens.specs.Signing.{Signing, text_before, text_fixed, plan_by, Sign
 use Rattle.tokens.proofs.Beginnings.{begins_behind, empty_begins, groups_grow, frame_begins, handed_out_begins, BothBegin, both_grow_by_beginnings}
 use Rattle.tokens.proofs.FramedSigning.{octets_by, whole_is, text_before_is, has_frame}
 
--- what is fixed of the text goes on
+-- The fixed part of the text grows with the payload.
 text_goes_on : (compact detach : Bool) (s : Signing) (p q : List ℕ) → Begins (text_fixed limits compact detach s p) (text_fixed limits compact detach s (p ++ q))
 text_goes_on compact true s p q = empty_begins []
 text_goes_on compact false s p q = begins_behind (text_before limits compact s) _ _ (groups_grow p (p ++ q) (record { rest = q; continues = refl }))
 
--- and begins the frame with the payload and the signatures in it
+-- The fixed part of the text begins the frame that is filled with the payload and the signatures.
 text_begins : (compact detach : Bool) (s : Signing) (o : SignedObject) (texts : List (List ℕ)) (p q : List ℕ) (signatures : List (List ℕ)) → unsigned_by limits s ≡ Ok o
     → IsJwsFrame compact detach o texts → Begins (text_fixed limits compact detach s p) (filled texts (in_places detach (p ++ q) signatures))
 text_begins compact true s o texts p q signatures made frame = empty_begins _
@@ -26,14 +26,14 @@ text_begins compact false s o texts p q signatures made frame =
     subst (λ t. Begins (t ++ base64url (whole_groups p)) (filled texts (in_places false (p ++ q) signatures))) (sym (text_before_is compact s o texts made frame))
     (frame_begins texts p (p ++ q) signatures (omega (arith, frame.places)) (record { rest = q; continues = refl }))
 
--- what a beginning of the payload fixes goes on with the payload
+-- On both outputs, the fixed part grows with the payload.
 both_go_on : (compact detach : Bool) (s : Signing) (p q : List ℕ) → BothBegin ((plan_by limits compact detach s).fixed p) ((plan_by limits compact detach s).fixed (p ++ q))
 both_go_on compact detach s p q = record {
   text = text_goes_on compact detach s p q;
   content = handed_out_begins detach p (p ++ q) (record { rest = q; continues = refl });
 }
 
--- and begins all that is written
+-- On both outputs, the fixed part begins everything that is written.
 both_begin_all : (compact detach : Bool) (s : Signing) (p q : List ℕ) (written : OutputTexts) → IsOctets (p ++ q) → (plan_by limits compact detach s).whole (p ++ q) ≡ Ok written
     → BothBegin ((plan_by limits compact detach s).fixed p) written
 both_begin_all compact detach s p q written octets h =
@@ -47,6 +47,6 @@ both_begin_all compact detach s p q written octets h =
       content = handed_out_begins detach p (p ++ q) (record { rest = q; continues = refl });
     })
 
--- so the plan of every signing goes on as its payload does
+-- Every plan of signing grows with its payload.
 pub signing_grows : SigningGrows
 signing_grows compact detach s = both_grow_by_beginnings (plan_by limits compact detach s) (both_go_on compact detach s) (both_begin_all compact detach s)

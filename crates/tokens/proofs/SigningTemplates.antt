@@ -1,4 +1,4 @@
--- What the text of a template of signatures says, and what it settles of each signer.
+-- The content of the text of a template for signatures, and the signers that it settles.
 use Rattle.std.proofs.Common.{◌≡◌, ℕ, ◌||◌, true, false, List, [], ◌∷◌, length, codes, if◌then◌else◌, Option, Some, None, is_some, is_none, Ok, Ordering, Less, Equal, Greater, nat_cmp, refl, sym, ◌∙◌, ap, subst, arith}
 use Rattle.std.proofs.lemmas.Bool.{or_from, or_parts, not-true}
 use Rattle.std.specs.Cmp.Lexicographic.{slice_cmp}
@@ -23,9 +23,9 @@ use Rattle.tokens.specs.Signing.{Signer, chosen_alg, signer_by}
 use Rattle.tokens.proofs.AlgorithmCases.{signature_name_is, signature_is_text}
 use Rattle.tokens.proofs.HeaderTexts.{members_json}
 
--- ---- what the headers of a template say
+-- ---- the headers of a template
 
--- both are as JSON has them
+-- Both headers are JSON.
 headers_json : (d : Data) (headers : Members × Members) → IsJson d → template_headers d ≡ Ok headers → AreJsonMembers headers.0 × AreJsonMembers headers.1
 unfolding template_headers
 headers_json d headers json h =
@@ -36,7 +36,7 @@ headers_json d headers json h =
     let both : AreJsonMembers c.0 × AreJsonMembers e.0 = (members_json d (codes "protected") c.0 json c.1, members_json d (codes "header") e.0 json e.1) in
     subst (λ hs. AreJsonMembers hs.0 × AreJsonMembers hs.1) (same_answer (c.0, e.0) headers e.2) both
 
--- They have no name in common and no `crit`, and name the algorithm together, if they do.
+-- The headers have no name in common and no `crit`. If one of them names an algorithm, it is this one.
 pub record Say (p u : Members) (a : Option SignatureAlg) : Type 0 where
   pub disjoint : are_disjoint p no_members u ≡ true
   pub plain : has_no_crit p ≡ true
@@ -45,16 +45,16 @@ pub record Say (p u : Members) (a : Option SignatureAlg) : Type 0 where
   pub alg : string_parameter (codes "alg") (all_members p no_members u) ≡ Ok name
   pub is : supported_if_there name ≡ Ok a
 
--- what neither has
+-- If an alternative of two options is absent, both options are.
 neither : (x y : Option Data) → is_none (option_or x y) ≡ true → (is_none x ≡ true) × (is_none y ≡ true)
 neither None y h = (refl, h)
 neither (Some d) y h = cc h
 
--- a name that is not in the joint header is in neither
+-- A name that is not in the joint header is in neither header.
 in_neither : (name : List ℕ) (p u : Members) → is_none (get_member name (all_members p no_members u)) ≡ true → (is_none (get_member name p) ≡ true) × (is_none (get_member name u) ≡ true)
 in_neither name p u h = neither (get_member name p) (get_member name u) (ap is_none (sym (get_member-all_members name p no_members u)) ∙ h)
 
--- so the headers of a template say
+-- If an algorithm is read from the headers, the headers say so.
 said : (p u : Members) (a : Option SignatureAlg) → named_alg p u ≡ Ok a → Say p u a
 unfolding named_alg joint_header
 said p u a h =
@@ -73,13 +73,13 @@ said p u a h =
       is = plain.2;
     }
 
--- what a template is
+-- the headers of the template are JSON and name its algorithm
 pub record IsTemplate (t : SignatureTemplate) : Type 0 where
   pub json : AreJsonMembers t.protected
   pub header_json : AreJsonMembers t.per_signature
   pub say : Say t.protected t.per_signature t.alg
 
--- where it is that of a value which is as JSON has it
+-- A template that is read from JSON has these properties.
 pub is_template : (value : Data) (t : SignatureTemplate) → IsJson value → template_of value ≡ Ok t → IsTemplate t
 unfolding template_of
 is_template value t json h =
@@ -89,14 +89,14 @@ is_template value t json h =
     subst IsTemplate (same_answer (record { protected = a.0.0; per_signature = a.0.1; alg = b.0 }) t b.2)
     (record { json = both.0; header_json = both.1; say = said a.0.0 a.0.1 b.0 b.1 })
 
--- ---- the algorithm that they name
+-- ---- the algorithm that the headers name
 
--- one is found
+-- If a lookup is supported, an algorithm was found.
 supported_is : (found : Option SignatureAlg) (a : Option SignatureAlg) → supported found ≡ Ok a → (alg : SignatureAlg) × (found ≡ Some alg) × (a ≡ Some alg)
 supported_is None a h = cc h
 supported_is (Some alg) a h = (alg, refl, sym (same_answer (Some alg) a h))
 
--- by its name
+-- If an algorithm is supported, the header has its name.
 named : (name : Option (List ℕ)) (alg : SignatureAlg) → supported_if_there name ≡ Ok (Some alg) → name ≡ Some (signature_name alg)
 named None alg h = cc h
 named (Some text) alg h =
@@ -104,12 +104,12 @@ named (Some text) alg h =
     let same : alg ≡ is.0 = cc (is.2) in
     ap Some (signature_name_is text is.0 is.1 ∙ ap signature_name (sym same))
 
--- and where none is named, there is no name
+-- If no algorithm is named, the header has no name.
 not_named : (name : Option (List ℕ)) → supported_if_there name ≡ Ok None → name ≡ None
 not_named None h = refl
 not_named (Some text) h = let is = supported_is (signature_alg_of text) None h in cc (is.2)
 
--- where no parameter is read, there is no member
+-- If no parameter is read, there is no member.
 no_member : (o : Option Data) → if_there as_str o ≡ Ok None → is_none o ≡ true
 no_member None h = refl
 no_member (Some d) h = by_text (as_str d) h
@@ -118,14 +118,14 @@ no_member (Some d) h = by_text (as_str d) h
     by_text None e = cc e
     by_text (Some x) e = cc e
 
--- ---- a parameter that is put into the protected header
+-- ---- a parameter that is inserted into the protected header
 
--- nothing stands in both of a header and an empty one
+-- No header overlaps the empty header.
 no_overlap : (m : Members) → overlap m no_members ≡ false
 no_overlap no_members = refl
 no_overlap (member name value rest) = no_overlap rest
 
--- so two headers alone are disjoint where no name stands in both
+-- If two headers are disjoint, they do not overlap.
 apart : (p u : Members) → are_disjoint p no_members u ≡ true → overlap p u ≡ false
 apart p u h =
     let all : (overlap p no_members || (overlap p u || overlap no_members u)) ≡ false = not-true _ h in
@@ -134,7 +134,7 @@ apart p u h =
 disjoint : (p u : Members) → overlap p u ≡ false → are_disjoint p no_members u ≡ true
 disjoint p u h = rw (no_overlap p, h) refl
 
--- a name that the other has not makes no overlap where it is put in
+-- Inserting a name that the other header does not have makes no overlap.
 overlap_at : (o : Ordering) (k l : List ℕ) (d e : Data) (ms more other : Members) → is_some (get_member k other) ≡ false → overlap (member l e ms) other ≡ false → overlap more other ≡ false
     → overlap (match_ordering o (member k d (member l e ms)) (member l d ms) (member l e more)) other ≡ false
 overlap_at Less k l d e ms more other none h later = or_from (is_some (get_member k other)) (overlap (member l e ms) other) none h
@@ -146,32 +146,32 @@ overlap-put k d no_members other none h = or_from (is_some (get_member k other))
 overlap-put k d (member l e ms) other none h =
     overlap_at (slice_cmp nat_cmp k l) k l d e ms (put k d ms) other none h (overlap-put k d ms other none (or_parts (is_some (get_member l other)) (overlap ms other) h).1)
 
--- what is not there
+-- An absent option is not there.
 is_absent : (o : Option Data) → is_none o ≡ true → is_some o ≡ false
 is_absent None h = refl
 is_absent (Some d) h = cc h
 
--- the parameter is read in the joint header
+-- The parameter that was inserted is read from the joint header.
 put_parameter : (name text : List ℕ) (p u : Members) → string_parameter name (all_members (put name (string text) p) no_members u) ≡ Ok (Some text)
 unfolding string_parameter
 put_parameter name text p u =
     ap (if_there as_str)
     (get_member-all_members name (put name (string text) p) no_members u ∙ ap (λ o. option_or o (option_or None (get_member name u))) (get_member-put name (string text) p))
 
--- and it is no `crit`
+-- The name `crit` is not the name `alg`.
 crit_is_not_alg : codes "crit" ≡ codes "alg" → ⊥
 crit_is_not_alg e = absurd (omega (arith, ap length e))
 
 -- ---- the signers
 
--- The joint header of a signer's signature is good, and names its algorithm.
+-- The joint header of the signer's signature is valid and names its algorithm.
 pub record IsSettled (header : Members) (s : Signer) : Type 0 where
   pub json : AreJsonMembers s.protected
   pub disjoint : are_disjoint s.protected no_members header ≡ true
   pub plain : has_no_crit s.protected ≡ true
   pub alg : string_parameter (codes "alg") (all_members s.protected no_members header) ≡ Ok (Some (signature_name s.alg))
 
--- by the chosen algorithm, which is put in where the template names none
+-- The signer with the chosen algorithm is settled. The algorithm is inserted if the template names none.
 settled_by : (p u : Members) (asked : Option SignatureAlg) (key : OctetKey) (alg : SignatureAlg) → AreJsonMembers p → Say p u asked → chosen_alg asked key ≡ Ok alg
     → IsSettled u (record { key = key; alg = alg; protected = if is_some asked then p else put (codes "alg") (string (signature_name alg)) p })
 unfolding string_parameter
@@ -194,7 +194,7 @@ settled_by p u None key alg json say chosen =
       alg = put_parameter (codes "alg") (signature_name alg) p u;
     }
 
--- so is the signer of each key
+-- The signer of each key is settled.
 pub settled_signer : (t : SignatureTemplate) (key : OctetKey) (s : Signer) → IsTemplate t → signer_by t key ≡ Ok s → IsSettled t.per_signature s
 unfolding signer_by
 settled_signer t key s is h =
@@ -202,7 +202,7 @@ settled_signer t key s is h =
     subst (IsSettled t.per_signature) (same_answer (record { key = key; alg = a.0; protected = with_alg t a.0 }) s a.2)
     (settled_by t.protected t.per_signature t.alg key a.0 is.json is.say a.1)
 
--- which has this key
+-- The signer of a key has this key.
 pub key_is : (t : SignatureTemplate) (key : OctetKey) (s : Signer) → signer_by t key ≡ Ok s → s.key ≡ key
 unfolding signer_by
 key_is t key s h =

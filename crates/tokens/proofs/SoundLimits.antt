@@ -1,4 +1,4 @@
--- The limits of this profile are such that what is written may be read.
+-- Under the limits of this profile, everything that is written may be read.
 use Rattle.std.proofs.Common.{lit≤, refl}
 use Rattle.keys.specs.Limits.{limits}
 use Rattle.tokens.specs.Encrypting.{AreSound}

@@ -1,4 +1,4 @@
--- What is encrypted fills the frame of its object.
+-- An encrypted plaintext fills the frame of its object.
 use Rattle.std.proofs.Common.{◌≡◌, Bool, true, false, List, ℕ, [], ◌∷◌, ◌++◌, Result, Ok, Err, refl, sym, ap, ◌∙◌, subst}
 use Rattle.octets.specs.declared.refusal.Refusal.{Refusal}
 use Rattle.octets.specs.Base64url.{base64url, whole_groups}
@@ -19,9 +19,9 @@ use Rattle.tokens.proofs.Beginnings.{groups_grow, text_grows}
 use Rattle.tokens.proofs.EncryptedObjects.{sealed_is}
 use Rattle.tokens.proofs.EncryptingGrowth.{more_fixed, fixed_begins}
 
--- ---- what is fixed of the ciphertext goes on
+-- ---- the growth of the ciphertext
 
--- where what is fixed of a ciphertext does
+-- If the text of the ciphertext grows, so does the text of the sealed plaintext.
 sealed_grows : (plan : Plan (List ℕ)) (e : EncryptionPlan) (random : List ℕ) → ((x y : List ℕ) → Begins x y → Begins (plan.fixed x) (plan.fixed y))
     → ((x y w : List ℕ) → Begins x y → plan.whole y ≡ Ok w → Begins (plan.fixed x) w) → Grows (sealed_plan plan (sealing_by e random))
 sealed_grows plan e random fixed whole = record {
@@ -41,7 +41,7 @@ plain_grows e random = sealed_grows as_it_is e random (λ x y b. b) (λ x y w b 
 
 -- ---- a plaintext that is refused
 
--- what all of it becomes is written, so it is refused as it is sealed
+-- A text that never refuses a ciphertext is refused only if sealing is.
 pub sealed_refused : (plan : Plan (List ℕ)) (s : Sealing) (p : List ℕ) (r : Refusal) → ((c : List ℕ) (e : Refusal) → plan.whole c ≡ Err e → ⊥) → (sealed_plan plan s).whole p ≡ Err r → sealed_by s p ≡ Err r
 sealed_refused plan s p r never h = by_answer (sealed_by s p) refl
   where
@@ -52,19 +52,19 @@ sealed_refused plan s p r never h = by_answer (sealed_by s p) refl
         let same : e ≡ r = cc both in
         ap Err same
 
--- is so as a whole
+-- If sealing is refused, so is the whole plan.
 pub encryption_refused : (compact detach : Bool) (e : EncryptionPlan) (random p : List ℕ) (r : Refusal) → sealed_by (sealing_by e random) p ≡ Err r → (plan_by limits compact detach e random).whole p ≡ Err r
 unfolding encrypted
 encryption_refused compact detach e random p r h = ap (λ x. (x >>= λ s. built limits (parts_by e random s)) >>= written_of compact detach) h
 
--- ---- what is written of a sealed plaintext
+-- ---- the texts of a sealed plaintext
 
--- the text of its tag
+-- the text of the tag
 abbrev pub tag_of : Sealing → List ℕ → List (List ℕ)
 tag_of s p = base64url (s.sealed p).tag ∷ []
 
 module _ {S : Type 0} (is_sealing : S → Sealing → List ℕ → Type 0) (compact : Bool) (plan : Result (Plan OutputTexts) Refusal) (sealer : S) (texts : List (List ℕ)) where
-  -- the ciphertext's text goes out inside the texts
+  -- The ciphertext's text is written inside the texts.
   pub inside_framing : (u : IsUnsealed is_sealing compact false plan sealer texts)
       → IsFraming false texts (sealed_plan encoding (sealing_by u.encryption u.random)) (tag_of (sealing_by u.encryption u.random)) (plan_by limits compact false u.encryption u.random)
   inside_framing u = record {
@@ -80,7 +80,7 @@ module _ {S : Type 0} (is_sealing : S → Sealing → List ℕ → Type 0) (comp
     fixed = λ q. ap (λ t. record { text = t ++ base64url (whole_groups (ciphertext_fixed u.encryption u.random q)); content = [] }) (u.before refl);
   }
 
-  -- the ciphertext goes out beside them
+  -- The ciphertext is written next to the texts.
   pub beside_framing : (u : IsUnsealed is_sealing compact true plan sealer texts)
       → IsFraming true texts (sealed_plan as_it_is (sealing_by u.encryption u.random)) (tag_of (sealing_by u.encryption u.random)) (plan_by limits compact true u.encryption u.random)
   beside_framing u = record {

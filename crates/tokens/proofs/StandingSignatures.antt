@@ -1,4 +1,4 @@
--- What is signed fills the frame of its object.
+-- A signed payload fills the frame of its object.
 use Rattle.std.proofs.Common.{◌≡◌, ℕ, ◌+◌, Bool, true, false, List, [], ◌∷◌, ◌++◌, length, take, drop, get_or, map, Result, Ok, refl, sym, ap, ◌∙◌, subst, arith}
 use Rattle.std.proofs.lemmas.List.{take_all, take-append-le, length-map}
 use Rattle.octets.specs.declared.refusal.Refusal.{Refusal}
@@ -15,13 +15,13 @@ use Rattle.tokens.specs.Signing.{plan_by}
 use Rattle.tokens.specs.Code.SigningInputs.{InputStart, HoldEach, GiveSignatures, IsFramed, signature_text, start_of}
 use Rattle.tokens.proofs.FramedSigning.{texts_are, unsigned_count, whole_is, text_before_is}
 
--- the first of a list, and the others
+-- A list that is not empty is its first element and the others.
 pub first_and_others : {A : Type 0} (bytes : A → List ℕ) (items : List A) (x : A) (n : ℕ) (first : List ℕ) → length (map bytes items) ≡ 2 + n → x ≡ get_or items 0 x → first ≡ bytes x
     → map bytes items ≡ first ∷ map bytes (drop 1 items)
 first_and_others bytes [] x n first long is same = absurd (omega (arith, long))
 first_and_others bytes (y ∷ items) x n first long is same = ap (λ t. t ∷ map bytes items) (sym (same ∙ ap bytes is))
 
--- what is written back to a vector is all of it
+-- If a whole vector is written back, all of it is the new content.
 pub written_back : {A : Type 0} (new items : List A) (n : ℕ) → n ≡ length items → length new ≡ length items → take n (new ++ drop (length new) items) ≡ new
 written_back new items n long same = take-append-le n new (drop (length new) items) (omega (arith, long, same)) ∙ take_all n new (omega (arith, long, same))
 
@@ -34,7 +34,7 @@ module _ {S : Type 0} (has_taken : S → HashFunction → List ℕ → List ℕ 
   count detach f p =
       unsigned_count f.signing f.object f.made ∙ sym (length-map f.signing.signers start_of) ∙ sym (length-map (map start_of f.signing.signers) (signature_text (base64url p)))
 
-  -- the payload's text goes out inside the texts
+  -- The payload's text is written inside the texts.
   pub inside_framing : (f : IsFramed has_taken compact false plan inputs texts) → IsFraming false texts encoding (signatures_of false f) (plan_by limits compact false f.signing)
   inside_framing f = record {
     grows = encoding_grows;
@@ -47,7 +47,7 @@ module _ {S : Type 0} (has_taken : S → HashFunction → List ℕ → List ℕ 
     fixed = λ q. ap (λ t. record { text = t ++ base64url (whole_groups q); content = [] }) (text_before_is compact f.signing f.object texts f.made f.frame);
   }
 
-  -- the payload goes out beside them
+  -- The payload is written next to the texts.
   pub beside_framing : (f : IsFramed has_taken compact true plan inputs texts) → IsFraming true texts as_it_is (signatures_of true f) (plan_by limits compact true f.signing)
   beside_framing f = record {
     grows = as_it_is_grows;

@@ -6,13 +6,13 @@ use Rattle.tokens.specs.Signing.{Signer, protected_by}
 use Rattle.tokens.specs.Code.SigningInputs.{InputStart, HoldEach, start_of}
 
 module _ {S : Type 0} (has_taken : S → HashFunction → List ℕ → List ℕ → Type 0) where
-  -- the inputs so far, and those that are left to begin, are all
+  -- the inputs so far and those that are not yet started are all inputs
   pub record AreStarted (inputs : List S) (left all : List InputStart) : Type 0 where
     pub first : List InputStart
     pub parts : first ++ left ≡ all
     pub hold : HoldEach has_taken inputs first []
 
-  -- one more
+  -- One more input is started.
   pub hold_more : (inputs : List S) (starts : List InputStart) (x : S) (s : InputStart) → HoldEach has_taken inputs starts [] → has_taken x (signature_hash s.alg) s.key (s.protected ++ codes ".")
       → HoldEach has_taken (inputs ++ (x ∷ [])) (starts ++ (s ∷ [])) []
   hold_more [] [] x s h here = (subst (has_taken x (signature_hash s.alg) s.key) (sym (append-nil (s.protected ++ codes "."))) here, tt)
@@ -20,7 +20,7 @@ module _ {S : Type 0} (has_taken : S → HashFunction → List ℕ → List ℕ 
   hold_more (i ∷ inputs) [] x s h here = absurd h
   hold_more (i ∷ inputs) (other ∷ starts) x s h here = (h.0, hold_more inputs starts x s h.1 here)
 
-  -- those of one more key or signature
+  -- The inputs of one more key or signature are started.
   pub more_started : (inputs new : List S) (left some rest all : List InputStart) → left ≡ some ++ rest → ((starts : List InputStart) → HoldEach has_taken inputs starts [] → HoldEach has_taken new (starts ++ some) [])
       → AreStarted inputs left all → AreStarted new rest all
   more_started inputs new left some rest all is pushes k = record {
@@ -29,11 +29,11 @@ module _ {S : Type 0} (has_taken : S → HashFunction → List ℕ → List ℕ 
     hold = pushes k.first k.hold;
   }
 
-  -- where none is left all are started
+  -- If no input is left, all are started.
   pub all_started : (inputs : List S) (left all : List InputStart) → left ≡ [] → AreStarted inputs left all → HoldEach has_taken inputs all []
   all_started inputs left all none k = subst (λ l. HoldEach has_taken inputs l []) (sym (append-nil k.first) ∙ ap (λ l. k.first ++ l) (sym none) ∙ k.parts) k.hold
 
-  -- The inputs are those of the signers so far, and these are the texts of the protected headers of those that are left.
+  -- The inputs are those of the signers so far. The texts are the protected headers of the signers that are left.
   pub record AreStartedBy (inputs : List S) (all left : List Signer) (texts : List (List ℕ)) : Type 0 where
     pub started : AreStarted inputs (map start_of left) (map start_of all)
     pub theirs : texts ≡ map protected_by left

@@ -1,4 +1,4 @@
--- A test of some element of a list that another stands for.
+-- Tests of the elements of a list, seen by a view.
 use Rattle.std.proofs.Common.{◌≡◌, Bool, List, [], ◌∷◌, map, refl, ap}
 use Rattle.std.proofs.lemmas.List.Folds.{list_all-map}
 use Rattle.std.specs.List.{list_any}
@@ -8,5 +8,5 @@ pub list_any-map : {X : Type 0} (test : X → Bool) {Y : Type 0} (view : Y → X
 list_any-map test view [] = refl
 list_any-map test view (y ∷ ys) = ap (λ rest. test (view y) || rest) (list_any-map test view ys)
 
--- tests of lists, seen by a view
+-- tests of mapped lists
 pub ruleset views = (list_any-map, list_all-map)

@@ -1,4 +1,4 @@
--- Signing inputs of the candidate pairs of a key and a signature, which are taken from the front.
+-- Signing inputs of the candidate pairs of a key and a signature, which are consumed from the front.
 use Rattle.std.proofs.Common.{◌≡◌, ◌↔◌, ℕ, List, [], ◌∷◌, ◌++◌, codes, Bool, true, false, not, ◌&&◌, ◌||◌, Option, Some, None, is_none, Result, Ok, Err, refl, sym, ap, subst, ◌∙◌, append_assoc, IsTrue}
 use Rattle.std.proofs.Math.Bool.{beq}
 use Rattle.std.proofs.lemmas.Bool.Decides.{same_from_decides, Decides-like}
@@ -20,15 +20,15 @@ use Rattle.tokens.specs.Verifying.{is_signed, verifies, are_verified, verified_p
 use Rattle.tokens.specs.Code.VerifyingInputs.{starts_by}
 
 module _ {S : Type 0} (has_taken : S → HashFunction → List ℕ → List ℕ → Type 0) where
-  -- ---- taken from the front
+  -- ---- inputs that are consumed from the front
 
-  -- where a pair is no candidate it has no input
+  -- A pair that is not a candidate has no input.
   pub none_for_pair : (a : Option SignatureAlg) (s : Signature) (key : OctetKey) (inputs : List S) (later : List InputStart) (text : List ℕ) → is_none a ≡ true
       → HoldEach has_taken inputs (starts_by a s key ++ later) text → HoldEach has_taken inputs later text
   none_for_pair None s key inputs later text none h = h
   none_for_pair (Some alg) s key inputs later text none h = cc none
 
-  -- the input of a pair that is a candidate
+  -- the input of a candidate pair
   pub record First (a : Option SignatureAlg) (s : Signature) (key : OctetKey) (x : S) (rest : List S) (later : List InputStart) (text : List ℕ) : Type 0 where
     pub alg : SignatureAlg
     pub is : a ≡ Some alg
@@ -42,13 +42,13 @@ module _ {S : Type 0} (has_taken : S → HashFunction → List ℕ → List ℕ 
       let all = subst (λ i. HoldEach has_taken i (starts_by (Some alg) s key ++ later) text) is h in
       record { alg = alg; is = refl; here = all.0; others = all.1 }
 
-  -- it is there
+  -- A candidate pair has an input.
   pub first_is_there : (a : Option SignatureAlg) (s : Signature) (key : OctetKey) (inputs : List S) (later : List InputStart) (text : List ℕ) → is_none a ≡ false → inputs ≡ []
       → HoldEach has_taken inputs (starts_by a s key ++ later) text → ⊥
   first_is_there None s key inputs later text some is h = cc some
   first_is_there (Some alg) s key inputs later text some is h = subst (λ i. HoldEach has_taken i (starts_by (Some alg) s key ++ later) text) is h
 
--- the key signed where the signature is that of the input
+-- The key made the signature exactly if the signature is the HMAC of the input.
 pub made_signature : (alg : SignatureAlg) (payload : List ℕ) (s : Signature) (key : OctetKey) (mac signature : List ℕ) (same : Bool) → signature ≡ s.signature → (IsTrue same ↔ (mac ≡ signature))
     → mac ≡ hmac (signature_hash alg) key.octets ((s.protected ++ codes ".") ++ base64url payload) → same ≡ is_signed alg payload s key
 unfolding signature_of
@@ -57,9 +57,9 @@ made_signature alg payload s key mac signature same there test made =
     same_from_decides same (bytes_eq s.signature (signature_of alg key.octets s.protected payload)) (test.0, test.1)
     (Decides-like _ (λ e. is ∙ sym e ∙ sym there) (λ e. sym there ∙ sym e ∙ is) (bytes_eq-Decides s.signature (signature_of alg key.octets s.protected payload)))
 
--- ---- over the keys, and over the signatures of each
+-- ---- over all keys and all signatures of each key
 
--- each key made a signature, where that is asked for, or else some key made some
+-- each key made some signature or, if not all keys are asked, some key made one
 abbrev pub have_signed : Bool → List ℕ → List Signature → List OctetKey → Bool
 have_signed true payload signatures keys = list_all (λ key. list_any (λ s. verifies payload s key) signatures) keys
 have_signed false payload signatures keys = list_any (λ key. list_any (λ s. verifies payload s key) signatures) keys
@@ -76,7 +76,7 @@ module _ (payload : List ℕ) where
   swap_or false false true d = refl
   swap_or false false false d = refl
 
-  -- some key made the first signature, or one of the others
+  -- Some key made the first signature or one of the others exactly if some key made one of them all.
   first_or_other : (s : Signature) (signatures : List Signature) (keys : List OctetKey)
       → (list_any (verifies payload s) keys || list_any (λ key. list_any (λ s. verifies payload s key) signatures) keys) ≡ list_any (λ key. list_any (λ s. verifies payload s key) (s ∷ signatures)) keys
   first_or_other s signatures [] = refl
@@ -84,7 +84,7 @@ module _ (payload : List ℕ) where
       swap_or (verifies payload s key) (list_any (verifies payload s) keys) (list_any (λ s. verifies payload s key) signatures) (list_any (λ key. list_any (λ s. verifies payload s key) signatures) keys)
       ∙ ap (λ rest. (verifies payload s key || list_any (λ s. verifies payload s key) signatures) || rest) (first_or_other s signatures keys)
 
-  -- some key made some signature, whichever are gone through first
+  -- It does not matter whether signatures or keys come first: some key made some signature.
   by_signature : (signatures : List Signature) (keys : List OctetKey)
       → list_any (λ s. list_any (verifies payload s) keys) signatures ≡ list_any (λ key. list_any (λ s. verifies payload s key) signatures) keys
   by_signature [] keys = sym (none_by_none keys)
@@ -94,7 +94,7 @@ module _ (payload : List ℕ) where
   are_verified_by_keys true signatures keys = refl
   are_verified_by_keys false signatures keys = sym (by_signature signatures keys)
 
-  -- where a key is not as is asked, it decides
+  -- If the result of a key differs from `all`, it is the result of all keys.
   pub decided : (all signed : Bool) (signatures : List Signature) (key : OctetKey) (keys : List OctetKey) → signed ≡ list_any (λ s. verifies payload s key) signatures → not (beq signed all) ≡ true
       → have_signed all payload signatures (key ∷ keys) ≡ signed
   decided true true signatures key keys is other = cc other
@@ -102,14 +102,14 @@ module _ (payload : List ℕ) where
   decided false true signatures key keys is other = ap (λ b. b || list_any (λ key. list_any (λ s. verifies payload s key) signatures) keys) (sym is)
   decided false false signatures key keys is other = cc other
 
-  -- where no key is left, none was otherwise
+  -- If no key is left, the result is `all`.
   pub none_left : (all : Bool) (signatures : List Signature) → have_signed all payload signatures [] ≡ all
   none_left true signatures = refl
   none_left false signatures = refl
 
--- ---- the answer
+-- ---- the result
 
--- the payload is not wanted
+-- The payload is not returned if it is not needed.
 pub unwanted : (all : Bool) (keys : List OctetKey) (o : SignedObject) (payload : List ℕ) (r : Result (Unit {0}) Refusal) → Agrees (λ done. payload) r (verified_payload all keys o)
     → AgreesUnlessExternal (verifying_by all false keys o) [] r
 unfolding verifying_by

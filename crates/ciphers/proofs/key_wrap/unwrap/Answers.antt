@@ -7,7 +7,7 @@ use Rattle.ciphers.proofs.Table.{first_row, first_row_check, wrapped_of_row}
 use Rattle.ciphers.proofs.Unwrapping.{last_row, unwrapping_long}
 use Rattle.ciphers.proofs.key_wrap.unwrap.Goals as goal
 
--- the steps start from the wrapped text
+-- The steps start from the wrapped text.
 module _ (w a r : List ℕ) (front : a ≡ take 8 w) (back : r ≡ take (length w - 8) (drop 8 w)) where
   text : a ++ r ≡ w
   text =

@@ -33,7 +33,7 @@ module _
       let short : length encrypted ≤ 72 = omega (arith, unwrapping_long e d law encrypted cek u, fits, (content_row enc).most) in
       one_unwrapping e d law encrypted cek other short u (unwrapping enc key p encrypted e other b)
 
-  -- a key that is used directly is the content encryption key
+  -- A key that is used directly is the content encryption key.
   is_key : (x : List ℕ) → Delivers directly enc key p encrypted x → x ≡ key
   is_key x d = (bytes_eq-Decides x key).0 ((decided enc key p encrypted directly x).0 d.is_delivered).1.1
 

@@ -3,7 +3,7 @@ use Rattle.serde_json.specs.Data.{items_depth, members_depth}
 use Rattle.serde_json.specs.View.{items_view, members_view}
 use Rattle.keys.proofs.strict_json.+depth.Given as goal
 
--- what is left nests at most so deep exactly where all of it does
+-- the items that are left are at most this deep exactly if all items are
 abbrev pub invariant-items_nest_at_most-loop-item : goal.invariant-items_nest_at_most-loop-item
 invariant-items_nest_at_most-loop-item l =
     nat_le (items_depth (items_view (drop l.item-index l.item-items))) l.depth ≡ nat_le (items_depth (items_view l.item-items)) l.depth

@@ -1,6 +1,6 @@
 use Rattle.std.specs.Io.KnownBytes.{Keeps}
 use Rattle.octets.proofs.streams.write_once.Given as goal
 
--- what was interrupted left the writer as it was
+-- the calls that were interrupted left the writer unchanged
 abbrev pub invariant-writes : goal.invariant-writes
 invariant-writes g l = Keeps (g.W.Write.contents l.fn.writer) (g.W.Write.contents l.writer)

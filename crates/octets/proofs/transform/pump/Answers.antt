@@ -14,7 +14,7 @@ use Rattle.octets.proofs.transform.pump.Goals as goal
 
 -- ---- a piece was read
 
--- what the transform gave of it is due behind the text that was
+-- The text that the transform returned is due after the text that already was.
 text_due : (g : Over) (c : In_ok-text g) (job : g.T.Transform.Job) → g.T.Transform.is_fed c.args.transform job []
     → Due (behind c.args.before.now (g.T.Transform.plan job)) (g.I.Input.consumed c.args.content.now) (g.I.Input.consumed c.read_piece.new.content) (g.O.Output.written c.args.out.now) (g.O.Output.written c.pieces.out)
     (c.pieces.front.now ++ c.in_ok-text.text.now)
@@ -29,7 +29,7 @@ text_due g c job fed =
 no_more : (read now buf : List ℕ) (n : ℕ) → now ≡ read ++ take n buf → n ≡ 0 → now ≡ read
 no_more read now buf n piece none = piece ∙ ap (λ n. read ++ take n buf) none ∙ append-nil read
 
--- what the transform gave last makes the answer whole
+-- The last text that the transform returned completes the answer.
 last_text : (g : Over) (c : In_ok-text-2 g) (job : g.T.Transform.Job) → g.T.Transform.is_fed c.args.transform job []
     → Last (behind c.args.before.now (g.T.Transform.plan job)) (g.I.Input.consumed c.args.content.now) (g.I.Input.consumed c.read_piece.new.content) (g.O.Output.written c.args.out.now) (g.O.Output.written c.pieces.out)
     (c.pieces.front.now ++ c.in_ok-text-2.text.now)
@@ -39,7 +39,7 @@ last_text g c job fed =
     (sym (no_more _ _ _ _ c.in_ok-n.ensures.piece c.if-n-eq0.true))
     (last_due _ _ _ _ _ _ _ (i.due job fed) (behind_ends c.args.before.now (g.T.Transform.plan job) _ _ (c.in_ok-text-2.ensures.text job _ (i.fed job fed) i.octets)))
 
--- ---- each return
+-- ---- every way to return
 
 pub returns-in_err-n-clause-beginning : goal.returns-in_err-n-clause-beginning
 returns-in_err-n-clause-beginning g c job fed grows =

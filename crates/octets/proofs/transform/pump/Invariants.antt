@@ -6,7 +6,7 @@ use Rattle.octets.specs.Code.Streams.{behind, Extends}
 use Rattle.octets.proofs.Streaming.{Due}
 use Rattle.octets.proofs.transform.pump.Given as goal
 
--- All that was read was fed, and all that it fixes stands, once the text before it is written.
+-- everything that was read was fed, and everything that it fixes is on the output once the text before it is written
 abbrev pub invariant-pieces : goal.invariant-pieces
 invariant-pieces g l =
     let input = g.I.Input in

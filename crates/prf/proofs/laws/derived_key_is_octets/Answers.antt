@@ -23,7 +23,7 @@ IsOctets-xor_octets x y a b =
     let sum = λ (i : ℕ). bit_xor (slice_index x i) (slice_index y i) in
     IsOctets-map sum (range_with_len 0 (length x)) (λ i. xor_of_8 (slice_index x i) (slice_index y i) (a i) (b i))
 
--- the sum of the first octet string and of n others, from number a on
+-- The sum of the first octet string and of n others, from number a on, is octets.
 sum : (u : ℕ → List ℕ) → ((j : ℕ) → 1 ≤ j → IsOctets (u j)) → (first : List ℕ) → IsOctets first → (a n : ℕ) → 1 ≤ a
     → IsOctets (fold xor_octets first (map u (range_with_len a n)))
 sum u each first octets a zero from = octets

@@ -6,7 +6,8 @@ use Rattle.tokens.specs.Code.Views.{pair_view, sealed_with_view, work_view}
 use Rattle.tokens.proofs.Iterations.{within_after}
 use Rattle.tokens.proofs.decrypt.open_pairs.Given as goal
 
--- the pairs so far open nothing, those that are left open what all of them do, and their work is what is left of the whole and within the limits
+-- the pairs so far open nothing, the pairs that are left open the same as all pairs, and their iterations are the rest of the whole and
+-- within the limits
 abbrev pub invariant-loop-i : goal.invariant-loop-i
 invariant-loop-i l =
     let s : SealedContent = sealed_with_view l.sealed l.initial.octets in

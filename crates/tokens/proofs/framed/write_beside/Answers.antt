@@ -10,15 +10,15 @@ use Rattle.tokens.proofs.framed.write_beside.Given.{Over}
 use Rattle.tokens.proofs.framed.write_beside.Goals.{In_ok-rest}
 use Rattle.tokens.proofs.framed.write_beside.Goals as goal
 
--- the plan is of these texts
+-- the plan fills the frame of these texts
 abbrev Framed : (g : Over) → g.row.T.Denot → List (String Global) → Plan OutputTexts → Type 0
 Framed g transform texts plan = FillsFrame g.T.Transform.is_fed g.T.Transform.plan g.T.Transform.is_left g.T.Rest.Values.gives true transform (map string_bytes texts) plan
 
--- octets were read
+-- The input that was read is octets.
 read : (g : Over) (old new : g.row.I.Denot) → IsOctets (appended (g.I.Input.consumed old) (g.I.Input.consumed new))
 read g old new = IsOctets-drop (length (g.I.Input.consumed old)) _ (g.met.I.Input.gives_octets new)
 
--- all of the content was pumped
+-- All of the content was written.
 whole : (g : Over) (c : In_ok-rest g) (plan : Plan OutputTexts) (f : Framed g c.args.transform c.args.texts.now plan)
     → IsWhole [] (g.T.Transform.plan f.job) (appended (g.I.Input.consumed c.args.content.now) (g.I.Input.consumed c.pump.new.content)) (g.O.Output.written c.args.detached.now) (g.O.Output.written c.pump.new.out)
 whole g c plan f =

@@ -12,7 +12,7 @@ use Rattle.tokens.proofs.framed.write_inside.Given.{Over}
 use Rattle.tokens.proofs.framed.write_inside.Goals.{After-as_bytes, In_ok-rest}
 use Rattle.tokens.proofs.framed.write_inside.Goals as goal
 
--- the plan is of these texts
+-- the plan fills the frame of these texts
 abbrev Framed : (g : Over) → g.row.T.Denot → List (String Global) → Plan OutputTexts → Type 0
 Framed g transform texts plan = FillsFrame g.T.Transform.is_fed g.T.Transform.plan g.T.Transform.is_left g.T.Rest.Values.gives false transform (map string_bytes texts) plan
 
@@ -22,11 +22,11 @@ framing g c plan f =
     subst (λ t. IsFraming false t (g.T.Transform.plan f.job) f.values plan)
     (ap (map string_bytes) c.in-Some.ensures.cases.0 ∙ ap (λ t. t ∷ map string_bytes c.in-Some.others.now) (sym c.as_bytes.ensures.value)) f.framing
 
--- octets were read
+-- The input that was read is octets.
 read : (g : Over) (old new : g.row.I.Denot) → IsOctets (appended (g.I.Input.consumed old) (g.I.Input.consumed new))
 read g old new = IsOctets-drop (length (g.I.Input.consumed old)) _ (g.met.I.Input.gives_octets new)
 
--- all of the content was pumped
+-- All of the content was written.
 whole : (g : Over) (c : In_ok-rest g) (plan : Plan OutputTexts) (f : Framed g c.args.transform c.args.texts.now plan)
     → IsWhole c.as_bytes.result.now (g.T.Transform.plan f.job) (appended (g.I.Input.consumed c.args.content.now) (g.I.Input.consumed c.pump.new.content)) (g.O.Output.written c.args.out.now) (g.O.Output.written c.pump.new.out)
 whole g c plan f =

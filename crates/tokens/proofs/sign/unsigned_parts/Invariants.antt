@@ -5,7 +5,7 @@ use Rattle.tokens.specs.Code.SigningInputs.{unsigned_part_by}
 use Rattle.tokens.specs.Code.Views.{signer_view}
 use Rattle.tokens.proofs.sign.unsigned_parts.Given as goal
 
--- what is known of the signatures of the signers so far
+-- the parts so far are those of the signers so far
 abbrev pub invariant-loop-signer : goal.invariant-loop-signer
 invariant-loop-signer l =
     map signature_parts_view l.parts.items ≡ map (unsigned_part_by (members_view l.signing.header.entries)) (map signer_view (take l.signer-index l.signing.signers.items))

@@ -6,7 +6,7 @@ use Rattle.octets.specs.Devices.{appended}
 use Rattle.tokens.specs.Code.SigningInputs.{InputStart, HoldEach}
 use Rattle.tokens.proofs.signing_input.take_content.Given as goal
 
--- Each has taken the text of the whole groups of what was read, and the octets after these wait.
+-- each input has absorbed the text of the whole groups that were read, and the octets after them are waiting
 abbrev pub invariant-pieces : goal.invariant-pieces
 invariant-pieces g l =
     let input = g.I.Input in

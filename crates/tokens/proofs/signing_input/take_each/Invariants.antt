@@ -3,7 +3,7 @@ use Rattle.tokens.specs.Code.SigningInputs.{InputStart, HoldEach}
 use Rattle.tokens.proofs.HeldInputs.{HoldFirst}
 use Rattle.tokens.proofs.signing_input.take_each.Given as goal
 
--- Those before the index have taken the piece.
+-- the inputs before the index have absorbed the piece
 abbrev pub invariant-loop-input : goal.invariant-loop-input
 invariant-loop-input g l =
     let has_taken = g.S.SigningInput.has_taken in

@@ -32,7 +32,7 @@ returns-then-piece-space-clause-text g c e iv p f =
     fed_text e iv p s.previous w f.previous f.waiting x [] (w ++ x) 0 refl refl short
     ∙ ap (λ t. cbc_blocks e iv p ++ t) (none_alone e s.previous [] (omega arith))
 
--- the block that is filled is encrypted by one step
+-- The block that is filled is encrypted in one step.
 first_block : (e h : List ℕ → List ℕ) (previous last b block : List ℕ) → last ≡ chained h previous b (length b / 16) → b ≡ block → length block ≡ 16 → h ≡ e → last ≡ chained e previous block 1
 first_block e h previous last b block is same sixteen cipher =
     is ∙ ap₂ (λ f x. chained f previous x (length x / 16)) cipher same ∙ ap (chained e previous block) (let z : length block / 16 ≡ 1 = omega (arith, sixteen) in z)

@@ -6,7 +6,7 @@ use Rattle.objects.specs.Code.Views.{recipient_view, recipient_members_view}
 use Rattle.objects.proofs.Each.{with_done}
 use Rattle.objects.proofs.jwe.recipient.read_recipients.Given as goal
 
--- the recipients so far and those of the parts that are left are all of them
+-- the recipients so far and those of the parts that are left are all recipients
 abbrev pub invariant-loop-recipient : goal.invariant-loop-recipient
 invariant-loop-recipient l =
     let protected = members_view l.fn.protected.entries in

@@ -10,12 +10,12 @@ use Rattle.octets.proofs.Settling.{joined, settled_front, unsettled_front, unset
 use Rattle.octets.proofs.reader.B64ReaderTransform.feed.Goals.{After-saturating_sub}
 use Rattle.octets.proofs.reader.B64ReaderTransform.feed.Goals as goal
 
--- what waited, and the piece after it
+-- The cells hold the waiting characters, followed by the piece.
 text_is : (c : After-saturating_sub) → (take (c.self.inside.count + length c.args.piece.now) c.join.new.octets ≡ c.args.self.now ++ c.args.piece.now)
     × (length (c.args.self.now ++ c.args.piece.now) ≡ c.self.inside.count + length c.args.piece.now)
 text_is c = joined c.self.inside.waiting c.join.new.octets c.args.piece.now c.args.self.now c.self.inside.count (omega (arith, c.self.told, c.self.invariant)) c.self.view_is c.join.ensures
 
--- what is decoded is what is settled now
+-- The characters that are decoded are those that are settled now.
 front_is : (c : After-saturating_sub) (p : List ℕ) → c.args.self.now ≡ unsettled p → take (c.saturating_sub.result / 4 * 4) c.join.new.octets ≡ settled (unsettled p ++ c.args.piece.now)
 front_is c p fed =
     let text = text_is c in

@@ -5,7 +5,7 @@ use Rattle.tokens.specs.Code.Views.{pair_view}
 use Rattle.tokens.proofs.Iterations.{within_after}
 use Rattle.tokens.proofs.decrypt.pairs.are_within.Given as goal
 
--- the pairs that are left are within the limits after those so far where all of them are
+-- the pairs that are left, after those so far, are within the limits exactly if all pairs are
 abbrev pub invariant-loop-pair : goal.invariant-loop-pair
 invariant-loop-pair l = record {
   same : within_after l.sum (map pair_view (drop l.pair-index l.pairs)) ≡ are_within limits (map pair_view l.pairs);

@@ -3,7 +3,7 @@ use Rattle.tokens.specs.Delivering.{drawn_for_all, deliveries_to}
 use Rattle.tokens.specs.Code.Views.{recipient_key_view, encryption_plan_view, delivery_view}
 use Rattle.tokens.proofs.encrypt.deliver.deliver_to_all.Given as goal
 
--- the deliveries so far and those to the recipients that are left, with the octets that are left, are all of them
+-- the deliveries so far and those to the recipients that are left, with the octets that are left, are all deliveries
 abbrev pub invariant-loop-recipient_key : goal.invariant-loop-recipient_key
 invariant-loop-recipient_key l =
     let e = encryption_plan_view l.encryption in

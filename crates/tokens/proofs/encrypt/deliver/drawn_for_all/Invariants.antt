@@ -3,7 +3,7 @@ use Rattle.tokens.specs.Delivering.{drawn_for_all}
 use Rattle.tokens.specs.Code.Views.{recipient_key_view}
 use Rattle.tokens.proofs.encrypt.deliver.drawn_for_all.Given as goal
 
--- the octets so far and those of the recipients that are left are all of them
+-- the number of octets so far and that of the recipients that are left are the whole number
 abbrev pub invariant-loop-recipient_key : goal.invariant-loop-recipient_key
 invariant-loop-recipient_key l = record {
   count : l.count + drawn_for_all (map recipient_key_view (drop l.recipient_key-index l.recipient_keys)) ≡ drawn_for_all (map recipient_key_view l.recipient_keys);

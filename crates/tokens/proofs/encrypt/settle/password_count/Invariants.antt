@@ -3,7 +3,7 @@ use Rattle.tokens.specs.Choosing.{password_count}
 use Rattle.tokens.specs.Code.Views.{recipient_key_view}
 use Rattle.tokens.proofs.encrypt.settle.password_count.Given as goal
 
--- the passwords so far and those of the recipient keys that are left are all of them
+-- the number of passwords so far and that of the recipient keys that are left are the whole number
 abbrev pub invariant-loop-recipient_key : goal.invariant-loop-recipient_key
 invariant-loop-recipient_key l = record {
   count : l.count + password_count (map recipient_key_view (drop l.recipient_key-index l.recipient_keys)) ≡ password_count (map recipient_key_view l.recipient_keys);

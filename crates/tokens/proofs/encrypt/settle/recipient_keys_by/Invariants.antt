@@ -6,7 +6,7 @@ use Rattle.tokens.specs.Choosing.{recipient_key_by}
 use Rattle.tokens.specs.Code.Views.{recipient_key_view}
 use Rattle.tokens.proofs.encrypt.settle.recipient_keys_by.Given as goal
 
--- the recipient keys so far and those of the keys that are left are all of them
+-- the recipient keys so far and those of the keys that are left are all recipient keys
 abbrev pub invariant-loop-key : goal.invariant-loop-key
 invariant-loop-key l =
     let by = recipient_key_by l.asked in

@@ -6,7 +6,7 @@ use Rattle.tokens.specs.Signing.{signer_by}
 use Rattle.tokens.specs.Code.Views.{signer_view, template_view}
 use Rattle.tokens.proofs.sign.settle.signers_by.Given as goal
 
--- the signers so far and those of the keys that are left are all of them
+-- the signers so far and those of the keys that are left are all signers
 abbrev pub invariant-loop-key : goal.invariant-loop-key
 invariant-loop-key l =
     let by = signer_by (template_view l.template) in

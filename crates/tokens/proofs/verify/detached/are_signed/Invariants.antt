@@ -8,7 +8,7 @@ use Rattle.tokens.specs.Code.VerifyingInputs.{starts_for_keys}
 use Rattle.tokens.proofs.VerifyingInputs.{have_signed}
 use Rattle.tokens.proofs.verify.detached.are_signed.Given as goal
 
--- The keys that are left decide, and of these the inputs are left.
+-- the keys that are left decide the result, and their inputs are left
 abbrev pub invariant-loop-key : goal.invariant-loop-key
 invariant-loop-key g l =
     let has_taken = g.S.SigningInput.has_taken in

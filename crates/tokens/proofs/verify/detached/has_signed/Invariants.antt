@@ -9,7 +9,7 @@ use Rattle.tokens.specs.Verifying.{verifies}
 use Rattle.tokens.specs.Code.VerifyingInputs.{starts_for_key}
 use Rattle.tokens.proofs.verify.detached.has_signed.Given as goal
 
--- The key made one of the signatures so far, or makes one of those that are left, and of these the inputs are left.
+-- the key made one of the signatures exactly if it made one so far or makes one of those that are left, whose inputs are left
 abbrev pub invariant-loop-signature : goal.invariant-loop-signature
 invariant-loop-signature g l =
     let has_taken = g.S.SigningInput.has_taken in

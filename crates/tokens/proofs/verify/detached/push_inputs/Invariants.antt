@@ -7,7 +7,7 @@ use Rattle.tokens.specs.contracts.signing_input.HmacInputSigningInput.TheImpl.{h
 use Rattle.tokens.proofs.StartedInputs.{AreStarted}
 use Rattle.tokens.proofs.verify.detached.push_inputs.Given as goal
 
--- the inputs so far, and those of the signatures that are left, are all
+-- the inputs so far and those of the signatures that are left are all inputs
 abbrev pub invariant-loop-signature : goal.invariant-loop-signature
 invariant-loop-signature l =
     let key = key_view l.key in

@@ -6,7 +6,7 @@ use Rattle.tokens.specs.contracts.signing_input.HmacInputSigningInput.TheImpl.{h
 use Rattle.tokens.proofs.StartedInputs.{AreStarted}
 use Rattle.tokens.proofs.verify.detached.signing_inputs.Given as goal
 
--- the inputs so far, and those of the keys that are left, are all
+-- the inputs so far and those of the keys that are left are all inputs
 abbrev pub invariant-loop-key : goal.invariant-loop-key
 invariant-loop-key l =
     let signatures = map signature_view l.signatures in

@@ -4,7 +4,7 @@ use Rattle.tokens.specs.Code.SigningInputs.{InputStart, HoldEach, signature_text
 use Rattle.tokens.proofs.WrittenSignatures.{AreLeft}
 use Rattle.tokens.proofs.sign.payload.VecValues.write.Given as goal
 
--- What was written, and the texts and signatures that are left, are all of them.
+-- the text written so far and the texts and signatures that are left are the whole text
 abbrev pub invariant-loop-input : goal.invariant-loop-input
 invariant-loop-input g l =
     let has_taken = g.S.SigningInput.has_taken in
