@@ -5,20 +5,21 @@ usage: scripts/reached.py           compares and counts; scripts/calls does the 
        scripts/reached.py --list    prints the reached definitions by page, and marks those that cite nothing
        scripts/reached.py --kit     prints the pages of the kit that they use, all the way down, with their lines
 
-The promises are the contract of `run` (crates/jose/src/run.rt), with the traits of its devices, and the laws of each crate (src/laws.rt).
-A definition reaches what its type and its equations name, by the `use` lines of its page: other definitions, with records and data, and the
-types of the code, which reach the types of their fields and what their invariants name. What a value of the code looks like to contracts
-(`ghost view`) is not followed, and neither are proofs.
+The promises are the contract of `run` (crates/jose/src/run.rt), with the traits of its devices, and the laws of each crate (src/laws.rt). A
+definition reaches what its type and its equations name, by the `use` lines of its page: other definitions, with records and data, and the
+types of the code, which reach the types of their fields and what their invariants name. The views that contracts have of values of the code
+(`ghost view`) are not followed, and neither are proofs.
 
-docs/AUDIT.md names pages as `crate/Page`. Pages in specs/Code are about values and calls of the code, and no promise of `run` and no law reaches
-them. These fail:
-- a page with reached definitions that is in specs/Code, that is in no row of the section "The pages in reading order", or that is in two, and
-  a row of any other page;
+docs/AUDIT.md names pages as `crate/Page`. Pages in specs/Code are about values and calls of the code, and no promise of `run` and no law
+reaches them. These fail:
+- a page with reached definitions that is in specs/Code, that is in no row of the section "The pages in reading order", or that is in two,
+  and a row of any other page;
 - another page that is neither in specs/Code nor in the section "What need not be read";
-- a name that is not there: a law or a test in the tables of docs/AUDIT.md; a definition, written `crate/Page.name`, in it or in docs/STEPS.md;
+- a name that does not exist: a law or a test in the tables of docs/AUDIT.md; a definition, written `crate/Page.name`, in it or in
+  docs/STEPS.md;
 - a reached definition without a section, a step or a heading of docs/SPECIFICATION.md in the comment above it or above its group.
 
-It reads words and not meanings, so it may take the name of a variable for a definition, and then asks for a page too many.
+It reads words and not meanings, so it may mistake the name of a variable for a definition, and then asks for a page too many.
 """
 import collections, glob, os, re, shutil, sys
 
@@ -26,12 +27,12 @@ sys.dont_write_bytecode = True
 from lib.sources import CRATES, ROOT, block_end, fault, faults, read, text_at, tokens_of
 
 RUN = "jose/src/run.rt"
-# Where the pages about values and calls of the code are, in the name of a page.
+# The part of a page's name that marks pages about values and calls of the code.
 CODE = "/Code."
 ORDER, NUMBERS, OTHERS = "The pages in reading order", "Tables and numbers", "What need not be read"
 
 Definition = collections.namedtuple("Definition", "lines comment group cases")
-# Names of other modules, by import and by alias, and the definitions.
+# A page: the names that it imports, the aliases of modules, and its definitions.
 Page = collections.namedtuple("Page", "path names aliases definitions")
 
 WORD = re.compile(r'"(?:\\.|[^"\\])*"|[(){}\[\];,λ∷.]|[^\s(){}\[\];,λ∷."]+')
@@ -43,7 +44,7 @@ KEYWORDS = {"abbrev", "opaque", "unfoldable", "pub", "record", "data", "where", 
 
 
 def imports(text, line):
-    """The names that `use` lines bring, each with its module and its name there, and the aliases of modules."""
+    """The names that `use` lines import, each with its module and its name there, and the aliases of modules."""
     names, aliases = {}, {}
     for module, items in re.findall(line + r" Rattle\.([^\s{}]+)\.\{([^}]*)\}", text):
         for item in filter(None, (it.strip() for it in items.split(","))):
@@ -56,7 +57,7 @@ def imports(text, line):
 
 
 def without_blocks(text):
-    """Definitions in an indented block, such as mutual ones, as if each stood alone."""
+    """The lines of a text. Definitions in an indented block, such as mutual ones, lose their indentation."""
     lines, inside = [], False
     for line in text.split("\n"):
         if re.match(r"(abbrev |pub )*mutual$|module _ .* where$", line):
@@ -97,7 +98,7 @@ def page_of(path):
 
 
 def bracket_names(words, at):
-    """Where a group of binders opens, as in `(x y : T)`, the place behind its names."""
+    """The place behind the names of a group of binders, such as `(x y : T)`, if one opens here, or else this place."""
     end = at + 1
     while end < len(words) and re.match(r"[^\W\d][\w-]*$", words[end][0]):
         end += 1
@@ -105,8 +106,9 @@ def bracket_names(words, at):
 
 
 def named_in(text, pattern=()):
-    """The names that a type or an equation uses, without those that it binds, each with the field behind it, since it may be an alias."""
-    # Each word, and whether another one touches it on either side.
+    """The names that a type or an equation uses, without those that it binds. Each comes with the field behind it, since it may be an
+    alias."""
+    # Each word, and whether it touches another one on its left and on its right.
     words = [(it.group(), text[:it.start()][-1:].strip() != "", text[it.end():][:1].strip() != "") for it in WORD.finditer(text)]
     bound, depth, at = [(name, 0) for name in pattern], 0, 0
     while at < len(words):
@@ -137,7 +139,7 @@ def named_in(text, pattern=()):
 
 
 class Library:
-    """Crates below folders: their pages, and the types of their code."""
+    """The crates in these folders: their pages, and the types of their code."""
 
     def __init__(self, *folders):
         self.folders, self.pages, self.items = folders, {}, {}
@@ -148,7 +150,7 @@ class Library:
     def page(self, module):
         if module not in self.pages:
             path = self.find(module.replace(".", "/") + ".antt")
-            # A page of another crate may be passed on.
+            # A crate may export a page of another crate.
             crate, name, rest = re.match(r"(\w+)\.specs\.(\w+)(.*)|", module).groups()
             library = None if path or not name else self.find(f"{crate}/specs/Lib.antt")
             passed_on = library and re.search(rf"^pub use Rattle\.(\S+\.{name})$", read(library), re.M)
@@ -156,7 +158,7 @@ class Library:
         return self.pages[module]
 
     def target(self, module, name):
-        """What a name of a module is: a definition, which may be that of a case, or a type of the code."""
+        """The thing that a name of a module means: a definition or a type of the code. For a case it is the definition that declares it."""
         if ".specs.declared." in module:
             crate, _, path = module.partition(".specs.declared.")
             parts = [it for it in path.split(".") if it != "TheVariants"]
@@ -189,7 +191,7 @@ class Library:
         return found and (found[0] == "type" or found[0] == "definition" and word in self.page(found[1]).definitions[found[2]].cases)
 
     def uses(self, node):
-        """What a definition, or a type of the code, names."""
+        """The definitions and types that a definition, or a type of the code, names."""
         if node[0] == "type":
             return self.uses_of_type(*node[1:])
         _, module, name = node
@@ -207,7 +209,7 @@ class Library:
         for number, part in enumerate(parts):
             pattern = []
             if number:
-                # An equation: what its left side names is a case, or is bound.
+                # This is an equation. Each name on its left side is a case, or is bound there.
                 left, _, part = part.partition(" =") if " =" in part else part.partition("=")
                 for word, field in named_in(left):
                     target = resolve(word, field)
@@ -251,13 +253,13 @@ class Library:
         return self.items[path]
 
     def named_in_code(self, path, tokens):
-        """What a part of the code names: types, and in its clauses definitions."""
+        """The types that a part of the code names, and the definitions that its clauses name."""
         _, (names, aliases), types = self.file(path)
         for at, token in enumerate(tokens):
             before = at - 2 if text_at(tokens, at - 1) == "." else None
             while before is not None and re.match(r"(?!λ)\w", text_at(tokens, before)):
                 before -= 1
-            # Behind a dot, unless it is that of a function's variables, there is a field.
+            # A word behind a dot is a field, unless the dot ends the variables of a function.
             if before is None or text_at(tokens, before) == "λ":
                 yield self.resolve(names, {}, None, token.text, None) or types.get(token.text) or self.own_type(path, token.text)
             elif text_at(tokens, at - 2) in aliases:
@@ -285,13 +287,13 @@ class Library:
         return set(filter(None, self.named_in_code(path, tokens[start + 1:end]))) - {("type", crate, inner, name)}
 
     def contracts(self, path):
-        """What the signatures and the clauses of a file's public functions name."""
+        """The definitions and types that the signatures and the clauses of a file's public functions name."""
         tokens, found, at = self.file(path)[0], set(), 0
         while at < len(tokens):
             if tokens[at].text == "fn" and text_at(tokens, at - 1) == "pub":
                 start = at
                 while text_at(tokens, at) not in ("{", ""):
-                    # The block of a clause is none of the function's.
+                    # The block of a clause does not belong to the body of the function.
                     is_clause = text_at(tokens, at) in ("requires", "ensures")
                     at = block_end(tokens, at + 1 + (text_at(tokens, at + 1) != "{")) if is_clause else at + 1
                 found.update(self.named_in_code(path, tokens[start:at]))
@@ -313,7 +315,7 @@ def reach(library, roots):
 
 
 def promises(library):
-    """What the contract of `run` names, and what the laws do."""
+    """The definitions and types that the contract of `run` names, and those that the laws name."""
     laws = (f"{crate}/src/laws.rt" for crate in CRATES)
     return library.contracts(RUN), set().union(*(library.contracts(it) for it in laws if library.find(it)))
 
@@ -323,7 +325,8 @@ def lines_of(definition):
 
 
 def citation():
-    """What cites a standard or the specification: a section, a step, an appendix or a table with its number, or a heading in quotes."""
+    """The pattern of a citation of a standard or of the specification: a section, step, appendix or table with its number, or a heading in
+    quotes."""
     headings = re.findall(r"^## (.*)$", read(os.path.join(ROOT, "docs/SPECIFICATION.md")), re.M)
     return re.compile(r"\b(sections?|steps?|table) \d|\bappendix [A-Z]|" + "|".join(f'"{re.escape(it)}"' for it in headings))
 
@@ -353,13 +356,13 @@ def compare_pages(text, reached, others):
 
 
 def cells(text, heading, column):
-    """That column of the table of a section."""
+    """This column of the table of a section."""
     rows = (line.split("|") for line in section(text, heading).split("\n") if line.startswith("| "))
     return " ".join(row[column] for row in rows if len(row) > column)
 
 
 def compare_names(library):
-    """Each definition, law and test that the pages name is there."""
+    """Checks that each definition, law and test that the pages name exists."""
     laws_and_tests = set()
     for path in glob.glob(os.path.join(ROOT, "crates/*/src/**/*.rt"), recursive=True):
         if path.endswith("/laws.rt"):
@@ -377,7 +380,7 @@ def compare_names(library):
 
 
 def compare():
-    """Compares docs/AUDIT.md with the promises, and counts; it gives a line of the counts."""
+    """Compares docs/AUDIT.md with the promises, and returns a line with the counts."""
     library = Library(os.path.join(ROOT, "crates"))
     by_run, by_laws = promises(library)
     run, reached = reach(library, by_run), reach(library, by_run | by_laws)
@@ -397,7 +400,7 @@ def compare():
 
 
 def show():
-    """The reached definitions by page; `-` marks those that cite nothing, and `law` those that only laws reach."""
+    """Prints the reached definitions by page. `-` marks those that cite nothing, and `law` those that only laws reach."""
     library, cites = Library(os.path.join(ROOT, "crates")), citation()
     by_run, by_laws = promises(library)
     run, reached = reach(library, by_run), reach(library, by_run | by_laws)
@@ -410,7 +413,7 @@ def show():
 
 
 def kit_folder():
-    """Where the kit has its crates."""
+    """The folder of the kit's crates."""
     program = shutil.which("rt") or sys.exit("this needs the kit: rt is not on the path")
     return os.path.join(os.path.dirname(os.path.realpath(program)), "../rattle")
 

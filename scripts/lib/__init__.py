@@ -1,1 +1,1 @@
-"""What only other scripts use."""
+"""Modules that only other scripts use."""

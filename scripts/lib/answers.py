@@ -1,7 +1,8 @@
-"""What the commands answer by docs/SPECIFICATION.md: that page read a second time, for scripts/hostile, which compares the program with it.
+"""Computes the answers of the commands by docs/SPECIFICATION.md. This is a second reading of that page for scripts/hostile,
+which compares the program with it.
 
-Each command is a function of whole texts and contents, that gives what is written, or raises `Refused` with the first cause. There is
-no cipher here: what an encrypted object opens to is looked up by all that goes into its opening (`identity`).
+Each command is a function of whole texts and contents. It returns what is written, or raises `Refused` with the first cause. There is no
+cipher here: the plaintext of an object is looked up by everything on which its opening depends (`identity`).
 """
 import base64, collections, hashlib, hmac, json, re
 
@@ -14,28 +15,28 @@ NAMES = {
 (USAGE, READ, WRITE, MEMORY, RANDOM, BASE64, JSON, NUMBER, KEY, FORM, HEADER, UNSUPPORTED, NO_ALGORITHM, KEY_DOES_NOT_FIT, LIMIT,
  NOT_COMPACT, NOT_OPENED) = NAMES
 
-# Signature algorithms: the hash, and the least length of a key.
+# Signature algorithms, each with its hash and the least length of a key.
 SIGNATURES = {"HS256": ("sha256", 32), "HS384": ("sha384", 48), "HS512": ("sha512", 64)}
-# Key wraps: the length of the key. Where nothing names the algorithm, one of the first three follows from the length.
+# Key wraps, each with the length of its key. If nothing names the algorithm, the length of the key chooses one of the first three.
 WRAPS = {"A128KW": 16, "A192KW": 24, "A256KW": 32}
 GCM_WRAPS = {"A128GCMKW": 16, "A192GCMKW": 24, "A256GCMKW": 32}
 KEY_LENGTHS = WRAPS | GCM_WRAPS
-# Algorithms by a password: the length of the key that wraps, and the block of the hash, to which HMAC fills a key with zeros.
+# Password algorithms, each with the length of the key that wraps and of the block of its hash, to which HMAC pads a key with zeros.
 PASSWORDS = {"PBES2-HS256+A128KW": (16, 64), "PBES2-HS384+A192KW": (24, 128), "PBES2-HS512+A256KW": (32, 128)}
 MANAGEMENT = ["dir", *KEY_LENGTHS, *PASSWORDS]
-# Content encryptions: the lengths of the key and of the initialization vector.
+# Content encryptions, each with the lengths of its key and of its initialization vector.
 CONTENTS = {
     "A128CBC-HS256": (32, 16), "A192CBC-HS384": (48, 16), "A256CBC-HS512": (64, 16), "A128GCM": (16, 12), "A192GCM": (24, 12), "A256GCM": (32, 12),
 }
-# The content encryption that goes with a key wrap, and with a key that is used directly, by lengths.
+# The default content encryption, by the length of the key that wraps or of the key that is used directly.
 USUAL_BY_WRAP = {16: "A128CBC-HS256", 24: "A192CBC-HS384", 32: "A256CBC-HS512"}
 USUAL_BY_KEY = {32: "A128CBC-HS256", 48: "A192CBC-HS384", 64: "A256CBC-HS512"}
 HASHES = {"S224": "sha224", "S256": "sha256", "S384": "sha384", "S512": "sha512"}
-# The most keys of a set, and signatures or recipients of an object.
+# The most keys of a set, and the most signatures or recipients of an object.
 MOST_KEYS, MOST_ITEMS = 64, 256
 MOST_OCTETS, MOST_LEVELS, MOST_LEVELS_READ = 4096, 64, 127
 LEAST_P2C, GREATEST_P2C, MOST_ITERATIONS, USUAL_P2C = 1000, 2_000_000, 16_000_000, 100_000
-# What a key takes of the random octets: a salt by a password, an initialization vector by AES-GCM key wrap, whose tag is as long as TAG.
+# The random octets for a key: SALT for a password, KEY_IV for AES-GCM key wrap. TAG is the length of the tag of AES-GCM key wrap.
 SALT, KEY_IV, TAG = 16, 12, 16
 
 Key = collections.namedtuple("Key", "octets alg use ops")
@@ -43,12 +44,13 @@ Signature = collections.namedtuple("Signature", "text header joint octets")
 Signed = collections.namedtuple("Signed", "payload signatures")
 Recipient = collections.namedtuple("Recipient", "header joint encrypted_key")
 Encrypted = collections.namedtuple("Encrypted", "text unprotected aad iv ciphertext tag recipients")
-# What `jwe enc` settles before the plaintext is read: the protected header, and what each recipient adds, to that header where it is the only one.
+# The parts that `jwe enc` settles before it reads the plaintext. `headers` has the members that each recipient adds. The only recipient
+# adds them to the protected header.
 Draft = collections.namedtuple("Draft", "protected unprotected aad iv headers")
 
 
 class Refused(Exception):
-    """The first cause, by its number."""
+    """A refusal, with the number of its first cause."""
 
     def __init__(self, number):
         super().__init__(number)
@@ -77,11 +79,11 @@ def without_line_end(text):
 # ---- JSON
 
 class Raw(str):
-    """What stands in a JSON text as it is, as a number."""
+    """A piece of JSON text that is kept as it is, such as a number."""
 
 
 class Members(list):
-    """The members of an object in the order of its text: lists of a name and a value, with names twice where they stand twice."""
+    """The members of an object in the order of its text: lists of a name and a value. A repeated name is kept."""
 
     def __init__(self, pairs=()):
         super().__init__(map(list, pairs))
@@ -92,12 +94,12 @@ def refuse_constant(name):
 
 
 def read_tree(text):
-    """What stands in a JSON text. Where it is none, or nests far too deep, a ValueError or a RecursionError."""
+    """The tree of a JSON text. Raises ValueError if the text is not JSON, and RecursionError if it nests far too deep."""
     return json.loads(text.decode(), object_pairs_hook=Members, parse_int=Raw, parse_float=Raw, parse_constant=refuse_constant)
 
 
 def number_of(raw):
-    """A number of a text: a float where it is no whole one of 64 bits. One that is too large even for that is no JSON here."""
+    """A number of a text. It is a float unless it is an integer of 64 bits. A number that is too large for a float is refused with Json."""
     if re.fullmatch(r"0|-?[1-9][0-9]{0,19}", raw) and -1 << 63 <= int(raw) < 1 << 64:
         return int(raw)
     needs(abs(float(raw)) != float("inf"), JSON)
@@ -105,7 +107,7 @@ def number_of(raw):
 
 
 def value_of(tree, levels=0):
-    """The value of a tree. A string with half of a surrogate pair is none, nor are too many levels."""
+    """The value of a tree. Half of a surrogate pair in a string and too many levels are refused with Json."""
     needs(levels <= MOST_LEVELS_READ, JSON)
     if isinstance(tree, Raw):
         return number_of(tree)
@@ -146,7 +148,7 @@ def depth(value):
 
 
 def member(members, name, kind, number=FORM, required=False):
-    """A member of this type, and an empty one where it is absent."""
+    """A member, which must have this type. If it is absent, an empty value of the type."""
     if name not in members:
         needs(not required, number)
         return kind()
@@ -162,7 +164,7 @@ def has_typed_members(members):
 
 
 def key_of(members):
-    """The key that an object is, or None."""
+    """The key that an object describes, or None."""
     if members.get("kty") != "oct" or not isinstance(members.get("k"), str) or not has_typed_members(members):
         return None
     try:
@@ -173,7 +175,7 @@ def key_of(members):
 
 
 def keys_of(text, passes_over):
-    """The keys of a text; `passes_over` says whether objects of a set that are no good key are passed over."""
+    """The keys of a text. `passes_over` says whether to ignore objects of a set that are not good keys."""
     value = read_json(text)
     needs(isinstance(value, dict), KEY)
     listed = value.get("keys") if "keys" in value else [value]
@@ -193,7 +195,7 @@ def fits_signing(key, alg):
 
 
 def operations(alg, way):
-    """The names of the operations that allow to encrypt, `way` 0, or to decrypt, 1."""
+    """The names of the operations that allow encrypting (`way` 0) or decrypting (1)."""
     if alg == "dir":
         return [["encrypt"], ["decrypt"]][way]
     return [["wrapKey"], ["unwrapKey"]][way] + (["deriveKey", "deriveBits"] if alg in PASSWORDS else [])
@@ -211,7 +213,7 @@ def jwk_thp(keys, hash_name="S256"):
 
 
 def key_size(alg, asked):
-    """The size of a made key. `asked` is the template's, or None."""
+    """The size of a key that is made. `asked` is the size in the template, or None."""
     exact = KEY_LENGTHS.get(alg) or CONTENTS.get(alg, [None])[0]
     least = SIGNATURES[alg][1] if alg in SIGNATURES else exact
     needs(alg is None or alg in SIGNATURES or alg in MANAGEMENT or alg in CONTENTS, UNSUPPORTED)
@@ -275,7 +277,7 @@ def check_parameters(joint, names):
 
 
 def octets_parameter(joint, name):
-    """The octets of a member of a header that has to be a base64url text."""
+    """The octets of a header member, which must be a base64url text."""
     try:
         return octets_of(member(joint, name, str, HEADER, True).encode())
     except Refused:
@@ -296,14 +298,14 @@ def content_member(value, name, detached):
 
 
 def items_of(value, name):
-    """The objects of a list of signatures or recipients, or the object itself where there is no list."""
+    """The objects of a list of signatures or recipients, or the object itself if there is no list."""
     items = member(value, name, list) if name in value else [value]
     needs(items and all(isinstance(one, dict) for one in items), FORM)
     return items
 
 
 def read_signed(text, detached):
-    """A signed object."""
+    """Reads a signed object."""
     if is_json(text):
         value = read_json(text)
         payload = content_member(value, "payload", detached)
@@ -326,7 +328,7 @@ def read_signed(text, detached):
 
 
 def read_encrypted(text, detached):
-    """An encrypted object."""
+    """Reads an encrypted object."""
     if is_json(text):
         value = read_json(text)
         ciphertext = content_member(value, "ciphertext", detached)
@@ -398,7 +400,7 @@ def signature_of(key, alg, text, payload):
 
 
 def jws_ver(keys, text, detached, each):
-    """The payload."""
+    """Returns the payload."""
     keys = keys_of(keys, True)
     signed = read_signed(text, detached)
     supported = [one for one in signed.signatures if one.joint["alg"] in SIGNATURES]
@@ -420,7 +422,7 @@ def signature_alg(key):
 
 
 def template_of(text, headers, more=()):
-    """A template's headers, its other members, which are base64url texts, and the joint header."""
+    """The headers of a template, its other members (base64url texts), and the joint header."""
     value = read_json(text)
     needs(isinstance(value, dict) and set(value) <= {*headers, *more}, FORM)
     parts = [member(value, name, dict) for name in headers]
@@ -432,12 +434,12 @@ def template_of(text, headers, more=()):
 
 
 def named(joint, name):
-    """The algorithm that a template names, or None."""
+    """The algorithm that a template names in this member, or None."""
     return member(joint, name, str, HEADER) if name in joint else None
 
 
 def jws_sig(keys, template, payload, compact, detach):
-    """The object's text."""
+    """Returns the text of the signed object."""
     keys = keys_of(keys, False)
     (protected, header), _, joint = template_of(template, ["protected", "header"])
     alg = named(joint, "alg")
@@ -467,7 +469,7 @@ def management_alg(key):
 
 
 def content_alg(key, alg):
-    """The content encryption where the template names none, by the first key and its algorithm."""
+    """The content encryption if the template names none. The first key and its algorithm choose it."""
     if alg == "dir":
         found = key.alg if key.alg in CONTENTS else USUAL_BY_KEY.get(len(key.octets))
         needs(found, NO_ALGORITHM)
@@ -476,7 +478,7 @@ def content_alg(key, alg):
 
 
 def jwe_enc(keys, template, random, compact):
-    """What the object has before the plaintext is sealed."""
+    """Returns the draft, which has all parts of the object that do not depend on the plaintext."""
     keys = keys_of(keys, False)
     (protected, unprotected), (aad,), joint = template_of(template, ["protected", "unprotected"], ["aad"])
     alg, enc = named(joint, "alg"), named(joint, "enc")
@@ -512,8 +514,8 @@ def jwe_enc(keys, template, random, compact):
 
 
 def drafted(draft, tags):
-    """A draft as the text of its protected header and its recipients' headers, with the tag of each recipient, or None: those of AES-GCM key wrap
-    come from the cipher."""
+    """The parts of a draft as they are in the object: the text of the protected header, and the headers of the recipients. `tags` has a tag
+    for each recipient by AES-GCM key wrap, since the cipher makes it, and None for the others."""
     headers = [header if tag is None else header | {"tag": tag} for header, tag in zip(draft.headers, tags, strict=True)]
     protected = draft.protected
     if len(headers) == 1:
@@ -522,7 +524,7 @@ def drafted(draft, tags):
 
 
 def identity(encrypted, recipient, key):
-    """All that goes into the opening of an object at a recipient by a key. HMAC takes a password and one with zeros after it for the same."""
+    """Everything on which the opening of an object at a recipient by a key depends. To HMAC a password is the same with zeros after it."""
     alg, enc = recipient.joint["alg"], recipient.joint["enc"]
     octets, more = key.octets, ()
     if alg in PASSWORDS:
@@ -534,7 +536,7 @@ def identity(encrypted, recipient, key):
 
 
 def jwe_dec(keys, text, detached, known):
-    """The plaintext. `known` has those of the objects that are known to open, by their identities."""
+    """Returns the plaintext. `known` has the plaintexts of the objects that open, by their identities."""
     keys = keys_of(keys, True)
     encrypted = read_encrypted(text, detached)
     supported = [one for one in encrypted.recipients if one.joint["alg"] in MANAGEMENT and one.joint["enc"] in CONTENTS]

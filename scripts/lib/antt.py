@@ -1,17 +1,20 @@
 """Evaluates definitions of crates/*/specs, and those of the kit that they use, from their text.
 
-It reads an equation with its patterns (numbers, `zero` and `suc`, lists, pairs, cases with their values), and on its right side functions (`λ`),
-`let`, `if`, records and their changes, `do` with `←`, fields, qualified names, and the operators of OPERATORS. A name means what the `use` lines
-of its page say. It knows no types: a case is its name, so two types may have equal ones. Arguments are computed first, except those of `if`,
-`cond`, `&&` and `||`.
+It reads an equation with its patterns (numbers, `zero` and `suc`, lists, pairs, cases with their values). On the right side it reads
+functions (`λ`), `let`, `if`, records and their changes, `do` with `←`, fields, qualified names, and the operators of OPERATORS. The `use`
+lines of a page say what a name means. It knows no types: a case is its name, so two types may have equal ones. Arguments are computed
+first, except those of `if`, `cond`, `&&` and `||`.
 
-It does not read types, propositions, implicit arguments (in braces), `unfolding` and proofs. A definition that it cannot read is an error when
-it is first used. What BUILT lists is not read but Python's: the functions of std and core on numbers, bits, lists and texts.
+It does not read types, propositions, implicit arguments (in braces), `unfolding` and proofs. A definition that it cannot read is an error
+when it is first used. The functions of std and core that BUILT lists, on numbers, bits, lists and texts, are not read: Python has its own
+for them.
 
-Values are Python's: a number is an int, a list and a pair are tuples, and a text is a tuple of octets. `Case`, `Record` and `Function` are the rest.
+Values are Python's: a number is an int, a list and a pair are tuples, and a text is a tuple of octets. `Case`, `Record` and `Function` are
+the rest.
 
-Some definitions are too slow to be computed so, such as a hash of a long text, or search all octet strings. `replace` puts a function of Python in
-the place of one. A script does so once both gave the same for some arguments; from then on it computes what the function says.
+Some definitions cannot be computed in this way, because they are too slow (a hash of a long text) or search all octet strings. `replace`
+puts a function of Python in the place of such a definition. A script first checks that both return the same for some arguments. From then
+on the function computes the result.
 """
 import ast, collections, functools, operator, re
 
@@ -23,12 +26,12 @@ TOKEN = re.compile(r"""
   | (?P<sign>>>=|==|&&|\|\||\+\+|[(){}\[\];,:=λ→×≡≢∷+\-*/%^<≤≥←↔¬⊎]) | (?P<dot>\.)
   | (?P<name>[^\s(){}\[\];,:=λ→×≡≢∷+*/%^<≤≥←↔¬⊎."]+)
 """, re.X)
-# How closely an operator binds, and on which side it may stand again without parentheses.
+# The precedence of each operator, and the side on which it associates.
 OPERATORS = {
     ">>=": (10, "left"), "||": (20, "right"), "&&": (30, "right"), "==": (40, ""), "<": (40, ""), "≤": (40, ""), "∷": (50, "right"),
     "++": (50, "right"), "+": (60, "left"), "-": (60, "left"), "*": (70, "left"), "/": (70, "left"), "%": (70, "left"), "^": (80, "right"),
 }
-# Numbers are natural: a difference is not below 0, and a division by 0 gives 0.
+# Numbers are natural. A difference is never below 0, a division by 0 is 0, and a remainder by 0 is the number itself.
 NUMBERS = {
     "==": operator.eq, "<": operator.lt, "≤": operator.le, "+": operator.add, "-": lambda a, b: max(a - b, 0), "*": operator.mul,
     "/": lambda a, b: a // b if b else 0, "%": lambda a, b: a % b if b else a, "^": operator.pow, "++": operator.add,
@@ -53,7 +56,7 @@ class Record:
 
 
 class Function:
-    """A function of so many arguments, some of which are given."""
+    """A function with its number of arguments, and those that are already applied."""
 
     def __init__(self, arity, body, given=()):
         self.arity, self.body, self.given = arity, body, given
@@ -80,7 +83,7 @@ def field(value, name):
     return value[int(name)] if name.isdigit() else value.fields[name]
 
 
-# ---- what is Python's and is not read
+# ---- functions that Python has and that are not read
 
 
 def is_utf8(octets):
@@ -120,7 +123,7 @@ OF_PYTHON = ("std.", "core.", "std_alloc.")
 
 
 def tokens_of(text):
-    """All tokens of an equation. A dot is that of a field if it touches a word on both sides."""
+    """All tokens of an equation. A dot between two words that it touches is that of a field."""
     found, start, is_first, touches = [], 0, True, False
     for it in TOKEN.finditer(text):
         kind, word = it.lastgroup, it.group()
@@ -136,7 +139,8 @@ def tokens_of(text):
 
 
 class Reader:
-    """Reads the tokens of one equation. An expression becomes a function of the values of the names that are bound around it (`scope`)."""
+    """Reads the tokens of one equation. An expression becomes a function of the values of the names in `scope`, which are bound around
+    it."""
 
     def __init__(self, page, tokens):
         self.page, self.tokens, self.at = page, tokens, 0
@@ -283,7 +287,7 @@ class Reader:
         return lambda values: Record(base(values).fields | {name: it(values) for name, it in fields.items()})
 
     def statements(self):
-        """The tokens of each line of a `do`. They begin in one column, and longer lines go on further to the right."""
+        """The tokens of each line of a `do`. All lines begin in the same column, and long ones continue further to the right."""
         found, depth, column = [], 0, self.tokens[self.at].column
         while self.at < len(self.tokens):
             token = self.tokens[self.at]
@@ -308,7 +312,7 @@ class Reader:
         value, then = Reader(self.page, first[2:]).whole(scope), self.steps(others, scope + (first[0].text,))
         return lambda values: bound(value(values), lambda it: then(values + (it,)))
 
-    # -- patterns: the names that each binds, and a function that gives their values or None if a value does not match
+    # -- patterns: the names that each binds, and a function that returns their values, or None if a value does not match
 
     def pattern(self):
         names, match = self.pattern_of_case()
@@ -396,13 +400,13 @@ def operation(word, left, right):
 
 
 class Names:
-    """What the names of a page mean."""
+    """The meanings of the names of a page."""
 
     def __init__(self, definitions, module):
         self.definitions, self.module, self.page = definitions, module, definitions.library.page(module)
 
     def is_qualifier(self, word):
-        """An alias of a module, or a type, which qualifies its cases."""
+        """Whether a word is an alias of a module, or a type, whose cases it qualifies."""
         return word in self.page.aliases or word[0].isupper() and word not in self.page.definitions and not self.case_name(word)
 
     def case_name(self, word):
@@ -415,7 +419,7 @@ class Names:
 
 
 def left_and_right(equation):
-    """The tokens of an equation's patterns, and of its expression."""
+    """The tokens of the patterns of an equation, and those of its expression."""
     tokens, depth = tokens_of(equation), 0
     for at, token in enumerate(tokens):
         if token.kind == "sign":
@@ -441,18 +445,18 @@ class Definitions:
     def replace(self, path, arity, function):
         page, name = path.rsplit(".", 1)
         self.replaced[page.replace("/", ".specs."), name] = Function(arity, function)
-        # Others may have looked up the old one.
+        # Other definitions may have looked up the old one.
         self.values.clear()
 
     def remember(self, *names):
-        """Keeps the results of these definitions, on whatever page."""
+        """Caches the results of the definitions with these names, on any page."""
         self.remembered.update(names)
 
     def of_case(self, name):
         return CONSTANTS.get(name, Case(name))
 
     def case_name(self, module, word):
-        """The name of the case that this word of a module is, or None. A page may give it another name."""
+        """The name of the case that this word means in a module, or None. A page may import it under another name."""
         if word in CASES or word in CONSTANTS or ".TheVariants" in module:
             return word
         page = None if ".declared." in module else self.library.page(module)

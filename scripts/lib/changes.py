@@ -1,5 +1,5 @@
-"""Changes of texts by chance, for scripts/hostile: each is a function of a `random.Random` and a text, and gives the changed text, or
-None where it is nothing to this text.
+"""Random changes of texts, for scripts/hostile. Each is a function of a `random.Random` and a text. It returns the changed text, or None if
+it does not apply to this text.
 """
 import functools, json, re
 
@@ -7,9 +7,9 @@ from lib import answers
 from lib.answers import Members, Raw, Refused
 from lib.texts import b64
 
-# No text grows beyond this.
+# The changed text must be shorter than this.
 MOST = 4 << 20
-# Texts that may stand in place of one that is changed.
+# Texts that may replace the whole text.
 OTHERS = []
 
 # ---- changes of octets
@@ -96,7 +96,7 @@ def another(rng, text):
 
 
 def of_parts(change):
-    """A change of the parts of a compact text."""
+    """Makes a change of texts from a change of the parts of a compact text."""
 
     @functools.wraps(change)
     def changed(rng, text):
@@ -136,11 +136,11 @@ def part_of_another(rng, parts, place):
     return parts[:place] + [other.split(b".")[place]] + parts[place + 1:]
 
 
-# ---- changes of base64url texts, wherever they stand
+# ---- changes of base64url texts anywhere
 
 
 def of_base64(change):
-    """A change of a run of base64url characters."""
+    """Makes a change of texts from a change of a run of base64url characters."""
 
     @functools.wraps(change)
     def changed(rng, text):
@@ -176,7 +176,7 @@ def trailing_bits(rng, run):
 
 
 def of_coded(change):
-    """A change of the octets that a base64url text stands for, which are encoded again."""
+    """Makes a change of texts from a change of the octets that a base64url text encodes. The changed octets are encoded again."""
 
     @of_base64
     @functools.wraps(change)
@@ -235,7 +235,7 @@ HEADERS = "protected", "unprotected", "header"
 
 
 def quote(text):
-    """A string as JSON. Halves of surrogate pairs have no octets, and stand escaped."""
+    """A string as JSON. Halves of surrogate pairs have no UTF-8, so a string with one is escaped."""
     try:
         return json.dumps(text, ensure_ascii=False).encode().decode()
     except UnicodeEncodeError:
@@ -243,7 +243,7 @@ def quote(text):
 
 
 def dump(tree, gap=lambda: "", quote=quote):
-    """The text of a tree, with these white spaces between its tokens."""
+    """The text of a tree, with white space from `gap` between its tokens."""
     if isinstance(tree, Raw):
         return tree
     if isinstance(tree, str):
@@ -263,7 +263,7 @@ def tree_of(text):
 
 
 def places(tree):
-    """Where the values of a tree stand: lists, and an index of each."""
+    """The places of the values in a tree: for each, the list that has it and its index."""
     found, left = [], [tree]
     while left:
         one = left.pop()
@@ -283,7 +283,7 @@ def pairs(tree):
 
 
 class NothingThere(Exception):
-    """A change finds nothing in this text that it could change."""
+    """Raised if a change finds nothing to change in a text."""
 
 
 def one_of(rng, found):
@@ -293,7 +293,8 @@ def one_of(rng, found):
 
 
 def of_tree(change):
-    """A change of a JSON text, by a function that changes its tree and gives True, or gives the text itself, or None."""
+    """Makes a change of texts from a change of the tree of a JSON text. That function changes the tree and returns True, or returns the new
+    text, or None."""
 
     @functools.wraps(change)
     def changed(rng, text):
@@ -314,7 +315,7 @@ def any_value(rng, old="x"):
 
 
 def put(rng, tree, value):
-    """The value stands in place of another, or in a new member."""
+    """Puts the value in place of another, or into a new member."""
     holders = objects(tree)
     if holders and rng.random() < 0.5:
         rng.choice(holders).append([rng.choice(["x", "kid", "cty"]), value])
@@ -345,7 +346,7 @@ def members_exchanged(rng, tree):
         return None
     first, second = rng.sample(pairs(tree), 2)
     first[1], second[1] = second[1], first[1]
-    # One may have stood in the other.
+    # One may have been inside the other.
     return True if tree_is_finite(tree) else None
 
 
@@ -450,7 +451,7 @@ def word_changed(rng, tree):
 
 
 def header_of(value):
-    """The members of a header, which may be encoded, or None."""
+    """The members of a header, which may be encoded, or None if this is no header."""
     if isinstance(value, Members):
         return value
     try:
@@ -462,7 +463,7 @@ def header_of(value):
 
 @of_tree
 def moved(rng, tree):
-    """A member of one header goes to another."""
+    """Moves or copies a member of one header to another."""
     found = [(pair, header_of(pair[1])) for pair in pairs(tree) if pair[0] in HEADERS]
     source, members = one_of(rng, [(pair, members) for pair, members in found if members])
     others = [(pair, one) for pair, one in found if pair is not source and one is not None]
@@ -478,7 +479,7 @@ def moved(rng, tree):
 
 @of_tree
 def many(rng, tree):
-    """Keys, signatures or recipients again and again."""
+    """Repeats keys, signatures or recipients many times."""
     count = rng.choice(ITEMS)
     for pair in tree if isinstance(tree, Members) else ():
         if pair[0] in ("keys", "signatures", "recipients") and isinstance(pair[1], list) and pair[1]:
@@ -493,7 +494,7 @@ def many(rng, tree):
 
 
 def header_changed(rng, text):
-    """A change of the JSON text of a protected header, which is encoded again."""
+    """Changes the JSON text of a protected header, and encodes it again."""
     tree = None if not text.startswith(b"{") else tree_of(text)
     if text.startswith(b"{"):
         found = [pair for pair in pairs(tree) if pair[0] == "protected" and isinstance(pair[1], str) and pair[1]] if isinstance(tree, list) else []
@@ -518,7 +519,7 @@ def header_changed(rng, text):
     return dump(tree).encode()
 
 
-# ---- changes that leave the meaning
+# ---- changes that keep the meaning
 
 
 def spaced(rng, text):
@@ -562,13 +563,13 @@ OF_JSON = [
     many_values, half_of_a_surrogate_pair, word_changed, *[moved] * 2, many,
 ]
 HEADER_CHANGES = [one for one in OF_JSON if one is not many_values] + KEEPING + [cut, bits_changed, bad_utf8_put_in, twice, emptied]
-# Kinds of changes, with how often each is taken among the others.
+# Kinds of changes, each with its weight among the others.
 KINDS = [(OF_OCTETS, 2), (OF_PARTS, 6), (OF_BASE64, 1), (OF_CODED, 2), (OF_JSON, 6), ([header_changed], 2), (KEEPING, 2)]
 SPOILING = list(dict.fromkeys([*OF_OCTETS, *OF_PARTS, *OF_BASE64, *OF_CODED, *OF_JSON, header_changed]))
 
 
 def change(rng, text):
-    """The text with some change that it takes, and the change's name."""
+    """The text after a random change that applies to it, and the name of the change."""
     kinds, weights = zip(*KINDS)
     while True:
         one = rng.choice(rng.choices(kinds, weights)[0])

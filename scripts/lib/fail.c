@@ -1,8 +1,9 @@
-/* Replaces the C library's open, read, write and fsync in a program that is run with it preloaded, and lets some of these calls fail, as on a device
-   that works again later. It counts the calls from 1: all of them, or only those that OF names, as `read 0`. A file has the name that it was
-   opened with, and a standard stream its number. The call that AT names fails, and TIMES says how many fail from there on, if not one. FAIL
-   names the error; with `none` the call returns 0. Each call that fails is written as a line to the descriptor FAILED. PIECE is the most
-   octets that a read or a write moves. */
+/* Replaces the C library's open, read, write and fsync in a program that is run with this library preloaded. Some of these calls then
+   fail, as on a device that works again later. The calls are counted from 1: all of them, or only those that OF names, for example `read
+   0`. A file has the name that it was opened with, and a standard stream has its number. The call with the number AT fails (1 by
+   default). TIMES is the number of calls that fail from there on (1 by default). FAIL names the error; with `none` a read, a write or an
+   fsync returns 0. Each failing call is written as a line to the descriptor FAILED. PIECE is the most octets that a read or a write
+   moves. */
 #define _GNU_SOURCE
 #include <dlfcn.h>
 #include <errno.h>
@@ -30,7 +31,7 @@ static long number(const char *name, long otherwise) {
     return word ? atol(word) : otherwise;
 }
 
-/* Whether this call fails. Then `errno` is set. */
+/* Whether this call fails. If it does, `errno` is set. */
 static int fails(const char *call, const char *name) {
     char what[LONGEST + 8], line[LONGEST + 9];
     const char *error = getenv("FAIL"), *only = getenv("OF");

@@ -1,8 +1,8 @@
 """Compares the limits that the pages, the documents and the recipes state with the code's.
 
-A limit is found by the words around it, those of `STATED`. A number of three digits or more that is a limit's and stands in other words fails
-too: then its words belong to `STATED`, or to `OTHERS` if it is no limit. docs/PERFORMANCE.md, docs/DECISIONS.md and CHANGELOG.md are not
-compared, since they say what was measured, chosen and changed.
+A limit is found by the words around it, which are those of `STATED`. It is a failure if a number of three digits or more is equal to a
+limit and is in other words. Then add these words to `STATED`, or to `OTHERS` if the number is no limit. docs/PERFORMANCE.md,
+docs/DECISIONS.md and CHANGELOG.md are not compared, since they say what was measured, chosen and changed.
 """
 import re
 
@@ -11,10 +11,10 @@ from lib.trial import TOP, check
 
 TEXTS = ["README.md", "SECURITY.md", "docs/SPECIFICATION.md", "docs/LIBRARY.md", "docs/FROM-LATCHSET.md", "docs/ARCHITECTURE.md", "docs/PROOFS.md"]
 NUMBER = r"\d+(?:,\d{3})*"
-# Before and behind a number there is no word, name, power or longer number that it belongs to.
+# A number must not be part of a word, a name, a power or a longer number. These patterns exclude that before and behind it.
 BEFORE, BEHIND = r"(?<![\w^,.-])", r"(?![\w,.]*\d)"
 
-# How a limit is stated, as a pattern in which its name stands for its number.
+# How a limit is stated: a pattern with the name of the limit in place of its number.
 STATED = [
     "(at most|more than|1 to|and) {MOST_KEYS} keys",
     "at most {MOST_KEYS} objects",
@@ -53,7 +53,7 @@ STATED = [
     "at most its last {MOST_BEHIND} octets",
     "at most {MOST_BEHIND} octets are missing",
 ]
-# Where the same number is no limit.
+# Statements in which the same number is no limit.
 OTHERS = [
     "jose2go read 2,000,000",
     "[Tt]heirs writes 1,000",
@@ -66,7 +66,7 @@ def number_in(path, line):
 
 
 def limits():
-    """The limits by their names. That those of `keys` are the definition's, keys/specs/Limits.antt, is proved."""
+    """The limits by their names. It is proved that those of `keys` are the limits of the definition, keys/specs/Limits.antt."""
     found = {name: int(value.replace("_", "")) for name, value in re.findall(r"^pub const (\w+): \w+ = ([\d_]+);", (TOP / "crates/keys/src/limits.rt").read_text(), re.M)}
     found["PAIRS"] = found["MOST_RECIPIENTS"] * found["MOST_KEYS"]
     found["DEPTH_READ"] = number_in("crates/keys/specs/JsonTexts.antt", r"^ReadsJson = .*depth d ≤ (\d+)")
@@ -76,7 +76,7 @@ def limits():
 
 
 def words_of(path):
-    """The text in one line, without fonts, code marks and the marks of comments."""
+    """The text in one line, without fonts, backticks and the marks of comments."""
     text = path.read_text()
     return re.sub(r"\s+(# )?", " ", plain(text) if path.suffix == ".1" else text.replace("`", ""))
 

@@ -1,4 +1,4 @@
-"""How the pages of man/ are read: what roff's escapes stand for, the sections, and the entries of a section."""
+"""Reads the pages of man/: what roff's escapes mean, the sections, and the entries of a section."""
 import re
 
 FONTS = {rf"\f{font}": "" for font in "BIR"}
@@ -22,5 +22,5 @@ def tags(text):
 
 
 def refusals(text):
-    """What the page of a command says that it refuses, in its order."""
+    """The refusals on the page of a command, in their order."""
     return [one for tag in tags(section(text, "REFUSALS")) for one in tag.split(", ")]

@@ -1,23 +1,26 @@
-"""Compares the code of the crates with PLACES below, for what no contract can say: that memory was refused, that a device failed, and how octets
-were compared.
+"""Compares the code of the crates with PLACES below, for what no contract can say: that memory was refused, that a device failed, and how
+octets were compared.
 
-A function that answers Memory for every text above some length can be proved, for example. So this script reads the code itself (sources.py), word
-by word. Each of the following needs a row in PLACES, with the code as it is and what it comes from. A place without a row fails, and so does a row
-whose code is not there exactly once.
+For example, a function that answers Memory for every text above some length can be proved. So this script reads the code itself
+(sources.py), word by word. Each of the following needs a row in PLACES, with the code as it is and what it comes from. A place without a
+row fails, and so does a row whose code is not there exactly once.
 - Memory, Read and Write of `Refusal`, the cases of `Fault`, and the errors that these are made from: AllocError, AllocFailed, OutOfMemory,
   is_memory, Partial, ErrorKind and `Error`. Imports and the types of results are free.
-- Each `impl` for `Refusal` or `Fault`; each device, which is an `impl` of Read, Write, Input or Output; unsafe code, since it can make any value.
+- Each `impl` for `Refusal` or `Fault`; each device, which is an `impl` of Read, Write, Input or Output; unsafe code, since it can make any
+  value.
 - A growth that is asked for by a number (ROOMS), and each loop that does not go through a list, in a function that may take memory.
-- Each comparison for equality in the crates that compare tags and signatures (COMPARING), unless one side is a number or a length; in all crates
-  a function that takes octets twice and answers a bool, and `same_octets` where it is not called.
-- Each answer that is made or looked into in the files that pass on what std's files and streams answer (PASSING, by the beginnings of their paths).
+- Each comparison for equality in the crates that compare tags and signatures (COMPARING), unless one side is a number or a length. In all
+  crates: a function that has two octet parameters and returns a bool, and `same_octets` if it is named without being called.
+- Each answer that is made or inspected in the files that pass on the answers of std's files and streams (PASSING, by the beginnings of
+  their paths).
 No name above may get another name, by `use .. as`, by `type` or by importing the cases of an enum.
 
 What it cannot see:
-- a needless growth that is made from the input's own octets, as by loops through a list inside each other, or by a function that calls itself;
+- a needless growth that is made from the input's own octets, by loops through a list inside each other, for example, or by a function that
+  calls itself;
 - a file that is opened, or a device that is called, only in order to fail;
 - a comparison by order, by a pattern, by arithmetic or by a function of another crate, made in addition to the one by `same_octets`;
-- when the kit gives an AllocError or an io::Error, and whether the reason in a row is true.
+- when the kit returns an AllocError or an io::Error, and whether the reason in a row is true.
 """
 import collections, os
 
@@ -26,9 +29,9 @@ from lib.sources import CRATES, ROOT, block_end, fault, parts, read, text_at, to
 COMPARING = ("modes", "ciphers", "tokens")
 PASSING = ("crates/octets/src/streams", "crates/jose/src/files", "crates/jose/src/system")
 
-# The file, the function ("" outside of functions), the code, and what it comes from or what it is for.
+# The file, the function ("" outside of functions), the code, and its origin or purpose.
 PLACES = [
-    # Refusals and faults, and what becomes a refusal by `?`.
+    # Refusals and faults, and what `?` turns into a refusal.
     ("octets/src/refusal.rt", "", "#[derive(Clone, Copy, Debug, PartialEq, Eq)] pub enum Refusal { Usage, Read, Write, Memory, Random,", "the declaration"),
     ("octets/src/refusal.rt", "", "impl fmt::Display for Refusal", "its text"),
     ("octets/src/refusal.rt", "Refusal::text", 'Refusal::Read => "2 Read", Refusal::Write => "3 Write", Refusal::Memory => "4 Memory",', "its text: matched, and not made"),
@@ -137,7 +140,7 @@ PLACES = [
 CASES = {"Memory", "OutOfMemory", "Reading", "Writing"}
 ERRORS = {"AllocError", "AllocFailed", "Partial", "Error", "ErrorKind"}
 ENUMS = {"Refusal", "Fault", "ErrorKind", "DecodeAllocError"}
-# What must not get another name.
+# The names that must not get another name.
 NAMED = CASES | ERRORS | ENUMS | {"same_octets"}
 ROOMS = set("""with_capacity with_capacity_and_hasher try_with_capacity reserve reserve_exact try_reserve try_reserve_exact resize resize_with
     try_resize_with repeat repeat_n repeat_with cycle from_elem from_fn from_iter extend extend_from_within unzip partition grow try_grow zeroed
@@ -145,13 +148,13 @@ ROOMS = set("""with_capacity with_capacity_and_hasher try_with_capacity reserve 
 LOOPS = {"loop", "while", "for_each", "try_for_each", "fold", "try_fold"}
 ROOM_MACROS = {"vec", "format", "write", "writeln"}
 ROOM_DEVICES = {"MemoryOutput", "FailingOutput"}
-# What the signature of a function has, with a `Result`, that may take memory.
+# In a signature with a `Result`, these say that the function may take memory.
 MEMORY = {"Global", "Vec", "String", "Map", "HostRuntime", "self"}
 EQUALITIES = set("== != eq ne cmp partial_cmp starts_with ends_with contains strip_prefix strip_suffix simd_eq simd_ne".split())
 ANSWERS = set("""Ok Err ok err is_ok is_err is_ok_and is_err_and unwrap unwrap_or unwrap_or_else unwrap_or_default expect map_err map_or
     map_or_else or or_else and and_then iter into_iter""".split())
 
-# What holds of a place that needs a row, and what to do.
+# How a place that needs a row is recognized, and the advice for it.
 ADVICE = {
     "cause": "Memory, Read, Write and faults come only from an error for memory or from a failed device; refuse with another cause, or add a row with that error",
     "name": "it must have one name only; import it as it is, and write its path",
@@ -180,7 +183,7 @@ def paths_of(words):
 
 
 def renamed(words):
-    """What an import or a `type` gives another name, or brings in without the name of its enum, or None."""
+    """The name that an import or a `type` renames, or brings in without the name of its enum, or None."""
     if words[0] == "type":
         named = NAMED & set(words[words.index("="):]) if "=" in words else ()
         return next(iter(sorted(named)), None)
@@ -198,7 +201,7 @@ def before_path(tokens, at):
 
 
 def is_type(tokens, at):
-    """Whether it is the error of a `Result`."""
+    """Whether the word at this place is the error of a `Result`."""
     return text_at(tokens, at + 1) in (">", ">>") and before_path(tokens, at) == ","
 
 
@@ -279,7 +282,7 @@ def spelled(tokens):
 
 
 def found_in(part, code):
-    """The places of a part of the code that this code takes up, and how often it is there."""
+    """The places of a part of the code that a row's code covers, and how often that code is there."""
     words, wanted = [it.text for it in part.tokens], [it.text for it in tokens_of(code)]
     starts = [at for at in range(len(words) - len(wanted) + 1) if words[at:at + len(wanted)] == wanted]
     return {start + it for start in starts for it in range(len(wanted))}, len(starts)
@@ -290,7 +293,7 @@ def line_of(path, number):
 
 
 def compare():
-    """Reports each row whose code is not there once, and each place without a row; answers how many rows there are."""
+    """Reports each row whose code is not there exactly once, and each place without a row. Returns the number of rows."""
     rows, without = collections.defaultdict(dict), []
     for path, function, code, _ in PLACES:
         rows[f"crates/{path}", function][code] = 0
@@ -311,7 +314,7 @@ def compare():
             fault(f"{path}, {function or 'outside of functions'}: the code of a row in scripts/lib/origins.py is there {rows[path, function][code]} times, "
                   f"and not once: `{shown}`; put it back, or change the row")
     for part, line, advice, found in without:
-        # What is still there of such a row is no fault of its own.
+        # If the code of this row is still there more than once or in part, its places are no further faults.
         here = spelled(it for it in part.tokens if it.line == line)
         if not any(here in spelled(tokens_of(code)) for code in lost.get((part.path, part.function), [])):
             fault(f"{part.path}, line {line}, {part.function or 'outside of functions'}: `{line_of(part.path, line)}` uses {', '.join(dict.fromkeys(found))} "

@@ -1,6 +1,6 @@
-/* Stands before the C library's memory for a program that is run with it preloaded: of the growths that the program itself asks for,
-   counted from 1, it refuses the one that REFUSE names, and each after it where AND_ALL is set. At the end it writes how many there
-   were to the descriptor COUNT. */
+/* Replaces the C library's malloc and realloc in a program that is run with this library preloaded. It counts the growths that the program
+   itself asks for from 1, and refuses the one with the number REFUSE, and all later ones if AND_ALL is set. At the end it writes their
+   number to the descriptor COUNT. */
 #define _GNU_SOURCE
 #include <errno.h>
 #include <link.h>
@@ -14,7 +14,7 @@ void *__libc_realloc(void *place, size_t size);
 static uintptr_t program_begin, program_end;
 static long asked, refused, and_all;
 
-/* The first object is the program. */
+/* Notes the addresses of the first object, which is the program. */
 static int see(struct dl_phdr_info *info, size_t size, void *data) {
     (void)size, (void)data;
     program_begin = UINTPTR_MAX;
@@ -43,7 +43,7 @@ __attribute__((destructor)) static void end(void) {
     if (getenv("COUNT")) dprintf(number("COUNT"), "%ld", asked);
 }
 
-/* Whether this growth is refused; what the C library asks for itself is not counted. */
+/* Whether this growth is refused. Growths that the C library itself asks for are not counted. */
 static int refuses(void *caller) {
     if ((uintptr_t)caller < program_begin || (uintptr_t)caller >= program_end) return 0;
     asked++;

@@ -1,4 +1,4 @@
-"""Rows of a table of runs of the program, and how a row is tried: with its files, streams and limits, in the folder of the script."""
+"""Rows of a table of runs of the program. Tries a row with its files, streams and limits, in the folder of the script."""
 import dataclasses, fcntl, os, re, resource, shutil, signal, subprocess, sys, termios
 
 from lib import streams
@@ -10,16 +10,16 @@ FLAGS = {"<": os.O_RDONLY, ">": os.O_WRONLY | os.O_CREAT | os.O_TRUNC, ">>": os.
 
 @dataclasses.dataclass
 class Row:
-    """A run of the program, and what has to come of it."""
+    """A run of the program, and its expected results."""
     name: str
     words: object = None        # a list, or a text that is split at blanks, in which '' is the empty word
     refusal: str = ""           # the line on standard error without `jose: `; without a refusal the status is 0 and standard error is empty
-    files: dict = dataclasses.field(default_factory=dict)   # the files afterwards, as `agrees` reads them
+    files: dict = dataclasses.field(default_factory=dict)   # the expected files after the run, as `agrees` reads them
     folder: dict = None         # the files of a new folder, in which the program runs; only those of `files` may differ there afterwards
-    streams: str = ""           # redirections, as in a shell; without them input is /dev/null, and output goes to the file `out`
+    streams: str = ""           # redirections, as in a shell; by default input is /dev/null, and output goes to the file `out`
     way: tuple = ()             # a function of lib/streams.py with its arguments, for streams that no redirection makes
     given: dict = dataclasses.field(default_factory=dict)   # files that are made before the run
-    then: dict = dataclasses.field(default_factory=dict)    # checks after it: the name of each, with a file and what `agrees` reads
+    then: dict = dataclasses.field(default_factory=dict)    # checks after the run: the name of each, with a file and what `agrees` reads
     status: int = None          # the status, if it does not follow from the refusal
     errors: bytes = None        # standard error, if it does not follow from the refusal
     inside: str = "."           # the folder in which the program runs, if it is not a new one
@@ -27,8 +27,8 @@ class Row:
     room: int = None            # the limit on the size of a file, in KiB
     descriptors: int = None     # the limit on open descriptors
     failing: dict = None        # the calls that fail, in the words of lib/fail.c
-    as_user: bool = False       # the program is the copy in the folder, and the user is not root
-    shell: list = None          # a shell's command that runs the program as "$jose"
+    as_user: bool = False       # runs the copy of the program in the folder, as a user other than root
+    shell: list = None          # the command of a shell, which runs the program as "$jose"
 
 
 class Soft(str):
@@ -36,7 +36,7 @@ class Soft(str):
 
 
 class Hard(str):
-    """Another name of the file of this name."""
+    """A hard link to the file of this name."""
 
 
 def read(file):
@@ -45,7 +45,8 @@ def read(file):
 
 
 def make(file, wanted):
-    """Makes a file of octets, of a mode and octets or of what a function returns, or a link, or a folder. None removes the file."""
+    """Makes a file with these octets, or with a mode and octets, or a link, or a folder. A function returns one of these. None removes the
+    file."""
     if callable(wanted):
         wanted = wanted()
     if os.path.lexists(file) and isinstance(wanted, (Soft, Hard, type(None))):
@@ -68,7 +69,7 @@ def make(file, wanted):
 
 
 def state_of(folder):
-    """The files of a folder: the target of a symbolic link, or the mode and the octets."""
+    """The files of a folder: for each the target of a symbolic link, or the mode and the octets."""
     return {it.name: os.readlink(it) if it.is_symlink() else (it.stat().st_mode & 0o7777, read(it)) for it in os.scandir(folder)}
 
 
@@ -77,8 +78,8 @@ def shown(state):
 
 
 def agrees(file, wanted):
-    """Whether a file is as wanted. This may be its octets, the name of a file with the same octets, its mode, the files of a folder, a function
-    that is true of its octets, or None for a file that is not there."""
+    """Whether a file is as wanted. `wanted` may be its octets, the name of a file with the same octets, its mode, the files of a folder, a
+    function that is true of its octets, or None if the file must not exist."""
     if wanted is None or not os.path.exists(file):
         return wanted is None and not os.path.lexists(file)
     if isinstance(wanted, int):
@@ -162,19 +163,19 @@ def play(rows):
             check(name, [] if agrees(file, wanted) else [f"{file} is not as it should be"])
 
 
-# ---- what files have to be
+# ---- functions that are true of the wanted octets
 
 
 def other_than(file):
-    """Not the octets of this file."""
+    """True of any octets except those of this file."""
     return lambda octets: octets != read(file)
 
 
 def first(count, file):
-    """The first octets of this file."""
+    """True of exactly this many of the first octets of this file."""
     return lambda octets: octets == read(file)[:count]
 
 
 def part_of(file, least=1):
-    """At least so many of the first octets of this file, and not all."""
+    """True of a beginning of this file that has at least this many octets and is not the whole."""
     return lambda octets: least <= len(octets) < os.path.getsize(file) and read(file).startswith(octets)

@@ -1,5 +1,5 @@
-"""Reads the code of the crates as tokens, by file and function: without comments, without clauses and what is there for clauses alone, and
-without tests, which are the modules under `#[cfg(test)]`.
+"""Reads the code of the crates as tokens, by file and function. It leaves out comments, clauses, code that serves clauses alone, and tests.
+Tests are the modules under `#[cfg(test)]`.
 """
 import collections, os, re
 
@@ -8,7 +8,7 @@ from lib.trial import TOP
 ROOT = str(TOP)
 CRATES = re.findall(r"^([a-z]+):", (TOP / "crates.txt").read_text(), re.M)
 Token = collections.namedtuple("Token", "text line")
-# A function with its signature, or all that is outside of functions in a file, whose function is then "".
+# A function with its signature, or everything in a file outside of functions. In the second case `function` is "".
 Part = collections.namedtuple("Part", "path function tokens")
 
 TOKEN = re.compile(r"""
@@ -20,11 +20,11 @@ TOKEN = re.compile(r"""
   | ::|=>|->|==|!=|<=|>=|&&|\|\||<<|>>|\.\.=?|[-+*/%^&|]=|.)
 """, re.S | re.X)
 OPENING, CLOSING = "([{", ")]}"
-# The attributes that are left out, since they make no code.
+# The attributes that are left out, since they generate no code.
 HINTS = {"cfg", "cycle", "inline", "tactic"}
 
 
-# What was found to be wrong.
+# The faults that were found.
 faults = []
 
 
@@ -39,7 +39,7 @@ def read(path):
 
 
 def tokens_of(text):
-    """All tokens of a text, but for white space and comments."""
+    """All tokens of a text, without white space and comments."""
     found, line, at = [], 1, 0
     for it in TOKEN.finditer(text):
         line, at = line + text.count("\n", at, it.start()), it.start()
@@ -64,7 +64,7 @@ def text_at(tokens, at):
 
 
 def past_ghost(tokens, at):
-    """The place behind what is for clauses alone, if it begins here, or else this place."""
+    """The place behind code that serves clauses alone, if some begins here, or else this place."""
     word, start = tokens[at].text, at
     if word in ("requires", "ensures"):
         at += 1 + (text_at(tokens, at + 1) != "{")
@@ -82,7 +82,7 @@ def past_ghost(tokens, at):
 
 
 def code_of(tokens):
-    """The tokens without hints and without what is for clauses alone, and the names of the modules that are tests."""
+    """The tokens without hints and without code that serves clauses alone, and the names of the modules that are tests."""
     code, tests, at = [], [], 0
     while at < len(tokens):
         past = past_ghost(tokens, at)
@@ -107,7 +107,7 @@ def owner_of(header):
 
 
 def parts_of(path, code):
-    """The functions of a file, and last what is outside of them."""
+    """The functions of a file, and last everything outside of them."""
     outside, owners, at = [], [], 0
     while at < len(code):
         word, start = code[at].text, at
@@ -135,7 +135,7 @@ def parts(crate):
     """The code of a crate, part by part."""
     folder, tests = os.path.join(ROOT, "crates", crate, "src"), []
     paths = [os.path.join(at, name) for at, _, names in os.walk(folder) for name in names if name.endswith(".rt")]
-    # A module's file comes before those of the modules that it names.
+    # The file of a module comes before the files of the modules that it names.
     for path in sorted(paths, key=lambda it: (it.count("/"), not it.endswith(("/lib.rt", "/main.rt", "/mod.rt")), it)):
         if any(path == f"{it}.rt" or path.startswith(f"{it}/") for it in tests):
             continue

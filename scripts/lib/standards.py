@@ -1,4 +1,5 @@
-"""Keys and objects that the standards show, and what goes into them. With a name as its word it writes that one, for scripts of a shell."""
+"""Keys and objects that the standards show, and the values that they are made from. If it is run with one of their
+names, it prints that value, for shell scripts."""
 import sys
 
 # RFC 7515 appendix A.1: the key, the compact text and its payload.

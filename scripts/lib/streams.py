@@ -1,7 +1,7 @@
 """Ways to run a command with standard streams that no redirection makes.
 
-Each is a function of `start`, which starts the command with the given streams in place of its usual ones. It returns the octets that came
-from the command, by the name of the file to which lib/rows.py writes them.
+Each is a function of `start`, which starts the command with the given streams in place of its usual ones. It returns the octets that the
+command wrote, under the name of the file into which lib/rows.py puts them.
 """
 import os, socket, struct, subprocess, time, tty
 
@@ -18,7 +18,7 @@ def beginning(file, count):
 
 
 def rest_of(descriptor):
-    """What can be read until the end, after which the descriptor is closed."""
+    """Reads until the end, and closes the descriptor."""
     with open(descriptor, "rb") as it:
         return it.read()
 
@@ -27,7 +27,7 @@ def rest_of(descriptor):
 
 
 def hung_up(start, file, count):
-    """A terminal that is hung up."""
+    """Standard input is a terminal that is hung up."""
     terminal, line = os.openpty()
     tty.setraw(line)
     start(stdin=terminal)
@@ -39,7 +39,7 @@ def hung_up(start, file, count):
 
 
 def unready(start, file, count, ends=False):
-    """A non-blocking pipe whose writer is there and writes no more."""
+    """Standard input is a non-blocking pipe. Its writer keeps it open, but writes no more."""
     reading, writing = os.pipe2(PIPE)
     os.write(writing, beginning(file, count))
     if ends:
@@ -51,15 +51,15 @@ def unready(start, file, count, ends=False):
 
 
 def ended(start, file, count):
-    """The same pipe without a writer. It ends, and does not fail."""
+    """Standard input is the same pipe without a writer. It ends, and does not fail."""
     unready(start, file, count, True)
 
 
 def reset(start, file, count):
-    """A socket that its other end has reset. One read fails, and the next one is at the end."""
+    """Standard input is a socket that its other end has reset. One read fails, and the next one is at the end."""
     near, far = socket.socketpair()
     far.sendall(beginning(file, count))
-    # Closing an end with octets that it did not read resets the other.
+    # Closing an end that has unread octets resets the other end.
     near.send(b"unread")
     far.close()
     start(stdin=near)
@@ -70,7 +70,7 @@ def reset(start, file, count):
 
 
 def full(start, room):
-    """A non-blocking pipe with room for so many octets."""
+    """Standard output is a non-blocking pipe with room for this many octets."""
     reading, writing = os.pipe2(PIPE)
     before = 0
     try:
@@ -86,7 +86,7 @@ def full(start, room):
 
 
 def cut_off(start):
-    """A connection that its other end has reset."""
+    """Standard output is a connection that its other end has reset."""
     with socket.create_server(("127.0.0.1", 0)) as server:
         near = socket.create_connection(server.getsockname())
         far, _ = server.accept()
@@ -97,13 +97,13 @@ def cut_off(start):
 
 
 def to_pipe(start, count=-1):
-    """A pipe that is read to its end, or whose reader goes away after so many octets."""
+    """Standard output is a pipe that is read to its end, or whose reader closes it after this many octets."""
     with start(stdout=subprocess.PIPE) as process:
         return {"out": process.stdout.read(count)}
 
 
 def to_no_reader(start):
-    """A pipe whose reader has gone away."""
+    """Standard output is a pipe that its reader has closed."""
     reading, writing = os.pipe()
     os.close(reading)
     start(stdout=writing)
@@ -111,7 +111,7 @@ def to_no_reader(start):
 
 
 def on_terminal(start):
-    """A terminal as all three standard streams."""
+    """All three standard streams are one terminal."""
     terminal, line = os.openpty()
     start(stdin=line, stdout=line, stderr=line, has_terminal=True)
     os.close(line)
@@ -120,7 +120,7 @@ def on_terminal(start):
         while piece := os.read(terminal, 4096):
             came += piece
     except OSError:
-        # A terminal that no process has open fails, and does not end.
+        # Reading from a terminal that no process has open fails. It does not end.
         pass
     os.close(terminal)
     return {"out": came}
@@ -130,14 +130,14 @@ def on_terminal(start):
 
 
 def leaving(start, file):
-    """A file, of which the command leaves the rest."""
+    """Standard input is a file. Returns what the command left unread."""
     reading = os.open(file, os.O_RDONLY)
     start(stdin=reading).wait()
     return {"left": rest_of(reading)}
 
 
 def leaving_pipe(start, file, times=1):
-    """A pipe with the octets of the file, of which the command, or several runs of it, leaves the rest."""
+    """Standard input is a pipe with the octets of the file. Returns what the command, or several runs of it, left unread."""
     reading, writing = os.pipe()
     with open(file, "rb") as it:
         os.write(writing, it.read())
@@ -149,7 +149,7 @@ def leaving_pipe(start, file, times=1):
 
 
 def by_named_pipes(start, file=None):
-    """The pipe `into` has the octets of the file meanwhile, and what the command writes to the pipe `outof` is what came."""
+    """The octets of the file are written to the named pipe `into` meanwhile. Returns what the command writes to the named pipe `outof`."""
     feeder = subprocess.Popen(["timeout", "20", "sh", "-c", 'exec cat "$1" >into', "-", file]) if file else None
     with subprocess.Popen(["timeout", "20", "cat", "outof"], stdout=subprocess.PIPE) as reader:
         start()
@@ -160,7 +160,7 @@ def by_named_pipes(start, file=None):
 
 
 def cutting(start, file, length):
-    """The file is cut to this length after its first octet came through the pipe that is standard output."""
+    """Standard output is a pipe. When the first octet comes through it, the file is truncated to this length."""
     with start(stdout=subprocess.PIPE, bufsize=0) as process:
         first = process.stdout.read(1)
         os.truncate(file, length)
@@ -168,7 +168,7 @@ def cutting(start, file, length):
 
 
 def while_open(start, octets, output):
-    """The named pipe `pipe` has these octets. What the output holds while the pipe is still open is what came."""
+    """The named pipe `pipe` has these octets and stays open. Returns the first octet that the output has meanwhile."""
     writing = os.open("pipe", os.O_RDWR)
     os.write(writing, octets)
     start()

@@ -1,14 +1,16 @@
-"""The program's table of commands and its refusals, as a test of crate `jose` prints them (crates/jose/src/tests/table.rt): a test can read no
-file of the repository, so it cannot compare one."""
+"""Reads the program's table of commands and its refusals, which a test of crate `jose` prints (crates/jose/src/tests/table.rt). The test
+cannot compare them itself, since it can read no file of the repository.
+"""
 import collections, re, subprocess, sys
 
 from lib.trial import TOP
 
-# What an option takes (`flag`, `required`, `optional` or `default`), its default, and what its value names (`input`, `output`, `hash` or `nothing`).
+# An option: its kind (`flag`, `required`, `optional` or `default`), its default, and its role, which is what its value names (`input`,
+# `output`, `hash` or `nothing`).
 Option = collections.namedtuple("Option", "kind default role")
 
 TEST = "tests::table::the_table_is_printed"
-# The tests as the gate proved and built them, and what was printed where they were built for this alone, without a proof.
+# The tests that the gate proved and built, and the text that is kept after they were built without a proof, only to print it.
 TESTS, KEPT = TOP / "crates/jose/out/jose_tests", TOP / "out/table"
 
 
@@ -20,7 +22,7 @@ def output(words):
 
 
 def printed():
-    """What the test prints of the sources as they stand. Where no tests that are newer were built it takes a minute."""
+    """Returns what the test prints for the current sources. It takes a minute if no tests were built since they changed."""
     changed = max(source.stat().st_mtime for source in TOP.glob("crates/*/src/**/*.rt"))
     if TESTS.exists() and TESTS.stat().st_mtime > changed:
         return output([TESTS, TEST])
@@ -32,7 +34,7 @@ def printed():
 
 
 def read():
-    """The commands, of each its options by their letters; and the refusals, each its number and name, in their order."""
+    """The commands, each with its options by their letters; and the refusals, each with its number and name, in their order."""
     text = printed()
     commands = {}
     for words, letter, role, kind, default in re.findall(r"^ *option (\w+ \w+) (\w) (\w+) (\w+) ?(.*)$", text, re.M):

@@ -1,4 +1,4 @@
-"""Texts that scripts make without the program: base64url, keys and their names, and signed objects and other forms of an object."""
+"""Texts that scripts make without the program: base64url, keys and their names, signed objects, and other forms of an object."""
 import base64, hashlib, hmac, json
 
 from lib.standards import RFC7515_KEY
@@ -24,12 +24,12 @@ def key_set(*keys):
 
 
 def thumbprint(key):
-    """The name of a key by RFC 7638."""
+    """The name of a key by RFC 7638, with SHA-256."""
     return b64(hashlib.sha256(b'{"k":"%s","kty":"oct"}' % json.loads(key)["k"].encode()).digest())
 
 
 def signed(payload, header=HS256, key=RFC7515_KEY):
-    """The compact text of a payload that Python's `hmac` signs by HS256."""
+    """The compact text of a payload, signed by HS256 with Python's `hmac`."""
     text = b64(header) + b"." + b64(payload)
     return text + b"." + b64(hmac.digest(octets_of(json.loads(key)["k"].encode()), text, "sha256"))
 

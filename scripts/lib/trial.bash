@@ -1,4 +1,4 @@
-# What the shell scripts that try the program share: its path, a new folder, $work, which is removed when the script ends, and the counts of
+# Shared by the shell scripts that try the program: its path, a new folder $work, which is removed when the script ends, and the counts of
 # what passed and failed. A script sources this before it changes its folder.
 top=$(cd "$(dirname "${BASH_SOURCE[0]}")/../.." && pwd)
 jose=$top/crates/jose/out/jose
@@ -12,7 +12,7 @@ needs() {
     [ -x "$1" ] || { echo "run make build first" >&2; exit 1; }
 }
 
-# told WHAT yes|no [WHY]: counts that this passed or failed, and prints it.
+# told WHAT yes|no [WHY]: counts WHAT as passed or failed, and prints it.
 told() {
     if [ "$2" = yes ]; then
         passed=$((passed + 1))
@@ -32,12 +32,12 @@ shows() {
     if [ "$got" = "$status" ]; then told "$what" yes; else told "$what" no "status $got, $(tail -n 3 "$work/printed")"; fi
 }
 
-# left_out WHAT WHY: prints that this is not tried on this machine, which is no failure.
+# left_out WHAT WHY: prints that WHAT is not tried on this machine. That is no failure.
 left_out() {
     echo "left out: $1, since $2"
 }
 
-# end: the last line of the script, and its status.
+# end: prints the last line of the script, and returns its status.
 end() {
     echo "$passed passed, $failed failed"
     [ "$failed" = 0 ]

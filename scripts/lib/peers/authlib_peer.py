@@ -1,4 +1,4 @@
-"""What scripts/interop asks of Authlib."""
+"""The calls that scripts/interop makes to Authlib."""
 import json
 
 from authlib.jose import JsonWebEncryption, JsonWebSignature

@@ -1,4 +1,5 @@
-/* What scripts/interop asks of cjose: a JSON request in each line of standard input, a JSON answer in each line of standard output. */
+/* Makes the calls of scripts/interop to cjose. Each line of standard input is a JSON request, and each line of standard output is a JSON
+   answer. */
 #include <cjose/cjose.h>
 #include <jansson.h>
 #include <stdio.h>

@@ -1,5 +1,6 @@
 #!/usr/bin/perl
-# What scripts/interop asks of Crypt::JWT: a JSON request in each line of standard input, a JSON answer in each line of standard output.
+# Makes the calls of scripts/interop to Crypt::JWT. Each line of standard input is a JSON request, and each line of
+# standard output is a JSON answer.
 use strict;
 use warnings;
 use Crypt::JWT qw(decode_jwt encode_jwt);

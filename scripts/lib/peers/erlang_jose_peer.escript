@@ -1,5 +1,6 @@
 #!/usr/bin/env escript
-%% What scripts/interop asks of erlang-jose: a JSON request in each line of standard input, a JSON answer in each line of standard output.
+%% Makes the calls of scripts/interop to erlang-jose. Each line of standard input is a JSON request, and each line of
+%% standard output is a JSON answer.
 main(_) ->
     {ok, _} = application:ensure_all_started(jose),
     io:setopts([binary]),

@@ -1,4 +1,5 @@
-// What scripts/interop asks of go-jose: a JSON request in each line of standard input, a JSON answer in each line of standard output.
+// Makes the calls of scripts/interop to go-jose. Each line of standard input is a JSON request, and each line of
+// standard output is a JSON answer.
 package main
 
 import (
@@ -115,7 +116,7 @@ func decrypt(a ask) (string, error) {
 	return textOf(plaintext), err
 }
 
-// A call that panics has given no answer.
+// A call that panics is a refusal.
 func answer(call func(ask) (string, error), a ask) (text string, err error) {
 	defer func() {
 		if reason := recover(); reason != nil {

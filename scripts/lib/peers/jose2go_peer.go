@@ -1,5 +1,5 @@
-// What scripts/interop asks of jose2go, which writes and reads compact form: a JSON request in each line of standard input, a JSON answer in
-// each line of standard output.
+// Makes the calls of scripts/interop to jose2go, which writes and reads compact form. Each line of standard input is a JSON request, and
+// each line of standard output is a JSON answer.
 package main
 
 import (
@@ -27,7 +27,7 @@ func octets(text string) []byte {
 	return some
 }
 
-// given is the key as the algorithm takes it: a password is a string.
+// given returns the key in the type that the algorithm needs: a string for a password, octets otherwise.
 func given(alg, text string) interface{} {
 	if strings.HasPrefix(alg, "PBES2") {
 		return string(octets(text))

@@ -1,4 +1,4 @@
-"""What scripts/interop asks of joserfc."""
+"""The calls that scripts/interop makes to joserfc."""
 import json
 
 from joserfc import jwe, jws
@@ -8,7 +8,7 @@ from joserfc.jwk import OctKey
 from peer import octets, serve, text_of
 
 HMACS = ['HS256', 'HS384', 'HS512']
-# One key of several serves.
+# It is enough that one of several keys opens the token.
 REGISTRY = JWERegistry(algorithms=[name for names in JWERegistry.algorithms.values() for name in names], verify_all_recipients=False)
 
 

@@ -1,4 +1,4 @@
-"""What scripts/interop asks of jwcrypto."""
+"""The calls that scripts/interop makes to jwcrypto."""
 import json
 
 from jwcrypto import jwe, jwk, jws

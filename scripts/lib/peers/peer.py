@@ -1,4 +1,4 @@
-"""What the peers in Python share: a JSON request in each line of standard input, a JSON answer in each line of standard output."""
+"""Shared by the peers in Python: each line of standard input is a JSON request, and each line of standard output is a JSON answer."""
 import base64
 import json
 import sys
@@ -13,7 +13,7 @@ def text_of(some):
 
 
 def serve(calls):
-    """Answers each request by the call that it names; what the call raises is a refusal."""
+    """Answers each request with the call that it names. An exception of the call is a refusal."""
     for line in sys.stdin:
         asked = json.loads(line)
         try:

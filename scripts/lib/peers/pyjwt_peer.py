@@ -1,4 +1,4 @@
-"""What scripts/interop asks of PyJWT, which signs and verifies tokens in compact form."""
+"""The calls that scripts/interop makes to PyJWT, which signs and verifies tokens in compact form."""
 from jwt.api_jws import PyJWS
 
 from peer import octets, serve, text_of

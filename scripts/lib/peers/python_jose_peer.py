@@ -1,4 +1,4 @@
-"""What scripts/interop asks of python-jose, which writes and reads compact form."""
+"""The calls that scripts/interop makes to python-jose, which writes and reads compact form."""
 from jose import jwe, jws
 
 from peer import octets, serve, text_of

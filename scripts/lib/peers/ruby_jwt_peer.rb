@@ -1,5 +1,6 @@
-# What scripts/interop asks of ruby-jwt: a JSON request in each line of standard input, a JSON answer in each line of standard output.
-# It signs claims alone, which are a JSON object.
+# Makes the calls of scripts/interop to ruby-jwt. Each line of standard input is a JSON request, and each line of
+# standard output is a JSON answer.
+# It signs only claims, which are a JSON object.
 require 'base64'
 require 'json'
 require 'jwt'
