@@ -133,15 +133,15 @@ handed_out true content = content
 -- ---- what a text begins with, whatever its content is (docs/SPECIFICATION.md "Commands", what is left after a refusal)
 
 -- the longest list with which both begin
-abbrev pub common : List ℕ → List ℕ → List ℕ
-common [] ys = []
-common (x ∷ xs) [] = []
-common (x ∷ xs) (y ∷ ys) = if x == y then x ∷ common xs ys else []
+abbrev pub common_beginning : List ℕ → List ℕ → List ℕ
+common_beginning [] ys = []
+common_beginning (x ∷ xs) [] = []
+common_beginning (x ∷ xs) (y ∷ ys) = if x == y then x ∷ common_beginning xs ys else []
 
 -- The text before the content is what the texts with the contents 0 and 255 have in common, since their base64url texts, AA and _w, differ
 -- from the first character on. It is empty if there are no texts.
 abbrev pub before_content : (List ℕ → Result (List ℕ) Refusal) → List ℕ
-before_content text_of = common (result_unwrap_or (text_of (0 ∷ [])) []) (result_unwrap_or (text_of (255 ∷ [])) [])
+before_content text_of = common_beginning (result_unwrap_or (text_of (0 ∷ [])) []) (result_unwrap_or (text_of (255 ∷ [])) [])
 
 -- ---- lists (RFC 7515 section 7.2.1, RFC 7516 section 7.2.1)
 

@@ -9,7 +9,7 @@ use Rattle.octets.specs.Octets.{IsOctets}
 use Rattle.octets.specs.Plan.{OutputTexts, Plan, Begins, Grows, plan_map, BothGrow}
 use Rattle.octets.proofs.Lemmas.{IsOctets-nil, first_or, base64url_whole-append, base64url_whole_part, steps, same_answer, spells_six_bits}
 use Rattle.objects.specs.Code.Frames.{filled, in_places, first_text}
-use Rattle.objects.specs.Texts.{handed_in, handed_out, common, before_content}
+use Rattle.objects.specs.Texts.{handed_in, handed_out, common_beginning, before_content}
 
 -- ---- lists
 
@@ -59,7 +59,7 @@ frame_begins (first ∷ rest) x content others some b =
 -- ---- the text before a content
 
 -- Two texts that differ after a common front have exactly this front in common.
-common_front : (front : List ℕ) (x y : ℕ) (xs ys : List ℕ) → (x == y) ≡ false → common (front ++ x ∷ xs) (front ++ y ∷ ys) ≡ front
+common_front : (front : List ℕ) (x y : ℕ) (xs ys : List ℕ) → (x == y) ≡ false → common_beginning (front ++ x ∷ xs) (front ++ y ∷ ys) ≡ front
 common_front [] x y xs ys differ = rw differ refl
 common_front (c ∷ front) x y xs ys differ = rw (eq-eqb c c refl) (ap (λ l. c ∷ l) (common_front front x y xs ys differ))
 

@@ -18,7 +18,7 @@ part_group octets = drop (length octets / 3 * 3) octets
 unfoldable pub settled : List ℕ → List ℕ
 settled text = take ((length text - 2) / 4 * 4) text
 
--- the characters after these groups
+-- the characters after the groups that `settled` has
 unfoldable pub unsettled : List ℕ → List ℕ
 unsettled text = drop ((length text - 2) / 4 * 4) text
 
