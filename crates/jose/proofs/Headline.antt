@@ -180,29 +180,29 @@ signed_is_verified verifies compact detach keys template payload texts octets h 
 
 -- If a command writes the compact text of the object that it reads, it does so exactly if the object has one.
 goes_there : {O : Type 0} (read : Option (List ℕ) → List ℕ → Result O Refusal) (compact_text : Bool → O → Result (List ℕ) Refusal) (content : O → List ℕ) (Fits : O → Type 0)
-    → ((beside : Bool) (o : O) → HasText (compact_text beside o) ↔ Fits o) → ((beside : Bool) (o : O) → ¬ Fits o → compact_text beside o ≡ Err NotCompact)
+    → ((detach : Bool) (o : O) → HasText (compact_text detach o) ↔ Fits o) → ((detach : Bool) (o : O) → ¬ Fits o → compact_text detach o ≡ Err NotCompact)
     → (fmt : Bool → Bool → Option (List ℕ) → List ℕ → Result OutputTexts Refusal)
-    → ((beside : Bool) (detached : Option (List ℕ)) (text : List ℕ)
-    → fmt true beside detached text ≡ (read detached text >>= λ o. compact_text beside o >>= λ text. Ok (record { text = text; content = handed_out beside (content o) })))
+    → ((detach : Bool) (detached : Option (List ℕ)) (text : List ℕ)
+    → fmt true detach detached text ≡ (read detached text >>= λ o. compact_text detach o >>= λ text. Ok (record { text = text; content = handed_out detach (content o) })))
     → GoesToCompactForm read Fits fmt
-goes_there {O} read compact_text content Fits exists refused fmt is beside detached text o h =
-    let with_content : List ℕ → Result OutputTexts Refusal = λ text. Ok (record { text = text; content = handed_out beside (content o) }) in
-    let written : fmt true beside detached text ≡ (compact_text beside o >>= with_content) =
-    is beside detached text ∙ ap (λ r. r >>= λ o. compact_text beside o >>= λ text. Ok (record { text = text; content = handed_out beside (content o) })) h in (
+goes_there {O} read compact_text content Fits exists refused fmt is detach detached text o h =
+    let with_content : List ℕ → Result OutputTexts Refusal = λ text. Ok (record { text = text; content = handed_out detach (content o) }) in
+    let written : fmt true detach detached text ≡ (compact_text detach o >>= with_content) =
+    is detach detached text ∙ ap (λ r. r >>= λ o. compact_text detach o >>= λ text. Ok (record { text = text; content = handed_out detach (content o) })) h in (
       (
-        λ compact. let found = steps (compact_text beside o) with_content compact.0 (sym written ∙ compact.1) in (exists beside o).0 (found.0, found.1),
-        λ fits. let found = (exists beside o).1 fits in (record { text = found.0; content = handed_out beside (content o) }, written ∙ ap (λ r. r >>= with_content) found.1),
+        λ compact. let found = steps (compact_text detach o) with_content compact.0 (sym written ∙ compact.1) in (exists detach o).0 (found.0, found.1),
+        λ fits. let found = (exists detach o).1 fits in (record { text = found.0; content = handed_out detach (content o) }, written ∙ ap (λ r. r >>= with_content) found.1),
       ),
-      λ none. written ∙ ap (λ r. r >>= with_content) (refused beside o none),
+      λ none. written ∙ ap (λ r. r >>= with_content) (refused detach o none),
     )
 
 pub signed_objects_go_there : JwsCompactFormIsExact → GoesToCompactForm (jws.jws_of limits) HasOnlySignature (jws_fmt_answer limits)
 unfolding jws_fmt_answer
-signed_objects_go_there exact = goes_there (jws.jws_of limits) jws.jws_compact_text (λ o. o.payload) HasOnlySignature exact.exists exact.refused (jws_fmt_answer limits) (λ beside detached text. refl)
+signed_objects_go_there exact = goes_there (jws.jws_of limits) jws.jws_compact_text (λ o. o.payload) HasOnlySignature exact.exists exact.refused (jws_fmt_answer limits) (λ detach detached text. refl)
 
 pub encrypted_objects_go_there : JweCompactFormIsExact → GoesToCompactForm (jwe.jwe_of limits) HasOnlyRecipient (jwe_fmt_answer limits)
 unfolding jwe_fmt_answer
-encrypted_objects_go_there exact = goes_there (jwe.jwe_of limits) jwe.jwe_compact_text (λ o. o.ciphertext) HasOnlyRecipient exact.exists exact.refused (jwe_fmt_answer limits) (λ beside detached text. refl)
+encrypted_objects_go_there exact = goes_there (jwe.jwe_of limits) jwe.jwe_compact_text (λ o. o.ciphertext) HasOnlyRecipient exact.exists exact.refused (jwe_fmt_answer limits) (λ detach detached text. refl)
 
 -- ---- objects come back from compact form
 
@@ -224,7 +224,7 @@ module _ {O : Type 0} (read : Option (List ℕ) → List ℕ → Result O Refusa
       let form = steps (text_of compact detach o) (λ text. Ok (record { text = text; content = handed_out detach (content o) })) texts h in
       let same = same_answer (record { text = form.0; content = handed_out detach (content o) }) texts form.2 in
       subst (λ (t : OutputTexts). read (handed_in detach t.content) t.text ≡ Ok o) same
-      (ap (λ beside. read beside form.0) (handed_back detach (content o)) ∙ by_form compact form.0 form.1)
+      (ap (λ detached. read detached form.0) (handed_back detach (content o)) ∙ by_form compact form.0 form.1)
     where
       by_form : (compact : Bool) (text : List ℕ) → text_of compact detach o ≡ Ok text → read (handed_in detach (content o)) text ≡ Ok o
       by_form true text h = (spelled detached _ o handed octets is detach).1 text h

@@ -98,7 +98,7 @@ pub data Destination : Type 0 where
   output_file : Text → Purpose → List (Option Text) → Destination
 
 abbrev pub others_of : Apart → List (Option Text)
-others_of apart = map name_of (apart.content ∷ apart.keys ∷ apart.beside ∷ [])
+others_of apart = map name_of (apart.content ∷ apart.keys ∷ apart.earlier_output ∷ [])
 
 abbrev pub destination_of : {R F D : Type 0} → Sink R F D → Destination
 destination_of sink.Nowhere = nowhere

@@ -59,14 +59,14 @@ SignedIsVerified = (compact detach : Bool) (keys template payload : List ℕ) (t
 -- An object that was read is written in compact form, with the content inside or detached, exactly if it fits. If it does not fit, the
 -- refusal is NotCompact.
 abbrev pub GoesToCompactForm : {O : Type 0} → (Option (List ℕ) → List ℕ → Result O Refusal) → (O → Type 0) → (Bool → Bool → Option (List ℕ) → List ℕ → Result OutputTexts Refusal) → Type 0
-GoesToCompactForm {O} read Fits fmt = (beside : Bool) (detached : Option (List ℕ)) (text : List ℕ) (o : O) → read detached text ≡ Ok o
-    → (((compact : OutputTexts) × (fmt true beside detached text ≡ Ok compact)) ↔ Fits o)
-    × (¬ Fits o → fmt true beside detached text ≡ Err NotCompact)
+GoesToCompactForm {O} read Fits fmt = (detach : Bool) (detached : Option (List ℕ)) (text : List ℕ) (o : O) → read detached text ≡ Ok o
+    → (((compact : OutputTexts) × (fmt true detach detached text ≡ Ok compact)) ↔ Fits o)
+    × (¬ Fits o → fmt true detach detached text ≡ Err NotCompact)
 
 -- If an object is written in JSON form, then in compact form and then in JSON form again, the result is the same as at first. In either
 -- form the content may be inside or detached, but both JSON texts have it in the same place.
 abbrev pub FormatsGoBack : (Bool → Bool → Option (List ℕ) → List ℕ → Result OutputTexts Refusal) → Type 0
-FormatsGoBack fmt = (beside_json beside_compact : Bool) (detached : Option (List ℕ)) (text : List ℕ) (json compact : OutputTexts) → AreOctetsHandedIn detached → IsOctets text
-    → fmt false beside_json detached text ≡ Ok json
-    → fmt true beside_compact (handed_in beside_json json.content) json.text ≡ Ok compact
-    → fmt false beside_json (handed_in beside_compact compact.content) compact.text ≡ Ok json
+FormatsGoBack fmt = (detach_json detach_compact : Bool) (detached : Option (List ℕ)) (text : List ℕ) (json compact : OutputTexts) → AreOctetsHandedIn detached → IsOctets text
+    → fmt false detach_json detached text ≡ Ok json
+    → fmt true detach_compact (handed_in detach_json json.content) json.text ≡ Ok compact
+    → fmt false detach_json (handed_in detach_compact compact.content) compact.text ≡ Ok json

@@ -40,7 +40,7 @@ fn read_inputs<I: Input>(
 {
     let text = read_to_end(alloc, &mut inputs.text)?;
     let keys = read_keys(alloc, has_keys, &mut inputs.keys)?;
-    let content = read_beside(alloc, detached_given, &mut inputs.content)?;
+    let content = read_detached(alloc, detached_given, &mut inputs.content)?;
     Ok(WholeInputs {
         text,
         keys,
@@ -66,7 +66,7 @@ fn read_keys<I: Input>(alloc: Global, has_keys: bool, keys: &mut I) -> Result<Ve
 }
 
 /// Reads the content to its end, if it is handed in separately from the object.
-fn read_beside<I: Input>(
+fn read_detached<I: Input>(
     alloc: Global,
     detached_given: bool,
     content: &mut I,

@@ -116,7 +116,7 @@ pub(crate) struct Apart<'a> {
     /// The file of the keys.
     keys: Option<&'a str>,
     /// The file of the output that is written before this one.
-    beside: Option<&'a str>,
+    earlier_output: Option<&'a str>,
 }
 
 /// The purpose of an output file.
@@ -205,7 +205,11 @@ impl<'a, R: System> OutputFile<'a, R> {
             IsNotApart (R.id_gives self.now.files.now) self.now.path.now (others_of self.now.apart)
             ⊎ R.create_gives self.now.files.now self.now.path.now (mode_for self.now.purpose) (Err e)) }
     {
-        let others = [self.apart.content, self.apart.keys, self.apart.beside];
+        let others = [
+            self.apart.content,
+            self.apart.keys,
+            self.apart.earlier_output,
+        ];
         if is_one_of(self.files, self.path, &others) {
             return Err(io::Error::from(io::ErrorKind::ResourceBusy));
         }
@@ -336,10 +340,10 @@ pub(crate) fn outputs<'a, R: System>(
     let content_apart = Apart {
         content: file_read(command.option_with(Role::Streamed), invocation),
         keys: file_read(command.option_with(Role::Keys), invocation),
-        beside: None,
+        earlier_output: None,
     };
     let text_apart = Apart {
-        beside: file_written(invocation.value('O')),
+        earlier_output: file_written(invocation.value('O')),
         ..content_apart
     };
     Outputs {

@@ -164,7 +164,7 @@ fn fails_to_finish<R: Abort + AllocGlobal>(rt: &R, kind: ErrorKind, times: usize
 const TIMES: &[usize] = &[1, 2, 3];
 
 #[test]
-fn each_kind_of_failure_is_told_as_often_as_it_comes(rt: HostRuntime) {
+fn each_kind_of_failure_is_reported_as_often_as_it_comes(rt: HostRuntime) {
     for kind in KINDS {
         for times in TIMES {
             fails_to_read(&rt, *kind, *times);
@@ -219,7 +219,7 @@ fn ends_after_failures<R: Abort + AllocGlobal>(rt: &R, kind: ErrorKind, failures
 }
 
 #[test]
-fn an_end_that_fails_is_told_though_all_was_taken(rt: HostRuntime) {
+fn a_failing_end_is_reported_although_all_was_taken(rt: HostRuntime) {
     for kind in KINDS {
         for failures in TIMES {
             ends_after_failures(&rt, *kind, *failures);

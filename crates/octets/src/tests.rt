@@ -484,7 +484,7 @@ fn long_octets_are_added_and_compared(rt: HostRuntime) -> Result<(), Fail> {
 }
 
 #[test]
-fn all_of_a_text_goes_out_or_partial_tells_how_much(rt: HostRuntime) -> Result<(), Fail> {
+fn a_text_is_written_whole_or_partial_counts_the_octets(rt: HostRuntime) -> Result<(), Fail> {
     let mut out = MemoryOutput::new(rt.alloc(), 5)?;
     expect_same(&rt, write_whole(&mut out, b"abc"), Ok(()), "abc");
     let part = Err(Partial { written: 2 });

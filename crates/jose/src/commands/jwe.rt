@@ -136,14 +136,14 @@ fn write_formed<O: Output>(
 fn formed(
     alloc: Global,
     text: &[u8],
-    beside: Option<Vec<u8>>,
+    detached: Option<Vec<u8>>,
     compact: bool,
     detach: bool,
 ) -> Result<(Jwe, String), Refusal>
     ensures { AgreesUnlessMemory (λ read. object_texts detach (jwe_view read.0).ciphertext (string_bytes read.1)) result
-        (jwe_fmt_answer limits compact detach (option_map (λ c. c.items) beside) text.now) }
+        (jwe_fmt_answer limits compact detach (option_map (λ c. c.items) detached) text.now) }
 {
-    let object = Jwe::read(alloc, text, beside)?;
+    let object = Jwe::read(alloc, text, detached)?;
     let formed = object.to_text(alloc, compact, detach)?;
     Ok((object, formed))
 }

@@ -213,14 +213,14 @@ fn write_formed<O: Output>(
 fn formed<'t>(
     alloc: Global,
     text: &'t [u8],
-    beside: Option<Vec<u8>>,
+    detached: Option<Vec<u8>>,
     compact: bool,
     detach: bool,
 ) -> Result<(Jws<'t>, String), Refusal>
     ensures { AgreesUnlessMemory (λ read. object_texts detach (jws_view read.0).payload (string_bytes read.1)) result
-        (jws_fmt_answer limits compact detach (option_map (λ c. c.items) beside) text.now) }
+        (jws_fmt_answer limits compact detach (option_map (λ c. c.items) detached) text.now) }
 {
-    let object = Jws::read(alloc, text, beside)?;
+    let object = Jws::read(alloc, text, detached)?;
     let formed = object.to_text(alloc, compact, detach)?;
     Ok((object, formed))
 }

@@ -98,7 +98,7 @@ const SIGNING_KEYS: &[(&str, &str, Refusal)] = &[
 ];
 
 #[test]
-fn signing_tells_the_first_cause(rt: HostRuntime) -> Result<(), Fail> {
+fn signing_reports_the_first_cause(rt: HostRuntime) -> Result<(), Fail> {
     refuses_each(&rt, &SIGN_COMPACT, SIGNING_TEXTS)?;
     refuses_each(&rt, &SIGN_COMPACT, SIGNING_KEYS)
 }
@@ -177,7 +177,7 @@ const ENCRYPTING_KEYS: &[(&str, &str, Refusal)] = &[
 ];
 
 #[test]
-fn encrypting_tells_the_first_cause(rt: HostRuntime) -> Result<(), Fail> {
+fn encrypting_reports_the_first_cause(rt: HostRuntime) -> Result<(), Fail> {
     refuses_each(&rt, &ENCRYPT_COMPACT, ENCRYPTING_TEXTS)?;
     refuses_each(&rt, &ENCRYPT_COMPACT, ENCRYPTING_KEYS)
 }
@@ -221,7 +221,7 @@ const VERIFYING: &[(&str, &str, Refusal)] = &[
 ];
 
 #[test]
-fn verifying_tells_the_first_cause(rt: HostRuntime) -> Result<(), Fail> {
+fn verifying_reports_the_first_cause(rt: HostRuntime) -> Result<(), Fail> {
     refuses_each(&rt, &VERIFY, SIGNED)?;
     refuses_each(&rt, &COMPACT_JWS, SIGNED)?;
     refuses_each(&rt, &VERIFY, VERIFYING)
@@ -280,7 +280,7 @@ const DECRYPTING: &[(&str, &str, Refusal)] = &[
 ];
 
 #[test]
-fn decrypting_tells_the_first_cause(rt: HostRuntime) -> Result<(), Fail> {
+fn decrypting_reports_the_first_cause(rt: HostRuntime) -> Result<(), Fail> {
     refuses_each(&rt, &DECRYPT, ENCRYPTED)?;
     refuses_each(&rt, &COMPACT_JWE, ENCRYPTED)?;
     refuses_each(&rt, &DECRYPT, DECRYPTING)

@@ -3,7 +3,7 @@
 
 mod algorithms;
 mod base64url;
-mod beside;
+mod detached;
 mod encrypted;
 mod headers;
 mod long;

@@ -420,9 +420,9 @@ pub(crate) fn expect_opening<R: Abort + AllocGlobal>(
     let set = KeySet::read(rt.alloc(), keys.as_bytes(), false)?;
     let jwe = Jwe::read(rt.alloc(), text.as_bytes(), None)?;
     let mut out = MemoryOutput::new(rt.alloc(), 64)?;
-    let (told, ended) = jwe_decrypt(rt.alloc(), &set, jwe, &mut out);
+    let (reported, ended) = jwe_decrypt(rt.alloc(), &set, jwe, &mut out);
     expect_same(rt, ended, answer, text);
-    expect_same(rt, told, work, text);
+    expect_same(rt, reported, work, text);
     expect_octets(
         rt,
         out.octets(),

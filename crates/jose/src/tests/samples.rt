@@ -101,7 +101,7 @@ pub(crate) const ABC: &str =
     "eyJhbGciOiJIUzI1NiJ9.YWJj.sxvqVTS8XjHJPVB24OsGa2pZqgR8ZX_Ab4pTTtgI47Y";
 
 /// The same without its payload.
-pub(crate) const ABC_BESIDE: &str =
+pub(crate) const ABC_DETACHED: &str =
     "eyJhbGciOiJIUzI1NiJ9..sxvqVTS8XjHJPVB24OsGa2pZqgR8ZX_Ab4pTTtgI47Y";
 
 /// `ABC` in flattened JSON form.
@@ -109,7 +109,7 @@ pub(crate) const ABC_FLATTENED: &str =
     "{\"payload\":\"YWJj\",\"protected\":\"eyJhbGciOiJIUzI1NiJ9\",\"signature\":\"sxvqVTS8XjHJPVB24OsGa2pZqgR8ZX_Ab4pTTtgI47Y\"}";
 
 /// The same without its payload.
-pub(crate) const ABC_FLATTENED_BESIDE: &str =
+pub(crate) const ABC_FLATTENED_DETACHED: &str =
     "{\"protected\":\"eyJhbGciOiJIUzI1NiJ9\",\"signature\":\"sxvqVTS8XjHJPVB24OsGa2pZqgR8ZX_Ab4pTTtgI47Y\"}";
 
 /// `abc`, signed with each of `TWO_KEYS`, by HS512 and HS256.
@@ -117,7 +117,7 @@ pub(crate) const ABC_GENERAL: &str =
     "{\"payload\":\"YWJj\",\"signatures\":[{\"protected\":\"eyJhbGciOiJIUzUxMiJ9\",\"signature\":\"ScK1f_2owqwH0tMhgpVtvopDQ1GhlP2zxdgv400w_wSEXHxwOM2XkeStAhVFb6moKzeC1Z0H00YC8-EWsv84Wg\"},{\"protected\":\"eyJhbGciOiJIUzI1NiJ9\",\"signature\":\"8-sUlaJJTTOyeAYgv-kHNN9tT55A-tUCHOYatGHTJa0\"}]}";
 
 /// The same without its payload.
-pub(crate) const ABC_GENERAL_BESIDE: &str =
+pub(crate) const ABC_GENERAL_DETACHED: &str =
     "{\"signatures\":[{\"protected\":\"eyJhbGciOiJIUzUxMiJ9\",\"signature\":\"ScK1f_2owqwH0tMhgpVtvopDQ1GhlP2zxdgv400w_wSEXHxwOM2XkeStAhVFb6moKzeC1Z0H00YC8-EWsv84Wg\"},{\"protected\":\"eyJhbGciOiJIUzI1NiJ9\",\"signature\":\"8-sUlaJJTTOyeAYgv-kHNN9tT55A-tUCHOYatGHTJa0\"}]}";
 
 /// `abc`, signed with the key of RFC 7515 appendix A.1. The algorithm is not protected.

@@ -7,12 +7,12 @@ use crate::tests::harness::{Answer, encrypts, expect_rows, expect_text};
 use crate::tests::peers::python_gcm_key_wrap::{BY_A128GCMKW, BY_A128GCMKW_COMPACT, FOR_FOUR_KEYS};
 use crate::tests::peers::python_several_keys::{FOR_THREE, THREE_KEYS};
 use crate::tests::samples::{
-    ABC, ABC_BESIDE, ABC_FLATTENED, ABC_FLATTENED_BESIDE, ABC_GENERAL, ABC_GENERAL_BESIDE,
+    ABC, ABC_DETACHED, ABC_FLATTENED, ABC_FLATTENED_DETACHED, ABC_GENERAL, ABC_GENERAL_DETACHED,
     ABC_WITH_HEADER, EMPTY_SIGNED, OCTETS_FROM_0,
 };
 use crate::tests::standards::rfc7516::{
-    RFC7516_A3, RFC7516_A3_BESIDE, RFC7516_A3_FLATTENED, RFC7516_A3_FLATTENED_BESIDE, RFC7516_A4,
-    RFC7516_A4_WRITTEN, RFC7516_CIPHERTEXT,
+    RFC7516_A3, RFC7516_A3_DETACHED, RFC7516_A3_FLATTENED, RFC7516_A3_FLATTENED_DETACHED,
+    RFC7516_A4, RFC7516_A4_WRITTEN, RFC7516_CIPHERTEXT,
 };
 use octets::Refusal;
 use std::test::Fail;
@@ -220,97 +220,97 @@ fn objects_by_gcm_key_wrap_change_their_form(rt: HostRuntime) -> Result<(), Fail
 /// Signed and encrypted objects whose content is detached or handed in.
 const DETACHED: &[(&[&str], &str, &[u8], Answer<'_>)] = &[
     (
-        &["jws", "fmt", "-O", "beside"],
+        &["jws", "fmt", "-O", "detached"],
         ABC,
         b"",
-        Answer::Both(ABC_FLATTENED_BESIDE, b"abc"),
+        Answer::Both(ABC_FLATTENED_DETACHED, b"abc"),
     ),
     (
-        &["jws", "fmt", "-c", "-O", "beside"],
+        &["jws", "fmt", "-c", "-O", "detached"],
         ABC_FLATTENED,
         b"",
-        Answer::Both(ABC_BESIDE, b"abc"),
+        Answer::Both(ABC_DETACHED, b"abc"),
     ),
     (
-        &["jws", "fmt", "-O", "beside"],
+        &["jws", "fmt", "-O", "detached"],
         ABC_GENERAL,
         b"",
-        Answer::Both(ABC_GENERAL_BESIDE, b"abc"),
+        Answer::Both(ABC_GENERAL_DETACHED, b"abc"),
     ),
     (
-        &["jws", "fmt", "-c", "-I", "beside"],
-        ABC_FLATTENED_BESIDE,
+        &["jws", "fmt", "-c", "-I", "detached"],
+        ABC_FLATTENED_DETACHED,
         b"abc",
         Answer::Text(ABC),
     ),
     (
-        &["jws", "fmt", "-I", "beside"],
-        ABC_BESIDE,
+        &["jws", "fmt", "-I", "detached"],
+        ABC_DETACHED,
         b"abc",
         Answer::Text(ABC_FLATTENED),
     ),
     (
-        &["jws", "fmt", "-I", "beside", "-O", "also"],
-        ABC_BESIDE,
+        &["jws", "fmt", "-I", "detached", "-O", "also"],
+        ABC_DETACHED,
         b"abc",
-        Answer::Both(ABC_FLATTENED_BESIDE, b"abc"),
+        Answer::Both(ABC_FLATTENED_DETACHED, b"abc"),
     ),
     (
-        &["jws", "fmt", "-c", "-O", "beside"],
+        &["jws", "fmt", "-c", "-O", "detached"],
         EMPTY_SIGNED,
         b"",
         Answer::Both(EMPTY_SIGNED, b""),
     ),
     (
-        &["jws", "fmt", "-c", "-I", "beside"],
-        ABC_GENERAL_BESIDE,
+        &["jws", "fmt", "-c", "-I", "detached"],
+        ABC_GENERAL_DETACHED,
         b"abc",
         Answer::Refusal(Refusal::NotCompact),
     ),
     (
-        &["jws", "fmt", "-c", "-O", "beside"],
+        &["jws", "fmt", "-c", "-O", "detached"],
         ABC_GENERAL,
         b"",
         Answer::Refusal(Refusal::NotCompact),
     ),
     (
-        &["jws", "fmt", "-I", "beside"],
+        &["jws", "fmt", "-I", "detached"],
         ABC,
         b"abc",
         Answer::Refusal(Refusal::Form),
     ),
     (
         &["jws", "fmt"],
-        ABC_FLATTENED_BESIDE,
+        ABC_FLATTENED_DETACHED,
         b"abc",
         Answer::Refusal(Refusal::Form),
     ),
     (
-        &["jwe", "fmt", "-O", "beside"],
+        &["jwe", "fmt", "-O", "detached"],
         RFC7516_A3,
         b"",
-        Answer::Both(RFC7516_A3_FLATTENED_BESIDE, RFC7516_CIPHERTEXT),
+        Answer::Both(RFC7516_A3_FLATTENED_DETACHED, RFC7516_CIPHERTEXT),
     ),
     (
-        &["jwe", "fmt", "-c", "-I", "beside"],
-        RFC7516_A3_FLATTENED_BESIDE,
+        &["jwe", "fmt", "-c", "-I", "detached"],
+        RFC7516_A3_FLATTENED_DETACHED,
         RFC7516_CIPHERTEXT,
         Answer::Text(RFC7516_A3),
     ),
     (
-        &["jwe", "fmt", "-c", "-O", "beside"],
+        &["jwe", "fmt", "-c", "-O", "detached"],
         RFC7516_A3_FLATTENED,
         b"",
-        Answer::Both(RFC7516_A3_BESIDE, RFC7516_CIPHERTEXT),
+        Answer::Both(RFC7516_A3_DETACHED, RFC7516_CIPHERTEXT),
     ),
     (
-        &["jwe", "fmt", "-I", "beside"],
-        RFC7516_A3_BESIDE,
+        &["jwe", "fmt", "-I", "detached"],
+        RFC7516_A3_DETACHED,
         RFC7516_CIPHERTEXT,
         Answer::Text(RFC7516_A3_FLATTENED),
     ),
     (
-        &["jwe", "fmt", "-I", "beside"],
+        &["jwe", "fmt", "-I", "detached"],
         RFC7516_A3_FLATTENED,
         RFC7516_CIPHERTEXT,
         Answer::Refusal(Refusal::Form),
@@ -318,7 +318,7 @@ const DETACHED: &[(&[&str], &str, &[u8], Answer<'_>)] = &[
 ];
 
 #[test]
-fn content_goes_out_and_comes_in_beside_the_text(rt: HostRuntime) -> Result<(), Fail> {
+fn content_is_detached_and_put_back(rt: HostRuntime) -> Result<(), Fail> {
     expect_rows(&rt, "", DETACHED)
 }
 

@@ -3,7 +3,7 @@
 use crate::tests::command_words::DECRYPT;
 use crate::tests::harness::{Answer, decrypts, expect_text};
 use crate::tests::samples::{LINE, with_many};
-use crate::tests::standards::rfc7516::{RFC7516_A3, RFC7516_A3_BESIDE, RFC7516_KEY};
+use crate::tests::standards::rfc7516::{RFC7516_A3, RFC7516_A3_DETACHED, RFC7516_KEY};
 use octets::Refusal;
 use std::process::Abort;
 use std::test::Fail;
@@ -59,7 +59,7 @@ const NOT_OPENED: &[(&str, &str, Refusal)] = &[
         RFC7516_KEY,
         Refusal::NotOpened,
     ),
-    (RFC7516_A3_BESIDE, RFC7516_KEY, Refusal::NotOpened),
+    (RFC7516_A3_DETACHED, RFC7516_KEY, Refusal::NotOpened),
     // A key that may not decrypt.
     (
         RFC7516_A3,
@@ -125,7 +125,7 @@ const NOT_OPENED: &[(&str, &str, Refusal)] = &[
 ];
 
 #[test]
-fn what_does_not_open_is_told(rt: HostRuntime) -> Result<(), Fail> {
+fn what_does_not_open_is_refused(rt: HostRuntime) -> Result<(), Fail> {
     for (text, keys, refusal) in NOT_OPENED {
         decrypts(&rt, text, keys, Answer::Refusal(*refusal))?;
     }

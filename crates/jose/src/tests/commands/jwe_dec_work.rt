@@ -157,7 +157,7 @@ const WORKS_OF_PASSWORDS: &[(&str, &str, Work, Result<(), Refusal>)] = &[
 ];
 
 #[test]
-fn the_work_of_passwords_is_told_exactly(rt: HostRuntime) -> Result<(), Fail> {
+fn the_work_of_passwords_is_counted_exactly(rt: HostRuntime) -> Result<(), Fail> {
     for (text, keys, work, answer) in WORKS_OF_PASSWORDS {
         expect_work(&rt, text, keys, *work, *answer)?;
     }
@@ -402,7 +402,7 @@ const WORKS_OF_SEVERAL: &[(&str, &str, Work)] = &[
 ];
 
 #[test]
-fn the_work_of_gcm_key_wrap_is_told_exactly(rt: HostRuntime) -> Result<(), Fail> {
+fn the_work_of_gcm_key_wrap_is_counted_exactly(rt: HostRuntime) -> Result<(), Fail> {
     for (text, keys, work) in WORKS_OF_SEVERAL {
         expect_work(&rt, text, keys, *work, Ok(()))?;
     }
@@ -470,7 +470,7 @@ const WORKS_OF_REPEATED: &[(&str, &str, Work, Result<(), Refusal>)] = &[
 ];
 
 #[test]
-fn the_work_of_repeated_recipients_is_told_exactly(rt: HostRuntime) -> Result<(), Fail> {
+fn the_work_of_repeated_recipients_is_counted_exactly(rt: HostRuntime) -> Result<(), Fail> {
     for (text, keys, work, result) in WORKS_OF_REPEATED {
         expect_work(&rt, text, keys, *work, *result)?;
     }

@@ -129,7 +129,7 @@ const NOT_ENCRYPTED: &[(&str, &str, Refusal)] = &[
 ];
 
 #[test]
-fn what_is_not_encrypted_is_told(rt: HostRuntime) -> Result<(), Fail> {
+fn what_is_not_encrypted_is_refused(rt: HostRuntime) -> Result<(), Fail> {
     encrypts_nothing(&rt, NOT_ENCRYPTED)
 }
 
@@ -147,7 +147,7 @@ fn a_compact_text_has_room_for_protected_headers_alone(rt: HostRuntime) -> Resul
 }
 
 #[test]
-fn one_random_octet_too_few_is_told(rt: HostRuntime) -> Result<(), Fail> {
+fn one_random_octet_too_few_is_refused(rt: HostRuntime) -> Result<(), Fail> {
     let random = &RFC7516_RANDOM[..47];
     let refused = Answer::Refusal(Refusal::Random);
     encrypts(&rt, &ENCRYPT_COMPACT, "{}", RFC7516_KEY, random, refused)
@@ -236,6 +236,6 @@ const NOT_ENCRYPTED_TO_SEVERAL: &[(&str, &str, Refusal)] = &[
 ];
 
 #[test]
-fn what_is_not_encrypted_to_several_is_told(rt: HostRuntime) -> Result<(), Fail> {
+fn what_is_not_encrypted_to_several_is_refused(rt: HostRuntime) -> Result<(), Fail> {
     encrypts_nothing(&rt, NOT_ENCRYPTED_TO_SEVERAL)
 }

@@ -76,7 +76,7 @@ const OTHER_COUNTS: &[(&str, &str, Refusal)] = &[
 ];
 
 #[test]
-fn counts_that_are_not_written_are_told(rt: HostRuntime) -> Result<(), Fail> {
+fn counts_that_are_not_written_are_refused(rt: HostRuntime) -> Result<(), Fail> {
     encrypts_nothing(&rt, OTHER_COUNTS)
 }
 
@@ -285,6 +285,6 @@ const OTHER_GCM_KEY_WRAPS: &[(&str, &str, Refusal)] = &[
 ];
 
 #[test]
-fn what_is_not_wrapped_in_gcm_is_told(rt: HostRuntime) -> Result<(), Fail> {
+fn what_is_not_wrapped_in_gcm_is_refused(rt: HostRuntime) -> Result<(), Fail> {
     encrypts_nothing(&rt, OTHER_GCM_KEY_WRAPS)
 }

@@ -268,7 +268,7 @@ const OTHER_KEYS: &[(&str, Answer<'_>)] = &[
 ];
 
 #[test]
-fn a_bad_key_is_told_before_a_bad_token(rt: HostRuntime) -> Result<(), Fail> {
+fn a_bad_key_is_reported_before_a_bad_token(rt: HostRuntime) -> Result<(), Fail> {
     verifies_with_each(&rt, OTHER_KEYS)?;
     verifies(&rt, "", "[]", Answer::Refusal(Refusal::Key))
 }

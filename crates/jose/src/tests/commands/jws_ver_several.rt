@@ -1,11 +1,11 @@
 //! `jws ver` of objects with several signatures and of sets of keys, with `-a` and without. The signatures are by Python's `hmac`.
 use crate::tests::command_words::{
-    CHECK_ALL_BESIDE, CHECK_BESIDE, VERIFY_ALL, VERIFY_ALL_BESIDE, VERIFY_BESIDE,
+    CHECK_ALL_DETACHED, CHECK_DETACHED, VERIFY_ALL, VERIFY_ALL_DETACHED, VERIFY_DETACHED,
 };
 use crate::tests::contents::expect_in_steps;
 use crate::tests::harness::{Answer, Given, expect_text, verifies};
 use crate::tests::samples::{
-    ABC, ABC_FLATTENED, ABC_FLATTENED_BESIDE, ABC_GENERAL, ABC_WITH_HEADER, KEY_AND_SMALL_KEY,
+    ABC, ABC_FLATTENED, ABC_FLATTENED_DETACHED, ABC_GENERAL, ABC_WITH_HEADER, KEY_AND_SMALL_KEY,
     KEY_TO_31, KEY_TO_47, TWO_KEYS, TWO_LONG_KEYS, with_many,
 };
 use crate::tests::standards::rfc7515::RFC7515_KEY;
@@ -190,13 +190,13 @@ fn without_payload(alloc: Global, text: &str) -> Result<String, AllocError> {
         Some(parts) => parts,
         None => text.split_once("YWJj").unwrap_or((text, "")),
     };
-    let mut beside = String::from_str(alloc, front)?;
-    beside.push_str(back)?;
-    Ok(beside)
+    let mut detached = String::from_str(alloc, front)?;
+    detached.push_str(back)?;
+    Ok(detached)
 }
 
 /// With a detached payload the answers are these, whether it is written or not, and however many octets the inputs return at a read.
-fn expect_beside<R: Abort + AllocGlobal>(
+fn expect_detached<R: Abort + AllocGlobal>(
     rt: &R,
     text: &str,
     keys: &str,
@@ -209,17 +209,17 @@ fn expect_beside<R: Abort + AllocGlobal>(
         keys,
         random: b"",
     };
-    expect_in_steps(rt, &VERIFY_BESIDE, &given, some)?;
-    expect_in_steps(rt, &VERIFY_ALL_BESIDE, &given, all)?;
-    expect_in_steps(rt, &CHECK_BESIDE, &given, some.unwritten())?;
-    expect_in_steps(rt, &CHECK_ALL_BESIDE, &given, all.unwritten())
+    expect_in_steps(rt, &VERIFY_DETACHED, &given, some)?;
+    expect_in_steps(rt, &VERIFY_ALL_DETACHED, &given, all)?;
+    expect_in_steps(rt, &CHECK_DETACHED, &given, some.unwritten())?;
+    expect_in_steps(rt, &CHECK_ALL_DETACHED, &given, all.unwritten())
 }
 
 #[test]
-fn some_keys_verify_a_payload_beside_the_text_or_all(rt: HostRuntime) -> Result<(), Fail> {
+fn some_keys_verify_a_detached_payload_or_all(rt: HostRuntime) -> Result<(), Fail> {
     for (text, keys, some, all) in VERIFIED {
         let text = without_payload(rt.alloc(), text)?;
-        expect_beside(&rt, &text, keys, *some, *all)?;
+        expect_detached(&rt, &text, keys, *some, *all)?;
     }
     Ok(())
 }
@@ -235,7 +235,7 @@ fn verifies_last_of<R: Abort + AllocGlobal>(
         "{\"payload\":\"YWJj\",\"signatures\":[",
         "{\"header\":{\"alg\":\"HS256\"},\"signature\":\"AA\"}",
         before,
-        ABC_FLATTENED_BESIDE,
+        ABC_FLATTENED_DETACHED,
         "]}",
     )?;
     verifies(rt, &text, RFC7515_KEY, answer)

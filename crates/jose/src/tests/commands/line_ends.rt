@@ -79,7 +79,7 @@ fn a_compact_text_ends_in_one_line_end(rt: HostRuntime) -> Result<(), Fail> {
 }
 
 #[test]
-fn white_space_stands_before_a_text_in_json_form(rt: HostRuntime) -> Result<(), Fail> {
+fn white_space_may_precede_a_text_in_json_form(rt: HostRuntime) -> Result<(), Fail> {
     let signed = ABC_FLATTENED;
     expect_each(&rt, AROUND_JSON, &VERIFY, RFC7515_KEY, signed, b"abc")?;
     let encrypted = RFC7516_A3_FLATTENED;

@@ -6,15 +6,15 @@ use std::process::Abort;
 use std::test::Fail;
 
 /// A call with this result has this status and reports this.
-fn expect_told<R: Abort + AllocGlobal>(
+fn expect_reported<R: Abort + AllocGlobal>(
     rt: &R,
     ended: Result<(), Refusal>,
     status: u8,
-    told: &[u8],
+    reported: &[u8],
 ) -> Result<(), Fail> {
     let mut errors = MemoryOutput::new(rt.alloc(), 100)?;
     expect_same(rt, report(ended, &mut errors), status, "the status");
-    expect_octets(rt, errors.octets(), told, "the errors");
+    expect_octets(rt, errors.octets(), reported, "the errors");
     Ok(())
 }
 
@@ -22,14 +22,14 @@ fn expect_told<R: Abort + AllocGlobal>(
 fn expect_usage<R: Abort + AllocGlobal>(rt: &R, words: &[&str]) -> Result<(), Fail> {
     let nothing = Given::of("", "");
     let done = outcome(rt.alloc(), words, &nothing, 1, ROOM)?;
-    expect_told(rt, done.result, 1, b"jose: 1 Usage\n")
+    expect_reported(rt, done.result, 1, b"jose: 1 Usage\n")
 }
 
 #[test]
-fn words_that_are_no_command_are_told(rt: HostRuntime) -> Result<(), Fail> {
+fn words_that_are_no_command_are_refused(rt: HostRuntime) -> Result<(), Fail> {
     expect_usage(&rt, &["jwk", "pub"])?;
     expect_usage(&rt, &["jws", "sig", "-c", "-k", "-"])?;
-    expect_told(&rt, Ok(()), 0, b"")
+    expect_reported(&rt, Ok(()), 0, b"")
 }
 
 #[test]

@@ -3,7 +3,7 @@
 //! built the objects from RFC 7516 and 7518 (AES and its key wrap by its package `cryptography` 48, and `hashlib`, `hmac`, `base64` and
 //! `json`) with the same key and the same random octets, 1 to 80, without any code of this project.
 use crate::tests::command_words::{
-    DECRYPT, ENCRYPT, ENCRYPT_BESIDE, ENCRYPT_COMPACT, ENCRYPT_COMPACT_BESIDE,
+    DECRYPT, ENCRYPT, ENCRYPT_COMPACT, ENCRYPT_COMPACT_DETACHED, ENCRYPT_DETACHED,
 };
 use crate::tests::contents::{LENGTHS, PIECE, expect_in_steps, with_aad};
 use crate::tests::harness::{Answer, Given, comes_back};
@@ -168,9 +168,9 @@ fn seals_in_each_form<R: Abort + AllocGlobal>(
     )?;
     expect_in_steps(rt, &ENCRYPT, &given, Answer::Digest(nth(digests, 1)))?;
     let answer = Answer::Digests(nth(digests, 2), nth(digests, 4));
-    expect_in_steps(rt, &ENCRYPT_COMPACT_BESIDE, &given, answer)?;
+    expect_in_steps(rt, &ENCRYPT_COMPACT_DETACHED, &given, answer)?;
     let answer = Answer::Digests(nth(digests, 3), nth(digests, 4));
-    expect_in_steps(rt, &ENCRYPT_BESIDE, &given, answer)
+    expect_in_steps(rt, &ENCRYPT_DETACHED, &given, answer)
 }
 
 /// Encrypting a content of each length makes octets with the digests of the row.

@@ -1,8 +1,8 @@
 //! Keys, objects, templates, contents and ciphertexts of more than 2 MiB, which are treated like any other. The signatures are by Python's
 //! `hmac`. The digests of encrypted texts are made like those of `encrypted`.
 use crate::tests::command_words::{
-    CHECK_BESIDE, DECRYPT, DECRYPT_BESIDE, ENCRYPT, ENCRYPT_COMPACT_BESIDE, SIGN_COMPACT,
-    SIGN_COMPACT_BESIDE, VERIFY, VERIFY_BESIDE,
+    CHECK_DETACHED, DECRYPT, DECRYPT_DETACHED, ENCRYPT, ENCRYPT_COMPACT_DETACHED, SIGN_COMPACT,
+    SIGN_COMPACT_DETACHED, VERIFY, VERIFY_DETACHED,
 };
 use crate::tests::contents::with_aad;
 use crate::tests::harness::{
@@ -295,18 +295,18 @@ fn a_long_encrypted_object_changes_its_form(rt: HostRuntime) -> Result<(), Fail>
 }
 
 /// The compact text of the long octets, which are detached.
-fn token_beside(alloc: Global) -> Result<String, AllocError> {
+fn detached_token(alloc: Global) -> Result<String, AllocError> {
     let mut text = String::from_str(alloc, "eyJhbGciOiJIUzI1NiJ9..")?;
     text.push_str(SIGNATURE)?;
     Ok(text)
 }
 
 #[test]
-fn long_contents_go_out_and_come_in_beside_the_text(rt: HostRuntime) -> Result<(), Fail> {
+fn long_contents_are_detached_and_put_back(rt: HostRuntime) -> Result<(), Fail> {
     let payload = long_octets(rt.alloc())?;
     let compact = long_token(rt.alloc())?;
-    let beside = token_beside(rt.alloc())?;
-    let taken_out = Answer::Both(&beside, payload.as_bytes());
+    let detached = detached_token(rt.alloc())?;
+    let taken_out = Answer::Both(&detached, payload.as_bytes());
     answers(
         &rt,
         &["jws", "fmt", "-c", "-O", "p"],
@@ -317,34 +317,34 @@ fn long_contents_go_out_and_come_in_beside_the_text(rt: HostRuntime) -> Result<(
     )?;
     let put_in = Answer::Text(&compact);
     let words = ["jws", "fmt", "-c", "-I", "p"];
-    answers(&rt, &words, &beside, payload.as_bytes(), "", put_in)
+    answers(&rt, &words, &detached, payload.as_bytes(), "", put_in)
 }
 
 #[test]
-fn a_long_payload_is_signed_and_verified_beside_the_text(rt: HostRuntime) -> Result<(), Fail> {
+fn a_long_detached_payload_is_signed_and_verified(rt: HostRuntime) -> Result<(), Fail> {
     let payload = long_octets(rt.alloc())?;
     let payload = payload.as_bytes();
-    let text = token_beside(rt.alloc())?;
+    let text = detached_token(rt.alloc())?;
     let signed = Answer::Both(&text, payload);
     answers(
         &rt,
-        &SIGN_COMPACT_BESIDE,
+        &SIGN_COMPACT_DETACHED,
         TEMPLATE,
         payload,
         RFC7515_KEY,
         signed,
     )?;
     let verified = Answer::Content(payload);
-    answers(&rt, &VERIFY_BESIDE, &text, payload, RFC7515_KEY, verified)?;
+    answers(&rt, &VERIFY_DETACHED, &text, payload, RFC7515_KEY, verified)?;
     let accepted = Answer::Nothing;
-    answers(&rt, &CHECK_BESIDE, &text, payload, RFC7515_KEY, accepted)
+    answers(&rt, &CHECK_DETACHED, &text, payload, RFC7515_KEY, accepted)
 }
 
 #[test]
-fn a_long_ciphertext_goes_out_and_comes_in_beside_the_text(rt: HostRuntime) -> Result<(), Fail> {
+fn a_long_ciphertext_is_detached_and_put_back(rt: HostRuntime) -> Result<(), Fail> {
     let content = repeated(rt.alloc(), "", "abcdefg", 300_000, "")?;
     let octets = content.as_bytes();
     let (template, keys, _) = BY_DIR[3];
-    let words = &ENCRYPT_COMPACT_BESIDE;
-    comes_back(&rt, words, &DECRYPT_BESIDE, template, keys, octets)
+    let words = &ENCRYPT_COMPACT_DETACHED;
+    comes_back(&rt, words, &DECRYPT_DETACHED, template, keys, octets)
 }

@@ -1,7 +1,7 @@
 //! Contents of 0 to 12,289 octets in reads of 1 to 4,096 octets: `b64 enc`, `b64 dec`, `jws sig` and `jws ver -I`. The signatures are by
 //! Python's `hmac`.
 use crate::tests::command_words::{
-    CHECK_ALL_BESIDE, CHECK_BESIDE, SIGN_COMPACT, SIGN_COMPACT_BESIDE,
+    CHECK_ALL_DETACHED, CHECK_DETACHED, SIGN_COMPACT, SIGN_COMPACT_DETACHED,
 };
 use crate::tests::contents::{LENGTHS, PIECE, expect_in_steps};
 use crate::tests::harness::{Answer, Given};
@@ -163,7 +163,7 @@ fn compact(alloc: Global, row: &Row) -> Result<String, AllocError> {
 }
 
 /// The compact text with a detached payload.
-fn compact_beside(alloc: Global, row: &Row) -> Result<String, AllocError> {
+fn compact_detached(alloc: Global, row: &Row) -> Result<String, AllocError> {
     let mut text = String::from_str(alloc, "eyJhbGciOiJIUzI1NiJ9..")?;
     text.push_str(row.signature)?;
     Ok(text)
@@ -177,7 +177,7 @@ fn general(alloc: Global, row: &Row) -> Result<String, AllocError> {
 }
 
 /// The JSON text with a detached payload.
-fn general_beside(alloc: Global, row: &Row) -> Result<String, AllocError> {
+fn general_detached(alloc: Global, row: &Row) -> Result<String, AllocError> {
     let mut text = String::from_str(alloc, "{")?;
     text.push_str(&signatures(alloc, row)?)?;
     Ok(text)
@@ -247,16 +247,14 @@ fn three_keys_sign_in_pieces_of_any_length(rt: HostRuntime) -> Result<(), Fail> 
 }
 
 #[test]
-fn a_payload_is_signed_beside_the_text_in_pieces_of_any_length(
-    rt: HostRuntime,
-) -> Result<(), Fail> {
+fn a_detached_payload_is_signed_in_pieces_of_any_length(rt: HostRuntime) -> Result<(), Fail> {
     for row in rows() {
         let content = repeated(rt.alloc(), "", PIECE.0, row.count, row.last)?;
-        let text = compact_beside(rt.alloc(), row)?;
+        let text = compact_detached(rt.alloc(), row)?;
         let answer = Answer::Both(text.as_str(), content.as_bytes());
         signs_in_steps(
             &rt,
-            &SIGN_COMPACT_BESIDE,
+            &SIGN_COMPACT_DETACHED,
             TEMPLATE,
             RFC7515_KEY,
             content.as_bytes(),
@@ -291,12 +289,10 @@ fn verifies_in_steps<R: Abort + AllocGlobal>(
 }
 
 #[test]
-fn a_payload_is_verified_beside_the_text_in_pieces_of_any_length(
-    rt: HostRuntime,
-) -> Result<(), Fail> {
+fn a_detached_payload_is_verified_in_pieces_of_any_length(rt: HostRuntime) -> Result<(), Fail> {
     for row in rows() {
-        let text = compact_beside(rt.alloc(), row)?;
-        verifies_in_steps(&rt, &CHECK_BESIDE, text.as_str(), RFC7515_KEY, row)?;
+        let text = compact_detached(rt.alloc(), row)?;
+        verifies_in_steps(&rt, &CHECK_DETACHED, text.as_str(), RFC7515_KEY, row)?;
     }
     Ok(())
 }
@@ -304,8 +300,8 @@ fn a_payload_is_verified_beside_the_text_in_pieces_of_any_length(
 #[test]
 fn three_keys_verify_in_pieces_of_any_length(rt: HostRuntime) -> Result<(), Fail> {
     for row in rows() {
-        let text = general_beside(rt.alloc(), row)?;
-        verifies_in_steps(&rt, &CHECK_ALL_BESIDE, text.as_str(), KEYS, row)?;
+        let text = general_detached(rt.alloc(), row)?;
+        verifies_in_steps(&rt, &CHECK_ALL_DETACHED, text.as_str(), KEYS, row)?;
     }
     Ok(())
 }

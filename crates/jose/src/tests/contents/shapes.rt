@@ -5,7 +5,7 @@ use crate::tests::contents::long::answers;
 use crate::tests::harness::{Answer, expect_octets};
 use crate::tests::library::building::octets;
 use crate::tests::samples::{
-    ABC, ABC_BESIDE, ABC_FLATTENED_BESIDE, EMPTY_SIGNED, KEY_32, LINE, PASSWORD, repeated,
+    ABC, ABC_DETACHED, ABC_FLATTENED_DETACHED, EMPTY_SIGNED, KEY_32, LINE, PASSWORD, repeated,
     with_many,
 };
 use crate::tests::standards::rfc7515::RFC7515_KEY;
@@ -193,11 +193,11 @@ const EMPTY_PAYLOADS: &[&str] = &[
 ];
 
 /// Objects without their payload.
-const WITHOUT_PAYLOAD: &[&str] = &[ABC_BESIDE, ABC_FLATTENED_BESIDE];
+const WITHOUT_PAYLOAD: &[&str] = &[ABC_DETACHED, ABC_FLATTENED_DETACHED];
 
 /// The object of this text, with the payload that is handed in, if there is one, has an empty payload.
-fn expect_empty<R: Abort + AllocGlobal>(rt: &R, text: &str, beside: Option<Vec<u8>>) {
-    let jws = Jws::read(rt.alloc(), text.as_bytes(), beside).expect(rt, "it is read");
+fn expect_empty<R: Abort + AllocGlobal>(rt: &R, text: &str, detached: Option<Vec<u8>>) {
+    let jws = Jws::read(rt.alloc(), text.as_bytes(), detached).expect(rt, "it is read");
     let copy = jws.payload(rt.alloc()).expect(rt, "it is copied");
     expect_octets(rt, &copy, b"", text);
 }
@@ -214,7 +214,7 @@ fn an_empty_payload_is_copied(rt: HostRuntime) {
 
 /// The two words of a command and 64 more. No command accepts so many.
 #[test]
-fn more_words_than_a_command_has_are_told(rt: HostRuntime) -> Result<(), Fail> {
+fn more_words_than_a_command_has_are_refused(rt: HostRuntime) -> Result<(), Fail> {
     for word in ["x", "-a", "-kx", ""] {
         let mut words = [word; 66];
         words[0] = "jws";

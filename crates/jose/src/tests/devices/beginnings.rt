@@ -1,8 +1,8 @@
 //! The octets that are left in the outputs if the content fails or an output has no room, and the refusals before the content is read. The
 //! beginnings are those of `abc` (RFC 4648) and of RFC 7516 appendix A.3.
 use crate::tests::command_words::{
-    ENCRYPT, ENCRYPT_BESIDE, ENCRYPT_COMPACT, ENCRYPT_COMPACT_BESIDE, SIGN_COMPACT,
-    SIGN_COMPACT_BESIDE,
+    ENCRYPT, ENCRYPT_COMPACT, ENCRYPT_COMPACT_DETACHED, ENCRYPT_DETACHED, SIGN_COMPACT,
+    SIGN_COMPACT_DETACHED,
 };
 use crate::tests::harness::{
     Answer, Given, expect_beginning, expect_done, expect_same, expect_written, outcome,
@@ -60,8 +60,8 @@ fn fails_at_once<R: Abort + AllocGlobal>(rt: &R, words: &[&str]) -> Result<(), F
 fn a_content_that_fails_at_once_leaves_both_outputs(rt: HostRuntime) -> Result<(), Fail> {
     fails_at_once(&rt, &ENCRYPT_COMPACT)?;
     fails_at_once(&rt, &ENCRYPT)?;
-    fails_at_once(&rt, &ENCRYPT_COMPACT_BESIDE)?;
-    fails_at_once(&rt, &ENCRYPT_BESIDE)
+    fails_at_once(&rt, &ENCRYPT_COMPACT_DETACHED)?;
+    fails_at_once(&rt, &ENCRYPT_DETACHED)
 }
 
 /// A content that fails after a line leaves what the line's first block fixes: this text, and this detached ciphertext.
@@ -92,8 +92,8 @@ fn a_content_that_fails_later_leaves_a_beginning(rt: HostRuntime) -> Result<(), 
     let json = b"{\"ciphertext\":\"KDlTtXchhZTGufMYmOYG";
     fails_after_a_line(&rt, &ENCRYPT, json, b"")?;
     let block = &RFC7516_CIPHERTEXT[..16];
-    fails_after_a_line(&rt, &ENCRYPT_COMPACT_BESIDE, b"", block)?;
-    fails_after_a_line(&rt, &ENCRYPT_BESIDE, b"", block)
+    fails_after_a_line(&rt, &ENCRYPT_COMPACT_DETACHED, b"", block)?;
+    fails_after_a_line(&rt, &ENCRYPT_DETACHED, b"", block)
 }
 
 /// The command refuses this template for this cause, over a content that fails at its first read.
@@ -141,18 +141,18 @@ fn a_content_is_read_last(rt: HostRuntime) -> Result<(), Fail> {
 
 /// If the output of the content fails, nothing of the text is written. If the output of the text fails, the content is complete.
 #[test]
-fn the_text_waits_for_the_content_beside_it(rt: HostRuntime) -> Result<(), Fail> {
+fn the_text_waits_for_a_detached_content(rt: HostRuntime) -> Result<(), Fail> {
     let given = Given {
         text: "{}",
         content: b"abc",
         keys: RFC7515_KEY,
         random: b"",
     };
-    let done = outcome(rt.alloc(), &SIGN_COMPACT_BESIDE, &given, 4096, 2)?;
+    let done = outcome(rt.alloc(), &SIGN_COMPACT_DETACHED, &given, 4096, 2)?;
     expect_same(&rt, done.result, Err(Refusal::Write), "room for two");
     expect_written(&rt, &done.content, b"ab", false, "the content");
     expect_written(&rt, &done.text, b"", false, "no text");
-    let done = outcome(rt.alloc(), &SIGN_COMPACT_BESIDE, &given, 4096, 4)?;
+    let done = outcome(rt.alloc(), &SIGN_COMPACT_DETACHED, &given, 4096, 4)?;
     expect_same(&rt, done.result, Err(Refusal::Write), "room for four");
     expect_written(&rt, &done.content, b"abc", true, "all of the content");
     expect_written(&rt, &done.text, b"eyJh", false, "a beginning");

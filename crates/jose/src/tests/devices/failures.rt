@@ -3,15 +3,16 @@
 ghost use Rattle.std.specs.Prelude.{◌<◌};
 
 use crate::tests::command_words::{
-    CHECK_ALL_BESIDE, CHECK_BESIDE, DECRYPT, ENCRYPT_COMPACT, SIGN_COMPACT, VERIFY, VERIFY_BESIDE,
+    CHECK_ALL_DETACHED, CHECK_DETACHED, DECRYPT, ENCRYPT_COMPACT, SIGN_COMPACT, VERIFY,
+    VERIFY_DETACHED,
 };
 use crate::tests::harness::{expect_octets, expect_same, owned};
 use crate::tests::samples::{
-    ABC, ABC_BESIDE, ABC_FLATTENED_BESIDE, ABC_GENERAL_BESIDE, LINE, TEMPLATE, TWO_KEYS,
+    ABC, ABC_DETACHED, ABC_FLATTENED_DETACHED, ABC_GENERAL_DETACHED, LINE, TEMPLATE, TWO_KEYS,
 };
 use crate::tests::standards::rfc7515::RFC7515_KEY;
 use crate::tests::standards::rfc7516::{
-    RFC7516_A3, RFC7516_A3_BESIDE, RFC7516_CIPHERTEXT, RFC7516_KEY, RFC7516_RANDOM,
+    RFC7516_A3, RFC7516_A3_DETACHED, RFC7516_CIPHERTEXT, RFC7516_KEY, RFC7516_RANDOM,
 };
 use crate::{Inputs, Outputs, parse, run};
 use octets::{Failing, FailingInput, FailingOutput, MemoryInput, Refusal};
@@ -114,7 +115,7 @@ const SIGNED: &[Row<'_>] = &[
         ],
         (TEMPLATE, b"abc", RFC7515_KEY, b""),
         CONTENT,
-        ABC_BESIDE,
+        ABC_DETACHED,
         b"abc",
         [2, 2, 2, 0, 3, 2],
     ),
@@ -129,23 +130,23 @@ const SIGNED: &[Row<'_>] = &[
     ),
     (
         &["jws", "ver", "-I", "b", "-k", "k", "-O", "p"],
-        (ABC_BESIDE, b"abc", RFC7515_KEY, b""),
+        (ABC_DETACHED, b"abc", RFC7515_KEY, b""),
         NONE,
         "",
         b"abc",
         [2, 2, 2, 0, 0, 2],
     ),
     (
-        &CHECK_BESIDE,
-        (ABC_BESIDE, b"abc", RFC7515_KEY, b""),
+        &CHECK_DETACHED,
+        (ABC_DETACHED, b"abc", RFC7515_KEY, b""),
         NONE,
         "",
         b"",
         CHECKED,
     ),
     (
-        &CHECK_ALL_BESIDE,
-        (ABC_GENERAL_BESIDE, b"abc", TWO_KEYS, b""),
+        &CHECK_ALL_DETACHED,
+        (ABC_GENERAL_DETACHED, b"abc", TWO_KEYS, b""),
         NONE,
         "",
         b"",
@@ -155,13 +156,13 @@ const SIGNED: &[Row<'_>] = &[
         &["jws", "fmt", "-O", "b"],
         (ABC, b"", "", b""),
         NONE,
-        ABC_FLATTENED_BESIDE,
+        ABC_FLATTENED_DETACHED,
         b"abc",
         [2, 0, 0, 0, 2, 2],
     ),
     (
         &["jws", "fmt", "-c", "-I", "b"],
-        (ABC_FLATTENED_BESIDE, b"abc", "", b""),
+        (ABC_FLATTENED_DETACHED, b"abc", "", b""),
         NONE,
         ABC,
         b"",
@@ -184,7 +185,7 @@ const ENCRYPTED: &[Row<'_>] = &[
         &["jwe", "enc", "-c", "-I", "p", "-k", "k", "-O", "b"],
         ("{}", LINE, RFC7516_KEY, RFC7516_RANDOM),
         CONTENT,
-        RFC7516_A3_BESIDE,
+        RFC7516_A3_DETACHED,
         RFC7516_CIPHERTEXT,
         [2, 2, 2, 1, 3, 3],
     ),
@@ -198,7 +199,7 @@ const ENCRYPTED: &[Row<'_>] = &[
     ),
     (
         &["jwe", "dec", "-I", "b", "-k", "k", "-O", "p"],
-        (RFC7516_A3_BESIDE, RFC7516_CIPHERTEXT, RFC7516_KEY, b""),
+        (RFC7516_A3_DETACHED, RFC7516_CIPHERTEXT, RFC7516_KEY, b""),
         NONE,
         "",
         LINE,
@@ -208,13 +209,13 @@ const ENCRYPTED: &[Row<'_>] = &[
         &["jwe", "fmt", "-c", "-O", "b"],
         (RFC7516_A3, b"", "", b""),
         NONE,
-        RFC7516_A3_BESIDE,
+        RFC7516_A3_DETACHED,
         RFC7516_CIPHERTEXT,
         [2, 0, 0, 0, 2, 2],
     ),
     (
         &["jwe", "fmt", "-c", "-I", "b"],
-        (RFC7516_A3_BESIDE, RFC7516_CIPHERTEXT, "", b""),
+        (RFC7516_A3_DETACHED, RFC7516_CIPHERTEXT, "", b""),
         NONE,
         RFC7516_A3,
         b"",
@@ -304,7 +305,7 @@ fn expect_untouched<R: Abort>(rt: &R, output: &FailingOutput, at: &str) {
 }
 
 /// The failure of this device is reported, and each output holds a stated beginning.
-fn expect_told<R: Abort>(rt: &R, row: &Row<'_>, run: &Run, device: usize) {
+fn expect_reported<R: Abort>(rt: &R, row: &Row<'_>, run: &Run, device: usize) {
     let (_, (at, ..), streams, text, content, _) = *row;
     let mut wanted = [0; DEVICES];
     wanted[device.min(CONTENT_OUT)] = 1;
@@ -331,10 +332,10 @@ fn expect_told<R: Abort>(rt: &R, row: &Row<'_>, run: &Run, device: usize) {
 fn octet_calls(row: &Row<'_>, device: usize) -> u64
     requires { device < 6 }
 {
-    let (_, (given, beside, keys, random), _, text, content, calls) = *row;
+    let (_, (given, detached, keys, random), _, text, content, calls) = *row;
     let lens = [
         given.len() + 1,
-        beside.len() + 1,
+        detached.len() + 1,
         keys.len() + 1,
         random.len(),
         text.len() + 1,
@@ -372,7 +373,7 @@ fn fails_in_turn<R: Abort + AllocGlobal>(
             expect_same(rt, call, calls, device);
             return Ok(());
         }
-        expect_told(rt, row, &run, device);
+        expect_reported(rt, row, &run, device);
     }
     panic!(rt; "no run without a failure");
 }
@@ -403,36 +404,36 @@ fn each_fails_in_turn<R: Abort + AllocGlobal>(rt: &R, rows: &[Row<'_>]) -> Resul
 }
 
 #[test]
-fn each_failure_is_told_of_keys_and_octets(rt: HostRuntime) -> Result<(), Fail> {
+fn each_failure_of_keys_and_octets_is_reported(rt: HostRuntime) -> Result<(), Fail> {
     each_fails_in_turn(&rt, KEYS_AND_OCTETS)
 }
 
 #[test]
-fn each_failure_is_told_of_signed_objects(rt: HostRuntime) -> Result<(), Fail> {
+fn each_failure_of_signed_objects_is_reported(rt: HostRuntime) -> Result<(), Fail> {
     each_fails_in_turn(&rt, SIGNED)
 }
 
 #[test]
-fn each_failure_is_told_of_encrypted_objects(rt: HostRuntime) -> Result<(), Fail> {
+fn each_failure_of_encrypted_objects_is_reported(rt: HostRuntime) -> Result<(), Fail> {
     each_fails_in_turn(&rt, ENCRYPTED)
 }
 
 /// Objects and keys that are refused, whatever the detached payload is.
 const REFUSED: &[(&str, &str, Refusal)] = &[
-    (ABC_BESIDE, "{", Refusal::Json),
-    (ABC_BESIDE, "{\"kty\":\"EC\"}", Refusal::Key),
+    (ABC_DETACHED, "{", Refusal::Json),
+    (ABC_DETACHED, "{\"kty\":\"EC\"}", Refusal::Key),
     ("eyJhbGciOiJIUzI1NiJ9.", RFC7515_KEY, Refusal::Form),
     (ABC, RFC7515_KEY, Refusal::Form),
     ("eyJhbGciOiJub25lIn0..", RFC7515_KEY, Refusal::Unsupported),
-    (ABC_BESIDE, RFC7516_KEY, Refusal::KeyDoesNotFit),
+    (ABC_DETACHED, RFC7516_KEY, Refusal::KeyDoesNotFit),
     ("eyJhbGciOiJIUzI1NiJ9..AA", RFC7515_KEY, Refusal::NotOpened),
 ];
 
 /// A failure of the payload is reported before a refusal of the keys or the object, whether the payload is written or not.
 #[test]
-fn a_failing_payload_is_told_before_a_refusal(rt: HostRuntime) -> Result<(), Fail> {
+fn a_failing_payload_is_reported_before_a_refusal(rt: HostRuntime) -> Result<(), Fail> {
     for (text, keys, refusal) in REFUSED {
-        let words: [&[&str]; 2] = [&CHECK_BESIDE, &VERIFY_BESIDE];
+        let words: [&[&str]; 2] = [&CHECK_DETACHED, &VERIFY_DETACHED];
         for words in words {
             let row: Row<'_> = (words, (text, b"abc", keys, b""), NONE, "", b"", CHECKED);
             all_fail_in_turn(&rt, &row, Err(*refusal))?;

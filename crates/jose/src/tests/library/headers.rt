@@ -76,7 +76,7 @@ fn expect_joint<R: Abort + AllocGlobal>(
 }
 
 #[test]
-fn no_name_stands_in_two_parts(rt: HostRuntime) {
+fn no_name_is_in_two_parts(rt: HostRuntime) {
     for (protected, unprotected, per_recipient, refusal) in PARTS {
         expect_joint(&rt, protected, unprotected, per_recipient, *refusal);
     }

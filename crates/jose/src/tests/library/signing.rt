@@ -24,7 +24,7 @@ fn a_payload_is_signed_with_its_key(rt: HostRuntime) -> Result<(), Fail> {
 }
 
 /// The same without its payload.
-const ABC_BESIDE: &[u8] = b"eyJhbGciOiJIUzI1NiJ9..8-sUlaJJTTOyeAYgv-kHNN9tT55A-tUCHOYatGHTJa0";
+const ABC_DETACHED: &[u8] = b"eyJhbGciOiJIUzI1NiJ9..8-sUlaJJTTOyeAYgv-kHNN9tT55A-tUCHOYatGHTJa0";
 
 /// Verifying `ABC` with the keys has this result and writes this.
 fn expect_verified<R: Abort + AllocGlobal>(
@@ -59,8 +59,8 @@ fn a_signed_payload_verifies_with_its_key_alone(rt: HostRuntime) -> Result<(), F
     expect_verified(&rt, RFC7515_KEY, false, refused, b"")
 }
 
-/// Verifying `ABC_BESIDE` with the keys and this payload, which fails as `failing` says, has this result.
-fn expect_verified_beside<R: Abort + AllocGlobal>(
+/// Verifying `ABC_DETACHED` with the keys and this payload, which fails as `failing` says, has this result.
+fn expect_verified_detached<R: Abort + AllocGlobal>(
     rt: &R,
     keys: &str,
     payload: &[u8],
@@ -68,7 +68,7 @@ fn expect_verified_beside<R: Abort + AllocGlobal>(
     answer: Result<(), Refusal>,
 ) -> Result<(), Fail> {
     let keys = KeySet::read(rt.alloc(), keys.as_bytes(), false)?;
-    let jws = Jws::read(rt.alloc(), ABC_BESIDE, Some(Vec::new(rt.alloc())))?;
+    let jws = Jws::read(rt.alloc(), ABC_DETACHED, Some(Vec::new(rt.alloc())))?;
     let mut content = FailingInput::new(MemoryInput::new(payload, 2), failing);
     let verified = jws_verify_detached(rt.alloc(), &keys, &jws, &mut content, true);
     expect_same(rt, verified, answer, "verifying");
@@ -76,22 +76,22 @@ fn expect_verified_beside<R: Abort + AllocGlobal>(
 }
 
 #[test]
-fn a_payload_beside_its_text_verifies_with_its_key_alone(rt: HostRuntime) -> Result<(), Fail> {
+fn a_detached_payload_verifies_with_its_key_alone(rt: HostRuntime) -> Result<(), Fail> {
     let never = Failing::Once(u64::MAX);
     let refused = Err(Refusal::NotOpened);
-    expect_verified_beside(&rt, KEY_TO_31, b"abc", never, Ok(()))?;
-    expect_verified_beside(&rt, KEY_TO_31, b"abd", never, refused)?;
-    expect_verified_beside(&rt, RFC7515_KEY, b"abc", never, refused)?;
+    expect_verified_detached(&rt, KEY_TO_31, b"abc", never, Ok(()))?;
+    expect_verified_detached(&rt, KEY_TO_31, b"abd", never, refused)?;
+    expect_verified_detached(&rt, RFC7515_KEY, b"abc", never, refused)?;
     let unfit = Err(Refusal::KeyDoesNotFit);
-    expect_verified_beside(&rt, KEY_TO_15, b"abc", never, unfit)
+    expect_verified_detached(&rt, KEY_TO_15, b"abc", never, unfit)
 }
 
 #[test]
-fn a_payload_that_fails_is_told_first(rt: HostRuntime) -> Result<(), Fail> {
-    let told = Err(Refusal::Read);
+fn a_payload_that_fails_is_reported_first(rt: HostRuntime) -> Result<(), Fail> {
+    let reported = Err(Refusal::Read);
     for key in [KEY_TO_31, RFC7515_KEY, KEY_TO_15] {
         for call in 0..3 {
-            expect_verified_beside(&rt, key, b"abc", Failing::Once(call), told)?;
+            expect_verified_detached(&rt, key, b"abc", Failing::Once(call), reported)?;
         }
     }
     Ok(())

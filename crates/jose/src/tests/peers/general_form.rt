@@ -159,7 +159,7 @@ const SIGNED: &[(&str, &[&str])] = &[
 
 /// Texts of go-jose for several recipients, which are refused. They repeat the encrypted key of the first recipient next to the list,
 /// against RFC 7516 section 7.2.1.
-const WITH_A_KEY_BESIDE: &[&str] = &[
+const WITH_A_KEY_DETACHED: &[&str] = &[
     "{\"protected\":\"eyJlbmMiOiJBMTI4Q0JDLUhTMjU2In0\",\"recipients\":[{\"header\":{\"alg\":\"A128KW\"},\"encrypted_key\":\"JN-IzD2ZoEXsqnFFnOgIKLbWQeB_2GfPBVfCqjb35w1gTkaW6P52jA\"},{\"header\":{\"alg\":\"A256KW\"},\"encrypted_key\":\"Zn4LheyQjNIFeMmaANf1Dzowu5OTQARDjJa9GNk8eQY-rmtg7wkjGw\"},{\"header\":{\"alg\":\"PBES2-HS256+A128KW\",\"p2c\":1000,\"p2s\":\"MDEyMzQ1Njc4OWFiY2RlZg\"},\"encrypted_key\":\"UGZOEWu1oQHyeF6e5ZA0Cfk6IfQiw_e6MOAURBElzhGlmY3O0f8n1A\"}],\"aad\":\"YQ\",\"encrypted_key\":\"JN-IzD2ZoEXsqnFFnOgIKLbWQeB_2GfPBVfCqjb35w1gTkaW6P52jA\",\"iv\":\"AWDBj0WjWp7zwyiCn4VM7w\",\"ciphertext\":\"oAZppv7SS5kIQaO4v6A54qjEnExUvdFIGENb3xdOA-c\",\"tag\":\"l9PolbUt4rlr8rDfP48crg\"}",
     "{\"protected\":\"eyJlbmMiOiJBMjU2R0NNIn0\",\"recipients\":[{\"header\":{\"alg\":\"A128KW\"},\"encrypted_key\":\"Nz_foOVf91D1Fx_4T8bV43SqRgAklF_NTbcnNY4Xyla7whftiXLQ_g\"},{\"header\":{\"alg\":\"A256KW\"},\"encrypted_key\":\"DFCuYoFlZ1cO3SAKxp43mCjurqWHpolpiEdSpnKjD8VRLOwvhsrYjw\"},{\"header\":{\"alg\":\"PBES2-HS256+A128KW\",\"p2c\":1000,\"p2s\":\"MDEyMzQ1Njc4OWFiY2RlZg\"},\"encrypted_key\":\"2Xlaoojrv2B3U2E1Up9NbBQbwrHWylwmElVxMiIhIrCAKsxHOptTdw\"}],\"aad\":\"YQ\",\"encrypted_key\":\"Nz_foOVf91D1Fx_4T8bV43SqRgAklF_NTbcnNY4Xyla7whftiXLQ_g\",\"iv\":\"BCItIxP2DNYEYzxi\",\"ciphertext\":\"N54u5N1-kaUBO57imS42gGY-I_FNUQ\",\"tag\":\"XxK8whVz5KsUTWvkyYc6gw\"}",
     "{\"protected\":\"eyJlbmMiOiJBMTI4Q0JDLUhTMjU2In0\",\"recipients\":[{\"header\":{\"alg\":\"A128GCMKW\",\"iv\":\"ydydr2XXQFJUl6lE\",\"tag\":\"XBZPXKCF0YEFpBx3NlxNgQ\"},\"encrypted_key\":\"1EmN_51Z1o6kAR3CwefCSkE9u8-dxBy_sGoJAKbLI3o\"},{\"header\":{\"alg\":\"A192GCMKW\",\"iv\":\"xFGriDVMdXL5WpAK\",\"tag\":\"6oG_Oj8fEFX_QkXkPmKvLw\"},\"encrypted_key\":\"jujArHtjYZtNxNVFWt3ljjmjZuP6v_LUYL73D5mely0\"},{\"header\":{\"alg\":\"A256KW\"},\"encrypted_key\":\"YVJEVNuBpc4Yh6czJ_bA1DkBO7fqZrfoxDaM8lJYUH1sBpPq65xDjA\"},{\"header\":{\"alg\":\"PBES2-HS256+A128KW\",\"p2c\":1000,\"p2s\":\"OlZDP2PSVfGsaarf7SSCeA\"},\"encrypted_key\":\"_waO6r5AgOOSbo4hr8yAz_fQAmuy6H2yM5R5J4Y6Kfx2h2NfCxAQeg\"},{\"header\":{\"alg\":\"A256GCMKW\",\"iv\":\"_XSFBMCyOKe3zOjR\",\"tag\":\"t4uR45WE8KZ2N4XYRY3anw\"},\"encrypted_key\":\"CRQv5--yhdXPHYsOASKhZWDxGiZvBo1VaBQl3K8pBFw\"}],\"aad\":\"YQ\",\"encrypted_key\":\"1EmN_51Z1o6kAR3CwefCSkE9u8-dxBy_sGoJAKbLI3o\",\"iv\":\"bu9Bmzh0VIw8HgSeyLr97Q\",\"ciphertext\":\"uoBO9UxCKjqTllwLJBsqB_O8Q8x6yZflDxx0hvfFnL8\",\"tag\":\"UGuV23gb1JKsb9SBKv2dhA\"}",
@@ -189,8 +189,8 @@ fn what_others_sign_is_verified_with_each_key(rt: HostRuntime) -> Result<(), Fai
 }
 
 #[test]
-fn an_encrypted_key_beside_the_list_is_refused(rt: HostRuntime) -> Result<(), Fail> {
-    for text in WITH_A_KEY_BESIDE {
+fn an_encrypted_key_next_to_the_list_is_refused(rt: HostRuntime) -> Result<(), Fail> {
+    for text in WITH_A_KEY_DETACHED {
         decrypts(&rt, text, KEY_16, Answer::Refusal(Refusal::Form))?;
     }
     Ok(())

@@ -28,11 +28,11 @@ pub(crate) const RFC7516_A3_FLATTENED: &str =
     "{\"ciphertext\":\"KDlTtXchhZTGufMYmOYGS4HffxPSUrfmqCHXaI9wOGY\",\"encrypted_key\":\"6KB707dM9YTIgHtLvtgWQ8mKwboJW3of9locizkDTHzBC2IlrT1oOQ\",\"iv\":\"AxY8DCtDaGlsbGljb3RoZQ\",\"protected\":\"eyJhbGciOiJBMTI4S1ciLCJlbmMiOiJBMTI4Q0JDLUhTMjU2In0\",\"tag\":\"U0m_YmjN04DJvceFICbCVQ\"}";
 
 /// The compact text without its ciphertext.
-pub(crate) const RFC7516_A3_BESIDE: &str =
+pub(crate) const RFC7516_A3_DETACHED: &str =
     "eyJhbGciOiJBMTI4S1ciLCJlbmMiOiJBMTI4Q0JDLUhTMjU2In0.6KB707dM9YTIgHtLvtgWQ8mKwboJW3of9locizkDTHzBC2IlrT1oOQ.AxY8DCtDaGlsbGljb3RoZQ..U0m_YmjN04DJvceFICbCVQ";
 
 /// The flattened text without its ciphertext.
-pub(crate) const RFC7516_A3_FLATTENED_BESIDE: &str =
+pub(crate) const RFC7516_A3_FLATTENED_DETACHED: &str =
     "{\"encrypted_key\":\"6KB707dM9YTIgHtLvtgWQ8mKwboJW3of9locizkDTHzBC2IlrT1oOQ\",\"iv\":\"AxY8DCtDaGlsbGljb3RoZQ\",\"protected\":\"eyJhbGciOiJBMTI4S1ciLCJlbmMiOiJBMTI4Q0JDLUhTMjU2In0\",\"tag\":\"U0m_YmjN04DJvceFICbCVQ\"}";
 
 /// The flattened text of the same key and octets with the additional data `a`.
