@@ -214,7 +214,7 @@ wrote_whole {D} {E} {input} {output} {v} {has_keys} {given} {has_text} {has_cont
       keeps_up = λ told streams some. let holds = is.holds in cc;
       content_first = on_refusal r wrote.content_first (λ first. elim first [
         | inl same ↦ inl same
-        | inr whole ↦ inr (λ has. let w = whole (sym is.content_out ∙ has) in (ended, w.0, rw stands w.1))
+        | inr whole ↦ inr (λ has. let w = whole (sym is.content_out ∙ has) in (ended, w.0, (w.1.0, answered (seen_texts input old new) (all_possible input old new) ∙ w.1.1, w.1.2)))
       ]);
       in_order = record {
         keys = λ unread. read.keys_in_order (rw is.text at unread);

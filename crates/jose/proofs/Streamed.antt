@@ -86,7 +86,8 @@ pub record StreamsLent {D E : Type 0} (input : InputMembers D) (output : OutputM
       × IfLent l (λ old new. refusal ≢ Write → output.written new ≡ output.written old → new ≡ old))
   pub content_first : OnErr r (IfLent l (λ old new. ((text' ≡ text) × (output.endings new ≡ output.endings old))
       ⊎ (IsTrue (input.is_at_end content') × IsFinishedOnce output.is_finished output.endings old new
-      × (output.written new ≡ output.written old ++ (begun (plan (appended (input.consumed random) (input.consumed random'))) (observed input.consumed input.is_at_end content content')).content))))
+      × ((texts : OutputTexts) × (planned (plan (appended (input.consumed random) (input.consumed random'))) (appended (input.consumed content) (input.consumed content')) ≡ Ok texts)
+      × (output.written new ≡ output.written old ++ texts.content)))))
   pub memory_first : IfErr r (λ refusal. refusal ≡ Memory → content' ≡ content)
   pub unread : IfErr r (λ refusal. appended (input.consumed content) (input.consumed content') ≡ []
       → (DidNotFail refusal (counts output.failures text text') → text' ≡ text) × IfLent l (λ old new. refusal ≢ Write → new ≡ old))
@@ -167,8 +168,8 @@ streamed {D} {E} {input} {output} {v} {draft} {plan} {old} {mid} {random} {conte
       );
       content_first = on_refusal r s.content_first (λ first. elim (
           which_lent l (after.text ≡ before.text) output.endings (λ old new. IsTrue seen.content.ended × IsFinishedOnce output.is_finished output.endings old new
-          × (output.written new ≡ output.written old ++ (begun (plan seen.random.octets) seen.content).content)) before.content after.content beside first
-          ) [ inl same ↦ inl same | inr wrote ↦ inr (λ has. rw (stands, is.content) (wrote (sym is.content_out ∙ has))) ]);
+          × ((texts : OutputTexts) × (planned (plan seen.random.octets) seen.content.octets ≡ Ok texts) × (output.written new ≡ output.written old ++ texts.content))) before.content after.content beside first
+          ) [ inl same ↦ inl same | inr wrote ↦ inr (λ has. rw (seen_settled, is.content, plans seen.random.octets) (wrote (sym is.content_out ∙ has))) ]);
       in_order = record {
         keys = λ unread. read.keys_in_order (rw is.reader.text at unread);
         random = λ unread. cc;

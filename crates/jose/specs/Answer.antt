@@ -1,5 +1,5 @@
 -- The answer of each command to whole inputs: the octets of each output, or the first refusal.
-use Rattle.std.specs.Prelude.{◌≡◌, ◌≢◌, ◌⊎◌, ◌<◌, ◌≤◌, ℕ, Bool, true, false, not, ◌&&◌, ◌||◌, IsTrue, List, [], ◌++◌, length, is_some, is_none, if◌then◌else◌, Option, Some, None, Result, Err}
+use Rattle.std.specs.Prelude.{◌≡◌, ◌≢◌, ◌⊎◌, ◌<◌, ◌≤◌, ℕ, Bool, true, false, not, ◌&&◌, ◌||◌, IsTrue, List, [], ◌++◌, length, is_some, is_none, if◌then◌else◌, Option, Some, None, Result, Ok, Err}
 use Rattle.std.specs.List.{list_any}
 use Rattle.octets.specs.declared.refusal.Refusal.{Refusal}
 use Rattle.octets.specs.declared.refusal.Refusal.TheVariants.{Usage, Write, Memory}
@@ -120,8 +120,9 @@ beginning invocation seen =
     if others_read invocation seen then begun (plan_from (draft_of invocation seen.text.octets seen.keys.octets) seen.random.octets) (content_seen invocation seen)
     else nothing
 
--- Text holds, unless the refusal is Write and the output of the text itself failed. Content holds, unless the refusal is Write: the content
--- is written before the text, so it may be written when the output of the text fails.
+-- Text, a fact about the output of the text, holds unless the refusal is Write and this output itself failed. Content, a fact about the
+-- output of the content, holds unless the refusal is Write: the content is written before the text, so it may be written when the output
+-- of the text fails.
 pub record AreSpared {D : Type 0} (failures : D → ℕ) (old new : Outputs D) (refusal : Refusal) (Text Content : Type 0) : Type 0 where
   pub text : DidNotFail refusal (counts failures old.text new.text) → Text
   pub content : refusal ≢ Write → Content
@@ -156,14 +157,19 @@ AreKeptUp written invocation seen old new =
     → KeepsUp (λ front. (fixed_of invocation seen front).text) (content_seen invocation seen).octets (written old.text) (written new.text)
     × KeepsUp (λ front. (fixed_of invocation seen front).content) (content_seen invocation seen).octets (written old.content) (written new.content)
 
+-- the answer if nothing follows what was read of the inputs
+abbrev pub answer_so_far : InvocationView → ObservedInputs → Result OutputTexts Refusal
+answer_so_far invocation seen =
+    answer invocation (record { text = seen.text.octets; content = seen.content.octets; keys = seen.keys.octets; random = seen.random.octets })
+
 -- Either the text is not begun and the output of the content is not finished, or, if the command has an output of the content, the content
--- was read to its end and written whole, and this output was finished once.
+-- was read to its end and is not refused, all that the answer has for this output was written, and the output was finished once.
 abbrev pub IsContentFirst : {D : Type 0} → (D → List ℕ) → (D → Bool) → (D → ℕ) → InvocationView → ObservedInputs → Outputs D → Outputs D → Type 0
 IsContentFirst written is_finished endings invocation seen old new =
     ((new.text ≡ old.text) × (endings new.content ≡ endings old.content))
     ⊎ (IsTrue (has_content_output invocation)
     → IsTrue (content_seen invocation seen).ended × IsFinishedOnce is_finished endings old.content new.content
-    × (written new.content ≡ written old.content ++ (beginning invocation seen).content))
+    × ((texts : OutputTexts) × (answer_so_far invocation seen ≡ Ok texts) × (written new.content ≡ written old.content ++ texts.content)))
 
 -- ---- the order of reading (docs/SPECIFICATION.md "Commands", "What is read first")
 
@@ -190,7 +196,8 @@ abbrev pub TakesMemoryFirst : {D : Type 0} → InvocationView → Inputs D → I
 TakesMemoryFirst invocation old new refusal = refusal ≡ Memory
     → IsTrue (takes_memory invocation.command) × (holds_back invocation.command ≡ false → new.content ≡ old.content)
 
--- If the text and the keys are refused, the random input and the content are untouched.
+-- If the draft is refused, the random input and the content are untouched. With a detached content that is handed in no draft is refused:
+-- its plan is.
 abbrev pub RefusesFirst : {D : Type 0} → InvocationView → ObservedInputs → Inputs D → Inputs D → Type 0
 RefusesFirst invocation seen old new =
     (refusal : Refusal) → draft_of invocation seen.text.octets seen.keys.octets ≡ Err refusal → (new.random ≡ old.random) × (new.content ≡ old.content)

@@ -41,8 +41,8 @@ abbrev pub of_object : Bool → (Option (List ℕ) → Result OutputTexts Refusa
 of_object true answer = Ok (without_random (record { whole = λ content. answer (Some content); fixed = λ front. nothing }))
 of_object false answer = by_text (answer None)
 
--- The draft that the settings, the text and the keys give, or the first refusal. In `b64` the text is the content, and the draft does not
--- depend on it.
+-- The draft that the settings, the text and the keys give, or the first refusal. Those of `b64` depend on none of these: the text of
+-- `b64 dec` is its content.
 abbrev pub draft_for : Command → Settings → List ℕ → List ℕ → Result (Draft OutputTexts) Refusal
 draft_for JwkGen settings text keys = making text
 draft_for JwkThp settings text keys = by_text (ok_or (hash_asked settings) Usage >>= λ hash. on_text (thp_answer hash text))

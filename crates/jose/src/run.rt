@@ -36,7 +36,8 @@ pub fn run<I: Input, O: Output>(
     ensures keeps_up { result ≡ Err Refusal.Read → AreKeptUp O.written (invocation_view invocation.now) (observed_inputs I.consumed I.is_at_end inputs.old inputs.new) outputs.old outputs.new }
     ensures content_first { OnErr result (IsContentFirst O.written O.is_finished O.endings (invocation_view invocation.now) (observed_inputs I.consumed I.is_at_end inputs.old inputs.new) outputs.old outputs.new) }
 
-    // The inputs are read one after another, and the last ones only if all that comes before them is accepted.
+    // The inputs are read one after another. A detached content that is handed in is read before anything is judged. The random input
+    // and every other content come last, and are read only if the text and the keys are accepted.
     ensures in_order { AreInOrder (invocation_view invocation.now) (observed_inputs I.consumed I.is_at_end inputs.old inputs.new) inputs.old inputs.new }
     ensures reads_first { IfErr result (ReadsFirst (invocation_view invocation.now) (observed_inputs I.consumed I.is_at_end inputs.old inputs.new)) }
     ensures random_first { DrawsFirst (invocation_view invocation.now) (observed_inputs I.consumed I.is_at_end inputs.old inputs.new) inputs.old inputs.new }

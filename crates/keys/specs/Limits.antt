@@ -4,7 +4,8 @@ use Rattle.std.specs.Prelude.{ℕ, Bool, nat_le, List}
 use Rattle.keys.specs.declared.algorithm.KeyManagementAlg.{KeyManagementAlg}
 use Rattle.keys.specs.Algorithms.{management_algs}
 
--- the numbers of docs/SPECIFICATION.md "Keys" 1 and 2, "Making keys" 4, "Objects" 2, "Decrypting" 2, and "Encrypting" 5 and 7
+-- the numbers of docs/SPECIFICATION.md "Keys" 1 and 2, "Making keys" 1 and 4, "Objects" 2, "Signing" 4, "Decrypting" 2, and "Encrypting" 5
+-- and 7
 pub record Limits : Type 0 where
   -- the most keys of a set, good or bad, and the most octets of a key
   pub keys : ℕ

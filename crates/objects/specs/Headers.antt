@@ -58,8 +58,9 @@ are_disjoint protected unprotected per_recipient = not (overlap protected unprot
 abbrev pub all_members : Members → Members → Members → Members
 all_members protected unprotected per_recipient = union protected (union unprotected per_recipient)
 
--- The JOSE Header of a recipient or a signature is the union of the protected header, the shared unprotected header, and the unprotected
--- header of this recipient (RFC 7516 section 4) or signature (RFC 7515 section 4). No name is in two of them.
+-- The JOSE Header of a recipient or a signature is the union of the protected header, the shared unprotected header, which only encrypted
+-- objects have, and the unprotected header of this recipient (RFC 7516 section 3) or signature (RFC 7515 section 3). No name is in two of
+-- them (section 4 of both).
 unfoldable pub joint_header : Members → Members → Members → Result Members Refusal
 joint_header protected unprotected per_recipient = do
   apart ← needs (are_disjoint protected unprotected per_recipient) Header

@@ -34,7 +34,7 @@ pub record JwsParts : Type 0 where
 
 -- ---- the members of a text (RFC 7515 section 5.2, step 1, and section 7)
 
--- the same, with the text of the signature
+-- the members of a signature, with the text of `signature` in place of its octets
 pub record EncodedSignature : Type 0 where
   pub protected : List ℕ
   pub header : Members

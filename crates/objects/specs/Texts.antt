@@ -97,7 +97,7 @@ has_text (c ∷ text) = true
 abbrev pub meaning : List ℕ → List ℕ
 meaning text = result_unwrap_or (decoded text) []
 
--- ---- the content, which may be handed in with the object (RFC 7515 appendix F)
+-- ---- the content, which may be handed in with the object (RFC 7515 appendix F; for a ciphertext docs/SPECIFICATION.md "Objects")
 
 -- the text of a content: that of the object, or of the content that was handed in, and then the object must have none
 abbrev pub content_by : Option (List ℕ) → List ℕ → Result (List ℕ) Refusal

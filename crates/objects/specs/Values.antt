@@ -33,7 +33,7 @@ abbrev pub header_there : Members → Option Data
 header_there no_members = None
 header_there (member name value rest) = Some (object (member name value rest))
 
--- the text of a content, unless it is detached (RFC 7515 appendix F)
+-- the text of a content, unless it is detached (RFC 7515 appendix F; for a ciphertext docs/SPECIFICATION.md "Objects")
 abbrev pub content_there : Bool → List ℕ → Option Data
 content_there false text = Some (string text)
 content_there true text = None

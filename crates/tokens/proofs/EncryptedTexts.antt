@@ -1,19 +1,20 @@
 -- If keys and a template settle an encryption, every plaintext that is not too long has an object, and this object has texts.
-use Rattle.std.proofs.Common.{◌≡◌, ℕ, ◌≤◌, ◌&&◌, ◌==◌, Bool, true, false, not, List, [], ◌∷◌, length, map, take, Ok, IfErr, refl, sym, ap, ◌∙◌, subst, arith}
-use Rattle.std.proofs.lemmas.Bool.{and_parts, leb-true}
+use Rattle.std.proofs.Common.{◌≡◌, ℕ, ◌≤◌, ◌<◌, ◌&&◌, ◌==◌, Bool, true, false, not, List, [], ◌∷◌, length, map, take, Option, Some, None, Ok, IfErr, IsSomeAnd, nat_lt, refl, sym, ap, ◌∙◌, subst, arith}
+use Rattle.std.proofs.lemmas.Bool.{and_parts, leb-true, ltb-true, not-false}
 use Rattle.std.proofs.lemmas.List.{length-map}
+use Rattle.std.proofs.lemmas.Result.{IfErr-weaker}
 use Rattle.serde_json.specs.Data.{Members, no_members, member}
 use Rattle.octets.specs.declared.refusal.Refusal.TheVariants.{Limit}
 use Rattle.octets.specs.Outcomes.{◌>>=◌, needs}
 use Rattle.octets.specs.Plan.{OutputTexts, Plan}
 use Rattle.octets.proofs.Lemmas.{IsOctets-take}
 use Rattle.ciphers.specs.Openings.{is_longer}
-use Rattle.ciphers.specs.Sealing.{Sealed}
+use Rattle.ciphers.specs.Sealing.{Sealed, IsTooLong}
 use Rattle.keys.specs.Keys.{OctetKey}
 use Rattle.keys.specs.Limits.{limits, are_few}
 use Rattle.objects.specs.Jwe.{EncryptedObject, built, parts_of, compact_parts, is_compact, json_text, jwe_compact_text, jwe_text}
 use Rattle.objects.specs.Texts.{has_members}
-use Rattle.tokens.specs.Choosing.{RecipientKey, is_alone, EncryptionPlan}
+use Rattle.tokens.specs.Choosing.{RecipientKey, is_alone, EncryptionPlan, read_encryption}
 use Rattle.tokens.specs.Encrypting.{random_len, for_recipients, cek_by, sealing_by, sealed_by, parts_by, encrypted, written_of, plan_by, EncryptingMakesTexts}
 use Rattle.tokens.specs.Template.{is_empty}
 use Rattle.tokens.proofs.DeliveredKeys.{drawn_by_each, as_many_drawn}
@@ -47,16 +48,23 @@ has_text true detach e random s alone some =
     (compact_parts detach (parts_of o), rw held refl)
 has_text false detach e random s alone some = (json_text detach (object_by e random s), refl)
 
--- A plaintext is refused only with Limit.
+-- A plaintext that does not pass the test is too long.
+too_long : (longest : Option ℕ) (n : ℕ) → not (is_longer n longest) ≡ false → IsSomeAnd longest (λ most. most < n)
+too_long None n h = cc h
+too_long (Some most) n h = ltb-true most n (not-false (nat_lt most n) h)
+
+-- A plaintext is refused only with Limit, and only if it is too long.
 whole_text : (compact detach : Bool) (keys : List OctetKey) (e : EncryptionPlan) (random plaintext : List ℕ) → Settles keys e → Writes e random → are_few limits (length e.recipient_keys) ≡ true
-    → holds_no_more compact e ≡ true → IfErr ((plan_by limits compact detach e random).whole plaintext) (λ refusal. refusal ≡ Limit)
+    → holds_no_more compact e ≡ true
+    → IfErr ((plan_by limits compact detach e random).whole plaintext) (λ refusal. (refusal ≡ Limit) × IsTooLong (sealing_by e random) plaintext)
 unfolding encrypted sealed_by
-whole_text compact detach keys e random plaintext by w few alone = by_test (not (is_longer (length plaintext) (sealing_by e random).longest))
+whole_text compact detach keys e random plaintext by w few alone = by_test (not (is_longer (length plaintext) (sealing_by e random).longest)) refl
   where
-    by_test : (short : Bool)
-        → IfErr (((needs short Limit >>= λ passed. Ok ((sealing_by e random).sealed plaintext)) >>= λ s. built limits (parts_by e random s)) >>= written_of compact detach) (λ refusal. refusal ≡ Limit)
-    by_test false = refl
-    by_test true =
+    by_test : (short : Bool) → not (is_longer (length plaintext) (sealing_by e random).longest) ≡ short
+        → IfErr (((needs short Limit >>= λ passed. Ok ((sealing_by e random).sealed plaintext)) >>= λ s. built limits (parts_by e random s)) >>= written_of compact detach)
+        (λ refusal. (refusal ≡ Limit) × IsTooLong (sealing_by e random) plaintext)
+    by_test false long = (refl, too_long (sealing_by e random).longest (length plaintext) long)
+    by_test true short =
         let s : Sealed = (sealing_by e random).sealed plaintext in
         rw (built_is limits refl keys e random s by w few, (has_text compact detach e random s alone by.some).1) tt
 
@@ -68,5 +76,8 @@ encrypting_makes_texts laws compact detach keys template random plaintext plan f
     let by = settles limits these_are_sound compact keys template e is.1 in
     let long : length e.recipient_keys ≡ length keys = sym (length-map e.recipient_keys (λ r. r.key)) ∙ ap length by.keys_are in
     let w = writes laws keys e (take (random_len e) random) by key_octets (IsOctets-take (random_len e) random octets) is.2 in
-    subst (λ (p : Plan OutputTexts). IfErr (p.whole plaintext) (λ refusal. refusal ≡ Limit)) is.3
-    (whole_text compact detach keys e (take (random_len e) random) plaintext by w (ap (λ n. are_few limits n) long ∙ few) (stands_alone limits these_are_sound compact keys template e is.1))
+    let drawn = take (random_len e) random in
+    let only = whole_text compact detach keys e drawn plaintext by w (ap (λ n. are_few limits n) long ∙ few) (stands_alone limits these_are_sound compact keys template e is.1) in
+    subst (λ (p : Plan OutputTexts). IfErr (p.whole plaintext) (λ refusal. (refusal ≡ Limit)
+    × ((e : EncryptionPlan) × (read_encryption limits compact keys template ≡ Ok e) × IsTooLong (sealing_by e (take (random_len e) random)) plaintext))) is.3
+    (IfErr-weaker ((plan_by limits compact detach e drawn).whole plaintext) _ _ (λ refusal h. (h.0, (e, is.1, h.1))) only)

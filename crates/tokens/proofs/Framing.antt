@@ -101,7 +101,8 @@ module _ (content : Plan (List ℕ)) (values : List ℕ → List (List ℕ)) (pl
     beside_fixed q = (ap (λ (t : OutputTexts). t.text) (f.fixed q), ap (λ (t : OutputTexts). t.content) (f.fixed q))
 
     module _ (p old out : List ℕ) (ended : Bool) (octets : IsOctets p) (at_end : IsTrue ended) (w : IsWhole [] content p old out) where
-      beside_whole : plan.whole p ≡ Ok (record { text = filled texts (values p); content = w.text })
+      -- The plan accepts what was read.
+      pub beside_whole : plan.whole p ≡ Ok (record { text = filled texts (values p); content = w.text })
       beside_whole = f.whole p w.text octets w.is
 
       -- All of the content that may be written was written.

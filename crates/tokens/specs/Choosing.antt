@@ -70,7 +70,7 @@ encryption_in mode.GcmKeyWrap n key = encryption_by_wrap n
 abbrev pub encryption_by_management : KeyManagementAlg → OctetKey → Option ContentEncryptionAlg
 encryption_by_management alg key = encryption_in (mode_of alg) (kek_len alg) key
 
--- that of the template, or that one
+-- that of the template, or else the one that goes with key management
 abbrev pub chosen_encryption : Option ContentEncryptionAlg → KeyManagementAlg → OctetKey → Result ContentEncryptionAlg Refusal
 chosen_encryption (Some enc) alg key = Ok enc
 chosen_encryption None alg key = ok_or (encryption_by_management alg key) NoAlgorithm
@@ -166,7 +166,7 @@ pub record EncryptionPlan : Type 0 where
   pub unprotected : Members
   pub aad : List ℕ
 
--- a compact text has one recipient, and no member but those that are protected (RFC 7516 section 7.1)
+-- a compact text has one recipient, no unprotected header and no `aad` (RFC 7516 section 7.1)
 abbrev pub compact_has_room : Bool → List RecipientKey → EncryptionTemplate → Bool
 compact_has_room compact recipient_keys t = if compact then is_alone recipient_keys && (is_empty t.unprotected && (length t.aad == 0)) else true
 
@@ -191,7 +191,7 @@ settle_encryption limits compact keys t = do
     aad = t.aad;
   })
 
--- that of keys and a template's text, or the first refusal
+-- the plan of keys and a template's text, or the first refusal
 unfoldable pub read_encryption : Limits → Bool → List OctetKey → List ℕ → Result EncryptionPlan Refusal
 read_encryption limits compact keys text = do
   value ← json_value text

@@ -10,7 +10,7 @@ use Rattle.octets.specs.Base64url.{base64url, whole_groups}
 use Rattle.octets.specs.Octets.{IsOctets}
 use Rattle.octets.specs.Plan.{OutputTexts, Plan, BothGrow, Draft, planned, plan_from}
 use Rattle.ciphers.specs.Openings.{is_longer}
-use Rattle.ciphers.specs.Sealing.{Sealed, Sealing, sealing, cek_len, iv_len}
+use Rattle.ciphers.specs.Sealing.{Sealed, Sealing, IsTooLong, sealing, cek_len, iv_len}
 use Rattle.keys.specs.Algorithms.{management_name, management_operations, management_algs}
 use Rattle.keys.specs.Keys.{OctetKey, AreOctetKeys, allows}
 use Rattle.keys.specs.Limits.{Limits, limits, are_few}
@@ -67,7 +67,7 @@ with_management given KeyWrap header = header
 with_management given (Password p2s p2c) header = put (codes "p2s") (string (base64url p2s)) (with_p2c given p2c header)
 with_management given (GcmKeyWrap iv tag) header = put (codes "tag") (string (base64url tag)) (put (codes "iv") (string (base64url iv)) header)
 
--- the header with the algorithm's name and the parameters of a delivery, unless the template has them
+-- the header with the algorithm's name and the parameters of a delivery; a name or a `p2c` of the template stays
 abbrev pub with_parameters : Given → Delivery → Members → Members
 with_parameters given d header = with_management given.p2c d.management (with_name given.alg (codes "alg") (management_name d.alg) header)
 
@@ -171,10 +171,11 @@ EncryptingGrows = (compact detach : Bool) (keys : List OctetKey) (template rando
     → plan_from (enc_plan limits compact detach keys template) random ≡ Ok plan → BothGrow plan
 
 -- If keys and a template are accepted, every plaintext that is not too long has an object and its texts: after the random octets the
--- only refusal is Limit.
+-- only refusal is Limit, and only of a plaintext that is too long for the content encryption.
 abbrev pub EncryptingMakesTexts : Type 0
 EncryptingMakesTexts = (compact detach : Bool) (keys : List OctetKey) (template random plaintext : List ℕ) (plan : Plan OutputTexts) → are_few limits (length keys) ≡ true
-    → AreOctetKeys keys → IsOctets random → plan_from (enc_plan limits compact detach keys template) random ≡ Ok plan → IfErr (plan.whole plaintext) (λ refusal. refusal ≡ Limit)
+    → AreOctetKeys keys → IsOctets random → plan_from (enc_plan limits compact detach keys template) random ≡ Ok plan → IfErr (plan.whole plaintext) (λ refusal. (refusal ≡ Limit)
+    × ((e : EncryptionPlan) × (read_encryption limits compact keys template ≡ Ok e) × IsTooLong (sealing_by e (take (random_len e) random)) plaintext))
 
 -- ---- what is encrypted is decrypted (docs/SPECIFICATION.md "Encrypting" and "Decrypting")
 

@@ -63,7 +63,7 @@ abbrev pub leaves_parameters : Members → Bool
 leaves_parameters header =
     is_none (get_member (codes "p2s") header) && (is_none (get_member (codes "iv") header) && is_none (get_member (codes "tag") header))
 
--- those of headers that leave these parameters out, and have neither `crit` nor `zip`
+-- the algorithms and the count of two headers that leave these parameters out and have neither `crit` nor `zip`, or the first refusal
 unfoldable pub algorithms_asked : Members → Members → Result AlgorithmsAsked Refusal
 algorithms_asked protected unprotected = do
   header ← joint_header protected unprotected no_members

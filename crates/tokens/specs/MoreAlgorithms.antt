@@ -13,7 +13,7 @@ use Rattle.objects.specs.Jwe.{EncryptedObject, jwe_of}
 use Rattle.objects.specs.Jws.{SignedObject, jws_of}
 use Rattle.tokens.specs.Decrypting.{decrypted}
 
--- ---- the numbers and algorithms before 2.0.0 (today's: docs/SPECIFICATION.md "Keys")
+-- ---- the numbers and algorithms before 2.0.0 (today's: docs/SPECIFICATION.md "Keys" to "Encrypting")
 
 -- the numbers, with the algorithms of today
 abbrev pub earlier_limits : Limits

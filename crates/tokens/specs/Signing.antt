@@ -124,7 +124,7 @@ plan_by limits compact detach s = record {
   fixed = λ front. record { text = text_fixed limits compact detach s front; content = handed_out detach front };
 }
 
--- that of the signers of keys and a template's text, or the first refusal
+-- the plan of the signers of keys and a template's text, or the first refusal
 unfoldable pub sig_plan : Limits → Bool → Bool → List OctetKey → List ℕ → Result (Plan OutputTexts) Refusal
 sig_plan limits compact detach keys template = do
   s ← read_signing limits compact keys template

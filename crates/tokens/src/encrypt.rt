@@ -9,7 +9,7 @@ ghost use Rattle.octets.specs.Code.Lent.{lent, wrote_on, IfLent, counts_of};
 ghost use Rattle.octets.specs.Octets.{IsOctets};
 ghost use Rattle.octets.specs.Code.Streams.{fixed_by};
 ghost use Rattle.octets.specs.Outcomes.{AgreesUnlessExternal, is_external};
-ghost use Rattle.octets.specs.Plan.{begun, planned, plan_from, drawn_of};
+ghost use Rattle.octets.specs.Plan.{OutputTexts, begun, planned, plan_from, drawn_of};
 ghost use Rattle.octets.specs.Pumps.{KeepsUp};
 ghost use Rattle.octets.specs.declared.refusal.Refusal.{Refusal};
 ghost use Rattle.ciphers.specs.Sealing.{cek_len};
@@ -122,10 +122,12 @@ pub fn jwe_encrypt<I: Input, O: Output>(
         × IfLent (lent detached.entry detached.exit) (λ old new. refusal ≢ Refusal.Write → O.written new ≡ O.written old → new ≡ old)) }
 
     // If the ciphertext is detached, the text is begun only after all of the ciphertext was written and its output was finished, once.
+    // An output that is finished before a refusal holds exactly the ciphertext of a plaintext that is not refused.
     ensures content_first { OnErr result (IfLent (lent detached.entry detached.exit) (λ old new.
         ((out.new ≡ out.old) × (O.endings new ≡ O.endings old)) ⊎ (IsTrue (I.is_at_end content.new) × IsFinishedOnce O.is_finished O.endings old new
-        × (O.written new ≡ O.written old ++ (begun (plan_from (enc_plan limits compact (is_some detached.entry) keys.now template.now) (appended (I.consumed random.old) (I.consumed random.new)))
-        (observed I.consumed I.is_at_end content.old content.new)).content)))) }
+        × ((texts : OutputTexts) × (planned (plan_from (enc_plan limits compact (is_some detached.entry) keys.now template.now) (appended (I.consumed random.old) (I.consumed random.new)))
+        (appended (I.consumed content.old) (I.consumed content.new)) ≡ Ok texts)
+        × (O.written new ≡ O.written old ++ texts.content))))) }
 
     // All memory is allocated before the content is touched. If nothing of the content could be read, an output that did not fail
     // is unchanged.

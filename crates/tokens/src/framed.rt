@@ -1,6 +1,6 @@
 //! A content that is written as it is read, inside the texts of an object's frame or apart from them, and the values that follow
 //! it in their places: the signatures, or the tag.
-ghost use Rattle.std.specs.Prelude.{◌≡◌, ◌≢◌, ◌⊎◌, ◌+◌, ◌++◌, ℕ, List, [], ◌∷◌, true, false, length, map, string_bytes, Err, IfErr, IsTrue, OnOk, OnErr};
+ghost use Rattle.std.specs.Prelude.{◌≡◌, ◌≢◌, ◌⊎◌, ◌+◌, ◌++◌, ℕ, List, [], ◌∷◌, true, false, length, map, string_bytes, Ok, Err, IfErr, IsTrue, OnOk, OnErr};
 ghost use Rattle.std.specs.Iterator.{IsFinite};
 ghost use Rattle.octets.specs.Devices.{appended, observed, IsPossibleInput, AppendsPrefixOf, IsFinishedOnce};
 ghost use Rattle.octets.specs.Faults.{TellsFaults, DidNotFail, counts};
@@ -103,7 +103,7 @@ where
         × (refusal ≢ Refusal.Write → O.written detached.new ≡ O.written detached.old → detached.new ≡ detached.old)) }
     ensures content_first { (plan : Plan OutputTexts) → FillsFrame T.is_fed T.plan T.is_left T.Rest.gives true transform (map string_bytes texts.now) plan
         → OnErr result (((out.new ≡ out.old) × (O.endings detached.new ≡ O.endings detached.old)) ⊎ (IsTrue (I.is_at_end content.new) × IsFinishedOnce O.is_finished O.endings detached.old detached.new
-        × (O.written detached.new ≡ O.written detached.old ++ (beginning_of plan (observed I.consumed I.is_at_end content.old content.new)).content))) }
+        × ((texts : OutputTexts) × (plan.whole (appended (I.consumed content.old) (I.consumed content.new)) ≡ Ok texts) × (O.written detached.new ≡ O.written detached.old ++ texts.content)))) }
     ensures unread { IfErr result (λ refusal. appended (I.consumed content.old) (I.consumed content.new) ≡ []
         → (DidNotFail refusal (counts O.failures out.old out.new) → out.new ≡ out.old) × (refusal ≢ Refusal.Write → detached.new ≡ detached.old)) }
     ensures no_memory { IfErr result (λ refusal. refusal ≢ Refusal.Memory) }

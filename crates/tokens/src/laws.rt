@@ -43,7 +43,7 @@ pub fn encrypting_grows()
     what_delivers_is_octets();
 }
 
-/// If keys and a template are accepted, every plaintext that is not too long has an object and its text.
+/// If keys and a template are accepted, every plaintext that is not too long for its content encryption has an object and its text.
 pub fn encrypting_makes_texts()
     ensures { EncryptingMakesTexts }
 {

@@ -1,5 +1,5 @@
 //! Signing with each key of a set (RFC 7515 section 5.1), in compact or in JSON form.
-ghost use Rattle.std.specs.Prelude.{◌≡◌, ◌≢◌, ◌⊎◌, ◌+◌, ◌++◌, ℕ, List, [], ◌∷◌, true, false, length, is_some, Err, IfOk, IfErr, IsTrue, OnOk, OnErr, map, string_bytes};
+ghost use Rattle.std.specs.Prelude.{◌≡◌, ◌≢◌, ◌⊎◌, ◌+◌, ◌++◌, ℕ, List, [], ◌∷◌, true, false, length, is_some, Ok, Err, IfOk, IfErr, IsTrue, OnOk, OnErr, map, string_bytes};
 ghost use Rattle.std.specs.Iterator.{IsFinite};
 ghost use Rattle.serde_json.specs.View.{members_view};
 ghost use Rattle.octets.specs.Devices.{appended, observed, IsPossibleInput, AppendsPrefixOf, IsFinishedOnce};
@@ -8,7 +8,7 @@ ghost use Rattle.octets.specs.Code.Lent.{lent, wrote_on, IfLent, counts_of};
 ghost use Rattle.octets.specs.Code.Streams.{fixed_by};
 ghost use Rattle.octets.specs.Outcomes.{AgreesUnlessExternal, is_external};
 ghost use Rattle.octets.specs.Code.Results.{AgreesUnlessMemory, is_memory};
-ghost use Rattle.octets.specs.Plan.{begun, planned};
+ghost use Rattle.octets.specs.Plan.{OutputTexts, begun, planned};
 ghost use Rattle.octets.specs.Pumps.{KeepsUp};
 ghost use Rattle.octets.specs.declared.refusal.Refusal.{Refusal};
 ghost use Rattle.keys.specs.Limits.{limits};
@@ -84,9 +84,11 @@ pub fn jws_sign<I: Input, O: Output>(
         × IfLent (lent detached.entry detached.exit) (λ old new. refusal ≢ Refusal.Write → O.written new ≡ O.written old → new ≡ old)) }
 
     // If the payload is detached, the text is begun only after all of the payload was written and its output was finished, once.
+    // An output that is finished before a refusal holds exactly the payload.
     ensures content_first { OnErr result (IfLent (lent detached.entry detached.exit) (λ old new.
         ((out.new ≡ out.old) × (O.endings new ≡ O.endings old)) ⊎ (IsTrue (I.is_at_end content.new) × IsFinishedOnce O.is_finished O.endings old new
-        × (O.written new ≡ O.written old ++ (begun (sig_plan limits compact (is_some detached.entry) keys.now template.now) (observed I.consumed I.is_at_end content.old content.new)).content)))) }
+        × ((texts : OutputTexts) × (planned (sig_plan limits compact (is_some detached.entry) keys.now template.now) (appended (I.consumed content.old) (I.consumed content.new)) ≡ Ok texts)
+        × (O.written new ≡ O.written old ++ texts.content))))) }
 
     // All memory is allocated before the content is touched. If nothing of the content could be read, an output that did not fail
     // is unchanged.

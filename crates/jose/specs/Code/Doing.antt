@@ -103,7 +103,7 @@ pub record WritesWhole {E : Type 0} (output : OutputMembers E) (has_text has_con
   pub held_back : IfErr result (λ refusal. AreSpared output.failures before after refusal (after.text ≡ before.text) (after.content ≡ before.content))
   pub content_first : OnErr result (((after.text ≡ before.text) × (output.endings after.content ≡ output.endings before.content))
       ⊎ (IsTrue has_content → IsFinishedOnce output.is_finished output.endings before.content after.content
-      × (output.written after.content ≡ output.written before.content ++ (formed answer true).content)))
+      × ((texts : OutputTexts) × (answer ≡ Ok texts) × (output.written after.content ≡ output.written before.content ++ texts.content))))
   pub finished : OnOk result ((IsTrue has_text → IsFinishedOnce output.is_finished output.endings before.text after.text)
       × (IsTrue has_content → IsFinishedOnce output.is_finished output.endings before.content after.content))
   pub unfinished : OnErr result ((output.endings after.text ≡ output.endings before.text)

@@ -5,7 +5,7 @@ use Rattle.octets.specs.Octets.{IsOctets}
 use Rattle.octets.specs.Plan.{OutputTexts, Plan}
 use Rattle.octets.proofs.Lemmas.{stands_first, IsOctets-drop, kept_up_by_none, AppendsPrefixOf-all, at_refusal, on_refusal, seen_possible, agrees_last, behind_nothing, beginning_behind_nothing, keeps_up, passed_on}
 use Rattle.tokens.specs.Code.Framing.{FillsFrame}
-use Rattle.tokens.proofs.Framing.{IsWhole, is_whole, beside_is, beside_fixed, beside_stands, text_is, beside_answer}
+use Rattle.tokens.proofs.Framing.{IsWhole, is_whole, beside_is, beside_fixed, beside_whole, beside_stands, text_is, beside_answer}
 use Rattle.tokens.proofs.framed.write_beside.Given.{Over}
 use Rattle.tokens.proofs.framed.write_beside.Goals.{In_ok-rest}
 use Rattle.tokens.proofs.framed.write_beside.Goals as goal
@@ -86,5 +86,6 @@ pub returns-clause-content_first : goal.returns-clause-content_first
 returns-clause-content_first g c plan f =
     let at = (goal.at.returns-clause-content_first g c).In_ok-rest in
     let pumped = c.in_ok-rest.ensures in
-    let stands = beside_stands _ _ plan _ f.framing _ _ _ _ (read g c.args.content.now c.pump.new.content) pumped.ends (whole g at plan f) in
-    stands_first _ _ pumped.ends (c.in_ok-finish.ensures.finished.0, c.in_ok-finish.ensures.finished.1 ∙ ap next_count c.pump.ensures.endings) (c.finish.ensures.same ∙ stands)
+    let w = whole g at plan f in
+    stands_first _ _ pumped.ends (c.in_ok-finish.ensures.finished.0, c.in_ok-finish.ensures.finished.1 ∙ ap next_count c.pump.ensures.endings)
+    (_, beside_whole _ _ plan _ f.framing _ _ _ _ (read g c.args.content.now c.pump.new.content) pumped.ends w, c.finish.ensures.same ∙ w.written)
