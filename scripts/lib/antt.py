@@ -457,10 +457,13 @@ class Definitions:
 
     def case_name(self, module, word):
         """The name of the case that this word means in a module, or None. A page may import it under another name."""
+        page = None if ".declared." in module else self.library.page(module)
+        # A page may have a definition with the name of a constant, such as the character `zero`.
+        if page is not None and word in page.definitions:
+            return None
         if word in CASES or word in CONSTANTS or ".TheVariants" in module:
             return word
-        page = None if ".declared." in module else self.library.page(module)
-        if page is None or word in page.definitions:
+        if page is None:
             return None
         if any(word in it.cases for it in page.definitions.values()):
             return word

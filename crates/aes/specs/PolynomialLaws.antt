@@ -11,7 +11,7 @@ IsLinear h = (p q : ℕ) → h (bit_xor p q) ≡ bit_xor (h p) (h q)
 pub record PolynomialLaws : Type 0 where
   -- sums of equal terms are equal
   pub sum_same : (f g : ℕ → ℕ) (n : ℕ) → ((i : ℕ) → i < n → f i ≡ g i) → polynomial_sum f n ≡ polynomial_sum g n
-  -- the sum of sums is the sum of both
+  -- the sum of all f i + g i is the sum of the f i plus that of the g i
   pub sum_of_sums : (f g : ℕ → ℕ) (n : ℕ) → polynomial_sum (λ i. bit_xor (f i) (g i)) n ≡ bit_xor (polynomial_sum f n) (polynomial_sum g n)
   -- a linear map of a sum is the sum of the map of its terms
   pub sum_mapped : (h f : ℕ → ℕ) (n : ℕ) → IsLinear h → h (polynomial_sum f n) ≡ polynomial_sum (λ i. h (f i)) n

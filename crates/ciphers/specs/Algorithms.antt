@@ -25,8 +25,8 @@ content_family A256Gcm = aes_gcm 8
 
 -- ---- key management (section 4.1)
 
--- Direct use of the key (section 4.5), AES key wrap (section 4.4), AES in GCM (section 4.7), or AES key wrap under a key that is derived
--- from a password by HMAC with a hash function, where the algorithm's name is part of the salt (section 4.8).
+-- Direct use of the key (section 4.5), AES key wrap (section 4.4), AES in GCM (section 4.7), or AES key wrap under a key that PBKDF2 derives
+-- from a password with the HMAC of a hash function, where the algorithm's name is part of the salt (section 4.8).
 pub data KeyFamily : Type 0 where
   direct : KeyFamily
   aes_key_wrap : ℕ → KeyFamily

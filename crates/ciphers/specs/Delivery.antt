@@ -13,7 +13,8 @@ use Rattle.octets.specs.Octets.{IsOctets}
 use Rattle.prf.specs.HashFunction.{HashFunction}
 use Rattle.prf.specs.Pbkdf2.{pbkdf2}
 
--- the header parameters that an algorithm may read: iv and tag of AES in GCM (section 4.7.1), p2s and p2c of a password (section 4.8.1)
+-- the header parameters that an algorithm may read: the octets of iv and tag of AES in GCM (section 4.7.1), the octets of p2s and the p2c
+-- of a password (section 4.8.1)
 pub record Parameters : Type 0 where
   pub iv : List ℕ
   pub tag : List ℕ
@@ -32,8 +33,8 @@ key_iv_len = 12
 unfoldable pub derived_key : HashFunction → List ℕ → ℕ → List ℕ → List ℕ → ℕ → List ℕ
 derived_key f name len password p2s p2c = pbkdf2 f password (name ++ 0 ∷ p2s) p2c len
 
--- The key is the content encryption key (section 4.5), or the cipher that sends blocks by e wraps it (section 4.4) or encrypts it in GCM
--- (section 4.7).
+-- The key is the content encryption key (section 4.5), or the cipher whose encryption of a block is e wraps it (section 4.4) or encrypts it
+-- in GCM (section 4.7).
 pub data Way : Type 0 where
   directly : Way
   by_wrap : (List ℕ → List ℕ) → Way
@@ -69,7 +70,8 @@ key_tag_of alg key p = tag_by (way_of alg key p) p
 
 -- ---- the delivery (RFC 7516 section 5.2, steps 9 to 11)
 
--- It is the key that is used directly (section 4.5), or in GCM the IV has its length and the tag is right (section 4.7).
+-- It is the key that is used directly (section 4.5), or in GCM the IV has its length and the tag is right (section 4.7). With key wrap
+-- nothing more is asked: with another initial value the encrypted key is not its wrapping.
 abbrev pub agrees_by : Way → List ℕ → Parameters → List ℕ → Bool
 agrees_by directly key p cek = bytes_eq cek key
 agrees_by (by_wrap e) key p cek = true

@@ -15,8 +15,8 @@ pub record Sealed : Type 0 where
   pub ciphertext : List ℕ
   pub tag : List ℕ
 
--- The encryption of plaintexts under one key, IV and additional data (RFC 7516 section 5.1, step 15): the result for a plaintext, the part of
--- the ciphertext that is fixed once its beginning p is known, and the length of the longest plaintext, if there is one.
+-- The encryption of plaintexts under one key, IV and additional data (RFC 7516 section 5.1, step 15): the result for a plaintext, the part
+-- of the ciphertext that a beginning of the plaintext fixes, and the length of the longest plaintext, if there is one.
 pub record Sealing : Type 0 where
   pub sealed : List ℕ → Sealed
   pub fixed : List ℕ → List ℕ
@@ -32,7 +32,7 @@ IsTooLong s p = IsSomeAnd s.longest (λ most. most < length p)
 unfoldable pub cbc_tag : HashFunction → List ℕ → List ℕ → List ℕ → List ℕ → List ℕ
 cbc_tag f mac_key iv aad c = take (f.output_len / 2) (hmac f mac_key (((aad ++ iv) ++ c) ++ bit_length aad))
 
--- steps 2 to 6, by the cipher that sends blocks by e
+-- steps 2 to 6, by the cipher whose encryption of a block is e
 abbrev pub cbc_hmac : (List ℕ → List ℕ) → HashFunction → List ℕ → List ℕ → List ℕ → Sealing
 cbc_hmac e f mac_key iv aad = record {
   sealed = λ p. record { ciphertext = cbc e iv p; tag = cbc_tag f mac_key iv aad (cbc e iv p) };

@@ -162,7 +162,8 @@ abbrev pub key_len : Algorithm → KeyLen
 key_len (Signature alg) = AtLeast (signature_key_len alg)
 key_len (Encryption alg enc) = len_with (mode_of alg) (kek_len alg) enc
 
--- the key of an algorithm that the key names (RFC 7517 section 4.4)
+-- The key of an algorithm that the key names (RFC 7517 section 4.4). A `NamedAlg` is what the `alg` of a key can name, and an `Algorithm`
+-- what is done with a key.
 abbrev pub named_key_len : NamedAlg → KeyLen
 named_key_len (named.Signature alg) = AtLeast (signature_key_len alg)
 named_key_len (named.Management alg) = management_key_len alg

@@ -44,6 +44,7 @@ pub record KeyTemplate : Type 0 where
   pub alg : Option (List ℕ)
   pub bytes : Option ℕ
 
+-- what a template says of the key; `use`, `kid` and `key_ops` are read for their types alone
 unfoldable pub key_template : Data → Members → Result KeyTemplate Refusal
 key_template value members = do
   fresh ← needs (is_fresh members) Key

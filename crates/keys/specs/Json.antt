@@ -56,6 +56,7 @@ abbrev pub members_have_only : List (List ℕ) → Members → Bool
 members_have_only names no_members = true
 members_have_only names (member name value rest) = is_among names name && members_have_only names rest
 
+-- the members of an object have only these names; another value has no members
 abbrev pub has_only : List (List ℕ) → Data → Bool
 has_only names null = true
 has_only names (boolean b) = true

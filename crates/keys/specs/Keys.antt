@@ -42,7 +42,7 @@ key_octets limits value = do
   in_range ← needs (nat_le 1 (length octets) && nat_le (length octets) limits.key_octets) Key
   Ok octets
 
--- the key with these octets
+-- The key with these octets. `kid` is read for its type alone.
 unfoldable pub constrained_key : List ℕ → Data → Result OctetKey Refusal
 constrained_key octets value = do
   alg ← optional_string_member (codes "alg") value

@@ -1,8 +1,10 @@
 -- The definitions, in reading order (docs/AUDIT.md).
 -- JSON texts that are read
 pub mod Json
--- which values are JSON values, and their compact texts
-pub mod JsonTexts
+-- a row for each algorithm
+pub mod Algorithms
+-- the limits
+pub mod Limits
 -- lists of names
 pub mod Texts
 -- members that are read
@@ -13,13 +15,11 @@ pub mod Operations
 pub mod Keys
 -- sets of keys
 pub mod KeySets
--- the limits
-pub mod Limits
--- a row for each algorithm
-pub mod Algorithms
 -- thumbprints
 pub mod Thumbprints
 -- keys that are made
 pub mod Generating
+-- which values are JSON values, and their compact texts
+pub mod JsonTexts
 -- values and calls of the code; no answer rests on these pages
 pub mod Code

@@ -19,7 +19,8 @@ pub record Limits : Type 0 where
   pub least_p2c : ℕ
   pub greatest_p2c : ℕ
   pub usual_p2c : ℕ
-  -- the greatest sum of p2c over the recipients of an object, and over the pairs that are tried
+  -- the greatest sum of p2c over the recipients of an object that is written, and over the pairs of a recipient and a key that would be
+  -- tried
   pub p2c_sum : ℕ
   -- the algorithms of key management
   pub management : List KeyManagementAlg

@@ -5,7 +5,7 @@ use Rattle.prf.specs.declared.digests.HashAlg.{HashAlg}
 use Rattle.prf.specs.Digests.{digest_of}
 use Rattle.keys.specs.Keys.{OctetKey}
 
--- the required members of an octet key, in byte order (sections 3.2 and 3.3)
+-- the JSON text of the required members of an octet key, in byte order (sections 3.2 and 3.3)
 unfoldable pub required_members : OctetKey → List ℕ
 required_members key = codes "{\"k\":\"" ++ base64url key.octets ++ codes "\",\"kty\":\"oct\"}"
 

@@ -18,7 +18,7 @@ IsFinishedOnce is_finished endings old new = IsTrue (is_finished new) × (ending
 
 -- ---- how far it is to the end (docs/SPECIFICATION.md "Devices")
 
--- A bound of the octets before the end or a failure, if there was one, is now less by n at least.
+-- If there was a bound of the octets before the end or a failure, there still is one, lower by at least n.
 abbrev pub ComesNearer : Count → Count → ℕ → Type 0
 ComesNearer old new n = IsFinite old → IsFinite new × (size new + n ≤ size old)
 
