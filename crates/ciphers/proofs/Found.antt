@@ -71,7 +71,7 @@ module _ (finds : FindsOctets) (alg : KeyAlg) (enc : ContentAlg) (key : List ℕ
 -- ---- contents
 
 -- The test of a length decides whether it is above the greatest length allowed.
-longer_decided : (n : ℕ) (longest : Option ℕ) → Decides (is_longer n longest) (IsSomeAnd longest (λ most. most < n))
+pub longer_decided : (n : ℕ) (longest : Option ℕ) → Decides (is_longer n longest) (IsSomeAnd longest (λ most. most < n))
 longer_decided n None = (λ e. cc e, λ h. absurd h)
 longer_decided n (Some most) = Decides-ltb most n
 

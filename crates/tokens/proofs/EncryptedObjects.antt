@@ -16,6 +16,7 @@ use Rattle.octets.specs.Plan.{OutputTexts, Plan, Draft, plan_from}
 use Rattle.octets.proofs.Lemmas.{meaning_of_text, has_url_characters, IsOctets-drop, steps, passed, same_answer}
 use Rattle.ciphers.specs.Openings.{is_longer}
 use Rattle.ciphers.specs.Sealing.{Sealed, Sealing, IsTooLong, IsOpening}
+use Rattle.ciphers.proofs.Lemmas.{longer_decided}
 use Rattle.keys.specs.Algorithms.{encryption_name, management_algs}
 use Rattle.keys.specs.Json.{member_numbers_are_whole}
 use Rattle.keys.specs.JsonTexts.{AreJsonMembers}
@@ -113,17 +114,12 @@ few_recipient_keys limits e random s o made =
 
 -- ---- sealing
 
--- A plaintext that passes the test is not too long.
-short_enough : (longest : Option ℕ) (n : ℕ) → not (is_longer n longest) ≡ true → IsSomeAnd longest (λ most. most < n) → ⊥
-short_enough None n h long = absurd long
-short_enough (Some most) n h long = (Decides-not _ (Decides-ltb most n)).0 h long
-
 -- If a plaintext is sealed, it is not too long, and the result is its sealing.
 pub sealed_is : (s : Sealing) (p : List ℕ) (made : Sealed) → sealed_by s p ≡ Ok made → (IsTooLong s p → ⊥) × (s.sealed p ≡ made)
 unfolding sealed_by
 sealed_is s p made h =
     let a = steps (needs (not (is_longer (length p) s.longest)) Limit) (λ short. Ok (s.sealed p)) made h in
-    (short_enough s.longest (length p) (passed _ Limit a.0 a.1), same_answer (s.sealed p) made a.2)
+    ((Decides-not _ (longer_decided (length p) s.longest)).0 (passed _ Limit a.0 a.1), same_answer (s.sealed p) made a.2)
 
 -- ---- encryption
 

@@ -1,6 +1,6 @@
 -- If keys and a template settle an encryption, every plaintext that is not too long has an object, and this object has texts.
-use Rattle.std.proofs.Common.{◌≡◌, ℕ, ◌≤◌, ◌<◌, ◌&&◌, ◌==◌, Bool, true, false, not, List, [], ◌∷◌, length, map, take, Option, Some, None, Ok, IfErr, IsSomeAnd, nat_lt, refl, sym, ap, ◌∙◌, subst, arith}
-use Rattle.std.proofs.lemmas.Bool.{and_parts, leb-true, ltb-true, not-false}
+use Rattle.std.proofs.Common.{◌≡◌, ℕ, ◌≤◌, ◌&&◌, ◌==◌, Bool, true, false, not, List, [], ◌∷◌, length, map, take, Ok, IfErr, refl, sym, ap, ◌∙◌, subst, arith}
+use Rattle.std.proofs.lemmas.Bool.{and_parts, leb-true, not-false}
 use Rattle.std.proofs.lemmas.List.{length-map}
 use Rattle.std.proofs.lemmas.Result.{IfErr-weaker}
 use Rattle.serde_json.specs.Data.{Members, no_members, member}
@@ -10,6 +10,7 @@ use Rattle.octets.specs.Plan.{OutputTexts, Plan}
 use Rattle.octets.proofs.Lemmas.{IsOctets-take}
 use Rattle.ciphers.specs.Openings.{is_longer}
 use Rattle.ciphers.specs.Sealing.{Sealed, IsTooLong}
+use Rattle.ciphers.proofs.Lemmas.{longer_decided}
 use Rattle.keys.specs.Keys.{OctetKey}
 use Rattle.keys.specs.Limits.{limits, are_few}
 use Rattle.objects.specs.Jwe.{EncryptedObject, built, parts_of, compact_parts, is_compact, json_text, jwe_compact_text, jwe_text}
@@ -48,11 +49,6 @@ has_text true detach e random s alone some =
     (compact_parts detach (parts_of o), rw held refl)
 has_text false detach e random s alone some = (json_text detach (object_by e random s), refl)
 
--- A plaintext that does not pass the test is too long.
-too_long : (longest : Option ℕ) (n : ℕ) → not (is_longer n longest) ≡ false → IsSomeAnd longest (λ most. most < n)
-too_long None n h = cc h
-too_long (Some most) n h = ltb-true most n (not-false (nat_lt most n) h)
-
 -- A plaintext is refused only with Limit, and only if it is too long.
 whole_text : (compact detach : Bool) (keys : List OctetKey) (e : EncryptionPlan) (random plaintext : List ℕ) → Settles keys e → Writes e random → are_few limits (length e.recipient_keys) ≡ true
     → holds_no_more compact e ≡ true
@@ -63,7 +59,7 @@ whole_text compact detach keys e random plaintext by w few alone = by_test (not 
     by_test : (short : Bool) → not (is_longer (length plaintext) (sealing_by e random).longest) ≡ short
         → IfErr (((needs short Limit >>= λ passed. Ok ((sealing_by e random).sealed plaintext)) >>= λ s. built limits (parts_by e random s)) >>= written_of compact detach)
         (λ refusal. (refusal ≡ Limit) × IsTooLong (sealing_by e random) plaintext)
-    by_test false long = (refl, too_long (sealing_by e random).longest (length plaintext) long)
+    by_test false long = (refl, (longer_decided (length plaintext) (sealing_by e random).longest).0 (not-false _ long))
     by_test true short =
         let s : Sealed = (sealing_by e random).sealed plaintext in
         rw (built_is limits refl keys e random s by w few, (has_text compact detach e random s alone by.some).1) tt

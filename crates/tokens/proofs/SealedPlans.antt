@@ -2,6 +2,7 @@
 use Rattle.std.proofs.Common.{◌≡◌, ℕ, ◌<◌, ◌≤◌, true, false, List, [], ◌++◌, length, Option, Some, None, Result, Ok, Err, IfOk, refl, sym, ap, ◌∙◌, subst, arith, append_assoc, append-nil, length-append, ⊎_elim, take_all}
 use Rattle.std.specs.Option.{IsSomeAnd}
 use Rattle.std.proofs.lemmas.Bool.{lt-ltb, le-ltb, cases_lt}
+use Rattle.std.proofs.lemmas.Bool.Decides.{Decides-not}
 use Rattle.octets.specs.declared.refusal.Refusal.{Refusal}
 use Rattle.octets.specs.declared.refusal.Refusal.TheVariants.{Limit}
 use Rattle.octets.specs.Base64url.{base64url, whole_groups}
@@ -11,6 +12,7 @@ use Rattle.octets.specs.Plan.{Plan}
 use Rattle.octets.specs.Code.Streams.{as_it_is, RefusesFrom}
 use Rattle.ciphers.specs.Openings.{is_longer}
 use Rattle.ciphers.specs.Sealing.{Sealing, IsTooLong}
+use Rattle.ciphers.proofs.Lemmas.{longer_decided}
 use Rattle.tokens.specs.Encrypting.{sealed_by, within_longest}
 use Rattle.tokens.specs.Code.SealedTexts.{sealed_plan}
 
@@ -21,11 +23,6 @@ grown_longer : (n m : ℕ) (longest : Option ℕ) → n ≤ m → IsSomeAnd long
 grown_longer n m None grown h = absurd h
 grown_longer n m (Some most) grown h = lt-ltb most m (omega arith)
 
--- If a length is not too great, the test fails.
-not_longer : (n : ℕ) (longest : Option ℕ) → (IsSomeAnd longest (λ most. most < n) → ⊥) → is_longer n longest ≡ false
-not_longer n None short = refl
-not_longer n (Some most) short = le-ltb most n (omega arith)
-
 -- If a beginning is too long, the whole plaintext is refused.
 pub too_long : (s : Sealing) (p whole rest : List ℕ) → IsTooLong s p → whole ≡ p ++ rest → sealed_by s whole ≡ Err Limit
 unfolding sealed_by
@@ -34,7 +31,7 @@ too_long s p whole rest long is = rw (grown_longer (length p) (length whole) s.l
 -- A plaintext that is not too long is sealed.
 pub is_sealed : (s : Sealing) (p : List ℕ) → (IsTooLong s p → ⊥) → sealed_by s p ≡ Ok (s.sealed p)
 unfolding sealed_by
-is_sealed s p short = rw (not_longer (length p) s.longest short) refl
+is_sealed s p short = rw ((Decides-not _ (longer_decided (length p) s.longest)).1 short) refl
 
 -- The empty plaintext is not too long.
 nothing_short : (longest : Option ℕ) → IsSomeAnd longest (λ most. most < 0) → ⊥
