@@ -127,8 +127,7 @@ PLACES = [
     ("octets/src/lanes.rt", "same_octets", "fn same_octets(a: &[u8], b: &[u8]) -> bool", "the declaration"),
     ("modes/src/gcm.rt", "gcm_open", "if !same_octets(&expected, tag) { return None; }", "the tag of GCM"),
     ("ciphers/src/cbc_hmac.rt", "open_cbc_hmac", "if !same_octets(&expected[..len], tag) { return None; }", "the tag of AES-CBC with HMAC"),
-    ("tokens/src/verify.rt", "is_signed", "same_octets(mac.octets(), signature.signature())", "the signature"),
-    ("tokens/src/verify/detached.rt", "verifies", "Some(input) => same_octets(input.sign().octets(), signature.signature()),", "the signature"),
+    ("tokens/src/verify/heads.rt", "is_one_of", "same_octets(mac.octets(), signature.signature())", "the signature"),
     ("tokens/src/verify/detached.rt", "are_signed", "if signed != all { return signed; }", "whether a key signed, and whether each has to"),
     ("tokens/src/decrypt/tried.rt", "is_same", "if one.algorithms.management != other.algorithms.management { return false; } "
      "if one.algorithms.encryption != other.algorithms.encryption { return false; }", "the algorithms of two pairs"),

@@ -2,6 +2,7 @@ pub mod Tests
 pub mod Encoded
 pub mod HeldInputs
 pub mod VerifyingInputs
+pub mod Heads
 pub mod StartedInputs
 pub mod WrittenSignatures
 pub mod SignedAlike

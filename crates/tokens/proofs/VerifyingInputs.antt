@@ -1,10 +1,8 @@
--- Signing inputs of the candidate pairs of a key and a signature, which are consumed from the front.
-use Rattle.std.proofs.Common.{◌≡◌, ◌↔◌, ℕ, List, [], ◌∷◌, ◌++◌, codes, Bool, true, false, not, ◌&&◌, ◌||◌, Option, Some, None, is_none, Result, Ok, Err, refl, sym, ap, subst, ◌∙◌, append_assoc, IsTrue}
+-- Signing inputs of the candidate pairs of a key and a head, which are consumed from the front.
+use Rattle.std.proofs.Common.{◌≡◌, ℕ, List, [], ◌∷◌, ◌++◌, codes, Bool, true, false, not, ◌&&◌, ◌||◌, Option, Some, None, is_none, Result, Ok, Err}
+use Rattle.std.proofs.Common.{refl, sym, ap, subst, ◌∙◌, append_assoc}
 use Rattle.std.proofs.Math.Bool.{beq}
-use Rattle.std.proofs.lemmas.Bool.Decides.{same_from_decides, Decides-like}
-use Rattle.std.proofs.lemmas.Slice.Eq.{bytes_eq-Decides}
 use Rattle.std.specs.List.{list_any, list_all}
-use Rattle.std.specs.Str.{bytes_eq}
 use Rattle.prf.specs.HashFunction.{HashFunction}
 use Rattle.prf.specs.Hmac.{hmac}
 use Rattle.octets.specs.declared.refusal.Refusal.{Refusal}
@@ -16,7 +14,8 @@ use Rattle.keys.specs.Keys.{OctetKey}
 use Rattle.objects.specs.Jws.{Signature, SignedObject}
 use Rattle.tokens.specs.Signatures.{signature_hash, signature_of}
 use Rattle.tokens.specs.Code.SigningInputs.{InputStart, HoldEach}
-use Rattle.tokens.specs.Verifying.{is_signed, verifies, are_verified, verified_payload, verifying_by}
+use Rattle.tokens.specs.Verifying.{verifies, are_verified, verified_payload, verifying_by}
+use Rattle.tokens.specs.Code.Heads.{is_one_of}
 use Rattle.tokens.specs.Code.VerifyingInputs.{starts_by}
 
 module _ {S : Type 0} (has_taken : S → HashFunction → List ℕ → List ℕ → Type 0) where
@@ -48,14 +47,13 @@ module _ {S : Type 0} (has_taken : S → HashFunction → List ℕ → List ℕ 
   first_is_there None s key inputs later text some is h = cc some
   first_is_there (Some alg) s key inputs later text some is h = subst (λ i. HoldEach has_taken i (starts_by (Some alg) s key ++ later) text) is h
 
--- The key made the signature exactly if the signature is the HMAC of the input.
-pub made_signature : (alg : SignatureAlg) (payload : List ℕ) (s : Signature) (key : OctetKey) (mac signature : List ℕ) (same : Bool) → signature ≡ s.signature → (IsTrue same ↔ (mac ≡ signature))
-    → mac ≡ hmac (signature_hash alg) key.octets ((s.protected ++ codes ".") ++ base64url payload) → same ≡ is_signed alg payload s key
+-- The HMAC of the input of a head is that of the key.
+pub made_by_input : (alg : SignatureAlg) (payload : List ℕ) (signatures : List Signature) (h : Signature) (key : OctetKey) (mac : List ℕ)
+    → mac ≡ hmac (signature_hash alg) key.octets ((h.protected ++ codes ".") ++ base64url payload)
+    → is_one_of mac h signatures ≡ is_one_of (signature_of alg key.octets h.protected payload) h signatures
 unfolding signature_of
-made_signature alg payload s key mac signature same there test made =
-    let is : mac ≡ signature_of alg key.octets s.protected payload = made ∙ ap (hmac (signature_hash alg) key.octets) (append_assoc s.protected (codes ".") (base64url payload)) in
-    same_from_decides same (bytes_eq s.signature (signature_of alg key.octets s.protected payload)) (test.0, test.1)
-    (Decides-like _ (λ e. is ∙ sym e ∙ sym there) (λ e. sym there ∙ sym e ∙ is) (bytes_eq-Decides s.signature (signature_of alg key.octets s.protected payload)))
+made_by_input alg payload signatures h key mac made =
+    ap (λ m. is_one_of m h signatures) (made ∙ ap (hmac (signature_hash alg) key.octets) (append_assoc h.protected (codes ".") (base64url payload)))
 
 -- ---- over all keys and all signatures of each key
 

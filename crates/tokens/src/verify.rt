@@ -1,5 +1,5 @@
 //! Verifying with the keys of a set (RFC 7515 section 5.2).
-ghost use Rattle.std.specs.Prelude.{◌≡◌, ◌≢◌, ℕ, Bool, List, [], ◌∷◌, false, is_some, map, OnOk, OnErr, IfErr};
+ghost use Rattle.std.specs.Prelude.{◌≡◌, ◌≢◌, ℕ, Bool, List, [], ◌∷◌, true, false, is_some, map, OnOk, OnErr, IfErr};
 ghost use Rattle.std.specs.List.{list_any};
 ghost use Rattle.std.specs.Result.{result_unwrap_or};
 ghost use Rattle.octets.specs.Devices.{AppendsPrefixOf, IsFinishedOnce};
@@ -10,15 +10,18 @@ ghost use Rattle.octets.specs.Code.Results.{Agrees};
 ghost use Rattle.keys.specs.Algorithms.{signature_alg_of};
 ghost use Rattle.keys.specs.Code.Views.{key_view};
 ghost use Rattle.objects.specs.Code.Views.{held_view, jws_view, signature_view};
-ghost use Rattle.tokens.specs.Verifying.{verifying_by, verified_payload, are_verified as are_verified_by, may_verify as may_verify_pair, verifies as verifies_pair, candidate_alg, is_candidate as is_candidate_key, is_signed as is_signed_by};
+ghost use Rattle.tokens.specs.Verifying.{verifying_by, verified_payload, are_verified as are_verified_by, may_verify as may_verify_pair, verifies, candidate_alg, is_candidate as is_candidate_key};
+ghost use Rattle.tokens.specs.Code.Heads.{covers, has_made_alike as made_alike_by, pointed_views};
 
 mod detached;
+mod heads;
 
 use crate::signing_input::signature_of;
+use crate::verify::heads::{heads_of, is_one_of};
 pub use detached::jws_verify_detached;
 use keys::{Algorithm, Key, KeySet, Operation, SignatureAlg};
 use objects::{HeldContent, Jws, Signature};
-use octets::{Output, Refusal, needs, same_octets};
+use octets::{Output, Refusal, needs};
 
 /// Verifies the object with the keys (RFC 7515 section 5.2), and writes its payload if there is an output. Some key that may
 /// verify by the algorithm of a signature, and fits, must have made this signature. With `all`, each key must have made one.
@@ -97,33 +100,52 @@ fn is_for_some(signature: &Signature, keys: &[Key]) -> bool
     keys.iter().any(|key| may_verify(signature, key))
 }
 
-/// Whether some signature verifies with some key, or with `all` some signature for each key.
+/// Whether some key made a signature, or with `all` each key made one.
 fn are_verified(all: bool, keys: &[Key], jws: &Jws<'_>) -> bool
     ensures { result ≡ are_verified_by all (map key_view keys.now) (jws_view jws.now) }
 {
     let signatures = jws.signatures();
+    let heads = heads_of(signatures);
+    let heads = heads.list();
     if all {
-        keys.iter()
-            .all(|key| has_signed(key, signatures, jws.held_payload()))
+        keys.iter().all(|key| has_signed(key, heads, signatures, jws.held_payload()))
     } else {
-        signatures.iter().any(|signature| is_verified(signature, jws.held_payload(), keys))
+        keys.iter().any(|key| has_signed(key, heads, signatures, jws.held_payload()))
     }
 }
 
-/// Whether some key made the signature.
-fn is_verified(signature: &Signature, payload: HeldContent<'_>, keys: &[Key]) -> bool
-    ensures { result ≡ list_any (λ key. verifies_pair (held_view payload.entry) (signature_view signature.now) (key_view key)) keys.now }
+/// Whether the key made one of the signatures, if the heads cover them.
+fn has_signed(
+    key: &Key,
+    heads: &[&Signature],
+    signatures: &[Signature],
+    payload: HeldContent<'_>,
+) -> bool
+    ensures { covers (pointed_views heads.now) (map signature_view signatures.now) ≡ true
+        → result ≡ list_any (λ s. verifies (held_view payload.entry) (signature_view s) (key_view key.now)) signatures.now }
 {
-    keys.iter().any(|key| verifies(signature, payload, key))
+    heads
+        .iter()
+        .any(|head| has_made_alike(key, head, signatures, payload))
 }
 
-/// Whether the key made one of the signatures.
-fn has_signed(key: &Key, signatures: &[Signature], payload: HeldContent<'_>) -> bool
-    ensures { result ≡ list_any (λ s. verifies_pair (held_view payload.entry) (signature_view s) (key_view key.now)) signatures.now }
+/// Whether the key may verify the head and made a signature that is alike to it. It takes one HMAC, or none if the key may not.
+#[tactic(auto, unfolding(crate::specs::Signatures::signature_of))]
+fn has_made_alike(
+    key: &Key,
+    head: &Signature,
+    signatures: &[Signature],
+    payload: HeldContent<'_>,
+) -> bool
+    ensures { result ≡ made_alike_by (held_view payload.entry) (map signature_view signatures.now) (signature_view head.now) (key_view key.now) }
 {
-    signatures
-        .iter()
-        .any(|signature| verifies(signature, payload, key))
+    match candidate_alg(head, key) {
+        None => false,
+        Some(alg) => {
+            let mac = signature_of(alg, key.octets(), head.protected().as_bytes(), payload);
+            is_one_of(&mac, head, signatures)
+        }
+    }
 }
 
 /// Whether the key may verify the signature by its algorithm, and fits.
@@ -131,16 +153,6 @@ fn may_verify(signature: &Signature, key: &Key) -> bool
     ensures { result ≡ may_verify_pair (signature_view signature.now) (key_view key.now) }
 {
     candidate_alg(signature, key).is_some()
-}
-
-/// Whether the key may verify the signature by its algorithm, fits, and made the signature.
-fn verifies(signature: &Signature, payload: HeldContent<'_>, key: &Key) -> bool
-    ensures { result ≡ verifies_pair (held_view payload.entry) (signature_view signature.now) (key_view key.now) }
-{
-    match candidate_alg(signature, key) {
-        None => false,
-        Some(alg) => is_signed(signature, payload, key, alg),
-    }
 }
 
 /// The algorithm of the signature, if the key may verify by it and fits.
@@ -160,13 +172,4 @@ fn is_candidate(key: &Key, alg: SignatureAlg) -> bool
     ensures { result ≡ is_candidate_key alg (key_view key.now) }
 {
     key.allows(Operation::Verify) && key.fits(Algorithm::Signature(alg))
-}
-
-/// Whether the signature is that of the received text of the protected header and of the payload.
-#[tactic(auto, unfolding(crate::specs::Signatures::signature_of))]
-fn is_signed(signature: &Signature, payload: HeldContent<'_>, key: &Key, alg: SignatureAlg) -> bool
-    ensures { result ≡ is_signed_by alg (held_view payload.entry) (signature_view signature.now) (key_view key.now) }
-{
-    let mac = signature_of(alg, key.octets(), signature.protected().as_bytes(), payload);
-    same_octets(mac.octets(), signature.signature())
 }

@@ -1,5 +1,5 @@
 //! Verifying an object whose detached payload is read once (RFC 7515 section 5.2 and appendix F).
-ghost use Rattle.std.specs.Prelude.{◌≡◌, ℕ, false, List, [], ◌∷◌, ◌++◌, map, Err, IfOk, IfErr, OnOk, OnErr, IsTrue};
+ghost use Rattle.std.specs.Prelude.{◌≡◌, ℕ, true, false, List, [], ◌∷◌, ◌++◌, map, Err, IfOk, IfErr, OnOk, OnErr, IsTrue};
 ghost use Rattle.std.specs.Iterator.{IsFinite};
 ghost use Rattle.std.specs.List.{list_any};
 ghost use Rattle.std.specs.Vec.Iter.{into_iter_items};
@@ -11,21 +11,23 @@ ghost use Rattle.keys.specs.Code.Views.{key_view};
 ghost use Rattle.objects.specs.HandedIn.{with_payload};
 ghost use Rattle.objects.specs.Code.Views.{jws_view, signature_view};
 ghost use Rattle.tokens.specs.Code.SigningInputs.{InputStart, HoldEach};
-ghost use Rattle.tokens.specs.Verifying.{verifying_by, are_verified, verifies as verifies_pair};
+ghost use Rattle.tokens.specs.Verifying.{verifying_by, are_verified, verifies};
+ghost use Rattle.tokens.specs.Code.Heads.{covers, has_made_alike as made_alike_by, pointed_views};
 ghost use Rattle.tokens.specs.Code.VerifyingInputs.{starts_for_pair, starts_for_key, starts_for_keys};
 
 use crate::signing_input::{HmacInput, SigningInput, take_content};
+use crate::verify::heads::{heads_of, is_one_of};
 use crate::verify::{candidate_alg, verdict};
 use keys::{Key, KeySet};
 use objects::{Jws, Signature};
-use octets::{Input, Refusal, same_octets};
+use octets::{Input, Refusal};
 use std::alloc::Global;
 use std::vec::IntoIter;
 
 /// Verifies the object with the keys (RFC 7515 section 5.2). The payload is the content, whatever payload the object was read with.
 /// Some key that may verify by the algorithm of a signature, and fits, must have made this signature. With `all`, each key must have
-/// made one. The content is read once, in pieces of at most `PIECE` octets, and is not held: each piece is fed to one HMAC for each
-/// pair of a key and a signature that it may verify.
+/// made one. The content is read once, in pieces of at most `PIECE` octets, and is not held. Each piece is fed to one HMAC for each key
+/// and each algorithm and protected header by which the key may verify a signature of the right length.
 ///
 /// Fails with `Memory` before the content is read, or with `Read` if the content fails. After the content was read to its end, refuses,
 /// in this order, with `Unsupported` if no signature's algorithm is supported; `KeyDoesNotFit` if no key may verify by a supported one
@@ -52,77 +54,77 @@ pub fn jws_verify_detached<I: Input>(
 {
     let keys = keys.keys();
     let signatures = jws.signatures();
-    let mut inputs = signing_inputs(alloc, keys, signatures)?;
+    let heads = heads_of(signatures);
+    let heads = heads.list();
+    let mut inputs = signing_inputs(alloc, keys, heads)?;
     take_content(&mut inputs, content)?;
-    let are_right = are_signed(all, keys, signatures, inputs);
+    let are_right = are_signed(all, keys, heads, signatures, inputs);
     verdict(keys, signatures, are_right)
 }
 
-/// The signing input of each pair of a key and a signature that it may verify. Each was fed the text before that of the payload.
+/// The signing input of each pair of a key and a head that it may verify. Each was fed the text before that of the payload.
 fn signing_inputs(
     alloc: Global,
     keys: &[Key],
-    signatures: &[Signature],
+    heads: &[&Signature],
 ) -> Result<Vec<HmacInput>, Refusal>
     ensures started { IfOk result (λ inputs. HoldEach ⟦<HmacInput as SigningInput>⟧.has_taken inputs.items
-        (starts_for_keys (map signature_view signatures.now) (map key_view keys.now)) []) }
+        (starts_for_keys (pointed_views heads.now) (map key_view keys.now)) []) }
     ensures memory { IfErr result (λ e. e ≡ Refusal.Memory) }
 {
     let mut inputs = Vec::new(alloc);
     for key in keys {
-        push_inputs(&mut inputs, key, signatures)?;
+        push_inputs(&mut inputs, key, heads)?;
     }
     Ok(inputs)
 }
 
 /// Adds the signing inputs of a key.
-fn push_inputs(
-    inputs: &mut Vec<HmacInput>,
-    key: &Key,
-    signatures: &[Signature],
-) -> Result<(), Refusal>
+fn push_inputs(inputs: &mut Vec<HmacInput>, key: &Key, heads: &[&Signature]) -> Result<(), Refusal>
     ensures pushed { (starts : List InputStart) → HoldEach ⟦<HmacInput as SigningInput>⟧.has_taken inputs.old.items starts []
         → OnOk result (HoldEach ⟦<HmacInput as SigningInput>⟧.has_taken inputs.new.items
-        (starts ++ starts_for_key (map signature_view signatures.now) (key_view key.now)) []) }
+        (starts ++ starts_for_key (pointed_views heads.now) (key_view key.now)) []) }
     ensures memory { OnErr result (result ≡ Err Refusal.Memory) }
 {
-    for signature in signatures {
-        push_input(inputs, key, signature)?;
+    for head in heads {
+        push_input(inputs, key, head)?;
     }
     Ok(())
 }
 
-/// Adds the signing input of a key and a signature, if the key may verify the signature.
-fn push_input(inputs: &mut Vec<HmacInput>, key: &Key, signature: &Signature) -> Result<(), Refusal>
+/// Adds the signing input of a key and a head, if the key may verify the head.
+fn push_input(inputs: &mut Vec<HmacInput>, key: &Key, head: &Signature) -> Result<(), Refusal>
     ensures pushed { (starts : List InputStart) → HoldEach ⟦<HmacInput as SigningInput>⟧.has_taken inputs.old.items starts []
         → OnOk result (HoldEach ⟦<HmacInput as SigningInput>⟧.has_taken inputs.new.items
-        (starts ++ starts_for_pair (signature_view signature.now) (key_view key.now)) []) }
+        (starts ++ starts_for_pair (signature_view head.now) (key_view key.now)) []) }
     ensures memory { OnErr result (result ≡ Err Refusal.Memory) }
 {
-    match candidate_alg(signature, key) {
+    match candidate_alg(head, key) {
         None => Ok(()),
         Some(alg) => {
-            let protected = signature.protected().as_bytes();
+            let protected = head.protected().as_bytes();
             inputs.push(HmacInput::start(alg, key.octets(), protected))?;
             Ok(())
         }
     }
 }
 
-/// Each key made a signature, where that is asked for, or else some key made some. The inputs are those of `signing_inputs`, and have
-/// taken the payload.
+/// Each key made a signature, where that is asked for, or else some key made some. The heads cover the signatures. The inputs are those
+/// of `signing_inputs`, and have taken the payload.
 fn are_signed<S: SigningInput>(
     all: bool,
     keys: &[Key],
+    heads: &[&Signature],
     signatures: &[Signature],
     inputs: Vec<S>,
 ) -> bool
-    ensures { (payload : List ℕ) → HoldEach S.has_taken inputs.items (starts_for_keys (map signature_view signatures.now) (map key_view keys.now)) (base64url payload)
+    requires { covers (pointed_views heads.now) (map signature_view signatures.now) ≡ true }
+    ensures { (payload : List ℕ) → HoldEach S.has_taken inputs.items (starts_for_keys (pointed_views heads.now) (map key_view keys.now)) (base64url payload)
         → result ≡ are_verified all (map key_view keys.now) (record { payload = payload; signatures = map signature_view signatures.now }) }
 {
     let mut inputs = inputs.into_iter();
     for key in keys {
-        let signed = has_signed(key, signatures, &mut inputs);
+        let signed = has_signed(key, heads, signatures, &mut inputs);
         if signed != all {
             return signed;
         }
@@ -130,37 +132,45 @@ fn are_signed<S: SigningInput>(
     all
 }
 
-/// Whether the key made one of the signatures. Takes the signing inputs of the key from the front.
+/// Whether the key made one of the signatures, which the heads cover. Takes the signing inputs of the key from the front.
 fn has_signed<S: SigningInput>(
     key: &Key,
+    heads: &[&Signature],
     signatures: &[Signature],
     inputs: &mut IntoIter<S>,
 ) -> bool
+    requires { covers (pointed_views heads.now) (map signature_view signatures.now) ≡ true }
     ensures { (later : List InputStart) (payload : List ℕ)
-        → HoldEach S.has_taken (into_iter_items inputs.old) (starts_for_key (map signature_view signatures.now) (key_view key.now) ++ later) (base64url payload)
-        → (result ≡ list_any (λ s. verifies_pair payload s (key_view key.now)) (map signature_view signatures.now))
+        → HoldEach S.has_taken (into_iter_items inputs.old) (starts_for_key (pointed_views heads.now) (key_view key.now) ++ later) (base64url payload)
+        → (result ≡ list_any (λ s. verifies payload s (key_view key.now)) (map signature_view signatures.now))
         × HoldEach S.has_taken (into_iter_items inputs.new) later (base64url payload) }
 {
     let mut signed = false;
-    for signature in signatures {
-        let verifies = verifies(key, signature, inputs);
-        signed = signed || verifies;
+    for head in heads {
+        let made = has_made_alike(key, head, signatures, inputs);
+        signed = signed || made;
     }
     signed
 }
 
-/// Whether the key may verify the signature and made it. Takes their signing input, if there is one, from the front.
-fn verifies<S: SigningInput>(key: &Key, signature: &Signature, inputs: &mut IntoIter<S>) -> bool
+/// Whether the key may verify the head and made a signature that is alike to it. Takes their signing input, if there is one, from the
+/// front.
+fn has_made_alike<S: SigningInput>(
+    key: &Key,
+    head: &Signature,
+    signatures: &[Signature],
+    inputs: &mut IntoIter<S>,
+) -> bool
     ensures { (later : List InputStart) (payload : List ℕ)
-        → HoldEach S.has_taken (into_iter_items inputs.old) (starts_for_pair (signature_view signature.now) (key_view key.now) ++ later) (base64url payload)
-        → (result ≡ verifies_pair payload (signature_view signature.now) (key_view key.now))
+        → HoldEach S.has_taken (into_iter_items inputs.old) (starts_for_pair (signature_view head.now) (key_view key.now) ++ later) (base64url payload)
+        → (result ≡ made_alike_by payload (map signature_view signatures.now) (signature_view head.now) (key_view key.now))
         × HoldEach S.has_taken (into_iter_items inputs.new) later (base64url payload) }
 {
-    if candidate_alg(signature, key).is_none() {
+    if candidate_alg(head, key).is_none() {
         return false;
     }
     match inputs.next() {
         None => false,
-        Some(input) => same_octets(input.sign().octets(), signature.signature()),
+        Some(input) => is_one_of(&input.sign(), head, signatures),
     }
 }

@@ -7,6 +7,7 @@ use Rattle.objects.specs.HandedIn.{with_payload}
 use Rattle.objects.specs.Code.Views.{jws_view, signature_view}
 use Rattle.tokens.specs.Code.SigningInputs.{HoldEach}
 use Rattle.tokens.specs.Verifying.{verifying_by}
+use Rattle.tokens.specs.Code.Heads.{pointed_views}
 use Rattle.tokens.specs.Code.VerifyingInputs.{starts_for_keys}
 use Rattle.tokens.specs.contracts.signing_input.HmacInputSigningInput.TheImpl.{has_taken-value}
 use Rattle.tokens.proofs.StandingSignatures.{written_back}
@@ -20,7 +21,7 @@ returns-clause-answer g c payload may =
     let p = appended (consumed c.args.content.now) (consumed c.take_content.new.content) in
     let is : payload ≡ p = may.continues ∙ ap (λ rest. p ++ rest) (may.ends c.in_ok-take_content.ensures.ends) ∙ append-nil p in
     let inputs = c.in_ok-inputs.inputs in
-    let starts = starts_for_keys (map signature_view c.signatures-signatures.result.now) (map key_view c.keys-keys.result.now) in
+    let starts = starts_for_keys (pointed_views c.list-heads.result.now) (map key_view c.keys-keys.result.now) in
     let holds = subst (λ i. HoldEach has_taken i starts []) (sym c.deref_mut.ensures.value) c.in_ok-inputs.ensures.started in
     let taken = c.in_ok-take_content.ensures.taken starts holds in
     let back = written_back c.take_content.new.inputs inputs.items inputs.len (omega (arith, inputs.ok.0)) (c.in_ok-take_content.ensures.len ∙ ap length c.deref_mut.ensures.value) in

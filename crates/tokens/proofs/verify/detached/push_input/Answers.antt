@@ -12,7 +12,7 @@ use Rattle.tokens.proofs.verify.detached.push_input.Goals as goal
 pub returns-in_ok-push-in-Some-clause-pushed : goal.returns-in_ok-push-in-Some-clause-pushed
 returns-in_ok-push-in-Some-clause-pushed c starts h =
     let has_taken = has_taken-value.it in
-    let s = signature_view c.args.signature.now in
+    let s = signature_view c.args.head.now in
     let key = key_view c.args.key.now in
     let alg = c.in-Some.alg in
     let start : InputStart = record { alg = alg; key = key.octets; protected = s.protected } in
