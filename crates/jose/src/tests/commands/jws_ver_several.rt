@@ -3,7 +3,7 @@ use crate::tests::command_words::{
     CHECK_ALL_DETACHED, CHECK_DETACHED, VERIFY_ALL, VERIFY_ALL_DETACHED, VERIFY_DETACHED,
 };
 use crate::tests::contents::expect_in_steps;
-use crate::tests::harness::{Answer, Given, expect_text, verifies};
+use crate::tests::harness::{Answer, Given, expect, expect_text, verifies};
 use crate::tests::samples::{
     ABC, ABC_FLATTENED, ABC_FLATTENED_DETACHED, ABC_GENERAL, ABC_WITH_HEADER, KEY_AND_SMALL_KEY,
     KEY_TO_31, KEY_TO_47, TWO_KEYS, TWO_LONG_KEYS, with_many,
@@ -173,6 +173,51 @@ const VERIFIED: &[(&str, &str, Answer<'_>, Answer<'_>)] = &[
         Answer::Refusal(Refusal::Header),
         Answer::Refusal(Refusal::Header),
     ),
+    // With the same header, a signature of one octet and then one of zeros stand before the right one, and after it.
+    (
+        "{\"payload\":\"YWJj\",\"signatures\":[{\"protected\":\"eyJhbGciOiJIUzI1NiJ9\",\"signature\":\"AA\"},{\"protected\":\"eyJhbGciOiJIUzI1NiJ9\",\"signature\":\"AAAAAAAAAAAAAAAAAAAAAAAAAAAAAAAAAAAAAAAAAAA\"},{\"protected\":\"eyJhbGciOiJIUzI1NiJ9\",\"signature\":\"sxvqVTS8XjHJPVB24OsGa2pZqgR8ZX_Ab4pTTtgI47Y\"}]}",
+        RFC7515_KEY,
+        Answer::Content(b"abc"),
+        Answer::Content(b"abc"),
+    ),
+    (
+        "{\"payload\":\"YWJj\",\"signatures\":[{\"protected\":\"eyJhbGciOiJIUzI1NiJ9\",\"signature\":\"sxvqVTS8XjHJPVB24OsGa2pZqgR8ZX_Ab4pTTtgI47Y\"},{\"protected\":\"eyJhbGciOiJIUzI1NiJ9\",\"signature\":\"AAAAAAAAAAAAAAAAAAAAAAAAAAAAAAAAAAAAAAAAAAA\"},{\"protected\":\"eyJhbGciOiJIUzI1NiJ9\",\"signature\":\"AA\"}]}",
+        RFC7515_KEY,
+        Answer::Content(b"abc"),
+        Answer::Content(b"abc"),
+    ),
+    // The signature of the first protected header stands at the second. Then the algorithms alone differ, and are not protected.
+    (
+        "{\"payload\":\"YWJj\",\"signatures\":[{\"protected\":\"eyJhbGciOiJIUzI1NiJ9\",\"signature\":\"AAAAAAAAAAAAAAAAAAAAAAAAAAAAAAAAAAAAAAAAAAA\"},{\"protected\":\"eyJhbGciOiJIUzI1NiIsImtpZCI6IkIifQ\",\"signature\":\"sxvqVTS8XjHJPVB24OsGa2pZqgR8ZX_Ab4pTTtgI47Y\"}]}",
+        RFC7515_KEY,
+        Answer::Refusal(Refusal::NotOpened),
+        Answer::Refusal(Refusal::NotOpened),
+    ),
+    (
+        "{\"payload\":\"YWJj\",\"signatures\":[{\"header\":{\"alg\":\"HS384\"},\"signature\":\"AAAAAAAAAAAAAAAAAAAAAAAAAAAAAAAAAAAAAAAAAAAAAAAAAAAAAAAAAAAAAAAA\"},{\"header\":{\"alg\":\"HS256\"},\"signature\":\"GQf2BV8F0Jvef6-4Vuda0VpduUfiedlvbKChoKL3x9k\"}]}",
+        RFC7515_KEY,
+        Answer::Content(b"abc"),
+        Answer::Content(b"abc"),
+    ),
+    (
+        "{\"payload\":\"YWJj\",\"signatures\":[{\"header\":{\"alg\":\"HS256\"},\"signature\":\"AAAAAAAAAAAAAAAAAAAAAAAAAAAAAAAAAAAAAAAAAAA\"},{\"header\":{\"alg\":\"HS384\"},\"signature\":\"AAAAAAAAAAAAAAAAAAAAAAAAAAAAAAAAAAAAAAAAAAAAAAAAAAAAAAAAAAAAAAAA\"},{\"header\":{\"alg\":\"HS384\"},\"signature\":\"GQf2BV8F0Jvef6-4Vuda0VpduUfiedlvbKChoKL3x9k\"}]}",
+        RFC7515_KEY,
+        Answer::Refusal(Refusal::NotOpened),
+        Answer::Refusal(Refusal::NotOpened),
+    ),
+    // The HMAC by SHA-384 of an HS256 header, which then has its own.
+    (
+        "{\"payload\":\"YWJj\",\"signatures\":[{\"protected\":\"eyJhbGciOiJIUzI1NiJ9\",\"signature\":\"YhbZseKWOU6wCWn7r492bIB9MVX5oHRnjEvQG5jDuxRyr-CMdI60sZUHlZ2kkhld\"}]}",
+        RFC7515_KEY,
+        Answer::Refusal(Refusal::NotOpened),
+        Answer::Refusal(Refusal::NotOpened),
+    ),
+    (
+        "{\"payload\":\"YWJj\",\"signatures\":[{\"protected\":\"eyJhbGciOiJIUzI1NiJ9\",\"signature\":\"YhbZseKWOU6wCWn7r492bIB9MVX5oHRnjEvQG5jDuxRyr-CMdI60sZUHlZ2kkhld\"},{\"protected\":\"eyJhbGciOiJIUzI1NiJ9\",\"signature\":\"sxvqVTS8XjHJPVB24OsGa2pZqgR8ZX_Ab4pTTtgI47Y\"}]}",
+        RFC7515_KEY,
+        Answer::Content(b"abc"),
+        Answer::Content(b"abc"),
+    ),
 ];
 
 #[test]
@@ -245,4 +290,46 @@ fn verifies_last_of<R: Abort + AllocGlobal>(
 fn an_object_has_256_signatures_at_most(rt: HostRuntime) -> Result<(), Fail> {
     verifies_last_of(&rt, 255, Answer::Content(b"abc"))?;
     verifies_last_of(&rt, 256, Answer::Refusal(Refusal::Limit))
+}
+
+/// An object with 256 signatures by two protected headers in turn, of which the last alone is not of zeros, has this answer with
+/// `RFC7515_KEY`, also if its payload is detached.
+fn verifies_last_in_turn<R: Abort + AllocGlobal>(
+    rt: &R,
+    last: &str,
+    answer: Answer<'_>,
+) -> Result<(), Fail> {
+    let text = with_many(
+        rt,
+        "{\"payload\":\"YWJj\",\"signatures\":[",
+        "{\"protected\":\"eyJhbGciOiJIUzI1NiJ9\",\"signature\":\"AAAAAAAAAAAAAAAAAAAAAAAAAAAAAAAAAAAAAAAAAAA\"},{\"protected\":\"eyJhbGciOiJIUzI1NiIsImtpZCI6IkIifQ\",\"signature\":\"AAAAAAAAAAAAAAAAAAAAAAAAAAAAAAAAAAAAAAAAAAA\"}",
+        127,
+        last,
+        "]}",
+    )?;
+    verifies(rt, &text, RFC7515_KEY, answer)?;
+    expect_text(rt, &VERIFY_ALL, &text, RFC7515_KEY, answer)?;
+    let text = without_payload(rt.alloc(), &text)?;
+    let given = Given {
+        text: &text,
+        content: b"abc",
+        keys: RFC7515_KEY,
+        random: b"",
+    };
+    expect(rt, &CHECK_DETACHED, &given, answer.unwritten())?;
+    expect(rt, &CHECK_ALL_DETACHED, &given, answer.unwritten())
+}
+
+#[test]
+fn the_last_of_256_signatures_in_turn_decides(rt: HostRuntime) -> Result<(), Fail> {
+    verifies_last_in_turn(
+        &rt,
+        "{\"protected\":\"eyJhbGciOiJIUzI1NiJ9\",\"signature\":\"AAAAAAAAAAAAAAAAAAAAAAAAAAAAAAAAAAAAAAAAAAA\"},{\"protected\":\"eyJhbGciOiJIUzI1NiIsImtpZCI6IkIifQ\",\"signature\":\"6CBl3UrY_sg_jeJp1uEvMxt7epUEOFlro0Qk5YeJGxo\"}",
+        Answer::Content(b"abc"),
+    )?;
+    verifies_last_in_turn(
+        &rt,
+        "{\"protected\":\"eyJhbGciOiJIUzI1NiJ9\",\"signature\":\"AAAAAAAAAAAAAAAAAAAAAAAAAAAAAAAAAAAAAAAAAAA\"},{\"protected\":\"eyJhbGciOiJIUzI1NiIsImtpZCI6IkIifQ\",\"signature\":\"sxvqVTS8XjHJPVB24OsGa2pZqgR8ZX_Ab4pTTtgI47Y\"}",
+        Answer::Refusal(Refusal::NotOpened),
+    )
 }
