@@ -1,5 +1,5 @@
 -- The iterates of a block and their sum, one by one, and the blocks of a derived key.
-use Rattle.std.proofs.Common.{◌≡◌, ℕ, ◌+◌, ◌*◌, ◌-◌, ◌<◌, ◌≤◌, List, [], ◌∷◌, ◌++◌, length, get_or, take, map, fold, refl, sym, ap, ◌∙◌, arith, append-nil, add-one}
+use Rattle.std.proofs.Common.{◌≡◌, ℕ, zero, suc, ◌+◌, ◌*◌, ◌-◌, ◌<◌, ◌≤◌, List, [], ◌∷◌, ◌++◌, length, get_or, take, map, fold, refl, sym, ap, ◌∙◌, arith, append-nil, add-one}
 use Rattle.std.specs.Borrow.{Bor}
 use Rattle.std.specs.Int.{div_ceil}
 use Rattle.std.specs.List.{range_with_len, concat}
@@ -58,3 +58,20 @@ key_of_blocks f password salt c n len i blocks e some is h =
     let enough : n ≤ i * len = omega (arith, (div_ceil_times n len (omega arith)).0, ap (λ m. m * len) is) in
     let t = derived_block f password salt c in
     sym (take-take n (i * len) blocks enough) ∙ ap (take n) h ∙ ap (λ m. take n (concat (map t (range_with_len 1 m)))) (is ∙ ap (div_ceil n) e)
+
+-- A key of some octets that has no more than a block is derived from one block.
+one_block : (n len : ℕ) → 0 < n → n ≤ len → div_ceil n len ≡ 1
+one_block n len some fits =
+    let few = div_ceil_times n len (omega arith) in
+    let least : 0 < div_ceil n len = grind (arith, few.0) in
+    let most : div_ceil n len < 2 = grind (arith, few.1) in
+    omega (arith, least, most)
+
+-- If the first block was derived, a key that has no more than a block is its first n octets.
+pub key_of_one_block : (f : HashFunction) (password salt : List ℕ) (c n : ℕ) (block : List ℕ) → n ≤ f.output_len
+    → block ≡ derived_block f password salt c 1 → take n block ≡ pbkdf2 f password salt c n
+unfolding pbkdf2
+key_of_one_block f password salt c zero block fits is = refl
+key_of_one_block f password salt c (suc n) block fits is =
+    let t = derived_block f password salt c in
+    ap (take (suc n)) (is ∙ sym (append-nil (t 1))) ∙ ap (λ m. take (suc n) (concat (map t (range_with_len 1 m)))) (sym (one_block (suc n) f.output_len (omega arith) fits))
