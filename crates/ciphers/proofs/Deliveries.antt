@@ -4,6 +4,7 @@ use Rattle.std.specs.Bool.{Decides}
 use Rattle.std.proofs.lemmas.Bool.Decides.{Decides-eqb, Decides-and}
 use Rattle.std.proofs.lemmas.Slice.Eq.{bytes_eq-Decides}
 use Rattle.ciphers.specs.Delivery.{Parameters, Way, directly, by_wrap, by_gcm, encrypted_by, tag_by, agrees_by, is_delivered_by, Delivers}
+use Rattle.ciphers.specs.Code.Salted.{Salted}
 use Rattle.ciphers.specs.KeyWrap.{IsUnwrapping}
 use Rattle.ciphers.specs.Sealing.{cek_len}
 use Rattle.ciphers.specs.declared.content_alg.ContentAlg.{ContentAlg}
@@ -13,6 +14,10 @@ use Rattle.modes.proofs.Lemmas.{length-gcm_ciphertext}
 use Rattle.modes.specs.Gcm.{gcm_ciphertext, gcm_tag}
 use Rattle.modes.specs.Code.Opening.{IsGcmOpening}
 use Rattle.octets.specs.Octets.{IsOctets}
+
+-- A key that was salted is the key.
+pub is_key : {s : Salted} {key p2s : List ℕ} → s ≡ record { key = key; p2s = p2s } → s.key ≡ key
+is_key is = ap (λ s. s.key) is
 
 -- The GCM ciphertext of no octets is empty.
 pub none_encrypted : (e : List ℕ → List ℕ) (iv : List ℕ) → gcm_ciphertext e iv [] ≡ []

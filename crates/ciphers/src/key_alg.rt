@@ -1,22 +1,21 @@
 //! The algorithms of key management (RFC 7518 sections 4.4, 4.5, 4.7 and 4.8).
-ghost use Rattle.std.specs.Prelude.{◌≡◌, ℕ, ◌*◌, ◌%◌, ◌≤◌, List, [], ◌∷◌, ◌++◌, length, take, drop, IfSome, IfNone};
-ghost use Rattle.ciphers.specs.Delivery.{derived_key, way_of, encrypted_key_of, key_tag_of, IsDelivered};
-ghost use Rattle.ciphers.specs.Code.Demands.{IsKeyOf, IsCountOf, IsIvOf, iteration_count};
+ghost use Rattle.std.specs.Prelude.{◌≡◌, ℕ, ◌%◌, ◌≤◌, List, [], length, take, drop, IfSome, IfNone};
+ghost use Rattle.ciphers.specs.Delivery.{way_of, encrypted_key_of, key_tag_of, IsDelivered};
+ghost use Rattle.ciphers.specs.Code.Demands.{IsKeyOf, IsCountOf, IsIvOf, IsSaltOf, iteration_count};
 ghost use Rattle.ciphers.specs.KeyWrap.{IsUnwrapping};
 ghost use Rattle.ciphers.specs.Sealing.{cek_len};
 ghost use Rattle.ciphers.specs.Code.Views.{parameters_view, way_view, calls_made};
 ghost use Rattle.modes.specs.Gcm.{gcm_ciphertext, gcm_tag};
 ghost use Rattle.modes.specs.Code.Opening.{IsGcmOpening};
-ghost use Rattle.prf.specs.Pbkdf2.{block_count};
 
 use crate::cek::Cek;
 use crate::content_alg::{ContentAlg, array};
 use crate::kek::{Kek, Way, aes128, aes192, aes256};
 use crate::key_wrap::{unwrap, wrap};
+use crate::salted_key::SaltedKey;
 use aes::Block;
 use modes::{Gcm, gcm_open};
 use octets::SEALED_PIECE;
-use prf::{Hash, Sha256, Sha384, Sha512, pbkdf2};
 
 /// An algorithm of key management: how a recipient's key delivers a content encryption key.
 #[derive(Clone, Copy, Debug, PartialEq, Eq)]
@@ -77,7 +76,8 @@ impl KeyAlg {
         ensures tag { take result.1 tag.new ≡ key_tag_of self key.now (parameters_view parameters.entry) cek.now }
         ensures rest { (drop result.0 encrypted_key.new ≡ drop result.0 encrypted_key.old) × (drop result.1 tag.new ≡ drop result.1 tag.old) }
     {
-        match self.way(key, parameters) {
+        let mut salted = SaltedKey::new(key, parameters.p2s);
+        match self.way(&mut salted, parameters) {
             Way::Direct => (0, 0),
             Way::Wrap(kek, _) => {
                 let octets = cek.octets();
@@ -108,8 +108,31 @@ impl KeyAlg {
             → IsDelivered self enc key.now (parameters_view parameters.entry) encrypted_key.now cek → ⊥) }
         ensures iterations { result.1 ≡ iteration_count self parameters.entry.p2c }
     {
+        let mut salted = SaltedKey::new(key, parameters.p2s);
+        self.unwrap_cek_salted(enc, &mut salted, parameters, encrypted_key)
+    }
+
+    /// Does as `unwrap_cek`, with a key that was salted with p2s, which only an algorithm of passwords reads. With the same key, its calls
+    /// hash p2s once for each hash, so it is for many recipients with the same p2s (section 4.8.1.1). The number of iterations is that of
+    /// `unwrap_cek`.
+    pub fn unwrap_cek_salted(
+        self,
+        enc: ContentAlg,
+        key: &mut SaltedKey<'_>,
+        parameters: KeyParameters<'_>,
+        encrypted_key: &[u8],
+    ) -> (Option<Cek>, u64)
+        requires key_fits { IsKeyOf self key.old.key }
+        requires count_fits { IsCountOf self parameters.p2c }
+        requires salt_fits { IsSaltOf self key.old.p2s parameters.p2s.now }
+        ensures delivers { IfSome result.0 (IsDelivered self enc key.old.key (parameters_view parameters.entry) encrypted_key.now) }
+        ensures nothing { IfNone result.0 ((cek : List ℕ)
+            → IsDelivered self enc key.old.key (parameters_view parameters.entry) encrypted_key.now cek → ⊥) }
+        ensures iterations { result.1 ≡ iteration_count self parameters.entry.p2c }
+        ensures same { key.new ≡ key.old }
+    {
         match self.way(key, parameters) {
-            Way::Direct => (direct_cek(enc, key, encrypted_key), 0),
+            Way::Direct => (direct_cek(enc, key.octets(), encrypted_key), 0),
             Way::Wrap(kek, calls) => (unwrapped_cek(enc, &kek, encrypted_key), calls),
             Way::Encrypt(kek) => {
                 let cek = opened_cek(enc, &kek, parameters.iv, encrypted_key, parameters.tag);
@@ -119,42 +142,32 @@ impl KeyAlg {
     }
 
     /// How the key delivers a content encryption key, with the cipher and the work of deriving its key.
-    fn way(self, key: &[u8], parameters: KeyParameters<'_>) -> Way
-        requires key_fits { IsKeyOf self key.now }
+    fn way(self, key: &mut SaltedKey<'_>, parameters: KeyParameters<'_>) -> Way
+        requires key_fits { IsKeyOf self key.old.key }
         requires count_fits { IsCountOf self parameters.p2c }
-        ensures way { way_view ⟦<Kek as Block>⟧.encrypted result ≡ way_of self key.now (parameters_view parameters.entry) }
+        requires salt_fits { IsSaltOf self key.old.p2s parameters.p2s.now }
+        ensures way { way_view ⟦<Kek as Block>⟧.encrypted result ≡ way_of self key.old.key (parameters_view parameters.entry) }
         ensures calls { calls_made result ≡ iteration_count self parameters.entry.p2c }
+        ensures same { key.new ≡ key.old }
     {
         match self {
             KeyAlg::Dir => Way::Direct,
-            KeyAlg::A128Kw => Way::Wrap(Kek::A128(aes128(key)), 0),
-            KeyAlg::A192Kw => Way::Wrap(Kek::A192(aes192(key)), 0),
-            KeyAlg::A256Kw => Way::Wrap(Kek::A256(aes256(key)), 0),
-            KeyAlg::A128GcmKw => Way::Encrypt(Kek::A128(aes128(key))),
-            KeyAlg::A192GcmKw => Way::Encrypt(Kek::A192(aes192(key))),
-            KeyAlg::A256GcmKw => Way::Encrypt(Kek::A256(aes256(key))),
+            KeyAlg::A128Kw => Way::Wrap(Kek::A128(aes128(key.octets())), 0),
+            KeyAlg::A192Kw => Way::Wrap(Kek::A192(aes192(key.octets())), 0),
+            KeyAlg::A256Kw => Way::Wrap(Kek::A256(aes256(key.octets())), 0),
+            KeyAlg::A128GcmKw => Way::Encrypt(Kek::A128(aes128(key.octets()))),
+            KeyAlg::A192GcmKw => Way::Encrypt(Kek::A192(aes192(key.octets()))),
+            KeyAlg::A256GcmKw => Way::Encrypt(Kek::A256(aes256(key.octets()))),
             KeyAlg::Pbes2Hs256A128Kw => {
-                let (derived, calls) = derive_key::<Sha256, 16>(
-                    b"PBES2-HS256+A128KW\0",
-                    key,
-                    parameters,
-                );
+                let (derived, calls) = key.derive_hs256(parameters.p2c);
                 Way::Wrap(Kek::A128(aes128(&derived)), calls)
             }
             KeyAlg::Pbes2Hs384A192Kw => {
-                let (derived, calls) = derive_key::<Sha384, 24>(
-                    b"PBES2-HS384+A192KW\0",
-                    key,
-                    parameters,
-                );
+                let (derived, calls) = key.derive_hs384(parameters.p2c);
                 Way::Wrap(Kek::A192(aes192(&derived)), calls)
             }
             KeyAlg::Pbes2Hs512A256Kw => {
-                let (derived, calls) = derive_key::<Sha512, 32>(
-                    b"PBES2-HS512+A256KW\0",
-                    key,
-                    parameters,
-                );
+                let (derived, calls) = key.derive_hs512(parameters.p2c);
                 Way::Wrap(Kek::A256(aes256(&derived)), calls)
             }
         }
@@ -212,23 +225,6 @@ fn opened_cek<B: Block>(
     octets.copy_from_slice(encrypted_key);
     let n = gcm_open(kek, &array(iv), &[], octets, tag)?;
     Some(Cek::new(&octets[..n]))
-}
-
-/// Derives a key from a password by PBES2, with a salt that begins with this prefix (section 4.8.1.1). The number counts the HMAC calls.
-fn derive_key<H: Hash, const N: usize>(
-    prefix: &[u8],
-    password: &[u8],
-    parameters: KeyParameters<'_>,
-) -> ([u8; N], u64)
-    requires size { N ≤ 64 }
-    requires iterated { 1 ≤ parameters.p2c }
-    ensures key { (name : List ℕ) → prefix.now ≡ name ++ (0 ∷ [])
-        → result.0 ≡ derived_key H.function name N password.now parameters.entry.p2s.now parameters.entry.p2c }
-    ensures calls { result.1 ≡ parameters.entry.p2c * block_count H.function N }
-{
-    let mut key = [0; N];
-    let calls = pbkdf2::<H>(password, [prefix, parameters.p2s], parameters.p2c, &mut key);
-    (key, calls)
 }
 
 /// Returns the key itself, if it has the right length and the encrypted key is empty (section 4.5).

@@ -29,12 +29,14 @@ mod kek;
 mod key_alg;
 mod key_wrap;
 pub mod laws;
+mod salted_key;
 mod sealer;
 
 pub use cek::Cek;
 pub use content_alg::{ContentAlg, ContentSealer};
 pub use key_alg::{KeyAlg, KeyParameters};
 pub use key_wrap::{unwrap, wrap};
+pub use salted_key::SaltedKey;
 pub use sealer::Sealer;
 
 #[cfg(test)]

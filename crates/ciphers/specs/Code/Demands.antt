@@ -29,6 +29,14 @@ IsIvIn family iv = ⊤
 abbrev pub IsIvOf : KeyAlg → List ℕ → Type 0
 IsIvOf alg = IsIvIn (key_family alg)
 
+-- a key was salted with the octets of p2s, where they are read (section 4.8.1.1)
+abbrev pub IsSaltIn : KeyFamily → List ℕ → List ℕ → Type 0
+IsSaltIn (pbes2 f name nk) salted p2s = salted ≡ p2s
+IsSaltIn family salted p2s = ⊤
+
+abbrev pub IsSaltOf : KeyAlg → List ℕ → List ℕ → Type 0
+IsSaltOf alg = IsSaltIn (key_family alg)
+
 -- the number of its iterations is p2c (section 4.8.1.2), and it is 0 where no key is derived
 abbrev pub iterations_in : KeyFamily → ℕ → ℕ
 iterations_in (pbes2 f name nk) p2c = p2c
