@@ -1,7 +1,9 @@
 //! Vectors from outside.
 ghost use Rattle.std.specs.Prelude.{◌≤◌, length};
 
-use crate::{Hash, HashAlg, Hmac, Sha256, Sha384, Sha512, digest, pbkdf2};
+use crate::{
+    Hash, HashAlg, Hmac, Sha256, Sha384, Sha512, digest, first_iterate, pbkdf2, pbkdf2_after,
+};
 use std::process::Abort;
 
 /// The first `len` octets are these.
@@ -170,6 +172,22 @@ fn expect_key_of_two<H: Hash>(rt: &impl Abort, salt: [&[u8]; 2], count: u32, key
     let found = pbkdf2::<H>(b"password", salt, count, &mut out[..key.len()]);
     assert_eq!(rt; found, calls);
     expect_front(rt, &out, key.len(), key);
+    expect_key_after::<H>(rt, salt, count, key, calls);
+}
+
+/// The same key and number from the first iterate on, if it is not longer.
+fn expect_key_after<H: Hash>(rt: &impl Abort, salt: [&[u8]; 2], count: u32, key: &[u8], calls: u64)
+    requires iterated { 1 ≤ count }
+    requires fits { length key.now ≤ 64 }
+{
+    let mut first = [0u8; 64];
+    let len = first_iterate::<H>(b"password", salt, &mut first);
+    if key.len() <= len {
+        let mut out = [0u8; 64];
+        let found = pbkdf2_after::<H>(b"password", &first[..len], count, &mut out[..key.len()]);
+        assert_eq!(rt; found, calls);
+        expect_front(rt, &out, key.len(), key);
+    }
 }
 
 /// The same key wherever the salt is cut in two, with more cuts if the count is small.
