@@ -112,9 +112,8 @@ impl KeyAlg {
         self.unwrap_cek_salted(enc, &mut salted, parameters, encrypted_key)
     }
 
-    /// Does as `unwrap_cek`, with a key that was salted with p2s, which only an algorithm of passwords reads. With the same key, its calls
-    /// hash p2s once for each hash, so it is for many recipients with the same p2s (section 4.8.1.1). The number of iterations is that of
-    /// `unwrap_cek`.
+    /// Returns what `unwrap_cek` returns. It is for many recipients with one p2s: all calls with one salted key hash p2s once for each hash.
+    /// If the key is a password, it must be salted with the p2s of the parameters (section 4.8.1.1).
     pub fn unwrap_cek_salted(
         self,
         enc: ContentAlg,

@@ -1,7 +1,7 @@
 //! The algorithms that a token names (RFC 7518), over the ciphers of `aes`.
 //!
 //! `ContentAlg` encrypts content that comes in pieces, and decrypts it in place. `KeyAlg` delivers a content encryption key to
-//! a recipient. `wrap` and `unwrap` are AES key wrap (RFC 3394). No call allocates memory or reads a header.
+//! a recipient. `SaltedKey` is a key for many recipients with one salt. `wrap` and `unwrap` are AES key wrap (RFC 3394). No call allocates memory or reads a header.
 //!
 //! ```rust
 //! // A recipient's encrypted key, and content that is encrypted in pieces.
@@ -47,5 +47,7 @@ mod key_alg_tests;
 mod key_wrap_tests;
 #[cfg(test)]
 mod long_tests;
+#[cfg(test)]
+mod salted_key_tests;
 #[cfg(test)]
 mod table_tests;

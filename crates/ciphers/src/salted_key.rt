@@ -10,7 +10,7 @@ use prf::{Hash, Sha256, Sha384, Sha512, first_iterate, pbkdf2_after};
 use std::marker::Model;
 
 /// A recipient's key, with a salt input p2s (RFC 7518 section 4.8.1.1). It keeps the first iterate of PBKDF2 for each hash that was needed
-/// so far, so the salt is hashed once for each hash. Contracts see the key and p2s.
+/// so far, so the salt is hashed once for each hash. Contracts see it as the key and p2s.
 #[derive(Drop)]
 pub struct SaltedKey<'a> {
     key: &'a [u8],
@@ -31,8 +31,7 @@ impl<'a> Model for SaltedKey<'a> {
 }
 
 impl<'a> SaltedKey<'a> {
-    /// The key with the salt input, both of any length. `KeyAlg::unwrap_cek_salted` takes it, for any number of encrypted keys whose header
-    /// parameter p2s has these octets (section 4.8.1.1).
+    /// A key with a salt input for `KeyAlg::unwrap_cek_salted` (section 4.8.1.1). Both may have any length.
     pub fn new(key: &'a [u8], p2s: &'a [u8]) -> SaltedKey<'a>
         ensures { result ≡ record { key = key.now; p2s = p2s.now } }
     {
@@ -91,7 +90,7 @@ impl<'a> SaltedKey<'a> {
     }
 }
 
-/// The first iterate with a salt that begins with this prefix. It is computed and kept, unless it was kept before.
+/// Returns the first iterate with a salt that begins with this prefix (RFC 8018 section 5.2 step 3). The first call computes and keeps it.
 fn keep_first<H: Hash, const L: usize>(
     prefix: &[u8],
     password: &[u8],
@@ -115,11 +114,7 @@ fn keep_first<H: Hash, const L: usize>(
 }
 
 /// Derives a key from a password and the first iterate (RFC 8018 section 5.2). The number counts the HMAC calls.
-fn derive_key<H: Hash, const N: usize>(
-    password: &[u8],
-    first: &[u8],
-    p2c: u32,
-) -> ([u8; N], u64)
+fn derive_key<H: Hash, const N: usize>(password: &[u8], first: &[u8], p2c: u32) -> ([u8; N], u64)
     requires whole { length first.now ≡ H.function.output_len }
     requires size { N ≤ H.function.output_len }
     requires iterated { 1 ≤ p2c }
