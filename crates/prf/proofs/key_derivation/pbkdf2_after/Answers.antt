@@ -1,4 +1,4 @@
-use Rattle.std.proofs.Common.{◌∙◌, length, ap, arith}
+use Rattle.std.proofs.Common.{◌∙◌, length}
 use Rattle.prf.proofs.Iterates.{key_of_one_block}
 use Rattle.prf.proofs.key_derivation.pbkdf2_after.Goals as goal
 
