@@ -74,4 +74,5 @@ unfolding pbkdf2
 key_of_one_block f password salt c zero block fits is = refl
 key_of_one_block f password salt c (suc n) block fits is =
     let t = derived_block f password salt c in
-    ap (take (suc n)) (is ∙ sym (append-nil (t 1))) ∙ ap (λ m. take (suc n) (concat (map t (range_with_len 1 m)))) (sym (one_block (suc n) f.output_len (omega arith) fits))
+    ap (take (suc n)) (is ∙ sym (append-nil (t 1)))
+    ∙ ap (λ m. take (suc n) (concat (map t (range_with_len 1 m)))) (sym (one_block (suc n) f.output_len (omega arith) fits))

@@ -1,8 +1,8 @@
-use Rattle.std.proofs.Common.{◌≡◌, ◌+◌, [], length, take, sym, ap, ◌∙◌, arith}
+use Rattle.std.proofs.Common.{[], length, take, sym, ap, ◌∙◌, arith}
 use Rattle.std.proofs.lemmas.List.{take_at}
 use Rattle.octets.specs.Octets.{xor_octets}
 use Rattle.prf.specs.Hmac.{hmac}
-use Rattle.prf.specs.Pbkdf2.{iterate, derived_block}
+use Rattle.prf.specs.Pbkdf2.{derived_block}
 use Rattle.prf.proofs.Iterates.{iterate-more, derived_block-one, derived_block-more}
 use Rattle.prf.proofs.key_derivation.add_iterates.Goals as goal
 
@@ -16,11 +16,11 @@ pub iterates-preserved : goal.iterates-preserved
 iterates-preserved g c password salt i fed first =
     let f = g.H.Hash.function in
     let before = c.iterates.invariant password salt i fed first in
+    let sum = derived_block f password salt c.iterates.j i in
+    let next = take (length c.args.block.now) c.finish.new.out in
     let code = c.finish.ensures.code password _ (c.update.ensures password [] (c.fork-mac.ensures password [] fed)) in
     let len = ap (λ n. take n c.finish.new.out) (c.requires.fits ∙ sym c.finish.ensures.len) in
-    let last : take (length c.args.block.now) c.finish.new.out ≡ iterate f password salt i (c.iterates.j + 1) =
-    len ∙ code ∙ ap (hmac f password) before.0 ∙ sym (iterate-more f password salt i c.iterates.j) in (
-      last,
-      c.xor_into.ensures ∙ ap (λ b. xor_octets b (take (length c.args.block.now) c.finish.new.out)) before.1 ∙ ap (xor_octets (derived_block f password salt c.iterates.j i)) last
-          ∙ derived_block-more f password salt i c.iterates.j (omega arith),
+    let is_next = len ∙ code ∙ ap (hmac f password) before.0 ∙ sym (iterate-more f password salt i c.iterates.j) in (
+      is_next,
+      c.xor_into.ensures ∙ ap (λ b. xor_octets b next) before.1 ∙ ap (xor_octets sum) is_next ∙ derived_block-more f password salt i c.iterates.j (omega arith),
     )

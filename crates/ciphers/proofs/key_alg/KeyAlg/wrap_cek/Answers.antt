@@ -25,7 +25,8 @@ returns-in-Wrap-clause-tag c = rw (← is_key c.new-salted.ensures, ← c.in-Wra
 
 pub returns-in-Encrypt-clause-encrypted : goal.returns-in-Encrypt-clause-encrypted
 unfolding encrypted_key_of
-returns-in-Encrypt-clause-encrypted c = rw (← is_key c.new-salted.ensures, ← c.in-Encrypt.ensures.way) (rw (c.array.ensures, c.octets.ensures) at c.encrypt_cek-len.ensures.encrypted)
+returns-in-Encrypt-clause-encrypted c =
+    rw (← is_key c.new-salted.ensures, ← c.in-Encrypt.ensures.way) (rw (c.array.ensures, c.octets.ensures) at c.encrypt_cek-len.ensures.encrypted)
 
 pub returns-in-Encrypt-clause-tag : goal.returns-in-Encrypt-clause-tag
 unfolding key_tag_of
