@@ -63,6 +63,9 @@ PLACES = [
      "Err(e) if e.kind() == io::ErrorKind::OutOfMemory => Err(Refusal::Memory), Err(_) => Err(Refusal::Usage),",
      "std's error for memory; an argument that is not UTF-8"),
 
+    # A parameter that cannot be read is left to the recipients that need it, except for memory.
+    ("objects/src/header/shared.rt", "octets_if_read", "Err(Refusal::Memory) => Err(Refusal::Memory),", "the error for memory of the reading"),
+
     # Devices over memory.
     ("octets/src/memory.rt", "", "Input for MemoryInput", "it never fails"),
     ("octets/src/memory.rt", "", "Output for MemoryOutput", "it fails when its room is used up"),
@@ -121,6 +124,10 @@ PLACES = [
     ("octets/src/failing.rt", "FailingOutput::new", "MemoryOutput::new(alloc, room)?", "the room that the caller asks for"),
     ("octets/src/whole.rt", "read_to_end", "'reads: loop { let n = input.read(&mut buf)?; if n == 0 { return Ok(octets); } octets.extend_from_slice(&buf[..n])?; }",
      "all that an input gives"),
+    ("objects/src/shared.rt", "", "octets: Rc<Vec<u8>>,", "one for each parameter of a header"),
+    ("objects/src/shared.rt", "SharedOctets::new", "octets: Rc::new(alloc, octets)?,", "one for each parameter of a header"),
+    ("objects/src/shared.rt", "", "text: Rc<String>,", "one for each name of a header"),
+    ("objects/src/shared.rt", "SharedText::new", "text: Rc::new(alloc, String::from_str(alloc, text)?)?,", "one for each name of a header"),
     ("jose/src/system.rt", "HostRuntime::args", "args.collect(self.alloc())?", "the program's arguments"),
 
     # Comparisons, in the crates that compare tags and signatures.
@@ -129,9 +136,9 @@ PLACES = [
     ("ciphers/src/cbc_hmac.rt", "open_cbc_hmac", "if !same_octets(&expected[..len], tag) { return None; }", "the tag of AES-CBC with HMAC"),
     ("tokens/src/verify/heads.rt", "is_one_of", "same_octets(mac.octets(), signature.signature())", "the signature"),
     ("tokens/src/verify/detached.rt", "are_signed", "if signed != all { return signed; }", "whether a key signed, and whether each has to"),
-    ("tokens/src/decrypt/tried.rt", "is_same", "if one.algorithms.management != other.algorithms.management { return false; } "
-     "if one.algorithms.encryption != other.algorithms.encryption { return false; }", "the algorithms of two pairs"),
-    ("tokens/src/decrypt/tried.rt", "has_same_parameters", ") => p2c == other_p2c && same_octets(p2s, other_p2s),", "the counts of two recipients"),
+    ("tokens/src/decrypt/tried.rt", "open_alike", "(Some(one), Some(other)) => one.management == other.management && one.encryption == other.encryption,",
+     "the algorithms of two recipients"),
+    ("tokens/src/decrypt/tried.rt", "has_same_parameters", ") => p2c == other_p2c && same_octets(p2s.octets(), other_p2s.octets()),", "the counts of two recipients"),
     ("ciphers/src/key_wrap.rt", "unwrap", "if a != INITIAL_VALUE { return None; }", "the constant that AES key wrap puts before the key"),
     ("modes/src/cbc_opening.rt", "padding_of", "if last[i] != value { return None; }", "an octet of the padding; `ciphers` has compared the tag before"),
 ]

@@ -44,6 +44,13 @@ impl<'a> SaltedKey<'a> {
         }
     }
 
+    /// Salts the key with another p2s, and forgets what was kept. The p2s may have any length.
+    pub fn salt(&mut self, p2s: &'a [u8])
+        ensures { self.new ≡ record { key = self.old.key; p2s = p2s.entry.now } }
+    {
+        *self = SaltedKey::new(self.key, p2s);
+    }
+
     /// The octets of the key.
     pub(crate) fn octets(&self) -> &'a [u8]
         ensures key { result.now ≡ self.now.key }

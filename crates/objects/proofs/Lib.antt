@@ -39,3 +39,4 @@ pub mod ExactJws
 pub mod CompactForm
 pub mod Lemmas
 pub mod HandedIn
+pub mod SharedParameters

@@ -88,3 +88,38 @@ has_all_members protected unprotected per_recipient disjoint =
       of_per_recipient = λ name d here. rw (get_member-all_members name protected unprotected per_recipient, absent_in_part name d protected per_recipient others.0 here, absent_in_part name d unprotected per_recipient others.1 here, here) refl;
       no_others = λ name a b c. rw (get_member-all_members name protected unprotected per_recipient, a, b, c) refl;
     }
+
+-- ---- two parts in either order
+
+-- A name of the rest is a name of the whole.
+named_by : (o : Ordering) (found : Option Data) (e d : Data) → found ≡ Some d → (x : Data) × (match_ordering o found (Some e) found ≡ Some x)
+named_by Less found e d h = (d, h)
+named_by Equal found e d h = (e, refl)
+named_by Greater found e d h = (d, h)
+
+first_named : (o : Ordering) (l : List ℕ) (e : Data) (rest : Members) → slice_cmp nat_cmp l l ≡ o → (x : Data) × (match_ordering o (get_member l rest) (Some e) (get_member l rest) ≡ Some x)
+first_named Equal l e rest is = (e, refl)
+first_named Less l e rest is = absurd (two_names Less l l is refl refl)
+first_named Greater l e rest is = absurd (two_names Greater l l is refl refl)
+
+-- If no name of a part is in another, they do not overlap.
+no_overlap : (part other : Members) → ((name : List ℕ) (d : Data) → get_member name part ≡ Some d → get_member name other ≡ None) → overlap part other ≡ false
+no_overlap no_members other apart = refl
+no_overlap (member l e rest) other apart =
+    let first = first_named (slice_cmp nat_cmp l l) l e rest refl in
+    let later : (name : List ℕ) (d : Data) → get_member name rest ≡ Some d → get_member name other ≡ None =
+    λ name d here. let named = named_by (slice_cmp nat_cmp name l) (get_member name rest) e d here in apart name named.0 named.1 in
+    rw (apart l first.0 first.1) (no_overlap rest other later)
+
+apart_swapped : (part other : Members) → overlap part other ≡ false → overlap other part ≡ false
+apart_swapped part other apart = no_overlap other part (λ name d here. absent_in_part name d part other apart here)
+
+-- It does not matter which part comes first.
+pub overlap_swapped : (part other : Members) → overlap part other ≡ overlap other part
+overlap_swapped part other = by_both (overlap part other) (overlap other part) refl refl
+  where
+    by_both : (a b : Bool) → overlap part other ≡ a → overlap other part ≡ b → a ≡ b
+    by_both true true one two = refl
+    by_both false false one two = refl
+    by_both true false one two = sym one ∙ apart_swapped other part two
+    by_both false true one two = sym (apart_swapped part other one) ∙ two

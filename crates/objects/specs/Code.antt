@@ -3,6 +3,8 @@
 pub mod Views
 -- the parameters of key management
 pub mod KeyManagementView
+-- parameters that are read once for all recipients
+pub mod SharedParameters
 -- texts that are written, with places left for values
 pub mod Writing
 -- the texts of a signed object

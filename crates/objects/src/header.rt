@@ -11,6 +11,7 @@ ghost use Rattle.objects.specs.Code.Views.{header_view, part_view};
 pub(crate) mod depth;
 pub(crate) mod members;
 pub(crate) mod parts;
+pub(crate) mod shared;
 
 use crate::header::parts::part_member;
 use octets::{Refusal, b64_decode, needs};
@@ -158,7 +159,10 @@ impl<'m> Header<'m> {
 }
 
 /// Whether some name is in both parts.
-fn parts_overlap(part: Option<&Map<String, Value>>, other: Option<&Map<String, Value>>) -> bool
+pub(crate) fn parts_overlap(
+    part: Option<&Map<String, Value>>,
+    other: Option<&Map<String, Value>>,
+) -> bool
     ensures { result ≡ overlap_of (part_view part.entry) (part_view other.entry) }
 {
     let Some(members) = part else {

@@ -13,6 +13,7 @@ mod encoded;
 pub(crate) mod parts;
 pub(crate) mod recipient;
 mod recipient_list;
+pub(crate) mod shared_header;
 mod write;
 
 use crate::content::handed_in_is_octets;

@@ -24,6 +24,7 @@ mod jwe;
 mod jws;
 mod key_management;
 pub mod laws;
+mod shared;
 mod writer;
 
 pub use content::payload::HeldContent;
@@ -38,3 +39,4 @@ pub use jws::Jws;
 pub use jws::parts::{JwsParts, SignatureParts};
 pub use jws::signature::Signature;
 pub use key_management::KeyManagement;
+pub use shared::SharedOctets;

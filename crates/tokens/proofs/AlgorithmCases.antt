@@ -13,7 +13,8 @@ use Rattle.prf.specs.HashFunction.{HashFunction, IsHashFunction}
 use Rattle.prf.specs.Code.Sha2Laws.{sha256_is_hash_function, sha384_is_hash_function, sha512_is_hash_function}
 use Rattle.ciphers.specs.Algorithms.{KeyFamily, direct, aes_key_wrap, aes_gcm_key_wrap, pbes2, key_family}
 use Rattle.ciphers.specs.Delivery.{Parameters, agrees_by, way_in, encrypted_by, tag_by, is_delivered_by, key_tag_of, encrypted_key_of}
-use Rattle.ciphers.specs.Code.Demands.{IsKeyIn, IsKeyOf, IsCountIn, IsCountOf, IsIvIn, IsIvOf, iterations_in, iteration_count}
+use Rattle.ciphers.specs.Code.Demands.{IsKeyIn, IsKeyOf, IsCountIn, IsCountOf, IsIvIn, IsIvOf, iterations_in, iteration_count, IsSaltIn, IsSaltOf}
+use Rattle.tokens.specs.Code.Trying.{IsSaltFor}
 use Rattle.ciphers.specs.Sealing as ciphers
 use Rattle.ciphers.specs.declared.content_alg.ContentAlg.{ContentAlg}
 use Rattle.ciphers.proofs.Lemmas.{decided}
@@ -227,6 +228,15 @@ counts alg m =
     of_password : (m : KeyManagement) → is_management_in mode.Password m ≡ true → 1 ≤ (parameters_by m).p2c
     of_password (Password p2s p2c) h = leb-true 1 p2c (last (nat_le 8 (length p2s)) (nat_le 1 p2c) h)
     of_password m h = cc h
+
+-- A key that is salted for a recipient has the salt that the algorithm reads.
+pub salts : (alg : KeyManagementAlg) (m : KeyManagement) (salt : List ℕ) → is_management_of (Some alg) m ≡ true → IsSaltFor salt m → IsSaltOf (key_alg alg) salt (parameters_by m).p2s
+salts alg m salt =
+    by_row (λ mode n k. is_management_in mode m ≡ true → IsSaltFor salt m → IsSaltIn k salt (parameters_by m).p2s) (λ h s. tt) (λ nk h s. tt) (λ f name nk. of_password m) (λ nk h s. tt) alg
+  where
+    of_password : (m : KeyManagement) → is_management_in mode.Password m ≡ true → IsSaltFor salt m → salt ≡ (parameters_by m).p2s
+    of_password (Password p2s p2c) h s = s
+    of_password m h s = cc h
 
 -- The number of iterations that are made is the one in the header.
 pub iterations_made : (alg : KeyManagementAlg) (m : KeyManagement) → is_management_of (Some alg) m ≡ true → iteration_count (key_alg alg) (parameters_by m).p2c ≡ iterations_by m

@@ -15,7 +15,6 @@ pub mod AlgorithmCases
 pub mod RecipientKeys
 pub mod PairLists
 pub mod TriedPairs
-pub mod Iterations
 pub mod SealedPlans
 pub mod Openings
 pub mod ReadLists
@@ -42,3 +41,4 @@ pub mod EncryptionFrames
 pub mod StandingCiphertexts
 pub mod MoreAlgorithms
 pub mod Lemmas
+pub mod SaltedKeys

@@ -13,3 +13,5 @@ pub mod Framing
 pub mod SealedTexts
 -- the work of decrypting
 pub mod Work
+-- pairs that are tried, and what is known of earlier ones
+pub mod Trying

@@ -82,13 +82,13 @@ pub(crate) fn parameters(management: &KeyManagement) -> KeyParameters<'_>
     match management {
         KeyManagement::Unknown | KeyManagement::Direct | KeyManagement::KeyWrap => NO_PARAMETERS,
         KeyManagement::Password { p2s, p2c } => KeyParameters {
-            p2s,
+            p2s: p2s.octets(),
             p2c: *p2c as u32,
             ..NO_PARAMETERS
         },
         KeyManagement::GcmKeyWrap { iv, tag } => KeyParameters {
-            iv,
-            tag,
+            iv: iv.octets(),
+            tag: tag.octets(),
             ..NO_PARAMETERS
         },
     }

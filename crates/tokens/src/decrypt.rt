@@ -1,28 +1,34 @@
 //! Decrypting with any key of a set (RFC 7516 section 5.2).
-ghost use Rattle.std.specs.Prelude.{◌≡◌, ◌≢◌, ◌+◌, ◌≤◌, ◌*◌, [], ◌∷◌, true, length, take, map, option_map, None, OnOk, OnErr, IfErr, IfNone};
+ghost use Rattle.std.specs.Prelude.{◌≡◌, ◌≢◌, ◌+◌, ◌≤◌, ◌*◌, [], ◌∷◌, true, length, take, map, option_map, None, OnOk, OnErr, IfOk, IfErr, IfNone};
 ghost use Rattle.std.specs.Result.{result_unwrap_or};
 ghost use Rattle.octets.specs.Devices.{appended, AppendsPrefixOf, IsFinishedOnce};
 ghost use Rattle.octets.specs.Faults.{TellsFaults, counts};
 ghost use Rattle.octets.specs.Outcomes.{AgreesUnlessExternal};
 ghost use Rattle.octets.specs.Code.Results.{AgreesUnlessMemory};
+ghost use Rattle.keys.specs.Code.Views.{key_view};
 ghost use Rattle.keys.specs.Limits.{limits};
-ghost use Rattle.objects.specs.Code.Views.{jwe_view};
-ghost use Rattle.tokens.specs.Decrypting.{decrypted, pairs_to_try, are_within, iterations_of, additional_authenticated_data, first_opened, opened_by, cek_of};
-ghost use Rattle.tokens.specs.Code.Work.{no_work, with_pair, with_pairs, work_told, IsBounded};
-ghost use Rattle.tokens.specs.Code.Views.{pair_view, sealed_with_view, work_view};
+ghost use Rattle.objects.specs.Code.Views.{jwe_view, recipient_view};
+ghost use Rattle.tokens.specs.Decrypting.{decrypted, pairs_to_try, pairs_with, iterations_of, first_opened, opened_by, cek_of};
+ghost use Rattle.tokens.specs.Code.Trying.{IsSaltFor, with_ciphertext};
+ghost use Rattle.tokens.specs.Code.Work.{no_work, plus, with_pair, work_told, IsBounded};
+ghost use Rattle.tokens.specs.Code.Views.{algorithms_view, pair_view, sealed_with_view, work_view};
 
 mod pair;
 mod pairs;
+mod recipients;
+mod salted;
 mod tried;
 
 use crate::aad::additional_authenticated_data;
 use crate::algorithms::{Algorithms, content_alg, key_alg, parameters, unwraps};
 use crate::decrypt::pair::Pair;
-use crate::decrypt::pairs::pairs_to_try;
+use crate::decrypt::pairs::judge_pairs;
+use crate::decrypt::recipients::open_recipients;
+use crate::decrypt::salted::SaltedKeys;
 use crate::decrypt::tried::was_tried;
-use ciphers::Cek;
 use ciphers::laws::{delivers_exactly, opens_exactly};
-use keys::KeySet;
+use ciphers::{Cek, SaltedKey};
+use keys::{Key, KeySet};
 use objects::Jwe;
 use octets::laws::are_octets;
 use octets::{Output, Refusal, emit};
@@ -39,11 +45,33 @@ pub struct Work {
     pub openings: u64,
 }
 
+/// No work.
+const NO_WORK: Work = Work {
+    iterations: 0,
+    unwraps: 0,
+    openings: 0,
+};
+
+impl Work {
+    /// Adds other work.
+    fn add(&mut self, other: Work)
+        requires iterations { self.old.iterations + other.iterations ≤ limits.p2c_sum }
+        requires unwraps { self.old.unwraps + other.unwraps ≤ limits.keys * limits.recipients }
+        requires openings { self.old.openings + other.openings ≤ limits.keys * limits.recipients }
+        ensures sums { work_view self.new ≡ plus (work_view self.old) (work_view other) }
+        ensures bound { IsBounded (work_view self.new) }
+    {
+        self.iterations += other.iterations;
+        self.unwraps += other.unwraps;
+        self.openings += other.openings;
+    }
+}
+
 /// What a content was sealed with, without its ciphertext.
 #[derive(Clone, Copy)]
-struct SealedWith<'j> {
+struct SealedWith<'j, 'a> {
     iv: &'j [u8],
-    aad: &'j [u8],
+    aad: &'a [u8],
     tag: &'j [u8],
 }
 
@@ -75,11 +103,7 @@ pub fn jwe_decrypt<O: Output>(
     ensures work { work_view result.0 ≡ work_told (jwe_view jwe) (pairs_to_try limits keys.now (jwe_view jwe).recipients) result.1 }
     ensures bound { IsBounded (work_view result.0) }
 {
-    let mut work = Work {
-        iterations: 0,
-        unwraps: 0,
-        openings: 0,
-    };
+    let mut work = NO_WORK;
     let result = decrypt(alloc, keys, jwe, &mut work, out);
     (work, result)
 }
@@ -116,67 +140,70 @@ fn open_first(alloc: Global, keys: &KeySet, jwe: Jwe, work: &mut Work) -> Result
 {
     let mut jwe = jwe;
     let mut octets = jwe.take_ciphertext(alloc);
-    let pairs = pairs_to_try(alloc, keys.keys(), jwe.recipients())?;
+    let len = open_in_place(alloc, keys.keys(), &jwe, &mut octets, work)?;
+    octets.truncate(len);
+    Ok(octets)
+}
+
+/// Opens the ciphertext of the object where it stands, by the first pair that opens it, and answers the length of the plaintext. Refuses
+/// as `jwe_decrypt` does.
+#[tactic(auto, unfolding(crate::specs::Decrypting::decrypted))]
+fn open_in_place<'x>(
+    alloc: Global,
+    keys: &'x [Key],
+    jwe: &'x Jwe,
+    octets: &mut [u8],
+    work: &mut Work,
+) -> Result<usize, Refusal>
+    requires few { length keys.now ≤ limits.keys }
+    requires fresh { work_view work.old ≡ no_work }
+    ensures answer { AgreesUnlessMemory (λ n. take n octets.new) result
+        (decrypted limits (map key_view keys.entry.now) (with_ciphertext octets.old (jwe_view jwe.entry.now))) }
+    ensures work { work_view work.new ≡ work_told (with_ciphertext octets.old (jwe_view jwe.entry.now))
+        (pairs_to_try limits (map key_view keys.entry.now) (jwe_view jwe.entry.now).recipients) result }
+    ensures bound { IsBounded (work_view work.new) }
+{
+    judge_pairs(keys, jwe.recipients())?;
+    let mut salted = SaltedKeys::new(alloc, keys)?;
     let aad = additional_authenticated_data(alloc, jwe.protected(), jwe.aad())?;
     let sealed = SealedWith {
         iv: jwe.iv(),
         aad: aad.as_bytes(),
         tag: jwe.tag(),
     };
-    let len = open_pairs(&pairs, sealed, &mut octets, work).ok_or(Refusal::NotOpened)?;
-    octets.truncate(len);
-    Ok(octets)
+    let opened = open_recipients(keys, jwe.recipients(), &mut salted, sealed, octets, work);
+    opened.ok_or(Refusal::NotOpened)
 }
 
-/// Opens the ciphertext where it stands by the first pair that opens it, and answers the length of the plaintext.
-fn open_pairs(
-    pairs: &[Pair<'_>],
-    sealed: SealedWith<'_>,
-    octets: &mut [u8],
-    work: &mut Work,
-) -> Option<usize>
-    requires few { length pairs.now ≤ limits.keys * limits.recipients }
-    requires within { are_within limits (map pair_view pairs.now) ≡ true }
-    requires fresh { work_view work.old ≡ no_work }
-    ensures opened { option_map (λ n. take n octets.new) result ≡ first_opened (sealed_with_view sealed.entry octets.old) (map pair_view pairs.now) }
-    ensures work { work_view work.new ≡ with_pairs (sealed_with_view sealed.entry octets.old) no_work (map pair_view pairs.now) }
-    ensures bound { IsBounded (work_view work.new) }
-{
-    for (i, pair) in pairs.iter().enumerate() {
-        if let Some(len) = open_pair(pair, &pairs[..i], sealed, octets, work) {
-            return Some(len);
-        }
-    }
-    None
-}
-
-/// Opens the ciphertext by a pair, after others that did not open it. If one of these is the same, the content is not tried again. If
-/// the pair does not open it, the octets are unchanged.
+/// Opens the ciphertext by a pair, after those of the recipient and the keys before. If one of these is the same, the content is not
+/// tried again. If the pair does not open it, the octets are unchanged.
 #[tactic(auto, unfolding(crate::specs::Decrypting::opened_by))]
 fn open_pair(
     pair: &Pair<'_>,
-    before: &[Pair<'_>],
-    sealed: SealedWith<'_>,
+    before: &[Key],
+    salted: &mut SaltedKey<'_>,
+    sealed: SealedWith<'_, '_>,
     octets: &mut [u8],
     work: &mut Work,
 ) -> Option<usize>
     requires bound { IsBounded (work_view work.old) }
     requires counted { iterations_of (pair_view pair.now) ≤ limits.greatest_p2c_read }
-    requires tried { first_opened (sealed_with_view sealed octets.old) (map pair_view before.now) ≡ None }
+    requires key { salted.old.key ≡ (key_view pair.now.key.now).octets }
+    requires salt { IsSaltFor salted.old.p2s (recipient_view pair.now.recipient.now).management }
+    requires tried { first_opened (sealed_with_view sealed octets.old)
+        (pairs_with (recipient_view pair.now.recipient.now) (algorithms_view pair.now.algorithms) (map key_view before.now)) ≡ None }
     ensures opened { option_map (λ n. take n octets.new) result ≡ opened_by (sealed_with_view sealed.entry octets.old) (pair_view pair.now) }
     ensures unchanged { IfNone result (octets.new ≡ octets.old) }
+    ensures same { salted.new ≡ salted.old }
     ensures work { work_view work.new ≡ with_pair (work_view work.old) (pair_view pair.now) }
-    ensures iterations { work.new.iterations ≡ work.old.iterations + iterations_of (pair_view pair.now) }
-    ensures unwraps { work.new.unwraps ≤ work.old.unwraps + 1 }
-    ensures openings { work.new.openings ≤ work.old.openings + 1 }
 {
     let enc = content_alg(pair.algorithms.encryption);
     work.unwraps += unwraps(pair.algorithms.management);
-    let (cek, iterations) = deliver(pair);
+    let (cek, iterations) = deliver(pair, salted);
     work.iterations += iterations;
     let cek = cek?;
     work.openings += 1;
-    if was_tried(before, pair) {
+    if was_tried(before, pair.algorithms, pair.key) {
         return None;
     }
     let cek = cek.octets();
@@ -187,23 +214,25 @@ fn open_pair(
 }
 
 /// The content encryption key that a pair delivers, and the number of iterations of PBKDF2 for it.
-#[tactic(auto, unfolding(crate::specs::Decrypting::cek_of), using(crate::proofs::AlgorithmCases::is_key_of, crate::proofs::AlgorithmCases::counts, crate::proofs::AlgorithmCases::iterations_made))]
-fn deliver(pair: &Pair<'_>) -> (Option<Cek>, u64)
-    requires { iterations_of (pair_view pair.now) ≤ limits.greatest_p2c_read }
+#[tactic(auto, unfolding(crate::specs::Decrypting::cek_of), using(crate::proofs::AlgorithmCases::is_key_of, crate::proofs::AlgorithmCases::counts, crate::proofs::AlgorithmCases::salts, crate::proofs::AlgorithmCases::iterations_made))]
+fn deliver(pair: &Pair<'_>, salted: &mut SaltedKey<'_>) -> (Option<Cek>, u64)
+    requires counted { iterations_of (pair_view pair.now) ≤ limits.greatest_p2c_read }
+    requires key { salted.old.key ≡ (key_view pair.now.key.now).octets }
+    requires salt { IsSaltFor salted.old.p2s (recipient_view pair.now.recipient.now).management }
     ensures cek { result.0 ≡ cek_of (pair_view pair.now) }
     ensures iterations { result.1 ≡ iterations_of (pair_view pair.now) }
+    ensures same { salted.new ≡ salted.old }
 {
     let Algorithms {
         management,
         encryption,
     } = pair.algorithms;
     let parameters = parameters(pair.recipient.management());
-    let key = pair.key.octets();
     delivers_exactly();
-    are_octets(key);
-    key_alg(management).unwrap_cek(
+    are_octets(pair.key.octets());
+    key_alg(management).unwrap_cek_salted(
         content_alg(encryption),
-        key,
+        salted,
         parameters,
         pair.recipient.encrypted_key(),
     )

@@ -12,8 +12,8 @@ abbrev pub management_view : KeyManagement → management.KeyManagement
 management_view Unknown = management.Unknown
 management_view Direct = management.Direct
 management_view KeyWrap = management.KeyWrap
-management_view (Password p2s p2c) = management.Password p2s.items p2c
-management_view (GcmKeyWrap iv tag) = management.GcmKeyWrap iv.items tag.items
+management_view (Password p2s p2c) = management.Password p2s p2c
+management_view (GcmKeyWrap iv tag) = management.GcmKeyWrap iv tag
 
 -- the salt input and the count are as RFC 7518 section 4.8.1 requires
 abbrev pub are_password_parameters : List ℕ → ℕ → Bool

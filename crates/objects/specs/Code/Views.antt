@@ -137,8 +137,8 @@ abbrev pub recipient_view : recipient.Recipient → Recipient
 recipient_view r = record {
   header = members_view r.header.map.entries;
   encrypted_key = r.encrypted_key.items;
-  alg = string_bytes r.named.alg;
-  enc = string_bytes r.enc;
+  alg = r.named.alg;
+  enc = r.enc;
   management = management_view r.named.management;
 }
 

@@ -6,17 +6,19 @@ ghost use Rattle.keys.specs.Algorithms.{management_alg_of};
 ghost use Rattle.keys.specs.Limits.{limits};
 ghost use Rattle.objects.specs.Jwe.{recipient_of, has_no_crit_or_zip, recipients_of, recipients_of_one_enc, have_one_enc as have_one_enc_of};
 ghost use Rattle.objects.specs.Code.KeyManagementView.{management_view, is_management_of};
+ghost use Rattle.objects.specs.Code.SharedParameters.{IsReadFrom};
 ghost use Rattle.objects.specs.Code.Views.{recipient_view, recipient_members_view};
 ghost use Rattle.std.specs.List.{list_all};
 ghost use Rattle.std.specs.Str.{bytes_eq};
 
+use crate::KeyManagement;
 use crate::header::members::HeaderMembers;
 use crate::header::parts::{has_no_crit, part_member};
-use crate::header::string_there;
 use crate::jwe::parts::RecipientMembers;
+use crate::jwe::shared_header::SharedHeader;
 use crate::key_management::named::NamedManagement;
 use crate::key_management::read_key_management;
-use crate::{Header, KeyManagement};
+use crate::shared::SharedText;
 use octets::{Refusal, needs};
 use serde_json::{Map, Value};
 use std::alloc::Global;
@@ -27,29 +29,27 @@ pub struct Recipient {
     pub(crate) header: HeaderMembers,
     encrypted_key: Vec<u8>,
     named: NamedManagement,
-    enc: String,
+    enc: SharedText,
 }
 
 /// The recipient, with the other parts of its joint header. Refuses with `Header` if a name is in two parts, `alg` or `enc`
 /// is absent or no string, or a parameter of the `alg` is missing or wrong (docs/SPECIFICATION.md "Objects" 3).
-#[tactic(auto, unfolding(crate::specs::Jwe::recipient_of, crate::specs::Jwe::recipient_by, crate::specs::Headers::string_there))]
-pub(crate) fn read_recipient(
+#[tactic(auto, unfolding(crate::specs::Jwe::recipient_of, crate::specs::Jwe::recipient_by))]
+fn read_recipient(
     alloc: Global,
     protected: &Map<String, Value>,
     unprotected: &Map<String, Value>,
+    shared: &SharedHeader,
     members: RecipientMembers,
 ) -> Result<Recipient, Refusal>
+    requires { IsReadFrom (members_view protected.now.entries) (members_view unprotected.now.entries) shared.now }
     ensures { AgreesUnlessMemory recipient_view result (recipient_of limits.management (members_view protected.now.entries)
         (members_view unprotected.now.entries) (recipient_members_view members)) }
 {
-    let header = Header::joint(
-        Some(protected),
-        Some(unprotected),
-        Some(&members.header.map),
-    )?;
-    let alg = string_there(alloc, header.alg()?)?;
-    let enc = string_there(alloc, header.enc()?)?;
-    let management = read_key_management(alloc, &alg, header)?;
+    let header = shared.joint(protected, unprotected, &members.header.map)?;
+    let alg = shared.parameters.alg(alloc, header)?;
+    let enc = shared.parameters.enc(alloc, header)?;
+    let management = read_key_management(alloc, alg.text(), header, &shared.parameters)?;
     let RecipientMembers {
         header,
         encrypted_key,
@@ -81,14 +81,14 @@ impl Recipient {
     pub fn alg(&self) -> &str
         ensures { result.now ≡ (recipient_view self.now).alg }
     {
-        &self.named.alg
+        self.named.alg.text()
     }
 
     /// The name of the algorithm of content encryption (RFC 7516 section 4.1.2).
     pub fn enc(&self) -> &str
         ensures { result.now ≡ (recipient_view self.now).enc }
     {
-        &self.enc
+        self.enc.text()
     }
 
     /// How its key delivers the content encryption key, with the parameters that its algorithm reads (RFC 7518 section 4).
@@ -125,7 +125,7 @@ pub(crate) fn recipients_of_one_enc(
     Ok(recipients)
 }
 
-/// The recipients, in order, with the other parts of their joint headers.
+/// The recipients, in order, with the other parts of their joint headers. What these share is read once.
 #[tactic(auto, using(crate::proofs::Each::reading))]
 fn read_recipients(
     alloc: Global,
@@ -136,9 +136,10 @@ fn read_recipients(
     ensures { AgreesUnlessMemory (λ recipients. map recipient_view recipients.items) result
         (recipients_of limits.management (members_view protected.now.entries) (members_view unprotected.now.entries) (map recipient_members_view parts.items)) }
 {
+    let shared = SharedHeader::read(alloc, protected, unprotected)?;
     let mut recipients = Vec::new(alloc);
     for recipient in parts {
-        recipients.push(read_recipient(alloc, protected, unprotected, recipient)?)?;
+        recipients.push(read_recipient(alloc, protected, unprotected, &shared, recipient)?)?;
     }
     Ok(recipients)
 }

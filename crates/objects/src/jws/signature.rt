@@ -13,6 +13,7 @@ ghost use Rattle.objects.specs.Code.Views.{header_view, signature_view, decoded_
 
 use crate::header::members::HeaderMembers;
 use crate::header::parts::has_no_crit;
+use crate::header::shared::SharedParameters;
 use crate::header::string_there;
 use crate::jws::named_alg::NamedSignatureAlg;
 use crate::jws::parts::{DecodedSignature, SignatureMembers};
@@ -169,7 +170,7 @@ fn by_header(alloc: Global, headed: HeadedSignature) -> Result<Signature, Refusa
         Some(&headed.members.header.map),
     )?;
     let name = string_there(alloc, header.alg()?)?;
-    read_key_management(alloc, &name, header)?;
+    read_key_management(alloc, &name, header, &SharedParameters::none())?;
     let alg = SignatureAlg::named(&name);
     let HeadedSignature {
         protected: protected_members,

@@ -19,6 +19,10 @@ pub record WorkCounts : Type 0 where
 abbrev pub no_work : WorkCounts
 no_work = record { iterations = 0; unwraps = 0; openings = 0 }
 
+-- both together
+abbrev pub plus : WorkCounts → WorkCounts → WorkCounts
+plus v w = record { iterations = v.iterations + w.iterations; unwraps = v.unwraps + w.unwraps; openings = v.openings + w.openings }
+
 -- how many encrypted keys are unwrapped: none if the key is used directly
 abbrev pub unwraps_in : KeyManagementMode → ℕ
 unwraps_in mode.Direct = 0

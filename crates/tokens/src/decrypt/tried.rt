@@ -1,46 +1,69 @@
-//! Pairs of a recipient and a key that open the same as an earlier one.
-ghost use Rattle.std.specs.Prelude.{◌≡◌, None, map, IsTrue};
+//! Recipients and keys that open the same as earlier ones.
+ghost use Rattle.std.specs.Prelude.{◌≡◌, ◌<◌, ◌&&◌, length, IfSome, IsTrue, slice_index_or};
+ghost use Rattle.std.specs.List.{list_any};
+ghost use Rattle.std.specs.Str.{bytes_eq};
+ghost use Rattle.keys.specs.Code.Views.{key_view};
 ghost use Rattle.objects.specs.Code.KeyManagementView.{management_view};
-ghost use Rattle.tokens.specs.Decrypting.{SealedContent, opened_by, first_opened};
-ghost use Rattle.tokens.specs.Code.Views.{pair_view};
+ghost use Rattle.objects.specs.Code.Views.{recipient_view};
+ghost use Rattle.tokens.specs.Decrypting.{is_candidate as is_candidate_key};
+ghost use Rattle.tokens.specs.Code.Trying.{OpenAlike};
+ghost use Rattle.tokens.specs.Code.Views.{algorithms_view};
 
-use crate::decrypt::pair::Pair;
-use objects::KeyManagement;
+use crate::algorithms::Algorithms;
+use crate::decrypt::pairs::{algorithms_of, is_candidate};
+use keys::Key;
+use objects::{KeyManagement, Recipient};
 use octets::same_octets;
 
-/// Whether one of the pairs is the same as this one, which then opens nothing if they open nothing. The last is compared first,
-/// since a repeated recipient often follows itself.
-pub(crate) fn was_tried(pairs: &[Pair<'_>], pair: &Pair<'_>) -> bool
-    ensures { IsTrue result → (s : SealedContent) → first_opened s (map pair_view pairs.now) ≡ None → opened_by s (pair_view pair.now) ≡ None }
+/// The most octets of an encrypted key, and of the initialization vector and the tag of AES-GCM key wrap. Longer ones deliver nothing,
+/// so they are not compared.
+const MOST_ENCRYPTED_KEY: usize = 72;
+
+const MOST_IV: usize = 12;
+
+const MOST_TAG: usize = 16;
+
+/// The number of a recipient that opens the same as this one, if there is one among those. The last is compared first, since a repeated
+/// recipient often follows itself.
+pub(crate) fn same_before(recipients: &[Recipient], recipient: &Recipient) -> Option<usize>
+    ensures within { IfSome result (λ j. j < length recipients.now) }
+    ensures same { IfSome result (λ j. OpenAlike (recipient_view (slice_index_or recipients.now j recipient.now)) (recipient_view recipient.now)) }
 {
-    for i in (0..pairs.len()).rev() {
-        if is_same(&pairs[i], pair) {
-            return true;
+    for i in (0..recipients.len()).rev() {
+        if open_alike(&recipients[i], recipient) {
+            return Some(i);
         }
     }
-    false
+    None
 }
 
-/// Whether both pairs have the same algorithms, parameters, encrypted key and key, and so open the same.
-fn is_same(one: &Pair<'_>, other: &Pair<'_>) -> bool
-    ensures { IsTrue result → (s : SealedContent) → opened_by s (pair_view one.now) ≡ opened_by s (pair_view other.now) }
+/// Whether both recipients have the same encrypted key, parameters and algorithms. What differs most often is compared first.
+fn open_alike(one: &Recipient, other: &Recipient) -> bool
+    ensures { IsTrue result → OpenAlike (recipient_view one.now) (recipient_view other.now) }
 {
-    if one.algorithms.management != other.algorithms.management {
+    if one.encrypted_key().len() > MOST_ENCRYPTED_KEY {
         return false;
     }
-    if one.algorithms.encryption != other.algorithms.encryption {
+    if !same_octets(one.encrypted_key(), other.encrypted_key()) {
         return false;
     }
-    if !has_same_parameters(one.recipient.management(), other.recipient.management()) {
+    if !has_same_parameters(one.management(), other.management()) {
         return false;
     }
-    if !same_octets(
-        one.recipient.encrypted_key(),
-        other.recipient.encrypted_key(),
-    ) {
-        return false;
+    match (algorithms_of(one), algorithms_of(other)) {
+        (Some(one), Some(other)) => one.management == other.management
+            && one.encryption == other.encryption,
+        _ => false,
     }
-    same_octets(one.key.octets(), other.key.octets())
+}
+
+/// Whether one of the keys is a candidate with the octets of this one.
+pub(crate) fn was_tried(keys: &[Key], algorithms: Algorithms, key: &Key) -> bool
+    ensures { result ≡ list_any (λ k. bytes_eq (key_view k).octets (key_view key.now).octets && is_candidate_key (algorithms_view algorithms) (key_view k)) keys.now }
+{
+    keys.iter().any(|earlier| {
+        same_octets(earlier.octets(), key.octets()) && is_candidate(algorithms, earlier)
+    })
 }
 
 /// Whether both deliver a content encryption key in the same way, with the same parameters.
@@ -56,14 +79,17 @@ fn has_same_parameters(one: &KeyManagement, other: &KeyManagement) -> bool
                 p2s: other_p2s,
                 p2c: other_p2c,
             },
-        ) => p2c == other_p2c && same_octets(p2s, other_p2s),
+        ) => p2c == other_p2c && same_octets(p2s.octets(), other_p2s.octets()),
         (
             KeyManagement::GcmKeyWrap { iv, tag },
             KeyManagement::GcmKeyWrap {
                 iv: other_iv,
                 tag: other_tag,
             },
-        ) => same_octets(iv, other_iv) && same_octets(tag, other_tag),
+        ) => iv.octets().len() <= MOST_IV
+            && tag.octets().len() <= MOST_TAG
+            && same_octets(iv.octets(), other_iv.octets())
+            && same_octets(tag.octets(), other_tag.octets()),
         _ => false,
     }
 }

@@ -17,7 +17,7 @@ use crate::encrypt::plan::EncryptionPlan;
 use crate::encrypt::recipient_key::RecipientKey;
 use ciphers::{Cek, KeyParameters};
 use keys::{KeyManagementAlg, KeyManagementMode};
-use objects::KeyManagement;
+use objects::{KeyManagement, SharedOctets};
 use octets::Refusal;
 use std::alloc::Global;
 
@@ -146,12 +146,12 @@ fn management_with(
         KeyManagementMode::Direct => Ok(KeyManagement::Direct),
         KeyManagementMode::KeyWrap => Ok(KeyManagement::KeyWrap),
         KeyManagementMode::Password => Ok(KeyManagement::Password {
-            p2s: drawn.to_vec(alloc)?,
+            p2s: SharedOctets::new(alloc, drawn.to_vec(alloc)?)?,
             p2c: p2c as u64,
         }),
         KeyManagementMode::GcmKeyWrap => Ok(KeyManagement::GcmKeyWrap {
-            iv: drawn.to_vec(alloc)?,
-            tag: tag.to_vec(alloc)?,
+            iv: SharedOctets::new(alloc, drawn.to_vec(alloc)?)?,
+            tag: SharedOctets::new(alloc, tag.to_vec(alloc)?)?,
         }),
     }
 }

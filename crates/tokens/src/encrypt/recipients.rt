@@ -128,11 +128,11 @@ fn with_management(
         KeyManagement::Unknown | KeyManagement::Direct | KeyManagement::KeyWrap => Ok(header),
         KeyManagement::Password { p2s, p2c } => {
             let header = with_p2c(alloc, given, *p2c, header)?;
-            with_octets(alloc, "p2s", p2s, header)
+            with_octets(alloc, "p2s", p2s.octets(), header)
         }
         KeyManagement::GcmKeyWrap { iv, tag } => {
-            let header = with_octets(alloc, "iv", iv, header)?;
-            with_octets(alloc, "tag", tag, header)
+            let header = with_octets(alloc, "iv", iv.octets(), header)?;
+            with_octets(alloc, "tag", tag.octets(), header)
         }
     }
 }

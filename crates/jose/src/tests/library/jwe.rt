@@ -19,8 +19,12 @@ pub(crate) fn expect_management(
         KeyManagement::Unknown => ("unknown", b"", 0),
         KeyManagement::Direct => ("direct", b"", 0),
         KeyManagement::KeyWrap => ("key wrap", b"", 0),
-        KeyManagement::Password { p2s, p2c } => ("password", p2s, *p2c),
-        KeyManagement::GcmKeyWrap { iv, tag } => ("key wrap in GCM", iv, tag.len() as u64),
+        KeyManagement::Password { p2s, p2c } => ("password", p2s.octets(), *p2c),
+        KeyManagement::GcmKeyWrap { iv, tag } => (
+            "key wrap in GCM",
+            iv.octets(),
+            tag.octets().len() as u64,
+        ),
     };
     expect_octets(rt, found.as_bytes(), way.as_bytes(), recipient.alg());
     expect_octets(rt, p2s, salt, recipient.alg());

@@ -141,3 +141,41 @@ fn sixty_four_keys_wrap_and_the_last_decrypts(rt: HostRuntime) -> Result<(), Fai
     encrypts(&rt, &ENCRYPT, template, &keys, octets_from_0(48), answer)?;
     decrypts(&rt, &text, KEY_TO_15, Answer::Content(LINE))
 }
+
+/// Objects whose last recipient is for the first key, with the iterations and unwraps of all of them.
+const SALTS: &[(&str, &str, u64, u64)] = &[
+    // One salt for three hashes, with other counts.
+    (
+        "{\"ciphertext\":\"iEd1yi8j2YFw_TybowebTFXPBOJE2g\",\"iv\":\"EBESExQVFhcYGRob\",\"protected\":\"eyJlbmMiOiJBMTI4R0NNIn0\",\"recipients\":[{\"encrypted_key\":\"bWBVUVC7CKOph9p1ArbR8uLfF3LPSrXV\",\"header\":{\"alg\":\"PBES2-HS256+A128KW\",\"p2c\":2}},{\"encrypted_key\":\"x0g01ZoGZTq1VB4_T6a5nky07Lw6cxQg\",\"header\":{\"alg\":\"PBES2-HS384+A192KW\",\"p2c\":3}},{\"encrypted_key\":\"XM9bUCTFv7_UaZKD5CExkWCYxYL9VfjE\",\"header\":{\"alg\":\"PBES2-HS512+A256KW\",\"p2c\":2}},{\"encrypted_key\":\"2JalDEZLY459M_Ozadq0KTaUn9V3kayp\",\"header\":{\"alg\":\"PBES2-HS256+A128KW\",\"p2c\":1}},{\"encrypted_key\":\"x0g01ZoGZTq1VB4_T6a5nky07Lw6cxQg\",\"header\":{\"alg\":\"PBES2-HS384+A192KW\",\"p2c\":3}},{\"encrypted_key\":\"qjlbGN2nIPP7ygM_X99m2d8TpcsCm5fh\",\"header\":{\"alg\":\"PBES2-HS512+A256KW\",\"p2c\":5}}],\"tag\":\"ZhrwcI7CDfVokBaCJiC0nQ\",\"unprotected\":{\"p2s\":\"ICEiIyQlJicoKSorLC0uLw\"}}",
+        "{\"kty\":\"oct\",\"k\":\"AAECAwQFBgc\"}",
+        16,
+        6,
+    ),
+    // Two salts in turn.
+    (
+        "{\"ciphertext\":\"iEd1yi8j2YFw_TybowebTFXPBOJE2g\",\"iv\":\"EBESExQVFhcYGRob\",\"protected\":\"eyJlbmMiOiJBMTI4R0NNIn0\",\"recipients\":[{\"encrypted_key\":\"HRrAakd6c1PoW5HA9vjpcOFJNMh3gYHI\",\"header\":{\"alg\":\"PBES2-HS256+A128KW\",\"p2c\":4,\"p2s\":\"ICEiIyQlJicoKSorLC0uLw\"}},{\"encrypted_key\":\"HRrAakd6c1PoW5HA9vjpcOFJNMh3gYHI\",\"header\":{\"alg\":\"PBES2-HS256+A128KW\",\"p2c\":4,\"p2s\":\"ICEiIyQlJicoKSorLC0uLw\"}},{\"encrypted_key\":\"VbYBaZjzpwC1Ui3ePtm0PcNoiZjuxLnG\",\"header\":{\"alg\":\"PBES2-HS256+A128KW\",\"p2c\":4,\"p2s\":\"QEFCQ0RFRkdI\"}},{\"encrypted_key\":\"JiBFSUvmM1icJ_rbVmC_Xoi0cTXH2z0u\",\"header\":{\"alg\":\"PBES2-HS256+A128KW\",\"p2c\":4,\"p2s\":\"ICEiIyQlJicoKSorLC0uLw\"}},{\"encrypted_key\":\"OI91K2jC48in_fffWhQ5IbXMdxVPx1wE\",\"header\":{\"alg\":\"PBES2-HS256+A128KW\",\"p2c\":4,\"p2s\":\"QEFCQ0RFRkdI\"}}],\"tag\":\"ZhrwcI7CDfVokBaCJiC0nQ\",\"unprotected\":{\"typ\":\"x\"}}",
+        "{\"kty\":\"oct\",\"k\":\"AAECAwQFBgc\"}",
+        20,
+        5,
+    ),
+    // A key wrap between two passwords.
+    (
+        "{\"ciphertext\":\"iEd1yi8j2YFw_TybowebTFXPBOJE2g\",\"iv\":\"EBESExQVFhcYGRob\",\"protected\":\"eyJlbmMiOiJBMTI4R0NNIn0\",\"recipients\":[{\"encrypted_key\":\"PwHYL4FoakkYbIJJyVn6whm0yFVn2ttd\",\"header\":{\"alg\":\"PBES2-HS256+A128KW\"}},{\"encrypted_key\":\"AZNswOz4Y5D1XhesuqIE9UCiCZPN38la\",\"header\":{\"alg\":\"A128KW\"}},{\"encrypted_key\":\"jFbPCLGdyKXXyOy0U7JIcon7NkCOqXmT\",\"header\":{\"alg\":\"PBES2-HS256+A128KW\"}}],\"tag\":\"ZhrwcI7CDfVokBaCJiC0nQ\",\"unprotected\":{\"p2c\":7,\"p2s\":\"ICEiIyQlJicoKSorLC0uLw\"}}",
+        "{\"keys\":[{\"kty\":\"oct\",\"k\":\"AAECAwQFBgc\"},{\"kty\":\"oct\",\"k\":\"AAECAwQFBgcICQoLDA0ODw\"}]}",
+        21,
+        4,
+    ),
+];
+
+#[test]
+fn salts_that_recipients_share_are_read_for_each(rt: HostRuntime) -> Result<(), Fail> {
+    for (text, keys, iterations, unwraps) in SALTS {
+        let work = Work {
+            iterations: *iterations,
+            unwraps: *unwraps,
+            openings: 1,
+        };
+        expect_work(&rt, text, keys, work, Ok(()))?;
+    }
+    Ok(())
+}
