@@ -4,7 +4,7 @@ PREFIX ?= /usr/local
 # Checks that the program is the one that `make build` made. A trial of installing sets this to `:` and takes any program.
 BUILT = scripts/built
 
-.PHONY: demo test edits build calls definitions library ports long faults hostile bench pictures pages tour interop latchset dist dist-try install uninstall clean
+.PHONY: demo test edits build calls definitions library ports long faults growth hostile bench pictures pages tour interop latchset dist dist-try install uninstall clean
 
 # Signs and verifies a document, makes a key, encrypts and decrypts a secret, and shows what happens to changed texts and wrong keys.
 demo:
@@ -48,6 +48,10 @@ long:
 # Refuses each allocation of the built program in turn, for each command.
 faults:
 	@scripts/faults
+
+# Measures the time, memory, allocations, reads and writes of each command over inputs of two sizes. A cost may grow only as its row states.
+growth:
+	@scripts/growth
 
 # Runs the built program over thousands of randomly damaged inputs, with a new seed each time or with SEED.
 hostile:
