@@ -50,6 +50,7 @@ impl SharedParameters {
             tag: octets_if_read(alloc, header.tag(alloc))?,
         })
     }
+
     /// The text of `alg` in a header of which these were read. Refuses with `Header` if it is absent or no string.
     #[tactic(auto, unfolding(crate::specs::Headers::string_there))]
     pub(crate) fn alg(&self, alloc: Global, header: Header<'_>) -> Result<SharedText, Refusal>
