@@ -4,6 +4,7 @@ use Rattle.std.specs.List.{list_all}
 use Rattle.ciphers.specs.Code.Salted.{Salted}
 use Rattle.keys.specs.Keys.{OctetKey}
 use Rattle.keys.specs.Limits.{limits}
+use Rattle.objects.specs.Code.Frames.{sealed_with}
 use Rattle.objects.specs.Jwe.{Recipient, EncryptedObject}
 use Rattle.objects.specs.KeyManagement.{KeyManagement, Password}
 use Rattle.tokens.specs.Decrypting.{Pair, SealedContent, algorithms_of, all_iterations, first_opened, iterations_of, pairs_of}
@@ -38,16 +39,7 @@ pub record OpenAlike (a b : Recipient) : Type 0 where
 
 -- the object with this ciphertext
 abbrev pub with_ciphertext : List ℕ → EncryptedObject → EncryptedObject
-with_ciphertext ciphertext o = record {
-  protected = o.protected;
-  protected_members = o.protected_members;
-  unprotected = o.unprotected;
-  iv = o.iv;
-  aad = o.aad;
-  ciphertext = ciphertext;
-  tag = o.tag;
-  recipients = o.recipients;
-}
+with_ciphertext ciphertext o = sealed_with o ciphertext o.tag
 
 -- the iterations of each pair, and those of all pairs with the earlier ones, are within the limits
 abbrev pub within_after : ℕ → List Pair → Bool
