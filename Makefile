@@ -4,7 +4,7 @@ PREFIX ?= /usr/local
 # Checks that the program is the one that `make build` made. A trial of installing sets this to `:` and takes any program.
 BUILT = scripts/built
 
-.PHONY: demo test edits build calls definitions library ports long faults growth hostile bench pictures pages tour interop latchset dist dist-try install uninstall clean
+.PHONY: demo test edits build static static-try calls definitions library bindings ports long faults growth hostile bench pictures pages tour interop latchset dist dist-try install uninstall clean
 
 # Signs and verifies a document, makes a key, encrypts and decrypts a secret, and shows what happens to changed texts and wrong keys.
 demo:
@@ -19,9 +19,20 @@ test:
 edits:
 	@scripts/edits $(CRATES)
 
-# Proves the program and builds it: crates/jose/out/jose.
+# Proves the program and the library for C and builds them: crates/jose/out/jose, and liblakhdzeva.a and liblakhdzeva.so.2 in
+# crates/lakhdzeva/out/built.
 build:
 	@scripts/build
+	@scripts/build-library
+
+# Proves the program for a processor and links it into one that needs no library of the system: out/static/TARGET/jose. TARGET is x86_64 or
+# aarch64 (ARM64), for which it also makes the archive of the library for C. Without TARGET it makes those for which the machine has tools.
+static:
+	@scripts/build-static $(TARGET)
+
+# Builds the static programs that the machine has tools for, and tries each, the one for ARM64 by qemu-aarch64. It names what it leaves out.
+static-try:
+	@scripts/static-try
 
 # Compares docs/CALLS.md (what each public call may refuse and change) and docs/AUDIT.md (which definitions the promises reach) with the
 # sources. It also reads in the code that refusals for memory and devices come only from their errors, and how tags are compared.
@@ -36,6 +47,10 @@ definitions:
 # Proves, builds and runs the two programs of examples/programs, which use the crates as docs/LIBRARY.md describes.
 library:
 	@scripts/library
+
+# Proves and builds the library for C, and tries it from C, C++, Python, Rust and Go, with the inputs of `make hostile` too, from SEED.
+bindings:
+	@scripts/bindings $(SEED)
 
 # Runs the built program over files and streams, including ones that fail.
 ports:
@@ -67,8 +82,8 @@ pictures:
 	@scripts/pictures
 
 # Compares the pages and the completions with the program's table of commands and its limits, and the pictures with their figures. It tries
-# the refusals that the pages list, the completions, install and uninstall. A test prints the table: the gate's, or a new unproved one if
-# sources changed.
+# the refusals that the pages list, the completions, install and uninstall, and runs shellcheck on the scripts that are installed. A test
+# prints the table: the gate's, or a new unproved one if sources changed.
 pages:
 	@scripts/pages
 	@scripts/pictures --check
@@ -76,9 +91,11 @@ pages:
 	@scripts/completions
 	@scripts/installed
 
-# Runs every example of the README, the docs and the man pages, and every recipe of examples/, with the built program.
+# Runs every example of the README, the docs and the man pages, and every recipe of examples/, with the built program. Tries the tools of
+# tools/ in dash, busybox and bash, and makes the attacks that the recipes must withstand.
 tour:
 	@scripts/tour
+	@scripts/tools
 
 # Sends tokens both ways between the built program and latchset's jose, jwcrypto, go-jose and ten more libraries, if they are installed. With
 # SEED the tokens are random, and it takes at most five minutes.
@@ -89,20 +106,27 @@ interop:
 latchset:
 	@scripts/latchset
 
-# Makes a release in out/: a tarball and a Debian package.
+# Makes a release in out/: a tarball, four Debian packages and their checksums in SHA256SUMS. If `make static` made the static programs, it
+# also makes a tarball for each and a Debian package for ARM64. It refuses a tree that has changes, or whose CHANGELOG.md does not begin with
+# the release of VERSION.
 dist:
 	@scripts/dist
 
-# Tries the release without the kit: installs and removes it, and runs it in a bare folder and in a small Debian.
+# Tries the release of the last commit without the kit: makes it in two folders and compares the octets, installs and removes it, and runs
+# it in a bare folder and in a small Debian. It calls the library from C and Python. If lintian is installed, it must find no error in the
+# packages.
 dist-try:
 	@scripts/dist-try
 
-# Installs the program that `make build` made, with the man pages, completions, recipes and documents for users.
+# Installs the program that `make build` made, with the tools, man pages, completions, recipes and documents for users. It lists the files
+# and their checksums in share/doc/lakhdzeva/installed. If it would overwrite a file that no install listed, or one that was changed since,
+# it names the file and changes nothing. With FORCE=1 it overwrites these files.
 install:
 	@$(BUILT)
-	@scripts/install "$(DESTDIR)$(PREFIX)"
+	@scripts/install $(if $(filter 1,$(FORCE)),--force) "$(DESTDIR)$(PREFIX)"
 
-# Removes exactly what install made.
+# Removes what install listed, and the folders that it made. It names each file that was changed since or that install did not make, and
+# leaves it. Without a list it removes nothing.
 uninstall:
 	@scripts/install --away "$(DESTDIR)$(PREFIX)"
 

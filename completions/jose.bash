@@ -1,7 +1,7 @@
 # Completion of jose(1) for bash: both words, the letters that are left, and files or hashes after letters that take them.
 
 _jose() {
-    local current=${COMP_WORDS[COMP_CWORD]} letters= word letter rest awaiting= i
+    local current=${COMP_WORDS[COMP_CWORD]} letters='' word letter rest awaiting='' i
     COMPREPLY=()
     if [ "$COMP_CWORD" = 1 ]; then
         mapfile -t COMPREPLY < <(compgen -W 'b64 jwe jwk jws' -- "$current")

@@ -3,10 +3,13 @@
 # decrypting holds the whole part once. The script needs split of GNU coreutils, which has --filter.
 set -eu
 umask 077
+# The script overwrites nothing: it ends if one of these exists.
+exists=$(ls -d files backup.jwk parts list failed plain restored 2>/dev/null) || :
+[ -z "$exists" ] || { echo "run this in a new folder, without $exists" >&2; exit 1; }
 # The clear texts are deleted when the script ends, also by a signal.
-trap 'rm -f parts/part-*.tar list list.back' EXIT
+trap 'rm -f -r list plain' EXIT
 trap 'exit 1' HUP INT TERM
-mkdir -p files
+mkdir files
 head -c 300000 /dev/urandom > files/image
 echo 'correct horse' > files/secret.txt
 jose jwk gen -i '{"alg":"A256KW","kid":"backup"}' -o backup.jwk
@@ -14,8 +17,7 @@ jose jwk gen -i '{"alg":"A256KW","kid":"backup"}' -o backup.jwk
 # Make it. Each part is a ciphertext of its own, with its object next to it. Parts have 100,000 octets here; make them as large as the
 # memory of the machine that decrypts them allows. If tar fails, the last part is well-formed and too short, so the status of tar is
 # checked too.
-mkdir -p parts
-rm -f failed
+mkdir parts
 { tar -cf - files || touch failed; } |
     split -b 100000 --filter='jose jwe enc -c -k backup.jwk -o "parts/$FILE.jwe" -O "parts/$FILE.enc"' - part-
 [ ! -e failed ]
@@ -23,28 +25,22 @@ rm -f failed
 (cd parts && sha256sum part-*.jwe) > list
 jose jwe enc -c -k backup.jwk -I list -o parts/list.jwe
 
-# Restore it. The list is decrypted and compared, and then all parts are decrypted, before the archive is unpacked.
-jose jwe dec -i parts/list.jwe -k backup.jwk -O list.back
-(cd parts && sha256sum -c ../list.back >/dev/null && [ "$(ls part-*.jwe | wc -l)" -eq "$(wc -l < ../list.back)" ])
-mkdir -p restored
-for object in parts/part-*.jwe; do
-    jose jwe dec -i "$object" -I "${object%.jwe}.enc" -k backup.jwk -O "${object%.jwe}.tar"
-done
-cat parts/*.tar | tar -xf - -C restored
+# Restore it. Strangers may have changed the folder parts meanwhile. So the script uses only the names in the decrypted list, compares
+# copies of the objects with it, and keeps the plaintext in a new folder that nobody else can enter. All parts are decrypted before the
+# archive is unpacked. An old backup restores too, if somebody puts it back as a whole.
+mkdir plain restored
+jose jwe dec -i parts/list.jwe -k backup.jwk -O plain/list
+if grep -v '^[0-9a-f]\{64\}  part-[a-z]\{2,\}[.]jwe$' plain/list >&2; then
+    exit 1
+fi
+while read -r _ object; do
+    cp "parts/$object" plain
+done < plain/list
+(cd plain && sha256sum -c list) >/dev/null
+while read -r _ object; do
+    jose jwe dec -i "plain/$object" -I "parts/${object%.jwe}.enc" -k backup.jwk -O plain/part
+    cat plain/part >> plain/tar
+done < plain/list
+tar -xf plain/tar -C restored
 cmp files/image restored/files/image
 cmp files/secret.txt restored/files/secret.txt
-
-# A changed part is refused, and the file of its plaintext stays as it was.
-printf 'x' | dd of=parts/part-ab.enc bs=1 seek=50000 conv=notrunc 2>/dev/null
-if jose jwe dec -i parts/part-ab.jwe -I parts/part-ab.enc -k backup.jwk -O parts/part-ab.tar 2>why; then
-    echo 'a changed part was decrypted' >&2
-    exit 1
-fi
-grep -q '17 NotOpened' why
-
-# The list shows that a part is missing.
-mv parts/part-ab.jwe gone.jwe
-if (cd parts && sha256sum -c ../list.back) >why 2>&1; then
-    echo 'a missing part was not noticed' >&2
-    exit 1
-fi

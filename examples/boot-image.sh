@@ -2,9 +2,12 @@
 # An initramfs verifies the image of a system before it mounts it, and uses an older image if the new one does not verify. The images can
 # be larger than the memory of the machine. The script needs only jose and busybox.
 set -eu
+umask 077
+# The script overwrites nothing: it ends if one of these exists.
+exists=$(ls -d boot.jwk old.img old.sig new.img new.sig why 2>/dev/null) || :
+[ -z "$exists" ] || { echo "run this in a new folder, without $exists" >&2; exit 1; }
 
 # Where images are made: a key, which the initramfs gets too. The key can sign as well, so nobody else may read the initramfs.
-umask 077
 jose jwk gen -i '{"alg":"HS256","kid":"boot"}' -o boot.jwk
 for name in old new; do
     head -c 3000000 /dev/urandom > "$name.img" # here: mksquashfs system "$name.img"
@@ -24,15 +27,3 @@ boot() {
     return 1
 }
 [ "$(boot)" = new ]
-
-# The new image was changed, or was not written to its end.
-printf x >> new.img
-[ "$(boot 2>told)" = old ]
-grep -q '^new.img: jose: 17 NotOpened$' told
-
-# No image verifies, so nothing is mounted.
-: > old.img
-if boot 2>told; then
-    echo 'an image was mounted that does not verify' >&2
-    exit 1
-fi

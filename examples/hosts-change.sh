@@ -1,37 +1,49 @@
 #!/bin/sh
-# Several hosts can read some secrets. When a host joins or leaves, each secret is encrypted again, to the hosts that are there now.
+# Several hosts can read some secrets. When a host leaves, every host that stays gets a new key, and each secret is encrypted again. An
+# object has one content key for all its recipients, so a host that once opened an object can make new objects with this content key, which
+# every other key of the object opens. It can do so even after it was taken off the list. Only new keys for all others end that.
 set -eu
-. "$(dirname -- "$0")/jose-functions.sh"
 umask 077
-# The clear texts are deleted when the script ends, also by a signal.
-trap 'rm -f secret.plain to.jwks' EXIT
+# The script overwrites nothing: it ends if one of these exists.
+exists=$(ls -d keys keys.new secrets secret.plain 2>/dev/null) || :
+[ -z "$exists" ] || { echo "run this in a new folder, without $exists" >&2; exit 1; }
+# The clear text is deleted when the script ends, also by a signal.
+trap 'rm -f secret.plain' EXIT
 trap 'exit 1' HUP INT TERM
-mkdir -p hosts secrets
-for host in a b c; do
-    jose jwk gen -i "{\"alg\":\"A256KW\",\"kid\":\"$host\"}" -o "hosts/$host.jwk"
-done
-jose jwk gen -i '{"alg":"A256KW","kid":"admin"}' -o admin.jwk
 
-# encrypt NAME: standard input becomes the secret of this name, for the administrator and for each host. A set has at most 64 keys:
-# jose-jwe-enc(1) shows what to do for more hosts.
-encrypt() {
-    jose_set admin.jwk hosts/*.jwk > to.jwks
-    jose jwe enc -k to.jwks -o "secrets/$1.new"
-    mv "secrets/$1.new" "secrets/$1"
-    rm to.jwks
+# new_keys FOLDER NAME..: a new folder with a new key for each name, and with a set of all of them for whoever encrypts. A set has at most
+# 64 keys: jose-jwe-enc(1) shows what to do for more hosts.
+new_keys() {
+    folder=$1
+    shift
+    mkdir "$folder"
+    for name; do
+        jose jwk gen -i "{\"alg\":\"A256KW\",\"kid\":\"$name\"}" -o "$folder/$name.jwk" # here: copy it to the host by scp -p
+    done
+    jose-set join -o "$folder/all.jwks" "$folder"/*.jwk
 }
-echo 'correct horse' | encrypt database
-echo 'battery staple' | encrypt mail
+# encrypt FOLDER NAME: standard input becomes the secret of this name, for every key of the folder.
+encrypt() {
+    jose jwe enc -k "$1/all.jwks" -o "secrets/$2.new"
+    mv "secrets/$2.new" "secrets/$2"
+}
+mkdir secrets
+new_keys keys admin a b c
+echo 'correct horse' | encrypt keys database
+echo 'battery staple' | encrypt keys mail
 
 # A host reads a secret with its own key.
-[ "$(jose jwe dec -i secrets/database -k hosts/b.jwk)" = 'correct horse' ]
+[ "$(jose jwe dec -i secrets/database -k keys/b.jwk)" = 'correct horse' ]
 
-# Host b leaves and host d joins: all secrets are encrypted again. Host b may have kept what it read, so change the secrets next.
-rm hosts/b.jwk
-jose jwk gen -i '{"alg":"A256KW","kid":"d"}' -o hosts/d.jwk
+# Host b leaves, and host d joins. Host b may have kept what it read, so change the secrets themselves next.
+new_keys keys.new admin a c d
 for secret in secrets/*; do
-    jose jwe dec -i "$secret" -k admin.jwk -O secret.plain
-    encrypt "${secret##*/}" < secret.plain
+    jose jwe dec -i "$secret" -k keys/admin.jwk -O secret.plain
+    encrypt keys.new "${secret##*/}" < secret.plain
     rm secret.plain
 done
-[ "$(jose jwe dec -i secrets/mail -k hosts/d.jwk)" = 'battery staple' ]
+# A host gets its new key, then the secrets, and then deletes its old key. Nobody uses an old key again.
+rm -r keys
+mv keys.new keys
+[ "$(jose jwe dec -i secrets/mail -k keys/d.jwk)" = 'battery staple' ]
+[ "$(jose jwe dec -i secrets/database -k keys/a.jwk)" = 'correct horse' ]

@@ -3,7 +3,10 @@
 # at a kid, and anyone can write one: the key alone decides whether the object verifies.
 set -eu
 umask 077
-mkdir -p ring
+# The script overwrites nothing: it ends if one of these exists.
+exists=$(ls -d ring report report.jws verified 2>/dev/null) || :
+[ -z "$exists" ] || { echo "run this in a new folder, without $exists" >&2; exit 1; }
+mkdir ring
 for name in host-7 host-8; do
     jose jwk gen -i "{\"alg\":\"HS256\",\"kid\":\"$name\"}" -o "ring/$name.jwk"
 done
@@ -12,11 +15,12 @@ done
 echo 'load: 0.25' > report
 jose jws sig -c -s '{"protected":{"kid":"host-8"}}' -k ring/host-8.jwk -I report -o report.jws
 
-# The verifier reads it from the protected header, and uses it only if it has letters, digits and hyphens alone.
+# The verifier reads it from the protected header, and uses it only if it has letters, digits and hyphens alone. jose-look shows a header
+# to a person.
 kid=$(cut -d. -f1 report.jws | jose b64 dec | sed -n 's/.*"kid":"\([A-Za-z0-9-]*\)".*/\1/p')
 [ -e "ring/$kid.jwk" ]
 jose jws ver -i report.jws -k "ring/$kid.jwk" -O verified
 cmp report verified
 
-# The thumbprint names a key by its secret alone, whatever its kid is.
-[ "$(jose jwk thp -i ring/host-7.jwk)" != "$(jose jwk thp -i ring/host-8.jwk)" ]
+# The thumbprint names a key by its secret alone, whatever its kid is. jose-set takes all keys into one set only if they differ by it.
+jose-set join ring/*.jwk > /dev/null

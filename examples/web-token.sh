@@ -3,6 +3,9 @@
 # claims, `exp` among them.
 set -eu
 umask 077
+# The script overwrites nothing: it ends if one of these exists.
+exists=$(ls -d service.jwk claims.json 2>/dev/null) || :
+[ -z "$exists" ] || { echo "run this in a new folder, without $exists" >&2; exit 1; }
 jose jwk gen -i '{"alg":"HS256"}' -o service.jwk
 
 # The login service issues the token. It is one line of text, and anyone who has it can read the claims.
@@ -17,10 +20,3 @@ accepts() {
     python3 -c 'import json, sys, time; exit(not json.loads(sys.argv[1])["exp"] > time.time())' "$claims" 2>/dev/null
 }
 accepts "$token"
-
-# A token of another key, and one whose time has passed, are not accepted.
-jose jwk gen -i '{"alg":"HS256"}' -o other.jwk
-! accepts "$(jose jws sig -c -s '{"protected":{"typ":"JWT"}}' -k other.jwk -I claims.json)" || exit 1
-printf '{"iss":"login","sub":"ann","exp":%d}' $((now - 1)) > late.json
-! accepts "$(jose jws sig -c -s '{"protected":{"typ":"JWT"}}' -k service.jwk -I late.json)" || exit 1
-! accepts "$(printf '{"sub":"ann","x":{"exp":%d}}' $((now + 600)) | jose jws sig -c -k service.jwk)" || exit 1

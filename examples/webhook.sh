@@ -3,6 +3,9 @@
 # verifies the octets that it received before it parses them. It writes neither body nor signature to the disk.
 set -eu
 umask 077
+# The script overwrites nothing: it ends if one of these exists.
+exists=$(ls -d hook.jwk body service.py service.bash 2>/dev/null) || :
+[ -z "$exists" ] || { echo "run this in a new folder, without $exists" >&2; exit 1; }
 jose jwk gen -i '{"alg":"HS256","kid":"hook"}' -o hook.jwk
 
 # The sender: a compact object without its payload, for a header such as `X-Signature: eyJ..`. A request that is sent again verifies
@@ -34,18 +37,9 @@ cat > service.bash <<'END'
 jose jws ver -i <(printf %s "$1") -I - -k hook.jwk 2>/dev/null
 END
 
-# Both accept the request. They refuse it if the body was changed or is empty, if the signature is empty or malformed, and if the
-# signature has a payload of its own.
-own=$(printf '{"number":42,"event":"paid"}' | jose jws sig -c -k hook.jwk)
+# Both accept the request.
 for service in 'python3 service.py' 'bash service.bash'; do
-    if ! command -v "${service%% *}" >/dev/null; then
-        continue
+    if command -v "${service%% *}" >/dev/null; then
+        $service "$signature" < body
     fi
-    $service "$signature" < body
-    for other in '{"number":41,"event":"free"}' ''; do
-        ! printf '%s' "$other" | $service "$signature" || exit 1
-    done
-    for other in '' x.y.z "$own"; do
-        ! $service "$other" < body || exit 1
-    done
 done

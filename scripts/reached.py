@@ -5,8 +5,8 @@ usage: scripts/reached.py           compares and counts; scripts/calls does the 
        scripts/reached.py --list    prints the reached definitions by page, and marks those that cite nothing
        scripts/reached.py --kit     prints the pages of the kit that they use, all the way down, with their lines
 
-The promises are the contract of `run` (crates/jose/src/run.rt), with the traits of its devices, and the laws of each crate (src/laws.rt). A
-definition reaches what its type and its equations name, by the `use` lines of its page: other definitions, with records and data, and the
+The promises are the contract of `run` (crates/jose/src/run.rt), with the traits of its devices, those of the functions for C
+(crates/lakhdzeva/src/lib.rt), and the laws of each crate (src/laws.rt). A definition reaches what its type and its equations name, by the `use` lines of its page: other definitions, with records and data, and the
 types of the code, which reach the types of their fields and what their invariants name. The views that contracts have of values of the code
 (`ghost view`) are not followed, and neither are proofs.
 
@@ -27,6 +27,7 @@ sys.dont_write_bytecode = True
 from lib.sources import CRATES, ROOT, block_end, fault, faults, read, text_at, tokens_of
 
 RUN = "jose/src/run.rt"
+CALLS_FOR_C = "lakhdzeva/src/lib.rt"
 # The part of a page's name that marks pages about values and calls of the code.
 CODE = "/Code."
 ORDER, NUMBERS, OTHERS = "The pages in reading order", "Tables and numbers", "What need not be read"
@@ -290,7 +291,7 @@ class Library:
         """The definitions and types that the signatures and the clauses of a file's public functions name."""
         tokens, found, at = self.file(path)[0], set(), 0
         while at < len(tokens):
-            if tokens[at].text == "fn" and text_at(tokens, at - 1) == "pub":
+            if tokens[at].text == "fn" and text_at(tokens, at - 1) in ("pub", '"C"'):
                 start = at
                 while text_at(tokens, at) not in ("{", ""):
                     # The block of a clause does not belong to the body of the function.
@@ -315,9 +316,9 @@ def reach(library, roots):
 
 
 def promises(library):
-    """The definitions and types that the contract of `run` names, and those that the laws name."""
-    laws = (f"{crate}/src/laws.rt" for crate in CRATES)
-    return library.contracts(RUN), set().union(*(library.contracts(it) for it in laws if library.find(it)))
+    """The definitions and types that the contract of `run` names, and those that the laws and the functions for C name."""
+    others = (CALLS_FOR_C, *(f"{crate}/src/laws.rt" for crate in CRATES))
+    return library.contracts(RUN), set().union(*(library.contracts(it) for it in others if library.find(it)))
 
 
 def lines_of(definition):

@@ -25,6 +25,8 @@ STATED = [
     "{MOST_RECIPIENTS} times {MOST_KEYS}",
     "{MOST_RECIPIENTS} times over",
     "{PAIRS} (pairs|HMACs|of each other)",
+    "PBKDF2, from {LEAST_P2C} to {GREATEST_P2C}",
+    "reads at most {GREATEST_P2C_READ} iterations for a recipient, and makes at most {MOST_ITERATIONS} in one call",
     "[Aa] key has at most {MOST_KEY_OCTETS} octets",
     "(text of|each of|in octets, from) 1 to {MOST_KEY_OCTETS}",
     "(bytes is|Key;) above {MOST_KEY_OCTETS}",

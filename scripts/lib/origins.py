@@ -27,7 +27,7 @@ import collections, os
 from lib.sources import CRATES, ROOT, block_end, fault, parts, read, text_at, tokens_of
 
 COMPARING = ("modes", "ciphers", "tokens")
-PASSING = ("crates/octets/src/streams", "crates/jose/src/files", "crates/jose/src/system")
+PASSING = ("crates/lakhdzeva/src/growing", "crates/octets/src/streams", "crates/jose/src/apart", "crates/jose/src/files", "crates/jose/src/system")
 
 # The file, the function ("" outside of functions), the code, and its origin or purpose.
 PLACES = [
@@ -99,25 +99,49 @@ PLACES = [
     # Files and standard streams.
     ("jose/src/files.rt", "", "Read for Source", "it passes on what its file or stream answers"),
     ("jose/src/files.rt", "Source::read", "if buf.is_empty() { return Ok(0); } match self { Source::Words(octets) => octets.read(buf), "
-     "Source::Standard(stdin) => stdin.read(buf), Source::File { files, path, opened, } => { if opened.is_none() { *opened = Some(File::open(*files, *path)?); } "
+     "Source::Standard(stdin) => stdin.read(buf), Source::File { files, path, opened, } => { if opened.is_none() { *opened = Some(files.open(path)?); } "
      "match opened { Some(file) => file.read(buf), None => unreachable!(), } } }", "what the words, the stream or the file answers; a read without room"),
     ("jose/src/files.rt", "", "Write for Sink", "it passes on what its file or stream answers"),
     ("jose/src/files.rt", "Sink::write", "if octets.is_empty() { return Ok(0); } match self { Sink::Nowhere => Ok(octets.len()), "
-     "Sink::Standard(stdout) => stdout.write(octets), Sink::File(output) => { if output.opened.is_none() { output.opened = Some(output.create()?); } "
+     "Sink::Standard(stdout) => stdout.write(octets), Sink::File(output) => { if output.opened.is_none() { output.opened = Some(apart::create(output.files, &output.name)?); } "
      "match &mut output.opened { Some(file) => file.write(octets), None => unreachable!(), } } }",
      "what the stream or the file answers; a write of nothing, and an output that no option names"),
     ("jose/src/files.rt", "Sink::flush", "match self { Sink::Nowhere => Ok(()), Sink::Standard(stdout) => stdout.flush(), "
-     "Sink::File(output) => { if output.opened.is_none() { output.opened = Some(output.create()?); } "
+     "Sink::File(output) => { if output.opened.is_none() { output.opened = Some(apart::create(output.files, &output.name)?); } "
      "match &mut output.opened { Some(file) => { file.flush()?; match output.purpose { Purpose::Key => synchronize(output.files, file), "
      "Purpose::Public | Purpose::Secret => Ok(()), } } None => unreachable!(), } } }",
      "what the stream or the file answers, and for a made key the system; an output that no option names"),
-    ("jose/src/files.rt", "OutputFile::create", "if is_one_of(self.files, self.path, &others) { "
-     "return Err(io::Error::from(io::ErrorKind::ResourceBusy)); }", "an output that is the file of the content, of the keys or of the other output"),
+    ("jose/src/apart.rt", "create", "if is_one_of(files, own, &name.others()) { "
+     "return Err(io::Error::from(ErrorKind::ResourceBusy)); }", "an output that is the file of the content, of the keys or of the other output"),
+    ("jose/src/apart.rt", "may_be", "match answer { Ok(other) => match other.file { Some(other) => is_same_file(file, other), None => false, }, "
+     "Err(e) => !is_absence(place, e.kind()) && !own.is_empty, }", "what the system says of another file: which it is, or that it is not there"),
+    ("jose/src/apart.rt", "is_absence", "fn is_absence(place: Place<'_>, kind: ErrorKind) -> bool", "matched, and not made"),
+    ("jose/src/apart.rt", "is_absence", "Place::Named(_) => matches!(kind, ErrorKind::NotFound),", "matched, and not made"),
     ("jose/src/files.rt", "synchronize", "match files.sync(file) { Err(e) if e.kind() == io::ErrorKind::InvalidInput || e.kind() == io::ErrorKind::Unsupported => { Ok(()) } "
      "result => result, }", "what the system answers; that a pipe or a terminal cannot be synchronized is no failure"),
-    ("jose/src/system.rt", "HostRuntime::id", "match metadata(self, path) { Ok(found) => file_id(&found), Err(_) => None,", "a file that can't be looked at is not the same"),
+    ("jose/src/system.rt", "HostRuntime::open_uncut", "{ Ok(UncutFile(output_options(name.mode).open(self, name.path)?)) }", "what the system answers"),
+    ("jose/src/system.rt", "HostRuntime::own_status", "{ Ok(status_of(&uncut.0.metadata()?)) }", "what the system answers"),
+    ("jose/src/system.rt", "HostRuntime::status", "match place { Place::StandardInput => Ok(status_of(&metadata(self, STANDARD_INPUT)?)), "
+     "Place::StandardOutput => Ok(status_of(&metadata(self, STANDARD_OUTPUT)?)), Place::Named(path) => Ok(status_of(&metadata(self, path)?)), }",
+     "what the system answers"),
+    ("jose/src/system.rt", "HostRuntime::cut", "match file.set_len(0) { Err(e) if e.kind() != io::ErrorKind::InvalidInput => Err(e), _ => Ok(file), }",
+     "what the system answers; that a file of another kind has no length is no failure"),
+    ("jose/src/system.rt", "status_of", "let kind = found.file_type(); if kind.is_file() { return Status { file: Some(FileId::Regular(found.dev(), found.ino())), "
+     "is_empty: found.len() == 0, }; } Status { file: kind.is_block_device().then_some(FileId::Block(found.rdev())), is_empty: false, }",
+     "the numbers of a device and of an inode, in all their bits"),
     ("jose/src/files.rt", "inputs", "let text = command.option_at('i').or(command.option_at('s'));", "options of the command"),
     ("jose/src/files.rt", "inputs", "let random = invocation.value('R').or(Some(SYSTEM_RANDOM));", "options of the command"),
+
+    ("lakhdzeva/src/growing.rt", "", "impl Output for GrowingOutput", "it fails if memory is refused, and in no other case"),
+    ("lakhdzeva/src/growing.rt", "GrowingOutput::write", "if octets.is_empty() { return Ok(0); } self.is_finished = false; "
+     "if self.octets.extend_from_slice(octets).is_err() { self.failures = self.failures.saturating_add(1); return Err(Fault::Writing); } Ok(octets.len())",
+     "memory that was refused; a write of nothing"),
+    ("lakhdzeva/src/growing.rt", "GrowingOutput::finish", "self.is_finished = true; self.endings = self.endings.saturating_add(1); Ok(())", "it never fails"),
+    ("lakhdzeva/src/places.rt", "deliver", "if octets.len() > place.len() { return number(Refusal::Write); }", "a place that is too small"),
+    ("lakhdzeva/src/places.rt", "deliver_both", "if both.text.len() > text.len() || both.content.len() > content.len() { return number(Refusal::Write); }",
+     "a place that is too small"),
+    ("lakhdzeva/src/places.rt", "in_memory", "Refusal::Read | Refusal::Write => Refusal::Memory,", "inputs in memory, which never fail, and a GrowingOutput"),
+    ("lakhdzeva/src/places.rt", "number", "Refusal::Read => 2, Refusal::Write => 3, Refusal::Memory => 4,", "matched, and not made"),
 
     # Memory that is asked for by a number, or in a loop that does not go through a list.
     ("octets/src/memory.rt", "MemoryOutput::new", "Vec::with_capacity(alloc, room)?", "the room that the caller asks for"),
@@ -268,7 +292,7 @@ def needing_rows(part):
     """The places of a part of the code that need a row: where, what, and the advice for one that has none."""
     tokens, at = part.tokens, 0
     signature = words_to(tokens, 0, "{", ";") if part.function else []
-    if "bool" in signature and " ".join(signature).count("[ u8") > 1:
+    if signature[-2:] == ["->", "bool"] and " ".join(signature).count("[ u8") > 1:
         yield 0, "octets twice", "equality"
     while at < len(tokens):
         if tokens[at].text in ("use", "type"):

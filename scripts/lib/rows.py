@@ -5,6 +5,8 @@ from lib import streams
 from lib.trial import check, program
 
 JOSE = program(sys.argv[1:])
+# A build of the program that has lib/fail.c in itself, if the second word names one. Otherwise fail.c is loaded before the program.
+FAILING = program(sys.argv[2:]) if sys.argv[2:] else None
 FLAGS = {"<": os.O_RDONLY, ">": os.O_WRONLY | os.O_CREAT | os.O_TRUNC, ">>": os.O_WRONLY | os.O_CREAT | os.O_APPEND, "<>": os.O_RDWR | os.O_CREAT}
 
 
@@ -103,12 +105,21 @@ def opened(redirections, folder):
     return found, closed
 
 
+def failing_program():
+    return FAILING or JOSE
+
+
+def preloaded():
+    """The variable that loads lib/fail.c before the program, if this is not in it."""
+    return {} if FAILING else {"LD_PRELOAD": os.path.abspath("fail.so")}
+
+
 def run(row, folder):
     """Runs the program in a folder. Returns the status and standard error."""
     words = row.words.split(" ") if isinstance(row.words, str) else row.words
-    command = row.shell or ["./jose" if row.as_user else JOSE, *("" if it == "''" else it for it in words)]
+    command = row.shell or ["./jose" if row.as_user else failing_program() if row.failing else JOSE, *("" if it == "''" else it for it in words)]
     descriptors, closed = opened(row.streams, folder)
-    env = os.environ | {"jose": JOSE} | (row.failing | {"LD_PRELOAD": os.path.abspath("fail.so")} if row.failing else {})
+    env = os.environ | {"jose": JOSE} | (row.failing | preloaded() if row.failing else {})
     user = {"user": 65534, "group": 65534, "extra_groups": []} if row.as_user and os.getuid() == 0 else {}
     running = []
 
@@ -155,7 +166,8 @@ def play(rows):
         if row.folder is None:
             problems += [f"{file} is not as it should be" for file, wanted in row.files.items() if not agrees(file, wanted)]
         else:
-            wanted = before | {name: it if isinstance(it, tuple) else (0o644, it) for name, it in row.files.items()}
+            kept = (tuple, Soft, type(None))
+            wanted = before | {name: it if isinstance(it, kept) else (0o644, it) for name, it in row.files.items()}
             found = state_of("copy")
             problems += [f"{it} is {shown(found.get(it))}" for it in sorted({*wanted, *found}) if wanted.get(it) != found.get(it)]
         check(row.name, problems)

@@ -6,7 +6,7 @@ import collections, os, re
 from lib.trial import TOP
 
 ROOT = str(TOP)
-CRATES = re.findall(r"^([a-z]+):", (TOP / "crates.txt").read_text(), re.M)
+CRATES = re.findall(r"^([a-z]+)(?: staticlib)?:", (TOP / "crates.txt").read_text(), re.M)
 Token = collections.namedtuple("Token", "text line")
 # A function with its signature, or everything in a file outside of functions. In the second case `function` is "".
 Part = collections.namedtuple("Part", "path function tokens")
@@ -91,7 +91,8 @@ def code_of(tokens):
             if " ".join(words[:8]) == "# [ cfg ( test ) ] mod" and words[9:] == [";"]:
                 tests.append(words[8])
             opens = at + 1 + (words[1:2] == ["!"])
-            past = block_end(tokens, opens) if text_at(tokens, opens + 1) in HINTS else at
+            is_hint = text_at(tokens, opens + 1) in HINTS or " ".join(words).startswith("# [ unsafe ( no_mangle ) ]")
+            past = block_end(tokens, opens) if is_hint else at
         if past > at:
             at = past
         else:

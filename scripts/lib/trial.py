@@ -1,11 +1,12 @@
 """Shared by the Python scripts: the paths of the repository and of the program, and the counts of what passed and failed."""
-import os, pathlib, subprocess, sys
+import os, pathlib, re, subprocess, sys, time
 
 TOP = pathlib.Path(__file__).resolve().parents[2]
-PROGRAM = TOP / "crates/jose/out/jose"
+# The program that `make build` made, or another build in its place.
+PROGRAM = pathlib.Path(os.environ.get("JOSE_PROGRAM") or TOP / "crates/jose/out/jose")
 # The stream to which the lines are written.
 out = sys.stdout
-passed = failed = 0
+passed = failed = omitted = 0
 
 
 def needs(program):
@@ -19,6 +20,24 @@ def program(words):
     path = os.path.abspath(words[0]) if words else str(PROGRAM)
     needs(path)
     return path
+
+
+def space_at_start(program, folder):
+    """The octets of address space that the program takes at its start. They are read while a command waits for a pipe in the folder."""
+    os.mkfifo(folder / "idle")
+    process = subprocess.Popen([program, "b64", "enc", "-I", "idle", "-o", os.devnull], cwd=folder)
+    while process.poll() is None:
+        try:
+            pipe = os.open(folder / "idle", os.O_WRONLY | os.O_NONBLOCK)
+        except OSError:
+            # The program has not opened it yet.
+            time.sleep(0.01)
+            continue
+        status = pathlib.Path(f"/proc/{process.pid}/status").read_text()
+        os.close(pipe)
+        process.wait()
+        return int(re.search(r"^VmPeak:\s*(\d+) kB$", status, re.M)[1]) << 10
+    sys.exit("the program does not read its input")
 
 
 def works(function, *arguments):
@@ -51,11 +70,13 @@ def check(what, problems):
 
 
 def left_out(what, why):
-    """Prints that this is not tried on this machine. That is no failure."""
+    """Prints that this is not tried on this machine, and counts it. That is no failure, unless more is left out than MOST_LEFT_OUT says."""
+    global omitted
+    omitted += 1
     tell(f"left out: {what}, since {why}")
 
 
 def end():
     """Prints the last line of the script, and ends the script."""
-    tell(f"{passed} passed, {failed} failed")
-    sys.exit(failed != 0)
+    tell(f"{passed} passed, {failed} failed" + (f", {omitted} left out" if omitted else ""))
+    sys.exit(failed != 0 or omitted > int(os.environ.get("MOST_LEFT_OUT", omitted)))

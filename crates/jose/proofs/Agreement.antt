@@ -7,8 +7,7 @@ use Rattle.octets.specs.Outcomes.{◌>>=◌, needs, is_external, AgreesUnlessExt
 use Rattle.octets.specs.Code.Results.{is_memory, accepted}
 use Rattle.octets.specs.Plan.{OutputTexts, nothing, Plan, plan_map, plan_from, begun, beginning_of, without_content}
 use Rattle.octets.proofs.Lemmas.{AgreesUnlessExternal-map}
-use Rattle.keys.specs.Generating.{MadeKey, made_key, key_text}
-use Rattle.keys.specs.Code.Made.{gen_answer}
+use Rattle.keys.specs.Generating.{MadeKey, made_key, key_text, gen_answer}
 use Rattle.keys.specs.Limits.{limits}
 use Rattle.jose.specs.Ports.{as_text, as_content}
 use Rattle.jose.specs.Jwk.{making}

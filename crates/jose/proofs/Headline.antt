@@ -26,8 +26,8 @@ use Rattle.tokens.specs.Signing as signing
 use Rattle.tokens.specs.Verifying.{may_verify, verifies, are_verified, verified_payload, verifying_by, SignedVerifies}
 use Rattle.tokens.proofs.Lemmas.{handed_back}
 use Rattle.jose.specs.Headline.{EncryptedIsDecrypted, SignedIsVerified, GoesToCompactForm, FormatsGoBack}
-use Rattle.jose.specs.Jwe.{jwe_fmt_answer}
-use Rattle.jose.specs.Jws.{jws_fmt_answer}
+use Rattle.tokens.specs.Jwe.{jwe_fmt_answer}
+use Rattle.tokens.specs.Jws.{jws_fmt_answer}
 
 -- ---- encrypted texts are decrypted
 

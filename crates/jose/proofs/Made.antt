@@ -9,7 +9,7 @@ use Rattle.octets.specs.Outcomes.{AgreesUnlessExternal}
 use Rattle.octets.specs.Plan.{drawn_of}
 use Rattle.octets.specs.Code.Results.{accepted}
 use Rattle.octets.proofs.Lemmas.{AppendsPrefixOf-none, on_success, on_refusal, planned_without_content, seen_possible}
-use Rattle.keys.specs.Code.Made.{gen_answer}
+use Rattle.keys.specs.Generating.{gen_answer}
 use Rattle.keys.specs.Limits.{limits}
 use Rattle.jose.specs.declared.commands.WholeInputs.{WholeInputs}
 use Rattle.jose.specs.declared.ports.Inputs.{Inputs}

@@ -9,7 +9,7 @@ use Rattle.octets.proofs.Lemmas.{AppendsPrefixOf-kept}
 use Rattle.keys.specs.Limits.{limits}
 use Rattle.jose.specs.declared.ports.Inputs.{Inputs}
 use Rattle.jose.specs.declared.ports.Outputs.{Outputs}
-use Rattle.jose.specs.Jws.{ver_answer}
+use Rattle.tokens.specs.Jws.{ver_answer}
 use Rattle.jose.specs.Ports.{on_content, output_counts}
 use Rattle.jose.specs.Code.Doing.{InputMembers, OutputMembers, seen_of, Does}
 use Rattle.jose.specs.Invocations.{InvocationView}

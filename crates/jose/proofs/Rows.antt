@@ -12,9 +12,9 @@ use Rattle.keys.specs.Limits.{limits}
 use Rattle.jose.specs.declared.words.table.Command.{Command}
 use Rattle.jose.specs.declared.words.table.Command.TheVariants.{JwkThp, JwsSig, JwsVer, JwsFmt, JweEnc, JweDec, JweFmt}
 use Rattle.jose.specs.Invocations.{InvocationView, Settings, value_at, hash_asked}
-use Rattle.jose.specs.Jwk.{thp_answer}
-use Rattle.jose.specs.Jwe.{dec_answer, jwe_fmt_answer}
-use Rattle.jose.specs.Jws.{ver_answer, jws_fmt_answer}
+use Rattle.keys.specs.Thumbprints.{thp_answer}
+use Rattle.tokens.specs.Jwe.{dec_answer, jwe_fmt_answer}
+use Rattle.tokens.specs.Jws.{ver_answer, jws_fmt_answer}
 use Rattle.jose.specs.Ports.{on_text, on_content}
 use Rattle.jose.proofs.Doing.{IsWhole}
 use Rattle.jose.proofs.Streamed.{IsStreamer}

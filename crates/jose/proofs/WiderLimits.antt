@@ -23,8 +23,8 @@ use Rattle.tokens.specs.Encrypting.{random_len, sealing_by, sealed_by, parts_by,
 use Rattle.tokens.specs.EncryptionTemplate.{EncryptionTemplate, encryption_template}
 use Rattle.tokens.specs.Template.{is_shallow}
 use Rattle.tokens.proofs.Lemmas.{all_pass_other}
-use Rattle.jose.specs.Jwe.{enc_answer, jwe_fmt_answer}
-use Rattle.jose.specs.Jws.{jws_fmt_answer}
+use Rattle.tokens.specs.Jwe.{enc_answer, jwe_fmt_answer}
+use Rattle.tokens.specs.Jws.{jws_fmt_answer}
 use Rattle.jose.proofs.Headline.{ReadsAlike}
 use Rattle.jose.specs.WiderLimits.{AreWider, StaysUnlessLimit, ReadsAsBefore, IsCounted, EncryptsAsBefore}
 

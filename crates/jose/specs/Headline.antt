@@ -13,8 +13,8 @@ use Rattle.objects.specs.Jwe.{EncryptedObject, jwe_of}
 use Rattle.objects.specs.Jws.{SignedObject, jws_of}
 use Rattle.objects.specs.Texts.{handed_in, AreOctetsHandedIn}
 use Rattle.tokens.specs.Encrypting.{MayDecrypt, OpensNoOther}
-use Rattle.jose.specs.Jwe.{enc_answer, dec_answer}
-use Rattle.jose.specs.Jws.{sig_answer, ver_answer}
+use Rattle.tokens.specs.Jwe.{enc_answer, dec_answer}
+use Rattle.tokens.specs.Jws.{sig_answer, ver_answer}
 
 -- ---- `jwe enc` and `jwe dec` (RFC 7516 sections 5.1 and 5.2)
 

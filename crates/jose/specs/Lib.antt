@@ -1,9 +1,5 @@
 -- The definitions, in reading order (docs/AUDIT.md).
--- the answers about signed objects
-pub mod Jws
--- the answers about encrypted objects
-pub mod Jwe
--- the answers about keys
+-- the draft of a made key
 pub mod Jwk
 -- the devices of a run
 pub mod Ports

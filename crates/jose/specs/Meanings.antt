@@ -12,9 +12,10 @@ use Rattle.jose.specs.declared.words.table.Command.{Command}
 use Rattle.jose.specs.declared.words.table.Command.TheVariants.{JwkGen, JwkThp, B64Enc, B64Dec, JwsSig, JwsVer, JwsFmt, JweEnc, JweDec, JweFmt}
 use Rattle.jose.specs.Invocations.{Settings, value_at, hash_asked}
 use Rattle.jose.specs.Ports.{as_text, as_content, on_text, on_content}
-use Rattle.jose.specs.Jwk.{making, thp_answer}
-use Rattle.jose.specs.Jwe.{enc_answer, dec_answer, jwe_fmt_answer}
-use Rattle.jose.specs.Jws.{sig_answer, ver_answer, jws_fmt_answer}
+use Rattle.jose.specs.Jwk.{making}
+use Rattle.keys.specs.Thumbprints.{thp_answer}
+use Rattle.tokens.specs.Jwe.{enc_answer, dec_answer, jwe_fmt_answer}
+use Rattle.tokens.specs.Jws.{sig_answer, ver_answer, jws_fmt_answer}
 
 -- ---- the options (docs/SPECIFICATION.md "Commands")
 

@@ -17,21 +17,21 @@ use Rattle.jose.specs.Answer.{Answers}
 use Rattle.jose.specs.Files.{AreNewInputs, AreNewOutputs}
 
 -- a run of the invocation over the devices that it names, none of which was read from or written to before
-pub record IsRun (R F D : Type 0) (invocation : InvocationView) (result : Result (Unit {0}) Refusal) : Type 0 where
-  pub inputs : Inputs (ReaderInput (Source R F D))
-  pub outputs : Outputs (WriterOutput (Sink R F D))
-  pub inputs_after : Inputs (ReaderInput (Source R F D))
-  pub outputs_after : Outputs (WriterOutput (Sink R F D))
+pub record IsRun (R U F : Type 0) (invocation : InvocationView) (result : Result (Unit {0}) Refusal) : Type 0 where
+  pub inputs : Inputs (ReaderInput (Source R F))
+  pub outputs : Outputs (WriterOutput (Sink R U F))
+  pub inputs_after : Inputs (ReaderInput (Source R F))
+  pub outputs_after : Outputs (WriterOutput (Sink R U F))
   pub new_inputs : AreNewInputs invocation inputs
   pub new_outputs : AreNewOutputs invocation outputs
   pub answer : Answers invocation (observed_inputs consumed_of is_at_end_of inputs inputs_after) (written_texts written_of outputs outputs_after) result
   pub faults : TellsFaults (input_counts read_failures_of inputs inputs_after) (output_counts write_failures_of outputs outputs_after) result
 
 -- Words that are not a command are refused as `parse` refuses them. Words that are a command are run.
-abbrev pub Serves : (R F D : Type 0) → List Text → Result (Unit {0}) Refusal → Type 0
-Serves R F D words result = MatchResult (invocation_of words) (λ invocation. IsRun R F D invocation result) (λ refusal. result ≡ Err refusal)
+abbrev pub Serves : (R U F : Type 0) → List Text → Result (Unit {0}) Refusal → Type 0
+Serves R U F words result = MatchResult (invocation_of words) (λ invocation. IsRun R U F invocation result) (λ refusal. result ≡ Err refusal)
 
 -- If the system refuses to return the arguments, its refusal is the result. Otherwise the words are the arguments after the program's name.
-abbrev pub Performs : (R F D : Type 0) → Result (List Text) Refusal → Result (Unit {0}) Refusal → Type 0
-Performs R F D (Err refusal) result = result ≡ Err refusal
-Performs R F D (Ok arguments) result = Serves R F D (drop 1 arguments) result
+abbrev pub Performs : (R U F : Type 0) → Result (List Text) Refusal → Result (Unit {0}) Refusal → Type 0
+Performs R U F (Err refusal) result = result ≡ Err refusal
+Performs R U F (Ok arguments) result = Serves R U F (drop 1 arguments) result

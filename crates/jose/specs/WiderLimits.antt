@@ -12,8 +12,8 @@ use Rattle.keys.specs.Limits.{Limits}
 use Rattle.objects.specs.Texts.{each}
 use Rattle.tokens.specs.Choosing.{RecipientKey, recipient_key_by, password_count, is_given}
 use Rattle.tokens.specs.EncryptionTemplate.{EncryptionTemplate, encryption_template}
-use Rattle.jose.specs.Jwe.{enc_answer, dec_answer, jwe_fmt_answer}
-use Rattle.jose.specs.Jws.{ver_answer, jws_fmt_answer}
+use Rattle.tokens.specs.Jwe.{enc_answer, dec_answer, jwe_fmt_answer}
+use Rattle.tokens.specs.Jws.{ver_answer, jws_fmt_answer}
 
 -- ---- the limits (docs/SPECIFICATION.md "Keys", "Objects", "Encrypting" and "Decrypting")
 

@@ -11,7 +11,6 @@ use Rattle.jose.specs.declared.words.table.Role.TheVariants.{Hash, Json, Keys, S
 use Rattle.jose.specs.Commands.{OptionEntry, CommandEntry, option, commands}
 use Rattle.jose.specs.Invocations.{InvocationView, Settings, value_at, hash_named}
 use Rattle.jose.specs.Reading.{settings_read}
-use Prim.Native.String.{String}
 
 abbrev pub is_input : Role → Bool
 is_input Json = true

@@ -1,7 +1,7 @@
 //! Files, the standard streams and the words themselves, as readers and writers. A file is opened at its first read. An output file is
-//! opened and truncated just before its first octet is written, or when it is finished without one. A file that is created for a secret is
-//! its owner's alone. An output is not opened if it is the file of the content that is read meanwhile, of the keys, or of the output that
-//! is written before it.
+//! opened and cut just before its first octet is written, or when it is finished without one. A file that is created for a secret is its
+//! owner's alone. An output is not cut if it is the file of the content that is read meanwhile, of the keys, or of the output that is
+//! written before it.
 ghost use Rattle.std.specs.Prelude.{◌≡◌, ℕ, ◌<◌, ◌++◌, ◌⊎◌, false, true, List, length, map, take, drop, min, option_map, OnOk, IfOk, IfErr, Ok, Err};
 ghost use Rattle.std.specs.Result.{result_unwrap_or};
 ghost use Rattle.std.specs.Io.{ReadsAtMost, WritesAtMost};
@@ -9,26 +9,20 @@ ghost use Rattle.std.specs.Io.KnownBytes.{Keeps, ReadConsumes, WriteAppends};
 ghost use Rattle.jose.specs.Invocations.{invocation_view};
 ghost use Rattle.jose.specs.Code.Rows.{entry_of};
 ghost use Rattle.jose.specs.Files.{words, origin_of, origin_named, origin_at, after_read, source_remaining, IsOpenSource, IsUnopenedSource, file_of, AreNewInputs};
-ghost use Rattle.jose.specs.System.{MayBeOne, IsApart, IsNotApart, MayBeSynchronized, CannotBeSynchronized, name_of};
-ghost use Rattle.jose.specs.Files.{nowhere, destination_of, destination_at, sink_contents, IsOpenSink, IsUnopenedSink, IsKept, mode_for, purpose_of, others_of, file_written, AreNewOutputs};
+ghost use Rattle.jose.specs.System.{MayBeSynchronized, CannotBeSynchronized, place_view, places};
+ghost use Rattle.jose.specs.Files.{nowhere, destination_of, destination_at, sink_contents, IsOpenSink, IsUnopenedSink, IsKept, mode_for, purpose_of, file_written, AreNewOutputs};
 
+use crate::apart;
 use crate::ports::{Inputs, Outputs};
-use crate::system::System;
+use crate::system::{OutputName, Place, ReadFiles, System, WriteFiles};
 use crate::words::invocation::Invocation;
 use crate::words::table::{OptionRow, Role};
 use octets::{ReaderInput, WriterOutput};
-use std::fs::File;
 use std::io;
 use std::io::{Read, Stdin, Stdout, Write};
-use std::rt::Files;
 
 /// The file of random octets if `-R` names none.
 pub(crate) const SYSTEM_RANDOM: &str = "/dev/urandom";
-
-/// The files of the standard streams.
-const STANDARD_INPUT: &str = "/dev/stdin";
-
-const STANDARD_OUTPUT: &str = "/dev/stdout";
 
 /// The mode of a file that is created: readable and writable by its owner alone, or by everyone as far as the process's mask allows.
 const SECRET_MODE: u32 = 0o600;
@@ -37,7 +31,7 @@ const MODE: u32 = 0o666;
 
 /// The origin of the octets of an input.
 #[derive(Drop)]
-pub(crate) enum Source<'a, R: Files> {
+pub(crate) enum Source<'a, R: ReadFiles> {
     /// JSON that was given in the words, or nothing.
     Words(&'a [u8]),
     Standard(Stdin),
@@ -48,7 +42,7 @@ pub(crate) enum Source<'a, R: Files> {
     },
 }
 
-impl<'a, R: Files> Read for Source<'a, R> {
+impl<'a, R: ReadFiles> Read for Source<'a, R> {
     ghost remaining = { source_remaining R.File.remaining };
 
     fn read(&mut self, buf: &mut [u8]) -> io::Result<usize>
@@ -78,7 +72,7 @@ impl<'a, R: Files> Read for Source<'a, R> {
                 opened,
             } => {
                 if opened.is_none() {
-                    *opened = Some(File::open(*files, *path)?);
+                    *opened = Some(files.open(path)?);
                 }
                 match opened {
                     Some(file) => file.read(buf),
@@ -91,32 +85,20 @@ impl<'a, R: Files> Read for Source<'a, R> {
 
 /// The destination of the octets of an output.
 #[derive(Drop)]
-pub(crate) enum Sink<'a, R: Files> {
+pub(crate) enum Sink<'a, R: WriteFiles> {
     /// There is no such option. Everything that is written is accepted and discarded.
     Nowhere,
     Standard(Stdout),
     File(OutputFile<'a, R>),
 }
 
-/// A file that is opened and truncated when it is first written or flushed.
+/// A file that is opened and cut when it is first written or flushed.
 #[derive(Drop)]
-pub(crate) struct OutputFile<'a, R: Files> {
+pub(crate) struct OutputFile<'a, R: WriteFiles> {
     files: &'a R,
-    path: &'a str,
+    name: OutputName<'a>,
     purpose: Purpose,
-    apart: Apart<'a>,
     opened: Option<R::File>,
-}
-
-/// The files that an output file must not be, by whatever links.
-#[derive(Clone, Copy)]
-pub(crate) struct Apart<'a> {
-    /// The file of the content that is read while the output is written.
-    content: Option<&'a str>,
-    /// The file of the keys.
-    keys: Option<&'a str>,
-    /// The file of the output that is written before this one.
-    earlier_output: Option<&'a str>,
 }
 
 /// The purpose of an output file.
@@ -130,7 +112,7 @@ pub(crate) enum Purpose {
     Key,
 }
 
-impl<'a, R: System> Write for Sink<'a, R> {
+impl<'a, R: WriteFiles> Write for Sink<'a, R> {
     ghost contents = { sink_contents R.File.contents };
 
     fn write(&mut self, octets: &[u8]) -> io::Result<usize>
@@ -152,7 +134,7 @@ impl<'a, R: System> Write for Sink<'a, R> {
             Sink::Standard(stdout) => stdout.write(octets),
             Sink::File(output) => {
                 if output.opened.is_none() {
-                    output.opened = Some(output.create()?);
+                    output.opened = Some(apart::create(output.files, &output.name)?);
                 }
                 match &mut output.opened {
                     Some(file) => file.write(octets),
@@ -177,7 +159,7 @@ impl<'a, R: System> Write for Sink<'a, R> {
             Sink::Standard(stdout) => stdout.flush(),
             Sink::File(output) => {
                 if output.opened.is_none() {
-                    output.opened = Some(output.create()?);
+                    output.opened = Some(apart::create(output.files, &output.name)?);
                 }
                 match &mut output.opened {
                     Some(file) => {
@@ -194,35 +176,8 @@ impl<'a, R: System> Write for Sink<'a, R> {
     }
 }
 
-impl<'a, R: System> OutputFile<'a, R> {
-    /// Opens the file for writing and truncates it. If there is no such file, it is created: for its owner alone if it is for a secret, and
-    /// otherwise with the mode that the process's mask leaves. A file that it must not be is left as it is.
-    fn create(&self) -> io::Result<R::File>
-        ensures apart { OnOk result (IsApart (R.id_gives self.now.files.now) self.now.path.now (others_of self.now.apart)) }
-        ensures created { IfOk result (λ file.
-            R.create_gives self.now.files.now self.now.path.now (mode_for self.now.purpose) (Ok file)) }
-        ensures refused { IfErr result (λ e.
-            IsNotApart (R.id_gives self.now.files.now) self.now.path.now (others_of self.now.apart)
-            ⊎ R.create_gives self.now.files.now self.now.path.now (mode_for self.now.purpose) (Err e)) }
-    {
-        let others = [
-            self.apart.content,
-            self.apart.keys,
-            self.apart.earlier_output,
-        ];
-        if is_one_of(self.files, self.path, &others) {
-            return Err(io::Error::from(io::ErrorKind::ResourceBusy));
-        }
-        let mode = match self.purpose {
-            Purpose::Public => MODE,
-            Purpose::Secret | Purpose::Key => SECRET_MODE,
-        };
-        self.files.create(self.path, mode)
-    }
-}
-
 /// Asks the system to write the file to its disk. It is no failure if that is impossible, as with a pipe or a terminal.
-fn synchronize<R: System>(files: &R, file: &R::File) -> io::Result<()>
+fn synchronize<R: WriteFiles>(files: &R, file: &R::File) -> io::Result<()>
     ensures synchronized { OnOk result (MayBeSynchronized (R.sync_gives files.now file.now)) }
     ensures failed { IfErr result (λ e. R.sync_gives files.now file.now (Err e) × ¬ CannotBeSynchronized e) }
 {
@@ -234,34 +189,8 @@ fn synchronize<R: System>(files: &R, file: &R::File) -> io::Result<()>
     }
 }
 
-/// Whether the name is that of one of the other files, by whatever links.
-fn is_one_of<R: System>(files: &R, path: &str, others: &[Option<&str>]) -> bool
-    ensures apart { result ≡ false → IsApart (R.id_gives files.now) path.now (map name_of others.now) }
-    ensures one { result ≡ true → IsNotApart (R.id_gives files.now) path.now (map name_of others.now) }
-{
-    for other in others {
-        if are_one_file(files, path, *other) {
-            return true;
-        }
-    }
-    false
-}
-
-/// Whether both names are those of one regular file, by whatever links. They are not if either cannot be examined.
-fn are_one_file<R: System>(files: &R, path: &str, other: Option<&str>) -> bool
-    ensures { MayBeOne (R.id_gives files.now) path.now (name_of other.entry) result }
-{
-    let Some(other) = other else {
-        return false;
-    };
-    match (files.id(path), files.id(other)) {
-        (Some(file), Some(other)) => file == other,
-        _ => false,
-    }
-}
-
 /// The inputs that the options name. Without `-R` the random octets are those of the system.
-pub(crate) fn inputs<'a, R: Files>(
+pub(crate) fn inputs<'a, R: ReadFiles>(
     files: &'a R,
     standard: Stdin,
     invocation: &'a Invocation,
@@ -282,7 +211,7 @@ pub(crate) fn inputs<'a, R: Files>(
 }
 
 /// The input that the option names, if the command has the option.
-fn input_of<'a, R: Files>(
+fn input_of<'a, R: ReadFiles>(
     files: &'a R,
     standard: Stdin,
     option: Option<&OptionRow>,
@@ -303,7 +232,7 @@ fn input_of<'a, R: Files>(
     }
 }
 
-fn source_of<'a, R: Files>(
+fn source_of<'a, R: ReadFiles>(
     files: &'a R,
     standard: Stdin,
     value: Option<&'a str>,
@@ -337,46 +266,52 @@ pub(crate) fn outputs<'a, R: System>(
     let command = invocation.command;
     let text = command.option_at('o');
     let content = command.option_at('O');
-    let content_apart = Apart {
-        content: file_read(command.option_with(Role::Streamed), invocation),
-        keys: file_read(command.option_with(Role::Keys), invocation),
-        earlier_output: None,
-    };
-    let text_apart = Apart {
-        earlier_output: file_written(invocation.value('O')),
-        ..content_apart
-    };
+    let streamed = file_read(command.option_with(Role::Streamed), invocation);
+    let keys = file_read(command.option_with(Role::Keys), invocation);
+    let detached = file_written(invocation.value('O'));
+    let text_others = [streamed, keys, detached];
+    let content_others = [streamed, keys, None];
     Outputs {
-        text: WriterOutput::new(output_of(files, standard, text, invocation, text_apart)),
-        content: WriterOutput::new(output_of(files, standard, content, invocation, content_apart)),
+        text: WriterOutput::new(output_of(files, standard, text, invocation, text_others)),
+        content: WriterOutput::new(output_of(files, standard, content, invocation, content_others)),
     }
 }
 
-/// The output that the option names, if the command has the option.
-fn output_of<'a, R: Files>(
+/// The output that the option names, if the command has the option. It must be none of the other files.
+fn output_of<'a, R: System>(
     files: &'a R,
     standard: Stdout,
     option: Option<&OptionRow>,
     invocation: &'a Invocation,
-    apart: Apart<'a>,
+    others: [Option<Place<'a>>; 3],
 ) -> Sink<'a, R>
     ensures named { destination_of result
-        ≡ destination_at (entry_of option.entry) (others_of apart.entry) (invocation_view invocation.now).options }
+        ≡ destination_at (entry_of option.entry) (places others.entry) (invocation_view invocation.now).options }
     ensures unopened { IsUnopenedSink result }
 {
     let Some(OptionRow(letter, _, _, role)) = option else {
         return Sink::Nowhere;
     };
+    let purpose = purpose_of(*role);
     match invocation.value(*letter) {
         None => Sink::Nowhere,
         Some("-") => Sink::Standard(standard),
         Some(path) => Sink::File(OutputFile {
             files,
-            path,
-            purpose: purpose_of(*role),
-            apart,
+            name: files.output_name(path, mode_for(purpose), others),
+            purpose,
             opened: None,
         }),
+    }
+}
+
+/// The mode of a file that is created for this purpose.
+fn mode_for(purpose: Purpose) -> u32
+    ensures { result ≡ mode_for purpose }
+{
+    match purpose {
+        Purpose::Public => MODE,
+        Purpose::Secret | Purpose::Key => SECRET_MODE,
     }
 }
 
@@ -391,25 +326,26 @@ fn purpose_of(role: Role) -> Purpose
 }
 
 /// The file of the input that the option names. JSON in the words has no file.
-fn file_read<'a>(option: Option<&OptionRow>, invocation: &'a Invocation) -> Option<&'a str>
-    ensures { name_of result
+fn file_read<'a>(option: Option<&OptionRow>, invocation: &'a Invocation) -> Option<Place<'a>>
+    ensures { option_map place_view result
         ≡ file_of (origin_at (entry_of option.entry) (invocation_view invocation.now).options) }
 {
     let OptionRow(letter, _, _, role) = *option?;
     match invocation.value(letter) {
         None => None,
-        Some("-") => Some(STANDARD_INPUT),
+        Some("-") => Some(Place::StandardInput),
         Some(text) if role.is_json() && text.starts_with('{') => None,
-        Some(path) => Some(path),
+        Some(path) => Some(Place::Named(path)),
     }
 }
 
 /// The file of an output whose option has this value.
-fn file_written(value: Option<&str>) -> Option<&str>
-    ensures { name_of result ≡ file_written (name_of value.entry) }
+fn file_written(value: Option<&str>) -> Option<Place<'_>>
+    ensures { option_map place_view result ≡ file_written (option_map (λ text. text.now) value.entry) }
 {
     match value {
-        Some("-") => Some(STANDARD_OUTPUT),
-        named => named,
+        None => None,
+        Some("-") => Some(Place::StandardOutput),
+        Some(path) => Some(Place::Named(path)),
     }
 }

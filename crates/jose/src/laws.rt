@@ -7,8 +7,8 @@ ghost use Rattle.objects.specs.Jwe.{jwe_of};
 ghost use Rattle.objects.specs.Jws.{jws_of};
 ghost use Rattle.tokens.specs.Encrypting.{AreSound};
 ghost use Rattle.jose.specs.Headline.{EncryptedIsDecrypted, FormatsGoBack, GoesToCompactForm, SignedIsVerified};
-ghost use Rattle.jose.specs.Jwe.{jwe_fmt_answer};
-ghost use Rattle.jose.specs.Jws.{jws_fmt_answer};
+ghost use Rattle.tokens.specs.Jwe.{jwe_fmt_answer};
+ghost use Rattle.tokens.specs.Jws.{jws_fmt_answer};
 ghost use Rattle.jose.specs.WiderLimits.{AreWider, EncryptsAsBefore, ReadsAsBefore};
 
 use keys::laws::keys_have_octets;

@@ -9,8 +9,9 @@ ghost use Rattle.std.specs.Prelude.{◌≡◌, ◌⊎◌, List, map, string_byte
 ghost use Rattle.clap.specs.Words.{Text};
 ghost use Rattle.octets.specs.declared.refusal.Refusal.{Refusal as Cause};
 ghost use Rattle.jose.specs.Runs.{Performs, Serves};
-ghost use Rattle.jose.specs.System.{HoldsFirst, IsHeld};
+ghost use Rattle.jose.specs.System.{HoldsFirst, IsHeld, AreHeld};
 
+mod apart;
 mod commands;
 mod files;
 pub mod laws;
@@ -20,7 +21,7 @@ mod run;
 mod system;
 mod words;
 
-use crate::system::System;
+use crate::system::{ReadFiles, System};
 use octets::{Refusal, WriterOutput};
 pub use ports::{Inputs, Outputs};
 pub use report::report;
@@ -30,7 +31,6 @@ use std::io;
 use std::io::{Stdin, Stdout};
 use std::os::fd::AsRawFd;
 use std::process::ExitCode;
-use std::rt::Files;
 pub use words::invocation::{Invocation, Setting};
 pub use words::parse;
 pub use words::table::Command;
@@ -41,7 +41,7 @@ const FOLDERS: &[&str] = &["/", ".", "/dev", "/proc", "/etc", "/tmp"];
 /// Opens a folder and holds it, if it has the number of a closed standard stream. As long as it is held, nothing can be read or written
 /// there. Otherwise the next file that is opened would get the number, and would be read or written in place of the stream. Returns `None`
 /// if the lowest free number is none of the three, or if no folder can be opened.
-fn placeholder<S: System>(system: &S, folders: &[&str]) -> Result<Option<S::File>, Refusal>
+fn placeholder<S: ReadFiles>(system: &S, folders: &[&str]) -> Result<Option<S::File>, Refusal>
 where
     S::File: AsRawFd,
     ensures held { IfOk result (HoldsFirst (S.open_gives system.now) S.File.raw_fd (map (λ text. text.now) folders.now)) }
@@ -73,9 +73,9 @@ fn perform<S: System>(
 ) -> Result<(), Refusal>
 where
     S::File: AsRawFd,
-    ensures { result ≡ Err Refusal.Memory ⊎ ((args : Answer (List Text) Cause) × (S.args_gives system.now args × Performs S S.File S.Dir args result)) }
+    ensures { result ≡ Err Refusal.Memory ⊎ ((args : Answer (List Text) Cause) × (S.args_gives system.now args × Performs S S.Uncut S.File args result)) }
 {
-    let _in_place_of_closed_streams = (
+    let held = (
         placeholder(system, FOLDERS)?,
         placeholder(system, FOLDERS)?,
         placeholder(system, FOLDERS)?,
@@ -84,18 +84,22 @@ where
     let [_name, words @ ..] = args.as_slice() else {
         return Err(Refusal::Usage);
     };
-    serve(alloc, system, stdin, stdout, words)
+    serve(alloc, system, stdin, stdout, words, &held)
 }
 
-/// Does what the words ask, over files and the standard streams.
+/// Does what the words ask, over files and the standard streams. Meanwhile a folder is held in place of each closed stream.
 fn serve<S: System>(
     alloc: Global,
     files: &S,
     stdin: Stdin,
     stdout: Stdout,
     words: &[String],
+    _held: &(Option<S::File>, Option<S::File>, Option<S::File>),
 ) -> Result<(), Refusal>
-    ensures { result ≡ Err Refusal.Memory ⊎ Serves S S.File S.Dir (map string_bytes words.now) result }
+where
+    S::File: AsRawFd,
+    requires { AreHeld (S.open_gives files.now) S.File.raw_fd _held.now }
+    ensures { result ≡ Err Refusal.Memory ⊎ Serves S S.Uncut S.File (map string_bytes words.now) result }
 {
     let invocation = parse(alloc, words)?;
     let mut inputs = files::inputs(files, stdin, &invocation);

@@ -8,8 +8,7 @@ use Rattle.octets.specs.Devices.{Observed, IsPossibleInput}
 use Rattle.octets.specs.Outcomes.{◌>>=◌, needs, is_external, GivesUnlessExternal}
 use Rattle.octets.specs.Code.Results.{is_memory, AgreesUnlessMemory, IsDrawingFailure}
 use Rattle.keys.specs.Limits.{limits}
-use Rattle.keys.specs.Generating.{MadeKey, made_key, key_text}
-use Rattle.keys.specs.Code.Made.{gen_answer}
+use Rattle.keys.specs.Generating.{MadeKey, made_key, key_text, gen_answer}
 
 not_memory : (r : Refusal) → is_external r ≡ false → is_memory r ≡ false
 not_memory Memory h = cc h

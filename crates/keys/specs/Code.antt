@@ -1,5 +1,3 @@
 -- What contracts say of values and calls of the code.
 -- keys, sets and values
 pub mod Views
--- the text of a made key
-pub mod Made

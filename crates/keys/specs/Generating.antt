@@ -1,5 +1,5 @@
 -- Making keys from the members of a template and random octets (this profile's own rules).
-use Rattle.std.specs.Prelude.{ℕ, ◌&&◌, Bool, true, List, [], ◌∷◌, codes, nat_le, is_some, is_none, if◌then◌else◌, Option, Some, None, option_and_then, Result, Ok, Err}
+use Rattle.std.specs.Prelude.{ℕ, ◌&&◌, Bool, true, List, [], ◌∷◌, length, take, codes, nat_le, is_some, is_none, if◌then◌else◌, Option, Some, None, option_and_then, Result, Ok, Err}
 use Rattle.std.specs.Ordering.{nat_cmp, match_ordering}
 use Rattle.std.specs.Str.{bytes_eq}
 use Rattle.std.specs.Cmp.Lexicographic.{slice_cmp}
@@ -7,7 +7,7 @@ use Rattle.serde_json.specs.Data.{Data, Items, no_items, item, Members, no_membe
 use Rattle.serde_json.specs.Find.{get_member, as_object, as_number, as_u64}
 use Rattle.serde_json.specs.Written.{compact_text}
 use Rattle.octets.specs.declared.refusal.Refusal.{Refusal}
-use Rattle.octets.specs.declared.refusal.Refusal.TheVariants.{Key, Unsupported, NoAlgorithm, KeyDoesNotFit, Limit}
+use Rattle.octets.specs.declared.refusal.Refusal.TheVariants.{Key, Unsupported, NoAlgorithm, KeyDoesNotFit, Limit, Random}
 use Rattle.octets.specs.Outcomes.{◌>>=◌, needs}
 use Rattle.octets.specs.Base64url.{base64url}
 use Rattle.keys.specs.Json.{json_value}
@@ -145,3 +145,10 @@ made_key limits text = do
 -- the JSON text of the key with these octets (RFC 7518 section 6.4.1)
 abbrev pub key_text : MadeKey → List ℕ → List ℕ
 key_text made octets = compact_text (object (put (codes "k") (string (base64url octets)) made.members))
+
+-- the key's text, with the first octets of a random input
+unfoldable pub gen_answer : Limits → List ℕ → List ℕ → Result (List ℕ) Refusal
+gen_answer limits template random = do
+  made ← made_key limits template
+  enough ← needs (nat_le made.len (length random)) Random
+  Ok (key_text made (take made.len random))

@@ -10,10 +10,9 @@ ghost use Rattle.octets.specs.Devices.{appended, observed, IsPossibleInput};
 ghost use Rattle.octets.specs.Faults.{TellsFaults, counts};
 ghost use Rattle.octets.specs.Outcomes.{GivesUnlessExternal};
 ghost use Rattle.octets.specs.Code.Results.{Agrees, AgreesUnlessMemory};
-ghost use Rattle.keys.specs.Generating.{string_items, key_ops_of, with_operations, completed, key_text, made_key, MadeKey};
+ghost use Rattle.keys.specs.Generating.{string_items, key_ops_of, with_operations, completed, key_text, made_key, gen_answer, MadeKey};
 ghost use Rattle.keys.specs.Limits.{limits};
 ghost use Rattle.keys.specs.Code.Views.{plan_view};
-ghost use Rattle.keys.specs.Code.Made.{gen_answer};
 
 use crate::algorithm::NamedAlg;
 use crate::key_template::{alg_if_there, fitting_len, is_within_limit, read_template};
@@ -54,6 +53,7 @@ pub fn generate<R: Input>(alloc: Global, template: &[u8], random: &mut R) -> Res
     ensures at_most { (made : MadeKey) → made_key limits template.now ≡ Ok made
         → length (appended (R.consumed random.old) (R.consumed random.new)) ≤ made.len }
     ensures untouched { (refusal : Refusal) → made_key limits template.now ≡ Err refusal → random.new ≡ random.old }
+    ensures same_source { R.source random.new ≡ R.source random.old }
     ensures faults { TellsFaults (counts R.failures random.old random.new ∷ []) [] result }
 {
     let plan = plan_key(alloc, template)?;

@@ -38,4 +38,4 @@ pub use set::{KeySet, are_objects};
 pub use strict_json::{
     has_only, is_object, members_have_whole_numbers, nests_at_most, object_nests_at_most, read_json,
 };
-pub use thumbprints::thumbprint;
+pub use thumbprints::{text_thumbprints, thumbprint};

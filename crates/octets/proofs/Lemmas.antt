@@ -1,4 +1,4 @@
--- The lemmas of these proofs that the crates above cite.
+-- The lemmas of these proofs that the crates above cite, and those that docs/LIBRARY.md names for callers.
 pub use Rattle.octets.proofs.Meanings.{meaning_of_text, decodes_exactly}
 pub use Rattle.octets.proofs.Spared.{not_told, stands_first, not_begun}
 pub use Rattle.octets.proofs.Unread.{encoding_fixes_nothing, decoding_fixes_nothing, unread_untouched}
@@ -14,3 +14,4 @@ pub use Rattle.octets.proofs.Decoding.{cut, reading_starts, settling_grows, sett
 pub use Rattle.octets.proofs.Chunks.{chunk_is, length-chunk, chunk_octets, chunk_front, chunk_back, chunk_written, length-written, chunk_kept, chunk_more, chunks_joined, same_chunks, length-joined, chunk-joined}
 pub use Rattle.octets.proofs.Sums.{chunk_at}
 pub use Rattle.octets.proofs.Pumping.{behind_grows, behind_refused, behind_nothing, beginning_behind_nothing, keeps_up, passed_on, whole_stands}
+pub use Rattle.octets.proofs.Contents.{contents_possible}

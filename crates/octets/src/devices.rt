@@ -1,7 +1,7 @@
 //! Inputs and outputs. Each device counts its failures, and each output how often it was finished, up to 2^64 - 1.
-ghost use Rattle.std.specs.Prelude.{◌≡◌, ℕ, ◌<◌, ◌≤◌, Bool, false, List, ◌++◌, length, take, IfOk, IfErr, OnOk, OnErr, Ok, MatchResult, IsTrue};
+ghost use Rattle.std.specs.Prelude.{◌≡◌, ℕ, ◌<◌, ◌≤◌, Bool, false, List, ◌++◌, Option, Some, length, take, IfOk, IfErr, OnOk, OnErr, Ok, MatchResult, IsTrue};
 ghost use Rattle.std.specs.Iterator.{Count};
-ghost use Rattle.octets.specs.Devices.{next_count, ComesNearer, IsFinishedOnce};
+ghost use Rattle.octets.specs.Devices.{next_count, ComesNearer, IsFinishedOnce, IsPossibleInput};
 ghost use Rattle.octets.specs.Octets.{IsOctets};
 
 use crate::Fault;
@@ -20,6 +20,9 @@ pub trait Input {
     /// How often it has failed.
     ghost failures: { Self → ℕ };
 
+    /// All its octets, if they are known.
+    ghost source: { Self → Option (List ℕ) };
+
     /// Reads octets into the front of `buf` and returns how many. If `buf` has room, 0 is the end. A read that fails
     /// finds no end, and may leave anything in `buf`. A read without room does nothing.
     fn read(&mut self, buf: &mut [u8]) -> Result<usize, Fault>
@@ -32,6 +35,7 @@ pub trait Input {
         ensures nearer { MatchResult result
             (λ n. ComesNearer (remaining self.old) (remaining self.new) n)
             (λ _. ComesNearer (remaining self.old) (remaining self.new) 0) }
+        ensures same_source { source self.new ≡ source self.old }
         ensures works { OnOk result (failures self.new ≡ failures self.old) }
         ensures fails { IfErr result (λ e. (e ≡ Fault.Reading)
             × (consumed self.new ≡ consumed self.old)
@@ -40,6 +44,10 @@ pub trait Input {
 
     /// What was read from it is octets.
     ghost gives_octets: { (input : Self) → IsOctets (consumed input) };
+
+    /// If its octets are known, what was read from it is a beginning of them, and all of them at the end.
+    ghost gives_source: { (input : Self) (octets : List ℕ) → source input ≡ Some octets
+        → IsPossibleInput (record { octets = consumed input; ended = is_at_end input }) octets };
 }
 
 /// A destination of octets.

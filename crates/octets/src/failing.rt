@@ -80,7 +80,8 @@ impl<'a> FailingInput<'a> {
 }
 
 impl<'a> Input for FailingInput<'a> {
-    ghost use Rattle.octets.specs.Code.FailingDevices.{input_contents, input_consumed, input_is_at_end, input_remaining, input_failures, input_course};
+    ghost use Rattle.octets.specs.Code.FailingDevices.{input_contents, input_consumed, input_is_at_end, input_remaining, input_failures, input_source, input_course};
+    ghost use Rattle.octets.specs.Code.Views.{source_is_given};
 
     ghost consumed = { input_consumed };
 
@@ -90,7 +91,11 @@ impl<'a> Input for FailingInput<'a> {
 
     ghost failures = { input_failures };
 
+    ghost source = { input_source };
+
     ghost gives_octets = { λ s. s.input.fronts_are_octets s.input.position };
+
+    ghost gives_source = { λ s. source_is_given s.input };
 
     fn read(&mut self, buf: &mut [u8]) -> Result<usize, Fault>
         ensures due { 0 < length buf.old → (fails_next (input_course self.old) ≡ true) ↔ (result ≡ Err Fault.Reading) }
@@ -114,6 +119,7 @@ impl<'a> Input for FailingInput<'a> {
         ensures nearer { MatchResult result
             (λ n. ComesNearer (input_remaining self.old) (input_remaining self.new) n)
             (λ _. ComesNearer (input_remaining self.old) (input_remaining self.new) 0) }
+        ensures same_source { input_source self.new ≡ input_source self.old }
         ensures works { OnOk result (input_failures self.new ≡ input_failures self.old) }
         ensures fails { IfErr result (λ e. (e ≡ Fault.Reading)
             × (input_consumed self.new ≡ input_consumed self.old)

@@ -2,7 +2,7 @@
 ghost use Rattle.std.specs.Prelude.{◌≡◌, ℕ, ◌↔◌, ◌+◌, ◌<◌, ◌≤◌, [], ◌++◌, length, take, drop, IfOk, IfErr, IsOk, IsErr, IsTrue, OnOk, OnErr, Ok, MatchResult, true, false};
 ghost use Rattle.octets.specs.Devices.{next_count, ComesNearer, IsFinishedOnce};
 ghost use Rattle.octets.specs.Octets.{IsOctets};
-ghost use Rattle.octets.specs.Code.Views.{front_of, is_read, rest_of, failures_of, read_count, write_count};
+ghost use Rattle.octets.specs.Code.Views.{front_of, is_read, rest_of, failures_of, source_of, source_is_given, read_count, write_count};
 
 use crate::devices::count_one;
 use crate::laws::are_octets;
@@ -56,7 +56,11 @@ impl<'a> Input for MemoryInput<'a> {
 
     ghost failures = { failures_of };
 
+    ghost source = { source_of };
+
     ghost gives_octets = { λ c. c.fronts_are_octets c.position };
+
+    ghost gives_source = { source_is_given };
 
     fn read(&mut self, buf: &mut [u8]) -> Result<usize, Fault>
         ensures count { result ≡ Ok (read_count self.old (length buf.old)) }
@@ -74,6 +78,7 @@ impl<'a> Input for MemoryInput<'a> {
         ensures nearer { MatchResult result
             (λ n. ComesNearer (rest_of self.old) (rest_of self.new) n)
             (λ _. ComesNearer (rest_of self.old) (rest_of self.new) 0) }
+        ensures same_source { source_of self.new ≡ source_of self.old }
         ensures works { OnOk result (failures_of self.new ≡ failures_of self.old) }
         ensures fails { IfErr result (λ e. (e ≡ Fault.Reading)
             × (front_of self.new ≡ front_of self.old)

@@ -52,7 +52,7 @@ impl<R: Read> ReaderInput<R> {
 }
 
 impl<R: Read> Input for ReaderInput<R> {
-    ghost use Rattle.octets.specs.Code.Views.{reader_of, consumed_of, is_at_end_of, remaining_of, read_failures_of};
+    ghost use Rattle.octets.specs.Code.Views.{reader_of, consumed_of, is_at_end_of, remaining_of, read_failures_of, unknown_source, nothing_is_known};
 
     ghost consumed = { consumed_of };
 
@@ -62,7 +62,11 @@ impl<R: Read> Input for ReaderInput<R> {
 
     ghost failures = { read_failures_of };
 
+    ghost source = { unknown_source };
+
     ghost gives_octets = { λ input. input.known };
+
+    ghost gives_source = { nothing_is_known };
 
     fn read(&mut self, buf: &mut [u8]) -> Result<usize, Fault>
         // If the octets of the reader are known, these are read, and the end is that of the reader.
@@ -82,6 +86,7 @@ impl<R: Read> Input for ReaderInput<R> {
         ensures nearer { MatchResult result
             (λ n. ComesNearer (remaining_of self.old) (remaining_of self.new) n)
             (λ _. ComesNearer (remaining_of self.old) (remaining_of self.new) 0) }
+        ensures same_source { unknown_source self.new ≡ unknown_source self.old }
         ensures works { OnOk result (read_failures_of self.new ≡ read_failures_of self.old) }
         ensures fails { IfErr result (λ e. (e ≡ Fault.Reading)
             × (consumed_of self.new ≡ consumed_of self.old)

@@ -70,6 +70,7 @@ pub fn pump<I: Input, T: Transform, O: Output>(
 ) -> Result<T::Rest, Refusal>
     requires { IsFinite (I.remaining content.old) }
     ensures no_memory { IfErr result (λ e. e ≢ Refusal.Memory) }
+    ensures same_source { I.source content.new ≡ I.source content.old }
     ensures ends { OnOk result (IsTrue (I.is_at_end content.new)) }
     ensures answer { (job : T.Job) (whole : List ℕ) → T.is_fed transform job []
         → IsPossibleInput (observed I.consumed I.is_at_end content.old content.new) whole

@@ -16,6 +16,7 @@ pub fn read_to_end<I: Input>(alloc: Global, input: &mut I) -> Result<Vec<u8>, Re
     requires { IsFinite (I.remaining input.old) }
     ensures whole { IfOk result (λ octets. (I.consumed input.new ≡ I.consumed input.old ++ octets.items)
         × IsTrue (I.is_at_end input.new)) }
+    ensures same_source { I.source input.new ≡ I.source input.old }
     ensures works { OnOk result (I.failures input.new ≡ I.failures input.old) }
     ensures fails { IfErr result (IsReadingFailure (I.failures input.old) (I.failures input.new)) }
     ensures extends { Extends (I.consumed input.old) (I.consumed input.new) }
@@ -41,6 +42,7 @@ pub(crate) fn read_piece<I: Input>(content: &mut I, buf: &mut [u8; PIECE]) -> Re
     ensures end { result ≡ Ok 0 → IsTrue (I.is_at_end content.new) }
     ensures nearer { IsFinite (I.remaining content.new)
         × IfOk result (λ n. 0 < n → size (I.remaining content.new) < size (I.remaining content.old)) }
+    ensures same_source { I.source content.new ≡ I.source content.old }
     ensures works { OnOk result (I.failures content.new ≡ I.failures content.old) }
     ensures cause { OnErr result (result ≡ Err Refusal.Read) }
     ensures fails { OnErr result ((I.consumed content.new ≡ I.consumed content.old)
@@ -58,6 +60,7 @@ pub fn draw<I: Input>(random: &mut I, out: &mut [u8]) -> Result<(), Refusal>
     ensures octets { OnOk result (I.consumed random.new ≡ I.consumed random.old ++ out.new) }
     ensures taken { let drawn = appended (I.consumed random.old) (I.consumed random.new)
         in out.new ≡ drawn ++ drop (length drawn) out.old }
+    ensures same_source { I.source random.new ≡ I.source random.old }
     ensures works { OnOk result (I.failures random.new ≡ I.failures random.old) }
     ensures fails { IfErr result (IsDrawingFailure (length out.old)
         (observed I.consumed I.is_at_end random.old random.new)

@@ -19,6 +19,10 @@ pub mod Delivering
 pub mod Encrypting
 -- decrypting
 pub mod Decrypting
+-- the answers about signed objects
+pub mod Jws
+-- the answers about encrypted objects
+pub mod Jwe
 -- the limits and algorithms of earlier versions
 pub mod MoreAlgorithms
 -- that the rows of keys and ciphers agree

@@ -135,6 +135,7 @@ pub fn jwe_encrypt<I: Input, O: Output>(
     ensures unread { IfErr result (λ refusal. appended (I.consumed content.old) (I.consumed content.new) ≡ []
         → (DidNotFail refusal (counts O.failures out.old out.new) → out.new ≡ out.old)
         × IfLent (lent detached.entry detached.exit) (λ old new. refusal ≢ Refusal.Write → new ≡ old)) }
+    ensures same_source { (I.source random.new ≡ I.source random.old) × (I.source content.new ≡ I.source content.old) }
     ensures faults { TellsFaults (counts I.failures random.old random.new ∷ counts I.failures content.old content.new ∷ [])
         (counts O.failures out.old out.new ∷ counts_of O.failures (lent detached.entry detached.exit)) result }
 {
@@ -183,6 +184,7 @@ fn prepare<I: Input>(
         ≤ drawn_of (enc_plan limits compact detach keys.now template.now) }
     ensures template_first { (refusal : Refusal) → enc_plan limits compact detach keys.now template.now ≡ Err refusal
         → IsErr result × (random.new ≡ random.old) }
+    ensures same_source { I.source random.new ≡ I.source random.old }
     ensures faults { TellsFaults (counts I.failures random.old random.new ∷ []) [] result }
 {
     let encryption = read_encryption(alloc, keys, template, compact)?;

@@ -62,6 +62,7 @@ where
     ensures uncut { IfErr result (λ refusal. DidNotFail refusal (counts O.failures out.old out.new) → O.written out.new ≡ O.written out.old → out.new ≡ out.old) }
     ensures unread { IfErr result (λ refusal. appended (I.consumed content.old) (I.consumed content.new) ≡ []
         → DidNotFail refusal (counts O.failures out.old out.new) → out.new ≡ out.old) }
+    ensures same_source { I.source content.new ≡ I.source content.old }
     ensures no_memory { IfErr result (λ refusal. refusal ≢ Refusal.Memory) }
     ensures faults { TellsFaults (counts I.failures content.old content.new ∷ []) (counts O.failures out.old out.new ∷ []) result }
 {
@@ -106,6 +107,7 @@ where
         × ((texts : OutputTexts) × (plan.whole (appended (I.consumed content.old) (I.consumed content.new)) ≡ Ok texts) × (O.written detached.new ≡ O.written detached.old ++ texts.content)))) }
     ensures unread { IfErr result (λ refusal. appended (I.consumed content.old) (I.consumed content.new) ≡ []
         → (DidNotFail refusal (counts O.failures out.old out.new) → out.new ≡ out.old) × (refusal ≢ Refusal.Write → detached.new ≡ detached.old)) }
+    ensures same_source { I.source content.new ≡ I.source content.old }
     ensures no_memory { IfErr result (λ refusal. refusal ≢ Refusal.Memory) }
     ensures faults { TellsFaults (counts I.failures content.old content.new ∷ []) (counts O.failures out.old out.new ∷ counts O.failures detached.old detached.new ∷ []) result }
 {

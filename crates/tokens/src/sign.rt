@@ -96,6 +96,7 @@ pub fn jws_sign<I: Input, O: Output>(
     ensures unread { IfErr result (λ refusal. appended (I.consumed content.old) (I.consumed content.new) ≡ []
         → (DidNotFail refusal (counts O.failures out.old out.new) → out.new ≡ out.old)
         × IfLent (lent detached.entry detached.exit) (λ old new. refusal ≢ Refusal.Write → new ≡ old)) }
+    ensures same_source { I.source content.new ≡ I.source content.old }
     ensures faults { TellsFaults (counts I.failures content.old content.new ∷ [])
         (counts O.failures out.old out.new ∷ counts_of O.failures (lent detached.entry detached.exit)) result }
 {

@@ -150,6 +150,7 @@ pub(crate) fn take_content<S: SigningInput, I: Input>(
     ensures taken { (starts : List InputStart) → HoldEach S.has_taken inputs.old starts []
         → OnOk result (HoldEach S.has_taken inputs.new starts (base64url (appended (I.consumed content.old) (I.consumed content.new)))) }
     ensures ends { OnOk result (IsTrue (I.is_at_end content.new)) }
+    ensures same_source { I.source content.new ≡ I.source content.old }
     ensures cause { OnErr result (result ≡ Err Refusal.Read) }
     ensures faults { TellsFaults (counts I.failures content.old content.new ∷ []) [] result }
 {

@@ -6,10 +6,10 @@ use Rattle.jose.specs.Runs.{Serves}
 use Rattle.jose.proofs.perform.Goals as goal
 
 -- Without arguments there are no words, and so there is no command: the refusal is Usage.
-nothing_is_asked : (R F D : Type 0) {A : Type 0} (text : A → Text) (args : List A) → length args < 1 → Serves R F D (drop 1 (map text args)) (Err Usage)
+nothing_is_asked : (R U F : Type 0) {A : Type 0} (text : A → Text) (args : List A) → length args < 1 → Serves R U F (drop 1 (map text args)) (Err Usage)
 unfolding invocation_of
-nothing_is_asked R F D text [] below = refl
-nothing_is_asked R F D text (arg ∷ args) below = absurd (omega (arith, below))
+nothing_is_asked R U F text [] below = refl
+nothing_is_asked R U F text (arg ∷ args) below = absurd (omega (arith, below))
 
 pub returns-in_default : goal.returns-in_default
 returns-in_default g c =

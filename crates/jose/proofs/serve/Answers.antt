@@ -9,11 +9,11 @@ use Rattle.jose.specs.Runs.{Serves}
 use Rattle.jose.proofs.serve.Goals as goal
 
 -- A refusal of `parse` is Memory or the refusal of the words.
-refused : (R F D : Type 0) (words : List Text) (refusal : Refusal) (result : Result (Unit {0}) Refusal) → result ≡ Err refusal
+refused : (R U F : Type 0) (words : List Text) (refusal : Refusal) (result : Result (Unit {0}) Refusal) → result ≡ Err refusal
     → (is_memory refusal ≡ false → (invocation_of words ≡ Err refusal) × (is_external refusal ≡ false))
-    → (result ≡ Err Memory) ⊎ Serves R F D words result
-refused R F D words Memory result is agrees = inl is
-refused R F D words refusal result is agrees = inr (rw (agrees refl).0 is)
+    → (result ≡ Err Memory) ⊎ Serves R U F words result
+refused R U F words Memory result is agrees = inl is
+refused R U F words refusal result is agrees = inr (rw (agrees refl).0 is)
 
 pub returns-in_err-invocation : goal.returns-in_err-invocation
 returns-in_err-invocation g c =

@@ -6,7 +6,7 @@ ghost use Rattle.objects.specs.Code.Views.{jwe_view};
 ghost use Rattle.jose.specs.declared.words.table.Command.{Command};
 ghost use Rattle.jose.specs.Code.Doing.{Does, WritesWhole, input_members, output_members, object_texts};
 ghost use Rattle.jose.specs.Invocations.{invocation_view};
-ghost use Rattle.jose.specs.Jwe.{dec_answer, jwe_fmt_answer};
+ghost use Rattle.tokens.specs.Jwe.{dec_answer, jwe_fmt_answer};
 ghost use Rattle.jose.specs.Ports.{AreFinite, on_content};
 
 use crate::commands::{WholeInputs, read_inputs, write_object};
@@ -132,7 +132,7 @@ fn write_formed<O: Output>(
 }
 
 /// The object of the text, and its text in the form that is asked for.
-#[tactic(auto, unfolding(crate::specs::Jwe::jwe_fmt_answer))]
+#[tactic(auto, unfolding(tokens::specs::Jwe::jwe_fmt_answer))]
 fn formed(
     alloc: Global,
     text: &[u8],

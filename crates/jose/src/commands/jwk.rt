@@ -1,24 +1,23 @@
 //! The commands `jwk gen` and `jwk thp`, from devices to devices.
-ghost use Rattle.std.specs.Prelude.{◌≡◌, true, false, ◌≢◌, ◌≤◌, ℕ, List, [], ◌∷◌, Err, length, map, string_bytes, OnOk, OnErr, IfOk, IfErr};
+ghost use Rattle.std.specs.Prelude.{◌≡◌, true, false, ◌≢◌, ◌≤◌, ℕ, List, [], ◌∷◌, Err, length, OnOk, OnErr, IfOk, IfErr};
 ghost use Rattle.octets.specs.Devices.{appended, observed, IsPossibleInput, AppendsPrefixOf, IsFinishedOnce};
 ghost use Rattle.octets.specs.declared.refusal.Refusal.{Refusal};
 ghost use Rattle.octets.specs.Faults.{TellsFaults, counts};
 ghost use Rattle.octets.specs.Outcomes.{AgreesUnlessExternal};
-ghost use Rattle.octets.specs.Code.Results.{AgreesUnlessMemory, accepted};
+ghost use Rattle.octets.specs.Code.Results.{accepted};
 ghost use Rattle.octets.specs.Plan.{drawn_of};
 ghost use Rattle.keys.specs.Limits.{limits};
-ghost use Rattle.keys.specs.Code.Views.{key_view};
-ghost use Rattle.keys.specs.Code.Made.{gen_answer};
+ghost use Rattle.keys.specs.Generating.{gen_answer};
+ghost use Rattle.keys.specs.Thumbprints.{thp_answer};
 ghost use Rattle.jose.specs.declared.words.table.Command.{Command};
 ghost use Rattle.jose.specs.Code.Doing.{Does, WritesWhole, input_members, output_members};
 ghost use Rattle.jose.specs.Invocations.{invocation_view};
-ghost use Rattle.jose.specs.Jwk.{making, thp_answer, thumbprint_lines};
+ghost use Rattle.jose.specs.Jwk.{making};
 ghost use Rattle.jose.specs.Ports.{AreFinite, on_text};
 
 use crate::commands::read_inputs;
 use crate::ports::{Inputs, Outputs};
 use crate::words::invocation::Invocation;
-use keys::{Key, KeySet, thumbprint};
 use octets::{Input, Output, Refusal, emit};
 use prf::HashAlg;
 use std::alloc::Global;
@@ -85,27 +84,6 @@ fn write_thumbprints<O: Output>(
 ) -> Result<(), Refusal>
     ensures { WritesWhole (output_members O.written O.is_finished O.endings O.failures) true false (on_text (thp_answer hash text.now)) outputs.old outputs.new result }
 {
-    let lines = text_thumbprints(alloc, text, hash)?;
+    let lines = keys::text_thumbprints(alloc, text, hash)?;
     emit(&mut outputs.text, lines.as_bytes())
-}
-
-/// The thumbprints of the good keys of a text. A bad key of a set is passed over.
-#[tactic(auto, unfolding(crate::specs::Jwk::thp_answer))]
-fn text_thumbprints(alloc: Global, text: &[u8], hash: HashAlg) -> Result<String, Refusal>
-    ensures { AgreesUnlessMemory string_bytes result (thp_answer hash text.now) }
-{
-    let set = KeySet::read(alloc, text, false)?;
-    thumbprint_lines(alloc, set.keys(), hash)
-}
-
-/// The thumbprints of the keys, with a line feed between each two.
-fn thumbprint_lines(alloc: Global, keys: &[Key], hash: HashAlg) -> Result<String, Refusal>
-    ensures text { IfOk result (λ text. string_bytes text ≡ thumbprint_lines hash (map key_view keys.now)) }
-    ensures memory { IfErr result (λ e. e ≡ Refusal.Memory) }
-{
-    let mut lines = Vec::new(alloc);
-    for key in keys {
-        lines.push(thumbprint(alloc, key, hash)?)?;
-    }
-    Ok(lines.join(alloc, "\n")?)
 }

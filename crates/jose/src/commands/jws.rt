@@ -14,7 +14,7 @@ ghost use Rattle.tokens.specs.Verifying.{verifying_by};
 ghost use Rattle.jose.specs.declared.words.table.Command.{Command};
 ghost use Rattle.jose.specs.Code.Doing.{Does, WritesWhole, input_members, output_members, object_texts};
 ghost use Rattle.jose.specs.Invocations.{invocation_view};
-ghost use Rattle.jose.specs.Jws.{ver_answer, jws_fmt_answer};
+ghost use Rattle.tokens.specs.Jws.{ver_answer, jws_fmt_answer};
 ghost use Rattle.jose.specs.Ports.{AreFinite, on_content};
 
 use crate::commands::{WholeInputs, read_inputs, read_past, write_object};
@@ -209,7 +209,7 @@ fn write_formed<O: Output>(
 }
 
 /// The object of the text, and its text in the form that is asked for.
-#[tactic(auto, unfolding(crate::specs::Jws::jws_fmt_answer))]
+#[tactic(auto, unfolding(tokens::specs::Jws::jws_fmt_answer))]
 fn formed<'t>(
     alloc: Global,
     text: &'t [u8],

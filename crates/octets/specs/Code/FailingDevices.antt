@@ -1,10 +1,10 @@
 -- Devices over memory that fail, as clauses see them.
-use Rattle.std.specs.Prelude.{ℕ, Bool, List}
+use Rattle.std.specs.Prelude.{ℕ, Bool, List, Option}
 use Rattle.std.specs.Iterator.{Count}
 use Rattle.octets.specs.declared.failing.FailingInput.{FailingInput}
 use Rattle.octets.specs.declared.failing.FailingOutput.{FailingOutput}
 use Rattle.octets.specs.Code.Failing.{Course}
-use Rattle.octets.specs.Code.Views.{Contents, Store, front_of, is_read, rest_of}
+use Rattle.octets.specs.Code.Views.{Contents, Store, front_of, is_read, rest_of, source_of}
 
 -- ---- an input
 
@@ -23,6 +23,9 @@ input_remaining s = rest_of s.input
 
 abbrev pub input_failures : FailingInput → ℕ
 input_failures s = s.failures
+
+abbrev pub input_source : FailingInput → Option (List ℕ)
+input_source s = source_of s.input
 
 abbrev pub input_course : FailingInput → Course
 input_course s = record { failing = s.failing; calls = s.calls; passed = s.passed }

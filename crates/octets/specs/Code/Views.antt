@@ -1,7 +1,11 @@
 -- Devices as clauses see them.
-use Rattle.std.specs.Prelude.{ℕ, ◌-◌, ◌==◌, min, Bool, List, length, take}
+use Rattle.std.specs.Prelude.{◌≡◌, ℕ, ◌+◌, ◌-◌, ◌<◌, ◌==◌, get_or, min, Bool, List, length, take, drop, Option, Some, None}
 use Rattle.std.specs.Iterator.{Count, at_most}
+use Rattle.std.proofs.Common.{sym, ◌∙◌, ap, subst, arith}
+use Rattle.std.proofs.lemmas.Bool.{eqb-true}
+use Rattle.std.proofs.lemmas.List.{take-append-drop, take_all, drop_all, get_or-drop}
 use Rattle.octets.specs.Octets.{IsOctets}
+use Rattle.octets.specs.Devices.{IsPossibleInput}
 use Rattle.octets.specs.Code.Streams.{most_octets}
 use Rattle.octets.specs.declared.streams.ReaderInput.{ReaderInput}
 use Rattle.octets.specs.declared.streams.WriterOutput.{WriterOutput}
@@ -30,6 +34,22 @@ rest_of c = at_most (length c.octets - c.position)
 -- an input over memory never fails
 abbrev pub failures_of : Contents → ℕ
 failures_of c = 0
+
+-- all its octets, which are known
+abbrev pub source_of : Contents → Option (List ℕ)
+source_of c = Some c.octets
+
+-- What was read is a beginning of them, and all of them at the end.
+pub source_is_given : (c : Contents) (octets : List ℕ) → source_of c ≡ Some octets → IsPossibleInput (record { octets = front_of c; ended = is_read c }) octets
+source_is_given c octets is =
+    let all : c.octets ≡ octets = cc is in
+    let rest = drop c.position c.octets in
+    record {
+      rest = rest;
+      continues = sym all ∙ sym (take-append-drop c.position c.octets);
+      ends = λ end. drop_all c.position c.octets (omega (arith, eqb-true c.position (length c.octets) end));
+      octets = λ i. subst (λ n. n < 256) (ap (λ xs. get_or xs (c.position + i) 0) (take_all (length c.octets) c.octets (omega arith)) ∙ sym (get_or-drop c.position c.octets i 0)) (c.fronts_are_octets (length c.octets) (c.position + i));
+    }
 
 -- the number of octets of a read into this much room
 abbrev pub read_count : Contents → ℕ → ℕ
@@ -60,6 +80,13 @@ consumed_of s = s.transcript.octets
 
 abbrev pub is_at_end_of : {R : Type 0} → ReaderInput R → Bool
 is_at_end_of s = s.is_at_end
+
+-- its octets are not known
+abbrev pub unknown_source : {R : Type 0} → ReaderInput R → Option (List ℕ)
+unknown_source s = None
+
+pub nothing_is_known : {R : Type 0} (s : ReaderInput R) (octets : List ℕ) → unknown_source s ≡ Some octets → IsPossibleInput (record { octets = consumed_of s; ended = is_at_end_of s }) octets
+nothing_is_known s octets is = cc is
 
 abbrev pub remaining_of : {R : Type 0} → ReaderInput R → Count
 remaining_of s = at_most (most_octets - s.count)

@@ -50,6 +50,7 @@ pub fn jws_verify_detached<I: Input>(
 
     // All memory is allocated before the content is touched.
     ensures memory_first { IfErr result (λ refusal. refusal ≡ Refusal.Memory → content.new ≡ content.old) }
+    ensures same_source { I.source content.new ≡ I.source content.old }
     ensures faults { TellsFaults (counts I.failures content.old content.new ∷ []) [] result }
 {
     let keys = keys.keys();

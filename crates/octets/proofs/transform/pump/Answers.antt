@@ -93,6 +93,7 @@ pieces-preserved g c =
       untouched = untouched_more written c.args.out.now c.write_whole.new.out c.write_whole-in-pieces.new.out text longer
           (untouched_more written c.args.out.now c.pieces.out c.write_whole.new.out c.pieces.front.now i.grown i.untouched wrote_front c.write_whole.ensures.nothing)
           wrote_text c.write_whole-in-pieces.ensures.nothing;
+      source = c.read_piece.ensures.same_source ∙ i.source;
       read = c.in_ok-n.ensures.works ∙ i.read;
       wrote = c.in_ok-write_whole-2.ensures.works ∙ c.in_ok-write_whole.ensures.works ∙ i.wrote;
       endings = c.write_whole-in-pieces.ensures.endings ∙ c.write_whole.ensures.endings ∙ i.endings;
@@ -131,6 +132,7 @@ pieces-init g c =
       longer = extends_itself written;
       grown = omega arith;
       untouched = λ same. refl;
+      source = refl;
       read = refl;
       wrote = refl;
       endings = refl;

@@ -22,6 +22,7 @@ invariant-pieces g l =
       longer : Extends (output.written l.fn.out) (output.written l.out);
       grown : length (output.written l.fn.out) ≤ length (output.written l.out);
       untouched : output.written l.out ≡ output.written l.fn.out → l.out ≡ l.fn.out;
+      source : input.source l.content ≡ input.source l.fn.content;
       read : input.failures l.content ≡ input.failures l.fn.content;
       wrote : output.failures l.out ≡ output.failures l.fn.out;
       endings : output.endings l.out ≡ output.endings l.fn.out;

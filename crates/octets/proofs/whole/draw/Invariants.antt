@@ -7,6 +7,7 @@ invariant-draws g l =
       in_range : l.filled ≤ length l.out;
       drawn : input.consumed l.random ≡ input.consumed l.fn.random ++ take l.filled l.out;
       rest : drop l.filled l.out ≡ drop l.filled l.fn.out;
+      source : input.source l.random ≡ input.source l.fn.random;
       works : input.failures l.random ≡ input.failures l.fn.random;
       untouched : length l.out ≡ 0 → l.random ≡ l.fn.random;
     }

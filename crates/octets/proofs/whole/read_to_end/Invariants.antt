@@ -6,6 +6,7 @@ abbrev pub invariant-reads : goal.invariant-reads
 invariant-reads g l =
     let input = g.I.Input in record {
       consumed : input.consumed l.input ≡ input.consumed l.fn.input ++ l.octets.items;
+      source : input.source l.input ≡ input.source l.fn.input;
       works : input.failures l.input ≡ input.failures l.fn.input;
       finite : IsFinite (input.remaining l.input);
     }

@@ -15,6 +15,7 @@ pieces-init g c =
       taken = λ starts h. subst (HoldEach g.S.SigningInput.has_taken c.args.inputs.now starts) (sym (ap (λ p. base64url (whole_groups p)) none ∙ encoding_starts)) h;
       waits = c.start-writer.ensures ∙ ap part_group (sym none);
       len = refl;
+      source = refl;
       read = refl;
       finite = c.requires;
     }

@@ -16,6 +16,7 @@ invariant-pieces g l =
           → HoldEach has_taken l.inputs starts (base64url (whole_groups (appended (input.consumed l.fn.content) (input.consumed l.content))));
       waits : l.writer ≡ part_group (appended (input.consumed l.fn.content) (input.consumed l.content));
       len : length l.inputs ≡ length l.fn.inputs;
+      source : input.source l.content ≡ input.source l.fn.content;
       read : input.failures l.content ≡ input.failures l.fn.content;
       finite : IsFinite (input.remaining l.content);
     }

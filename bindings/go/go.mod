@@ -1,0 +1,3 @@
+module lakhdzeva
+
+go 1.19

@@ -1,0 +1,505 @@
+"""Sign and verify (JWS, RFC 7515), encrypt and decrypt (JWE, RFC 7516) with octet keys (JWK, RFC 7517).
+
+    import lakhdzeva
+
+    key = lakhdzeva.generate({"alg": "HS256"})
+    token = lakhdzeva.sign(key, b"replicas: 3")
+    assert lakhdzeva.verify(key, token) == b"replicas: 3"
+
+The shared library ``liblakhdzeva.so.2`` does the work. This module passes octets to it and decides nothing.
+
+- ``keys`` is one key, or a set of keys. A key is a dict. A set is a list of keys, or a dict with ``keys``. Keys can also be a JSON text
+  (``str`` or ``bytes``), which is passed as it is.
+- ``wanted`` is the template that says what is wanted: a dict or a JSON text. ``None`` means ``{}``, which lets the keys decide.
+- A token is a ``str``, ``bytes``, or the dict of its JSON form. A function that makes a token returns a ``str``.
+- A payload, a plaintext and a ciphertext are octets: ``bytes``, ``bytearray`` or ``memoryview``.
+
+A refusal of the library is an exception, ``Refused``. An argument of another type is a ``TypeError``. A dict that ``json.dumps`` cannot
+write, such as one with a NaN, raises the exception of ``json.dumps``.
+
+The module has no state. Any number of threads may call its functions, and they run at the same time. A thread needs 256 KiB of stack,
+which ``threading.stack_size`` can set too low. ``kid`` selects no key, and ``exp`` and other claims of a token are not checked.
+"""
+
+from __future__ import annotations
+
+import ctypes
+import json
+import os
+from ctypes import byref, c_bool, c_char, c_char_p, c_size_t, c_uint32, c_void_p
+from pathlib import Path
+from typing import Any, Dict, List, Literal, Optional, Tuple, Union, overload
+
+__all__ = [
+    "Refused",
+    "decrypt",
+    "encrypt",
+    "format_encrypted",
+    "format_signed",
+    "generate",
+    "sign",
+    "thumbprint",
+    "thumbprints",
+    "verify",
+]
+
+Json = Union[Dict[str, Any], str, bytes]
+Keys = Union[Dict[str, Any], List[Dict[str, Any]], str, bytes]
+Octets = Union[bytes, bytearray, memoryview]
+Hash = Literal["S224", "S256", "S384", "S512"]
+
+_HERE = Path(__file__).resolve().parent
+
+
+def _read_version() -> str:
+    # An installed package has the file next to it. In the sources it is next to pyproject.toml, or at the top of the repository.
+    sources = _HERE.parent.parent
+    for folder in (_HERE, sources, sources.parent.parent):
+        if (folder / "VERSION").is_file():
+            return (folder / "VERSION").read_text("utf-8").split()[0]
+    return "unknown"
+
+
+__version__ = _read_version()
+
+# ---- Refusals
+
+_NAMES = (
+    "Ok Usage Read Write Memory Random Base64 Json Number Key Form Header Unsupported NoAlgorithm KeyDoesNotFit Limit NotCompact NotOpened"
+).split()
+_WRITE = _NAMES.index("Write")
+_RANDOM = _NAMES.index("Random")
+
+
+class Refused(Exception):
+    """The library refused a call. The text is the number and the name, such as ``17 NotOpened``. The numbers stay the same.
+
+    - 1 ``Usage``: the hash of a thumbprint is not supported.
+    - 2 ``Read``: never.
+    - 3 ``Write``: a place for the answer is too small. It shows a fault of this module.
+    - 4 ``Memory``: an allocation of the library failed.
+    - 5 ``Random``: the system gave no random octets.
+    - 6 ``Base64``: a text that must be base64url is not.
+    - 7 ``Json``: a text that must be JSON is not.
+    - 8 ``Number``: a JSON number has a fraction, an exponent or more than 64 bits, or is -0.
+    - 9 ``Key``: not a good octet key, no such key in the set, or a bad template for a key.
+    - 10 ``Form``: members are missing, of the wrong type or not allowed together, or the number of parts is wrong.
+    - 11 ``Header``: a header member is missing or wrong.
+    - 12 ``Unsupported``: an algorithm, ``crit`` or ``zip`` is not supported.
+    - 13 ``NoAlgorithm``: nothing names or implies the algorithm or the size.
+    - 14 ``KeyDoesNotFit``: the length, ``alg``, ``use`` or ``key_ops`` of the key does not fit.
+    - 15 ``Limit``: a limit is exceeded: keys, recipients, iterations, nesting.
+    - 16 ``NotCompact``: compact form cannot hold the object.
+    - 17 ``NotOpened``: no key verifies the object, or decrypts it.
+    """
+
+    number: int
+    name: str
+
+    def __init__(self, number: int) -> None:
+        super().__init__(number)
+        self.number = number
+        self.name = _NAMES[number] if number < len(_NAMES) else "Unknown"
+
+    def __str__(self) -> str:
+        return f"{self.number} {self.name}"
+
+
+# ---- The shared library
+
+_SONAME = "liblakhdzeva.so.2"
+
+
+def _load() -> ctypes.CDLL:
+    beside = _HERE / _SONAME
+    name = os.environ.get("LAKHDZEVA_LIBRARY") or (str(beside) if beside.is_file() else _SONAME)
+    try:
+        return ctypes.CDLL(name)
+    except OSError as error:
+        raise ImportError(
+            f"the shared library of lakhdzeva cannot be loaded: {error}. Install {_SONAME} where the system looks for libraries, "
+            f"copy it into the folder {_HERE}, or set LAKHDZEVA_LIBRARY to the name of its file."
+        ) from error
+
+
+_LIBRARY = _load()
+
+
+def _function(name: str, *arguments: Any) -> Any:
+    try:
+        function = getattr(_LIBRARY, "lakhdzeva_core_" + name)
+    except AttributeError as error:
+        raise ImportError(f"{_LIBRARY._name} is not version 2 of the shared library of lakhdzeva: {error}") from error
+    function.argtypes = arguments
+    function.restype = c_uint32
+    return function
+
+
+# A text is a pointer and a length. A place for an answer is a pointer, the octets that fit there, and a pointer to a length.
+_TEXT = (c_char_p, c_size_t)
+_PLACE = (c_void_p, c_size_t, ctypes.POINTER(c_size_t))
+
+_generate = _function("generate", *_TEXT, *_TEXT, *_PLACE)
+_thumbprints = _function("thumbprints", *_TEXT, c_uint32, *_PLACE)
+_sign = _function("sign", *_TEXT, *_TEXT, c_bool, c_bool, *_TEXT, *_PLACE)
+_verify = _function("verify", *_TEXT, *_TEXT, c_bool, *_PLACE)
+_verify_detached = _function("verify_detached", *_TEXT, *_TEXT, c_bool, *_TEXT)
+_format_signed = _function("format_signed", *_TEXT, c_bool, *_TEXT, c_bool, c_bool, *_PLACE, *_PLACE)
+_encrypt = _function("encrypt", *_TEXT, *_TEXT, c_bool, c_bool, *_TEXT, *_TEXT, *_PLACE, *_PLACE)
+_decrypt = _function("decrypt", *_TEXT, *_TEXT, c_bool, *_TEXT, *_PLACE)
+_format_encrypted = _function("format_encrypted", *_TEXT, c_bool, *_TEXT, c_bool, c_bool, *_PLACE, *_PLACE)
+
+# An array of no octets leads to the first octet of any place. One type for all lengths saves the time to make a type for each length.
+_Start = c_char * 0
+
+
+class _Place:
+    """A place for an answer, and the length of the answer."""
+
+    __slots__ = ("octets", "length")
+
+    def __init__(self, room: int) -> None:
+        self.octets = bytearray(room)
+        self.length = c_size_t()
+
+    def arguments(self) -> Tuple[Any, int, Any]:
+        return _Start.from_buffer(self.octets), len(self.octets), byref(self.length)
+
+    def content(self) -> bytes:
+        return bytes(memoryview(self.octets)[: self.length.value])
+
+    def text(self) -> str:
+        return str(memoryview(self.octets)[: self.length.value], "utf-8")
+
+
+def _written(function: Any, arguments: Tuple[Any, ...], room: int) -> _Place:
+    """Calls a function that writes one answer."""
+    place = _Place(room)
+    status = function(*arguments, *place.arguments())
+    if status == _WRITE:  # Never, if the room is right. Then the library has written nothing, and the length is the one that is needed.
+        place = _Place(place.length.value)
+        status = function(*arguments, *place.arguments())
+    if status:
+        raise Refused(status)
+    return place
+
+
+def _both_written(function: Any, arguments: Tuple[Any, ...], room: int, content_room: int) -> Tuple[_Place, _Place]:
+    """Calls a function that writes a text, and also a content if it is detached."""
+    place, content = _Place(room), _Place(content_room)
+    status = function(*arguments, *place.arguments(), *content.arguments())
+    if status == _WRITE:  # As above.
+        place, content = _Place(place.length.value), _Place(content.length.value)
+        status = function(*arguments, *place.arguments(), *content.arguments())
+    if status:
+        raise Refused(status)
+    return place, content
+
+
+# ---- Rooms, and random octets, as in lakhdzeva.h
+
+
+def _most_keys(keys: int) -> int:
+    """The most keys that a text of this length can have."""
+    return min(keys // 20 + 1, 64)
+
+
+def _base64(octets: int) -> int:
+    """The length of a base64url text of so many octets, at most."""
+    return octets + octets // 3 + 2
+
+
+def _generate_room(wanted: int) -> int:
+    return wanted + 5632
+
+
+def _thumbprints_room(keys: int) -> int:
+    return 87 * _most_keys(keys)
+
+
+def _sign_room(keys: int, wanted: int, payload: int) -> int:
+    return _base64(payload) + _most_keys(keys) * (wanted + _base64(wanted + 32) + 192)
+
+
+def _encrypt_room(keys: int, wanted: int, plaintext: int) -> int:
+    return _base64(plaintext + 16) + (_most_keys(keys) + 2) * (wanted + _base64(wanted + 192) + 256)
+
+
+def _ciphertext_room(plaintext: int) -> int:
+    return plaintext + 16
+
+
+def _format_room(token: int, content: int) -> int:
+    return token + _base64(content) + 128
+
+
+def _draw(length: int) -> bytes:
+    """Random octets of the system, or none if it gives none. The library then refuses with Random."""
+    try:
+        return os.urandom(length)
+    except (OSError, NotImplementedError):
+        return b""
+
+
+# ---- Arguments
+
+# Floats are written, and the library refuses them.
+_dump = json.JSONEncoder(ensure_ascii=False, allow_nan=False, separators=(",", ":")).encode
+
+
+def _encoded(text: str) -> bytes:
+    # A lone surrogate becomes octets that are not UTF-8, which the library refuses.
+    return text.encode("utf-8", "surrogatepass")
+
+
+def _json(name: str, value: Json) -> bytes:
+    if isinstance(value, dict):
+        return _encoded(_dump(value))
+    if isinstance(value, str):
+        return _encoded(value)
+    if isinstance(value, bytes):
+        return value
+    raise TypeError(f"{name} must be a dict, str or bytes, not {type(value).__name__}")
+
+
+def _keys(value: Keys) -> bytes:
+    if isinstance(value, list):
+        return _encoded(_dump({"keys": value}))
+    if isinstance(value, (dict, str, bytes)):
+        return _json("keys", value)
+    raise TypeError(f"keys must be a dict, a list of dicts, str or bytes, not {type(value).__name__}")
+
+
+def _wanted(value: Optional[Json]) -> bytes:
+    return b"{}" if value is None else _json("wanted", value)
+
+
+def _octets(name: str, value: Octets) -> bytes:
+    if isinstance(value, bytes):
+        return value
+    if isinstance(value, (bytearray, memoryview)):
+        return bytes(value)  # A copy, because another thread can change the value during the call.
+    if isinstance(value, str):
+        raise TypeError(f"{name} must be octets, not str: encode it, for example with {name}.encode()")
+    raise TypeError(f"{name} must be bytes, bytearray or memoryview, not {type(value).__name__}")
+
+
+# ---- Keys
+
+
+def generate(wanted: Optional[Json] = None) -> Dict[str, Any]:
+    """Makes a key (RFC 7517) from random octets of the system.
+
+    ``wanted`` has the members of the key, for example ``{"alg": "HS256"}`` or ``{"alg": "A256GCM", "kid": "7"}``. ``{"bytes": 32}`` gives a
+    key of 32 octets without an algorithm. If it has an ``alg``, but no ``use`` and no ``key_ops``, the key gets the ``key_ops`` of the ``alg``.
+
+    Refusals: Json, Number and Key for a bad template, Limit, Unsupported, NoAlgorithm, KeyDoesNotFit, Random, Memory.
+    """
+    text = _wanted(wanted)
+    # An algorithm asks for at most 64 octets, and a template for at most 4,096.
+    for drawn in (64, 4096):
+        random = _draw(drawn)
+        try:
+            place = _written(_generate, (text, len(text), random, len(random)), _generate_room(len(text)))
+            break
+        except Refused as refused:
+            if refused.number != _RANDOM or drawn == 4096:
+                raise
+    key: Dict[str, Any] = json.loads(place.text())
+    return key
+
+
+def thumbprints(keys: Keys, hash: Hash = "S256") -> List[str]:
+    """Returns the thumbprints (RFC 7638) of the good keys of a set, in order. ``hash`` is ``S224``, ``S256``, ``S384`` or ``S512``.
+
+    Refusals: Usage for another hash, Json, Number, Key, Limit, Memory.
+    """
+    if not isinstance(hash, str):
+        raise TypeError(f"hash must be a str, not {type(hash).__name__}")
+    text = _keys(keys)
+    bits = {"S224": 224, "S256": 256, "S384": 384, "S512": 512}.get(hash, 0)
+    return _written(_thumbprints, (text, len(text), bits), _thumbprints_room(len(text))).text().split("\n")
+
+
+def thumbprint(key: Json, hash: Hash = "S256") -> str:
+    """Returns the thumbprint (RFC 7638) of one key. A set with more than one good key is a ValueError.
+
+    The thumbprint of a password is not safe to publish: it lets anyone test guesses.
+
+    Refusals: those of ``thumbprints``.
+    """
+    lines = thumbprints(_json("key", key), hash)
+    if len(lines) > 1:
+        raise ValueError("this is a set with more than one key: call thumbprints")
+    return lines[0]
+
+
+# ---- Signed tokens
+
+
+def sign(keys: Keys, payload: Octets, wanted: Optional[Json] = None, *, compact: bool = True, detach: bool = False) -> str:
+    """Signs the payload with each of the keys (RFC 7515, section 5.1) and returns the token.
+
+    ``wanted`` has the headers, for example ``{"protected": {"alg": "HS256", "kid": "7"}}``. Without an algorithm, the key's ``alg`` or its
+    length decides. Compact form holds one signature. JSON form (``compact=False``) holds one for each key. With ``detach`` the token
+    does not contain the payload (appendix F).
+
+    Refusals: Json, Number, Key and Limit for bad keys; Json, Number, Form, Header and Unsupported for a bad template; NoAlgorithm,
+    KeyDoesNotFit, Limit, NotCompact, Memory.
+    """
+    text, template, octets = _keys(keys), _wanted(wanted), _octets("payload", payload)
+    arguments = (text, len(text), template, len(template), compact, detach, octets, len(octets))
+    return _written(_sign, arguments, _sign_room(len(text), len(template), len(octets))).text()
+
+
+def verify(keys: Keys, token: Json, *, all: bool = False, payload: Optional[Octets] = None) -> bytes:
+    """Verifies a signed token (RFC 7515, section 5.2) and returns its payload.
+
+    One of the keys must have made one of the signatures. With ``all`` each good key must have made one. ``payload`` is the payload if the
+    token does not contain it (appendix F), and is then returned. The keys say whom you trust: never take them from the token.
+
+    Refusals: Json, Number, Key and Limit for bad keys; Json, Number, Form, Limit, Base64, Header and Unsupported for a bad token;
+    KeyDoesNotFit if no key may verify a signature; NotOpened if no signature is right; Memory.
+    """
+    text, object_ = _keys(keys), _json("token", token)
+    arguments = (text, len(text), object_, len(object_), all)
+    if payload is None:
+        return _written(_verify, arguments, len(object_)).content()
+    octets = _octets("payload", payload)
+    status = _verify_detached(*arguments, octets, len(octets))
+    if status:
+        raise Refused(status)
+    return octets
+
+
+# ---- Encrypted tokens
+
+
+@overload
+def encrypt(
+    keys: Keys, plaintext: Octets, wanted: Optional[Json] = None, *, compact: bool = True, detach: Literal[False] = False
+) -> str: ...
+
+
+@overload
+def encrypt(
+    keys: Keys, plaintext: Octets, wanted: Optional[Json] = None, *, compact: bool = True, detach: Literal[True]
+) -> Tuple[str, bytes]: ...
+
+
+@overload
+def encrypt(
+    keys: Keys, plaintext: Octets, wanted: Optional[Json] = None, *, compact: bool = True, detach: bool
+) -> Union[str, Tuple[str, bytes]]: ...
+
+
+def encrypt(
+    keys: Keys, plaintext: Octets, wanted: Optional[Json] = None, *, compact: bool = True, detach: bool = False
+) -> Union[str, Tuple[str, bytes]]:
+    """Encrypts the plaintext to each of the keys (RFC 7516, section 5.1) and returns the token.
+
+    ``wanted`` has the headers, for example ``{"protected": {"alg": "A256KW", "enc": "A256GCM"}}``. Without algorithms, the key's ``alg``
+    or its length decides. Compact form holds one recipient. JSON form (``compact=False``) holds one for each key. With ``detach`` the
+    token does not contain the ciphertext, and the answer is the token and the ciphertext.
+
+    Refusals: Json, Number, Key and Limit for bad keys; Json, Number, Form, Base64, Header and Unsupported for a bad template;
+    NoAlgorithm, KeyDoesNotFit, Limit, NotCompact, Random, Memory.
+    """
+    text, template, octets = _keys(keys), _wanted(wanted), _octets("plaintext", plaintext)
+    # A content encryption key has at most 64 octets, an initialization vector 16, and a recipient draws at most 16.
+    random = _draw(80 + 16 * _most_keys(len(text)))
+    token, ciphertext = _both_written(
+        _encrypt,
+        (text, len(text), template, len(template), compact, detach, random, len(random), octets, len(octets)),
+        _encrypt_room(len(text), len(template), len(octets)),
+        _ciphertext_room(len(octets)) if detach else 0,
+    )
+    return (token.text(), ciphertext.content()) if detach else token.text()
+
+
+def decrypt(keys: Keys, token: Json, *, ciphertext: Optional[Octets] = None) -> bytes:
+    """Decrypts an encrypted token with one of the keys (RFC 7516, section 5.2) and returns the plaintext.
+
+    ``ciphertext`` is the ciphertext if the token does not contain it. A password costs ``p2c`` iterations for each recipient that it fits.
+
+    Refusals: Json, Number, Key and Limit for bad keys; Json, Number, Form, Limit, Base64, Header and Unsupported for a bad token;
+    KeyDoesNotFit if no key may decrypt; Limit for too many iterations; NotOpened if no key decrypts; Memory.
+    """
+    text, object_ = _keys(keys), _json("token", token)
+    octets = b"" if ciphertext is None else _octets("ciphertext", ciphertext)
+    arguments = (text, len(text), object_, len(object_), ciphertext is not None, octets, len(octets))
+    return _written(_decrypt, arguments, max(len(object_), len(octets))).content()
+
+
+# ---- Other forms
+
+
+def _formatted(
+    function: Any, name: str, token: Json, compact: bool, detach: bool, content: Optional[Octets]
+) -> Union[str, Tuple[str, bytes]]:
+    object_ = _json("token", token)
+    octets = b"" if content is None else _octets(name, content)
+    text, detached = _both_written(
+        function,
+        (object_, len(object_), content is not None, octets, len(octets), compact, detach),
+        _format_room(len(object_), len(octets)),
+        max(len(object_), len(octets)) if detach else 0,
+    )
+    return (text.text(), detached.content()) if detach else text.text()
+
+
+@overload
+def format_signed(token: Json, *, compact: bool = False, detach: Literal[False] = False, payload: Optional[Octets] = None) -> str: ...
+
+
+@overload
+def format_signed(token: Json, *, compact: bool = False, detach: Literal[True], payload: Optional[Octets] = None) -> Tuple[str, bytes]: ...
+
+
+@overload
+def format_signed(
+    token: Json, *, compact: bool = False, detach: bool, payload: Optional[Octets] = None
+) -> Union[str, Tuple[str, bytes]]: ...
+
+
+def format_signed(
+    token: Json, *, compact: bool = False, detach: bool = False, payload: Optional[Octets] = None
+) -> Union[str, Tuple[str, bytes]]:
+    """Writes a signed token in JSON form, or in compact form (RFC 7515, section 7). It sees no key and verifies nothing.
+
+    ``payload`` is the payload if the token does not contain it. With ``detach`` the answer is the token without its payload, and the payload.
+
+    Refusals: Json, Number, Form, Limit, Base64, Header and Unsupported for a bad token; NotCompact, Memory.
+    """
+    return _formatted(_format_signed, "payload", token, compact, detach, payload)
+
+
+@overload
+def format_encrypted(
+    token: Json, *, compact: bool = False, detach: Literal[False] = False, ciphertext: Optional[Octets] = None
+) -> str: ...
+
+
+@overload
+def format_encrypted(
+    token: Json, *, compact: bool = False, detach: Literal[True], ciphertext: Optional[Octets] = None
+) -> Tuple[str, bytes]: ...
+
+
+@overload
+def format_encrypted(
+    token: Json, *, compact: bool = False, detach: bool, ciphertext: Optional[Octets] = None
+) -> Union[str, Tuple[str, bytes]]: ...
+
+
+def format_encrypted(
+    token: Json, *, compact: bool = False, detach: bool = False, ciphertext: Optional[Octets] = None
+) -> Union[str, Tuple[str, bytes]]:
+    """Writes an encrypted token in JSON form, or in compact form (RFC 7516, section 7). It sees no key and decrypts nothing.
+
+    ``ciphertext`` is the ciphertext if the token does not contain it. With ``detach`` the answer is the token without its ciphertext, and
+    the ciphertext.
+
+    Refusals: Json, Number, Form, Limit, Base64, Header and Unsupported for a bad token; NotCompact, Memory.
+    """
+    return _formatted(_format_encrypted, "ciphertext", token, compact, detach, ciphertext)

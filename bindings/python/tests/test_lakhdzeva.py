@@ -1,0 +1,725 @@
+"""Tests of the package. Expected values come from the standards and from Python's hashlib and hmac.
+
+Run it with the name of the shared library in LAKHDZEVA_LIBRARY:
+
+    PYTHONPATH=bindings/python/src python3 -m unittest discover -s bindings/python/tests
+"""
+
+import base64
+import copy
+import ctypes
+import hashlib
+import hmac
+import itertools
+import json
+import os
+import pickle
+import subprocess
+import sys
+import threading
+import unittest
+from concurrent.futures import ThreadPoolExecutor
+from pathlib import Path
+from unittest import mock
+
+import lakhdzeva
+from lakhdzeva import Refused
+
+# RFC 7515 appendix A.1.
+RFC7515_KEY = (
+    '{"kty":"oct","k":"AyM1SysPpbyDfgZld3umj1qzKObwVMkoqQ-EstJQLr_T-1qS0gZH75aKtMN3Yj0iPS4hcgUuTwjAzZr1Z9CAow"}'
+)
+RFC7515_A1 = (
+    "eyJ0eXAiOiJKV1QiLA0KICJhbGciOiJIUzI1NiJ9.eyJpc3MiOiJqb2UiLA0KICJleHAiOjEzMDA4MTkzODAsDQogImh0dHA6Ly9leGFtcGxlLmNvbS9pc19"
+    "yb290Ijp0cnVlfQ.dBjftJeZ4CVP-mB92K27uhbUJU1p1r_wW1gFWFOEjXk"
+)
+RFC7515_CLAIMS = b'{"iss":"joe",\r\n "exp":1300819380,\r\n "http://example.com/is_root":true}'
+# RFC 7516 appendix A.3, with the random octets in the order in which they are drawn, and appendices A.4 and A.5.
+RFC7516_KEY = (
+    '{"kty":"oct","k":"GawgguFyGrWKav7AX4VKUg"}'
+)
+RFC7516_RANDOM = bytes.fromhex("04d31fc5549dfcfe0b649dfa3faa6ace6b7cd42d6f6b09dbc8b100f08f9c2ccf03163c0c2b4368696c6c69636f746865")
+RFC7516_A3 = (
+    "eyJhbGciOiJBMTI4S1ciLCJlbmMiOiJBMTI4Q0JDLUhTMjU2In0.6KB707dM9YTIgHtLvtgWQ8mKwboJW3of9locizkDTHzBC2IlrT1oOQ.AxY8DCtDaGlsb"
+    "Gljb3RoZQ.KDlTtXchhZTGufMYmOYGS4HffxPSUrfmqCHXaI9wOGY.U0m_YmjN04DJvceFICbCVQ"
+)
+RFC7516_A4 = (
+    '{"protected":"eyJlbmMiOiJBMTI4Q0JDLUhTMjU2In0","unprotected":{"jku":"https://server.example.com/keys.jwks"},"recipients"'
+    ':[{"header":{"alg":"RSA1_5","kid":"2011-04-29"},"encrypted_key":"UGhIOguC7IuEvf_NPVaXsGMoLOmwvc1GyqlIKOK1nN94nHPoltGRhWh'
+    "w7Zx0-kFm1NJn8LE9XShH59_i8J0PH5ZZyNfGy2xGdULU7sHNF6Gp2vPLgNZ__deLKxGHZ7PcHALUzoOegEI-8E66jX2E4zyJKx-YxzZIItRzC5hlRirb6Y5"
+    "Cl_p-ko3YvkkysZIFNPccxRU7qve1WYPxqbb2Yw8kZqa2rMWI5ng8OtvzlV7elprCbuPhcCdZ6XDP0_F8rkXds2vE4X-ncOIM8hAYHHi29NX0mcKiRaD0-D-"
+    'ljQTP-cFPgwCp6X-nZZd9OHBv-B3oWh2TbqmScqXMR4gp_A"},{"header":{"alg":"A128KW","kid":"7"},"encrypted_key":"6KB707dM9YTIgHtL'
+    'vtgWQ8mKwboJW3of9locizkDTHzBC2IlrT1oOQ"}],"iv":"AxY8DCtDaGlsbGljb3RoZQ","ciphertext":"KDlTtXchhZTGufMYmOYGS4HffxPSUrfmqC'
+    'HXaI9wOGY","tag":"Mz-VPPyU4RlcuYv1IwIvzw"}'
+)
+RFC7516_A5 = (
+    '{"protected":"eyJlbmMiOiJBMTI4Q0JDLUhTMjU2In0","unprotected":{"jku":"https://server.example.com/keys.jwks"},"header":{"a'
+    'lg":"A128KW","kid":"7"},"encrypted_key":"6KB707dM9YTIgHtLvtgWQ8mKwboJW3of9locizkDTHzBC2IlrT1oOQ","iv":"AxY8DCtDaGlsbGljb'
+    '3RoZQ","ciphertext":"KDlTtXchhZTGufMYmOYGS4HffxPSUrfmqCHXaI9wOGY","tag":"Mz-VPPyU4RlcuYv1IwIvzw"}'
+)
+LINE = b"Live long and prosper."
+# RFC 7520 sections 4.4, 5.7 and 5.8.
+RFC7520_SIGNING_KEY = (
+    '{"kty":"oct","kid":"018c0ae5-4d9b-471b-bfd6-eef314bc7037","use":"sig","alg":"HS256","k":"hJtXIZ2uSN5kbQfbtTNWbpdmhkV8FJG'
+    '-Onbc6mxCcYg"}'
+)
+RFC7520_4_4 = (
+    "eyJhbGciOiJIUzI1NiIsImtpZCI6IjAxOGMwYWU1LTRkOWItNDcxYi1iZmQ2LWVlZjMxNGJjNzAzNyJ9.SXTigJlzIGEgZGFuZ2Vyb3VzIGJ1c2luZXNzLCB"
+    "Gcm9kbywgZ29pbmcgb3V0IHlvdXIgZG9vci4gWW91IHN0ZXAgb250byB0aGUgcm9hZCwgYW5kIGlmIHlvdSBkb24ndCBrZWVwIHlvdXIgZmVldCwgdGhlcmX"
+    "igJlzIG5vIGtub3dpbmcgd2hlcmUgeW91IG1pZ2h0IGJlIHN3ZXB0IG9mZiB0by4.s0h6KThzkfBBBkLspW1h84VsJZFTsPPqMDA7g1Md7p0"
+)
+RFC7520_GCM_KEY = (
+    '{"kty":"oct","kid":"18ec08e1-bfa9-4d95-b205-2b4dd1d4321d","use":"enc","alg":"A256GCMKW","k":"qC57l_uxcm7Nm3K-ct4GFjx8tM1'
+    'U8CZ0NLBvdQstiS8"}'
+)
+RFC7520_5_7 = (
+    "eyJhbGciOiJBMjU2R0NNS1ciLCJraWQiOiIxOGVjMDhlMS1iZmE5LTRkOTUtYjIwNS0yYjRkZDFkNDMyMWQiLCJ0YWciOiJrZlBkdVZRM1QzSDZ2bmV3dC0t"
+    "a3N3IiwiaXYiOiJLa1lUMEdYXzJqSGxmcU5fIiwiZW5jIjoiQTEyOENCQy1IUzI1NiJ9.lJf3HbOApxMEBkCMOoTnnABxs_CvTWUmZQ2ElLvYNok.gz6NjyE"
+    "FNm_vm8Gj6FwoFQ.Jf5p9-ZhJlJy_IQ_byKFmI0Ro7w7G1QiaZpI8OaiVgD8EqoDZHyFKFBupS8iaEeVIgMqWmsuJKuoVgzR3YfzoMd3GxEm3VxNhzWyWtZK"
+    "X0gxKdy6HgLvqoGNbZCzLjqcpDiF8q2_62EVAbr2uSc2oaxFmFuIQHLcqAHxy51449xkjZ7ewzZaGV3eFqhpco8o4DijXaG5_7kp3h2cajRfDgymuxUbWgLq"
+    "aeNQaJtvJmSMFuEOSAzw9Hdeb6yhdTynCRmu-kqtO5Dec4lT2OMZKpnxc_F1_4yDJFcqb5CiDSmA-psB2k0JtjxAj4UPI61oONK7zzFIu4gBfjJCndsZfdvG"
+    "7h8wGjV98QhrKEnR7xKZ3KCr0_qR1B-gxpNk3xWU.DKW7jrb4WaRSNfbXVPlT5g"
+)
+RFC7520_WRAPPING_KEY = (
+    '{"kty":"oct","kid":"81b20965-8332-43d9-a468-82160ad91ac8","use":"enc","alg":"A128KW","k":"GZy6sIZ6wl9NJOKB-jnmVQ"}'
+)
+RFC7520_5_8 = (
+    "eyJhbGciOiJBMTI4S1ciLCJraWQiOiI4MWIyMDk2NS04MzMyLTQzZDktYTQ2OC04MjE2MGFkOTFhYzgiLCJlbmMiOiJBMTI4R0NNIn0.CBI6oDw8MydIx1IB"
+    "ntf_lQcw2MmJKIQx.Qx0pmsDa8KnJc9Jo.AwliP-KmWgsZ37BvzCefNen6VTbRK3QMA4TkvRkH0tP1bTdhtFJgJxeVmJkLD61A1hnWGetdg11c9ADsnWgL56"
+    "NyxwSYjU1ZEHcGkd3EkU0vjHi9gTlb90qSYFfeF0LwkcTtjbYKCsiNJQkcIp1yeM03OmuiYSoYJVSpf7ej6zaYcMv3WwdxDFl8REwOhNImk2Xld2JXq6BR53"
+    "TSFkyT7PwVLuq-1GwtGHlQeg7gDT6xW0JqHDPn_H-puQsmthc9Zg0ojmJfqqFvETUxLAF-KjcBTS5dNy6egwkYtOt8EIHK-oEsKYtZRaa8Z7MOZ7UGxGIMvE"
+    "mxrGCPeJa14slv2-gaqK0kEThkaSqdYw0FkQZF.ER7MWJZ1FBI_NKvn7Zb1Lw"
+)
+FRODO = (
+    "You can trust us to stick with you through thick and thin\u2013to the bitter end. And you can trust us to keep any secret of "
+    "yours\u2013closer than you keep it yourself. But you cannot trust us to let you face trouble alone, and go off without a word. "
+    "We are your friends, Frodo."
+).encode()
+
+
+def b64(octets):
+    return base64.urlsafe_b64encode(octets).rstrip(b"=").decode()
+
+
+def unb64(text):
+    return base64.urlsafe_b64decode(text + "=" * (-len(text) % 4))
+
+
+def key_of(octets, **members):
+    return {"kty": "oct", "k": b64(octets), **members}
+
+
+def token_of(key, header, payload):
+    """A token with HS256, by Python's hmac."""
+    text = b64(header.encode()) + "." + b64(payload)
+    return text + "." + b64(hmac.new(key, text.encode(), "sha256").digest())
+
+
+FIRST = bytes(range(32))
+SECOND = bytes(range(32, 64))
+THIRD = bytes(range(64, 96))
+A128 = key_of(bytes(16))
+
+
+class Case(unittest.TestCase):
+    def refused(self, number, name, function, *arguments, **options):
+        with self.assertRaises(Refused) as caught:
+            function(*arguments, **options)
+        self.assertEqual((caught.exception.number, caught.exception.name), (number, name))
+        self.assertEqual(str(caught.exception), f"{number} {name}")
+
+
+class Standards(Case):
+    def test_rfc7515_appendix_a1_verifies(self):
+        for key in (RFC7515_KEY, RFC7515_KEY.encode(), json.loads(RFC7515_KEY), [json.loads(RFC7515_KEY)], {"keys": [json.loads(RFC7515_KEY)]}):
+            for token in (RFC7515_A1, RFC7515_A1.encode()):
+                self.assertEqual(lakhdzeva.verify(key, token), RFC7515_CLAIMS)
+
+    def test_rfc7515_appendix_a1_in_json(self):
+        protected, payload, signature = RFC7515_A1.split(".")
+        expected = {"payload": payload, "protected": protected, "signature": signature}
+        text = lakhdzeva.format_signed(RFC7515_A1)
+        self.assertEqual(text, json.dumps(expected, separators=(",", ":")))
+        self.assertEqual(lakhdzeva.verify(RFC7515_KEY, expected), RFC7515_CLAIMS)
+        self.assertEqual(lakhdzeva.format_signed(expected, compact=True), RFC7515_A1)
+
+    def test_rfc7516_appendix_a3_decrypts(self):
+        for token in (RFC7516_A3, RFC7516_A3.encode()):
+            self.assertEqual(lakhdzeva.decrypt(RFC7516_KEY, token), LINE)
+
+    def test_rfc7516_appendix_a3_is_encrypted(self):
+        with mock.patch("os.urandom", lambda length: RFC7516_RANDOM.ljust(length, b"\0")):
+            self.assertEqual(lakhdzeva.encrypt(RFC7516_KEY, LINE, {"protected": {"enc": "A128CBC-HS256"}}), RFC7516_A3)
+
+    def test_rfc7516_appendices_a4_and_a5_decrypt(self):
+        for token in (RFC7516_A4, RFC7516_A5, json.loads(RFC7516_A4), json.loads(RFC7516_A5)):
+            self.assertEqual(lakhdzeva.decrypt(RFC7516_KEY, token), LINE)
+
+    def test_rfc7516_appendix_a5_in_another_order(self):
+        object_ = json.loads(RFC7516_A5)
+        self.assertEqual(json.loads(lakhdzeva.format_encrypted(dict(reversed(list(object_.items()))))), object_)
+
+    def test_rfc7520_section_4_4(self):
+        payload = lakhdzeva.verify(RFC7520_SIGNING_KEY, RFC7520_4_4)
+        self.assertEqual(payload, unb64(RFC7520_4_4.split(".")[1]))
+        kid = json.loads(RFC7520_SIGNING_KEY)["kid"]
+        self.assertEqual(lakhdzeva.sign(RFC7520_SIGNING_KEY, payload, {"protected": {"kid": kid}}), RFC7520_4_4)
+
+    def test_rfc7520_sections_5_7_and_5_8(self):
+        self.assertEqual(lakhdzeva.decrypt(RFC7520_GCM_KEY, RFC7520_5_7), FRODO)
+        self.assertEqual(lakhdzeva.decrypt(RFC7520_WRAPPING_KEY, RFC7520_5_8), FRODO)
+
+    def test_signatures_of_hmac(self):
+        for bits, name in ((256, "HS256"), (384, "HS384"), (512, "HS512")):
+            for length in (0, 1, 2, 3, 64, 4095, 4096, 4097, 70001):
+                key, payload = os.urandom(bits // 8), os.urandom(length)
+                text = b64(b'{"alg":"%s"}' % name.encode()) + "." + b64(payload)
+                expected = text + "." + b64(hmac.new(key, text.encode(), f"sha{bits}").digest())
+                self.assertEqual(lakhdzeva.sign(key_of(key), payload), expected)
+                self.assertEqual(lakhdzeva.verify(key_of(key), expected), payload)
+
+    def test_thumbprints_of_hashlib(self):
+        keys = [key_of(FIRST), key_of(SECOND, kid="b"), key_of(b"\xfb\xff")]
+        for name, hash_ in (("S224", "sha224"), ("S256", "sha256"), ("S384", "sha384"), ("S512", "sha512")):
+            expected = [b64(hashlib.new(hash_, ('{"k":"%s","kty":"oct"}' % key["k"]).encode()).digest()) for key in keys]
+            self.assertEqual(lakhdzeva.thumbprints(keys, name), expected)
+            self.assertEqual([lakhdzeva.thumbprint(key, name) for key in keys], expected)
+        self.assertEqual(lakhdzeva.thumbprint(keys[0]), lakhdzeva.thumbprint(keys[0], "S256"))
+        self.assertEqual(lakhdzeva.thumbprints([{"kty": "RSA"}, keys[1]]), [lakhdzeva.thumbprint(keys[1])])
+        with self.assertRaises(ValueError):
+            lakhdzeva.thumbprint({"keys": keys})
+
+
+class Keys(Case):
+    def test_keys_are_made(self):
+        sizes = {"HS256": 32, "HS384": 48, "HS512": 64, "A128KW": 16, "A256GCMKW": 32, "A256CBC-HS512": 64, "A192GCM": 24}
+        for name, size in sizes.items():
+            key = lakhdzeva.generate({"alg": name, "kid": "\u00e9"})
+            self.assertEqual((key["kty"], key["alg"], key["kid"], len(unb64(key["k"]))), ("oct", name, "\u00e9", size))
+        self.assertEqual(lakhdzeva.generate(b'{"alg":"HS256"}')["key_ops"], ["sign", "verify"])
+
+    def test_octets_of_a_key_are_those_of_the_system(self):
+        for size, drawn in ((1, [64]), (64, [64]), (65, [64, 4096]), (4096, [64, 4096])):
+            asked = []
+            octets = os.urandom(4096)
+
+            def urandom(length):
+                asked.append(length)
+                return octets[:length]
+
+            with mock.patch("os.urandom", urandom):
+                self.assertEqual(lakhdzeva.generate({"bytes": size}), key_of(octets[:size]))
+            self.assertEqual(asked, drawn)
+
+    def test_two_keys_differ(self):
+        self.assertNotEqual(lakhdzeva.generate('{"bytes":32}'), lakhdzeva.generate('{"bytes":32}'))
+
+    def test_octets_of_a_token_are_those_of_the_system(self):
+        for keys, text in (([A128], 1), ([A128] * 3, 3), ([A128] * 64, 64)):
+            asked = []
+
+            def urandom(length):
+                asked.append(length)
+                return bytes(length)
+
+            with mock.patch("os.urandom", urandom):
+                lakhdzeva.encrypt(keys, b"", compact=False)
+            self.assertEqual(len(asked), 1)
+            self.assertGreaterEqual(asked[0], 80 + 16 * text)
+            self.assertLessEqual(asked[0], 80 + 16 * 64)
+
+
+class Refusals(Case):
+    def test_1_usage(self):
+        self.refused(1, "Usage", lakhdzeva.thumbprint, A128, "S1")
+        self.refused(1, "Usage", lakhdzeva.thumbprints, [A128], "sha256")
+
+    def test_3_write(self):
+        calls = []
+        with self.assertRaises(Refused) as caught:
+            lakhdzeva._written(lambda *arguments: calls.append(arguments) or 3, (), 10)
+        self.assertEqual((caught.exception.number, len(calls)), (3, 2))
+        with self.assertRaises(Refused) as caught:
+            lakhdzeva._both_written(lambda *arguments: calls.append(arguments) or 3, (), 10, 10)
+        self.assertEqual((caught.exception.number, len(calls)), (3, 4))
+
+    def test_5_random(self):
+        for failure in (OSError(), NotImplementedError()):
+            with mock.patch("os.urandom", side_effect=failure):
+                self.refused(5, "Random", lakhdzeva.generate, {"alg": "HS256"})
+                self.refused(5, "Random", lakhdzeva.encrypt, A128, b"")
+                # An earlier cause is reported first.
+                self.refused(13, "NoAlgorithm", lakhdzeva.generate)
+
+    def test_6_base64(self):
+        self.refused(6, "Base64", lakhdzeva.verify, A128, "e30.!.AA")
+        self.refused(6, "Base64", lakhdzeva.encrypt, A128, b"", {"aad": "A"})
+
+    def test_7_json(self):
+        for text in ("{", b"", b'{"\xff":1}', '{"a":1}x', '{"\ud800":1}', {"\ud800": 1}):
+            self.refused(7, "Json", lakhdzeva.sign, text, b"")
+            self.refused(7, "Json", lakhdzeva.generate, text)
+
+    def test_8_number(self):
+        for number in (1.5, 1e300, -0.0, 2**64, -(2**63) - 1):
+            self.refused(8, "Number", lakhdzeva.sign, key_of(FIRST, extra=number), b"")
+            self.refused(8, "Number", lakhdzeva.sign, key_of(FIRST), b"", {"protected": {"n": [number]}})
+
+    def test_9_key(self):
+        for key in ({"kty": "RSA"}, {}, [], {"keys": [1]}, "[]", key_of(b""), key_of(bytes(4097)), key_of(FIRST, kid=1)):
+            self.refused(9, "Key", lakhdzeva.verify, key, RFC7515_A1)
+        self.refused(9, "Key", lakhdzeva.sign, [key_of(FIRST), {"kty": "RSA"}], b"")
+        self.refused(9, "Key", lakhdzeva.generate, {"k": "AA"})
+
+    def test_10_form(self):
+        for token in ("", "a.b", "a.b.c.d", {}, {"payload": 1, "signature": ""}):
+            self.refused(10, "Form", lakhdzeva.verify, A128, token)
+            self.refused(10, "Form", lakhdzeva.decrypt, A128, token)
+        self.refused(10, "Form", lakhdzeva.sign, key_of(FIRST), b"", {"other": {}})
+
+    def test_11_header(self):
+        self.refused(11, "Header", lakhdzeva.verify, A128, "e30..AA")
+        self.refused(11, "Header", lakhdzeva.encrypt, A128, b"", {"protected": {"enc": 1}})
+
+    def test_12_unsupported(self):
+        for header in ('{"alg":"none"}', '{"alg":"RS256"}', '{"alg":"HS256","crit":["exp"]}'):
+            self.refused(12, "Unsupported", lakhdzeva.verify, key_of(FIRST), token_of(FIRST, header, b""))
+        self.refused(12, "Unsupported", lakhdzeva.encrypt, A128, b"", {"protected": {"zip": "DEF"}})
+
+    def test_13_no_algorithm(self):
+        self.refused(13, "NoAlgorithm", lakhdzeva.generate)
+        self.refused(13, "NoAlgorithm", lakhdzeva.sign, key_of(bytes(31)), b"")
+        self.refused(13, "NoAlgorithm", lakhdzeva.encrypt, key_of(bytes(17)), b"")
+
+    def test_14_key_does_not_fit(self):
+        self.refused(14, "KeyDoesNotFit", lakhdzeva.sign, key_of(FIRST, use="enc"), b"")
+        self.refused(14, "KeyDoesNotFit", lakhdzeva.sign, key_of(FIRST), b"", {"protected": {"alg": "HS512"}})
+        self.refused(14, "KeyDoesNotFit", lakhdzeva.verify, A128, RFC7515_A1)
+
+    def test_15_limit(self):
+        self.refused(15, "Limit", lakhdzeva.generate, {"bytes": 4097})
+        self.refused(15, "Limit", lakhdzeva.verify, [key_of(FIRST)] * 65, RFC7515_A1)
+        password = key_of(b"word", alg="PBES2-HS256+A128KW")
+        self.refused(15, "Limit", lakhdzeva.encrypt, password, b"", {"protected": {"p2c": 999}})
+
+    def test_16_not_compact(self):
+        self.refused(16, "NotCompact", lakhdzeva.sign, [key_of(FIRST), key_of(SECOND)], b"")
+        self.refused(16, "NotCompact", lakhdzeva.sign, key_of(FIRST), b"", {"header": {"kid": "7"}})
+        self.refused(16, "NotCompact", lakhdzeva.encrypt, [A128, A128], b"")
+        self.refused(16, "NotCompact", lakhdzeva.format_encrypted, RFC7516_A4, compact=True)
+
+    def test_17_not_opened(self):
+        self.refused(17, "NotOpened", lakhdzeva.verify, key_of(FIRST), RFC7515_A1)
+        self.refused(17, "NotOpened", lakhdzeva.decrypt, A128, RFC7516_A3)
+
+    def test_a_refusal_is_a_value(self):
+        names = [Refused(number).name for number in range(1, 18)]
+        self.assertEqual(
+            names,
+            "Usage Read Write Memory Random Base64 Json Number Key Form Header Unsupported NoAlgorithm KeyDoesNotFit Limit NotCompact "
+            "NotOpened".split(),
+        )
+        self.assertEqual(Refused(18).name, "Unknown")
+        for copied in (pickle.loads(pickle.dumps(Refused(17))), copy.copy(Refused(17))):
+            self.assertEqual((copied.number, copied.name, str(copied)), (17, "NotOpened", "17 NotOpened"))
+        self.assertFalse(issubclass(Refused, (MemoryError, OSError, ValueError)))
+
+    def test_every_changed_token_is_refused(self):
+        for function, key, token in (
+            (lakhdzeva.verify, RFC7515_KEY, RFC7515_A1),
+            (lakhdzeva.decrypt, RFC7516_KEY, RFC7516_A3),
+            (lakhdzeva.decrypt, RFC7516_KEY, RFC7516_A5),
+            (lakhdzeva.decrypt, RFC7520_WRAPPING_KEY, RFC7520_5_8),
+        ):
+            # The unprotected members of A.5 can be changed: RFC 7516 section 7.2.1.
+            begin, end = (token.index('"encrypted_key"'), len(token)) if token[0] == "{" else (0, len(token))
+            for place, other in itertools.product(range(begin, end), "AQ.\u00e9"):
+                if token[place] != other:
+                    changed = token[:place] + other + token[place + 1 :]
+                    with self.assertRaises(Refused, msg=changed):
+                        function(key, changed)
+            for count in range(0, len(token), 5):
+                with self.assertRaises(Refused):
+                    function(key, token[:count])
+
+
+class Contents(Case):
+    PAYLOADS = [b"", b"\0", b"\xff\xfe", "\u00e9\n".encode(), bytes(range(256)), bytes(100000)]
+
+    def test_signed_contents_come_back(self):
+        for payload, compact in itertools.product(self.PAYLOADS, (True, False)):
+            token = lakhdzeva.sign(key_of(FIRST), payload, compact=compact)
+            self.assertIsInstance(token, str)
+            self.assertEqual(token[0] == "{", not compact)
+            verified = lakhdzeva.verify(key_of(FIRST), token)
+            self.assertEqual((verified, type(verified)), (payload, bytes))
+
+    def test_detached_payloads(self):
+        for payload in self.PAYLOADS:
+            whole = token_of(FIRST, '{"alg":"HS256"}', payload)
+            detached = whole.replace("." + b64(payload) + ".", "..")
+            self.assertEqual(lakhdzeva.sign(key_of(FIRST), payload, detach=True), detached)
+            for kind in (bytes, bytearray, memoryview):
+                verified = lakhdzeva.verify(key_of(FIRST), detached, payload=kind(payload))
+                self.assertEqual((verified, type(verified)), (payload, bytes))
+            self.refused(17, "NotOpened", lakhdzeva.verify, key_of(FIRST), detached, payload=payload + b"x")
+            self.assertEqual(lakhdzeva.format_signed(whole, compact=True, detach=True), (detached, payload))
+            self.assertEqual(lakhdzeva.format_signed(detached, compact=True, payload=payload), whole)
+        self.refused(10, "Form", lakhdzeva.verify, RFC7515_KEY, RFC7515_A1, payload=RFC7515_CLAIMS)
+        self.refused(17, "NotOpened", lakhdzeva.verify, key_of(FIRST), detached)
+
+    def test_encrypted_contents_come_back(self):
+        names = ("A128CBC-HS256", "A192CBC-HS384", "A256CBC-HS512", "A128GCM", "A192GCM", "A256GCM")
+        for plaintext, name in itertools.product(self.PAYLOADS, names):
+            wanted = {"protected": {"enc": name}}
+            self.assertEqual(lakhdzeva.decrypt(A128, lakhdzeva.encrypt(A128, plaintext, wanted)), plaintext)
+            token, ciphertext = lakhdzeva.encrypt(A128, plaintext, wanted, compact=False, detach=True)
+            self.assertNotIn("ciphertext", json.loads(token))
+            for kind in (bytes, bytearray, memoryview):
+                opened = lakhdzeva.decrypt(A128, json.loads(token), ciphertext=kind(ciphertext))
+                self.assertEqual((opened, type(opened)), (plaintext, bytes))
+            self.refused(10, "Form", lakhdzeva.decrypt, A128, token)
+            self.refused(17, "NotOpened", lakhdzeva.decrypt, A128, token, ciphertext=ciphertext + bytes(16))
+
+    def test_a_detached_ciphertext_of_rfc7516_appendix_a3(self):
+        parts = RFC7516_A3.split(".")
+        ciphertext = unb64(parts[3])
+        detached = ".".join(parts[:3] + ["", parts[4]])
+        self.assertEqual(lakhdzeva.format_encrypted(RFC7516_A3, compact=True, detach=True), (detached, ciphertext))
+        self.assertEqual(lakhdzeva.format_encrypted(detached, compact=True, ciphertext=ciphertext), RFC7516_A3)
+        self.assertEqual(lakhdzeva.decrypt(RFC7516_KEY, detached, ciphertext=ciphertext), LINE)
+        with mock.patch("os.urandom", lambda length: RFC7516_RANDOM.ljust(length, b"\0")):
+            made = lakhdzeva.encrypt(RFC7516_KEY, LINE, {"protected": {"enc": "A128CBC-HS256"}}, detach=True)
+        self.assertEqual(made, (detached, ciphertext))
+
+    def test_a_part_of_a_memoryview(self):
+        octets = bytearray(b"abcdefgh")
+        token = lakhdzeva.sign(key_of(FIRST), memoryview(octets)[1:7:2])
+        self.assertEqual(token, token_of(FIRST, '{"alg":"HS256"}', b"bdf"))
+
+
+class Sets(Case):
+    def test_one_key_of_a_set_verifies_or_all_do(self):
+        keys = [key_of(FIRST), key_of(SECOND)]
+        token = lakhdzeva.sign(keys, b"text", compact=False)
+        expected = []
+        for octets in (FIRST, SECOND):
+            protected, _, signature = token_of(octets, '{"alg":"HS256"}', b"text").split(".")
+            expected.append({"protected": protected, "signature": signature})
+        self.assertEqual(json.loads(token), {"payload": b64(b"text"), "signatures": expected})
+        for set_ in (keys, {"keys": keys}, json.dumps({"keys": keys}), keys[::-1]):
+            self.assertEqual(lakhdzeva.verify(set_, token, all=True), b"text")
+        for set_ in (keys[0], keys[1], [key_of(THIRD), keys[1]], [{"kty": "RSA"}, keys[0]]):
+            self.assertEqual(lakhdzeva.verify(set_, token), b"text")
+        self.refused(17, "NotOpened", lakhdzeva.verify, [key_of(THIRD), keys[1]], token, all=True)
+        self.refused(17, "NotOpened", lakhdzeva.verify, key_of(THIRD), token)
+        self.assertEqual(lakhdzeva.verify([{"kty": "RSA"}, keys[0]], token, all=True), b"text")
+
+    def test_all_with_a_detached_payload(self):
+        keys = [key_of(FIRST), key_of(SECOND)]
+        token = lakhdzeva.sign(keys, b"text", compact=False, detach=True)
+        self.assertEqual(lakhdzeva.verify(keys, token, all=True, payload=b"text"), b"text")
+        self.refused(17, "NotOpened", lakhdzeva.verify, keys + [key_of(THIRD)], token, all=True, payload=b"text")
+        self.assertEqual(lakhdzeva.verify(keys + [key_of(THIRD)], token, payload=b"text"), b"text")
+
+    def test_each_key_of_a_set_decrypts(self):
+        keys = [A128, key_of(FIRST, alg="A256GCMKW"), key_of(b"a password", alg="PBES2-HS512+A256KW")]
+        token = lakhdzeva.encrypt(keys, b"text", {"protected": {"p2c": 1000}}, compact=False)
+        self.assertEqual(len(json.loads(token)["recipients"]), 3)
+        for key in keys:
+            self.assertEqual(lakhdzeva.decrypt(key, token), b"text")
+        self.refused(14, "KeyDoesNotFit", lakhdzeva.decrypt, key_of(bytes(17), alg="HS256"), token)
+
+    def test_a_text_of_json_that_is_not_ascii(self):
+        token = lakhdzeva.sign(key_of(FIRST), b"", {"header": {"kid": "\u00e9\U0001f600"}}, compact=False)
+        self.assertEqual(json.loads(token)["header"], {"kid": "\u00e9\U0001f600"})
+        self.assertIn("\u00e9\U0001f600", token)
+
+
+class Types(Case):
+    def test_wrong_types(self):
+        token, key = RFC7515_A1, RFC7515_KEY
+        others = [None, 5, 1.5, object(), {1}, (1,), bytearray(b"{}"), memoryview(b"{}"), RFC7515_KEY.split]
+        for other in others:
+            for call in (
+                lambda: lakhdzeva.sign(other, b""),
+                lambda: lakhdzeva.verify(other, token),
+                lambda: lakhdzeva.encrypt(other, b""),
+                lambda: lakhdzeva.decrypt(other, token),
+                lambda: lakhdzeva.thumbprint(other),
+                lambda: lakhdzeva.thumbprints(other),
+                lambda: lakhdzeva.verify(key, other),
+                lambda: lakhdzeva.decrypt(key, other),
+                lambda: lakhdzeva.format_signed(other),
+                lambda: lakhdzeva.format_encrypted(other),
+            ):
+                with self.assertRaisesRegex(TypeError, type(other).__name__):
+                    call()
+            if other is not None:
+                for call in (
+                    lambda: lakhdzeva.generate(other),
+                    lambda: lakhdzeva.sign(key, b"", other),
+                    lambda: lakhdzeva.encrypt(key, b"", other),
+                ):
+                    with self.assertRaisesRegex(TypeError, "wanted must be"):
+                        call()
+        for other in (None, 256, b"S256", ["S256"]):
+            with self.assertRaisesRegex(TypeError, "hash must be"):
+                lakhdzeva.thumbprint(A128, other)
+        for other in ([], ["a"], [json.loads(key)]):
+            with self.assertRaisesRegex(TypeError, "list"):
+                lakhdzeva.thumbprint(other)
+            with self.assertRaisesRegex(TypeError, "list"):
+                lakhdzeva.verify(key, other)
+
+    def test_contents_are_octets(self):
+        key = key_of(FIRST)
+        for other in ("text", 5, [1, 2], {}, object(), None):
+            calls = [lambda: lakhdzeva.sign(key, other), lambda: lakhdzeva.encrypt(key, other)]
+            if other is not None:
+                calls += [
+                    lambda: lakhdzeva.verify(key, RFC7515_A1, payload=other),
+                    lambda: lakhdzeva.decrypt(key, RFC7516_A3, ciphertext=other),
+                    lambda: lakhdzeva.format_signed(RFC7515_A1, payload=other),
+                    lambda: lakhdzeva.format_encrypted(RFC7516_A3, ciphertext=other),
+                ]
+            for call in calls:
+                with self.assertRaisesRegex(TypeError, r"must be octets, not str: encode it" if other == "text" else "must be bytes"):
+                    call()
+
+    def test_options_have_names(self):
+        for call in (
+            lambda: lakhdzeva.sign(A128, b"", {}, True),
+            lambda: lakhdzeva.verify(A128, RFC7515_A1, True),
+            lambda: lakhdzeva.encrypt(A128, b"", {}, True),
+            lambda: lakhdzeva.decrypt(A128, RFC7516_A3, b""),
+            lambda: lakhdzeva.format_signed(RFC7515_A1, True),
+            lambda: lakhdzeva.format_encrypted(RFC7516_A3, True),
+        ):
+            with self.assertRaises(TypeError):
+                call()
+
+    def test_values_that_json_does_not_have(self):
+        for value in (float("nan"), float("inf")):
+            with self.assertRaises(ValueError):
+                lakhdzeva.sign(key_of(FIRST, extra=value), b"")
+        with self.assertRaises(TypeError):
+            lakhdzeva.sign(key_of(FIRST, extra=b"octets"), b"")
+
+    def test_texts_of_json_are_passed_as_they_are(self):
+        for text in ('{"kty":"oct","k":"%s","x":NaN}', '{"kty":"oct","k":"%s",}'):
+            self.refused(7, "Json", lakhdzeva.sign, text % b64(FIRST), b"")
+        # Of a repeated name only the last member counts.
+        text = '{"kty":"oct","k":"%s","k":"%s"}' % (b64(FIRST), b64(SECOND))
+        self.assertEqual(lakhdzeva.verify(text, token_of(SECOND, '{"alg":"HS256"}', b"")), b"")
+
+    def test_all_names_are_public(self):
+        for name in lakhdzeva.__all__:
+            self.assertTrue(getattr(lakhdzeva, name).__doc__)
+        public = "Refused decrypt encrypt format_encrypted format_signed generate sign thumbprint thumbprints verify"
+        self.assertEqual(sorted(lakhdzeva.__all__), public.split())
+
+
+class Core(Case):
+    """The functions of the shared library, and the rooms of this module."""
+
+    def calls(self):
+        """For each function with places: its arguments, and the rooms of its places."""
+        text, wanted, octets = json.dumps(key_of(FIRST)).encode(), b"{}", b"0123456789"
+        wrap = json.dumps(A128).encode()
+        signed, a3, random = RFC7515_A1.encode(), RFC7516_A3.encode(), bytes(4096)
+        rfc7515, rfc7516 = RFC7515_KEY.encode(), RFC7516_KEY.encode()
+        size = b'{"bytes":20}'
+        return {
+            "generate": ((size, len(size), random, 64), 1),
+            "thumbprints": ((text, len(text), 256), 1),
+            "sign": ((text, len(text), wanted, 2, True, False, octets, 10), 1),
+            "verify": ((rfc7515, len(rfc7515), signed, len(signed), False), 1),
+            "format_signed": ((signed, len(signed), False, b"", 0, False, True), 2),
+            "encrypt": ((wrap, len(wrap), wanted, 2, True, True, random, 1104, octets, 10), 2),
+            "decrypt": ((rfc7516, len(rfc7516), a3, len(a3), False, b"", 0), 1),
+            "format_encrypted": ((a3, len(a3), False, b"", 0, False, True), 2),
+        }
+
+    def call(self, name, arguments, rooms):
+        """Calls the function with places of these rooms. Behind each place is one octet more, which the call must not change."""
+        places = [bytearray(b"\xaa" * (room + 1)) for room in rooms]
+        lengths = [ctypes.c_size_t(77) for _ in rooms]
+        rest = []
+        for place, room, length in zip(places, rooms, lengths):
+            rest += [(ctypes.c_char * len(place)).from_buffer(place), room, ctypes.byref(length)]
+        status = getattr(lakhdzeva, "_" + name)(*arguments, *rest)
+        return status, [length.value for length in lengths], [bytes(place) for place in places]
+
+    def test_a_place_that_is_one_octet_too_small(self):
+        for name, (arguments, count) in self.calls().items():
+            status, lengths, places = self.call(name, arguments, [5000] * count)
+            self.assertEqual(status, 0, name)
+            answers = [place[:length] for place, length in zip(places, lengths)]
+            for length, place in zip(lengths, places):
+                self.assertGreater(length, 0, name)
+                self.assertEqual(place[length:], b"\xaa" * (5001 - length), name)
+            status, again, places = self.call(name, arguments, lengths)
+            self.assertEqual((status, again, [place[:-1] for place in places]), (0, lengths, answers), name)
+            self.assertEqual([place[-1] for place in places], [0xAA] * count, name)
+            for small in range(count):
+                rooms = [length - (index == small) for index, length in enumerate(lengths)]
+                status, again, places = self.call(name, arguments, rooms)
+                self.assertEqual((status, again), (3, lengths), name)
+                self.assertEqual(places, [b"\xaa" * (room + 1) for room in rooms], name)
+            self.assertEqual(self.call(name, arguments, [0] * count)[:2], (3, lengths), name)
+
+    def test_a_refusal_leaves_the_places(self):
+        for name, (arguments, count) in self.calls().items():
+            # The first text is keys, a template or a token. An opening brace alone is not JSON.
+            status, lengths, places = self.call(name, (b"{", 1) + arguments[2:], [5000] * count)
+            self.assertEqual((status, lengths, places), (7, [0] * count, [b"\xaa" * 5001] * count), name)
+
+    def test_too_few_random_octets(self):
+        template, wrap = b'{"bytes":20}', json.dumps(A128).encode()
+        for count in (0, 1, 19, 20):
+            status, lengths, _ = self.call("generate", (template, len(template), bytes(count), count), [5000])
+            self.assertEqual(status, 0 if count == 20 else 5)
+            self.assertEqual(lengths[0] > 0, count == 20)
+        # A key of 32 octets and an initialization vector of 16, for A128CBC-HS256.
+        for count in (0, 32, 47, 48):
+            arguments = (wrap, len(wrap), b"{}", 2, True, False, bytes(count), count, b"", 0)
+            self.assertEqual(self.call("encrypt", arguments, [5000, 0])[0], 0 if count == 48 else 5)
+
+    def test_a_content_that_is_not_detached_needs_no_place(self):
+        for name in ("format_signed", "encrypt", "format_encrypted"):
+            arguments, _ = self.calls()[name]
+            if name == "encrypt":
+                arguments = arguments[:5] + (False,) + arguments[6:]
+            else:
+                arguments = arguments[:-1] + (False,)
+            status, lengths, places = self.call(name, arguments, [5000, 0])
+            self.assertEqual((status, lengths[1], places[1]), (0, 0, b"\xaa"), name)
+
+    def test_a_wrong_room_is_mended_once(self):
+        token = token_of(FIRST, '{"alg":"HS256"}', b"text")
+        with mock.patch.object(lakhdzeva, "_sign_room", lambda *lengths: 1):
+            self.assertEqual(lakhdzeva.sign(key_of(FIRST), b"text"), token)
+        with mock.patch.object(lakhdzeva, "_ciphertext_room", lambda *lengths: 1):
+            made, ciphertext = lakhdzeva.encrypt(A128, b"text", detach=True)
+            self.assertEqual(lakhdzeva.decrypt(A128, made, ciphertext=ciphertext), b"text")
+
+    def never_small(self):
+        """Fails if a call is made again because a place was too small."""
+        places = []
+        made = lakhdzeva._Place.__init__
+
+        def counted(place, room):
+            places.append(room)
+            made(place, room)
+
+        return mock.patch.object(lakhdzeva._Place, "__init__", counted), places
+
+    def test_rooms_suffice(self):
+        patch, places = self.never_small()
+
+        def check(count, function, *arguments, **options):
+            places.clear()
+            answer = function(*arguments, **options)
+            self.assertEqual(len(places), count, (function.__name__, arguments, options))
+            return answer
+
+        long = {"a" * 40: "\u00e9" * 50, "\x01\x1f\n": ["\x7f", -(2**63), 2**64 - 1, None, {"\u2028": '\\"/'}]}
+        with patch:
+            for size in (1, 2, 3, 63, 64, 65, 4094, 4095, 4096):
+                for more in ({}, long):
+                    check(1 + (size > 64), lakhdzeva.generate, {"bytes": size, **more})
+            for name in ("PBES2-HS256+A128KW", "PBES2-HS384+A192KW"):
+                check(2, lakhdzeva.generate, {"bytes": 4096, "alg": name})
+            for count in (1, 2, 3, 63, 64):
+                least = ['{"k":"AA","kty":"oct"}'] * count
+                for text in ('{"keys":[%s]}' % ",".join(least), [key_of(b"\0")] * count):
+                    self.assertEqual(len(check(1, lakhdzeva.thumbprints, text, "S512")), count)
+                for octets, payload, more in itertools.product((32, 48, 64), (0, 1, 2, 300), ({}, long)):
+                    keys = [key_of(bytes(octets))] * count
+                    for wanted in ({"protected": more}, {"header": more}, {"header": {"alg": "HS256"}, "protected": more}):
+                        for detach in (False, True):
+                            token = check(1, lakhdzeva.sign, keys, bytes(payload), wanted, compact=False, detach=detach)
+                        for form in (token, json.dumps(json.loads(token))):
+                            check(2, lakhdzeva.format_signed, form, payload=bytes(payload))
+                            check(2, lakhdzeva.format_signed, form, payload=bytes(payload), detach=True)
+            wraps = [(16, "A128KW"), (32, "A256KW"), (32, "A256GCMKW"), (1, "PBES2-HS256+A128KW"), (1, "PBES2-HS512+A256KW")]
+            for count, (octets, name), enc in itertools.product((1, 2, 64), wraps, ("A256CBC-HS512", "A128GCM")):
+                text = '{"keys":[%s]}' % ",".join(['{"k":"%s","kty":"oct"}' % b64(bytes(octets))] * count)
+                header = {"alg": name, "enc": enc, **({"p2c": 1000} if name[0] == "P" else {})}
+                for wanted in ({"protected": header}, {"unprotected": header}, {"protected": {**header, **long}, "aad": "A" * 400}):
+                    for plaintext, detach in itertools.product((0, 15, 16, 300), (False, True)):
+                        answer = check(2, lakhdzeva.encrypt, text, bytes(plaintext), wanted, compact=False, detach=detach)
+                    check(2, lakhdzeva.format_encrypted, answer[0], ciphertext=answer[1])
+                    check(2, lakhdzeva.format_encrypted, answer[0], ciphertext=answer[1], detach=True)
+                self.assertEqual(check(1, lakhdzeva.decrypt, text, answer[0], ciphertext=answer[1]), bytes(300))
+            for token in (RFC7515_A1, RFC7515_A1 + "\n"):
+                check(2, lakhdzeva.format_signed, token)
+            for length, header in ((100000, {}), (0, {"a": "b" * 50000}), (100001, {"a": "b" * 100001})):
+                content, wanted = bytes(length), {"protected": header}
+                detached = check(1, lakhdzeva.sign, key_of(FIRST), content, wanted, detach=True)
+                signed = check(1, lakhdzeva.sign, key_of(FIRST), content, wanted)
+                for token in (signed, check(2, lakhdzeva.format_signed, detached, payload=content)):
+                    self.assertEqual(check(1, lakhdzeva.verify, key_of(FIRST), token), content)
+                    self.assertEqual(check(2, lakhdzeva.format_signed, token, compact=True, detach=True), (detached, content))
+                token = check(2, lakhdzeva.encrypt, A128, content, wanted)
+                detached, ciphertext = check(2, lakhdzeva.format_encrypted, token, compact=True, detach=True)
+                self.assertEqual(check(2, lakhdzeva.format_encrypted, detached, compact=True, ciphertext=ciphertext), token)
+                self.assertEqual(check(1, lakhdzeva.decrypt, A128, token), content)
+                self.assertEqual(check(1, lakhdzeva.decrypt, A128, detached, ciphertext=ciphertext), content)
+            for length in range(70):
+                check(1, lakhdzeva.verify, key_of(FIRST), token_of(FIRST, '{"alg":"HS256"}', bytes(length)))
+
+
+class Threads(Case):
+    def test_32_threads_at_once(self):
+        ready = threading.Barrier(32)
+
+        def work(number):
+            octets = hashlib.sha256(b"%d" % number).digest()
+            key, wrap = key_of(octets), key_of(octets, alg="A256KW")
+            payload = octets * (number + 1)
+            ready.wait()
+            for _ in range(20):
+                token = lakhdzeva.sign(key, payload)
+                if token != token_of(octets, '{"alg":"HS256"}', payload) or lakhdzeva.verify(key, token) != payload:
+                    return False
+                if lakhdzeva.decrypt(wrap, lakhdzeva.encrypt(wrap, payload)) != payload:
+                    return False
+                try:
+                    lakhdzeva.verify(key_of(SECOND), token)
+                    return False
+                except Refused as refused:
+                    if refused.number != 17:
+                        return False
+            return True
+
+        with ThreadPoolExecutor(32) as pool:
+            self.assertEqual(list(pool.map(work, range(32))), [True] * 32)
+
+
+class Loading(Case):
+    def run_with(self, library):
+        """Imports the package in another process, with the name of a library."""
+        environment = {**os.environ, "LAKHDZEVA_LIBRARY": library, "PYTHONPATH": str(Path(lakhdzeva.__file__).parent.parent)}
+        program = "try:\n import lakhdzeva\nexcept ImportError as error:\n print('refused:', error)\nelse:\n print('imported')"
+        return subprocess.run([sys.executable, "-c", program], env=environment, capture_output=True, text=True, check=True).stdout
+
+    def test_the_variable_names_the_library(self):
+        self.assertEqual(self.run_with(lakhdzeva._LIBRARY._name), "imported\n")
+
+    def test_a_library_that_is_not_there(self):
+        answer = self.run_with("/nowhere/liblakhdzeva.so.2")
+        self.assertRegex(answer, "^refused: the shared library of lakhdzeva cannot be loaded: /nowhere/liblakhdzeva.so.2: .*LAKHDZEVA_LIBRARY")
+
+    def test_another_library(self):
+        self.assertRegex(self.run_with("libc.so.6"), "^refused: libc.so.6 is not version 2 of the shared library of lakhdzeva: ")
+
+    def test_the_version_is_that_of_the_repository(self):
+        sources = Path(__file__).resolve().parent.parent
+        files = [folder / "VERSION" for folder in (sources, sources.parent.parent) if (folder / "VERSION").is_file()]
+        self.assertEqual(lakhdzeva.__version__, files[0].read_text().split()[0])
+
+
+if __name__ == "__main__":
+    unittest.main()

@@ -1,0 +1,461 @@
+//! Sign and verify (JWS, RFC 7515), encrypt and decrypt (JWE, RFC 7516), make keys (JWK, RFC 7517) and compute their thumbprints
+//! (RFC 7638), with octet keys.
+//!
+//! The work is done by the library lakhdzeva, which is proved. This crate passes octets to it, and decides nothing.
+//!
+//! ```
+//! use lakhdzeva::{generate, sign, verify, Form, Refusal, Signers};
+//!
+//! let key = generate(br#"{"alg":"HS256"}"#)?;
+//! let token = sign(&key, b"{}", Form::Compact, b"hello")?;
+//! assert_eq!(verify(&key, &token, Signers::One)?, b"hello");
+//!
+//! let other = generate(br#"{"alg":"HS256"}"#)?;
+//! assert_eq!(verify(&other, &token, Signers::One), Err(Refusal::NotOpened));
+//! # Ok::<(), Refusal>(())
+//! ```
+//!
+//! # Arguments
+//!
+//! - `keys` is the JSON text of one key, or of a set (RFC 7517 sections 4 and 5). Signing and encrypting use each key of a set, and
+//!   refuse a set with an invalid key. Verifying and decrypting ignore invalid keys of a set, and try each of the others.
+//! - `wanted` is a JSON template: the headers of a token, or the members of a key. With `b"{}"` the keys decide.
+//! - `form` is the serialization of an object that is written (RFC 7515 and RFC 7516, section 7). Objects that are read may have any form.
+//!
+//! # What a caller must mind
+//!
+//! - The keys say whom you trust. Never take them from the object.
+//! - `kid` is ignored: every key that you pass is tried. `exp` and other claims of a JWT are not checked.
+//! - A call needs 256 KiB of stack.
+//! - Do not call from a signal handler. After a fork of a process with threads, do not call in the child.
+//! - Memory that held keys or plaintext is not wiped.
+//! - Any number of threads may call at once.
+#![deny(missing_docs, unsafe_code, unsafe_op_in_unsafe_fn)]
+
+mod answers;
+#[allow(unsafe_code)]
+mod calls;
+#[allow(unsafe_code)]
+mod random;
+mod refusal;
+mod rooms;
+
+pub use crate::refusal::Refusal;
+
+use crate::answers::{answer, answers, same_place};
+
+/// The serialization of an object that is written.
+#[derive(Clone, Copy, Debug, PartialEq, Eq, Hash)]
+pub enum Form {
+    /// A JSON object (RFC 7515 and RFC 7516, section 7.2): flattened for one signature or recipient, and otherwise general.
+    Json,
+    /// Parts with dots between them (RFC 7515 and RFC 7516, section 7.1). Such an object has one signature or one recipient.
+    Compact,
+}
+
+/// The keys that must have signed an object.
+#[derive(Clone, Copy, Debug, PartialEq, Eq, Hash)]
+pub enum Signers {
+    /// At least one of the keys.
+    One,
+    /// Each of the valid keys.
+    All,
+}
+
+/// The hash of a thumbprint (FIPS 180-4).
+#[derive(Clone, Copy, Debug, PartialEq, Eq, Hash)]
+pub enum Hash {
+    /// SHA-224.
+    Sha224,
+    /// SHA-256, which is the usual one.
+    Sha256,
+    /// SHA-384.
+    Sha384,
+    /// SHA-512.
+    Sha512,
+}
+
+impl Hash {
+    /// The length of a digest in bits.
+    const fn bits(self) -> u32 {
+        match self {
+            Hash::Sha224 => 224,
+            Hash::Sha256 => 256,
+            Hash::Sha384 => 384,
+            Hash::Sha512 => 512,
+        }
+    }
+}
+
+/// Makes a random key as the template asks, and returns its JSON text (RFC 7517 section 4, RFC 7518 section 6.4).
+///
+/// The template names the algorithm (`alg`), or the length in octets (`bytes`), or both. Its other members are copied.
+///
+/// Refusals: [`Json`](Refusal::Json), [`Number`](Refusal::Number), [`Key`](Refusal::Key), [`Limit`](Refusal::Limit),
+/// [`Unsupported`](Refusal::Unsupported), [`NoAlgorithm`](Refusal::NoAlgorithm), [`KeyDoesNotFit`](Refusal::KeyDoesNotFit),
+/// [`Random`](Refusal::Random), [`Memory`](Refusal::Memory).
+///
+/// ```
+/// use lakhdzeva::{generate, Refusal};
+///
+/// let key = generate(br#"{"alg":"A256GCM","kid":"7"}"#)?;
+/// assert!(key.starts_with(br#"{"alg":"A256GCM","k":""#));
+/// assert_eq!(generate(b"{}"), Err(Refusal::NoAlgorithm));
+/// # Ok::<(), Refusal>(())
+/// ```
+pub fn generate(wanted: &[u8]) -> Result<Vec<u8>, Refusal> {
+    answer(rooms::generate(wanted.len()), |mut place| {
+        let mut random = [0; 4096];
+        let mut status = Refusal::Random.number();
+        // An algorithm asks for at most 64 octets, and a template for at most 4,096.
+        for most in [64, random.len()] {
+            if status == Refusal::Random.number() {
+                let octets = random_octets(&mut random[..most]);
+                status = calls::generate(wanted, octets, same_place(&mut place));
+            }
+        }
+        status
+    })
+}
+
+/// The thumbprints of the valid keys of a text, in their order, with a line feed between each two (RFC 7638).
+///
+/// Do not publish the thumbprint of a password: it lets anyone test guesses.
+///
+/// Refusals: [`Json`](Refusal::Json), [`Number`](Refusal::Number), [`Key`](Refusal::Key), [`Limit`](Refusal::Limit),
+/// [`Memory`](Refusal::Memory).
+///
+/// ```
+/// use lakhdzeva::{thumbprints, Hash, Refusal};
+///
+/// let key = br#"{"kty":"oct","k":"GawgguFyGrWKav7AX4VKUg"}"#;
+/// assert_eq!(thumbprints(key, Hash::Sha256)?, "k1JnWRfC-5zzmL72vXIuBgTLfVROXBakS4OmGcrMCoc");
+/// # Ok::<(), Refusal>(())
+/// ```
+pub fn thumbprints(keys: &[u8], hash: Hash) -> Result<String, Refusal> {
+    let lines = answer(rooms::thumbprints(keys.len()), |place| {
+        calls::thumbprints(keys, hash.bits(), place)
+    })?;
+    Ok(String::from_utf8(lines).expect("thumbprints are base64url texts and line feeds"))
+}
+
+/// Signs the payload with each of the keys, and returns the object (RFC 7515 section 5.1).
+///
+/// The template may have the members `protected` and `header`. Each is an object with members of the header.
+///
+/// Refusals: [`Json`](Refusal::Json), [`Number`](Refusal::Number), [`Key`](Refusal::Key), [`Form`](Refusal::Form),
+/// [`Header`](Refusal::Header), [`Unsupported`](Refusal::Unsupported), [`NoAlgorithm`](Refusal::NoAlgorithm),
+/// [`KeyDoesNotFit`](Refusal::KeyDoesNotFit), [`Limit`](Refusal::Limit), [`NotCompact`](Refusal::NotCompact),
+/// [`Memory`](Refusal::Memory).
+///
+/// ```
+/// use lakhdzeva::{sign, Form, Refusal};
+///
+/// let key = br#"{"kty":"oct","alg":"HS256","k":"AAAAAAAAAAAAAAAAAAAAAAAAAAAAAAAAAAAAAAAAAAA"}"#;
+/// let token = sign(key, br#"{"protected":{"typ":"JWT"}}"#, Form::Compact, b"{}")?;
+/// assert!(token.starts_with(b"eyJhbGciOiJIUzI1NiIsInR5cCI6IkpXVCJ9.e30."));
+/// # Ok::<(), Refusal>(())
+/// ```
+pub fn sign(keys: &[u8], wanted: &[u8], form: Form, payload: &[u8]) -> Result<Vec<u8>, Refusal> {
+    let room = rooms::sign(keys.len(), wanted.len(), payload.len());
+    answer(room, |place| {
+        calls::sign(keys, wanted, form == Form::Compact, false, payload, place)
+    })
+}
+
+/// Signs the payload with each of the keys, and returns the object without the payload (RFC 7515 appendix F).
+///
+/// The refusals are those of [`sign`].
+///
+/// ```
+/// use lakhdzeva::{generate, sign_detached, verify_detached, Form, Refusal, Signers};
+///
+/// let key = generate(br#"{"alg":"HS512"}"#)?;
+/// let object = sign_detached(&key, b"{}", Form::Json, b"a long text")?;
+/// verify_detached(&key, &object, Signers::One, b"a long text")?;
+/// # Ok::<(), Refusal>(())
+/// ```
+pub fn sign_detached(
+    keys: &[u8],
+    wanted: &[u8],
+    form: Form,
+    payload: &[u8],
+) -> Result<Vec<u8>, Refusal> {
+    let room = rooms::sign(keys.len(), wanted.len(), 0);
+    answer(room, |place| {
+        calls::sign(keys, wanted, form == Form::Compact, true, payload, place)
+    })
+}
+
+/// Verifies the object, and returns its payload (RFC 7515 section 5.2).
+///
+/// Refusals: [`Json`](Refusal::Json), [`Number`](Refusal::Number), [`Key`](Refusal::Key), [`Limit`](Refusal::Limit),
+/// [`Form`](Refusal::Form), [`Base64`](Refusal::Base64), [`Header`](Refusal::Header), [`Unsupported`](Refusal::Unsupported),
+/// [`KeyDoesNotFit`](Refusal::KeyDoesNotFit), [`NotOpened`](Refusal::NotOpened), [`Memory`](Refusal::Memory).
+///
+/// ```
+/// use lakhdzeva::{verify, Refusal, Signers};
+///
+/// // RFC 7515 appendix A.1.
+/// let key = br#"{"kty":"oct","k":"AyM1SysPpbyDfgZld3umj1qzKObwVMkoqQ-EstJQLr_T-1qS0gZH75aKtMN3Yj0iPS4hcgUuTwjAzZr1Z9CAow"}"#;
+/// let object = b"eyJ0eXAiOiJKV1QiLA0KICJhbGciOiJIUzI1NiJ9.\
+///     eyJpc3MiOiJqb2UiLA0KICJleHAiOjEzMDA4MTkzODAsDQogImh0dHA6Ly9leGFtcGxlLmNvbS9pc19yb290Ijp0cnVlfQ.\
+///     dBjftJeZ4CVP-mB92K27uhbUJU1p1r_wW1gFWFOEjXk";
+/// let payload = verify(key, object, Signers::One)?;
+/// assert!(payload.starts_with(b"{\"iss\":\"joe\","));
+/// # Ok::<(), Refusal>(())
+/// ```
+pub fn verify(keys: &[u8], object: &[u8], signers: Signers) -> Result<Vec<u8>, Refusal> {
+    answer(rooms::verify(object.len()), |place| {
+        calls::verify(keys, object, signers == Signers::All, place)
+    })
+}
+
+/// Verifies the object with this payload, which is not in the object (RFC 7515 appendix F).
+///
+/// An object that has its own payload is refused with [`Form`](Refusal::Form). The other refusals are those of [`verify`].
+///
+/// ```
+/// use lakhdzeva::{generate, sign_detached, verify_detached, Form, Refusal, Signers};
+///
+/// let key = generate(br#"{"alg":"HS256"}"#)?;
+/// let object = sign_detached(&key, b"{}", Form::Compact, b"one")?;
+/// assert_eq!(verify_detached(&key, &object, Signers::One, b"two"), Err(Refusal::NotOpened));
+/// # Ok::<(), Refusal>(())
+/// ```
+pub fn verify_detached(
+    keys: &[u8],
+    object: &[u8],
+    signers: Signers,
+    payload: &[u8],
+) -> Result<(), Refusal> {
+    Refusal::of_status(calls::verify_detached(
+        keys,
+        object,
+        signers == Signers::All,
+        payload,
+    ))
+}
+
+/// Encrypts the plaintext to each of the keys, and returns the object (RFC 7516 section 5.1).
+///
+/// The template may have the members `protected` and `unprotected`, which are objects with members of the header, and `aad`, which is a
+/// base64url text.
+///
+/// Refusals: [`Json`](Refusal::Json), [`Number`](Refusal::Number), [`Key`](Refusal::Key), [`Form`](Refusal::Form),
+/// [`Base64`](Refusal::Base64), [`Header`](Refusal::Header), [`Unsupported`](Refusal::Unsupported),
+/// [`NoAlgorithm`](Refusal::NoAlgorithm), [`KeyDoesNotFit`](Refusal::KeyDoesNotFit), [`Limit`](Refusal::Limit),
+/// [`NotCompact`](Refusal::NotCompact), [`Random`](Refusal::Random), [`Memory`](Refusal::Memory).
+///
+/// ```
+/// use lakhdzeva::{decrypt, encrypt, generate, Form, Refusal};
+///
+/// let key = generate(br#"{"alg":"A128KW"}"#)?;
+/// let object = encrypt(&key, br#"{"protected":{"enc":"A128GCM"}}"#, Form::Compact, b"secret")?;
+/// assert_eq!(decrypt(&key, &object, None)?, b"secret");
+/// # Ok::<(), Refusal>(())
+/// ```
+pub fn encrypt(
+    keys: &[u8],
+    wanted: &[u8],
+    form: Form,
+    plaintext: &[u8],
+) -> Result<Vec<u8>, Refusal> {
+    let room = rooms::encrypt(keys.len(), wanted.len(), plaintext.len());
+    let (object, _) = encrypt_with(keys, wanted, form, false, plaintext, room, 0)?;
+    Ok(object)
+}
+
+/// Encrypts the plaintext to each of the keys, and returns the object without its ciphertext, and the ciphertext.
+///
+/// RFC 7516 section 7.2.1 requires the ciphertext in the object. This library allows to keep it apart, as RFC 7515 appendix F has it for a
+/// payload.
+///
+/// The refusals are those of [`encrypt`].
+///
+/// ```
+/// use lakhdzeva::{decrypt, encrypt_detached, generate, Form, Refusal};
+///
+/// let key = generate(br#"{"alg":"A256GCM"}"#)?;
+/// let (object, ciphertext) = encrypt_detached(&key, b"{}", Form::Json, b"secret")?;
+/// assert_eq!(ciphertext.len(), 6);
+/// assert_eq!(decrypt(&key, &object, Some(&ciphertext))?, b"secret");
+/// # Ok::<(), Refusal>(())
+/// ```
+pub fn encrypt_detached(
+    keys: &[u8],
+    wanted: &[u8],
+    form: Form,
+    plaintext: &[u8],
+) -> Result<(Vec<u8>, Vec<u8>), Refusal> {
+    let room = rooms::encrypt(keys.len(), wanted.len(), 0);
+    let content_room = rooms::ciphertext(plaintext.len());
+    encrypt_with(keys, wanted, form, true, plaintext, room, content_room)
+}
+
+/// Decrypts the object with one of the keys, and returns the plaintext (RFC 7516 section 5.2).
+///
+/// The ciphertext is `None` if it is in the object. An empty ciphertext that is kept apart is `Some(&[])`.
+///
+/// Refusals: [`Json`](Refusal::Json), [`Number`](Refusal::Number), [`Key`](Refusal::Key), [`Limit`](Refusal::Limit),
+/// [`Form`](Refusal::Form), [`Base64`](Refusal::Base64), [`Header`](Refusal::Header), [`Unsupported`](Refusal::Unsupported),
+/// [`KeyDoesNotFit`](Refusal::KeyDoesNotFit), [`NotOpened`](Refusal::NotOpened), [`Memory`](Refusal::Memory).
+///
+/// ```
+/// use lakhdzeva::{decrypt, Refusal};
+///
+/// // RFC 7516 appendix A.3.
+/// let key = br#"{"kty":"oct","k":"GawgguFyGrWKav7AX4VKUg"}"#;
+/// let object = b"eyJhbGciOiJBMTI4S1ciLCJlbmMiOiJBMTI4Q0JDLUhTMjU2In0.\
+///     6KB707dM9YTIgHtLvtgWQ8mKwboJW3of9locizkDTHzBC2IlrT1oOQ.AxY8DCtDaGlsbGljb3RoZQ.\
+///     KDlTtXchhZTGufMYmOYGS4HffxPSUrfmqCHXaI9wOGY.U0m_YmjN04DJvceFICbCVQ";
+/// assert_eq!(decrypt(key, object, None)?, b"Live long and prosper.");
+/// # Ok::<(), Refusal>(())
+/// ```
+pub fn decrypt(keys: &[u8], object: &[u8], ciphertext: Option<&[u8]>) -> Result<Vec<u8>, Refusal> {
+    let room = rooms::decrypt(object.len(), length_of(ciphertext));
+    answer(room, |place| {
+        calls::decrypt(keys, object, ciphertext, place)
+    })
+}
+
+/// Writes a signed object in this form (RFC 7515 section 7). It sees no key and verifies nothing.
+///
+/// The payload is `None` if it is in the object. A payload that is kept apart is handed in, and becomes part of the object.
+///
+/// Refusals: [`Json`](Refusal::Json), [`Number`](Refusal::Number), [`Form`](Refusal::Form), [`Limit`](Refusal::Limit),
+/// [`Base64`](Refusal::Base64), [`Header`](Refusal::Header), [`Unsupported`](Refusal::Unsupported),
+/// [`NotCompact`](Refusal::NotCompact), [`Memory`](Refusal::Memory).
+///
+/// ```
+/// use lakhdzeva::{format_signed, Form, Refusal};
+///
+/// let object = format_signed(b"eyJhbGciOiJIUzI1NiJ9.aGk.AAAA", None, Form::Json)?;
+/// assert_eq!(object, br#"{"payload":"aGk","protected":"eyJhbGciOiJIUzI1NiJ9","signature":"AAAA"}"#);
+/// # Ok::<(), Refusal>(())
+/// ```
+pub fn format_signed(
+    object: &[u8],
+    payload: Option<&[u8]>,
+    form: Form,
+) -> Result<Vec<u8>, Refusal> {
+    let room = rooms::format(object.len(), length_of(payload));
+    let (text, _) = answers(room, 0, |text, content| {
+        calls::format_signed(object, payload, form == Form::Compact, false, text, content)
+    })?;
+    Ok(text)
+}
+
+/// Writes a signed object in this form without its payload, and returns it and the payload (RFC 7515 appendix F). It verifies nothing.
+///
+/// The arguments and the refusals are those of [`format_signed`].
+///
+/// ```
+/// use lakhdzeva::{format_signed_detached, Form, Refusal};
+///
+/// let (object, payload) = format_signed_detached(b"eyJhbGciOiJIUzI1NiJ9.aGk.AAAA", None, Form::Compact)?;
+/// assert_eq!(object, b"eyJhbGciOiJIUzI1NiJ9..AAAA");
+/// assert_eq!(payload, b"hi");
+/// # Ok::<(), Refusal>(())
+/// ```
+pub fn format_signed_detached(
+    object: &[u8],
+    payload: Option<&[u8]>,
+    form: Form,
+) -> Result<(Vec<u8>, Vec<u8>), Refusal> {
+    let length = length_of(payload);
+    let room = rooms::format(object.len(), 0);
+    let content_room = rooms::content(object.len(), length);
+    answers(room, content_room, |text, content| {
+        calls::format_signed(object, payload, form == Form::Compact, true, text, content)
+    })
+}
+
+/// Writes an encrypted object in this form (RFC 7516 section 7). It sees no key and decrypts nothing.
+///
+/// The ciphertext is `None` if it is in the object. A ciphertext that is kept apart is handed in, and becomes part of the object.
+///
+/// The refusals are those of [`format_signed`].
+///
+/// ```
+/// use lakhdzeva::{encrypt, format_encrypted, generate, Form, Refusal};
+///
+/// let key = generate(br#"{"alg":"A256GCM"}"#)?;
+/// let compact = encrypt(&key, b"{}", Form::Compact, b"secret")?;
+/// let json = format_encrypted(&compact, None, Form::Json)?;
+/// assert_eq!(format_encrypted(&json, None, Form::Compact)?, compact);
+/// # Ok::<(), Refusal>(())
+/// ```
+pub fn format_encrypted(
+    object: &[u8],
+    ciphertext: Option<&[u8]>,
+    form: Form,
+) -> Result<Vec<u8>, Refusal> {
+    let room = rooms::format(object.len(), length_of(ciphertext));
+    let (text, _) = answers(room, 0, |text, content| {
+        let compact = form == Form::Compact;
+        calls::format_encrypted(object, ciphertext, compact, false, text, content)
+    })?;
+    Ok(text)
+}
+
+/// Writes an encrypted object in this form without its ciphertext, and returns it and the ciphertext. It decrypts nothing.
+///
+/// The arguments and the refusals are those of [`format_encrypted`].
+///
+/// ```
+/// use lakhdzeva::{decrypt, encrypt, format_encrypted_detached, generate, Form, Refusal};
+///
+/// let key = generate(br#"{"alg":"A256GCM"}"#)?;
+/// let whole = encrypt(&key, b"{}", Form::Compact, b"secret")?;
+/// let (object, ciphertext) = format_encrypted_detached(&whole, None, Form::Json)?;
+/// assert_eq!(decrypt(&key, &object, Some(&ciphertext))?, b"secret");
+/// # Ok::<(), Refusal>(())
+/// ```
+pub fn format_encrypted_detached(
+    object: &[u8],
+    ciphertext: Option<&[u8]>,
+    form: Form,
+) -> Result<(Vec<u8>, Vec<u8>), Refusal> {
+    let length = length_of(ciphertext);
+    let room = rooms::format(object.len(), 0);
+    let content_room = rooms::content(object.len(), length);
+    answers(room, content_room, |text, content| {
+        let compact = form == Form::Compact;
+        calls::format_encrypted(object, ciphertext, compact, true, text, content)
+    })
+}
+
+/// Encrypts with octets of the system, into an object and a ciphertext of these rooms.
+fn encrypt_with(
+    keys: &[u8],
+    wanted: &[u8],
+    form: Form,
+    detach: bool,
+    plaintext: &[u8],
+    room: usize,
+    content_room: usize,
+) -> Result<(Vec<u8>, Vec<u8>), Refusal> {
+    answers(room, content_room, |object, ciphertext| {
+        let mut random = [0; rooms::MOST_RANDOM_TO_ENCRYPT];
+        let octets = random_octets(&mut random[..rooms::random_to_encrypt(keys.len())]);
+        let compact = form == Form::Compact;
+        calls::encrypt(
+            keys, wanted, compact, detach, octets, plaintext, object, ciphertext,
+        )
+    })
+}
+
+/// Random octets of the system in this place, or none if it gives none. The library then refuses with `Random`, or for an earlier cause.
+fn random_octets(place: &mut [u8]) -> &[u8] {
+    if random::draw(place) {
+        place
+    } else {
+        &[]
+    }
+}
+
+/// The length of a content that is handed in, or 0.
+fn length_of(content: Option<&[u8]>) -> usize {
+    content.map_or(0, <[u8]>::len)
+}

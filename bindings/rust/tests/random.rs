@@ -1,0 +1,50 @@
+//! The crate draws new random octets for each key and each object.
+
+mod common;
+
+use common::*;
+use lakhdzeva::*;
+use std::collections::HashSet;
+
+#[test]
+fn no_two_keys_are_equal() {
+    for wanted in [
+        &br#"{"alg":"HS256"}"#[..],
+        br#"{"bytes":65}"#,
+        br#"{"bytes":4096}"#,
+    ] {
+        let keys: HashSet<_> = (0..100).map(|_| generate(wanted).unwrap()).collect();
+        assert_eq!(keys.len(), 100);
+    }
+}
+
+#[test]
+fn a_long_key_ends_in_random_octets() {
+    // The last octets come from the second draw. Octets that nobody drew would be zero.
+    let key = generate(br#"{"bytes":4096}"#).unwrap();
+    let text = String::from_utf8(key).unwrap();
+    assert_eq!(text.len(), r#"{"k":"","kty":"oct"}"#.len() + 5462);
+    assert!(!text.contains("AAAAAAAAAAAAAAAA"));
+}
+
+#[test]
+fn no_two_objects_are_equal() {
+    let objects: HashSet<_> = (0..100)
+        .map(|_| encrypt(RFC7516_KEY, b"{}", Form::Compact, b"secret").unwrap())
+        .collect();
+    assert_eq!(objects.len(), 100);
+}
+
+#[test]
+fn each_recipient_has_its_own_salt() {
+    let keys = copies(&key_of('A', 2), 64);
+    let template = br#"{"protected":{"alg":"PBES2-HS256+A128KW","p2c":1000}}"#;
+    let object = encrypt(keys.as_bytes(), template, Form::Json, b"secret").unwrap();
+    let text = String::from_utf8(object).unwrap();
+    let salts: HashSet<_> = text
+        .split(r#""p2s":""#)
+        .skip(1)
+        .map(|rest| rest.split('"').next().unwrap())
+        .collect();
+    assert_eq!(salts.len(), 64);
+}

@@ -1,0 +1,242 @@
+//! The answers of the calls. Each has the octets that the definitions give, or their refusal, unless memory or a device fails. The inputs
+//! never fail, and the outputs fail only if memory is refused.
+ghost use Rattle.std.specs.Prelude.{◌≡◌, true, false, [], None, Some, option_map, IfOk, IfErr};
+ghost use Rattle.octets.specs.Outcomes.{GivesUnlessExternal};
+ghost use Rattle.octets.specs.declared.refusal.Refusal.{Refusal};
+ghost use Rattle.keys.specs.Limits.{limits};
+ghost use Rattle.keys.specs.Generating.{gen_answer};
+ghost use Rattle.tokens.specs.Jws.{ver_answer, jws_fmt_answer};
+ghost use Rattle.tokens.specs.Jwe.{dec_answer, jwe_fmt_answer};
+ghost use Rattle.lakhdzeva.specs.Answers.{if_given, hash_of_bits, thumbprints_answer, sign_answer, encrypt_answer};
+ghost use Rattle.lakhdzeva.specs.Code.{both};
+
+use crate::growing::GrowingOutput;
+use keys::{KeySet, generate, text_thumbprints};
+use objects::{Jwe, Jws};
+use octets::{MemoryInput, Refusal};
+use prf::HashAlg;
+use std::alloc::Global;
+use tokens::{jwe_decrypt, jwe_encrypt, jws_sign, jws_verify, jws_verify_detached};
+
+/// The text of an object, and a content beside it.
+#[derive(Drop)]
+pub(crate) struct Both {
+    pub(crate) text: Vec<u8>,
+    pub(crate) content: Vec<u8>,
+}
+
+/// The content that is handed in apart from its object, if it is.
+fn given_content(alloc: Global, given: bool, content: &[u8]) -> Result<Option<Vec<u8>>, Refusal>
+    ensures copy { IfOk result (λ copy. option_map (λ c. c.items) copy ≡ if_given given content.now) }
+    ensures memory { IfErr result (λ e. e ≡ Refusal.Memory) }
+{
+    if given {
+        Ok(Some(Vec::from_slice(alloc, content)?))
+    } else {
+        Ok(None)
+    }
+}
+
+/// The hash that a number of bits means.
+fn hash_of_bits(bits: u32) -> Option<HashAlg>
+    ensures { result ≡ hash_of_bits bits }
+{
+    match bits {
+        224 => Some(HashAlg::S224),
+        256 => Some(HashAlg::S256),
+        384 => Some(HashAlg::S384),
+        512 => Some(HashAlg::S512),
+        _ => None,
+    }
+}
+
+#[tactic(auto, using(crate::proofs::Lemmas::contents_possible))]
+pub(crate) fn key_text(alloc: Global, template: &[u8], random: &[u8]) -> Result<Vec<u8>, Refusal>
+    ensures { GivesUnlessExternal (λ text. text.items) result (gen_answer limits template.now random.now) }
+{
+    let mut random = MemoryInput::new(random, usize::MAX);
+    Ok(generate(alloc, template, &mut random)?.into_bytes())
+}
+
+pub(crate) fn thumbprint_lines(alloc: Global, keys: &[u8], bits: u32) -> Result<Vec<u8>, Refusal>
+    ensures { GivesUnlessExternal (λ text. text.items) result (thumbprints_answer keys.now bits) }
+{
+    let hash = hash_of_bits(bits).ok_or(Refusal::Usage)?;
+    Ok(text_thumbprints(alloc, keys, hash)?.into_bytes())
+}
+
+#[tactic(auto, using(crate::proofs::Lemmas::contents_possible))]
+pub(crate) fn signed_text(
+    alloc: Global,
+    keys: &[u8],
+    template: &[u8],
+    compact: bool,
+    detach: bool,
+    payload: &[u8],
+) -> Result<Vec<u8>, Refusal>
+    ensures { GivesUnlessExternal (λ text. text.items) result (sign_answer compact detach keys.now template.now payload.now) }
+{
+    let set = KeySet::read(alloc, keys, true)?;
+    let mut payload = MemoryInput::new(payload, usize::MAX);
+    let mut text = GrowingOutput::new(alloc);
+    if detach {
+        let mut left_out = GrowingOutput::new(alloc);
+        jws_sign(
+            alloc,
+            &set,
+            template,
+            compact,
+            &mut payload,
+            &mut text,
+            Some(&mut left_out),
+        )?;
+    } else {
+        jws_sign(
+            alloc,
+            &set,
+            template,
+            compact,
+            &mut payload,
+            &mut text,
+            Option::default(),
+        )?;
+    }
+    Ok(text.into_octets())
+}
+
+pub(crate) fn payload_of(
+    alloc: Global,
+    keys: &[u8],
+    object: &[u8],
+    all: bool,
+) -> Result<Vec<u8>, Refusal>
+    ensures { GivesUnlessExternal (λ payload. payload.items) result (ver_answer limits all true keys.now None object.now) }
+{
+    let set = KeySet::read(alloc, keys, false)?;
+    let jws = Jws::read(alloc, object, None)?;
+    let mut payload = GrowingOutput::new(alloc);
+    jws_verify(&set, &jws, all, Some(&mut payload))?;
+    Ok(payload.into_octets())
+}
+
+/// Verifies an object whose payload is handed in apart from it.
+pub(crate) fn verify_with_payload(
+    alloc: Global,
+    keys: &[u8],
+    object: &[u8],
+    payload: &[u8],
+    all: bool,
+) -> Result<(), Refusal>
+    ensures { GivesUnlessExternal (λ _. []) result (ver_answer limits all false keys.now (Some payload.now) object.now) }
+{
+    let set = KeySet::read(alloc, keys, false)?;
+    let jws = Jws::read(alloc, object, Some(Vec::from_slice(alloc, payload)?))?;
+    jws_verify::<GrowingOutput>(&set, &jws, all, Option::default())
+}
+
+#[tactic(auto, unfolding(tokens::specs::Jws::jws_fmt_answer))]
+pub(crate) fn signed_form(
+    alloc: Global,
+    object: &[u8],
+    given: bool,
+    payload: &[u8],
+    compact: bool,
+    detach: bool,
+) -> Result<Both, Refusal>
+    ensures { GivesUnlessExternal both result (jws_fmt_answer limits compact detach (if_given given payload.now) object.now) }
+{
+    let payload = given_content(alloc, given, payload)?;
+    let object = Jws::read(alloc, object, payload)?;
+    let text = object.to_text(alloc, compact, detach)?.into_bytes();
+    let content = if detach {
+        object.payload(alloc)?
+    } else {
+        Vec::new(alloc)
+    };
+    Ok(Both { text, content })
+}
+
+#[tactic(auto, using(crate::proofs::Lemmas::contents_possible))]
+pub(crate) fn encrypted_texts<'x>(
+    alloc: Global,
+    keys: &[u8],
+    template: &[u8],
+    compact: bool,
+    detach: bool,
+    random: &'x [u8],
+    plaintext: &'x [u8],
+) -> Result<Both, Refusal>
+    ensures { GivesUnlessExternal both result (encrypt_answer compact detach keys.now template.now random.now plaintext.now) }
+{
+    let set = KeySet::read(alloc, keys, true)?;
+    let mut random = MemoryInput::new(random, usize::MAX);
+    let mut plaintext = MemoryInput::new(plaintext, usize::MAX);
+    let mut text = GrowingOutput::new(alloc);
+    let mut content = GrowingOutput::new(alloc);
+    if detach {
+        jwe_encrypt(
+            alloc,
+            &set,
+            template,
+            compact,
+            &mut random,
+            &mut plaintext,
+            &mut text,
+            Some(&mut content),
+        )?;
+    } else {
+        jwe_encrypt(
+            alloc,
+            &set,
+            template,
+            compact,
+            &mut random,
+            &mut plaintext,
+            &mut text,
+            Option::default(),
+        )?;
+    }
+    Ok(Both {
+        text: text.into_octets(),
+        content: content.into_octets(),
+    })
+}
+
+pub(crate) fn plaintext_of(
+    alloc: Global,
+    keys: &[u8],
+    object: &[u8],
+    given: bool,
+    ciphertext: &[u8],
+) -> Result<Vec<u8>, Refusal>
+    ensures { GivesUnlessExternal (λ plaintext. plaintext.items) result (dec_answer limits keys.now (if_given given ciphertext.now) object.now) }
+{
+    let set = KeySet::read(alloc, keys, false)?;
+    let ciphertext = given_content(alloc, given, ciphertext)?;
+    let jwe = Jwe::read(alloc, object, ciphertext)?;
+    let mut plaintext = GrowingOutput::new(alloc);
+    jwe_decrypt(alloc, &set, jwe, &mut plaintext).1?;
+    Ok(plaintext.into_octets())
+}
+
+#[tactic(auto, unfolding(tokens::specs::Jwe::jwe_fmt_answer))]
+pub(crate) fn encrypted_form(
+    alloc: Global,
+    object: &[u8],
+    given: bool,
+    ciphertext: &[u8],
+    compact: bool,
+    detach: bool,
+) -> Result<Both, Refusal>
+    ensures { GivesUnlessExternal both result (jwe_fmt_answer limits compact detach (if_given given ciphertext.now) object.now) }
+{
+    let ciphertext = given_content(alloc, given, ciphertext)?;
+    let mut object = Jwe::read(alloc, object, ciphertext)?;
+    let text = object.to_text(alloc, compact, detach)?.into_bytes();
+    let content = if detach {
+        object.take_ciphertext(alloc)
+    } else {
+        Vec::new(alloc)
+    };
+    Ok(Both { text, content })
+}

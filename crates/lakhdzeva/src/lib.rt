@@ -1,0 +1,210 @@
+//! The library for C, and for every language that calls C: thumbprints, making keys, signing, verifying, encrypting, decrypting, and writing
+//! objects in another form. All octets are in memory, no call keeps anything, and calls may run side by side.
+//!
+//! A call answers 0 or the number of a refusal (docs/SPECIFICATION.md "Refusals"). Its answer goes to the front of a place, with the length
+//! beside it. If the place is too small, the status is 3 and the length is the one that is needed. After every other refusal the length
+//! is 0. Whatever is refused, the place is left as it was. A caller in C includes lakhdzeva.h, which says what C owes.
+#![tactic(auto)]
+
+ghost use Rattle.std.specs.Prelude.{true, false, None, Some};
+ghost use Rattle.keys.specs.Limits.{limits};
+ghost use Rattle.keys.specs.Generating.{gen_answer};
+ghost use Rattle.tokens.specs.Jws.{ver_answer, jws_fmt_answer};
+ghost use Rattle.tokens.specs.Jwe.{dec_answer, jwe_fmt_answer};
+ghost use Rattle.lakhdzeva.specs.Answers.{if_given, thumbprints_answer, sign_answer, encrypt_answer};
+ghost use Rattle.lakhdzeva.specs.Calls.{Tells, Delivers, DeliversBoth};
+
+mod answers;
+mod growing;
+mod places;
+
+use crate::answers::{
+    encrypted_form, encrypted_texts, key_text, payload_of, plaintext_of, signed_form, signed_text,
+    thumbprint_lines, verify_with_payload,
+};
+use crate::places::{deliver, deliver_both, told};
+use std::alloc::Global;
+
+/// Makes a key as the template asks, from octets at the front of `random`, which are all new. Most templates need at most 64 of them, and
+/// one with `bytes` needs as many as this says, up to 4,096.
+#[unsafe(no_mangle)]
+pub extern "C" fn lakhdzeva_core_generate(
+    alloc: Global,
+    template: &[u8],
+    random: &[u8],
+    key: &mut [u8],
+    count: &mut usize,
+) -> u32
+    ensures { Delivers (gen_answer limits template.now random.now) (record { old = key.old; new = key.new; count = count.new }) result }
+{
+    deliver(key_text(alloc, template, random), key, count)
+}
+
+/// The thumbprints (RFC 7638) of the good keys of a text, one a line, by SHA-2 with 224, 256, 384 or 512 bits. Another number is 1 Usage.
+#[unsafe(no_mangle)]
+pub extern "C" fn lakhdzeva_core_thumbprints(
+    alloc: Global,
+    keys: &[u8],
+    bits: u32,
+    lines: &mut [u8],
+    count: &mut usize,
+) -> u32
+    ensures { Delivers (thumbprints_answer keys.now bits) (record { old = lines.old; new = lines.new; count = count.new }) result }
+{
+    deliver(thumbprint_lines(alloc, keys, bits), lines, count)
+}
+
+/// Signs the payload with each of the keys, as the template asks (RFC 7515). A payload that is detached is not in the object.
+#[unsafe(no_mangle)]
+pub extern "C" fn lakhdzeva_core_sign(
+    alloc: Global,
+    keys: &[u8],
+    template: &[u8],
+    compact: bool,
+    detach: bool,
+    payload: &[u8],
+    object: &mut [u8],
+    count: &mut usize,
+) -> u32
+    ensures { Delivers (sign_answer compact detach keys.now template.now payload.now) (record { old = object.old; new = object.new; count = count.new }) result }
+{
+    deliver(
+        signed_text(alloc, keys, template, compact, detach, payload),
+        object,
+        count,
+    )
+}
+
+/// Verifies the object with one of the keys, or with all of them, and gives its payload (RFC 7515).
+#[unsafe(no_mangle)]
+pub extern "C" fn lakhdzeva_core_verify(
+    alloc: Global,
+    keys: &[u8],
+    object: &[u8],
+    all: bool,
+    payload: &mut [u8],
+    count: &mut usize,
+) -> u32
+    ensures { Delivers (ver_answer limits all true keys.now None object.now) (record { old = payload.old; new = payload.new; count = count.new }) result }
+{
+    deliver(payload_of(alloc, keys, object, all), payload, count)
+}
+
+/// Verifies the object with one of the keys, or with all of them, and with the payload that is handed in (RFC 7515 appendix F).
+#[unsafe(no_mangle)]
+pub extern "C" fn lakhdzeva_core_verify_detached(
+    alloc: Global,
+    keys: &[u8],
+    object: &[u8],
+    all: bool,
+    payload: &[u8],
+) -> u32
+    ensures { Tells (ver_answer limits all false keys.now (Some payload.now) object.now) result }
+{
+    told(verify_with_payload(alloc, keys, object, payload, all))
+}
+
+/// Writes a signed object in compact form or in JSON form. It verifies nothing. Its payload is handed in if that is `given`. If it is to be
+/// detached, its octets go to their own place, and otherwise this stays as it is.
+#[unsafe(no_mangle)]
+pub extern "C" fn lakhdzeva_core_format_signed(
+    alloc: Global,
+    object: &[u8],
+    given: bool,
+    payload: &[u8],
+    compact: bool,
+    detach: bool,
+    text: &mut [u8],
+    text_count: &mut usize,
+    content: &mut [u8],
+    content_count: &mut usize,
+) -> u32
+    ensures { DeliversBoth (jws_fmt_answer limits compact detach (if_given given payload.now) object.now)
+        (record { old = text.old; new = text.new; count = text_count.new })
+        (record { old = content.old; new = content.new; count = content_count.new }) result }
+{
+    deliver_both(
+        signed_form(alloc, object, given, payload, compact, detach),
+        text,
+        text_count,
+        content,
+        content_count,
+    )
+}
+
+/// Encrypts the plaintext to each of the keys, as the template asks (RFC 7516), with octets at the front of `random`, which are all new. A
+/// ciphertext that is to be detached goes to its own place, and otherwise this stays as it is.
+#[unsafe(no_mangle)]
+pub extern "C" fn lakhdzeva_core_encrypt<'x>(
+    alloc: Global,
+    keys: &[u8],
+    template: &[u8],
+    compact: bool,
+    detach: bool,
+    random: &'x [u8],
+    plaintext: &'x [u8],
+    object: &mut [u8],
+    object_count: &mut usize,
+    ciphertext: &mut [u8],
+    ciphertext_count: &mut usize,
+) -> u32
+    ensures { DeliversBoth (encrypt_answer compact detach keys.now template.now random.now plaintext.now)
+        (record { old = object.old; new = object.new; count = object_count.new })
+        (record { old = ciphertext.old; new = ciphertext.new; count = ciphertext_count.new }) result }
+{
+    deliver_both(
+        encrypted_texts(alloc, keys, template, compact, detach, random, plaintext),
+        object,
+        object_count,
+        ciphertext,
+        ciphertext_count,
+    )
+}
+
+/// Decrypts the object with one of the keys (RFC 7516). Its ciphertext is handed in if that is `given`.
+#[unsafe(no_mangle)]
+pub extern "C" fn lakhdzeva_core_decrypt(
+    alloc: Global,
+    keys: &[u8],
+    object: &[u8],
+    given: bool,
+    ciphertext: &[u8],
+    plaintext: &mut [u8],
+    count: &mut usize,
+) -> u32
+    ensures { Delivers (dec_answer limits keys.now (if_given given ciphertext.now) object.now) (record { old = plaintext.old; new = plaintext.new; count = count.new }) result }
+{
+    deliver(
+        plaintext_of(alloc, keys, object, given, ciphertext),
+        plaintext,
+        count,
+    )
+}
+
+/// Writes an encrypted object in compact form or in JSON form. It decrypts nothing. Its ciphertext is handed in if that is `given`. If it is
+/// to be detached, its octets go to their own place, and otherwise this stays as it is.
+#[unsafe(no_mangle)]
+pub extern "C" fn lakhdzeva_core_format_encrypted(
+    alloc: Global,
+    object: &[u8],
+    given: bool,
+    ciphertext: &[u8],
+    compact: bool,
+    detach: bool,
+    text: &mut [u8],
+    text_count: &mut usize,
+    content: &mut [u8],
+    content_count: &mut usize,
+) -> u32
+    ensures { DeliversBoth (jwe_fmt_answer limits compact detach (if_given given ciphertext.now) object.now)
+        (record { old = text.old; new = text.new; count = text_count.new })
+        (record { old = content.old; new = content.new; count = content_count.new }) result }
+{
+    deliver_both(
+        encrypted_form(alloc, object, given, ciphertext, compact, detach),
+        text,
+        text_count,
+        content,
+        content_count,
+    )
+}
