@@ -1,11 +1,12 @@
 -- Openings under the ciphers of both families, and the sealing that was started.
-use Rattle.std.proofs.Common.{◌<◌, ◌≡◌, ◌≢◌, ℕ, ◌≤◌, List, length, take, [], refl, sym, ap, subst, ◌∙◌, arith, ⊎_elim, Option, Some, None, IfSome, IfNone}
+use Rattle.std.proofs.Common.{◌<◌, ◌≡◌, ◌≢◌, ℕ, ◌-◌, ◌%◌, ◌≤◌, List, length, take, drop, replicate, [], refl, sym, ap, subst, ◌∙◌, arith, length-append, length-take, ⊎_elim, Option, Some, None, IfSome, IfNone}
 use Rattle.std.proofs.lemmas.Bool.{cases_lt}
-use Rattle.std.proofs.lemmas.List.{places}
+use Rattle.std.proofs.lemmas.List.{places, length-replicate, drop_all}
+use Rattle.std.proofs.Math.Seq.{drop-append_seam}
 use Rattle.octets.specs.Octets.{IsOctets}
 use Rattle.ciphers.specs.Sealing.{cbc_tag, cbc_hmac, gcm, Opens}
-use Rattle.ciphers.specs.Code.Views.{HoldsGcmSealing}
-use Rattle.modes.specs.Cbc.{cbc}
+use Rattle.ciphers.specs.Code.Views.{HoldsGcmSealing, IsPaddingBehind}
+use Rattle.modes.specs.Cbc.{cbc, pad}
 use Rattle.modes.specs.Ctr.{ctr}
 use Rattle.modes.specs.Gcm.{gcm_ciphertext, gcm_tag, longest}
 use Rattle.modes.specs.Code.Opening.{IsGcmOpening}
@@ -15,6 +16,26 @@ use Rattle.prf.specs.HashFunction.{HashFunction}
 
 octets_of_front : (n : ℕ) (xs : List ℕ) → IsOctets xs → IsOctets (take n xs)
 octets_of_front n xs o i = grind (arith, places, o i)
+
+-- ---- what is behind the plaintext
+
+padding : (p old new : List ℕ) → length new ≡ length old → new ≡ pad p → IsPaddingBehind (length p) old new
+unfolding pad
+padding p old new same is =
+    let k = 16 - length p % 16 in
+    let is_k : k ≡ length old - length p = omega (arith, same, ap length is, length-append p (replicate k k), length-replicate k k) in
+    ap (drop (length p)) is ∙ drop-append_seam p (replicate k k) ∙ ap (λ k. replicate k k) is_k
+
+pub padding_behind : (P : ℕ → Type 0) (o : Option ℕ) (old new : List ℕ) → length new ≡ length old → IfSome o (λ n. n ≤ length old × P n)
+    → IfSome o (λ n. new ≡ pad (take n new)) → IfSome o (λ n. IsPaddingBehind n old new)
+padding_behind P None old new same within is = tt
+padding_behind P (Some n) old new same within is =
+    subst (λ k. IsPaddingBehind k old new) (length-take n new ∙ omega (arith, same, within.0)) (padding (take n new) old new same is)
+
+pub nothing_behind : (o : Option ℕ) (old new : List ℕ) → length new ≡ length old → IfSome o (λ n. n ≡ length old) → IfSome o (λ n. IsPaddingBehind n old new)
+nothing_behind None old new same whole = tt
+nothing_behind (Some n) old new same whole =
+    drop_all n new (omega (arith, same, whole)) ∙ ap (λ k. replicate k k) (let z : 0 ≡ length old - n = omega (arith, whole) in z)
 
 -- ---- AES-CBC with HMAC
 

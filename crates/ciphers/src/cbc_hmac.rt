@@ -1,6 +1,7 @@
 //! AES-CBC with HMAC (RFC 7518 section 5.2), over any block cipher and hash function.
 ghost use Rattle.std.specs.Prelude.{◌≡◌, ℕ, ◌≤◌, List, [], ◌++◌, length, take, drop, IfSome, IfNone};
 ghost use Rattle.ciphers.specs.Sealing.{Sealing, cbc_hmac, Opens};
+ghost use Rattle.ciphers.specs.Code.Views.{IsPaddingBehind};
 
 use crate::authentication::Authentication;
 use crate::content_alg::array;
@@ -68,6 +69,7 @@ pub(crate) fn open_cbc_hmac<B: Block, H: Hash>(
     requires { length iv.now ≡ 16 }
     ensures opened { IfSome result (λ n. (n ≤ length buf.old)
         × Opens (cbc_hmac (B.encrypted cipher.now) H.function mac_key.now iv.now aad.now) buf.old tag.now (take n buf.new)) }
+    ensures rest { IfSome result (λ n. IsPaddingBehind n buf.old buf.new) }
     ensures nothing { IfNone result ((p : List ℕ)
         → Opens (cbc_hmac (B.encrypted cipher.now) H.function mac_key.now iv.now aad.now) buf.old tag.now p → ⊥) }
     ensures unchanged { IfNone result (buf.new ≡ buf.old) }

@@ -1,6 +1,7 @@
 //! The content encryption algorithms (RFC 7518 section 5.1).
 ghost use Rattle.std.specs.Prelude.{◌≡◌, ◌≤◌, ℕ, List, [], length, take, IfSome, IfNone};
 ghost use Rattle.ciphers.specs.Sealing.{cek_len, iv_len, sealing, Opens, IsOpening};
+ghost use Rattle.ciphers.specs.Code.Views.{IsPaddingBehind};
 
 use crate::cbc_hmac::{CbcHmac, open_cbc_hmac};
 use crate::kek::{aes128, aes192, aes256};
@@ -78,8 +79,9 @@ impl ContentAlg {
         }
     }
 
-    /// Decrypts the ciphertext in `buf` to the plaintext at its front, and returns the length of the plaintext. Returns `None` and leaves
-    /// `buf` unchanged if no plaintext has this ciphertext and tag, for example under a key or an IV of another length.
+    /// Decrypts the ciphertext in `buf` to the plaintext at its front, and returns the length of the plaintext. Its padding, if there is
+    /// one, is behind it. Returns `None` and leaves `buf` unchanged if no plaintext has this ciphertext and tag, for example under a key
+    /// or an IV of another length.
     pub fn open(
         self,
         cek: &[u8],
@@ -90,6 +92,7 @@ impl ContentAlg {
     ) -> Option<usize>
         ensures opened { IfSome result (λ n. (n ≤ length buf.old)
             × IsOpening self cek.now iv.now aad.now buf.old tag.now (take n buf.new)) }
+        ensures rest { IfSome result (λ n. IsPaddingBehind n buf.old buf.new) }
         ensures nothing { IfNone result ((p : List ℕ) → IsOpening self cek.now iv.now aad.now buf.old tag.now p → ⊥) }
         ensures unchanged { IfNone result (buf.new ≡ buf.old) }
     {
@@ -112,6 +115,7 @@ impl ContentAlg {
         requires iv_fits { length iv.now ≡ iv_len self }
         ensures opened { IfSome result (λ n. (n ≤ length buf.old)
             × Opens (sealing self cek.now iv.now aad.now) buf.old tag.now (take n buf.new)) }
+        ensures rest { IfSome result (λ n. IsPaddingBehind n buf.old buf.new) }
         ensures nothing { IfNone result ((p : List ℕ) → Opens (sealing self cek.now iv.now aad.now) buf.old tag.now p → ⊥) }
         ensures unchanged { IfNone result (buf.new ≡ buf.old) }
     {

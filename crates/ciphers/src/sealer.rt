@@ -22,6 +22,7 @@ pub trait Sealer: Drop {
             → OnOk result (is_sealing self.new s (p ++ piece.now)) }
         ensures text { (s : Sealing) (p : List ℕ) → is_sealing self.old s p
             → IfOk result (λ n. s.fixed (p ++ piece.now) ≡ s.fixed p ++ take n out.new) }
+        ensures rest { IfOk result (λ n. drop n out.new ≡ drop n out.old) }
         ensures limit { (s : Sealing) (p : List ℕ) → is_sealing self.old s p
             → IsErr result ↔ IsTooLong s (p ++ piece.now) }
         ensures refusal { IfErr result (λ refusal. refusal ≡ Refusal.Limit) }
@@ -76,6 +77,7 @@ pub(crate) fn open_gcm<B: Block>(
     requires { length iv.now ≡ 12 }
     ensures opened { IfSome result (λ n. (n ≤ length buf.old)
         × Opens (gcm (B.encrypted cipher.now) iv.now aad.now) buf.old tag.now (take n buf.new)) }
+    ensures whole { IfSome result (λ n. n ≡ length buf.old) }
     ensures nothing { IfNone result ((p : List ℕ) → Opens (gcm (B.encrypted cipher.now) iv.now aad.now) buf.old tag.now p → ⊥) }
     ensures unchanged { IfNone result (buf.new ≡ buf.old) }
 {

@@ -132,18 +132,28 @@ module _ (e d : List ℕ → List ℕ) (law : IsCipher e d) (iv : List ℕ) (sta
       pad_is_unique p q (same_chunks 16 (suc (length p / 16)) (pad p) (pad q) (length-pad p) (length-pad q ∙ ap (λ k. 16 * suc k) (sym count))
       (λ i l. sym (opened_cbc p x i l) ∙ ap (λ s. opened_block d iv s i) same ∙ opened_cbc q y i (subst (λ k. i < suc k) count l)))
 
-  -- If the last block of a ciphertext opens to a block that ends in padding, the ciphertext is that of the text without the padding.
-  pub opens : (c : List ℕ) (v : ℕ) → IsOctets c → length c / 16 ≢ 0 → length c % 16 ≡ 0 → IsPadded (opened_block d iv c (length c / 16 - 1)) v
-      → cbc e iv (take (length c - v) (opened_blocks d iv c)) ≡ c
-  unfolding cbc
-  opens c v small some whole padded =
-      let n = length c / 16 in
-      let q = opened_blocks d iv c in
-      let all : length c ≡ 16 * n = omega (arith, whole) in
-      let len = length-opened c small n all in
-      let last : n - 1 < n = omega (arith, some) in
-      let text : pad (take (length q - v) q) ≡ q =
-      unpadded q (n - 1) v (omega (arith, len, some)) (subst (λ b. IsPadded b v) (sym (block_of_opened c small n all (n - 1) last)) padded) in
-      ap (λ k. cbc_blocks e iv (pad (take k q))) (let z : length c - v ≡ length q - v = omega (arith, all, len) in z)
-      ∙ ap (cbc_blocks e iv) text
-      ∙ encrypts_back c small n all q len (block_of_opened c small n all)
+  -- If the last block of a ciphertext opens to a block that ends in padding, all blocks open to the padded form of the text without this
+  -- padding, and the ciphertext is that of this text.
+  module _ (c : List ℕ) (v : ℕ) (small : IsOctets c) (some : length c / 16 ≢ 0) (whole : length c % 16 ≡ 0) (padded : IsPadded (opened_block d iv c (length c / 16 - 1)) v) where
+    abbrev q : List ℕ
+    q = opened_blocks d iv c
+
+    all : length c ≡ 16 * (length c / 16)
+    all = omega (arith, whole)
+
+    len : length q ≡ 16 * (length c / 16)
+    len = length-opened c small (length c / 16) all
+
+    text : pad (take (length q - v) q) ≡ q
+    text =
+        let last : length c / 16 - 1 < length c / 16 = omega (arith, some) in
+        unpadded q (length c / 16 - 1) v (omega (arith, len, some)) (subst (λ b. IsPadded b v) (sym (block_of_opened c small (length c / 16) all (length c / 16 - 1) last)) padded)
+
+    pub opens_padded : opened_blocks d iv c ≡ pad (take (length c - v) (opened_blocks d iv c))
+    opens_padded = sym text ∙ ap (λ k. pad (take k q)) (let z : length q - v ≡ length c - v = omega (arith, all, len) in z)
+
+    pub opens : cbc e iv (take (length c - v) (opened_blocks d iv c)) ≡ c
+    unfolding cbc
+    opens =
+        ap (cbc_blocks e iv) (sym opens_padded)
+        ∙ encrypts_back c small (length c / 16) all q len (block_of_opened c small (length c / 16) all)

@@ -1,5 +1,5 @@
 //! CBC with padding, of a text that comes in pieces (SP 800-38A section 6.2; RFC 5652 section 6.3).
-ghost use Rattle.std.specs.Prelude.{◌≡◌, ℕ, ◌+◌, ◌-◌, ◌*◌, ◌/◌, ◌%◌, ◌<◌, ◌≤◌, List, [], ◌++◌, length, take};
+ghost use Rattle.std.specs.Prelude.{◌≡◌, ℕ, ◌+◌, ◌-◌, ◌*◌, ◌/◌, ◌%◌, ◌<◌, ◌≤◌, List, [], ◌++◌, length, take, drop};
 ghost use Rattle.modes.specs.Cbc.{cbc, cbc_blocks, chained};
 
 use crate::partial_block::PartialBlock;
@@ -39,6 +39,7 @@ impl<B: Block> Cbc<B> {
             → cbc_blocks e iv (p ++ piece.now) ≡ cbc_blocks e iv p ++ take result out.new }
         ensures len { (e : List ℕ → List ℕ) (iv p : List ℕ) → HoldsCbc B.encrypted self.old e iv p
             → 16 * (length p / 16) + result ≡ 16 * (length (p ++ piece.now) / 16) }
+        ensures rest { drop result out.new ≡ drop result out.old }
     {
         let space = self.waiting.space();
         if piece.len() < space {

@@ -35,6 +35,7 @@ impl<B: Block> Ctr32<B> {
             → HoldsCtr B.encrypted self.new e f (p ++ piece.now) }
         ensures text { (e : List ℕ → List ℕ) (f p : List ℕ) → HoldsCtr B.encrypted self.old e f p
             → ctr e f (p ++ piece.now) ≡ ctr e f p ++ take result out.new }
+        ensures rest { drop result out.new ≡ drop result out.old }
     {
         let part = &mut out[..piece.len()];
         part.copy_from_slice(piece);

@@ -1,6 +1,6 @@
 //! GCM of a text that comes in pieces, and its opening in place (SP 800-38D sections 7.1 and 7.2). The steps are those of
 //! section 7.1: H and J0, the ciphertext from the counter block after J0, S, and the tag.
-ghost use Rattle.std.specs.Prelude.{◌≡◌, ◌↔◌, ℕ, ◌*◌, ◌%◌, ◌^◌, ◌<◌, ◌≤◌, List, [], ◌∷◌, ◌++◌, length, take, IfOk, IfErr, IsErr, OnOk, OnErr, IfSome, IfNone};
+ghost use Rattle.std.specs.Prelude.{◌≡◌, ◌↔◌, ℕ, ◌*◌, ◌%◌, ◌^◌, ◌<◌, ◌≤◌, List, [], ◌∷◌, ◌++◌, length, take, drop, IfOk, IfErr, IsErr, OnOk, OnErr, IfSome, IfNone};
 ghost use Rattle.modes.specs.Gcm.{hash_subkey, pre_counter_block, gcm_ciphertext, gcm_tag, longest};
 ghost use Rattle.modes.specs.Code.Opening.{IsGcmOpening};
 ghost use Rattle.modes.specs.Ghash.{zero_filled, ghash};
@@ -51,6 +51,7 @@ impl<B: Block> Gcm<B> {
             → OnOk result (HoldsGcm B.encrypted self.new e iv aad (p ++ piece.now)) }
         ensures text { (e : List ℕ → List ℕ) (iv aad p : List ℕ) → HoldsGcm B.encrypted self.old e iv aad p
             → IfOk result (λ n. gcm_ciphertext e iv (p ++ piece.now) ≡ gcm_ciphertext e iv p ++ take n out.new) }
+        ensures rest { IfOk result (λ n. drop n out.new ≡ drop n out.old) }
         ensures limit { (e : List ℕ → List ℕ) (iv aad p : List ℕ) → HoldsGcm B.encrypted self.old e iv aad p
             → IsErr result ↔ (longest < length (p ++ piece.now)) }
         ensures refusal { IfErr result (λ refusal. refusal ≡ Refusal.Limit) }
@@ -94,6 +95,7 @@ pub fn gcm_open<B: Block>(
 ) -> Option<usize>
     ensures opened { IfSome result (λ n. (n ≤ length buf.old)
         × IsGcmOpening (B.encrypted cipher.now) iv.now aad.now buf.old tag.now (take n buf.new)) }
+    ensures whole { IfSome result (λ n. n ≡ length buf.old) }
     ensures nothing { IfNone result ((p : List ℕ) → IsGcmOpening (B.encrypted cipher.now) iv.now aad.now buf.old tag.now p → ⊥) }
     ensures unchanged { IfNone result (buf.new ≡ buf.old) }
 {

@@ -75,6 +75,8 @@ impl<R: Read> Input for ReaderInput<R> {
             (λ _. Keeps (R.remaining (reader_of self.old)) (R.remaining (reader_of self.new))) }
         ensures source_end { is_at_end_of self.old ≡ false → is_at_end_of self.new ≡ true
             → IsAtEnd (R.remaining (reader_of self.new)) }
+        // After its end the reader is not asked again.
+        ensures ended { IsTrue (is_at_end_of self.old) → (result ≡ Ok 0) × (self.new ≡ self.old) × (buf.new ≡ buf.old) }
 
         // What the trait says.
         ensures octets { IfOk result (λ n. (n ≤ length buf.old)

@@ -1,5 +1,5 @@
 //! Encoding octets that come in pieces as base64url.
-ghost use Rattle.std.specs.Prelude.{◌≡◌, ℕ, ◌+◌, ◌*◌, ◌/◌, ◌≤◌, List, [], ◌++◌, length, take};
+ghost use Rattle.std.specs.Prelude.{◌≡◌, ℕ, ◌+◌, ◌*◌, ◌/◌, ◌≤◌, List, [], ◌++◌, length, take, drop};
 ghost use Rattle.octets.specs.Base64url.{base64url, whole_groups};
 ghost use Rattle.octets.specs.Code.Streams.{part_group};
 
@@ -47,6 +47,7 @@ impl B64Writer {
         ensures waits { (fed : List ℕ) → self.old ≡ part_group fed → self.new ≡ part_group (fed ++ piece.now) }
         ensures text { (fed : List ℕ) → self.old ≡ part_group fed
             → base64url (whole_groups (fed ++ piece.now)) ≡ base64url (whole_groups fed) ++ take result out.new }
+        ensures rest { drop result out.new ≡ drop result out.old }
     {
         let mut octets = [0u8; JOINED_PIECE];
         let held = self.count;
@@ -64,6 +65,7 @@ impl B64Writer {
         ensures within { result ≤ 4 }
         ensures text { (fed : List ℕ) → self ≡ part_group fed
             → base64url fed ≡ base64url (whole_groups fed) ++ take result out.new }
+        ensures rest { drop result out.new ≡ drop result out.old }
     {
         encode_onto(&self.waiting[..self.count], out)
     }
@@ -119,6 +121,7 @@ pub fn encode_onto(octets: &[u8], out: &mut [u8]) -> usize
     requires { (4 * length octets.now + 2) / 3 ≤ length out.old }
     ensures len { result ≡ (4 * length octets.now + 2) / 3 }
     ensures text { take result out.new ≡ base64url octets.now }
+    ensures rest { drop result out.new ≡ drop result out.old }
 {
     let Ok(written) = BASE64URL.encode_slice(octets, out) else {
         unreachable!()

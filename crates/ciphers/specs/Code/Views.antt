@@ -1,5 +1,5 @@
 -- What contracts see of the registers of a key wrap, of its cipher, and of running sealings.
-use Rattle.std.specs.Prelude.{◌≡◌, ℕ, suc, ◌+◌, ◌*◌, ◌/◌, ◌<◌, ◌≤◌, List, ◌++◌, length}
+use Rattle.std.specs.Prelude.{◌≡◌, ℕ, suc, ◌+◌, ◌-◌, ◌*◌, ◌/◌, ◌<◌, ◌≤◌, List, ◌++◌, length, drop, replicate}
 use Rattle.aes.specs.Block.{IsCipher}
 use Rattle.aes.specs.declared.aes.Aes128.{Aes128}
 use Rattle.aes.specs.declared.aes.Aes192.{Aes192}
@@ -118,3 +118,9 @@ on_each_sealer (A256CbcHs512 x) a b c d e f k = c x k
 on_each_sealer (A128Gcm x) a b c d e f k = d x k
 on_each_sealer (A192Gcm x) a b c d e f k = e x k
 on_each_sealer (A256Gcm x) a b c d e f k = f x k
+
+-- ---- the padding that an opening leaves (RFC 5652 section 6.3)
+
+-- All octets behind the first n are the padding: each is their number. Under GCM there are none.
+abbrev pub IsPaddingBehind : ℕ → List ℕ → List ℕ → Type 0
+IsPaddingBehind n old new = drop n new ≡ replicate (length old - n) (length old - n)

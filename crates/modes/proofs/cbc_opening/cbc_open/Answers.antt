@@ -1,8 +1,8 @@
 use Rattle.std.proofs.Common.{rules, ◌-◌, ◌/◌, ◌%◌, length, take, sym, ap, subst, ◌∙◌, arith}
 use Rattle.aes.specs.Block.{IsBlock}
-use Rattle.modes.specs.Cbc.{cbc}
+use Rattle.modes.specs.Cbc.{cbc, pad}
 use Rattle.modes.specs.Code.Opening.{opened_block, IsPadded}
-use Rattle.modes.proofs.Opening.{length-cbc, last_is_padded, opens}
+use Rattle.modes.proofs.Opening.{length-cbc, last_is_padded, opens, opens_padded}
 use Rattle.modes.proofs.cbc_opening.cbc_open.Goals as goal
 use Rattle.modes.proofs.cbc_opening.cbc_open.Goals.{then-blocks-eq0-via-then-blocks-eq0, then-blocks-eq0-via-else-blocks-eq0+then-buf-ne0}
 
@@ -39,3 +39,16 @@ returns-clause-opened g c =
           ∙ opens e d law c.args.iv.now start c.args.buf.now n (λ i. search rules) c.if-blocks-eq0.false (omega (arith, c.if-buf-ne0.false))
           (subst (λ b. IsPadded b n) c.open_block-last.ensures c.in-Some.ensures.padding),
     )
+
+pub returns-clause-rest : goal.returns-clause-rest
+returns-clause-rest g c =
+    let e = g.B.Block.encrypted c.args.cipher.now in
+    let d = g.B.Block.decrypted c.args.cipher.now in
+    let law = g.met.B.Block.is_cipher c.args.cipher.now in
+    let start : IsBlock c.args.iv.now = record { sixteen = c.told-iv; octets = λ i. search rules } in
+    let n = c.in-Some.padding in
+    c.open_blocks.ensures
+    ∙ opens_padded e d law c.args.iv.now start c.args.buf.now n (λ i. search rules) c.if-blocks-eq0.false (omega (arith, c.if-buf-ne0.false))
+    (subst (λ b. IsPadded b n) c.open_block-last.ensures c.in-Some.ensures.padding)
+    ∙ ap (λ x. pad (take (length c.args.buf.now - n) x)) (sym c.open_blocks.ensures)
+    ∙ ap (λ k. pad (take (k - n) c.open_blocks.new.buf)) (sym c.open_blocks.auto.buf)

@@ -1,4 +1,5 @@
 use Rattle.ciphers.specs.Sealing.{sealing}
+use Rattle.ciphers.proofs.Openings.{nothing_behind}
 use Rattle.ciphers.proofs.content_alg.ContentAlg.open_fitting.Goals as goal
 
 pub returns-in-A128CbcHs256-clause-opened : goal.returns-in-A128CbcHs256-clause-opened
@@ -48,3 +49,12 @@ returns-in-A256Gcm-clause-opened c = rw c.in-A256Gcm.is (rw c.aes256-in-A256Gcm.
 pub returns-in-A256Gcm-clause-nothing : goal.returns-in-A256Gcm-clause-nothing
 unfolding sealing
 returns-in-A256Gcm-clause-nothing c = rw c.in-A256Gcm.is (rw c.aes256-in-A256Gcm.ensures at c.open_gcm-in-A256Gcm.ensures.nothing)
+
+pub returns-in-A128Gcm-clause-rest : goal.returns-in-A128Gcm-clause-rest
+returns-in-A128Gcm-clause-rest c = nothing_behind c.open_gcm.result c.args.buf.now c.open_gcm.new.buf c.open_gcm.auto.buf c.open_gcm.ensures.whole
+
+pub returns-in-A192Gcm-clause-rest : goal.returns-in-A192Gcm-clause-rest
+returns-in-A192Gcm-clause-rest c = nothing_behind c.open_gcm-in-A192Gcm.result c.args.buf.now c.open_gcm-in-A192Gcm.new.buf c.open_gcm-in-A192Gcm.auto.buf c.open_gcm-in-A192Gcm.ensures.whole
+
+pub returns-in-A256Gcm-clause-rest : goal.returns-in-A256Gcm-clause-rest
+returns-in-A256Gcm-clause-rest c = nothing_behind c.open_gcm-in-A256Gcm.result c.args.buf.now c.open_gcm-in-A256Gcm.new.buf c.open_gcm-in-A256Gcm.auto.buf c.open_gcm-in-A256Gcm.ensures.whole

@@ -1,5 +1,6 @@
-use Rattle.std.proofs.Common.{◌≡◌, ℕ, ◌+◌, ◌-◌, ◌*◌, ◌/◌, ◌<◌, List, [], ◌++◌, length, take, drop, refl, sym, ap, ap₂, subst, ◌∙◌, arith, length-append, length-take, append_assoc}
-use Rattle.std.proofs.lemmas.List.{take_at}
+use Rattle.std.proofs.Common.{◌≡◌, ℕ, ◌+◌, ◌-◌, ◌*◌, ◌/◌, ◌<◌, ◌≤◌, List, [], ◌++◌, length, take, drop, refl, sym, ap, ap₂, subst, ◌∙◌, arith, length-append, length-take, append_assoc}
+use Rattle.std.proofs.lemmas.List.{take_at, drop-drop}
+use Rattle.std.proofs.lemmas.Slice.{drop-append-drop}
 use Rattle.modes.specs.Cbc.{chained, cbc_blocks}
 use Rattle.modes.specs.Code.Views.{HoldsCbc}
 use Rattle.modes.proofs.Chaining.{none_alone}
@@ -9,6 +10,12 @@ use Rattle.modes.proofs.cbc.Cbc.feed.Goals as goal
 
 front_of : (x y z : List ℕ) (n : ℕ) → length x + length y ≡ n → take n (x ++ (y ++ z)) ≡ x ++ y
 front_of x y z n h = ap (take n) (sym (append_assoc x y z)) ∙ take_at (x ++ y) z n (length-append x y ∙ h)
+
+behind : (x y out : List ℕ) (n : ℕ) → length x ≡ 16 → length y ≡ n → drop (16 + n) (x ++ (y ++ drop n (drop 16 out))) ≡ drop (16 + n) out
+behind x y out n sixteen long =
+    ap (λ t. drop (16 + n) (x ++ (y ++ t))) (drop-drop n 16 out)
+    ∙ ap (drop (16 + n)) (sym (append_assoc x y (drop (16 + n) out)))
+    ∙ drop-append-drop (16 + n) out (x ++ y) (16 + n) (omega arith) (length-append x y ∙ omega (arith, sixteen, long))
 
 pub returns-then-piece-space-clause-fed : goal.returns-then-piece-space-clause-fed
 unfolding chained
@@ -81,3 +88,13 @@ returns-clause-text g c e iv p f =
     (ap₂ (λ h t. cbc_blocks h s.previous t) (sym f.cipher) (sym c.complete-block.ensures.block) ∙ sym c.encrypt_blocks.ensures.text)
     (ap₂ (λ h t. cbc_blocks h t blocks) (sym f.cipher) (sym first) ∙ sym c.encrypt_blocks-2.ensures.text)
     ∙ sym (front_of c.encrypt_blocks.new.out c.encrypt_blocks-2.new.out _ (16 + length rest / 16 * 16) sizes))
+
+pub returns-clause-rest : goal.returns-clause-rest
+returns-clause-rest g c =
+    let n = length c.split_at.result.1.now / 16 * 16 in
+    let others = c.split_at_mut-first.result.1.now in
+    let room : n ≤ length others = omega (arith, c.split_at_mut-first.ensures.back_len, c.split_at.ensures.back_len, c.requires, c.told-out) in
+    ap (λ t. drop (16 + n) (c.encrypt_blocks.new.out ++ (c.encrypt_blocks-2.new.out ++ drop n t))) c.split_at_mut-first.ensures.back
+    ∙ behind c.encrypt_blocks.new.out c.encrypt_blocks-2.new.out c.args.out.now n
+    (omega (arith, c.encrypt_blocks.auto.out, c.split_at_mut-first.ensures.front_len))
+    (c.encrypt_blocks-2.auto.out ∙ length-take n others ∙ omega (arith, room))
