@@ -230,23 +230,36 @@ module _ {O : Type 0} (read : Option (List ℕ) → List ℕ → Result O Refusa
       by_form true text h = (spelled detached _ o handed octets is detach).1 text h
       by_form false text h = ap (read (handed_in detach (content o))) (sym (same_answer (json_text detach o) text h)) ∙ (spelled detached _ o handed octets is detach).0
 
-  goes_back : FormatsGoBack (λ compact detach detached text. read detached text >>= written compact detach)
-  goes_back beside_json beside_compact detached text json compact handed octets first second =
-      let o = steps (read detached text) (written false beside_json) json first in
-      let again = steps (read (handed_in beside_json json.content) json.text) (written true beside_compact) compact second in
-      let read_back = written_is_read detached text o.0 handed octets o.1 in
-      let same : again.0 ≡ o.0 = same_answer again.0 o.0 (sym again.1 ∙ read_back false beside_json json o.2) in
-      let in_compact : written true beside_compact o.0 ≡ Ok compact = subst (λ o. written true beside_compact o ≡ Ok compact) same again.2 in
-      ap (λ r. r >>= written false beside_json) (read_back true beside_compact compact in_compact) ∙ o.2
+  goes_back : (Fits : O → Type 0) → ((detach : Bool) (o : O) → HasText (compact_text detach o) ↔ Fits o) → FormatsGoBack read Fits (λ compact detach detached text. read detached text >>= written compact detach)
+  goes_back Fits exists beside_json beside_compact detached text o handed octets is fits =
+      let form = (exists beside_compact o).1 fits in
+      let json : OutputTexts = record { text = json_text beside_json o; content = handed_out beside_json (content o) } in
+      let compact : OutputTexts = record { text = form.0; content = handed_out beside_compact (content o) } in
+      let in_compact : written true beside_compact o ≡ Ok compact = ap (λ r. r >>= λ text. Ok (record { text = text; content = handed_out beside_compact (content o) })) form.1 in
+      let read_back = written_is_read detached text o handed octets is in (
+        json,
+        (
+          compact,
+          (
+            ap (λ r. r >>= written false beside_json) is,
+            (
+              ap (λ r. r >>= written true beside_compact) (read_back false beside_json json refl) ∙ in_compact,
+              ap (λ r. r >>= written false beside_json) (read_back true beside_compact compact in_compact),
+            ),
+          ),
+        ),
+      )
 
-pub signed_objects_go_back : jws.ObjectsAreMade → jws.TextsSpellObjects → FormatsGoBack (jws_fmt_answer limits)
+pub signed_objects_go_back : JwsCompactFormIsExact → jws.ObjectsAreMade → jws.TextsSpellObjects → FormatsGoBack (jws.jws_of limits) HasOnlySignature (jws_fmt_answer limits)
 unfolding jws_fmt_answer
-signed_objects_go_back made spells =
+signed_objects_go_back exact made spells =
     goes_back (jws.jws_of limits) jws.json_text jws.jws_compact_text (λ o. o.payload)
     (λ detached text o handed octets read. let m = made limits detached text o handed octets read in spells limits m.0 o m.1.0 m.1.1)
+    HasOnlySignature exact.exists
 
-pub encrypted_objects_go_back : jwe.ObjectsAreMade → jwe.TextsSpellObjects → FormatsGoBack (jwe_fmt_answer limits)
+pub encrypted_objects_go_back : JweCompactFormIsExact → jwe.ObjectsAreMade → jwe.TextsSpellObjects → FormatsGoBack (jwe.jwe_of limits) HasOnlyRecipient (jwe_fmt_answer limits)
 unfolding jwe_fmt_answer
-encrypted_objects_go_back made spells =
+encrypted_objects_go_back exact made spells =
     goes_back (jwe.jwe_of limits) jwe.json_text jwe.jwe_compact_text (λ o. o.ciphertext)
     (λ detached text o handed octets read. let m = made limits detached text o handed octets read in spells limits m.0 o m.1.0 m.1.1)
+    HasOnlyRecipient exact.exists

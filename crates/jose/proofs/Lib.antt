@@ -16,4 +16,5 @@ pub mod Spared
 pub mod Wrote
 pub mod Streamed
 pub mod Headline
+pub mod Invoked
 pub mod WiderLimits

@@ -13,9 +13,13 @@ use Rattle.jose.specs.declared.ports.Outputs.{Outputs}
 
 -- all octets of each input
 pub record InputTexts : Type 0 where
+  -- of `-i`, or of `-s` for `jws sig`
   pub text : List ℕ
+  -- of `-I`
   pub content : List ℕ
+  -- of `-k`
   pub keys : List ℕ
+  -- of `-R`
   pub random : List ℕ
 
 -- the octets of `-o`

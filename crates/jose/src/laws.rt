@@ -6,7 +6,7 @@ ghost use Rattle.objects.specs.CompactForm.{HasOnlyRecipient, HasOnlySignature};
 ghost use Rattle.objects.specs.Jwe.{jwe_of};
 ghost use Rattle.objects.specs.Jws.{jws_of};
 ghost use Rattle.tokens.specs.Encrypting.{AreSound};
-ghost use Rattle.jose.specs.Headline.{EncryptedIsDecrypted, FormatsGoBack, GoesToCompactForm, SignedIsVerified};
+ghost use Rattle.jose.specs.Headline.{AnswerIsDecrypted, AnswerIsVerified, EncryptedIsDecrypted, FormatsGoBack, GoesToCompactForm, SignedIsVerified};
 ghost use Rattle.tokens.specs.Jwe.{jwe_fmt_answer};
 ghost use Rattle.tokens.specs.Jws.{jws_fmt_answer};
 ghost use Rattle.jose.specs.WiderLimits.{AreWider, EncryptsAsBefore, ReadsAsBefore};
@@ -21,7 +21,8 @@ use tokens::laws::{what_is_encrypted_decrypts, what_is_signed_verifies};
 /// The texts that `jwe enc` writes are those of an object. `jwe dec` returns its plaintext with each of the keys alone, if the key may
 /// decrypt and opens nothing else at the recipient of an earlier key.
 pub fn what_is_encrypted_is_decrypted()
-    ensures { EncryptedIsDecrypted limits limits }
+    ensures texts { EncryptedIsDecrypted limits limits }
+    ensures answers { AnswerIsDecrypted }
 {
     keys_have_octets();
     what_is_encrypted_decrypts();
@@ -30,17 +31,18 @@ pub fn what_is_encrypted_is_decrypted()
 /// The texts that `jws sig` writes are those of an object. `jws ver` verifies it with any of the keys that may verify, with `-a` and
 /// without.
 pub fn what_is_signed_is_verified()
-    ensures { SignedIsVerified }
+    ensures texts { SignedIsVerified }
+    ensures answers { AnswerIsVerified }
 {
     what_is_signed_verifies();
 }
 
 /// `jws fmt -c` writes each object that it reads, if the object has one signature and no unprotected header. It refuses every other object
-/// with `NotCompact`. An object that `jws fmt` writes in JSON form, then in compact form and then in JSON form again has the same text as
-/// at first.
+/// with `NotCompact`. Such an object is written in JSON form, then in compact form and then in JSON form again, and has the same text as at
+/// first.
 pub fn signed_objects_go_to_compact_form_and_back()
     ensures there { GoesToCompactForm (jws_of limits) HasOnlySignature (jws_fmt_answer limits) }
-    ensures back { FormatsGoBack (jws_fmt_answer limits) }
+    ensures back { FormatsGoBack (jws_of limits) HasOnlySignature (jws_fmt_answer limits) }
 {
     jws_compact_form_is_exact();
     jws_objects_are_made();
@@ -48,11 +50,11 @@ pub fn signed_objects_go_to_compact_form_and_back()
 }
 
 /// `jwe fmt -c` writes each object that it reads, if the object has one recipient, only a protected header and no additional data. It
-/// refuses every other object with `NotCompact`. An object that `jwe fmt` writes in JSON form, then in compact form and then in JSON form
-/// again has the same text as at first.
+/// refuses every other object with `NotCompact`. Such an object is written in JSON form, then in compact form and then in JSON form again,
+/// and has the same text as at first.
 pub fn encrypted_objects_go_to_compact_form_and_back()
     ensures there { GoesToCompactForm (jwe_of limits) HasOnlyRecipient (jwe_fmt_answer limits) }
-    ensures back { FormatsGoBack (jwe_fmt_answer limits) }
+    ensures back { FormatsGoBack (jwe_of limits) HasOnlyRecipient (jwe_fmt_answer limits) }
 {
     jwe_compact_form_is_exact();
     jwe_objects_are_made();

@@ -354,7 +354,8 @@ pub record AreMembers (parts : JweParts) : Type 0 where
 abbrev pub BuildingIsReading : Type 0
 BuildingIsReading = (limits : Limits) (parts : JweParts) → AreMembers parts → (detach : Bool) → built limits parts ≡ jwe_of limits (handed_in detach parts.ciphertext) (members_text detach parts)
 
--- The JSON text of members is the compact text of the value that it reads as: it has nothing between its tokens, and no name twice.
+-- The JSON text of members is the compact text of the value that it reads as: it has no white space, and the names of each object stand in
+-- byte order, each once.
 abbrev pub JsonTextsAreCompact : Type 0
 JsonTextsAreCompact = (detach : Bool) (parts : JweParts) (value : Data) → AreMembers parts → json_value (members_text detach parts) ≡ Ok value → members_text detach parts ≡ compact_text value
 

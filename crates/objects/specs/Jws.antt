@@ -254,7 +254,8 @@ pub record AreMembers (parts : JwsParts) : Type 0 where
 abbrev pub BuildingIsReading : Type 0
 BuildingIsReading = (limits : Limits) (parts : JwsParts) → AreMembers parts → (detach : Bool) → built limits parts ≡ jws_of limits (handed_in detach parts.payload) (members_text detach parts)
 
--- The JSON text of members is the compact text of the value that it reads as: it has nothing between its tokens, and no name twice.
+-- The JSON text of members is the compact text of the value that it reads as: it has no white space, and the names of each object stand in
+-- byte order, each once.
 abbrev pub JsonTextsAreCompact : Type 0
 JsonTextsAreCompact = (detach : Bool) (parts : JwsParts) (value : Data) → AreMembers parts → json_value (members_text detach parts) ≡ Ok value → members_text detach parts ≡ compact_text value
 

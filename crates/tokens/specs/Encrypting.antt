@@ -170,8 +170,8 @@ abbrev pub EncryptingGrows : Type 0
 EncryptingGrows = (compact detach : Bool) (keys : List OctetKey) (template random : List ℕ) (plan : Plan OutputTexts) → AreOctetKeys keys → IsOctets random
     → plan_from (enc_plan limits compact detach keys template) random ≡ Ok plan → BothGrow plan
 
--- If keys and a template are accepted, every plaintext that is not too long has an object and its texts: after the random octets the
--- only refusal is Limit, and only of a plaintext that is too long for the content encryption.
+-- If at most 256 keys and a template are accepted, every plaintext that is not too long has an object and its texts: after the random
+-- octets the only refusal is Limit, and only of a plaintext that is too long for the content encryption.
 abbrev pub EncryptingMakesTexts : Type 0
 EncryptingMakesTexts = (compact detach : Bool) (keys : List OctetKey) (template random plaintext : List ℕ) (plan : Plan OutputTexts) → are_few limits (length keys) ≡ true
     → AreOctetKeys keys → IsOctets random → plan_from (enc_plan limits compact detach keys template) random ≡ Ok plan → IfErr (plan.whole plaintext) (λ refusal. (refusal ≡ Limit)
@@ -188,13 +188,15 @@ pub record AreSound (limits : Limits) : Type 0 where
   pub read : limits.greatest_p2c ≤ limits.greatest_p2c_read
   pub algorithms : limits.management ≡ management_algs
 
--- the key may decrypt by the algorithm that it encrypts with
+-- The key may decrypt by the algorithm that it encrypts with: at each recipient that the template and the keys make with this key, its
+-- `use` and `key_ops` allow the operation of a recipient. A key whose `key_ops` has only `wrapKey` encrypts, and may not decrypt.
 abbrev pub MayDecrypt : Limits → Bool → List OctetKey → OctetKey → List ℕ → Type 0
 MayDecrypt limits compact keys key template =
     (e : EncryptionPlan) → read_encryption limits compact keys template ≡ Ok e
     → AllByRecursion (λ r. r.key ≡ key → allows key (management_operations r.management).1 ≡ true) e.recipient_keys
 
--- at each of the first n recipients the key opens nothing, or this plaintext
+-- At each of the first n recipients, those of the keys before it, the key opens nothing, or this plaintext. The first key has none before
+-- it, so this asks nothing of it.
 abbrev pub OpensNoOther : ℕ → OctetKey → EncryptedObject → List ℕ → Type 0
 OpensNoOther n key o plaintext =
     AllByRecursion (λ pair. (other : List ℕ) → opened_by (sealed_content o) pair ≡ Some other → other ≡ plaintext) (all_pairs management_algs (key ∷ []) (take n o.recipients))
