@@ -17,7 +17,8 @@ reaches them. These fail:
 - another page that is neither in specs/Code nor in the section "What need not be read";
 - a name that does not exist: a law or a test in the tables of docs/AUDIT.md; a definition, written `crate/Page.name`, in it or in
   docs/STEPS.md;
-- a reached definition without a section, a step or a heading of docs/SPECIFICATION.md in the comment above it or above its group.
+- a reached definition without a section, a step or a heading of docs/SPECIFICATION.md in the comment above it or above its group;
+- a definition that is not reached, on a page with reached definitions: a reader would read it for nothing.
 
 It reads words and not meanings, so it may mistake the name of a variable for a definition, and then asks for a page too many.
 """
@@ -396,6 +397,9 @@ def compare():
     for (module, name), it in sorted(definitions.items()):
         if not cites.search(it.comment) and not cites.search(it.group):
             fault(f"{module.replace('.specs.', '/')}.{name} cites no section, step or heading in the comment above it or its group")
+    for module in sorted({module for module, _ in reached}):
+        for name in sorted(set(library.page(module).definitions) - {it for page, it in reached if page == module}):
+            fault(f"{module.replace('.specs.', '/')}.{name} is on a page to read, and no promise reaches it")
     lines, of_run = sum(map(lines_of, definitions.values())), sum(lines_of(definitions[it]) for it in run)
     return f"{len(reached_pages)} pages with {len(reached)} definitions that the promises reach, of {lines} lines, {of_run} of them by `run`"
 

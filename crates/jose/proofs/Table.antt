@@ -6,8 +6,8 @@ use Rattle.clap.specs.Words.{Text, is_simple_and_free}
 use Rattle.jose.specs.declared.words.table.CommandRow.{CommandRow}
 use Rattle.jose.specs.contracts.words.table.CommandPartialEq.TheImpl.{ghosts}
 use Rattle.jose.specs.declared.words.table.Command.{Command}
-use Rattle.jose.specs.Commands.{CommandEntry, row_of, commands}
-use Rattle.jose.specs.Words.{command_named, has_words}
+use Rattle.jose.specs.Commands.{CommandEntry, row_of}
+use Rattle.jose.specs.Words.{command_named, commands, has_words}
 use Rattle.jose.specs.Code.Rows.{command_entry, option_entry}
 use Rattle.jose.specs.Reading.{app_for}
 use Rattle.jose.proofs.Finding.{found_mapped, found_has}

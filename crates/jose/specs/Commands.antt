@@ -1,6 +1,6 @@
 -- The commands of the program in one table: the words of each command, and for each option what it takes and names.
 use Prim.Native.String.{String}
-use Rattle.std.specs.Prelude.{ℕ, ◌==◌, Bool, true, false, List, [], ◌∷◌, Option, is_some, find, map, codes}
+use Rattle.std.specs.Prelude.{ℕ, ◌==◌, Bool, true, false, List, [], ◌∷◌, Option, is_some, find, codes}
 use Rattle.std.specs.Str.{byte}
 use Rattle.clap.specs.Words.{Text}
 use Rattle.jose.specs.declared.words.table.Command.{Command}
@@ -96,9 +96,6 @@ row_of JweFmt = row JweFmt "jwe" "fmt" (
     option "o" "text" (else_value "-") Output ∷
     option "O" "ciphertext" optional Output ∷
     option "c" "compact" flag Nothing ∷ [])
-
-unfoldable pub commands : List CommandEntry
-commands = map row_of (JwkGen ∷ JwkThp ∷ B64Enc ∷ B64Dec ∷ JwsSig ∷ JwsVer ∷ JwsFmt ∷ JweEnc ∷ JweDec ∷ JweFmt ∷ [])
 
 -- ---- what a role says (docs/SPECIFICATION.md "Commands" 1 to 3)
 

@@ -1,5 +1,5 @@
 -- What the program's words ask for.
-use Rattle.std.specs.Prelude.{ℕ, ◌&&◌, Bool, true, false, not, nat_eq, nat_le, List, ◌∷◌, Option, count_by, is_some, codes, Result, Ok, Err, find}
+use Rattle.std.specs.Prelude.{ℕ, ◌&&◌, Bool, true, false, not, nat_eq, nat_le, List, [], ◌∷◌, map, Option, count_by, is_some, codes, Result, Ok, Err, find}
 use Rattle.std.specs.Option.{ok_or, option_and_then, option_map_or}
 use Rattle.std.specs.Str.{bytes_eq}
 use Rattle.clap.specs.Words.{Text}
@@ -8,9 +8,14 @@ use Rattle.octets.specs.declared.refusal.Refusal.TheVariants.{Usage}
 use Rattle.octets.specs.Outcomes.{◌>>=◌, needs}
 use Rattle.jose.specs.declared.words.table.Role.{Role}
 use Rattle.jose.specs.declared.words.table.Role.TheVariants.{Hash, Json, Keys, Streamed, Octets, Output, Secret, MadeKey}
-use Rattle.jose.specs.Commands.{OptionEntry, CommandEntry, option, commands}
+use Rattle.jose.specs.declared.words.table.Command.TheVariants.{JwkGen, JwkThp, B64Enc, B64Dec, JwsSig, JwsVer, JwsFmt, JweEnc, JweDec, JweFmt}
+use Rattle.jose.specs.Commands.{OptionEntry, CommandEntry, option, row_of}
 use Rattle.jose.specs.Invocations.{InvocationView, Settings, value_at, hash_named}
 use Rattle.jose.specs.Reading.{settings_read}
+
+-- the table of commands
+unfoldable pub commands : List CommandEntry
+commands = map row_of (JwkGen ∷ JwkThp ∷ B64Enc ∷ B64Dec ∷ JwsSig ∷ JwsVer ∷ JwsFmt ∷ JweEnc ∷ JweDec ∷ JweFmt ∷ [])
 
 abbrev pub is_input : Role → Bool
 is_input Json = true

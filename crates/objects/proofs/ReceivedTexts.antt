@@ -11,7 +11,7 @@ use Rattle.octets.specs.Encoding.{octets_of_groups}
 use Rattle.octets.specs.LineEnds.{without_line_end}
 use Rattle.octets.specs.Octets.{IsOctets}
 use Rattle.octets.proofs.Lemmas.{IsOctets-front, AppendsPrefixOf-front, cut, reading_starts, settling_grows, decodes_exactly, has_url_characters, octets_of_meaning}
-use Rattle.objects.specs.Texts.{meaning}
+use Rattle.objects.specs.Code.Meaning.{meaning}
 use Rattle.objects.proofs.Characters.{joined_characters, no_line_end}
 use Rattle.objects.proofs.TextOctets.{text_is}
 

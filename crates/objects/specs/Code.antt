@@ -5,6 +5,8 @@ pub mod Views
 pub mod KeyManagementView
 -- parameters that are read once for all recipients
 pub mod SharedParameters
+-- what a base64url text that is kept stands for
+pub mod Meaning
 -- texts that are written, with places left for values
 pub mod Writing
 -- the texts of a signed object

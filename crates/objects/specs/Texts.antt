@@ -10,7 +10,7 @@ use Rattle.serde_json.specs.Find.{get, as_str, as_array}
 use Rattle.octets.specs.declared.refusal.Refusal.{Refusal}
 use Rattle.octets.specs.declared.refusal.Refusal.TheVariants.{Form}
 use Rattle.octets.specs.Outcomes.{◌>>=◌, needs}
-use Rattle.octets.specs.Base64url.{base64url, decoded}
+use Rattle.octets.specs.Base64url.{base64url}
 use Rattle.octets.specs.Octets.{IsOctets}
 use Rattle.keys.specs.KeySets.{are_objects}
 
@@ -90,12 +90,6 @@ required_text name value = ok_or (option_and_then as_str (get name value)) Form
 abbrev pub has_text : List ℕ → Bool
 has_text [] = false
 has_text (c ∷ text) = true
-
--- ---- a base64url text
-
--- the octets of the text, if it is a base64url text
-abbrev pub meaning : List ℕ → List ℕ
-meaning text = result_unwrap_or (decoded text) []
 
 -- ---- the content, which may be handed in with the object (RFC 7515 appendix F; for a ciphertext docs/SPECIFICATION.md "Objects")
 

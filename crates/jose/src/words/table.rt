@@ -1,8 +1,8 @@
 //! The commands of the program in one table: the words of each command, and for each option what it takes and names.
 ghost use Rattle.std.specs.Prelude.{◌≡◌, ◌==◌, find, map, option_map, true, IfSome};
 ghost use Rattle.clap.specs.Words.{is_simple_and_free};
-ghost use Rattle.jose.specs.Commands.{row_of, option_with, is_json, commands};
-ghost use Rattle.jose.specs.Words.{command_named, has_words, is_input, is_output};
+ghost use Rattle.jose.specs.Commands.{row_of, option_with, is_json};
+ghost use Rattle.jose.specs.Words.{command_named, commands, has_words, is_input, is_output};
 ghost use Rattle.jose.specs.Code.Rows.{command_entry, entry_of, option_entry};
 ghost use Rattle.jose.specs.Reading.{app_for};
 
@@ -268,7 +268,7 @@ pub(crate) fn command_row(noun: &str, verb: &str) -> Option<&'static CommandRow>
     row_among(table(), noun, verb)
 }
 
-#[tactic(auto, unfolding(crate::specs::Commands::commands))]
+#[tactic(auto, unfolding(crate::specs::Words::commands))]
 pub(crate) fn table() -> &'static [CommandRow]
     ensures { map command_entry result.now ≡ commands }
 {

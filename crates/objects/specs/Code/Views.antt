@@ -11,7 +11,7 @@ use Rattle.objects.specs.Headers.{all_members}
 use Rattle.objects.specs.Jwe.{RecipientParts, Recipient, EncodedShared, EncodedRecipient, EncodedContent, EncodedJwe, JweParts, EncryptedObject}
 use Rattle.objects.specs.Jws.{SignatureParts, JwsParts, EncodedSignature, EncodedJws, Signature, DecodedSignature, HeadedSignature, SignedObject}
 use Rattle.objects.specs.Code.KeyManagementView.{management_view}
-use Rattle.objects.specs.Texts.{meaning}
+use Rattle.objects.specs.Code.Meaning.{meaning}
 use Rattle.objects.specs.Code.Writing.{Written}
 use Rattle.objects.specs.declared.content.Content.{Content}
 use Rattle.objects.specs.declared.content.Content.TheVariants.{Text, Octets}

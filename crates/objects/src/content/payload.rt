@@ -5,7 +5,7 @@ ghost use Rattle.octets.specs.Base64url.{base64url, decoded};
 ghost use Rattle.octets.specs.Devices.{next_count, AppendsPrefixOf, IsFinishedOnce};
 ghost use Rattle.octets.specs.Code.Results.{Agrees};
 ghost use Rattle.objects.specs.Code.Views.{held_view, payload_view, received_view, is_text, payload_is_text};
-ghost use Rattle.objects.specs.Texts.{meaning};
+ghost use Rattle.objects.specs.Code.Meaning.{meaning};
 
 use crate::content::received_text::ReceivedText;
 use octets::laws::are_octets;

@@ -2,7 +2,7 @@
 ghost use Rattle.std.specs.Prelude.{◌≡◌};
 ghost use Rattle.octets.specs.Base64url.{base64url};
 ghost use Rattle.octets.specs.Octets.{IsOctets};
-ghost use Rattle.objects.specs.Texts.{meaning};
+ghost use Rattle.objects.specs.Code.Meaning.{meaning};
 
 /// A text that is a base64url text.
 #[derive(Clone, Copy)]

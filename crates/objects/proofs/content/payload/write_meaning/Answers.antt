@@ -6,7 +6,7 @@ use Rattle.octets.specs.Encoding.{octets_of_groups}
 use Rattle.octets.specs.LineEnds.{without_line_end}
 use Rattle.octets.specs.Octets.{IsOctets}
 use Rattle.octets.proofs.Lemmas.{AppendsPrefixOf-part, on_success, at_refusal, on_refusal}
-use Rattle.objects.specs.Texts.{meaning}
+use Rattle.objects.specs.Code.Meaning.{meaning}
 use Rattle.objects.proofs.ReceivedTexts.{means, nothing_read, octets_read, piece_read, piece_refused, piece_stands, all_read, all_written, behind}
 use Rattle.objects.proofs.content.payload.write_meaning.Goals as goal
 
