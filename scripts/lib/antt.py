@@ -15,8 +15,10 @@ the rest.
 Some definitions cannot be computed in this way, because they are too slow (a hash of a long text) or search all octet strings. `replace`
 puts a function of Python in the place of such a definition. A script first checks that both return the same for some arguments. From then
 on the function computes the result.
+
+`Definitions.used` has the definitions that were computed since a script emptied it, each as its module and its name.
 """
-import ast, collections, functools, operator, re
+import ast, collections, contextlib, functools, operator, re
 
 Case = collections.namedtuple("Case", "name values", defaults=((),))
 Token = collections.namedtuple("Token", "kind text column is_first")
@@ -273,7 +275,13 @@ class Reader:
             inner = self.next().text
         # A name is looked up when it is first used, since definitions may use one another.
         found = functools.cache(lambda: self.page.named(word, inner))
-        return lambda values: found()
+        used = self.page.definitions.used
+
+        def value(values):
+            it, constants = found()
+            used.update(constants)
+            return it
+        return value
 
     def record(self, scope):
         base = (lambda values: Record({})) if self.sees("{") else self.atom(scope)
@@ -413,9 +421,11 @@ class Names:
         return self.definitions.case_name(self.module, word)
 
     def named(self, word, inner):
-        if not inner:
-            return self.definitions.find(self.module, word)
-        return self.definitions.find(self.page.aliases[word], inner) if word in self.page.aliases else self.definitions.of_case(inner)
+        """The value of a name, and the definitions that were computed for it, if it is not a function."""
+        if inner and word not in self.page.aliases:
+            return self.definitions.of_case(inner), ()
+        with self.definitions.recorded() as used:
+            return self.definitions.find(self.page.aliases[word], inner) if inner else self.definitions.find(self.module, word), used
 
 
 def left_and_right(equation):
@@ -433,7 +443,7 @@ class Definitions:
     """The definitions of a library of pages (`reached.Library`). A path names one, as in `aes/Cipher.encrypted_block`."""
 
     def __init__(self, library):
-        self.library, self.values, self.replaced, self.remembered = library, {}, {}, set()
+        self.library, self.values, self.replaced, self.remembered, self.used = library, {}, {}, set(), set()
 
     def get(self, path):
         page, name = path.rsplit(".", 1)
@@ -451,6 +461,18 @@ class Definitions:
     def remember(self, *names):
         """Caches the results of the definitions with these names, on any page."""
         self.remembered.update(names)
+
+    @contextlib.contextmanager
+    def recorded(self):
+        """A set to which the definitions that are computed inside the block are added. They are in `used` too, as ever."""
+        before = set(self.used)
+        self.used.clear()
+        inside = set()
+        try:
+            yield inside
+        finally:
+            inside.update(self.used)
+            self.used.update(before)
 
     def of_case(self, name):
         return CONSTANTS.get(name, Case(name))
@@ -479,8 +501,11 @@ class Definitions:
         page = self.library.page(module)
         if page and word in page.definitions:
             if (module, word) not in self.values:
-                self.values[module, word] = self.compiled(module, word, page.definitions[word].lines)
-            return self.values[module, word]
+                with self.recorded() as used:
+                    self.values[module, word] = self.compiled(module, word, page.definitions[word].lines), used
+            value, used = self.values[module, word]
+            self.used.update(used)
+            return value
         if page and word in page.names and page.names[word] != (module, word):
             return self.find(*page.names[word])
         if word in BUILT:
@@ -499,6 +524,7 @@ class Definitions:
         names = Names(self, module)
         arity = len(self.patterns(names, left_and_right(equations[0])[0]))
         if not arity:
+            self.used.add((module, name))
             return self.equation(names, equations[0])[1](())
 
         @functools.cache
@@ -506,13 +532,27 @@ class Definitions:
             return [self.equation(names, it) for it in equations]
 
         def body(*arguments):
+            self.used.add((module, name))
             for matches, expression in cases():
                 values = in_turn(matches, arguments)
                 if values is not None:
                     return expression(values)
             raise ValueError(f"no equation of {name} of {module} matches {arguments}")
 
-        return Function(arity, functools.lru_cache(100000)(body) if name in self.remembered else body)
+        return Function(arity, self.remembering(body) if name in self.remembered else body)
+
+    def remembering(self, body):
+        """The function with its results kept, and with the definitions that were computed for each."""
+        kept = {}
+
+        def found(*arguments):
+            if arguments not in kept:
+                with self.recorded() as used:
+                    kept[arguments] = body(*arguments), used
+            value, used = kept[arguments]
+            self.used.update(used)
+            return value
+        return found
 
     def patterns(self, names, tokens):
         reader, found = Reader(names, tokens), []

@@ -3,7 +3,7 @@
 use crate::tests::command_words::{
     COMPACT_JWE, COMPACT_JWS, DECRYPT, ENCRYPT_COMPACT, SIGN_COMPACT, VERIFY,
 };
-use crate::tests::harness::{Answer, Given, ROOM, expect_done, outcome};
+use crate::tests::harness::{Answer, Given, expect_once};
 use crate::tests::samples::with_many;
 use octets::Refusal;
 use std::process::Abort;
@@ -13,7 +13,7 @@ use std::test::Fail;
 const KEY_20: &str = "{\"kty\":\"oct\",\"k\":\"a2tra2tra2tra2tra2tra2tra2s\"}";
 
 /// The command refuses this text with these keys for this cause. There are no random octets.
-fn refuses<R: Abort + AllocGlobal>(
+fn refuses<R: Abort + AllocGlobal + Print>(
     rt: &R,
     words: &[&str],
     text: &str,
@@ -26,12 +26,11 @@ fn refuses<R: Abort + AllocGlobal>(
         keys,
         random: b"",
     };
-    let done = outcome(rt.alloc(), words, &given, 4096, ROOM)?;
-    expect_done(rt, &done, text, Answer::Refusal(refusal));
+    let _done = expect_once(rt, words, &given.octets(), Answer::Refusal(refusal), text)?;
     Ok(())
 }
 
-fn refuses_each<R: Abort + AllocGlobal>(
+fn refuses_each<R: Abort + AllocGlobal + Print>(
     rt: &R,
     words: &[&str],
     rows: &[(&str, &str, Refusal)],
@@ -61,6 +60,25 @@ const SIGNING_TEXTS: &[(&str, &str, Refusal)] = &[
     ),
     (
         "{\"protected\":{\"crit\":[]}}",
+        KEY_20,
+        Refusal::Unsupported,
+    ),
+    // Keys that are no JSON text, and keys that are no object.
+    ("{", "{\"keys\":[1.0", Refusal::Json),
+    ("{", "[]", Refusal::Key),
+    ("{", "\r[]", Refusal::Key),
+    // A template that is no JSON text, one that is no object, and one after white space.
+    ("{\"x\":1.0", KEY_20, Refusal::Json),
+    ("[]", KEY_20, Refusal::Form),
+    ("\r{\"x\":1.0}", KEY_20, Refusal::Number),
+    // A name in both headers comes before `crit`, and an algorithm that is not supported before those of the keys.
+    (
+        "{\"protected\":{\"kid\":\"a\",\"crit\":[]},\"header\":{\"kid\":\"b\"}}",
+        KEY_20,
+        Refusal::Header,
+    ),
+    (
+        "{\"protected\":{\"alg\":\"x\"}}",
         KEY_20,
         Refusal::Unsupported,
     ),
@@ -95,7 +113,63 @@ const SIGNING_KEYS: &[(&str, &str, Refusal)] = &[
         "{\"kty\":\"oct\",\"k\":\"a2tra2tra2tra2tra2tra2tra2tra2tra2tra2tra2s\"}",
         Refusal::NotCompact,
     ),
+    // The first key counts.
+    (
+        "{}",
+        "{\"keys\":[{\"kty\":\"oct\",\"k\":\"a2tra2tra2tra2tra2tra2tra2s\"},{\"kty\":\"oct\",\"k\":\"a2tra2tra2tra2tra2tra2tra2tra2tra2tra2tra2s\",\"alg\":\"A256KW\"}]}",
+        Refusal::NoAlgorithm,
+    ),
 ];
+
+/// Templates of `jwk gen`, with the first cause of their refusal. There are no random octets.
+const MAKING: &[(&str, &str, Refusal)] = &[
+    // The text, its numbers, and the members that are typed come before the size.
+    ("{\"bytes\":1.0", "", Refusal::Json),
+    ("{\"k\":\"AA\",\"bytes\":1.0}", "", Refusal::Number),
+    ("[]", "", Refusal::Key),
+    ("\r{\"bytes\":1}", "", Refusal::Random),
+    ("{\"k\":\"AA\",\"bytes\":4097}", "", Refusal::Key),
+    ("{\"keys\":[],\"bytes\":4097}", "", Refusal::Key),
+    ("{\"kty\":\"EC\",\"bytes\":4097}", "", Refusal::Key),
+    ("{\"alg\":1,\"bytes\":4097}", "", Refusal::Key),
+    ("{\"use\":1,\"bytes\":4097}", "", Refusal::Key),
+    ("{\"kid\":1,\"bytes\":4097}", "", Refusal::Key),
+    ("{\"key_ops\":[1],\"bytes\":4097}", "", Refusal::Key),
+    // The size comes first, then the algorithm, then whether there is a size that fits, then the depth, and then the random octets.
+    ("{\"alg\":\"x\",\"bytes\":0}", "", Refusal::Key),
+    ("{\"alg\":\"x\",\"bytes\":4097}", "", Refusal::Limit),
+    ("{\"alg\":\"x\"}", "", Refusal::Unsupported),
+    (
+        "{\"alg\":\"dir\",\"x\":[[[[[[[[[[[[[[[[[[[[[[[[[[[[[[[[[[[[[[[[[[[[[[[[[[[[[[[[[[[[[[[[]]]]]]]]]]]]]]]]]]]]]]]]]]]]]]]]]]]]]]]]]]]]]]]]]]]]]]]]]]]]]]]]}",
+        "",
+        Refusal::NoAlgorithm,
+    ),
+    (
+        "{\"alg\":\"A128KW\",\"bytes\":17,\"x\":[[[[[[[[[[[[[[[[[[[[[[[[[[[[[[[[[[[[[[[[[[[[[[[[[[[[[[[[[[[[[[[[]]]]]]]]]]]]]]]]]]]]]]]]]]]]]]]]]]]]]]]]]]]]]]]]]]]]]]]]]]]]]]]]}",
+        "",
+        Refusal::KeyDoesNotFit,
+    ),
+    (
+        "{\"bytes\":1,\"x\":[[[[[[[[[[[[[[[[[[[[[[[[[[[[[[[[[[[[[[[[[[[[[[[[[[[[[[[[[[[[[[[[]]]]]]]]]]]]]]]]]]]]]]]]]]]]]]]]]]]]]]]]]]]]]]]]]]]]]]]]]]]]]]]]}",
+        "",
+        Refusal::Limit,
+    ),
+    ("{\"bytes\":1}", "", Refusal::Random),
+];
+
+/// Keys that `jwk thp` names, with the first cause of their refusal.
+const NAMING: &[(&str, &str, Refusal)] = &[
+    ("{\"keys\":[1.0", "", Refusal::Json),
+    ("{\"keys\":1.0}", "", Refusal::Number),
+    ("[]", "", Refusal::Key),
+    ("\r{\"keys\":[{}]}", "", Refusal::Key),
+];
+
+#[test]
+fn the_commands_for_keys_report_the_first_cause(rt: HostRuntime) -> Result<(), Fail> {
+    refuses_each(&rt, &["jwk", "gen", "-i", "template"], MAKING)?;
+    refuses_each(&rt, &["jwk", "thp"], NAMING)
+}
 
 #[test]
 fn signing_reports_the_first_cause(rt: HostRuntime) -> Result<(), Fail> {
@@ -124,6 +198,56 @@ const ENCRYPTING_TEXTS: &[(&str, &str, Refusal)] = &[
     ),
     (
         "{\"protected\":{\"crit\":[]}}",
+        KEY_20,
+        Refusal::Unsupported,
+    ),
+    // Keys that are no JSON text, and keys that are no object.
+    ("{", "{\"keys\":[1.0", Refusal::Json),
+    ("{", "[]", Refusal::Key),
+    ("{", "\r[]", Refusal::Key),
+    // A template that is no JSON text, one that is no object, and one after white space.
+    ("{\"x\":1.0", KEY_20, Refusal::Json),
+    ("[]", KEY_20, Refusal::Form),
+    ("\r{\"x\":1.0}", KEY_20, Refusal::Number),
+    // A name in both headers, a member of the wrong type and what is drawn come before `crit`, `zip` and algorithms that are not supported.
+    (
+        "{\"protected\":{\"alg\":\"x\"},\"unprotected\":{\"alg\":\"x\"}}",
+        KEY_20,
+        Refusal::Header,
+    ),
+    (
+        "{\"protected\":{\"enc\":1,\"zip\":\"DEF\"}}",
+        KEY_20,
+        Refusal::Header,
+    ),
+    (
+        "{\"protected\":{\"p2s\":\"AAECAwQFBgc\",\"crit\":[]}}",
+        KEY_20,
+        Refusal::Header,
+    ),
+    (
+        "{\"unprotected\":{\"iv\":\"AA\",\"zip\":\"DEF\"}}",
+        KEY_20,
+        Refusal::Header,
+    ),
+    (
+        "{\"protected\":{\"tag\":\"AA\",\"enc\":\"x\"}}",
+        KEY_20,
+        Refusal::Header,
+    ),
+    // `zip` and algorithms that are not supported come before the algorithms of the keys.
+    (
+        "{\"unprotected\":{\"zip\":\"DEF\"}}",
+        KEY_20,
+        Refusal::Unsupported,
+    ),
+    (
+        "{\"protected\":{\"alg\":\"x\"}}",
+        KEY_20,
+        Refusal::Unsupported,
+    ),
+    (
+        "{\"protected\":{\"enc\":\"x\"}}",
         KEY_20,
         Refusal::Unsupported,
     ),
@@ -174,6 +298,33 @@ const ENCRYPTING_KEYS: &[(&str, &str, Refusal)] = &[
         "{\"keys\":[{\"kty\":\"oct\",\"k\":\"a2tra2tra2tra2tra2traw\"},{\"kty\":\"oct\",\"k\":\"a2tra2tra2s\",\"alg\":\"PBES2-HS256+A128KW\"}]}",
         Refusal::NotCompact,
     ),
+    // The first key counts. Whether a direct key is alone comes after the algorithm of each key, and before the content encryption.
+    (
+        "{}",
+        "{\"keys\":[{\"kty\":\"oct\",\"k\":\"a2tra2tra2tra2tra2tra2tra2s\"},{\"kty\":\"oct\",\"k\":\"a2tra2tra2tra2tra2tra2tra2tra2tra2tra2tra2s\",\"alg\":\"HS256\"}]}",
+        Refusal::NoAlgorithm,
+    ),
+    (
+        "{}",
+        "{\"keys\":[{\"kty\":\"oct\",\"k\":\"a2tra2tra2tra2tra2tra2tra2s\",\"alg\":\"dir\"},{\"kty\":\"oct\",\"k\":\"a2tra2tra2tra2tra2tra2tra2tra2tra2tra2tra2s\",\"alg\":\"HS256\"}]}",
+        Refusal::KeyDoesNotFit,
+    ),
+    (
+        "{\"protected\":{\"alg\":\"dir\"}}",
+        "{\"keys\":[{\"kty\":\"oct\",\"k\":\"a2tra2tra2tra2tra2tra2tra2s\"},{\"kty\":\"oct\",\"k\":\"a2tra2tra2tra2tra2tra2tra2s\"}]}",
+        Refusal::Header,
+    ),
+    // The form comes before the random octets.
+    (
+        "{\"aad\":\"YQ\"}",
+        "{\"kty\":\"oct\",\"k\":\"a2tra2tra2tra2tra2traw\"}",
+        Refusal::NotCompact,
+    ),
+    (
+        "{}",
+        "{\"kty\":\"oct\",\"k\":\"a2tra2tra2tra2tra2traw\"}",
+        Refusal::Random,
+    ),
 ];
 
 #[test]
@@ -203,6 +354,44 @@ const SIGNED: &[(&str, &str, Refusal)] = &[
         KEY_20,
         Refusal::Unsupported,
     ),
+    // A text that is no JSON, one that is in compact form, and white space before one in JSON form.
+    ("{\"payload\":1.0", KEY_20, Refusal::Json),
+    ("[]", KEY_20, Refusal::Form),
+    ("\r[\"payload\"]", KEY_20, Refusal::Form),
+    ("\r{\"payload\":1.0}", KEY_20, Refusal::Number),
+    // Each step is done for the whole object before the next one: form, base64url, the protected headers, the joint headers, and `crit`.
+    ("!.", KEY_20, Refusal::Form),
+    (
+        "{\"payload\":\"!\",\"signatures\":[{\"signature\":\"\"},{\"signature\":1}]}",
+        KEY_20,
+        Refusal::Form,
+    ),
+    (
+        "{\"payload\":\"\",\"signatures\":[{\"protected\":\"ew\",\"signature\":\"\"},{\"protected\":\"e30\",\"signature\":\"!\"}]}",
+        KEY_20,
+        Refusal::Base64,
+    ),
+    (
+        "{\"payload\":\"\",\"signatures\":[{\"protected\":\"W10\",\"signature\":\"\"},{\"protected\":\"ew\",\"signature\":\"\"}]}",
+        KEY_20,
+        Refusal::Header,
+    ),
+    (
+        "{\"payload\":\"\",\"signatures\":[{\"signature\":\"\"},{\"protected\":\"ew\",\"signature\":\"\"}]}",
+        KEY_20,
+        Refusal::Json,
+    ),
+    (
+        "{\"payload\":\"\",\"signatures\":[{\"header\":{\"alg\":\"x\",\"crit\":[]},\"signature\":\"\"},{\"header\":{\"alg\":1},\"signature\":\"\"}]}",
+        KEY_20,
+        Refusal::Header,
+    ),
+    // `crit` comes before what compact form can hold.
+    (
+        "{\"payload\":\"\",\"signature\":\"\",\"header\":{\"alg\":\"x\",\"crit\":[]}}",
+        KEY_20,
+        Refusal::Unsupported,
+    ),
 ];
 
 /// The causes of verifying alone, which come after these.
@@ -218,6 +407,10 @@ const VERIFYING: &[(&str, &str, Refusal)] = &[
         "{\"kty\":\"oct\",\"k\":\"a2tra2tra2tra2tra2tra2tra2tra2tra2tra2tra2s\"}",
         Refusal::NotOpened,
     ),
+    // Keys that are no JSON text, and keys that are no object.
+    ("{", "{\"keys\":[1.0", Refusal::Json),
+    ("{", "[]", Refusal::Key),
+    ("{", "\r[]", Refusal::Key),
 ];
 
 #[test]
@@ -245,6 +438,59 @@ const ENCRYPTED: &[(&str, &str, Refusal)] = &[
     ("eyJhbGciOjEsImNyaXQiOltdfQ....", KEY_20, Refusal::Header),
     (
         "eyJhbGciOiJ4IiwiZW5jIjoieCIsImNyaXQiOltdfQ....",
+        KEY_20,
+        Refusal::Unsupported,
+    ),
+    // A text that is no JSON, one that is in compact form, and white space before one in JSON form.
+    ("{\"ciphertext\":1.0", KEY_20, Refusal::Json),
+    ("[]", KEY_20, Refusal::Form),
+    ("\r[\"ciphertext\"]", KEY_20, Refusal::Form),
+    ("\r{\"ciphertext\":1.0}", KEY_20, Refusal::Number),
+    // Each step is done for the whole object before the next one: form, base64url, the protected header, the joint headers, and `crit` and `zip`.
+    ("!...", KEY_20, Refusal::Form),
+    (
+        "{\"ciphertext\":\"!\",\"recipients\":[{},{\"header\":1}]}",
+        KEY_20,
+        Refusal::Form,
+    ),
+    (
+        "{\"ciphertext\":\"\",\"protected\":\"ew\",\"recipients\":[{},{\"encrypted_key\":\"!\"}]}",
+        KEY_20,
+        Refusal::Base64,
+    ),
+    (
+        "{\"ciphertext\":\"\",\"protected\":\"ew\",\"tag\":\"!\"}",
+        KEY_20,
+        Refusal::Base64,
+    ),
+    (
+        "{\"ciphertext\":\"\",\"protected\":\"ew\",\"header\":{\"alg\":1}}",
+        KEY_20,
+        Refusal::Json,
+    ),
+    (
+        "{\"ciphertext\":\"\",\"recipients\":[{\"header\":{\"alg\":\"x\",\"enc\":\"x\",\"crit\":[]}},{\"header\":{\"alg\":\"x\",\"enc\":\"y\"}}]}",
+        KEY_20,
+        Refusal::Header,
+    ),
+    (
+        "{\"ciphertext\":\"\",\"unprotected\":{\"alg\":\"x\",\"enc\":1,\"zip\":\"DEF\"}}",
+        KEY_20,
+        Refusal::Header,
+    ),
+    (
+        "{\"ciphertext\":\"\",\"unprotected\":{\"alg\":\"PBES2-HS256+A128KW\",\"enc\":\"x\",\"crit\":[]}}",
+        KEY_20,
+        Refusal::Header,
+    ),
+    (
+        "{\"ciphertext\":\"\",\"unprotected\":{\"alg\":\"A128GCMKW\",\"enc\":\"x\",\"zip\":\"DEF\"}}",
+        KEY_20,
+        Refusal::Header,
+    ),
+    // `zip` comes before what compact form can hold.
+    (
+        "{\"ciphertext\":\"\",\"unprotected\":{\"alg\":\"x\",\"enc\":\"x\",\"zip\":\"DEF\"}}",
         KEY_20,
         Refusal::Unsupported,
     ),
@@ -277,6 +523,10 @@ const DECRYPTING: &[(&str, &str, Refusal)] = &[
         KEY_20,
         Refusal::NotOpened,
     ),
+    // Keys that are no JSON text, and keys that are no object.
+    ("{", "{\"keys\":[1.0", Refusal::Json),
+    ("{", "[]", Refusal::Key),
+    ("{", "\r[]", Refusal::Key),
 ];
 
 #[test]
@@ -287,7 +537,7 @@ fn decrypting_reports_the_first_cause(rt: HostRuntime) -> Result<(), Fail> {
 }
 
 /// The command refuses a text that has the element 257 times in a list.
-fn refuses_many<R: Abort + AllocGlobal>(
+fn refuses_many<R: Abort + AllocGlobal + Print>(
     rt: &R,
     words: &[&str],
     before: &str,

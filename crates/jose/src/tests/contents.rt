@@ -11,7 +11,7 @@ mod many;
 mod pieces;
 mod shapes;
 
-use crate::tests::harness::{Answer, Given, ROOM, expect, expect_done, outcome};
+use crate::tests::harness::{Answer, Given, ROOM, expect, expect_done, outcome, state};
 use crate::tests::samples::{OCTETS_FROM_1, repeated};
 use std::alloc::{AllocError, Global};
 use std::process::Abort;
@@ -33,12 +33,13 @@ pub(crate) const LENGTHS: &[(usize, &str, &str)] = &[
 ];
 
 /// The command has this answer, however many octets the inputs return at a read.
-pub(crate) fn expect_in_steps<R: Abort + AllocGlobal>(
+pub(crate) fn expect_in_steps<R: Abort + AllocGlobal + Print>(
     rt: &R,
     words: &[&str],
     given: &Given<'_>,
     answer: Answer<'_>,
 ) -> Result<(), Fail> {
+    state(rt, words, &given.octets(), answer)?;
     for step in [1, 3, 16, 1000, 4096] {
         let done = outcome(rt.alloc(), words, given, step, ROOM)?;
         expect_done(rt, &done, "a length", answer);
@@ -57,7 +58,10 @@ pub(crate) fn with_aad(alloc: Global, count: usize, template: &str) -> Result<St
 pub(crate) type Row<'a> = (&'a [&'a str], &'a str, &'a [u8], &'a str, Answer<'a>);
 
 /// Each row has its answer. The random octets are the octets 1 to 80.
-pub(crate) fn answers_each<R: Abort + AllocGlobal>(rt: &R, rows: &[Row<'_>]) -> Result<(), Fail> {
+pub(crate) fn answers_each<R: Abort + AllocGlobal + Print>(
+    rt: &R,
+    rows: &[Row<'_>],
+) -> Result<(), Fail> {
     for (words, text, content, keys, answer) in rows {
         let given = Given {
             text,

@@ -9,15 +9,18 @@ use objects::Jwe;
 use octets::{Input, MemoryInput, MemoryOutput, ReaderInput, Refusal, encode_onto};
 use prf::{HashAlg, digest};
 use std::alloc::{AllocError, Global};
-use std::fmt::Debug;
-use std::io;
+use std::fmt::{Debug, Display};
 use std::io::Read;
 use std::process::Abort;
 use std::test::Fail;
+use std::{fmt, io};
 use tokens::{Work, jwe_decrypt};
 
 /// How many octets each output can hold, if there is to be enough room.
 pub(crate) const ROOM: usize = 3_000_000;
+
+/// The greatest length of an input of a row that is printed.
+const MOST_PRINTED: usize = 2048;
 
 /// The contents of the inputs.
 #[derive(Clone, Copy)]
@@ -129,14 +132,16 @@ pub(crate) fn outcome_of_octets(
     performed(alloc, words, &mut inputs, room)
 }
 
-/// The same over a content that fails after all of it was read.
+/// The same over a content that fails after all of it was read. Without a content and keys the text fails, which is the content of
+/// `b64 dec`.
 pub(crate) fn outcome_of_failing(
     alloc: Global,
     words: &[&str],
     given: &Given<'_>,
 ) -> Result<Done, Refusal> {
+    let is_text = given.content.is_empty() && given.keys.is_empty();
     let mut inputs = Inputs {
-        text: ReaderInput::new(Breaking::new(given.text.as_bytes(), false)),
+        text: ReaderInput::new(Breaking::new(given.text.as_bytes(), is_text)),
         content: ReaderInput::new(Breaking::new(given.content, true)),
         keys: ReaderInput::new(Breaking::new(given.keys.as_bytes(), false)),
         random: ReaderInput::new(Breaking::new(given.random, false)),
@@ -195,13 +200,144 @@ impl<'a> Answer<'a> {
     }
 }
 
+impl<'a> Display for Answer<'a> {
+    fn fmt<W: fmt::Write>(&self, f: &mut fmt::Formatter<W>) -> fmt::Result {
+        match self {
+            Answer::Text(text) => write!(f, "text {}", Spelled(text.as_bytes())),
+            Answer::Content(content) => write!(f, "content {}", Spelled(content)),
+            Answer::Both(text, content) => {
+                write!(f, "both {} {}", Spelled(text.as_bytes()), Spelled(content))
+            }
+            Answer::Digest(text) => write!(f, "digest {}", Spelled(text)),
+            Answer::Digests(text, content) => {
+                write!(f, "digests {} {}", Spelled(text), Spelled(content))
+            }
+            Answer::Nothing => write!(f, "nothing"),
+            Answer::Refusal(refusal) => write!(f, "refusal {refusal}"),
+        }
+    }
+}
+
+/// Octets as a script reads them: each printable character of ASCII is itself, and each other octet and `%` is `%` with two hexadecimal
+/// digits.
+#[derive(Clone, Copy)]
+struct Spelled<'a>(&'a [u8]);
+
+impl<'a> Display for Spelled<'a> {
+    fn fmt<W: fmt::Write>(&self, f: &mut fmt::Formatter<W>) -> fmt::Result {
+        for octet in self.0 {
+            let octet = *octet;
+            if octet.is_ascii_graphic() && octet != b'%' {
+                write!(f, "{}", char::from(octet))?;
+            } else {
+                write!(f, "%{octet:02x}")?;
+            }
+        }
+        Ok(())
+    }
+}
+
+/// Prints a row in one line, unless an input is long: what it states, the inputs, and the words. scripts/definitions reads it, computes the
+/// same from the definitions, and compares the two.
+fn print_row<R: Print>(
+    rt: &R,
+    stated: &impl Display,
+    words: &[&str],
+    given: &GivenOctets<'_>,
+) -> Result<(), Fail> {
+    let GivenOctets {
+        text,
+        content,
+        keys,
+        random,
+    } = *given;
+    let inputs = [text, content, keys, random];
+    if inputs.iter().all(|input| input.len() <= MOST_PRINTED) {
+        print!(rt; "row {stated}")?;
+        for octets in inputs {
+            print!(rt; " {}", Spelled(octets))?;
+        }
+        for word in words {
+            print!(rt; " {}", Spelled(word.as_bytes()))?;
+        }
+        println!(rt; "")?;
+    }
+    Ok(())
+}
+
+/// States that the command has this answer.
+pub(crate) fn state<R: Print>(
+    rt: &R,
+    words: &[&str],
+    given: &GivenOctets<'_>,
+    answer: Answer<'_>,
+) -> Result<(), Fail> {
+    print_row(rt, &answer, words, given)
+}
+
+/// The octets of which `-o` and `-O` hold beginnings after a content that fails.
+#[derive(Clone, Copy)]
+struct Beginnings<'a>(&'a [u8], &'a [u8]);
+
+impl<'a> Display for Beginnings<'a> {
+    fn fmt<W: fmt::Write>(&self, f: &mut fmt::Formatter<W>) -> fmt::Result {
+        write!(f, "beginnings {} {}", Spelled(self.0), Spelled(self.1))
+    }
+}
+
+/// States that the outputs hold beginnings of these octets if the content fails after the given ones.
+pub(crate) fn state_beginnings<R: Print>(
+    rt: &R,
+    words: &[&str],
+    given: &Given<'_>,
+    text: &[u8],
+    content: &[u8],
+) -> Result<(), Fail> {
+    print_row(rt, &Beginnings(text, content), words, &given.octets())
+}
+
+/// If the content fails after these octets, the command leaves these octets in `-o` and in `-O`, and nothing if no octet of it was read.
+pub(crate) fn expect_beginnings<R: Abort + AllocGlobal + Print>(
+    rt: &R,
+    words: &[&str],
+    given: &Given<'_>,
+    text: &[u8],
+    content: &[u8],
+) -> Result<(), Fail> {
+    state_beginnings(rt, words, given, text, content)?;
+    let done = outcome_of_failing(rt.alloc(), words, given)?;
+    if given.content.is_empty() && !given.keys.is_empty() {
+        expect_done(rt, &done, "no octet", Answer::Refusal(Refusal::Read));
+    } else {
+        expect_same(rt, done.result, Err(Refusal::Read), "a failure");
+        expect_written(rt, &done.text, text, false, "the text");
+        expect_written(rt, &done.content, content, false, "the content");
+    }
+    Ok(())
+}
+
+/// The command has this answer, over inputs that return many octets at a read. A message shows the text `at`.
+pub(crate) fn expect_once<R: Abort + AllocGlobal + Print>(
+    rt: &R,
+    words: &[&str],
+    given: &GivenOctets<'_>,
+    answer: Answer<'_>,
+    at: &str,
+) -> Result<Done, Fail> {
+    state(rt, words, given, answer)?;
+    let done = outcome_of_octets(rt.alloc(), words, given, 4096, ROOM)?;
+    expect_done(rt, &done, at, answer);
+    Ok(done)
+}
+
 /// The command has this answer, over inputs that return many octets at a read and over inputs that return one.
-pub(crate) fn expect<R: Abort + AllocGlobal>(
+pub(crate) fn expect<R: Abort + AllocGlobal + Print>(
     rt: &R,
     words: &[&str],
     given: &Given<'_>,
     answer: Answer<'_>,
 ) -> Result<(), Fail> {
+    state(rt, words, &given.octets(), answer)?;
     for step in [4096, 1] {
         let done = outcome(rt.alloc(), words, given, step, ROOM)?;
         expect_done(rt, &done, given.text, answer);
@@ -291,7 +427,7 @@ pub(crate) fn expect_octets(rt: &impl Abort, found: &[u8], wanted: &[u8], at: &s
 }
 
 /// The command has this answer over a text and keys alone.
-pub(crate) fn expect_text<R: Abort + AllocGlobal>(
+pub(crate) fn expect_text<R: Abort + AllocGlobal + Print>(
     rt: &R,
     words: &[&str],
     text: &str,
@@ -302,7 +438,7 @@ pub(crate) fn expect_text<R: Abort + AllocGlobal>(
 }
 
 /// Each row has its answer over its text, its detached content and the keys.
-pub(crate) fn expect_rows<R: Abort + AllocGlobal>(
+pub(crate) fn expect_rows<R: Abort + AllocGlobal + Print>(
     rt: &R,
     keys: &str,
     rows: &[(&[&str], &str, &[u8], Answer<'_>)],
@@ -320,7 +456,7 @@ pub(crate) fn expect_rows<R: Abort + AllocGlobal>(
 }
 
 /// Verifying has this answer.
-pub(crate) fn verifies<R: Abort + AllocGlobal>(
+pub(crate) fn verifies<R: Abort + AllocGlobal + Print>(
     rt: &R,
     text: &str,
     keys: &str,
@@ -330,7 +466,7 @@ pub(crate) fn verifies<R: Abort + AllocGlobal>(
 }
 
 /// Decrypting has this answer.
-pub(crate) fn decrypts<R: Abort + AllocGlobal>(
+pub(crate) fn decrypts<R: Abort + AllocGlobal + Print>(
     rt: &R,
     text: &str,
     keys: &str,
@@ -340,7 +476,7 @@ pub(crate) fn decrypts<R: Abort + AllocGlobal>(
 }
 
 /// Encrypting `LINE` has this answer.
-pub(crate) fn encrypts<R: Abort + AllocGlobal>(
+pub(crate) fn encrypts<R: Abort + AllocGlobal + Print>(
     rt: &R,
     words: &[&str],
     template: &str,
@@ -358,7 +494,7 @@ pub(crate) fn encrypts<R: Abort + AllocGlobal>(
 }
 
 /// Encrypting with each of these templates and keys is refused with this cause.
-pub(crate) fn encrypts_nothing<R: Abort + AllocGlobal>(
+pub(crate) fn encrypts_nothing<R: Abort + AllocGlobal + Print>(
     rt: &R,
     rows: &[(&str, &str, Refusal)],
 ) -> Result<(), Fail> {
@@ -398,7 +534,7 @@ pub(crate) fn comes_back<R: Abort + AllocGlobal>(
 }
 
 /// Decrypting ends with this result and this work. On success the plaintext is `LINE`.
-pub(crate) fn expect_work<R: Abort + AllocGlobal>(
+pub(crate) fn expect_work<R: Abort + AllocGlobal + Print>(
     rt: &R,
     text: &str,
     keys: &str,
@@ -409,7 +545,7 @@ pub(crate) fn expect_work<R: Abort + AllocGlobal>(
 }
 
 /// Decrypting ends with this result and this work. On success the plaintext is this one.
-pub(crate) fn expect_opening<R: Abort + AllocGlobal>(
+pub(crate) fn expect_opening<R: Abort + AllocGlobal + Print>(
     rt: &R,
     text: &str,
     keys: &str,
@@ -417,6 +553,11 @@ pub(crate) fn expect_opening<R: Abort + AllocGlobal>(
     work: Work,
     answer: Result<(), Refusal>,
 ) -> Result<(), Fail> {
+    let stated = match answer {
+        Ok(()) => Answer::Content(plaintext),
+        Err(refusal) => Answer::Refusal(refusal),
+    };
+    state(rt, &DECRYPT, &Given::of(text, keys).octets(), stated)?;
     let set = KeySet::read(rt.alloc(), keys.as_bytes(), false)?;
     let jwe = Jwe::read(rt.alloc(), text.as_bytes(), None)?;
     let mut out = MemoryOutput::new(rt.alloc(), 64)?;

@@ -10,27 +10,26 @@ pub(crate) mod python_password;
 pub(crate) mod python_several_keys;
 
 use crate::tests::command_words::DECRYPT;
-use crate::tests::harness::{Answer, Given, ROOM, decrypts, encrypts, expect_done, outcome};
+use crate::tests::harness::{Answer, Given, decrypts, encrypts, expect_once};
 use crate::tests::samples::{LINE, octets_from_0};
 use std::process::Abort;
 use std::test::Fail;
 
 /// Decrypting each of the objects has this answer.
-pub(crate) fn expect_each<R: Abort + AllocGlobal>(
+pub(crate) fn expect_each<R: Abort + AllocGlobal + Print>(
     rt: &R,
     objects: &[(&str, &str)],
     answer: Answer<'_>,
 ) -> Result<(), Fail> {
     for (text, keys) in objects {
-        let given = Given::of(text, keys);
-        let done = outcome(rt.alloc(), &DECRYPT, &given, 4096, ROOM)?;
-        expect_done(rt, &done, text, answer);
+        let given = Given::of(text, keys).octets();
+        let _done = expect_once(rt, &DECRYPT, &given, answer, text)?;
     }
     Ok(())
 }
 
 /// Each template and keys encrypt `LINE`, with this many of the octets from 0 on, to this text, and the keys decrypt it.
-pub(crate) fn gives_and_opens<R: Abort + AllocGlobal>(
+pub(crate) fn gives_and_opens<R: Abort + AllocGlobal + Print>(
     rt: &R,
     words: &[&str],
     rows: &[(&str, &str, usize, &str)],

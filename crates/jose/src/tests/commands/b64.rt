@@ -1,7 +1,8 @@
 //! `b64 enc` and `b64 dec`: octets and their texts by RFC 4648 section 5, and texts that are not strict. The vectors of section 10 are in
 //! crate `octets`.
 use crate::tests::harness::{
-    Answer, Given, ROOM, expect, expect_beginning, expect_same, expect_text, outcome,
+    Answer, Given, ROOM, expect, expect_beginning, expect_same, expect_text, outcome, state,
+    state_beginnings,
 };
 use octets::Refusal;
 use std::process::Abort;
@@ -18,7 +19,7 @@ const ENCODED: &[(&[u8], &str)] = &[
 ];
 
 /// The octets are encoded to this text.
-fn encodes<R: Abort + AllocGlobal>(rt: &R, content: &[u8], text: &str) -> Result<(), Fail> {
+fn encodes<R: Abort + AllocGlobal + Print>(rt: &R, content: &[u8], text: &str) -> Result<(), Fail> {
     let given = Given {
         text: "",
         content,
@@ -37,12 +38,19 @@ fn octets_become_base64url(rt: HostRuntime) -> Result<(), Fail> {
 }
 
 /// The text is decoded to these octets, or is refused before any of them is written.
-fn decodes<R: Abort + AllocGlobal>(rt: &R, text: &str, answer: Answer<'_>) -> Result<(), Fail> {
+fn decodes<R: Abort + AllocGlobal + Print>(
+    rt: &R,
+    text: &str,
+    answer: Answer<'_>,
+) -> Result<(), Fail> {
     expect_text(rt, &["b64", "dec"], text, "", answer)
 }
 
 /// Each of these texts is decoded or refused.
-fn decodes_each<R: Abort + AllocGlobal>(rt: &R, rows: &[(&str, Answer<'_>)]) -> Result<(), Fail> {
+fn decodes_each<R: Abort + AllocGlobal + Print>(
+    rt: &R,
+    rows: &[(&str, Answer<'_>)],
+) -> Result<(), Fail> {
     for (text, answer) in rows {
         decodes(rt, text, *answer)?;
     }
@@ -98,8 +106,12 @@ const BROKEN: &[(&str, &[u8])] = &[
 fn a_text_that_breaks_off_leaves_a_beginning(rt: HostRuntime) -> Result<(), Fail> {
     for (text, octets) in BROKEN {
         let given = Given::of(text, "");
+        let words = ["b64", "dec"];
+        let refused = Answer::Refusal(Refusal::Base64);
+        state(&rt, &words, &given.octets(), refused)?;
+        state_beginnings(&rt, &words, &given, b"", octets)?;
         for step in [4096, 1] {
-            let done = outcome(rt.alloc(), &["b64", "dec"], &given, step, ROOM)?;
+            let done = outcome(rt.alloc(), &words, &given, step, ROOM)?;
             expect_same(&rt, done.result, Err(Refusal::Base64), text);
             expect_beginning(&rt, &done.content, octets);
         }

@@ -133,7 +133,7 @@ fn what_does_not_open_is_refused(rt: HostRuntime) -> Result<(), Fail> {
 }
 
 /// An object with this many recipients before the last, which is that of RFC 7516 appendix A.4, has this answer.
-fn decrypts_for_last_of<R: Abort + AllocGlobal>(
+fn decrypts_for_last_of<R: Abort + AllocGlobal + Print>(
     rt: &R,
     before: usize,
     answer: Answer<'_>,

@@ -195,7 +195,7 @@ const OF_TWO_MILLION: &str =
     "eyJhbGciOiJQQkVTMi1IUzI1NitBMTI4S1ciLCJlbmMiOiJBMTI4Q0JDLUhTMjU2IiwicDJjIjoyMDAwMDAwLCJwMnMiOiJBQUVDQXdRRkJnY0lDUW9MREEwT0R3In0.aCP4KtSaOyU2fH-CwQCTox5jMXfpi2LwUANY8RgjE2ngBqB-5_9V9g.MDEyMzQ1Njc4OTo7PD0-Pw.ASuZZUaC35WumFsAhx41GJK62k7adf-OknNJYFNZBR8.B6AVcKw_xjKCZieHPBoIig";
 
 /// The first key opens, and this many copies of it after it are not tried.
-fn opens_by_the_first<R: Abort + AllocGlobal>(
+fn opens_by_the_first<R: Abort + AllocGlobal + Print>(
     rt: &R,
     text: &str,
     behind: usize,

@@ -6,7 +6,7 @@ use std::process::Abort;
 use std::test::Fail;
 
 /// Making keys by these templates, from this many of the octets from 0 on, has these answers.
-fn makes_each<R: Abort + AllocGlobal>(
+fn makes_each<R: Abort + AllocGlobal + Print>(
     rt: &R,
     len: usize,
     rows: &[(&str, Answer<'_>)],

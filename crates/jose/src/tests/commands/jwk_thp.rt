@@ -21,7 +21,10 @@ const MANY: &str =
     "{\"keys\":[{},{},{},{},{},{},{},{},{},{},{},{},{},{},{},{},{},{},{},{},{},{},{},{},{},{},{},{},{},{},{},{},{},{},{},{},{},{},{},{},{},{},{},{},{},{},{},{},{},{},{},{},{},{},{},{},{},{},{},{},{},{},{},{},{}]}";
 
 /// `jwk thp` of these keys has these answers.
-fn names_each<R: Abort + AllocGlobal>(rt: &R, rows: &[(&str, Answer<'_>)]) -> Result<(), Fail> {
+fn names_each<R: Abort + AllocGlobal + Print>(
+    rt: &R,
+    rows: &[(&str, Answer<'_>)],
+) -> Result<(), Fail> {
     for (text, answer) in rows {
         expect_text(rt, &["jwk", "thp"], text, "", *answer)?;
     }
@@ -47,7 +50,10 @@ fn keys_are_named_by_their_thumbprints(rt: HostRuntime) -> Result<(), Fail> {
 }
 
 /// `jwk thp` of `MADE_KEY` by these hashes has these answers.
-fn names_by_each<R: Abort + AllocGlobal>(rt: &R, rows: &[(&str, Answer<'_>)]) -> Result<(), Fail> {
+fn names_by_each<R: Abort + AllocGlobal + Print>(
+    rt: &R,
+    rows: &[(&str, Answer<'_>)],
+) -> Result<(), Fail> {
     for (hash, answer) in rows {
         expect_text(rt, &["jwk", "thp", "-a", hash], MADE_KEY, "", *answer)?;
     }

@@ -11,7 +11,7 @@ use std::process::Abort;
 use std::test::Fail;
 
 /// Signing has this answer.
-pub(crate) fn signs<R: Abort + AllocGlobal>(
+pub(crate) fn signs<R: Abort + AllocGlobal + Print>(
     rt: &R,
     words: &[&str],
     template: &str,
@@ -29,7 +29,7 @@ pub(crate) fn signs<R: Abort + AllocGlobal>(
 }
 
 /// Signing `abc` by these templates and keys has these answers.
-fn signs_each<R: Abort + AllocGlobal>(
+fn signs_each<R: Abort + AllocGlobal + Print>(
     rt: &R,
     words: &[&str],
     rows: &[(&str, &str, Answer<'_>)],

@@ -9,7 +9,10 @@ use std::process::Abort;
 use std::test::Fail;
 
 /// Verifying these texts with `RFC7515_KEY` has these answers.
-fn verifies_each<R: Abort + AllocGlobal>(rt: &R, rows: &[(&str, Answer<'_>)]) -> Result<(), Fail> {
+fn verifies_each<R: Abort + AllocGlobal + Print>(
+    rt: &R,
+    rows: &[(&str, Answer<'_>)],
+) -> Result<(), Fail> {
     for (text, answer) in rows {
         verifies(rt, text, RFC7515_KEY, *answer)?;
     }
@@ -167,7 +170,7 @@ fn the_algorithm_decides_of_a_token(rt: HostRuntime) -> Result<(), Fail> {
 }
 
 /// Verifying `ABC` with these keys has these answers.
-fn verifies_with_each<R: Abort + AllocGlobal>(
+fn verifies_with_each<R: Abort + AllocGlobal + Print>(
     rt: &R,
     rows: &[(&str, Answer<'_>)],
 ) -> Result<(), Fail> {

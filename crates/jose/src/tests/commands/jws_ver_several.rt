@@ -241,7 +241,7 @@ fn without_payload(alloc: Global, text: &str) -> Result<String, AllocError> {
 }
 
 /// With a detached payload the answers are these, whether it is written or not, and however many octets the inputs return at a read.
-fn expect_detached<R: Abort + AllocGlobal>(
+fn expect_detached<R: Abort + AllocGlobal + Print>(
     rt: &R,
     text: &str,
     keys: &str,
@@ -270,7 +270,7 @@ fn some_keys_verify_a_detached_payload_or_all(rt: HostRuntime) -> Result<(), Fai
 }
 
 /// An object with this many signatures before the last, which is that of `ABC`, has this answer.
-fn verifies_last_of<R: Abort + AllocGlobal>(
+fn verifies_last_of<R: Abort + AllocGlobal + Print>(
     rt: &R,
     before: usize,
     answer: Answer<'_>,
@@ -294,7 +294,7 @@ fn an_object_has_256_signatures_at_most(rt: HostRuntime) -> Result<(), Fail> {
 
 /// An object with 256 signatures by two protected headers in turn, of which the last alone is not of zeros, has this answer with
 /// `RFC7515_KEY`, also if its payload is detached.
-fn verifies_last_in_turn<R: Abort + AllocGlobal>(
+fn verifies_last_in_turn<R: Abort + AllocGlobal + Print>(
     rt: &R,
     last: &str,
     answer: Answer<'_>,

@@ -40,7 +40,7 @@ const AROUND_JSON: &[(&str, &str, Option<Refusal>)] = &[
 ];
 
 /// The command has this answer to the text with these characters before and after it.
-fn expect_around<R: Abort + AllocGlobal>(
+fn expect_around<R: Abort + AllocGlobal + Print>(
     rt: &R,
     words: &[&str],
     keys: &str,
@@ -53,7 +53,7 @@ fn expect_around<R: Abort + AllocGlobal>(
 }
 
 /// With the characters of each row around it, the text is read or refused.
-fn expect_each<R: Abort + AllocGlobal>(
+fn expect_each<R: Abort + AllocGlobal + Print>(
     rt: &R,
     rows: &[(&str, &str, Option<Refusal>)],
     words: &[&str],

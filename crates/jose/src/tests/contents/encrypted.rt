@@ -148,7 +148,7 @@ fn nth(digests: &str, n: usize) -> &[u8] {
 }
 
 /// Encrypting the content makes octets with these digests, in each form, however many octets the inputs return at a read.
-fn seals_in_each_form<R: Abort + AllocGlobal>(
+fn seals_in_each_form<R: Abort + AllocGlobal + Print>(
     rt: &R,
     template: &str,
     content: &[u8],
@@ -174,7 +174,7 @@ fn seals_in_each_form<R: Abort + AllocGlobal>(
 }
 
 /// Encrypting a content of each length makes octets with the digests of the row.
-fn seals_each_length<R: Abort + AllocGlobal>(rt: &R, row: &Row) -> Result<(), Fail> {
+fn seals_each_length<R: Abort + AllocGlobal + Print>(rt: &R, row: &Row) -> Result<(), Fail> {
     for ((count, last, _), digests) in LENGTHS.iter().zip(row.digests) {
         let content = repeated(rt.alloc(), "", PIECE.0, *count, last)?;
         seals_in_each_form(rt, row.template, content.as_bytes(), digests)?;
@@ -233,7 +233,11 @@ const WITH_AAD: &[&str] = &[
 ];
 
 /// Long content with long additional data is encrypted to octets with this digest, and is decrypted again.
-fn seals_with_aad<R: Abort + AllocGlobal>(rt: &R, row: &Row, digest: &str) -> Result<(), Fail> {
+fn seals_with_aad<R: Abort + AllocGlobal + Print>(
+    rt: &R,
+    row: &Row,
+    digest: &str,
+) -> Result<(), Fail> {
     let template = with_aad(rt.alloc(), 50, row.template)?;
     let content = repeated(rt.alloc(), "", PIECE.0, 1000, "")?;
     let given = Given {

@@ -12,7 +12,7 @@ use crate::tests::command_words::{
     SIGN_COMPACT, VERIFY,
 };
 use crate::tests::contents::long::answers;
-use crate::tests::harness::{Answer, Given, ROOM, expect_done, outcome};
+use crate::tests::harness::{Answer, Given, expect_once};
 use crate::tests::samples::{KEY_16, KEY_32, LINE, OCTETS_FROM_1, nested};
 use std::alloc::{AllocError, Global};
 use std::process::Abort;
@@ -56,7 +56,7 @@ const ENCRYPTED_JSON: Way = Way {
 };
 
 /// Reading this text writes the content, and the text is written again.
-fn is_read<R: Abort + AllocGlobal>(rt: &R, way: &Way, text: &str) -> Result<(), Fail> {
+fn is_read<R: Abort + AllocGlobal + Print>(rt: &R, way: &Way, text: &str) -> Result<(), Fail> {
     answers(
         rt,
         way.reading,
@@ -69,7 +69,7 @@ fn is_read<R: Abort + AllocGlobal>(rt: &R, way: &Way, text: &str) -> Result<(), 
 }
 
 /// The text that is written by the template has this SHA-256, and is read.
-fn is_written_and_read<R: Abort + AllocGlobal>(
+fn is_written_and_read<R: Abort + AllocGlobal + Print>(
     rt: &R,
     way: &Way,
     template: &str,
@@ -81,8 +81,8 @@ fn is_written_and_read<R: Abort + AllocGlobal>(
         keys: way.key,
         random: OCTETS_FROM_1,
     };
-    let done = outcome(rt.alloc(), way.writing, &given, 4096, ROOM)?;
-    expect_done(rt, &done, template, Answer::Digest(digest.as_bytes()));
+    let digest = Answer::Digest(digest.as_bytes());
+    let done = expect_once(rt, way.writing, &given.octets(), digest, template)?;
     is_read(rt, way, str::from_utf8(done.text.octets()).unwrap_or(""))
 }
 

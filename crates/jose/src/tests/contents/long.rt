@@ -6,7 +6,7 @@ use crate::tests::command_words::{
 };
 use crate::tests::contents::with_aad;
 use crate::tests::harness::{
-    Answer, Given, ROOM, comes_back, expect_digest, expect_done, expect_same, outcome,
+    Answer, Given, ROOM, comes_back, expect_digest, expect_once, expect_same, outcome,
 };
 use crate::tests::peers::python::BY_DIR;
 use crate::tests::samples::{ABC, KEY_16, KEY_32, LINE, OCTETS_FROM_1, TEMPLATE, repeated};
@@ -29,7 +29,7 @@ fn long_text(alloc: Global, front: &str, back: &str) -> Result<String, AllocErro
 }
 
 /// The command has this answer, over inputs that return many octets at a read.
-pub(crate) fn answers<R: Abort + AllocGlobal>(
+pub(crate) fn answers<R: Abort + AllocGlobal + Print>(
     rt: &R,
     words: &[&str],
     text: &str,
@@ -43,8 +43,7 @@ pub(crate) fn answers<R: Abort + AllocGlobal>(
         keys,
         random: OCTETS_FROM_1,
     };
-    let done = outcome(rt.alloc(), words, &given, 4096, ROOM)?;
-    expect_done(rt, &done, "a long input", answer);
+    let _done = expect_once(rt, words, &given.octets(), answer, "a long input")?;
     Ok(())
 }
 
@@ -211,7 +210,7 @@ const SEALED: &[(&str, &str)] = &[
 ];
 
 /// The 70,000 octets are encrypted to the text with this digest, and the text is decrypted to them.
-fn is_sealed_and_comes_back<R: Abort + AllocGlobal>(
+fn is_sealed_and_comes_back<R: Abort + AllocGlobal + Print>(
     rt: &R,
     template: &str,
     digest: &str,

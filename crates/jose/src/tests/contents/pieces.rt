@@ -13,7 +13,7 @@ use std::process::Abort;
 use std::test::Fail;
 
 /// The octets are encoded to the text.
-fn encodes_in_steps<R: Abort + AllocGlobal>(
+fn encodes_in_steps<R: Abort + AllocGlobal + Print>(
     rt: &R,
     content: &[u8],
     text: &str,
@@ -28,7 +28,7 @@ fn encodes_in_steps<R: Abort + AllocGlobal>(
 }
 
 /// The text is decoded to the octets.
-fn decodes_in_steps<R: Abort + AllocGlobal>(
+fn decodes_in_steps<R: Abort + AllocGlobal + Print>(
     rt: &R,
     text: &str,
     content: &[u8],
@@ -38,7 +38,7 @@ fn decodes_in_steps<R: Abort + AllocGlobal>(
 }
 
 /// The content of a row is encoded to its text, and the text is decoded to the content, with a line end and without.
-fn goes_and_comes<R: Abort + AllocGlobal>(
+fn goes_and_comes<R: Abort + AllocGlobal + Print>(
     rt: &R,
     count: usize,
     last: &str,
@@ -199,7 +199,7 @@ fn signatures(alloc: Global, row: &Row) -> Result<String, AllocError> {
 }
 
 /// Signing with the keys has this answer, however many octets the inputs return at a read.
-fn signs_in_steps<R: Abort + AllocGlobal>(
+fn signs_in_steps<R: Abort + AllocGlobal + Print>(
     rt: &R,
     words: &[&str],
     template: &str,
@@ -265,7 +265,7 @@ fn a_detached_payload_is_signed_in_pieces_of_any_length(rt: HostRuntime) -> Resu
 }
 
 /// Verifying accepts the detached payload and refuses a payload that is one octet longer, however many octets the inputs return at a read.
-fn verifies_in_steps<R: Abort + AllocGlobal>(
+fn verifies_in_steps<R: Abort + AllocGlobal + Print>(
     rt: &R,
     words: &[&str],
     text: &str,

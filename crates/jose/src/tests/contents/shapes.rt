@@ -125,7 +125,7 @@ fn key_with(alloc: Global, key: &str, member: &str) -> Result<String, AllocError
 }
 
 /// A key with this member signs, verifies, encrypts and decrypts nothing.
-fn is_of_no_use<R: Abort + AllocGlobal>(rt: &R, member: &str) -> Result<(), Fail> {
+fn is_of_no_use<R: Abort + AllocGlobal + Print>(rt: &R, member: &str) -> Result<(), Fail> {
     let refused = Answer::Refusal(Refusal::KeyDoesNotFit);
     let key = key_with(rt.alloc(), KEY_32, member)?;
     answers(rt, &SIGN, "{}", b"abc", &key, refused)?;

@@ -6,7 +6,7 @@ use crate::tests::command_words::{
     CHECK_ALL_DETACHED, CHECK_DETACHED, DECRYPT, ENCRYPT_COMPACT, SIGN_COMPACT, VERIFY,
     VERIFY_DETACHED,
 };
-use crate::tests::harness::{expect_octets, expect_same, owned};
+use crate::tests::harness::{Answer, Given, expect_octets, expect_same, owned, state};
 use crate::tests::samples::{
     ABC, ABC_DETACHED, ABC_FLATTENED_DETACHED, ABC_GENERAL_DETACHED, LINE, TEMPLATE, TWO_KEYS,
 };
@@ -378,12 +378,29 @@ fn fails_in_turn<R: Abort + AllocGlobal>(
     panic!(rt; "no run without a failure");
 }
 
+/// States the answer of a run without a failure.
+fn state_row<R: Print>(rt: &R, row: &Row<'_>, answer: Result<(), Refusal>) -> Result<(), Fail> {
+    let (words, (given, detached, keys, random), _, text, content, _) = *row;
+    let given = Given {
+        text: given,
+        content: detached,
+        keys,
+        random,
+    };
+    let stated = match answer {
+        Ok(()) => Answer::Both(text, content),
+        Err(refusal) => Answer::Refusal(refusal),
+    };
+    state(rt, words, &given.octets(), stated)
+}
+
 /// Each call of each device fails in turn.
-fn all_fail_in_turn<R: Abort + AllocGlobal>(
+fn all_fail_in_turn<R: Abort + AllocGlobal + Print>(
     rt: &R,
     row: &Row<'_>,
     answer: Result<(), Refusal>,
 ) -> Result<(), Fail> {
+    state_row(rt, row, answer)?;
     for device in 0..DEVICES {
         let (.., calls) = *row;
         let calls = calls[device];
@@ -396,7 +413,10 @@ fn all_fail_in_turn<R: Abort + AllocGlobal>(
     Ok(())
 }
 
-fn each_fails_in_turn<R: Abort + AllocGlobal>(rt: &R, rows: &[Row<'_>]) -> Result<(), Fail> {
+fn each_fails_in_turn<R: Abort + AllocGlobal + Print>(
+    rt: &R,
+    rows: &[Row<'_>],
+) -> Result<(), Fail> {
     for row in rows {
         all_fail_in_turn(rt, row, Ok(()))?;
     }

@@ -55,7 +55,10 @@ fn a_token_that_is_cut_off_is_refused(rt: HostRuntime) -> Result<(), Fail> {
 }
 
 /// The reader refuses each beginning of its first input.
-fn refuses_cut_text<R: Abort + AllocGlobal>(rt: &R, reader: &Reader<'_>) -> Result<(), Fail> {
+fn refuses_cut_text<R: Abort + AllocGlobal + Print>(
+    rt: &R,
+    reader: &Reader<'_>,
+) -> Result<(), Fail> {
     answers_to_text(rt, reader, b"", Answer::Refusal(reader.other_form))?;
     let text = reader.given.text.as_bytes();
     for len in 1..text.len() {
@@ -66,7 +69,10 @@ fn refuses_cut_text<R: Abort + AllocGlobal>(rt: &R, reader: &Reader<'_>) -> Resu
 }
 
 /// The reader refuses each beginning of its keys.
-fn refuses_cut_keys<R: Abort + AllocGlobal>(rt: &R, reader: &Reader<'_>) -> Result<(), Fail> {
+fn refuses_cut_keys<R: Abort + AllocGlobal + Print>(
+    rt: &R,
+    reader: &Reader<'_>,
+) -> Result<(), Fail> {
     let keys = reader.given.keys.as_bytes();
     for len in 0..keys.len() {
         let refused = Answer::Refusal(Refusal::Json);

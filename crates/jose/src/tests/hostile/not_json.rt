@@ -59,7 +59,7 @@ const OTHER_FORMS: &[&[u8]] = &[
 ];
 
 /// The reader refuses a text that is not in JSON form.
-fn refuses_other_form<R: Abort + AllocGlobal>(
+fn refuses_other_form<R: Abort + AllocGlobal + Print>(
     rt: &R,
     reader: &Reader<'_>,
     text: &[u8],

@@ -1,9 +1,7 @@
 //! The commands that read JSON, each with inputs that it accepts, and functions that replace these inputs with a hostile text. The inputs
 //! are those of the standards' examples, of Python's `hmac` and of Python's `hashlib`.
 use crate::tests::command_words::{DECRYPT, ENCRYPT, SIGN_COMPACT, VERIFY};
-use crate::tests::harness::{
-    Answer, Given, GivenOctets, ROOM, expect, expect_done, outcome_of_octets,
-};
+use crate::tests::harness::{Answer, Given, GivenOctets, expect, expect_once};
 use crate::tests::samples::{ABC, ABC_FLATTENED, LINE, TEMPLATE};
 use crate::tests::standards::rfc7515::RFC7515_KEY;
 use crate::tests::standards::rfc7516::{
@@ -148,20 +146,19 @@ pub(crate) fn shown(hostile: &[u8]) -> &str {
 }
 
 /// The command has this answer.
-pub(crate) fn answers<R: Abort + AllocGlobal>(
+pub(crate) fn answers<R: Abort + AllocGlobal + Print>(
     rt: &R,
     words: &[&str],
     given: &GivenOctets<'_>,
     hostile: &[u8],
     answer: Answer<'_>,
 ) -> Result<(), Fail> {
-    let done = outcome_of_octets(rt.alloc(), words, given, 4096, ROOM)?;
-    expect_done(rt, &done, shown(hostile), answer);
+    let _done = expect_once(rt, words, given, answer, shown(hostile))?;
     Ok(())
 }
 
 /// The reader has this answer if its first input is replaced with this text.
-pub(crate) fn answers_to_text<R: Abort + AllocGlobal>(
+pub(crate) fn answers_to_text<R: Abort + AllocGlobal + Print>(
     rt: &R,
     reader: &Reader<'_>,
     text: &[u8],
@@ -175,7 +172,7 @@ pub(crate) fn answers_to_text<R: Abort + AllocGlobal>(
 }
 
 /// The reader has this answer if its keys are replaced with these. A reader without keys is passed over.
-pub(crate) fn answers_to_keys<R: Abort + AllocGlobal>(
+pub(crate) fn answers_to_keys<R: Abort + AllocGlobal + Print>(
     rt: &R,
     reader: &Reader<'_>,
     keys: &[u8],
@@ -215,7 +212,7 @@ pub(crate) fn changed(
 }
 
 /// Each reader refuses its first input and its keys if these octets are added before their members and after their end.
-pub(crate) fn each_refuses<R: Abort + AllocGlobal>(
+pub(crate) fn each_refuses<R: Abort + AllocGlobal + Print>(
     rt: &R,
     first: &[u8],
     after: &[u8],

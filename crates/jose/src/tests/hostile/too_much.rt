@@ -32,7 +32,7 @@ fn numbers_of_many_digits_are_refused(rt: HostRuntime) -> Result<(), Fail> {
 }
 
 /// Each reader of an object answers the same with this member as without it.
-fn each_ignores<R: Abort + AllocGlobal>(rt: &R, member: &str) -> Result<(), Fail> {
+fn each_ignores<R: Abort + AllocGlobal + Print>(rt: &R, member: &str) -> Result<(), Fail> {
     for reader in object_readers() {
         let text = changed(rt.alloc(), reader.given.text, member.as_bytes(), b"")?;
         answers_to_text(rt, reader, &text, reader.answer)?;
@@ -71,7 +71,7 @@ const BY_TEN: &str =
     "{\"header\":{\"alg\":\"PBES2-HS256+A128KW\",\"p2c\":10,\"p2s\":\"AAECAwQFBgc\"}}";
 
 /// 256 of these recipients are refused for 64 passwords, after this work.
-fn refuses_many_pairs<R: Abort + AllocGlobal>(
+fn refuses_many_pairs<R: Abort + AllocGlobal + Print>(
     rt: &R,
     recipient: &str,
     work: Work,

@@ -165,7 +165,7 @@ const WITH_A_KEY_DETACHED: &[&str] = &[
     "{\"protected\":\"eyJlbmMiOiJBMTI4Q0JDLUhTMjU2In0\",\"recipients\":[{\"header\":{\"alg\":\"A128GCMKW\",\"iv\":\"ydydr2XXQFJUl6lE\",\"tag\":\"XBZPXKCF0YEFpBx3NlxNgQ\"},\"encrypted_key\":\"1EmN_51Z1o6kAR3CwefCSkE9u8-dxBy_sGoJAKbLI3o\"},{\"header\":{\"alg\":\"A192GCMKW\",\"iv\":\"xFGriDVMdXL5WpAK\",\"tag\":\"6oG_Oj8fEFX_QkXkPmKvLw\"},\"encrypted_key\":\"jujArHtjYZtNxNVFWt3ljjmjZuP6v_LUYL73D5mely0\"},{\"header\":{\"alg\":\"A256KW\"},\"encrypted_key\":\"YVJEVNuBpc4Yh6czJ_bA1DkBO7fqZrfoxDaM8lJYUH1sBpPq65xDjA\"},{\"header\":{\"alg\":\"PBES2-HS256+A128KW\",\"p2c\":1000,\"p2s\":\"OlZDP2PSVfGsaarf7SSCeA\"},\"encrypted_key\":\"_waO6r5AgOOSbo4hr8yAz_fQAmuy6H2yM5R5J4Y6Kfx2h2NfCxAQeg\"},{\"header\":{\"alg\":\"A256GCMKW\",\"iv\":\"_XSFBMCyOKe3zOjR\",\"tag\":\"t4uR45WE8KZ2N4XYRY3anw\"},\"encrypted_key\":\"CRQv5--yhdXPHYsOASKhZWDxGiZvBo1VaBQl3K8pBFw\"}],\"aad\":\"YQ\",\"encrypted_key\":\"1EmN_51Z1o6kAR3CwefCSkE9u8-dxBy_sGoJAKbLI3o\",\"iv\":\"bu9Bmzh0VIw8HgSeyLr97Q\",\"ciphertext\":\"uoBO9UxCKjqTllwLJBsqB_O8Q8x6yZflDxx0hvfFnL8\",\"tag\":\"UGuV23gb1JKsb9SBKv2dhA\"}",
 ];
 
-fn each_answers<R: Abort + AllocGlobal>(
+fn each_answers<R: Abort + AllocGlobal + Print>(
     rt: &R,
     words: &[&str],
     rows: &[(&str, &[&str])],

@@ -151,7 +151,10 @@ pub(crate) const BY_A256KW: &[(&str, &str, &str)] = &[
 ];
 
 /// `LINE` is encrypted to each of these texts, and each text is decrypted to `LINE`.
-fn made_elsewhere<R: Abort + AllocGlobal>(rt: &R, rows: &[(&str, &str, &str)]) -> Result<(), Fail> {
+fn made_elsewhere<R: Abort + AllocGlobal + Print>(
+    rt: &R,
+    rows: &[(&str, &str, &str)],
+) -> Result<(), Fail> {
     for (template, keys, text) in rows {
         let answer = Answer::Text(text);
         encrypts(rt, &ENCRYPT_COMPACT, template, keys, OCTETS_FROM_1, answer)?;

@@ -11,7 +11,7 @@ use tokens::Work;
 const DIRECT_KEY: &str = "{\"kty\":\"oct\",\"k\":\"AAAAAAAAAAAAAAAAAAAAAA\",\"alg\":\"A128GCM\"}";
 
 /// With twelve zero octets, the content is encrypted to this text, and the text is decrypted to the content.
-fn by_direct_key<R: Abort + AllocGlobal>(
+fn by_direct_key<R: Abort + AllocGlobal + Print>(
     rt: &R,
     words: &[&str],
     content: &[u8],

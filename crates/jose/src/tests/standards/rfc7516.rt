@@ -60,7 +60,7 @@ pub(crate) const RFC7516_A5_REORDERED: &str =
     "{\"protected\":\"eyJlbmMiOiJBMTI4Q0JDLUhTMjU2In0\",\"unprotected\":{\"jku\":\"https://server.example.com/keys.jwks\"},\"header\":{\"alg\":\"A128KW\",\"kid\":\"7\"},\"x\":1,\"encrypted_key\":\"6KB707dM9YTIgHtLvtgWQ8mKwboJW3of9locizkDTHzBC2IlrT1oOQ\",\"iv\":\"AxY8DCtDaGlsbGljb3RoZQ\",\"ciphertext\":\"KDlTtXchhZTGufMYmOYGS4HffxPSUrfmqCHXaI9wOGY\",\"tag\":\"Mz-VPPyU4RlcuYv1IwIvzw\"}";
 
 /// With the example's random octets and this template, the example's line is encrypted to this text, and the text is decrypted to the line.
-fn example<R: Abort + AllocGlobal>(
+fn example<R: Abort + AllocGlobal + Print>(
     rt: &R,
     words: &[&str],
     template: &str,

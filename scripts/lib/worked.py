@@ -1,0 +1,52 @@
+"""Reads the rows that the tests of crate `jose` print: the words of a command, its inputs, and what the test expects. The function `print_row`
+of crates/jose/src/tests/harness.rt prints each in a line. A row is written in the tests alone."""
+import collections, re, subprocess, sys
+from urllib.parse import unquote_to_bytes
+
+from lib.trial import TOP
+
+# The name of the test, the words, the inputs (the text, the content, the keys and the random octets), and what is expected: a kind with its
+# values.
+Row = collections.namedtuple("Row", "test words inputs kind values")
+# How many values each kind has.
+KINDS = {"text": 1, "content": 1, "both": 2, "digest": 1, "digests": 2, "nothing": 0, "refusal": 2, "beginnings": 2}
+# The tests that the gate proved and built. If sources changed since, they are built without a proof for each of these parts, since what
+# such a build prints is cut at 1 MiB. The text of both is kept.
+TESTS, KEPT = TOP / "crates/jose/out/jose_tests", TOP / "out/rows"
+PARTS = "causes", "commands", "contents", "devices", "hostile", "library", "peers", "standards"
+
+
+def output(*words):
+    done = subprocess.run(words, cwd=TOP / "crates/jose", capture_output=True, text=True, errors="replace")
+    if done.returncode:
+        sys.exit(f"the rows of the tests could not be had: {' '.join(map(str, words))}\n{done.stdout[-2000:]}{done.stderr[-2000:]}")
+    return done.stdout
+
+
+def printed():
+    """What the tests print for the current sources."""
+    changed = max(source.stat().st_mtime for source in TOP.glob("crates/*/src/**/*.rt"))
+    if not KEPT.exists() or KEPT.stat().st_mtime <= changed:
+        if TESTS.exists() and TESTS.stat().st_mtime > changed:
+            names = re.findall(r"^(\S+): test$", output(TESTS, "--list"), re.M)
+            text = "".join(f"test {it} ...\n{output(TESTS, it)}" for it in names)
+        else:
+            text = "".join(output("rt", "try", "--test", "--seconds", "600", "--", f"tests::{it}::") for it in PARTS)
+        KEPT.parent.mkdir(exist_ok=True)
+        KEPT.write_text(text)
+    return KEPT.read_text()
+
+
+def read():
+    """The rows, each once. A row of several tests has the name of the first."""
+    found, test = {}, None
+    for line in printed().splitlines():
+        if begins := re.match(r"test (\S+) \.\.\.", line):
+            test = begins[1]
+        elif line.lstrip().startswith("row "):
+            kind, *fields = line.lstrip()[4:].split(" ")
+            fields = [unquote_to_bytes(it) for it in fields]
+            values, inputs, words = fields[:KINDS[kind]], fields[KINDS[kind]:KINDS[kind] + 4], fields[KINDS[kind] + 4:]
+            row = Row(test, tuple(words), tuple(inputs), kind, tuple(values))
+            found.setdefault(row[1:], row)
+    return list(found.values())
