@@ -52,19 +52,19 @@ def mixed(state, a, b, c, d):
 
 
 def encrypted(key, block):
-    """Section 5.1."""
+    """Section 5.1. Octets that a block lacks are 0, as in the definitions."""
     first, *others, last = round_keys(key)
     same, two, three = range(256), TIMES[2], TIMES[3]
-    state = [a ^ b for a, b in zip(block, first)]
+    state = [a ^ b for a, b in zip((*block, *bytes(16)), first)]
     for keys in others:
         state = [a ^ b for a, b in zip(mixed([S_BOX[state[it]] for it in SHIFTED], two, three, same, same), keys)]
     return tuple(S_BOX[state[it]] ^ b for it, b in zip(SHIFTED, last))
 
 
 def decrypted(key, block):
-    """Section 5.3."""
+    """Section 5.3. Octets that a block lacks are 0."""
     first, *others, last = round_keys(key)
-    state = [a ^ b for a, b in zip(block, last)]
+    state = [a ^ b for a, b in zip((*block, *bytes(16)), last)]
     for keys in reversed(others):
         state = [INVERSE_S_BOX[state[it]] ^ b for it, b in zip(SHIFTED_BACK, keys)]
         state = mixed(state, TIMES[14], TIMES[11], TIMES[13], TIMES[9])

@@ -115,7 +115,7 @@ FUNCTIONS = {
     "nat_eq": (2, operator.eq), "nat_le": (2, operator.le), "nat_lt": (2, operator.lt), "bytes_eq": (2, operator.eq), "is_in_range": (3, lambda a, b, n: a <= n <= b),
     "pos": (1, lambda n: n), "negsuc": (1, lambda n: -n - 1), "neg_ℤ": (1, operator.neg),
     "codes": (1, lambda text: tuple(text.encode())), "decimal": (1, lambda n: tuple(str(n).encode())),
-    "is_utf8": (1, is_utf8),
+    "is_utf8": (1, is_utf8), "encode_utf8": (1, lambda code: tuple(chr(code).encode())),
 }
 BUILT = {name: Function(*it) for name, it in FUNCTIONS.items()} | {"w32": 32, "w64": 64, "w128": 128}
 OF_PYTHON = ("std.", "core.", "std_alloc.")

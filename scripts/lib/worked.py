@@ -10,28 +10,26 @@ from lib.trial import TOP
 Row = collections.namedtuple("Row", "test words inputs kind values")
 # How many values each kind has.
 KINDS = {"text": 1, "content": 1, "both": 2, "digest": 1, "digests": 2, "nothing": 0, "refusal": 2, "beginnings": 2}
-# The tests that the gate proved and built. If sources changed since, they are built without a proof for each of these parts, since what
-# such a build prints is cut at 1 MiB. The text of both is kept.
+# The tests that the gate proved and built, and what they print, which is kept.
 TESTS, KEPT = TOP / "crates/jose/out/jose_tests", TOP / "out/rows"
-PARTS = "causes", "commands", "contents", "devices", "hostile", "library", "peers", "standards"
 
 
 def output(*words):
-    done = subprocess.run(words, cwd=TOP / "crates/jose", capture_output=True, text=True, errors="replace")
+    done = subprocess.run(words, capture_output=True, text=True)
     if done.returncode:
         sys.exit(f"the rows of the tests could not be had: {' '.join(map(str, words))}\n{done.stdout[-2000:]}{done.stderr[-2000:]}")
     return done.stdout
 
 
+def are_built():
+    """Whether the tests were built since a source changed."""
+    return TESTS.exists() and TESTS.stat().st_mtime > max(source.stat().st_mtime for source in TOP.glob("crates/*/src/**/*.rt"))
+
+
 def printed():
-    """What the tests print for the current sources."""
-    changed = max(source.stat().st_mtime for source in TOP.glob("crates/*/src/**/*.rt"))
-    if not KEPT.exists() or KEPT.stat().st_mtime <= changed:
-        if TESTS.exists() and TESTS.stat().st_mtime > changed:
-            names = re.findall(r"^(\S+): test$", output(TESTS, "--list"), re.M)
-            text = "".join(f"test {it} ...\n{output(TESTS, it)}" for it in names)
-        else:
-            text = "".join(output("rt", "try", "--test", "--seconds", "600", "--", f"tests::{it}::") for it in PARTS)
+    if not KEPT.exists() or KEPT.stat().st_mtime <= TESTS.stat().st_mtime:
+        names = re.findall(r"^(\S+): test$", output(TESTS, "--list"), re.M)
+        text = "".join(f"test {it} ...\n{output(TESTS, it)}" for it in names)
         KEPT.parent.mkdir(exist_ok=True)
         KEPT.write_text(text)
     return KEPT.read_text()

@@ -1,9 +1,7 @@
 //! Every beginning, and every text with one bit changed, of the token of RFC 7515 appendix A.1, of the object of RFC 7516 appendix A.3
 //! and of the inputs of the readers: each is refused.
 use crate::tests::harness::{Answer, GivenOctets, ROOM, expect_done, outcome_of_octets};
-use crate::tests::hostile::readers::{
-    DECRYPTING, Reader, VERIFYING, answers_to_keys, answers_to_text, readers, shown,
-};
+use crate::tests::hostile::readers::{DECRYPTING, Reader, VERIFYING, readers, shown};
 use crate::tests::samples::ABC_FLATTENED;
 use crate::tests::standards::rfc7515::RFC7515_A1;
 use crate::tests::standards::rfc7516::{RFC7516_A3, RFC7516_A3_FLATTENED};
@@ -11,6 +9,33 @@ use octets::Refusal;
 use std::alloc::{AllocError, Global};
 use std::process::Abort;
 use std::test::Fail;
+
+/// The reader refuses these inputs for this cause. They are too many to be printed.
+fn refuses_for<R: Abort + AllocGlobal>(
+    rt: &R,
+    reader: &Reader<'_>,
+    given: &GivenOctets<'_>,
+    hostile: &[u8],
+    refusal: Refusal,
+) -> Result<(), Fail> {
+    let done = outcome_of_octets(rt.alloc(), reader.words, given, 4096, ROOM)?;
+    expect_done(rt, &done, shown(hostile), Answer::Refusal(refusal));
+    Ok(())
+}
+
+/// The reader refuses this text for this cause.
+fn refuses_text<R: Abort + AllocGlobal>(
+    rt: &R,
+    reader: &Reader<'_>,
+    text: &[u8],
+    refusal: Refusal,
+) -> Result<(), Fail> {
+    let given = GivenOctets {
+        text,
+        ..reader.given.octets()
+    };
+    refuses_for(rt, reader, &given, text, refusal)
+}
 
 /// The cause that refuses the first `len` octets of the compact text of RFC 7516 appendix A.3. Before the last dot there are fewer than
 /// five parts. After it there is a tag that is too short, or no base64url text.
@@ -26,8 +51,7 @@ fn cause_of_cut_object(len: usize) -> Refusal {
 fn a_compact_object_that_is_cut_off_is_refused(rt: HostRuntime) -> Result<(), Fail> {
     let text = RFC7516_A3.as_bytes();
     for len in 0..text.len() {
-        let refused = Answer::Refusal(cause_of_cut_object(len));
-        answers_to_text(&rt, &DECRYPTING, &text[..len], refused)?;
+        refuses_text(&rt, &DECRYPTING, &text[..len], cause_of_cut_object(len))?;
     }
     Ok(())
 }
@@ -48,35 +72,30 @@ fn cause_of_cut_token(len: usize) -> Refusal {
 fn a_token_that_is_cut_off_is_refused(rt: HostRuntime) -> Result<(), Fail> {
     let text = RFC7515_A1.as_bytes();
     for len in 0..text.len() {
-        let refused = Answer::Refusal(cause_of_cut_token(len));
-        answers_to_text(&rt, &VERIFYING, &text[..len], refused)?;
+        refuses_text(&rt, &VERIFYING, &text[..len], cause_of_cut_token(len))?;
     }
     Ok(())
 }
 
 /// The reader refuses each beginning of its first input.
-fn refuses_cut_text<R: Abort + AllocGlobal + Print>(
-    rt: &R,
-    reader: &Reader<'_>,
-) -> Result<(), Fail> {
-    answers_to_text(rt, reader, b"", Answer::Refusal(reader.other_form))?;
+fn refuses_cut_text<R: Abort + AllocGlobal>(rt: &R, reader: &Reader<'_>) -> Result<(), Fail> {
+    refuses_text(rt, reader, b"", reader.other_form)?;
     let text = reader.given.text.as_bytes();
     for len in 1..text.len() {
-        let refused = Answer::Refusal(Refusal::Json);
-        answers_to_text(rt, reader, &text[..len], refused)?;
+        refuses_text(rt, reader, &text[..len], Refusal::Json)?;
     }
     Ok(())
 }
 
 /// The reader refuses each beginning of its keys.
-fn refuses_cut_keys<R: Abort + AllocGlobal + Print>(
-    rt: &R,
-    reader: &Reader<'_>,
-) -> Result<(), Fail> {
+fn refuses_cut_keys<R: Abort + AllocGlobal>(rt: &R, reader: &Reader<'_>) -> Result<(), Fail> {
     let keys = reader.given.keys.as_bytes();
     for len in 0..keys.len() {
-        let refused = Answer::Refusal(Refusal::Json);
-        answers_to_keys(rt, reader, &keys[..len], refused)?;
+        let given = GivenOctets {
+            keys: &keys[..len],
+            ..reader.given.octets()
+        };
+        refuses_for(rt, reader, &given, &keys[..len], Refusal::Json)?;
     }
     Ok(())
 }
