@@ -40,7 +40,8 @@ calls:
 	@scripts/calls
 
 # Computes the definitions in specs/ and compares them with values of the standards, of Python and, if it is installed, of its cryptography.
-# It finds a number that is wrong in a definition and in the code alike. It needs no build.
+# Then it computes from them the answers that the tests of crate jose state. It finds a mistake that a definition and the code share. It reads
+# the rows from the tests that `make test` built.
 definitions:
 	@scripts/definitions
 

@@ -3,7 +3,7 @@
 It reads an equation with its patterns (numbers, `zero` and `suc`, lists, pairs, cases with their values). On the right side it reads
 functions (`λ`), `let`, `if`, records and their changes, `do` with `←`, fields, qualified names, and the operators of OPERATORS. The `use`
 lines of a page say what a name means. It knows no types: a case is its name, so two types may have equal ones. Arguments are computed
-first, except those of `if`, `cond`, `&&` and `||`.
+first, except those of `if`, `&&`, `||` and the functions of CHOICES.
 
 It does not read types, propositions, implicit arguments (in braces), `unfolding` and proofs. A definition that it cannot read is an error
 when it is first used. The functions of std and core that BUILT lists, on numbers, bits, lists and texts, are not read: Python has its own
@@ -41,6 +41,8 @@ NUMBERS = {
 NONE = Case("None")
 CONSTANTS = {"true": True, "false": False, "zero": 0, "tt": Case("tt"), "unit": Case("tt"), "None": NONE}
 CASES = {"Some", "Ok", "Err"}
+# Functions whose first argument chooses the one of the others that is computed, and the values of the first.
+CHOICES = {"cond": (True, False), "match_ordering": (Case("Less"), Case("Equal"), Case("Greater"))}
 
 
 class Record:
@@ -213,7 +215,8 @@ class Reader:
         return lambda values: body(values + (value(values),))
 
     def application(self, scope):
-        is_choice = self.sees("cond") and "cond" not in scope
+        word = self.tokens[self.at].text
+        choice = CHOICES.get(word, ()) if word not in scope else ()
         function, arguments = self.atom(scope), []
         while self.sees_kind("string", "number", "name") and not self.sees("then", "else", "in") or self.sees("(", "[", "{"):
             if self.sees("{"):
@@ -222,9 +225,9 @@ class Reader:
                 arguments.append(self.atom(scope))
         if self.sees("λ"):
             arguments.append(self.expression(scope))
-        if is_choice and len(arguments) == 3:
-            test, one, other = arguments
-            return lambda values: one(values) if test(values) else other(values)
+        if choice and len(arguments) == 1 + len(choice):
+            test, *ways = arguments
+            return lambda values: ways[choice.index(test(values))](values)
         return (lambda values: apply(function(values), *[it(values) for it in arguments])) if arguments else function
 
     def past_braces(self):

@@ -42,9 +42,8 @@ def read():
         if begins := re.match(r"test (\S+) \.\.\.", line):
             test = begins[1]
         elif line.lstrip().startswith("row "):
-            kind, *fields = line.lstrip()[4:].split(" ")
-            fields = [unquote_to_bytes(it) for it in fields]
-            values, inputs, words = fields[:KINDS[kind]], fields[KINDS[kind]:KINDS[kind] + 4], fields[KINDS[kind] + 4:]
-            row = Row(test, tuple(words), tuple(inputs), kind, tuple(values))
+            kind, *fields, _ = line.lstrip()[4:].split(" ")
+            fields, count = tuple(map(unquote_to_bytes, fields)), KINDS[kind]
+            row = Row(test, fields[count + 4:], fields[count:count + 4], kind, fields[:count])
             found.setdefault(row[1:], row)
     return list(found.values())

@@ -237,8 +237,8 @@ impl<'a> Display for Spelled<'a> {
     }
 }
 
-/// Prints a row in one line, unless an input is long: what it states, the inputs, and the words. scripts/definitions reads it, computes the
-/// same from the definitions, and compares the two.
+/// Prints a row in one line, unless an input is long: what it states, the inputs, the words, and `end`. scripts/definitions reads it,
+/// computes the same from the definitions, and compares the two.
 fn print_row<R: Print>(
     rt: &R,
     stated: &impl Display,
@@ -260,7 +260,7 @@ fn print_row<R: Print>(
         for word in words {
             print!(rt; " {}", Spelled(word.as_bytes()))?;
         }
-        println!(rt; "")?;
+        println!(rt; " end")?;
     }
     Ok(())
 }

@@ -40,6 +40,37 @@ const FORMATTED: &[(&[&str], &str, Answer<'_>)] = &[
         "{\"payload\":\"YWJj\",\"signatures\":[{\"protected\":\"eyJhbGciOiJIUzI1NiJ9\",\"signature\":\"sxvqVTS8XjHJPVB24OsGa2pZqgR8ZX_Ab4pTTtgI47Y\",\"x\":1}]}",
         Answer::Text(ABC_FLATTENED),
     ),
+    // Members of a signature next to a list: none, not even an empty signature, except headers that are empty.
+    (
+        &FORMAT_JWS,
+        "{\"payload\":\"YWJj\",\"signature\":\"\",\"signatures\":[{\"protected\":\"eyJhbGciOiJIUzI1NiJ9\",\"signature\":\"sxvqVTS8XjHJPVB24OsGa2pZqgR8ZX_Ab4pTTtgI47Y\"}]}",
+        Answer::Refusal(Refusal::Form),
+    ),
+    (
+        &FORMAT_JWS,
+        "{\"payload\":\"YWJj\",\"signature\":\"AA\",\"signatures\":[{\"protected\":\"eyJhbGciOiJIUzI1NiJ9\",\"signature\":\"sxvqVTS8XjHJPVB24OsGa2pZqgR8ZX_Ab4pTTtgI47Y\"}]}",
+        Answer::Refusal(Refusal::Form),
+    ),
+    (
+        &FORMAT_JWS,
+        "{\"payload\":\"YWJj\",\"protected\":\"e30\",\"signatures\":[{\"protected\":\"eyJhbGciOiJIUzI1NiJ9\",\"signature\":\"sxvqVTS8XjHJPVB24OsGa2pZqgR8ZX_Ab4pTTtgI47Y\"}]}",
+        Answer::Refusal(Refusal::Form),
+    ),
+    (
+        &FORMAT_JWS,
+        "{\"payload\":\"YWJj\",\"header\":{\"x\":1},\"signatures\":[{\"protected\":\"eyJhbGciOiJIUzI1NiJ9\",\"signature\":\"sxvqVTS8XjHJPVB24OsGa2pZqgR8ZX_Ab4pTTtgI47Y\"}]}",
+        Answer::Refusal(Refusal::Form),
+    ),
+    (
+        &FORMAT_JWS,
+        "{\"payload\":\"YWJj\",\"protected\":\"\",\"header\":{},\"signatures\":[{\"protected\":\"eyJhbGciOiJIUzI1NiJ9\",\"signature\":\"sxvqVTS8XjHJPVB24OsGa2pZqgR8ZX_Ab4pTTtgI47Y\"}]}",
+        Answer::Text(ABC_FLATTENED),
+    ),
+    (
+        &FORMAT_JWS,
+        "{\"payload\":\"YWJj\",\"signatures\":[]}",
+        Answer::Refusal(Refusal::Form),
+    ),
     // Algorithms need not be supported.
     (
         &FORMAT_JWS,
@@ -155,6 +186,22 @@ const FORMATTED: &[(&[&str], &str, Answer<'_>)] = &[
         &COMPACT_JWE,
         "{\"aad\":\"YQ\",\"ciphertext\":\"\",\"protected\":\"eyJhbGciOiJkaXIiLCJlbmMiOiJBMTI4R0NNIn0\"}",
         Answer::Refusal(Refusal::NotCompact),
+    ),
+    // The same for a recipient, whose empty encrypted key counts as absent.
+    (
+        &FORMAT_JWE,
+        "{\"ciphertext\":\"\",\"header\":{\"x\":1},\"recipients\":[{\"header\":{\"alg\":\"x\",\"enc\":\"y\"}}]}",
+        Answer::Refusal(Refusal::Form),
+    ),
+    (
+        &FORMAT_JWE,
+        "{\"ciphertext\":\"\",\"header\":{},\"encrypted_key\":\"\",\"recipients\":[{\"header\":{\"alg\":\"x\",\"enc\":\"y\"}}]}",
+        Answer::Text("{\"ciphertext\":\"\",\"header\":{\"alg\":\"x\",\"enc\":\"y\"}}"),
+    ),
+    (
+        &FORMAT_JWE,
+        "{\"ciphertext\":\"\",\"recipients\":[]}",
+        Answer::Refusal(Refusal::Form),
     ),
     // The encrypted key in a list of one recipient, there and next to the list, and next to an empty list.
     (
