@@ -1,8 +1,8 @@
 //! The tests of the program and of the calls that it makes. Each file holds one kind of test, and its first lines say what is in it and
 //! where its expected values come from.
 //!
-//! - `harness` runs a command over memory and compares the outcome; `command_words` has the words of the commands, and `samples` the keys,
-//!   octets and small texts that several files use.
+//! - `harness` runs a command over memory, compares the outcome, and prints the row for scripts/definitions; `command_words` has the words
+//!   of the commands, and `samples` the keys, octets and small texts that several files use.
 //! - `standards` has the examples and the tables of the RFCs, a file for each standard.
 //! - `commands` has rows of each command, a file for each command, and `causes` has inputs with several faults, of which the first is
 //!   reported.
