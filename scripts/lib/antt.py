@@ -101,6 +101,15 @@ def each(function, values):
     return tuple(apply(function, it) for it in values)
 
 
+def ordering(a, b):
+    return Case("Less" if a < b else "Equal" if a == b else "Greater")
+
+
+def lexicographic(compare, xs, ys):
+    found = (apply(compare, x, y) for x, y in zip(xs, ys))
+    return next((it for it in found if it.name != "Equal"), ordering(len(xs), len(ys)))
+
+
 FUNCTIONS = {
     "not": (1, operator.not_), "suc": (1, lambda n: n + 1),
     "length": (1, len), "map": (2, each), "take": (2, lambda n, xs: xs[:n]), "drop": (2, lambda n, xs: xs[n:]),
@@ -112,7 +121,7 @@ FUNCTIONS = {
     "list_all": (2, lambda f, xs: all(apply(f, x) for x in xs)),
     "pointwise": (3, lambda f, xs, ys: len(xs) == len(ys) and all(apply(f, x, y) for x, y in zip(xs, ys))),
     "find": (2, lambda f, xs: next((Case("Some", (x,)) for x in xs if apply(f, x)), NONE)),
-    "min": (2, min), "max": (2, max),
+    "min": (2, min), "max": (2, max), "nat_cmp": (2, ordering), "slice_cmp": (3, lexicographic),
     "bit_xor": (2, operator.xor), "bit_and": (2, operator.and_), "bit_or": (2, operator.or_), "bits": (1, lambda width: width),
     "nat_eq": (2, operator.eq), "nat_le": (2, operator.le), "nat_lt": (2, operator.lt), "bytes_eq": (2, operator.eq), "is_in_range": (3, lambda a, b, n: a <= n <= b),
     "pos": (1, lambda n: n), "negsuc": (1, lambda n: -n - 1), "neg_ℤ": (1, operator.neg),
