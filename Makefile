@@ -4,7 +4,7 @@ PREFIX ?= /usr/local
 # Checks that the program is the one that `make build` made. A trial of installing sets this to `:` and takes any program.
 BUILT = scripts/built
 
-.PHONY: demo test edits build static static-try calls definitions library bindings ports long faults growth hostile bench pictures pages tour interop latchset dist dist-try install uninstall clean
+.PHONY: demo test edits tests-try build static static-try calls definitions vectors library bindings ports long faults growth hostile bench pictures pages tour interop latchset dist dist-try install uninstall clean
 
 # Signs and verifies a document, makes a key, encrypts and decrypts a secret, and shows what happens to changed texts and wrong keys.
 demo:
@@ -18,6 +18,11 @@ test:
 # Tries the wrong bodies in crates/*/edits, which the gate does not try: the prover must refuse each. CRATES names the crates, else all.
 edits:
 	@scripts/edits $(CRATES)
+
+# Tries the tests: changes each kind of value that they expect, and compares the tests that then fail with those that must. CRATES names the
+# crates, else all. It proves nothing.
+tests-try:
+	@scripts/tests-try $(CRATES)
 
 # Proves the program and the library for C and builds them: crates/jose/out/jose, and liblakhdzeva.a and liblakhdzeva.so.2 in
 # crates/lakhdzeva/out/built.
@@ -44,6 +49,11 @@ calls:
 # the rows from the tests that `make test` built.
 definitions:
 	@scripts/definitions
+
+# Computes the test vectors of NIST that Debian's python3-cryptography-vectors installs, with the code of the crates, and those of Wycheproof
+# if WYCHEPROOF names their folder. Without them it names what it leaves out.
+vectors:
+	@scripts/vectors
 
 # Proves, builds and runs the two programs of examples/programs, which use the crates as docs/LIBRARY.md describes.
 library:

@@ -7,7 +7,7 @@ from lib.trial import TOP
 
 ROOT = str(TOP)
 CRATES = re.findall(r"^([a-z]+)(?: staticlib)?:", (TOP / "crates.txt").read_text(), re.M)
-Token = collections.namedtuple("Token", "text line")
+Token = collections.namedtuple("Token", "text line at")
 # A function with its signature, or everything in a file outside of functions. In the second case `function` is "".
 Part = collections.namedtuple("Part", "path function tokens")
 
@@ -44,7 +44,7 @@ def tokens_of(text):
     for it in TOKEN.finditer(text):
         line, at = line + text.count("\n", at, it.start()), it.start()
         if it["token"]:
-            found.append(Token(it["token"], line))
+            found.append(Token(it["token"], line, at))
     return found
 
 

@@ -1,0 +1,42 @@
+"""Copies of crates, with the results of their earlier checks, for scripts that change them or that build a program over them."""
+import os, re, shutil, subprocess
+
+from lib.sources import ROOT, read
+
+
+def rows():
+    """The rows of crates.txt by the names of their crates."""
+    return {re.match(r"\w+", row)[0]: row for row in read(f"{ROOT}/crates.txt").splitlines(True) if re.match(r"\w", row)}
+
+
+def with_below(names):
+    """These crates, and those of the repository that they use."""
+    known, found, todo = rows(), set(), list(names)
+    while todo:
+        name = todo.pop()
+        if name in known and name not in found:
+            found.add(name)
+            todo += known[name].split(":")[1].split()
+    return found
+
+
+def copied(names, room):
+    """Copies these crates and those below them into a folder, with their crates.txt."""
+    there = with_below(names)
+    with open(f"{room}/crates.txt", "w", encoding="utf-8") as file:
+        file.writelines(row for name, row in rows().items() if name in there)
+    for it in there:
+        shutil.copytree(f"{ROOT}/crates/{it}", f"{room}/crates/{it}", ignore=shutil.ignore_patterns("must-fail", "edits"))
+
+
+def built(name, uses, words, room):
+    """Proves and builds the program scripts/lib/NAME.rattle over these crates, in copies of them, and runs it once with these words and
+    nothing to read. Returns its path."""
+    copied(uses, room)
+    with open(f"{room}/crates.txt", "a", encoding="utf-8") as file:
+        file.write(f"{name}: {' '.join(uses)}\n")
+    folder = f"{room}/crates/{name}"
+    os.makedirs(f"{folder}/src")
+    shutil.copy(f"{ROOT}/scripts/lib/{name}.rattle", f"{folder}/src/main.rt")
+    subprocess.run(["rt", "run", "--cpu=x86-64", "--", *words], cwd=folder, stdin=subprocess.DEVNULL, stdout=subprocess.DEVNULL, check=True)
+    return f"{folder}/out/{name}"
