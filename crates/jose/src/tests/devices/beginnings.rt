@@ -5,8 +5,8 @@ use crate::tests::command_words::{
     SIGN_COMPACT_DETACHED, SIGN_DETACHED,
 };
 use crate::tests::harness::{
-    Answer, Given, expect_beginnings, expect_done, expect_same, expect_written, outcome,
-    outcome_of_failing,
+    Answer, Given, expect_beginning, expect_beginnings, expect_done, expect_same, expect_written,
+    outcome, outcome_of_failing, state_beginnings,
 };
 use crate::tests::samples::{KEY_16, LINE, OCTETS_FROM_1, TEMPLATE, TWO_KEYS};
 use crate::tests::standards::rfc7515::RFC7515_KEY;
@@ -200,14 +200,19 @@ fn a_content_that_fails_leaves_what_it_fixes(rt: HostRuntime) -> Result<(), Fail
     Ok(())
 }
 
-/// The text of `b64 dec` fails after each of its beginnings. Each four characters fix three octets.
+/// The text of `b64 dec` fails after each of its beginnings. Each four characters fix three octets, which may be written later.
 #[test]
 fn a_text_that_fails_leaves_what_it_fixes(rt: HostRuntime) -> Result<(), Fail> {
     for len in 0..MOST {
         if let Some(text) = ENCODING.text.get(..len) {
             let decoded = OCTETS.get(..len / 4 * 3).unwrap_or(b"");
             let given = Given::of(text, "");
-            expect_beginnings(&rt, &["b64", "dec"], &given, b"", decoded)?;
+            let words = ["b64", "dec"];
+            state_beginnings(&rt, &words, &given, b"", decoded)?;
+            let done = outcome_of_failing(rt.alloc(), &words, &given)?;
+            expect_same(&rt, done.result, Err(Refusal::Read), "a failure");
+            expect_written(&rt, &done.text, b"", false, "the text");
+            expect_beginning(&rt, &done.content, decoded);
         }
     }
     Ok(())
