@@ -15,7 +15,7 @@ reaches them. These fail:
 - a page with reached definitions that is in specs/Code, that is in no row of the section "The pages in reading order", or that is in two,
   and a row of any other page;
 - another page that is neither in specs/Code nor in the section "What need not be read";
-- a name that does not exist: a law or a test in the tables of docs/AUDIT.md; a definition, written `crate/Page.name`, in it or in
+- a name that does not exist: a law or a test in the table of docs/AUDIT.md; a definition, written `crate/Page.name`, in it or in
   docs/STEPS.md;
 - a reached definition without a section, a step or a heading of docs/SPECIFICATION.md in the comment above it or above its group;
 - a definition that is not reached, on a page with reached definitions: a reader would read it for nothing.
@@ -31,7 +31,7 @@ RUN = "jose/src/run.rt"
 CALLS_FOR_C = "lakhdzeva/src/lib.rt"
 # The part of a page's name that marks pages about values and calls of the code.
 CODE = "/Code."
-ORDER, NUMBERS, OTHERS = "The pages in reading order", "Tables and numbers", "What need not be read"
+ORDER, OTHERS = "The pages in reading order", "What need not be read"
 
 Definition = collections.namedtuple("Definition", "lines comment group cases")
 # A page: the names that it imports, the aliases of modules, and its definitions.
@@ -372,7 +372,7 @@ def compare_names(library):
         elif "tests" in os.path.relpath(path, ROOT):
             laws_and_tests.update(re.findall(r"#\[test\]\s*(?:#\[[^\]]*\]\s*)*fn (\w+)", read(path)))
     audit = page_text("AUDIT")
-    for name in re.findall(r"`(\w+_\w+)`", cells(audit, ORDER, 4) + cells(audit, NUMBERS, 2)):
+    for name in re.findall(r"`(\w+_\w+)`", cells(audit, ORDER, 4)):
         if name not in laws_and_tests:
             fault(f"docs/AUDIT.md names {name}, which is no law and no test")
     for crate, page, name in re.findall(rf"`({'|'.join(CRATES)})/(\w+)\.([^\s`]+)`", audit + page_text("STEPS")):
