@@ -3,7 +3,7 @@ use Rattle.std.proofs.Common.{◌≡◌, ◌<◌, ◌≤◌, ℕ, List, [], leng
 use Rattle.std.proofs.Math.Seq.{drop-length}
 use Rattle.octets.specs.declared.refusal.Refusal.{Refusal}
 use Rattle.octets.specs.declared.refusal.Refusal.TheVariants.{Read, Write}
-use Rattle.octets.specs.Devices.{Observed, appended, IsPossibleInput}
+use Rattle.octets.specs.Devices.{Observed, appended, IsPossibleInput, InputMembers, OutputMembers}
 use Rattle.octets.specs.Faults.{Counts, TellsFaults}
 use Rattle.octets.specs.Outcomes.{is_external, AgreesUnlessExternal}
 use Rattle.octets.specs.Plan.{OutputTexts, drawn_of}
@@ -13,10 +13,11 @@ use Rattle.jose.specs.declared.commands.WholeInputs.{WholeInputs}
 use Rattle.jose.specs.declared.ports.Inputs.{Inputs}
 use Rattle.jose.specs.declared.ports.Outputs.{Outputs}
 use Rattle.jose.specs.Invocations.{InvocationView}
-use Rattle.jose.specs.Ports.{InputTexts, ObservedInputs, ArePossibleInputs, input_counts, written_texts}
+use Rattle.jose.specs.Ports.{InputTexts, ObservedInputs, ArePossibleInputs, input_counts, written_texts, seen_of}
 use Rattle.jose.specs.Meanings.{of_object}
 use Rattle.jose.specs.Answer.{holds_back, takes_memory, answer, draft_of, content_seen, beginning, others_read, was_read, has_template, has_text_input, has_keys_input, has_content_input, has_text_output, has_content_output}
-use Rattle.jose.specs.Code.Doing.{InputMembers, OutputMembers, seen_of, Does, ReadsInputs, WritesWhole, where_read, formed}
+use Rattle.jose.specs.Doing.{Does}
+use Rattle.jose.specs.Code.Steps.{ReadsInputs, WritesWhole, where_read, formed}
 use Rattle.jose.proofs.Draws.{nothing_drawn, none_drawn}
 use Rattle.jose.proofs.Objects.{beside_ended, begun_of_object, drawn_of_object, planned_of_object, refused_alone}
 

@@ -3,7 +3,7 @@ use Rattle.std.proofs.Common.{◌≡◌, ◌≢◌, ◌≤◌, ℕ, List, [], �
 use Rattle.std.proofs.Math.Seq.{drop-length}
 use Rattle.octets.specs.declared.refusal.Refusal.{Refusal}
 use Rattle.octets.specs.declared.refusal.Refusal.TheVariants.{Write}
-use Rattle.octets.specs.Devices.{appended, observed, IsPossibleInput, AppendsPrefixOf, IsFinishedOnce}
+use Rattle.octets.specs.Devices.{appended, observed, IsPossibleInput, AppendsPrefixOf, IsFinishedOnce, InputMembers, OutputMembers}
 use Rattle.octets.specs.Faults.{Counts, counts, TellsFaults}
 use Rattle.octets.specs.Outcomes.{AgreesUnlessExternal}
 use Rattle.octets.specs.Plan.{drawn_of}
@@ -18,8 +18,9 @@ use Rattle.jose.specs.declared.words.table.Command.TheVariants.{JwkGen}
 use Rattle.jose.specs.Answer.{beginning}
 use Rattle.jose.specs.Invocations.{Settings}
 use Rattle.jose.specs.Jwk.{making}
-use Rattle.jose.specs.Ports.{as_text}
-use Rattle.jose.specs.Code.Doing.{InputMembers, OutputMembers, seen_of, Does, ReadsInputs}
+use Rattle.jose.specs.Ports.{as_text, seen_of}
+use Rattle.jose.specs.Doing.{Does}
+use Rattle.jose.specs.Code.Steps.{ReadsInputs}
 use Rattle.jose.proofs.Agreement.{agrees_as_text, begun_by_text, plan_of_making}
 use Rattle.jose.proofs.Doing.{if_always, if_weaker}
 use Rattle.jose.proofs.Rows.{invoked}

@@ -8,7 +8,7 @@ use Rattle.octets.specs.Devices.{Observed}
 use Rattle.octets.specs.Outcomes.{◌>>=◌, needs}
 use Rattle.octets.specs.Plan.{OutputTexts, nothing, Plan, plan_from, planned, begun, by_text, without_random, without_content, drawn_of}
 use Rattle.objects.specs.Texts.{handed_in}
-use Rattle.jose.specs.Code.Doing.{formed}
+use Rattle.jose.specs.Code.Steps.{formed}
 use Rattle.jose.specs.Meanings.{of_object}
 
 -- ---- the content next to an object

@@ -2,7 +2,7 @@
 use Rattle.std.proofs.Common.{◌≡◌, ◌&&◌, ℕ, List, [], ◌∷◌, true, false, IsTrue, Bool, Option, Some, Result, Ok, Err, IfErr, inl, inr, refl, sym, ◌∙◌, arith}
 use Rattle.std.proofs.Math.Seq.{drop-length}
 use Rattle.octets.specs.declared.refusal.Refusal.{Refusal}
-use Rattle.octets.specs.Devices.{observed, IsPossibleInput}
+use Rattle.octets.specs.Devices.{observed, IsPossibleInput, InputMembers, OutputMembers}
 use Rattle.octets.specs.Faults.{Counts, counts, TellsFaults}
 use Rattle.octets.specs.Outcomes.{is_external, AgreesUnlessExternal}
 use Rattle.octets.proofs.Lemmas.{AppendsPrefixOf-kept}
@@ -10,8 +10,8 @@ use Rattle.keys.specs.Limits.{limits}
 use Rattle.jose.specs.declared.ports.Inputs.{Inputs}
 use Rattle.jose.specs.declared.ports.Outputs.{Outputs}
 use Rattle.tokens.specs.Jws.{ver_answer}
-use Rattle.jose.specs.Ports.{on_content, output_counts}
-use Rattle.jose.specs.Code.Doing.{InputMembers, OutputMembers, seen_of, Does}
+use Rattle.jose.specs.Ports.{on_content, output_counts, seen_of}
+use Rattle.jose.specs.Doing.{Does}
 use Rattle.jose.specs.Invocations.{InvocationView}
 use Rattle.jose.proofs.Agreement.{agrees_as_content}
 use Rattle.jose.proofs.Doing.{IsWhole, if_always, if_done, if_weaker, others_are, reader_of}

@@ -1,15 +1,16 @@
 -- What a command promises if it reads its text and its keys whole, and then its content while it writes.
-use Rattle.std.proofs.Common.{◌≡◌, ◌≢◌, ◌⊎◌, ◌<◌, ◌≤◌, ◌++◌, ℕ, List, [], ◌∷◌, length, Bool, true, false, IsTrue, Option, Some, None, is_some, MutBor, Result, Ok, Err, OnOk, OnErr, IfErr, IsErrAnd, inl, inr, refl, sym, ap, subst, ◌∙◌}
+use Rattle.std.proofs.Common.{take, arith, ◌≡◌, ◌≢◌, ◌⊎◌, ◌<◌, ◌++◌, ℕ, List, [], ◌∷◌, length, Bool, true, false, IsTrue, Option, Some, None, is_some, MutBor, Result, Ok, Err, IsErrAnd, inl, inr, refl, sym, ap, subst, ◌∙◌}
 use Rattle.std.proofs.Math.Seq.{drop-length}
+use Rattle.std.proofs.lemmas.Bool.{lt-leb}
 use Rattle.octets.specs.declared.refusal.Refusal.{Refusal}
-use Rattle.octets.specs.declared.refusal.Refusal.TheVariants.{Read, Write, Memory}
-use Rattle.octets.specs.Devices.{appended, observed, IsPossibleInput, AppendsPrefixOf, IsFinishedOnce}
-use Rattle.octets.specs.Faults.{Counts, counts, TellsFaults, NoneFailed, SomeFailed, DidNotFail}
+use Rattle.octets.specs.declared.refusal.Refusal.TheVariants.{Read, Write, Random}
+use Rattle.octets.specs.Devices.{appended, IsPossibleInput, AppendsPrefixOf, IsFinishedOnce, InputMembers, OutputMembers}
+use Rattle.octets.specs.Faults.{Counts, counts, TellsFaults, NoneFailed, SomeFailed}
 use Rattle.octets.specs.Code.Lent.{Lent, lent, IfLent, wrote_on, counts_of}
 use Rattle.octets.specs.Code.Streams.{fixed_by}
-use Rattle.octets.specs.Outcomes.{is_external, AgreesUnlessExternal}
+use Rattle.octets.specs.Outcomes.{◌>>=◌, needs, is_external}
 use Rattle.octets.specs.Code.Results.{is_memory}
-use Rattle.octets.specs.Plan.{OutputTexts, Plan, Draft, drawn_of, plan_from, planned, begun}
+use Rattle.octets.specs.Plan.{OutputTexts, Plan, Draft, by_plan, drawn_of, plan_from, planned, begun}
 use Rattle.octets.specs.Pumps.{KeepsUp}
 use Rattle.octets.proofs.Lemmas.{AppendsPrefixOf-kept, kept_up_by_none, on_success, on_refusal, seen_possible}
 use Rattle.jose.specs.declared.commands.WholeInputs.{WholeInputs}
@@ -17,9 +18,13 @@ use Rattle.jose.specs.declared.ports.Inputs.{Inputs}
 use Rattle.jose.specs.declared.ports.Outputs.{Outputs}
 use Rattle.jose.specs.Invocations.{InvocationView}
 use Rattle.jose.specs.Answer.{holds_back, draft_of, beginning, others_read, has_content_input, has_random_input, has_text_output, has_content_output}
-use Rattle.jose.specs.Code.Doing.{InputMembers, OutputMembers, seen_of, Does, ReadsInputs}
+use Rattle.octets.specs.Code.Streaming.{Draws, Streams, sight_of}
+use Rattle.jose.specs.Ports.{seen_of}
+use Rattle.jose.specs.Doing.{Does}
+use Rattle.jose.specs.Code.Steps.{ReadsInputs}
 use Rattle.jose.proofs.Agreement.{both_on_refusal, not_memory}
-use Rattle.jose.proofs.Doing.{IsReader, ends_early, others_are, if_always, if_weaker}
+use Rattle.jose.proofs.Draws.{by_plan_drawn, none_drawn, nothing_drawn}
+use Rattle.jose.proofs.Doing.{IsReader, ends_early, others_are, if_always, if_done, if_weaker}
 
 -- ---- an output that may be lent
 
@@ -68,29 +73,10 @@ some_failed failures (Some it) before after is some = subst (λ (l : Lent _). So
 
 -- ---- what the call that writes promises
 
-pub record StreamsLent {D E : Type 0} (input : InputMembers D) (output : OutputMembers E) (draft : Result (Draft OutputTexts) Refusal) (plan : List ℕ → Result (Plan OutputTexts) Refusal) (random random' content content' : D) (text text' : E) (l : Option (Lent E)) (r : Result (Unit {0}) Refusal) : Type 0 where
-  pub answer : (octets whole : List ℕ) → IsPossibleInput (observed input.consumed input.is_at_end random random') octets → IsPossibleInput (observed input.consumed input.is_at_end content content') whole
-      → AgreesUnlessExternal (planned (plan octets) whole) (record { text = appended (output.written text) (output.written text'); content = wrote_on output.written l }) r
-  pub drawn : OnOk r (length (appended (input.consumed random) (input.consumed random')) ≡ drawn_of draft)
-  pub at_most : length (appended (input.consumed random) (input.consumed random')) ≤ drawn_of draft
-  pub beginning : OnErr r (AppendsPrefixOf (begun (plan (appended (input.consumed random) (input.consumed random'))) (observed input.consumed input.is_at_end content content')).text (output.written text) (output.written text'))
-  pub beginning_beside : OnErr r (IfLent l (λ old new. AppendsPrefixOf (begun (plan (appended (input.consumed random) (input.consumed random'))) (observed input.consumed input.is_at_end content content')).content (output.written old) (output.written new)))
-  pub finished : OnOk r (IsFinishedOnce output.is_finished output.endings text text' × IfLent l (IsFinishedOnce output.is_finished output.endings))
-  pub unfinished : OnErr r (output.endings text' ≡ output.endings text)
-  pub keeps_up : r ≡ Err Read → appended (input.consumed content) (input.consumed content') ≢ []
-      → KeepsUp (λ front. (fixed_by (plan (appended (input.consumed random) (input.consumed random'))) front).text) (appended (input.consumed content) (input.consumed content')) (output.written text) (output.written text')
-      × IfLent l (λ old new. KeepsUp (λ front. (fixed_by (plan (appended (input.consumed random) (input.consumed random'))) front).content) (appended (input.consumed content) (input.consumed content')) (output.written old) (output.written new))
-  pub content_last : (refusal : Refusal) → draft ≡ Err refusal → (random' ≡ random) × (content' ≡ content)
-  pub random_first : length (appended (input.consumed random) (input.consumed random')) < drawn_of draft → content' ≡ content
-  pub uncut : IfErr r (λ refusal. (DidNotFail refusal (counts output.failures text text') → output.written text' ≡ output.written text → text' ≡ text)
-      × IfLent l (λ old new. refusal ≢ Write → output.written new ≡ output.written old → new ≡ old))
-  pub content_first : OnErr r (IfLent l (λ old new. ((text' ≡ text) × (output.endings new ≡ output.endings old))
-      ⊎ (IsTrue (input.is_at_end content') × IsFinishedOnce output.is_finished output.endings old new
-      × ((texts : OutputTexts) × (planned (plan (appended (input.consumed random) (input.consumed random'))) (appended (input.consumed content) (input.consumed content')) ≡ Ok texts)
-      × (output.written new ≡ output.written old ++ texts.content)))))
-  pub memory_first : IfErr r (λ refusal. refusal ≡ Memory → content' ≡ content)
-  pub unread : IfErr r (λ refusal. appended (input.consumed content) (input.consumed content') ≡ []
-      → (DidNotFail refusal (counts output.failures text text') → text' ≡ text) × IfLent l (λ old new. refusal ≢ Write → new ≡ old))
+-- draws from a random input, then writes the plan by what was drawn, and reports the failures of both inputs
+pub record StreamsDrawn {D E : Type 0} (input : InputMembers D) (output : OutputMembers E) (draft : Result (Draft OutputTexts) Refusal) (plan : List ℕ → Result (Plan OutputTexts) Refusal) (random random' content content' : D) (text text' : E) (l : Option (Lent E)) (r : Result (Unit {0}) Refusal) : Type 0 where
+  pub draws : Draws input draft random random' r
+  pub streams : (octets : List ℕ) → IsPossibleInput (sight_of input random random') octets → Streams input output (plan octets) content content' text text' l r
   pub faults : TellsFaults (counts input.failures random random' ∷ counts input.failures content content' ∷ []) (counts output.failures text text' ∷ counts_of output.failures l) r
 
 -- The inputs that were read whole did not fail, so the result reports the failures of the call.
@@ -112,6 +98,11 @@ told_after failures l before after is text content content' keys random random' 
   outputs_told = λ others. let none = o.outputs_told others in (none.0, none_failed failures l before after is none.1);
 }
 
+-- If too few octets are drawn, there is no plan.
+too_few : {W : Type 0} (draft : Result (Draft W) Refusal) (octets : List ℕ) → length octets < drawn_of draft → plan_from draft octets ≡ Err Random
+too_few (Ok draft) octets short = ap (λ enough. needs enough Random >>= λ _. Ok (draft.plan (take draft.drawn octets))) (lt-leb draft.drawn (length octets) short)
+too_few (Err r) octets short = absurd (omega arith)
+
 -- ---- the command
 
 pub record IsStreamer (v : InvocationView) (detach : Bool) : Type 0 where
@@ -127,14 +118,14 @@ pub streamed : {D E : Type 0} {input : InputMembers D} {output : OutputMembers E
     → (has_random_input v.command ≡ false → random ≡ mid.random)
     → (is_some l ≡ false → (front : List ℕ) → (fixed_by (plan (appended (input.consumed mid.random) (input.consumed random))) front).content ≡ [])
     → IsBeside l before.content after.content
-    → StreamsLent input output draft plan mid.random random mid.content content before.text after.text l r
+    → StreamsDrawn input output draft plan mid.random random mid.content content before.text after.text l r
     → Does input output v old (record mid { content = content; random = random }) before after r
 streamed {D} {E} {input} {output} {v} {draft} {plan} {old} {mid} {random} {content} {before} {after} {read = whole} l r is read draft_is plans no_random inside beside call =
     let new : Inputs D = record mid { content = content; random = random } in
     let seen = seen_of input old new in
-    let s : StreamsLent input output draft plan old.random random old.content content before.text after.text l r
-    = subst (λ d. StreamsLent input output draft plan d random old.content content before.text after.text l r) read.no_random
-    (subst (λ d. StreamsLent input output draft plan mid.random random d content before.text after.text l r) (read.no_content refl) call) in
+    let s : StreamsDrawn input output draft plan old.random random old.content content before.text after.text l r
+    = subst (λ d. StreamsDrawn input output draft plan d random old.content content before.text after.text l r) read.no_random
+    (subst (λ d. StreamsDrawn input output draft plan mid.random random d content before.text after.text l r) (read.no_content refl) call) in
     let inside_it : is_some l ≡ false → (front : List ℕ) → (fixed_by (plan (appended (input.consumed old.random) (input.consumed random))) front).content ≡ []
     = subst (λ d. is_some l ≡ false → (front : List ℕ) → (fixed_by (plan (appended (input.consumed d) (input.consumed random))) front).content ≡ []) read.no_random inside in
     let settled : (text keys : List ℕ) → IsPossibleInput seen.text text → IsPossibleInput seen.keys keys → draft_of v text keys ≡ draft
@@ -142,31 +133,32 @@ streamed {D} {E} {input} {output} {v} {draft} {plan} {old} {mid} {random} {conte
     let seen_settled : draft_of v seen.text.octets seen.keys.octets ≡ draft
     = settled _ _ (seen_possible input.consumed input.is_at_end old.text new.text) (seen_possible input.consumed input.is_at_end old.keys new.keys) in
     let others : others_read v seen ≡ true = others_are is.reader seen ∙ rw (read.keys_end refl, read.text_ends) refl in
+    let t : Streams input output (plan seen.random.octets) old.content content before.text after.text l r = s.streams _ (seen_possible input.consumed input.is_at_end old.random random) in
     let stands : beginning v seen ≡ begun (plan seen.random.octets) seen.content = rw (others, seen_settled, is.content, plans seen.random.octets) refl in
     record {
       answer = λ inputs may. rw (settled inputs.text inputs.keys may.text may.keys, is.content, plans inputs.random)
-          (rw (wrote_is output.written l before.content after.content beside) at (s.answer inputs.random inputs.content may.random may.content));
-      drawn = on_success r s.drawn (λ drawn inputs may. rw (settled inputs.text inputs.keys may.text may.keys) drawn);
-      at_most = λ inputs may. rw (settled inputs.text inputs.keys may.text may.keys) s.at_most;
-      beginning = both_on_refusal r s.beginning s.beginning_beside (λ text part. rw stands (record {
+          (rw (wrote_is output.written l before.content after.content beside) at ((s.streams inputs.random may.random).answer inputs.content may.content));
+      drawn = on_success r s.draws.drawn (λ drawn inputs may. rw (settled inputs.text inputs.keys may.text may.keys) drawn);
+      at_most = λ inputs may. rw (settled inputs.text inputs.keys may.text may.keys) s.draws.at_most;
+      beginning = both_on_refusal r t.beginning t.beginning_of_content (λ text part. rw stands (record {
         text = text;
         content = lent_or l (λ old new. AppendsPrefixOf (begun (plan seen.random.octets) seen.content).content (output.written old) (output.written new)) before.content after.content beside (λ none. AppendsPrefixOf-kept _ _) part;
       }));
       held_back = if_always r _ (λ e holds. let streams = is.streams in cc);
-      uncut = if_weaker r _ _ s.uncut (λ e uncut. record {
+      uncut = if_weaker r _ _ t.uncut (λ e uncut. record {
         text = uncut.0;
         content = lent_or l (λ old new. e ≢ Write → output.written new ≡ output.written old → new ≡ old) before.content after.content beside (λ none others same. refl) uncut.1;
       });
-      unread = if_weaker r _ _ s.unread (λ e unread streams nothing. let u = unread (rw is.content at nothing) in record {
+      unread = if_weaker r _ _ t.unread (λ e unread streams nothing. let u = unread (rw is.content at nothing) in record {
         text = u.0;
         content = lent_or l (λ old new. e ≢ Write → new ≡ old) before.content after.content beside (λ none others. refl) u.1;
       });
-      keeps_up = λ told streams some. let u = s.keeps_up told (rw is.content at some) in rw (seen_settled, is.content, plans seen.random.octets) (
+      keeps_up = λ told streams some. let u = t.keeps_up told (rw is.content at some) in rw (seen_settled, is.content, plans seen.random.octets) (
         u.0,
         lent_or l (λ old new. KeepsUp (λ front. (fixed_by (plan seen.random.octets) front).content) seen.content.octets (output.written old) (output.written new)) before.content after.content beside
             (λ none. kept_up_by_none _ (inside_it none) seen.content.octets (output.written before.content)) u.1,
       );
-      content_first = on_refusal r s.content_first (λ first. elim (
+      content_first = on_refusal r t.content_first (λ first. elim (
           which_lent l (after.text ≡ before.text) output.endings (λ old new. IsTrue seen.content.ended × IsFinishedOnce output.is_finished output.endings old new
           × ((texts : OutputTexts) × (planned (plan seen.random.octets) seen.content.octets ≡ Ok texts) × (output.written new ≡ output.written old ++ texts.content))) before.content after.content beside first
           ) [ inl same ↦ inl same | inr wrote ↦ inr (λ has. rw (seen_settled, is.content, plans seen.random.octets) (wrote (sym is.content_out ∙ has))) ]);
@@ -176,11 +168,12 @@ streamed {D} {E} {input} {output} {v} {draft} {plan} {old} {mid} {random} {conte
         content = λ unread. cc;
       };
       reads_first = if_always r _ (λ e inside usage. rw (others, is.streams) refl);
-      random_first = λ short. s.random_first (rw seen_settled at short);
-      memory_first = if_weaker r _ _ s.memory_first (λ e first memory. (is.reader.memory, λ streams. first memory));
-      content_last = λ refusal refused. s.content_last refusal (sym seen_settled ∙ refused);
-      finished = on_success r s.finished (λ done. (λ has. done.0, λ has. where_lent l (IsFinishedOnce output.is_finished output.endings) before.content after.content beside (sym is.content_out ∙ has) done.1));
-      unfinished = on_refusal r s.unfinished (λ same. (same, λ none. let some = is.text_out in cc));
+      random_first = λ short. t.content_last Random (sym (plans seen.random.octets) ∙ too_few draft seen.random.octets (rw seen_settled at short));
+      memory_first = if_weaker r _ _ t.memory_first (λ e first memory. (is.reader.memory, λ streams. first memory));
+      content_last = λ refusal refused. let none : draft ≡ Err refusal = sym seen_settled ∙ refused in
+          (s.draws.untouched refusal none, t.content_last refusal (sym (plans seen.random.octets) ∙ ap (λ d. plan_from d seen.random.octets) none));
+      finished = on_success r t.finished (λ done. (λ has. done.0, λ has. where_lent l (IsFinishedOnce output.is_finished output.endings) before.content after.content beside (sym is.content_out ∙ has) done.1));
+      unfinished = on_refusal r t.unfinished (λ same. (same, λ none. let some = is.text_out in cc));
       untouched = record {
         text = λ none. let some = is.reader.text in cc;
         content = λ none. let some = is.content in cc;
@@ -222,3 +215,17 @@ keys_refused {D} {E} {input} {v} {detach} {old} {new} {read = whole} {e} output 
 pub told_unread : (random : Counts) (inputs outputs : List Counts) (r : Result (Unit {0}) Refusal) → random.new ≡ random.old → TellsFaults inputs outputs r → TellsFaults (random ∷ inputs) outputs r
 told_unread random inputs outputs (Ok done) same told = record { works = ((same, told.works.0), told.works.1); read = λ is. cc; write = λ is. cc; inputs_told = tt; outputs_told = tt }
 told_unread random inputs outputs (Err e) same told = record { works = tt; read = λ is. inr (told.read is); write = told.write; inputs_told = λ others. (same, told.inputs_told others); outputs_told = told.outputs_told }
+
+-- The promises of a call without a random input, seen as a call that draws nothing.
+pub drawn_from_none : {D E : Type 0} {input : InputMembers D} {output : OutputMembers E} (plan : Result (Plan OutputTexts) Refusal) (random content content' : D) (text text' : E) (l : Option (Lent E)) (r : Result (Unit {0}) Refusal)
+    → Streams input output plan content content' text text' l r → TellsFaults (counts input.failures content content' ∷ []) (counts output.failures text text' ∷ counts_of output.failures l) r
+    → StreamsDrawn input output (by_plan plan) (λ octets. plan) random random content content' text text' l r
+drawn_from_none {input} plan random content content' text text' l r streams faults = record {
+  draws = record {
+    drawn = if_done r (nothing_drawn (input.consumed random) ∙ sym (by_plan_drawn plan));
+    at_most = none_drawn (input.consumed random) _;
+    untouched = λ refusal none. refl;
+  };
+  streams = λ octets may. streams;
+  faults = told_unread _ _ _ r refl faults;
+}

@@ -4,13 +4,13 @@ use Rattle.std.proofs.Math.Seq.{drop-length}
 use Rattle.std.specs.Result.{result_unwrap_or}
 use Rattle.octets.specs.declared.refusal.Refusal.{Refusal}
 use Rattle.octets.specs.declared.refusal.Refusal.TheVariants.{Write}
-use Rattle.octets.specs.Devices.{appended, AppendsPrefixOf, IsFinishedOnce}
+use Rattle.octets.specs.Devices.{appended, AppendsPrefixOf, IsFinishedOnce, OutputMembers}
 use Rattle.octets.specs.Faults.{Counts, counts, TellsFaults}
 use Rattle.octets.specs.Outcomes.{AgreesUnlessExternal}
 use Rattle.octets.proofs.Lemmas.{AppendsPrefixOf-none, on_success, on_refusal}
 use Rattle.jose.specs.declared.ports.Outputs.{Outputs}
 use Rattle.jose.specs.Ports.{as_content, on_content}
-use Rattle.jose.specs.Code.Doing.{OutputMembers, WritesWhole, formed}
+use Rattle.jose.specs.Code.Steps.{WritesWhole, formed}
 use Rattle.jose.proofs.Agreement.{agrees_as_content}
 use Rattle.jose.proofs.Doing.{if_weaker}
 

@@ -2,4 +2,4 @@
 -- rows of the table of commands
 pub mod Rows
 -- what the steps of a command promise
-pub mod Doing
+pub mod Steps

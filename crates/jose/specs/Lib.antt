@@ -11,6 +11,8 @@ pub mod Commands
 pub mod Meanings
 -- the answer of a run, and what a refusal leaves
 pub mod Answer
+-- everything that a run promises
+pub mod Doing
 -- what the commands promise together
 pub mod Headline
 -- that answers stay the same under wider limits

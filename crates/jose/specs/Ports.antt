@@ -2,7 +2,7 @@
 use Rattle.std.specs.Prelude.{ℕ, Bool, List, [], ◌∷◌, Result, Ok}
 use Rattle.std.specs.Iterator.{Count, IsFinite}
 use Rattle.octets.specs.declared.refusal.Refusal.{Refusal}
-use Rattle.octets.specs.Devices.{Observed, observed, appended, AppendsPrefixOf, IsPossibleInput}
+use Rattle.octets.specs.Devices.{Observed, InputMembers, observed, appended, AppendsPrefixOf, IsPossibleInput}
 use Rattle.octets.specs.Faults.{Counts, counts}
 use Rattle.octets.specs.Outcomes.{◌>>=◌}
 use Rattle.octets.specs.Plan.{OutputTexts}
@@ -53,6 +53,10 @@ observed_inputs consumed is_at_end old new = record {
   keys = observed consumed is_at_end old.keys new.keys;
   random = observed consumed is_at_end old.random new.random;
 }
+
+-- what a run saw of its inputs
+abbrev pub seen_of : {D : Type 0} → InputMembers D → Inputs D → Inputs D → ObservedInputs
+seen_of input old new = observed_inputs input.consumed input.is_at_end old new
 
 -- the whole inputs may be these
 pub record ArePossibleInputs (seen : ObservedInputs) (inputs : InputTexts) : Type 0 where

@@ -1,13 +1,13 @@
 //! The work of each command, from devices to devices.
 ghost use Rattle.std.specs.Prelude.{◌≡◌, true, false, ◌⊎◌, ◌++◌, ℕ, List, [], ◌∷◌, option_map, Err, OnOk, OnErr, IfOk, IfErr, IsTrue};
 ghost use Rattle.std.specs.Iterator.{IsFinite};
-ghost use Rattle.octets.specs.Devices.{appended, observed, IsPossibleInput, AppendsPrefixOf, IsFinishedOnce};
+ghost use Rattle.octets.specs.Devices.{appended, observed, IsPossibleInput, AppendsPrefixOf, IsFinishedOnce, input_members, output_members};
 ghost use Rattle.octets.specs.Faults.{TellsFaults, DidNotFail, counts};
 ghost use Rattle.octets.specs.Outcomes.{AgreesUnlessExternal};
 ghost use Rattle.octets.specs.Code.Results.{IsReadingFailure};
 ghost use Rattle.objects.specs.Texts.{handed_in};
 ghost use Rattle.objects.specs.Code.Views.{held_view};
-ghost use Rattle.jose.specs.Code.Doing.{ReadsInputs, WritesWhole, input_members, output_members, where_read, object_texts};
+ghost use Rattle.jose.specs.Code.Steps.{ReadsInputs, WritesWhole, where_read, object_texts};
 ghost use Rattle.jose.specs.Ports.{AreFinite};
 
 pub(crate) mod b64;
@@ -110,7 +110,8 @@ fn write_object<O: Output>(
     content: HeldContent<'_>,
     outputs: &mut Outputs<O>,
 ) -> Result<(), Refusal>
-    ensures { WritesWhole (output_members O.written O.is_finished O.endings O.failures) true detach (Ok (object_texts detach (held_view content.entry) text.now)) outputs.old outputs.new result }
+    ensures { WritesWhole (output_members O.written O.is_finished O.endings O.failures) true detach
+        (Ok (object_texts detach (held_view content.entry) text.now)) outputs.old outputs.new result }
 {
     if detach {
         content.write(&mut outputs.content)?;

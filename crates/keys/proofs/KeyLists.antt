@@ -4,11 +4,12 @@ use Rattle.std.proofs.lemmas.List.{map-append}
 use Rattle.serde_json.specs.View.{view, items_view}
 use Rattle.serde_json.specs.declared.value.Value.{Value}
 use Rattle.octets.specs.declared.refusal.Refusal.{Refusal}
+use Rattle.octets.specs.Outcomes.{◌>>=◌}
 use Rattle.keys.specs.declared.key.Key.{Key}
 use Rattle.keys.specs.Keys.{OctetKey, AreOctetKeys, octet_key}
 use Rattle.keys.specs.Code.Views.{key_view}
 use Rattle.keys.specs.Limits.{limits}
-use Rattle.keys.specs.KeySets.{before, unless_bad, octet_keys, items_count}
+use Rattle.keys.specs.KeySets.{unless_bad, octet_keys, items_count}
 
 -- the keys so far, followed by those that are left
 abbrev pub after : List OctetKey → Result (List OctetKey) Refusal → Result (List OctetKey) Refusal
@@ -26,7 +27,7 @@ unchanged (Err refusal) = refl
 pub keys_with-none : (strict : Bool) (left : List Value) → octet_keys limits strict (items_view left) ≡ keys_with strict [] left
 keys_with-none strict left = sym (unchanged (octet_keys limits strict (items_view left)))
 
-one_more : (done : List OctetKey) (key : OctetKey) (r : Result (List OctetKey) Refusal) → after done (before key r) ≡ after (done ++ key ∷ []) r
+one_more : (done : List OctetKey) (key : OctetKey) (r : Result (List OctetKey) Refusal) → after done (r >>= λ others. Ok (key ∷ others)) ≡ after (done ++ key ∷ []) r
 one_more done key (Ok keys) = ap Ok (sym (append_assoc done (key ∷ []) keys))
 one_more done key (Err refusal) = refl
 

@@ -8,11 +8,11 @@ use Rattle.octets.specs.declared.refusal.Refusal.{Refusal}
 use Rattle.octets.specs.declared.refusal.Refusal.TheVariants.{Key, Limit}
 use Rattle.octets.specs.Base64url.{decoded}
 use Rattle.octets.specs.Octets.{IsOctets}
-use Rattle.octets.specs.Outcomes.{◌>>=◌, needs}
+use Rattle.octets.specs.Outcomes.{◌>>=◌, needs, as_refusal}
 use Rattle.keys.specs.Json.{json_value, is_object}
 use Rattle.keys.specs.JsonTexts.{IsJson, AreJsonItems}
-use Rattle.keys.specs.Keys.{OctetKey, AreOctetKeys, or_key, key_octets, constrained_key, octet_key}
-use Rattle.keys.specs.KeySets.{are_objects, items_count, objects_at, key_objects, before, unless_bad, octet_keys, value_keys, key_set, KeysHaveOctets}
+use Rattle.keys.specs.Keys.{OctetKey, AreOctetKeys, key_octets, constrained_key, octet_key}
+use Rattle.keys.specs.KeySets.{are_objects, items_count, objects_at, key_objects, unless_bad, octet_keys, value_keys, key_set, KeysHaveOctets}
 use Rattle.keys.specs.Limits.{Limits}
 use Rattle.keys.specs.Members.{string_member, optional_string_member, optional_strings_member}
 use Rattle.keys.proofs.JsonParts.{keep_json}
@@ -31,7 +31,7 @@ member_octets name text value json h = by_member (get name value) refl h
     by_member None is h = cc h
     by_member (Some d) is h = string_octets d text (keep_json.found name value d json is).0 (is_there (as_str d) Key text h)
 
-decoded_or_key : (r : Result (List ℕ) Refusal) (octets : List ℕ) → or_key r ≡ Ok octets → r ≡ Ok octets
+decoded_or_key : (r : Result (List ℕ) Refusal) (octets : List ℕ) → as_refusal Key r ≡ Ok octets → r ≡ Ok octets
 decoded_or_key (Ok x) octets h = ap Ok (same_answer x octets h)
 decoded_or_key (Err e) octets h = cc h
 
@@ -40,7 +40,7 @@ k_octets : (limits : Limits) (value : Data) (octets : List ℕ) → IsJson value
 unfolding key_octets
 k_octets limits value octets json h =
     let text = steps (string_member (codes "k") value) _ octets h in
-    let found = steps (or_key (decoded text.0)) _ octets text.2 in
+    let found = steps (as_refusal Key (decoded text.0)) _ octets text.2 in
     let in_range = steps (needs _ Key) (λ _. Ok found.0) octets found.2 in
     subst IsOctets (same_answer found.0 octets in_range.2)
     (octets_of_meaning text.0 found.0 (member_octets (codes "k") text.0 value json text.1) (decoded_or_key (decoded text.0) found.0 found.1))
@@ -68,7 +68,7 @@ octets_of_keys : (limits : Limits) (strict : Bool) (objects : Items) (keys : Lis
 octets_of_keys limits strict no_items keys json h = subst AreOctetKeys (same_answer [] keys h) tt
 octets_of_keys limits strict (item value values) keys json h = by_key strict (octet_key limits value) refl (octet_keys limits strict values) (λ keys. octets_of_keys limits strict values keys json.1) h
   where
-    by_rest : (key : OctetKey) → IsOctets key.octets → (rest : Result (List OctetKey) Refusal) → ((keys : List OctetKey) → rest ≡ Ok keys → AreOctetKeys keys) → before key rest ≡ Ok keys → AreOctetKeys keys
+    by_rest : (key : OctetKey) → IsOctets key.octets → (rest : Result (List OctetKey) Refusal) → ((keys : List OctetKey) → rest ≡ Ok keys → AreOctetKeys keys) → (rest >>= λ others. Ok (key ∷ others)) ≡ Ok keys → AreOctetKeys keys
     by_rest key octets (Ok rest) others h = subst AreOctetKeys (same_answer (key ∷ rest) keys h) (octets, others rest refl)
     by_rest key octets (Err e) others h = cc h
 

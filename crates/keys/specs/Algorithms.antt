@@ -1,8 +1,10 @@
 -- The algorithms (RFC 7518 sections 3.1, 4.1 and 5.1): their names, the lengths of their keys, and the operations that they serve.
-use Rattle.std.specs.Prelude.{ℕ, ◌==◌, Bool, true, false, List, [], ◌∷◌, codes, nat_le, Option, Some, None, option_map}
+use Rattle.std.specs.Prelude.{ℕ, ◌==◌, Bool, true, false, List, [], ◌∷◌, codes, nat_le, Option, Some, None, option_map, Result}
 use Rattle.std.specs.List.{find}
-use Rattle.std.specs.Option.{option_or}
+use Rattle.std.specs.Option.{option_or, ok_or}
 use Rattle.std.specs.Str.{bytes_eq}
+use Rattle.octets.specs.declared.refusal.Refusal.{Refusal}
+use Rattle.octets.specs.declared.refusal.Refusal.TheVariants.{Unsupported}
 use Rattle.keys.specs.declared.algorithm.SignatureAlg.{SignatureAlg}
 use Rattle.keys.specs.declared.algorithm.SignatureAlg.TheVariants.{Hs256, Hs384, Hs512}
 use Rattle.keys.specs.declared.algorithm.KeyManagementAlg.{KeyManagementAlg}
@@ -105,6 +107,10 @@ named_alg_of name =
     option_or (option_map named.Signature (signature_alg_of name)) (
     option_or (option_map named.Management (management_alg_of name)) (
     option_map named.Encryption (encryption_alg_of name)))
+
+-- the algorithm of a name, which must have one
+abbrev pub supported : {A : Type 0} → (List ℕ → Option A) → List ℕ → Result A Refusal
+supported of name = ok_or (of name) Unsupported
 
 -- ---- the management of keys (RFC 7518 section 4.1)
 

@@ -1,19 +1,20 @@
 -- Making keys from the members of a template and random octets (this profile's own rules).
 use Rattle.std.specs.Prelude.{ℕ, ◌&&◌, Bool, true, List, [], ◌∷◌, length, take, codes, nat_le, is_some, is_none, if◌then◌else◌, Option, Some, None, option_and_then, Result, Ok, Err}
 use Rattle.std.specs.Ordering.{nat_cmp, match_ordering}
-use Rattle.std.specs.Str.{bytes_eq}
+use Rattle.std.specs.Option.{ok_or}
 use Rattle.std.specs.Cmp.Lexicographic.{slice_cmp}
 use Rattle.serde_json.specs.Data.{Data, Items, no_items, item, Members, no_members, member, string, array, object, put, depth}
 use Rattle.serde_json.specs.Find.{get_member, as_object, as_number, as_u64}
 use Rattle.serde_json.specs.Written.{compact_text}
 use Rattle.octets.specs.declared.refusal.Refusal.{Refusal}
-use Rattle.octets.specs.declared.refusal.Refusal.TheVariants.{Key, Unsupported, NoAlgorithm, KeyDoesNotFit, Limit, Random}
-use Rattle.octets.specs.Outcomes.{◌>>=◌, needs}
+use Rattle.octets.specs.declared.refusal.Refusal.TheVariants.{Key, NoAlgorithm, KeyDoesNotFit, Limit, Random}
+use Rattle.octets.specs.Outcomes.{◌>>=◌, needs, if_there}
 use Rattle.octets.specs.Base64url.{base64url}
 use Rattle.keys.specs.Json.{json_value}
+use Rattle.keys.specs.Keys.{is_absent_or_text}
 use Rattle.keys.specs.Members.{optional_string_member, optional_strings_member}
 use Rattle.keys.specs.declared.algorithm.NamedAlg.{NamedAlg}
-use Rattle.keys.specs.Algorithms.{named_alg_of, named_key_len, has_len, usual_len, operations}
+use Rattle.keys.specs.Algorithms.{named_alg_of, supported, named_key_len, has_len, usual_len, operations}
 use Rattle.keys.specs.Limits.{Limits}
 use Rattle.keys.specs.Operations.{operation_name}
 
@@ -23,21 +24,12 @@ use Rattle.keys.specs.Operations.{operation_name}
 abbrev pub is_fresh : Members → Bool
 is_fresh members = is_none (get_member (codes "k") members) && is_none (get_member (codes "keys") members)
 
-abbrev pub is_oct_if_there : Option (List ℕ) → Bool
-is_oct_if_there None = true
-is_oct_if_there (Some kty) = bytes_eq kty (codes "oct")
-
--- a whole number from 1
-abbrev pub is_positive : ℕ → Bool
-is_positive n = nat_le 1 n
-
-abbrev pub positive : Option ℕ → Result (Option ℕ) Refusal
-positive None = Err Key
-positive (Some n) = if is_positive n then Ok (Some n) else Err Key
-
-abbrev pub len_if_there : Option Data → Result (Option ℕ) Refusal
-len_if_there None = Ok None
-len_if_there (Some value) = positive (option_and_then as_u64 (as_number value))
+-- `bytes`: a whole number from 1
+abbrev pub len_of : Data → Result ℕ Refusal
+len_of value = do
+  n ← ok_or (option_and_then as_u64 (as_number value)) Key
+  some ← needs (nat_le 1 n) Key
+  Ok n
 
 -- the algorithm and the length that a template asks for; its members are typed as those of a key
 pub record KeyTemplate : Type 0 where
@@ -49,12 +41,12 @@ unfoldable pub key_template : Data → Members → Result KeyTemplate Refusal
 key_template value members = do
   fresh ← needs (is_fresh members) Key
   kty ← optional_string_member (codes "kty") value
-  oct ← needs (is_oct_if_there kty) Key
+  oct ← needs (is_absent_or_text kty (codes "oct")) Key
   alg ← optional_string_member (codes "alg") value
   key_use ← optional_string_member (codes "use") value
   kid ← optional_string_member (codes "kid") value
   key_ops ← optional_strings_member (codes "key_ops") value
-  bytes ← len_if_there (get_member (codes "bytes") members)
+  bytes ← if_there len_of (get_member (codes "bytes") members)
   Ok (record { alg = alg; bytes = bytes })
 
 -- ---- the length of the key (docs/SPECIFICATION.md "Making keys" 1 to 3)
@@ -62,15 +54,6 @@ key_template value members = do
 abbrev pub is_within_limit : Limits → Option ℕ → Bool
 is_within_limit limits None = true
 is_within_limit limits (Some n) = nat_le n limits.key_octets
-
-abbrev pub some_alg : Option NamedAlg → Result (Option NamedAlg) Refusal
-some_alg None = Err Unsupported
-some_alg (Some alg) = Ok (Some alg)
-
--- the algorithm that `alg` names, if it is there
-abbrev pub alg_if_there : Option (List ℕ) → Result (Option NamedAlg) Refusal
-alg_if_there None = Ok None
-alg_if_there (Some name) = some_alg (named_alg_of name)
 
 -- the length that the template asks for, or the usual one of the algorithm
 abbrev pub asked_len : Option ℕ → Option NamedAlg → Option ℕ
@@ -81,13 +64,12 @@ abbrev pub takes_len : Option NamedAlg → ℕ → Bool
 takes_len None n = true
 takes_len (Some alg) n = has_len (named_key_len alg) n
 
-abbrev pub len_if_taken : Option NamedAlg → Option ℕ → Result ℕ Refusal
-len_if_taken alg None = Err NoAlgorithm
-len_if_taken alg (Some n) = if takes_len alg n then Ok n else Err KeyDoesNotFit
-
 -- the length of the key
 unfoldable pub fitting_len : Option NamedAlg → Option ℕ → Result ℕ Refusal
-fitting_len alg bytes = len_if_taken alg (asked_len bytes alg)
+fitting_len alg bytes = do
+  n ← ok_or (asked_len bytes alg) NoAlgorithm
+  taken ← needs (takes_len alg n) KeyDoesNotFit
+  Ok n
 
 -- ---- its members except `k` (docs/SPECIFICATION.md "Making keys")
 
@@ -127,20 +109,17 @@ unfoldable pub made_of : Limits → Data → Members → Result MadeKey Refusal
 made_of limits value members = do
   template ← key_template value members
   few ← needs (is_within_limit limits template.bytes) Limit
-  alg ← alg_if_there template.alg
+  alg ← if_there (supported named_alg_of) template.alg
   len ← fitting_len alg template.bytes
   shallow ← needs (nat_le (depth (object (completed alg members))) limits.depth) Limit
   Ok (record { len = len; members = completed alg members })
-
-abbrev pub made_if_object : Limits → Data → Option Members → Result MadeKey Refusal
-made_if_object limits value None = Err Key
-made_if_object limits value (Some members) = made_of limits value members
 
 -- the key that the text of a template asks for
 unfoldable pub made_key : Limits → List ℕ → Result MadeKey Refusal
 made_key limits text = do
   value ← json_value text
-  made_if_object limits value (as_object value)
+  members ← ok_or (as_object value) Key
+  made_of limits value members
 
 -- the JSON text of the key with these octets (RFC 7518 section 6.4.1)
 abbrev pub key_text : MadeKey → List ℕ → List ℕ

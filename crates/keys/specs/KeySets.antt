@@ -33,13 +33,9 @@ key_objects value = if is_object value then objects_at value (get (codes "keys")
 
 -- ---- the keys (docs/SPECIFICATION.md "Keys" 3 and 6)
 
-abbrev pub before : OctetKey → Result (List OctetKey) Refusal → Result (List OctetKey) Refusal
-before key (Ok keys) = Ok (key ∷ keys)
-before key (Err refusal) = Err refusal
-
 -- with `strict` a bad key is refused, and otherwise it is passed over
 abbrev pub unless_bad : Bool → Result OctetKey Refusal → Result (List OctetKey) Refusal → Result (List OctetKey) Refusal
-unless_bad strict (Ok key) keys = before key keys
+unless_bad strict (Ok key) keys = keys >>= λ others. Ok (key ∷ others)
 unless_bad true (Err refusal) keys = Err refusal
 unless_bad false (Err refusal) keys = keys
 

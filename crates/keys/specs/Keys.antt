@@ -5,7 +5,7 @@ use Rattle.std.specs.Str.{bytes_eq}
 use Rattle.serde_json.specs.Data.{Data}
 use Rattle.octets.specs.declared.refusal.Refusal.{Refusal}
 use Rattle.octets.specs.declared.refusal.Refusal.TheVariants.{Key}
-use Rattle.octets.specs.Outcomes.{◌>>=◌, needs}
+use Rattle.octets.specs.Outcomes.{◌>>=◌, needs, as_refusal}
 use Rattle.octets.specs.Base64url.{decoded}
 use Rattle.octets.specs.Octets.{IsOctets}
 use Rattle.keys.specs.declared.algorithm.Algorithm.{Algorithm}
@@ -29,16 +29,11 @@ AreOctetKeys keys = AllByRecursion (λ key. IsOctets key.octets) keys
 
 -- ---- reading (RFC 7517 section 4.1, RFC 7518 section 6.4.1, docs/SPECIFICATION.md "Keys" 2)
 
--- a key with a bad base64url text is a bad key
-abbrev pub or_key : Result (List ℕ) Refusal → Result (List ℕ) Refusal
-or_key (Ok octets) = Ok octets
-or_key (Err refusal) = Err Key
-
 -- the octets of the member `k`
 unfoldable pub key_octets : Limits → Data → Result (List ℕ) Refusal
 key_octets limits value = do
   text ← string_member (codes "k") value
-  octets ← or_key (decoded text)
+  octets ← as_refusal Key (decoded text)
   in_range ← needs (nat_le 1 (length octets) && nat_le (length octets) limits.key_octets) Key
   Ok octets
 

@@ -4,7 +4,10 @@ ghost use Rattle.serde_json.specs.Data.{Members, object};
 ghost use Rattle.serde_json.specs.Find.{get, as_object};
 ghost use Rattle.serde_json.specs.View.{view};
 ghost use Rattle.octets.specs.Code.Results.{Agrees, AgreesUnlessMemory};
-ghost use Rattle.keys.specs.Generating.{key_template, is_oct_if_there, len_if_there, is_within_limit, alg_if_there, fitting_len};
+ghost use Rattle.octets.specs.Outcomes.{if_there};
+ghost use Rattle.keys.specs.Keys.{is_absent_or_text};
+ghost use Rattle.keys.specs.Generating.{key_template, len_of, is_within_limit, fitting_len};
+ghost use Rattle.keys.specs.Algorithms.{named_alg_of, supported};
 ghost use Rattle.keys.specs.Limits.{limits};
 ghost use Rattle.keys.specs.Code.Views.{asked_view};
 
@@ -46,7 +49,7 @@ pub(crate) fn read_template<'v>(alloc: Global, value: &'v Value) -> Result<Asked
 
 /// Whether the `kty` is absent or "oct".
 fn is_oct_if_there(kty: Option<&str>) -> bool
-    ensures { result ≡ is_oct_if_there (option_map (λ t. t.now) kty.entry) }
+    ensures { result ≡ is_absent_or_text (option_map (λ t. t.now) kty.entry) (codes "oct") }
 {
     match kty {
         None => true,
@@ -57,7 +60,7 @@ fn is_oct_if_there(kty: Option<&str>) -> bool
 /// The member `bytes`, which is a whole number from 1, or absent.
 fn len_if_there(value: &Value) -> Result<Option<usize>, Refusal>
     ensures { Agrees (λ len. len) result
-        (len_if_there (get (codes "bytes") (view value.now))) }
+        (if_there len_of (get (codes "bytes") (view value.now))) }
 {
     match value.get("bytes") {
         None => Ok(None),
@@ -80,7 +83,7 @@ pub(crate) fn is_within_limit(bytes: Option<usize>) -> bool
 
 /// The algorithm that `alg` names, if it is there. Refuses with `Unsupported` if it names none.
 pub(crate) fn alg_if_there(alg: Option<&str>) -> Result<Option<NamedAlg>, Refusal>
-    ensures { Agrees (λ alg. alg) result (alg_if_there (option_map (λ name. name.now) alg.entry)) }
+    ensures { Agrees (λ alg. alg) result (if_there (supported named_alg_of) (option_map (λ name. name.now) alg.entry)) }
 {
     match alg {
         None => Ok(None),

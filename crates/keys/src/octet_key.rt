@@ -4,7 +4,8 @@ ghost use Rattle.std.specs.List.{list_any};
 ghost use Rattle.serde_json.specs.View.{view};
 ghost use Rattle.octets.specs.Code.Results.{AgreesUnlessMemory};
 ghost use Rattle.octets.specs.Base64url.{decoded};
-ghost use Rattle.keys.specs.Keys.{octet_key, key_octets, constrained_key, or_key, allows, fits, is_absent_or_text, is_absent_or_among, is_absent_or_meets};
+ghost use Rattle.octets.specs.Outcomes.{as_refusal};
+ghost use Rattle.keys.specs.Keys.{octet_key, key_octets, constrained_key, allows, fits, is_absent_or_text, is_absent_or_among, is_absent_or_meets};
 ghost use Rattle.keys.specs.Algorithms.{key_names};
 ghost use Rattle.keys.specs.Limits.{limits};
 ghost use Rattle.keys.specs.Operations.{operation_names};
@@ -88,7 +89,7 @@ fn read_key_octets(alloc: Global, value: &Value) -> Result<Vec<u8>, Refusal>
 
 /// The octets of a base64url text. A bad text is refused with `Key`.
 fn decode_key(alloc: Global, text: &[u8]) -> Result<Vec<u8>, Refusal>
-    ensures { AgreesUnlessMemory (λ octets. octets.items) result (or_key (decoded text.now)) }
+    ensures { AgreesUnlessMemory (λ octets. octets.items) result (as_refusal Refusal.Key (decoded text.now)) }
 {
     match b64_decode(alloc, text) {
         Err(Refusal::Base64) => Err(Refusal::Key),

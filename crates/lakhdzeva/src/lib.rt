@@ -66,7 +66,8 @@ pub extern "C" fn lakhdzeva_core_sign(
     object: &mut [u8],
     count: &mut usize,
 ) -> u32
-    ensures { Delivers (sign_answer compact detach keys.now template.now payload.now) (record { old = object.old; new = object.new; count = count.new }) result }
+    ensures { Delivers (sign_answer compact detach keys.now template.now payload.now)
+        (record { old = object.old; new = object.new; count = count.new }) result }
 {
     deliver(
         signed_text(alloc, keys, template, compact, detach, payload),
@@ -172,7 +173,8 @@ pub extern "C" fn lakhdzeva_core_decrypt(
     plaintext: &mut [u8],
     count: &mut usize,
 ) -> u32
-    ensures { Delivers (dec_answer limits keys.now (if_given given ciphertext.now) object.now) (record { old = plaintext.old; new = plaintext.new; count = count.new }) result }
+    ensures { Delivers (dec_answer limits keys.now (if_given given ciphertext.now) object.now)
+        (record { old = plaintext.old; new = plaintext.new; count = count.new }) result }
 {
     deliver(
         plaintext_of(alloc, keys, object, given, ciphertext),

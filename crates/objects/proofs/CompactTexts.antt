@@ -4,8 +4,11 @@ use Rattle.std.proofs.Math.Seq.{take-append_seam, drop-append-add}
 use Rattle.std.proofs.lemmas.Bool.{eqb-true}
 use Rattle.std.proofs.lemmas.Iterator.Adapters.{position_from-zero}
 use Rattle.std.specs.List.{position_from, AllByRecursion}
+use Rattle.std.specs.Option.{ok_or}
+use Rattle.octets.specs.declared.refusal.Refusal.TheVariants.{Form}
+use Rattle.octets.specs.Outcomes.{◌>>=◌}
 use Rattle.octets.specs.Base64url.{is_url_character}
-use Rattle.objects.specs.Texts.{is_dot, parts_at, split_at_dot, three_parts}
+use Rattle.objects.specs.Texts.{is_dot, split_at_dot, three_parts}
 use Rattle.objects.proofs.Characters.{IsUrlText}
 
 -- ---- texts without a dot
@@ -46,7 +49,7 @@ split_of_joined xs ys h =
     let here : position is_dot (xs ++ 46 ∷ ys) ≡ Some (length xs) = from_zero (xs ++ 46 ∷ ys) ∙ position_after 0 xs ys h ∙ ap Some (omega arith) in
     let front : take (length xs) (xs ++ 46 ∷ ys) ≡ xs = take-append_seam xs (46 ∷ ys) in
     let back : drop (length xs + 1) (xs ++ 46 ∷ ys) ≡ ys = drop-append-add xs (46 ∷ ys) 1 in
-    ap (parts_at (xs ++ 46 ∷ ys)) here ∙ rw (front, back) refl
+    ap (λ o. ok_or o Form >>= λ i. Ok (take i (xs ++ 46 ∷ ys), drop (i + 1) (xs ++ 46 ∷ ys))) here ∙ rw (front, back) refl
 
 pub three_of_joined : (xs ys zs : List ℕ) → HasNoDot xs → HasNoDot ys → HasNoDot zs → three_parts (xs ++ 46 ∷ (ys ++ 46 ∷ zs)) ≡ Ok (xs, ys, zs)
 unfolding three_parts

@@ -3,13 +3,14 @@ use Rattle.std.proofs.Common.{◌≡◌, ℕ, suc, ◌+◌, ◌-◌, ◌==◌, L
 use Rattle.std.proofs.lemmas.Bool.{cond_both, eqb-true}
 use Rattle.std.proofs.lemmas.Iterator.Adapters.{position_from-zero}
 use Rattle.std.specs.List.{position_from}
+use Rattle.std.specs.Option.{ok_or}
 use Rattle.octets.specs.declared.refusal.Refusal.{Refusal}
 use Rattle.octets.specs.declared.refusal.Refusal.TheVariants.{Form}
 use Rattle.octets.specs.LineEnds.{without_line_end}
 use Rattle.octets.specs.Octets.{IsOctets}
 use Rattle.octets.specs.Outcomes.{◌>>=◌, needs}
 use Rattle.octets.proofs.Lemmas.{IsOctets-take, IsOctets-front, IsOctets-back, steps, same_answer}
-use Rattle.objects.specs.Texts.{is_dot, parts_at, split_at_dot, three_parts}
+use Rattle.objects.specs.Texts.{is_dot, split_at_dot, three_parts}
 
 -- ---- one dot
 
@@ -29,7 +30,7 @@ found : (xs : List ℕ) (k n : ℕ) → position_from is_dot k xs ≡ Some n →
 found [] k n h = cc h
 found (x ∷ xs) k n h = found_by (is_dot x) x xs k n refl h (found xs (k + 1) n)
 
-joined_at : (text : List ℕ) (parts : List ℕ × List ℕ) (o : Option ℕ) → position is_dot text ≡ o → parts_at text o ≡ Ok parts → text ≡ parts.0 ++ 46 ∷ parts.1
+joined_at : (text : List ℕ) (parts : List ℕ × List ℕ) (o : Option ℕ) → position is_dot text ≡ o → (ok_or o Form >>= λ i. Ok (take i text, drop (i + 1) text)) ≡ Ok parts → text ≡ parts.0 ++ 46 ∷ parts.1
 joined_at text parts None e h = cc h
 joined_at text parts (Some i) e h =
     let place = found text 0 i (sym (position_from-zero is_dot text) ∙ e) in

@@ -6,12 +6,12 @@ use Rattle.serde_json.specs.Data.{Members}
 use Rattle.octets.specs.declared.refusal.Refusal.{Refusal}
 use Rattle.octets.specs.declared.refusal.Refusal.TheVariants.{Header}
 use Rattle.octets.specs.Base64url.{decoded}
-use Rattle.octets.specs.Outcomes.{needs}
+use Rattle.octets.specs.Outcomes.{needs, as_refusal, if_there}
 use Rattle.keys.specs.declared.algorithm.KeyManagementAlg.{KeyManagementAlg}
 use Rattle.keys.specs.declared.algorithm.KeyManagementMode.{KeyManagementMode}
 use Rattle.keys.specs.declared.algorithm.KeyManagementMode.TheVariants as mode
 use Rattle.keys.specs.Algorithms.{mode_of}
-use Rattle.objects.specs.Headers.{string_parameter, number_parameter, salt, salt_if_there, salt_parameter, octets_parameter}
+use Rattle.objects.specs.Headers.{string_parameter, number_parameter, salt_octets, salt_parameter, octets_parameter}
 use Rattle.objects.specs.KeyManagement.{KeyManagement, Unknown, Direct, KeyWrap, Password, GcmKeyWrap, password_management, gcm_management, management_in, management_by}
 use Rattle.objects.specs.Code.KeyManagementView.{are_password_parameters, is_management_in, is_management_of}
 use Rattle.octets.proofs.Lemmas.{steps, passed, same_answer, is_there}
@@ -20,22 +20,17 @@ use Rattle.octets.proofs.Lemmas.{steps, passed, same_answer, is_there}
 salt_is_long : (header : Members) (p2s : List ℕ) → salt_parameter (codes "p2s") header ≡ Ok (Some p2s) → nat_le 8 (length p2s) ≡ true
 unfolding salt_parameter
 salt_is_long header p2s h =
-    let text = steps (string_parameter (codes "p2s") header) salt_if_there (Some p2s) h in
+    let text = steps (string_parameter (codes "p2s") header) (if_there salt_octets) (Some p2s) h in
     by_text text.0 text.2
   where
-    by_length : (octets : List ℕ) (long : Bool) → nat_le 8 (length octets) ≡ long → (if long then Ok (Some octets) else Err Header) ≡ Ok (Some p2s) → nat_le 8 (length p2s) ≡ true
-    by_length octets true is h =
-        let same : octets ≡ p2s = cc h in
-        ap (λ (s : List ℕ). nat_le 8 (length s)) (sym same) ∙ is
-    by_length octets false is h = cc h
-
-    by_octets : (r : Result (List ℕ) Refusal) → salt r ≡ Ok (Some p2s) → nat_le 8 (length p2s) ≡ true
-    by_octets (Ok octets) h = by_length octets (nat_le 8 (length octets)) refl h
-    by_octets (Err e) h = cc h
-
-    by_text : (found : Option (List ℕ)) → salt_if_there found ≡ Ok (Some p2s) → nat_le 8 (length p2s) ≡ true
+    by_text : (found : Option (List ℕ)) → if_there salt_octets found ≡ Ok (Some p2s) → nat_le 8 (length p2s) ≡ true
     by_text None h = cc h
-    by_text (Some text) h = by_octets (decoded text) h
+    by_text (Some text) h =
+        let found = steps (salt_octets text) (λ octets. Ok (Some octets)) (Some p2s) h in
+        let octets = steps (as_refusal Header (decoded text)) _ found.0 found.1 in
+        let long = steps (needs (nat_le 8 (length octets.0)) Header) (λ _. Ok octets.0) found.0 octets.2 in
+        let same : found.0 ≡ p2s = cc found.2 in
+        ap (λ (s : List ℕ). nat_le 8 (length s)) (sym (same_answer octets.0 found.0 long.2 ∙ same)) ∙ passed _ Header long.0 long.1
 
 -- The parameters of a password that are read are valid.
 password_is : (header : Members) (m : KeyManagement) → password_management header ≡ Ok m → (p2s : List ℕ) × (p2c : ℕ) × (are_password_parameters p2s p2c ≡ true) × (Password p2s p2c ≡ m)

@@ -17,7 +17,7 @@ use Rattle.keys.specs.Json.{json_value, member_numbers_are_whole}
 use Rattle.keys.specs.JsonTexts.{IsJson, AreJsonItems, AreJsonMembers}
 use Rattle.keys.specs.KeySets.{are_objects, items_count}
 use Rattle.keys.proofs.Lemmas.{string_octets, numbers_whole, keep_json, reads_json, url_texts_are_json}
-use Rattle.objects.specs.Headers.{header_at, members_if_there, some_members}
+use Rattle.objects.specs.Headers.{header_at, members_if_there}
 use Rattle.objects.specs.Texts.{each_item, text_if_there, text_at, required_text, has_items, object_list, depth_of_each}
 use Rattle.objects.proofs.EachRead.{all_items_read, as_many_items}
 use Rattle.objects.proofs.Joined.{line_octets}
@@ -80,15 +80,11 @@ required_octets name d text is h = required_by name d (get name d) text is refl 
 
 -- ---- headers
 
-object_is : (o : Option Members) (header : Members) → some_members o ≡ Ok header → o ≡ Some header
-object_is None header h = cc h
-object_is (Some ms) header h = ap Some (same_answer ms header h)
-
 header_by : (n : ℕ) (name : List ℕ) (d : Data) (o : Option Data) (header : Members) → 1 ≤ n → IsShallow (suc n) d → get name d ≡ o → members_if_there o ≡ Ok header → IsHeader n header
 header_by n name d None header some is e h = subst (IsHeader n) (same_answer no_members header h) (no_header n some)
 header_by n name d (Some value) header some is e h =
     let found = keep_json.found name d value is.json e in
-    let members = keep_json.members_of value header found.0 (object_is (as_object value) header h) in
+    let members = keep_json.members_of value header found.0 (is_there (as_object value) Form header h) in
     record { json = members.0; shallow = omega (arith, is.shallow, found.1, members.1) }
 
 -- A header nests less deeply than the object that it is in.

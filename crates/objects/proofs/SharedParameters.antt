@@ -3,7 +3,8 @@ use Rattle.std.proofs.Common.{◌≡◌, ℕ, List, codes, Option, Some, None, I
 use Rattle.std.specs.Option.{option_or}
 use Rattle.serde_json.specs.Data.{Data, Members, no_members}
 use Rattle.serde_json.specs.Find.{as_str, get_member}
-use Rattle.objects.specs.Headers.{all_members, if_there, string_parameter, salt_if_there, salt_parameter, octets_if_there, octets_parameter}
+use Rattle.objects.specs.Headers.{all_members, parameter_if_there, string_parameter, salt_octets, salt_parameter, parameter_octets, octets_parameter}
+use Rattle.octets.specs.Outcomes.{if_there}
 use Rattle.objects.specs.declared.header.shared.SharedParameters.{SharedParameters}
 use Rattle.objects.specs.Code.SharedParameters.{AreReadIn}
 use Rattle.objects.proofs.Names.{get_member-all_members}
@@ -14,10 +15,10 @@ module _ (p u h : Members) where
   string_in_joint : (name text : List ℕ) → string_parameter name (all_members p u no_members) ≡ Ok (Some text) → string_parameter name (all_members p u h) ≡ Ok (Some text)
   unfolding string_parameter
   string_in_joint name text is =
-      ap (if_there as_str) (get_member-all_members name p u h)
-      ∙ by_parts (get_member name p) (get_member name u) (get_member name h) (ap (if_there as_str) (sym (get_member-all_members name p u no_members)) ∙ is)
+      ap (parameter_if_there as_str) (get_member-all_members name p u h)
+      ∙ by_parts (get_member name p) (get_member name u) (get_member name h) (ap (parameter_if_there as_str) (sym (get_member-all_members name p u no_members)) ∙ is)
     where
-      by_parts : (a b c : Option Data) → if_there as_str (option_or a (option_or b None)) ≡ Ok (Some text) → if_there as_str (option_or a (option_or b c)) ≡ Ok (Some text)
+      by_parts : (a b c : Option Data) → parameter_if_there as_str (option_or a (option_or b None)) ≡ Ok (Some text) → parameter_if_there as_str (option_or a (option_or b c)) ≡ Ok (Some text)
       by_parts (Some x) b c there = there
       by_parts None (Some x) c there = there
       by_parts None None c there = cc there
@@ -25,20 +26,20 @@ module _ (p u h : Members) where
   octets_in_joint : (name octets : List ℕ) → octets_parameter name (all_members p u no_members) ≡ Ok (Some octets) → octets_parameter name (all_members p u h) ≡ Ok (Some octets)
   unfolding octets_parameter
   octets_in_joint name octets is =
-      let text = steps (string_parameter name (all_members p u no_members)) octets_if_there (Some octets) is in
+      let text = steps (string_parameter name (all_members p u no_members)) (if_there parameter_octets) (Some octets) is in
       by_text text.0 text.1 text.2
     where
-      by_text : (text : Option (List ℕ)) → string_parameter name (all_members p u no_members) ≡ Ok text → octets_if_there text ≡ Ok (Some octets) → octets_parameter name (all_members p u h) ≡ Ok (Some octets)
+      by_text : (text : Option (List ℕ)) → string_parameter name (all_members p u no_members) ≡ Ok text → if_there parameter_octets text ≡ Ok (Some octets) → octets_parameter name (all_members p u h) ≡ Ok (Some octets)
       by_text None there h = cc h
       by_text (Some text) there h = rw (string_in_joint name text there) h
 
   salt_in_joint : (name octets : List ℕ) → salt_parameter name (all_members p u no_members) ≡ Ok (Some octets) → salt_parameter name (all_members p u h) ≡ Ok (Some octets)
   unfolding salt_parameter
   salt_in_joint name octets is =
-      let text = steps (string_parameter name (all_members p u no_members)) salt_if_there (Some octets) is in
+      let text = steps (string_parameter name (all_members p u no_members)) (if_there salt_octets) (Some octets) is in
       by_text text.0 text.1 text.2
     where
-      by_text : (text : Option (List ℕ)) → string_parameter name (all_members p u no_members) ≡ Ok text → salt_if_there text ≡ Ok (Some octets) → salt_parameter name (all_members p u h) ≡ Ok (Some octets)
+      by_text : (text : Option (List ℕ)) → string_parameter name (all_members p u no_members) ≡ Ok text → if_there salt_octets text ≡ Ok (Some octets) → salt_parameter name (all_members p u h) ≡ Ok (Some octets)
       by_text None there h = cc h
       by_text (Some text) there h = rw (string_in_joint name text there) h
 

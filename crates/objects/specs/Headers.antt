@@ -5,19 +5,15 @@ use Rattle.serde_json.specs.Data.{Data, Members, no_members, member, put}
 use Rattle.serde_json.specs.Find.{get, get_member, as_str, as_number, as_u64, as_object}
 use Rattle.octets.specs.declared.refusal.Refusal.{Refusal}
 use Rattle.octets.specs.declared.refusal.Refusal.TheVariants.{Form, Header}
-use Rattle.octets.specs.Outcomes.{◌>>=◌, needs}
+use Rattle.octets.specs.Outcomes.{◌>>=◌, needs, as_refusal, if_there}
 use Rattle.octets.specs.Base64url.{decoded}
 use Rattle.keys.specs.Json.{json_value}
 
 -- ---- a header in a JSON value (RFC 7515 section 7.2.1, RFC 7516 section 7.2.1)
 
-abbrev pub some_members : Option Members → Result Members Refusal
-some_members None = Err Form
-some_members (Some members) = Ok members
-
 abbrev pub members_if_there : Option Data → Result Members Refusal
 members_if_there None = Ok no_members
-members_if_there (Some value) = some_members (as_object value)
+members_if_there (Some value) = ok_or (as_object value) Form
 
 -- the members of a header, which is an object, or absent and then without members
 unfoldable pub header_at : List ℕ → Data → Result Members Refusal
@@ -25,15 +21,11 @@ header_at name value = members_if_there (get name value)
 
 -- ---- the protected header (RFC 7515 section 5.2, step 3, and RFC 7516 section 5.2, step 3)
 
-abbrev pub object_members : Option Members → Result Members Refusal
-object_members None = Err Header
-object_members (Some members) = Ok members
-
 -- the members of a JSON object, read from its text
 unfoldable pub members_of_json : List ℕ → Result Members Refusal
 members_of_json octets = do
   value ← json_value octets
-  object_members (as_object value)
+  ok_or (as_object value) Header
 
 -- the members of a protected header; one of no octets has no members
 unfoldable pub protected_members : List ℕ → Result Members Refusal
@@ -78,18 +70,13 @@ JointHeaderHasAllMembers = (protected unprotected per_recipient : Members) → a
 
 -- ---- parameters (docs/SPECIFICATION.md "Objects" 3)
 
-abbrev pub required : {X : Type 0} → Option X → Result (Option X) Refusal
-required None = Err Header
-required (Some x) = Ok (Some x)
-
 -- a parameter that is there must be read
-abbrev pub if_there : {X : Type 0} → (Data → Option X) → Option Data → Result (Option X) Refusal
-if_there read None = Ok None
-if_there read (Some value) = required (read value)
+abbrev pub parameter_if_there : {X : Type 0} → (Data → Option X) → Option Data → Result (Option X) Refusal
+parameter_if_there read = if_there (λ value. ok_or (read value) Header)
 
 -- `alg` and `enc` (RFC 7516 sections 4.1.1 and 4.1.2): strings
 unfoldable pub string_parameter : List ℕ → Members → Result (Option (List ℕ)) Refusal
-string_parameter name header = if_there as_str (get_member name header)
+string_parameter name header = parameter_if_there as_str (get_member name header)
 
 -- a string that must be there
 unfoldable pub string_there : List ℕ → Members → Result (List ℕ) Refusal
@@ -99,35 +86,28 @@ string_there name header = do
 
 -- `p2c` (RFC 7518 section 4.8.1.2): a whole number
 unfoldable pub number_parameter : List ℕ → Members → Result (Option ℕ) Refusal
-number_parameter name header = if_there (λ value. option_and_then as_u64 (as_number value)) (get_member name header)
+number_parameter name header = parameter_if_there (λ value. option_and_then as_u64 (as_number value)) (get_member name header)
 
 -- `p2s` (RFC 7518 section 4.8.1.1): the base64url text of at least 8 octets
-abbrev pub salt : Result (List ℕ) Refusal → Result (Option (List ℕ)) Refusal
-salt (Ok octets) = if nat_le 8 (length octets) then Ok (Some octets) else Err Header
-salt (Err refusal) = Err Header
-
-abbrev pub salt_if_there : Option (List ℕ) → Result (Option (List ℕ)) Refusal
-salt_if_there None = Ok None
-salt_if_there (Some text) = salt (decoded text)
+abbrev pub salt_octets : List ℕ → Result (List ℕ) Refusal
+salt_octets text = do
+  octets ← as_refusal Header (decoded text)
+  long ← needs (nat_le 8 (length octets)) Header
+  Ok octets
 
 unfoldable pub salt_parameter : List ℕ → Members → Result (Option (List ℕ)) Refusal
 salt_parameter name header = do
   text ← string_parameter name header
-  salt_if_there text
+  if_there salt_octets text
 
 -- `iv` and `tag` (RFC 7518 sections 4.7.1.1 and 4.7.1.2): base64url texts
-abbrev pub parameter_octets : Result (List ℕ) Refusal → Result (Option (List ℕ)) Refusal
-parameter_octets (Ok octets) = Ok (Some octets)
-parameter_octets (Err refusal) = Err Header
-
-abbrev pub octets_if_there : Option (List ℕ) → Result (Option (List ℕ)) Refusal
-octets_if_there None = Ok None
-octets_if_there (Some text) = parameter_octets (decoded text)
+abbrev pub parameter_octets : List ℕ → Result (List ℕ) Refusal
+parameter_octets text = as_refusal Header (decoded text)
 
 unfoldable pub octets_parameter : List ℕ → Members → Result (Option (List ℕ)) Refusal
 octets_parameter name header = do
   text ← string_parameter name header
-  octets_if_there text
+  if_there parameter_octets text
 
 -- ---- members that are refused
 

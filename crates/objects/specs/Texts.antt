@@ -51,13 +51,11 @@ is_json_form text = is_brace (find (λ c. not (is_json_space c)) text)
 abbrev pub is_dot : ℕ → Bool
 is_dot c = c == byte "."
 
-abbrev pub parts_at : List ℕ → Option ℕ → Result (List ℕ × List ℕ) Refusal
-parts_at text None = Err Form
-parts_at text (Some i) = Ok (take i text, drop (i + 1) text)
-
 -- the texts before and after the first dot
 unfoldable pub split_at_dot : List ℕ → Result (List ℕ × List ℕ) Refusal
-split_at_dot text = parts_at text (position is_dot text)
+split_at_dot text = do
+  i ← ok_or (position is_dot text) Form
+  Ok (take i text, drop (i + 1) text)
 
 -- exactly three parts between dots
 unfoldable pub three_parts : List ℕ → Result (List ℕ × List ℕ × List ℕ) Refusal

@@ -5,7 +5,7 @@ ghost use Rattle.octets.specs.Base64url.{decoded};
 ghost use Rattle.octets.specs.Code.Results.{Agrees, AgreesUnlessMemory};
 ghost use Rattle.serde_json.specs.Find.{get_member};
 ghost use Rattle.serde_json.specs.View.{view};
-ghost use Rattle.objects.specs.Headers.{overlap as overlap_of, joint_header, string_parameter, number_parameter, salt, salt_parameter, parameter_octets, octets_parameter};
+ghost use Rattle.objects.specs.Headers.{overlap as overlap_of, joint_header, string_parameter, number_parameter, salt_octets, salt_parameter, parameter_octets, octets_parameter};
 ghost use Rattle.objects.specs.Code.Views.{header_view, part_view};
 
 pub(crate) mod depth;
@@ -178,7 +178,7 @@ pub(crate) fn parts_overlap(
 
 /// The octets of the text of a salt, at least 8.
 fn read_salt(alloc: Global, text: &[u8]) -> Result<Vec<u8>, Refusal>
-    ensures { AgreesUnlessMemory (λ octets. Some octets.items) result (salt (decoded text.now)) }
+    ensures { AgreesUnlessMemory (λ octets. octets.items) result (salt_octets text.now) }
 {
     let octets = read_octets(alloc, text)?;
     needs(octets.len() >= 8, Refusal::Header)?;
@@ -187,7 +187,7 @@ fn read_salt(alloc: Global, text: &[u8]) -> Result<Vec<u8>, Refusal>
 
 /// The octets of the text of a parameter.
 fn read_octets(alloc: Global, text: &[u8]) -> Result<Vec<u8>, Refusal>
-    ensures { AgreesUnlessMemory (λ octets. Some octets.items) result (parameter_octets (decoded text.now)) }
+    ensures { AgreesUnlessMemory (λ octets. octets.items) result (parameter_octets text.now) }
 {
     match b64_decode(alloc, text) {
         Err(Refusal::Base64) => Err(Refusal::Header),

@@ -207,7 +207,8 @@ fn have_no_crit_or_zip(
     unprotected: &Map<String, Value>,
     recipients: &[RecipientMembers],
 ) -> bool
-    ensures { result ≡ have_no_crit_or_zip (members_view protected.now.entries) (members_view unprotected.now.entries) (map recipient_members_view recipients.now) }
+    ensures { result ≡ have_no_crit_or_zip (members_view protected.now.entries) (members_view unprotected.now.entries)
+        (map recipient_members_view recipients.now) }
 {
     has_no_crit_or_zip(protected)
         && has_no_crit_or_zip(unprotected)

@@ -159,7 +159,8 @@ pub(crate) fn signed_object<'t>(
     signatures: Vec<DecodedSignature>,
 ) -> Result<Jws<'t>, Refusal>
     requires few { length signatures.items ≤ limits.recipients }
-    ensures exact { AgreesUnlessMemory jws_view result (signed_object_of limits.management (payload_view payload.entry) (map decoded_signature_view signatures.items)) }
+    ensures exact { AgreesUnlessMemory jws_view result
+        (signed_object_of limits.management (payload_view payload.entry) (map decoded_signature_view signatures.items)) }
     ensures form { IfOk result (λ jws. holds_text jws ≡ payload_is_text payload.entry) }
 {
     let signatures = read_signatures(alloc, signatures)?;

@@ -1,6 +1,6 @@
 -- The lemmas of these proofs that the crates above cite, and those that docs/LIBRARY.md names for callers.
 pub use Rattle.octets.proofs.Meanings.{meaning_of_text, decodes_exactly}
-pub use Rattle.octets.proofs.Spared.{not_told, stands_first, not_begun}
+pub use Rattle.octets.proofs.Spared.{not_told, stands_first}
 pub use Rattle.octets.proofs.Unread.{encoding_fixes_nothing, decoding_fixes_nothing, unread_untouched}
 pub use Rattle.octets.proofs.Groups.{base64url_whole-append, base64url_whole_part, base64url-nil}
 pub use Rattle.octets.proofs.Characters.{has_url_characters, spells_six_bits}

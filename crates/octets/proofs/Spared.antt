@@ -15,7 +15,3 @@ not_told e c told spared is = elim (told is) [
 -- The content was written whole, and the text was not begun.
 pub stands_first : {E F W : Type 0} (P : Type 0) (r : Result (Unit {0}) Refusal) → E → F → W → OnErr r (P ⊎ (E × F × W))
 stands_first P r ended finished whole = at_refusal r (inr (ended, finished, whole))
-
--- The text was not begun, because the content was not finished.
-pub not_begun : {D : Type 0} (endings : D → ℕ) (Q : Type 0) (r : Result (Unit {0}) Refusal) (out old new : D) → endings new ≡ endings old → OnErr r (((out ≡ out) × (endings new ≡ endings old)) ⊎ Q)
-not_begun endings Q r out old new same = at_refusal {P = ((out ≡ out) × (endings new ≡ endings old)) ⊎ Q} r (inl (refl, same))

@@ -7,6 +7,8 @@ pub mod Streams
 pub mod Views
 -- a device that may be lent
 pub mod Lent
+-- calls that write while they read a content
+pub mod Streaming
 -- devices of tests that fail
 pub mod Failing
 -- what such devices do

@@ -49,3 +49,24 @@ pub record IsPossibleInput (seen : Observed) (whole : List ℕ) : Type 0 where
   pub continues : whole ≡ seen.octets ++ rest
   pub ends : IsTrue seen.ended → rest ≡ []
   pub octets : IsOctets rest
+
+-- ---- what contracts see of a device (docs/SPECIFICATION.md "Devices")
+
+-- the ghost members of an input that results speak of
+pub record InputMembers (D : Type 0) : Type 0 where
+  pub consumed : D → List ℕ
+  pub is_at_end : D → Bool
+  pub failures : D → ℕ
+
+-- the ghost members of an output
+pub record OutputMembers (D : Type 0) : Type 0 where
+  pub written : D → List ℕ
+  pub is_finished : D → Bool
+  pub endings : D → ℕ
+  pub failures : D → ℕ
+
+abbrev pub input_members : {D : Type 0} → (D → List ℕ) → (D → Bool) → (D → ℕ) → InputMembers D
+input_members consumed is_at_end failures = record { consumed = consumed; is_at_end = is_at_end; failures = failures }
+
+abbrev pub output_members : {D : Type 0} → (D → List ℕ) → (D → Bool) → (D → ℕ) → (D → ℕ) → OutputMembers D
+output_members written is_finished endings failures = record { written = written; is_finished = is_finished; endings = endings; failures = failures }

@@ -1,5 +1,5 @@
 -- The result of a call, compared with the answer of the definitions, which speak of whole lists of octets.
-use Rattle.std.specs.Prelude.{◌≡◌, Bool, true, false, if◌then◌else◌, Result, Ok, Err}
+use Rattle.std.specs.Prelude.{◌≡◌, Bool, true, false, if◌then◌else◌, Option, Some, None, Result, Ok, Err}
 use Rattle.octets.specs.declared.refusal.Refusal.{Refusal}
 use Rattle.octets.specs.declared.refusal.Refusal.TheVariants.{Memory, Read, Write}
 
@@ -14,6 +14,16 @@ abbrev pub ◌>>=◌ : {A B : Type 0} → Result A Refusal → (A → Result B R
 -- a step that refuses unless the test holds
 abbrev pub needs : Bool → Refusal → Result (Unit {0}) Refusal
 needs test refusal = if test then Ok tt else Err refusal
+
+-- a step whose refusals are all this one
+abbrev pub as_refusal : {A : Type 0} → Refusal → Result A Refusal → Result A Refusal
+as_refusal refusal (Ok x) = Ok x
+as_refusal refusal (Err r) = Err refusal
+
+-- what is read of a value, if there is one
+abbrev pub if_there : {A B : Type 0} → (A → Result B Refusal) → Option A → Result (Option B) Refusal
+if_there read None = Ok None
+if_there read (Some x) = read x >>= λ y. Ok (Some y)
 
 -- the cause is memory or a device, and not the text of an input
 abbrev pub is_external : Refusal → Bool

@@ -165,7 +165,8 @@ impl FailingOutput {
         failing: Failing,
     ) -> Result<FailingOutput, Refusal>
         requires { 0 < step }
-        ensures empty { IfOk result (λ out. (output_written out ≡ []) × (output_is_finished out ≡ false) × (output_endings out ≡ 0) × (output_failures out ≡ 0)) }
+        ensures empty { IfOk result (λ out. (output_written out ≡ []) × (output_is_finished out ≡ false) × (output_endings out ≡ 0)
+            × (output_failures out ≡ 0)) }
         ensures course { IfOk result (λ out. (output_course out ≡ uncalled failing) × (output_room out ≡ room) × (output_step out ≡ step)) }
         ensures memory { IfErr result (λ e. e ≡ Refusal.Memory) }
     {

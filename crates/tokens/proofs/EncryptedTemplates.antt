@@ -7,19 +7,19 @@ use Rattle.serde_json.specs.Find.{get, get_member, as_str}
 use Rattle.octets.specs.declared.refusal.Refusal.{Refusal}
 use Rattle.octets.specs.declared.refusal.Refusal.TheVariants.{Form, Header, Unsupported}
 use Rattle.octets.specs.Octets.{IsOctets}
-use Rattle.octets.specs.Outcomes.{◌>>=◌, needs}
+use Rattle.octets.specs.Outcomes.{◌>>=◌, needs, if_there}
 use Rattle.octets.specs.Base64url.{decoded}
 use Rattle.octets.proofs.Lemmas.{IsOctets-nil, octets_of_meaning, steps, passed, same_answer}
 use Rattle.keys.specs.declared.algorithm.ContentEncryptionAlg.{ContentEncryptionAlg}
 use Rattle.keys.specs.declared.algorithm.KeyManagementAlg.{KeyManagementAlg}
-use Rattle.keys.specs.Algorithms.{management_name, encryption_name, management_alg_of, encryption_alg_of}
+use Rattle.keys.specs.Algorithms.{management_name, encryption_name, management_alg_of, encryption_alg_of, supported}
 use Rattle.keys.specs.Json.{is_object, has_only}
 use Rattle.keys.specs.JsonTexts.{IsJson, AreJsonMembers}
 use Rattle.keys.proofs.Lemmas.{octets_of_utf8, keep_json}
-use Rattle.objects.specs.Headers.{header_at, are_disjoint, all_members, joint_header, if_there, string_parameter, number_parameter}
+use Rattle.objects.specs.Headers.{header_at, are_disjoint, all_members, joint_header, parameter_if_there, string_parameter, number_parameter}
 use Rattle.objects.specs.Jwe.{has_no_crit_or_zip}
 use Rattle.objects.specs.Texts.{text_if_there, text_at}
-use Rattle.tokens.specs.EncryptionTemplate.{TemplateTexts, template_texts, AlgorithmsAsked, supported_management, management_asked, supported_encryption, encryption_asked, leaves_parameters, algorithms_asked, EncryptionTemplate, encryption_template}
+use Rattle.tokens.specs.EncryptionTemplate.{TemplateTexts, template_texts, AlgorithmsAsked, leaves_parameters, algorithms_asked, EncryptionTemplate, encryption_template}
 use Rattle.tokens.proofs.AlgorithmCases.{management_name_is, encryption_name_is}
 use Rattle.tokens.proofs.HeaderTexts.{members_json}
 use Rattle.tokens.proofs.JointHeaders.{not_there, plain_parts}
@@ -33,32 +33,22 @@ pub record Asks (p u : Members) (asked : AlgorithmsAsked) : Type 0 where
   pub disjoint : are_disjoint p u no_members ≡ true
   pub plain : has_no_crit_or_zip p ≡ true
   pub unprotected_plain : has_no_crit_or_zip u ≡ true
-  pub management : if_there as_str (get_member (codes "alg") (all_members p u no_members)) ≡ Ok (option_map management_name asked.management)
-  pub encryption : if_there as_str (get_member (codes "enc") (all_members p u no_members)) ≡ Ok (option_map encryption_name asked.encryption)
-  pub count : if_there as_count (get_member (codes "p2c") (all_members p u no_members)) ≡ asked.p2c
+  pub management : parameter_if_there as_str (get_member (codes "alg") (all_members p u no_members)) ≡ Ok (option_map management_name asked.management)
+  pub encryption : parameter_if_there as_str (get_member (codes "enc") (all_members p u no_members)) ≡ Ok (option_map encryption_name asked.encryption)
+  pub count : parameter_if_there as_count (get_member (codes "p2c") (all_members p u no_members)) ≡ asked.p2c
   pub no_salt : get_member (codes "p2s") (all_members p u no_members) ≡ None
   pub no_iv : get_member (codes "iv") (all_members p u no_members) ≡ None
   pub no_tag : get_member (codes "tag") (all_members p u no_members) ≡ None
 
--- If a name is supported, it is the name of the algorithm that is asked for.
-asked_by : {A : Type 0} (of : List ℕ → Option A) (name_of : A → List ℕ) (supported : Option A → Result (Option A) Refusal) (name : List ℕ) (asked : Option A)
-    → ((a : A) → of name ≡ Some a → name ≡ name_of a) → supported None ≡ Err Unsupported → ((a : A) → supported (Some a) ≡ Ok (Some a)) → supported (of name) ≡ Ok asked
-    → Some name ≡ option_map name_of asked
-asked_by of name_of supported name asked names none some h = by_found (of name) refl h
+-- If an algorithm is asked for, the header has its name.
+asked_by : {A : Type 0} (of : List ℕ → Option A) (name_of : A → List ℕ) (name : Option (List ℕ)) (asked : Option A)
+    → ((text : List ℕ) (a : A) → of text ≡ Some a → text ≡ name_of a) → if_there (supported of) name ≡ Ok asked → name ≡ option_map name_of asked
+asked_by of name_of None asked names h = ap (option_map name_of) (same_answer None asked h)
+asked_by of name_of (Some text) asked names h = by_found (of text) refl h
   where
-    by_found : (found : Option _) → of name ≡ found → supported found ≡ Ok asked → Some name ≡ option_map name_of asked
-    by_found None e h = cc (none, h)
-    by_found (Some a) e h = ap Some (names a e) ∙ ap (option_map name_of) (same_answer (Some a) asked (sym (some a) ∙ h))
-
--- If a key management algorithm is asked for, the header has its name.
-management_is : (name : Option (List ℕ)) (asked : Option KeyManagementAlg) → management_asked name ≡ Ok asked → name ≡ option_map management_name asked
-management_is None asked h = ap (option_map management_name) (same_answer None asked h)
-management_is (Some name) asked h = asked_by management_alg_of management_name supported_management name asked (management_name_is name) refl (λ a. refl) h
-
--- If a content encryption is asked for, the header has its name.
-encryption_is : (name : Option (List ℕ)) (asked : Option ContentEncryptionAlg) → encryption_asked name ≡ Ok asked → name ≡ option_map encryption_name asked
-encryption_is None asked h = ap (option_map encryption_name) (same_answer None asked h)
-encryption_is (Some name) asked h = asked_by encryption_alg_of encryption_name supported_encryption name asked (encryption_name_is name) refl (λ a. refl) h
+    by_found : (found : Option _) → of text ≡ found → (ok_or found Unsupported >>= λ a. Ok (Some a)) ≡ Ok asked → Some text ≡ option_map name_of asked
+    by_found None e h = cc h
+    by_found (Some a) e h = ap Some (names text a e) ∙ ap (option_map name_of) (same_answer (Some a) asked h)
 
 -- If a joint header is made, its parts have no name in common.
 joined : {B : Type 0} (p u own : Members) (f : Members → Result B Refusal) (y : B) → (joint_header p u own >>= f) ≡ Ok y → (are_disjoint p u own ≡ true) × (f (all_members p u own) ≡ Ok y)
@@ -90,8 +80,8 @@ asks p u asked h =
     let enc = steps (string_parameter (codes "enc") header) _ asked alg.2 in
     let left = steps (needs (leaves_parameters header) Header) _ asked enc.2 in
     let plain = steps (needs (has_no_crit_or_zip header) Unsupported) _ asked left.2 in
-    let management = steps (management_asked alg.0) _ asked plain.2 in
-    let encryption = steps (encryption_asked enc.0) _ asked management.2 in
+    let management = steps (if_there (supported management_alg_of) alg.0) _ asked plain.2 in
+    let encryption = steps (if_there (supported encryption_alg_of) enc.0) _ asked management.2 in
     let parts = plain_parts p u (passed _ Unsupported plain.0 plain.1) in
     let none = none_there header (passed _ Header left.0 left.1) in
     subst (Asks p u) (same_answer _ asked encryption.2)
@@ -99,8 +89,8 @@ asks p u asked h =
       disjoint = joint.0;
       plain = parts.0;
       unprotected_plain = parts.1;
-      management = alg.1 ∙ ap Ok (management_is alg.0 management.0 management.1);
-      encryption = enc.1 ∙ ap Ok (encryption_is enc.0 encryption.0 encryption.1);
+      management = alg.1 ∙ ap Ok (asked_by management_alg_of management_name alg.0 management.0 management_name_is management.1);
+      encryption = enc.1 ∙ ap Ok (asked_by encryption_alg_of encryption_name enc.0 encryption.0 encryption_name_is encryption.1);
       count = refl;
       no_salt = none.0;
       no_iv = none.1;

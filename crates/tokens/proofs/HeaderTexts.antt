@@ -1,16 +1,18 @@
 -- The texts of headers are octets, and read back as their members.
 use Rattle.std.proofs.Common.{◌≡◌, ◌≤◌, ℕ, nat_le, Bool, true, false, cond, if◌then◌else◌, List, length, Option, Some, None, Ok, refl, subst, arith}
 use Rattle.std.proofs.lemmas.Bool.{leb-true, le-leb}
+use Rattle.std.specs.Option.{ok_or}
 use Rattle.serde_json.specs.Data.{Data, Members, no_members, member, object, depth}
 use Rattle.serde_json.specs.Find.{get, as_object}
 use Rattle.serde_json.specs.Written.{compact_text}
+use Rattle.octets.specs.declared.refusal.Refusal.TheVariants.{Form}
 use Rattle.octets.specs.Octets.{IsOctets}
 use Rattle.octets.proofs.Lemmas.{IsOctets-nil, same_answer}
 use Rattle.keys.specs.Json.{json_value}
 use Rattle.keys.specs.JsonTexts.{IsJson, AreJsonMembers}
 use Rattle.keys.specs.Limits.{Limits}
 use Rattle.keys.proofs.Lemmas.{octets_of_utf8, text_is_utf8, reads_back, keep_json}
-use Rattle.objects.specs.Headers.{header_at, members_if_there, some_members, protected_members, members_of_json}
+use Rattle.objects.specs.Headers.{header_at, members_if_there, protected_members, members_of_json}
 use Rattle.objects.specs.Texts.{header_depth, listed_header_depth, depth_of_each}
 use Rattle.tokens.specs.Template.{header_text, is_shallow}
 
@@ -21,7 +23,7 @@ pub members_json : (d : Data) (name : List ℕ) (m : Members) → IsJson d → h
 unfolding header_at
 members_json d name m json h = by_found (get name d) refl h
   where
-    by_members : (v : Data) (o : Option Members) → IsJson v → as_object v ≡ o → some_members o ≡ Ok m → AreJsonMembers m
+    by_members : (v : Data) (o : Option Members) → IsJson v → as_object v ≡ o → ok_or o Form ≡ Ok m → AreJsonMembers m
     by_members v None j e is = cc is
     by_members v (Some ms) j e is = subst AreJsonMembers (same_answer ms m is) (keep_json.members_of v ms j e).0
 

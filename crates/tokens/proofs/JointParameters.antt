@@ -3,7 +3,9 @@
 use Rattle.std.proofs.Common.{◌≡◌, ℕ, ◌≤◌, ◌<◌, ◌^◌, Bool, true, false, nat_le, List, [], ◌∷◌, length, codes, Option, Some, None, option_and_then, option_map, is_some, Ok, IsUtf8, refl, ◌∙◌, ap, arith}
 use Rattle.std.proofs.lemmas.Bool.{le-leb}
 use Rattle.std.specs.List.{list_all}
-use Rattle.std.specs.Option.{option_or}
+use Rattle.std.specs.Option.{option_or, ok_or}
+use Rattle.octets.specs.Outcomes.{◌>>=◌}
+use Rattle.octets.specs.declared.refusal.Refusal.TheVariants.{Header}
 use Rattle.serde_json.specs.Data.{Data, unsigned, number, string, Members, put}
 use Rattle.serde_json.specs.Find.{get_member, as_str, as_number, as_u64}
 use Rattle.octets.specs.Octets.{IsOctets}
@@ -15,7 +17,7 @@ use Rattle.keys.specs.declared.algorithm.KeyManagementMode.{KeyManagementMode}
 use Rattle.keys.specs.declared.algorithm.KeyManagementMode.TheVariants as mode
 use Rattle.keys.specs.Algorithms.{management_name, encryption_name, mode_of, is_password, is_password_based, management_algs}
 use Rattle.keys.proofs.Lemmas.{url_texts_are_json}
-use Rattle.objects.specs.Headers.{all_members, joint_header, required, if_there, string_parameter, string_there, number_parameter, salt_parameter, octets_parameter}
+use Rattle.objects.specs.Headers.{all_members, joint_header, parameter_if_there, string_parameter, string_there, number_parameter, salt_parameter, octets_parameter}
 use Rattle.objects.specs.Jwe.{Recipient, recipient_by, recipient_of}
 use Rattle.objects.specs.KeyManagement.{management_in, KeyManagement, Unknown, Direct, KeyWrap, Password, GcmKeyWrap, password_management, gcm_management, management_by, key_management}
 use Rattle.objects.proofs.Lemmas.{Entries, put_if_there, first_there, IsJsonIfThere, AreJsonEntries, name_is_json}
@@ -44,7 +46,7 @@ json_unless false value json = json refl
 
 -- a header has a value under a name, or nothing if no value is given
 abbrev pub IsGiven : {X : Type 0} → (Data → Option X) → Bool → Option Data → X → Type 0
-IsGiven read true found x = if_there read found ≡ Ok (Some x)
+IsGiven read true found x = parameter_if_there read found ≡ Ok (Some x)
 IsGiven read false found x = found ≡ None
 
 -- If a value is not given, it is not there.
@@ -53,23 +55,23 @@ not_given read true found x is h = cc h
 not_given read false found x is h = is
 
 -- If no value is read, no value is there.
-pub nothing_there : {X : Type 0} (read : Data → Option X) (found : Option Data) → if_there read found ≡ Ok None → found ≡ None
+pub nothing_there : {X : Type 0} (read : Data → Option X) (found : Option Data) → parameter_if_there read found ≡ Ok None → found ≡ None
 nothing_there read None h = refl
 nothing_there read (Some d) h = by_value (read d) h
   where
-    by_value : {Y : Type 0} (o : Option Y) → required o ≡ Ok None → Some d ≡ None
+    by_value : {Y : Type 0} (o : Option Y) → (ok_or o Header >>= λ y. Ok (Some y)) ≡ Ok None → Some d ≡ None
     by_value None h = cc h
     by_value (Some y) h = cc h
 
 -- A value that may be asked for is given if it is asked for, provided that it is the chosen one.
-pub given_if_asked : {A X : Type 0} (read : Data → Option X) (name_of : A → X) (found : Option Data) (asked : Option A) (chosen : A) → if_there read found ≡ Ok (option_map name_of asked)
+pub given_if_asked : {A X : Type 0} (read : Data → Option X) (name_of : A → X) (found : Option Data) (asked : Option A) (chosen : A) → parameter_if_there read found ≡ Ok (option_map name_of asked)
     → ((a : A) → asked ≡ Some a → a ≡ chosen) → IsGiven read (is_some asked) found (name_of chosen)
 given_if_asked read name_of found None chosen is same = nothing_there read found is
 given_if_asked read name_of found (Some a) chosen is same = is ∙ ap (λ a. Ok (Some (name_of a))) (same a refl)
 
 -- The value that is given or inserted is the value that is read.
 pub there_with : {X : Type 0} (read : Data → Option X) (given : Bool) (value : Data) (x : X) (found : Option Data) → read value ≡ Some x → IsGiven read given found x
-    → if_there read (option_or (option_or (unless given value) None) found) ≡ Ok (Some x)
+    → parameter_if_there read (option_or (option_or (unless given value) None) found) ≡ Ok (Some x)
 there_with read true value x found reads is = is
 there_with read false value x found reads is = rw reads refl
 
@@ -270,9 +272,9 @@ HasManagement Unknown header = Unit {0}
 HasManagement Direct header = Unit {0}
 HasManagement KeyWrap header = Unit {0}
 HasManagement (Password p2s p2c) header =
-    (if_there as_str (get_member (codes "p2s") header) ≡ Ok (Some (base64url p2s))) × (if_there as_count (get_member (codes "p2c") header) ≡ Ok (Some p2c))
+    (parameter_if_there as_str (get_member (codes "p2s") header) ≡ Ok (Some (base64url p2s))) × (parameter_if_there as_count (get_member (codes "p2c") header) ≡ Ok (Some p2c))
 HasManagement (GcmKeyWrap iv tag) header =
-    (if_there as_str (get_member (codes "iv") header) ≡ Ok (Some (base64url iv))) × (if_there as_str (get_member (codes "tag") header) ≡ Ok (Some (base64url tag)))
+    (parameter_if_there as_str (get_member (codes "iv") header) ≡ Ok (Some (base64url iv))) × (parameter_if_there as_str (get_member (codes "tag") header) ≡ Ok (Some (base64url tag)))
 
 -- The parameters of a password are read from a header that has them.
 read_password : (salt : List ℕ) (p2c : ℕ) (header : Members) → HasManagement (Password salt p2c) header → AreParameters (Password salt p2c) → password_management header ≡ Ok (Password salt p2c)
@@ -320,10 +322,10 @@ management_there named counted alg Unknown header before members is = tt
 management_there named counted alg Direct header before members is = tt
 management_there named counted alg KeyWrap header before members is = tt
 management_there named counted alg (Password p2s p2c) header before members is = (
-  ap (if_there as_str) (members (codes "p2s")),
-  ap (if_there as_count) (members (codes "p2c")) ∙ there_with as_count counted (number (unsigned p2c)) p2c (get_member (codes "p2c") before) refl is.1,
+  ap (parameter_if_there as_str) (members (codes "p2s")),
+  ap (parameter_if_there as_count) (members (codes "p2c")) ∙ there_with as_count counted (number (unsigned p2c)) p2c (get_member (codes "p2c") before) refl is.1,
 )
-management_there named counted alg (GcmKeyWrap iv tag) header before members is = (ap (if_there as_str) (members (codes "iv")), ap (if_there as_str) (members (codes "tag")))
+management_there named counted alg (GcmKeyWrap iv tag) header before members is = (ap (parameter_if_there as_str) (members (codes "iv")), ap (parameter_if_there as_str) (members (codes "tag")))
 
 -- The parameters have the name of the algorithm, unless it is given.
 name_found : (named counted : Bool) (alg : List ℕ) (m : KeyManagement) → first_there (codes "alg") (parameters named counted alg m) ≡ option_or (unless named (string alg)) None
@@ -334,25 +336,25 @@ name_found named counted alg (Password p2s p2c) = refl
 name_found named counted alg (GcmKeyWrap iv tag) = refl
 
 name_there : (named counted : Bool) (alg : List ℕ) (m : KeyManagement) (header before : Members) → HasEntries header (parameters named counted alg m) before
-    → IsGiven as_str named (get_member (codes "alg") before) alg → if_there as_str (get_member (codes "alg") header) ≡ Ok (Some alg)
+    → IsGiven as_str named (get_member (codes "alg") before) alg → parameter_if_there as_str (get_member (codes "alg") header) ≡ Ok (Some alg)
 name_there named counted alg m header before members is =
-    ap (if_there as_str) (members (codes "alg") ∙ ap (λ found. option_or found (get_member (codes "alg") before)) (name_found named counted alg m))
+    ap (parameter_if_there as_str) (members (codes "alg") ∙ ap (λ found. option_or found (get_member (codes "alg") before)) (name_found named counted alg m))
     ∙ there_with as_str named (string alg) alg (get_member (codes "alg") before) refl is
 
 -- The recipient is read if the joint header has the parameters of the delivery.
 pub recipient_is_read : (given : Given) (alg : KeyManagementAlg) (drawn : List ℕ) (p2c : ℕ) (tag key : List ℕ) (enc : ContentEncryptionAlg) (p u own before : Members)
     → (let d : Delivery = record { alg = alg; management = management_with alg drawn p2c tag; encrypted_key = key } in
     IsJoint p u own (parameters_of given d) before → Awaits given.alg given.p2c (is_password_based alg) (management_name alg) p2c before
-    → if_there as_str (get_member (codes "enc") before) ≡ Ok (Some (encryption_name enc)) → AreParameters d.management
+    → parameter_if_there as_str (get_member (codes "enc") before) ≡ Ok (Some (encryption_name enc)) → AreParameters d.management
     → recipient_of management_algs p u (record { header = own; encrypted_key = key }) ≡ Ok (recipient own d enc))
 unfolding recipient_of joint_header recipient_by string_there string_parameter
 recipient_is_read given alg drawn p2c tag key enc p u own before joint awaits enc_there is =
     let m : KeyManagement = management_with alg drawn p2c tag in
     let header : Members = all_members p u own in
-    let alg_read : if_there as_str (get_member (codes "alg") header) ≡ Ok (Some (management_name alg)) =
+    let alg_read : parameter_if_there as_str (get_member (codes "alg") header) ≡ Ok (Some (management_name alg)) =
     name_there given.alg given.p2c (management_name alg) m header before joint.members awaits.alg_there in
-    let enc_read : if_there as_str (get_member (codes "enc") header) ≡ Ok (Some (encryption_name enc)) =
-    ap (if_there as_str) (joint.members (codes "enc") ∙ ap (λ found. option_or found (get_member (codes "enc") before)) (no_enc given.alg given.p2c (management_name alg) m)) ∙ enc_there in
+    let enc_read : parameter_if_there as_str (get_member (codes "enc") header) ≡ Ok (Some (encryption_name enc)) =
+    ap (parameter_if_there as_str) (joint.members (codes "enc") ∙ ap (λ found. option_or found (get_member (codes "enc") before)) (no_enc given.alg given.p2c (management_name alg) m)) ∙ enc_there in
     let read : key_management management_algs (management_name alg) header ≡ Ok m =
     rw management_named (read_management alg drawn p2c tag header
     (management_there given.alg given.p2c (management_name alg) m header before joint.members (awaits_management given.alg given.p2c alg drawn p2c tag before awaits)) is) in

@@ -40,5 +40,6 @@ pub mod EncryptingGrowth
 pub mod EncryptionFrames
 pub mod StandingCiphertexts
 pub mod MoreAlgorithms
+pub mod Streamed
 pub mod Lemmas
 pub mod SaltedKeys

@@ -18,7 +18,7 @@ use Rattle.keys.specs.Json.{json_value}
 use Rattle.keys.specs.Keys.{OctetKey, allows, fits}
 use Rattle.keys.specs.Limits.{Limits}
 use Rattle.keys.proofs.Lemmas.{reads_json}
-use Rattle.objects.specs.Headers.{are_disjoint, all_members, if_there}
+use Rattle.objects.specs.Headers.{are_disjoint, all_members, parameter_if_there}
 use Rattle.objects.specs.Texts.{each}
 use Rattle.objects.proofs.Lemmas.{all_passed, all_then, all_both, each_keeps, Entries}
 use Rattle.octets.proofs.Lemmas.{steps, passed, same_answer}
@@ -53,7 +53,7 @@ pub record Settles (keys : List OctetKey) (e : EncryptionPlan) : Type 0 where
   pub some : 1 ≤ length e.recipient_keys
   pub together : direct_key_is_alone e.recipient_keys ≡ true
   pub receive : AllByRecursion (Receives e) e.recipient_keys
-  pub enc : if_there as_str (get_member (codes "enc") (joint_of e)) ≡ Ok (Some (encryption_name e.encryption))
+  pub enc : parameter_if_there as_str (get_member (codes "enc") (joint_of e)) ≡ Ok (Some (encryption_name e.encryption))
   pub disjoint : are_disjoint e.protected e.unprotected no_members ≡ true
   pub protected : IsHeader e.protected
   pub unprotected : IsHeader e.unprotected
@@ -152,7 +152,7 @@ module _ (limits : Limits) (sound : AreSound limits) where
   each_few recipient_keys (suc n) p2c h some = all_then _ _ (λ r _ password. omega (arith, (within n p2c h).1, sound.read)) recipient_keys some
 
   -- If there are passwords, the header has the number of iterations or none.
-  counted : (n : ℕ) (asked : Result (Option ℕ) Refusal) (p2c : ℕ) (header : Members) → if_there as_count (get_member (codes "p2c") header) ≡ asked → chosen_p2c limits n asked ≡ Ok p2c
+  counted : (n : ℕ) (asked : Result (Option ℕ) Refusal) (p2c : ℕ) (header : Members) → parameter_if_there as_count (get_member (codes "p2c") header) ≡ asked → chosen_p2c limits n asked ≡ Ok p2c
       → p2c_may_be_written limits n p2c ≡ true → 1 ≤ n → Counted (is_given asked) p2c header
   counted zero asked p2c header is chosen written some = absurd (omega arith)
   counted (suc n) (Err refusal) p2c header is chosen written some = cc chosen
@@ -243,7 +243,7 @@ module _ (limits : Limits) (sound : AreSound limits) where
         some = kept.0;
         together = by.together;
         receive = all_both (receives e) rs (all_passed (may_encrypt enc) rs by.fit) awaits_each;
-        enc = ap (if_there as_str) (joint.members (codes "enc")) ∙ there_with as_str given value (encryption_name enc) (get_member (codes "enc") header) refl enc_there;
+        enc = ap (parameter_if_there as_str) (joint.members (codes "enc")) ∙ there_with as_str given value (encryption_name enc) (get_member (codes "enc") header) refl enc_there;
         disjoint = joint.disjoint;
         protected = header_with_enc given enc t.protected (record { json = is.protected; shallow = stands limits t.protected sound.depth both.0; plain = is.asks.plain });
         unprotected = record { json = is.unprotected; shallow = stands limits t.unprotected sound.depth both.1; plain = is.asks.unprotected_plain };

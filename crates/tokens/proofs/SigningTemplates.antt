@@ -2,23 +2,23 @@
 use Rattle.std.proofs.Common.{◌≡◌, ℕ, ◌||◌, true, false, List, [], ◌∷◌, length, codes, if◌then◌else◌, Option, Some, None, is_some, is_none, Ok, Ordering, Less, Equal, Greater, nat_cmp, refl, sym, ◌∙◌, ap, subst, arith}
 use Rattle.std.proofs.lemmas.Bool.{or_from, or_parts, not-true}
 use Rattle.std.specs.Cmp.Lexicographic.{slice_cmp}
-use Rattle.std.specs.Option.{option_or}
+use Rattle.std.specs.Option.{option_or, ok_or}
 use Rattle.std.specs.Ordering.{match_ordering}
 use Rattle.serde_json.specs.Data.{Data, Members, no_members, member, string, put}
 use Rattle.serde_json.specs.Find.{get_member, as_str}
 use Rattle.serde_json.proofs.Views.{get_member-put, get_member-put_other}
 use Rattle.octets.specs.declared.refusal.Refusal.TheVariants.{Form, Header, Unsupported}
-use Rattle.octets.specs.Outcomes.{needs}
+use Rattle.octets.specs.Outcomes.{◌>>=◌, needs, if_there}
 use Rattle.keys.specs.declared.algorithm.SignatureAlg.{SignatureAlg}
-use Rattle.keys.specs.Algorithms.{signature_name, signature_alg_of}
+use Rattle.keys.specs.Algorithms.{signature_name, signature_alg_of, supported}
 use Rattle.keys.specs.Json.{is_object, has_only}
 use Rattle.keys.specs.JsonTexts.{IsJson, AreJsonMembers}
 use Rattle.keys.specs.Keys.{OctetKey}
 use Rattle.keys.proofs.Lemmas.{keep_json}
-use Rattle.objects.specs.Headers.{header_at, overlap, all_members, are_disjoint, joint_header, string_parameter, if_there, required, has_no_crit}
+use Rattle.objects.specs.Headers.{header_at, overlap, all_members, are_disjoint, joint_header, string_parameter, parameter_if_there, has_no_crit}
 use Rattle.objects.proofs.Lemmas.{get_member-all_members, name_is_json}
 use Rattle.octets.proofs.Lemmas.{steps, passed, same_answer}
-use Rattle.tokens.specs.Template.{SignatureTemplate, template_headers, template_of, named_alg, supported, supported_if_there, with_alg}
+use Rattle.tokens.specs.Template.{SignatureTemplate, template_headers, template_of, named_alg, with_alg}
 use Rattle.tokens.specs.Signing.{Signer, chosen_alg, signer_by}
 use Rattle.tokens.proofs.AlgorithmCases.{signature_name_is, signature_is_text}
 use Rattle.tokens.proofs.HeaderTexts.{members_json}
@@ -43,7 +43,7 @@ pub record Say (p u : Members) (a : Option SignatureAlg) : Type 0 where
   pub header_plain : has_no_crit u ≡ true
   pub name : Option (List ℕ)
   pub alg : string_parameter (codes "alg") (all_members p no_members u) ≡ Ok name
-  pub is : supported_if_there name ≡ Ok a
+  pub is : if_there (supported signature_alg_of) name ≡ Ok a
 
 -- If an alternative of two options is absent, both options are.
 neither : (x y : Option Data) → is_none (option_or x y) ≡ true → (is_none x ≡ true) × (is_none y ≡ true)
@@ -92,12 +92,12 @@ is_template value t json h =
 -- ---- the algorithm that the headers name
 
 -- If a lookup is supported, an algorithm was found.
-supported_is : (found : Option SignatureAlg) (a : Option SignatureAlg) → supported found ≡ Ok a → (alg : SignatureAlg) × (found ≡ Some alg) × (a ≡ Some alg)
+supported_is : (found : Option SignatureAlg) (a : Option SignatureAlg) → (ok_or found Unsupported >>= λ x. Ok (Some x)) ≡ Ok a → (alg : SignatureAlg) × (found ≡ Some alg) × (a ≡ Some alg)
 supported_is None a h = cc h
 supported_is (Some alg) a h = (alg, refl, sym (same_answer (Some alg) a h))
 
 -- If an algorithm is supported, the header has its name.
-named : (name : Option (List ℕ)) (alg : SignatureAlg) → supported_if_there name ≡ Ok (Some alg) → name ≡ Some (signature_name alg)
+named : (name : Option (List ℕ)) (alg : SignatureAlg) → if_there (supported signature_alg_of) name ≡ Ok (Some alg) → name ≡ Some (signature_name alg)
 named None alg h = cc h
 named (Some text) alg h =
     let is = supported_is (signature_alg_of text) (Some alg) h in
@@ -105,16 +105,16 @@ named (Some text) alg h =
     ap Some (signature_name_is text is.0 is.1 ∙ ap signature_name (sym same))
 
 -- If no algorithm is named, the header has no name.
-not_named : (name : Option (List ℕ)) → supported_if_there name ≡ Ok None → name ≡ None
+not_named : (name : Option (List ℕ)) → if_there (supported signature_alg_of) name ≡ Ok None → name ≡ None
 not_named None h = refl
 not_named (Some text) h = let is = supported_is (signature_alg_of text) None h in cc (is.2)
 
 -- If no parameter is read, there is no member.
-no_member : (o : Option Data) → if_there as_str o ≡ Ok None → is_none o ≡ true
+no_member : (o : Option Data) → parameter_if_there as_str o ≡ Ok None → is_none o ≡ true
 no_member None h = refl
 no_member (Some d) h = by_text (as_str d) h
   where
-    by_text : (text : Option (List ℕ)) → required text ≡ Ok None → false ≡ true
+    by_text : (text : Option (List ℕ)) → (ok_or text Header >>= λ x. Ok (Some x)) ≡ Ok None → false ≡ true
     by_text None e = cc e
     by_text (Some x) e = cc e
 
@@ -155,7 +155,7 @@ is_absent (Some d) h = cc h
 put_parameter : (name text : List ℕ) (p u : Members) → string_parameter name (all_members (put name (string text) p) no_members u) ≡ Ok (Some text)
 unfolding string_parameter
 put_parameter name text p u =
-    ap (if_there as_str)
+    ap (parameter_if_there as_str)
     (get_member-all_members name (put name (string text) p) no_members u ∙ ap (λ o. option_or o (option_or None (get_member name u))) (get_member-put name (string text) p))
 
 -- The name `crit` is not the name `alg`.

@@ -1,6 +1,6 @@
 -- What a template and keys settle before anything is drawn: the keys that receive the content encryption key, the algorithms, and the
 -- headers but for what is drawn.
-use Rattle.std.specs.Prelude.{ℕ, zero, suc, ◌*◌, ◌==◌, ◌&&◌, ◌||◌, Bool, true, false, not, nat_le, List, [], ◌∷◌, length, codes, is_some, if◌then◌else◌, Option, Some, None, Result, Ok, Err}
+use Rattle.std.specs.Prelude.{ℕ, zero, suc, ◌*◌, ◌==◌, ◌&&◌, ◌||◌, Bool, true, false, not, nat_le, List, [], ◌∷◌, length, codes, is_some, if◌then◌else◌, Option, Some, None, option_map, option_and_then, Result, Ok, Err}
 use Rattle.std.specs.List.{find, list_all, list_any}
 use Rattle.std.specs.Option.{ok_or, option_or, unwrap_or}
 use Rattle.serde_json.specs.Data.{Members, unsigned, number, string, put}
@@ -30,9 +30,7 @@ management_by_length n = find (λ alg. n == kek_len alg) (A128Kw ∷ A192Kw ∷ 
 
 -- the one that its `alg` names, where the name of a content encryption asks for direct use
 abbrev pub management_by_name : Option KeyManagementAlg → Option ContentEncryptionAlg → Option KeyManagementAlg
-management_by_name (Some alg) enc = Some alg
-management_by_name None (Some enc) = Some Dir
-management_by_name None None = None
+management_by_name management enc = option_or management (option_map (λ alg. Dir) enc)
 
 abbrev pub management_of_key : Option (List ℕ) → ℕ → Result KeyManagementAlg Refusal
 management_of_key None n = ok_or (management_by_length n) NoAlgorithm
@@ -51,29 +49,21 @@ cbc_algs = A128CbcHs256 ∷ A192CbcHs384 ∷ A256CbcHs512 ∷ []
 abbrev pub encryption_by_length : ℕ → Option ContentEncryptionAlg
 encryption_by_length n = find (λ enc. n == cek_len enc) cbc_algs
 
--- the one that the `alg` of a key names
-abbrev pub encryption_by_name : Option (List ℕ) → Option ContentEncryptionAlg
-encryption_by_name None = None
-encryption_by_name (Some name) = encryption_alg_of name
-
 -- the one whose AES key, half of the content encryption key, is as long as the key of the wrap, of n octets
 abbrev pub encryption_by_wrap : ℕ → Option ContentEncryptionAlg
 encryption_by_wrap n = find (λ enc. 2 * n == cek_len enc) cbc_algs
 
 -- the one that goes with key management
 abbrev pub encryption_in : KeyManagementMode → ℕ → OctetKey → Option ContentEncryptionAlg
-encryption_in mode.Direct n key = option_or (encryption_by_name key.alg) (encryption_by_length (length key.octets))
+encryption_in mode.Direct n key = option_or (option_and_then encryption_alg_of key.alg) (encryption_by_length (length key.octets))
 encryption_in mode.KeyWrap n key = encryption_by_wrap n
 encryption_in mode.Password n key = encryption_by_wrap n
 encryption_in mode.GcmKeyWrap n key = encryption_by_wrap n
 
-abbrev pub encryption_by_management : KeyManagementAlg → OctetKey → Option ContentEncryptionAlg
-encryption_by_management alg key = encryption_in (mode_of alg) (kek_len alg) key
-
 -- that of the template, or else the one that goes with key management
 abbrev pub chosen_encryption : Option ContentEncryptionAlg → KeyManagementAlg → OctetKey → Result ContentEncryptionAlg Refusal
 chosen_encryption (Some enc) alg key = Ok enc
-chosen_encryption None alg key = ok_or (encryption_by_management alg key) NoAlgorithm
+chosen_encryption None alg key = ok_or (encryption_in (mode_of alg) (kek_len alg) key) NoAlgorithm
 
 -- ---- the recipient keys (docs/SPECIFICATION.md "Encrypting" 2 to 4)
 

@@ -5,11 +5,11 @@ use Rattle.serde_json.specs.Data.{Data, Members, no_members}
 use Rattle.serde_json.specs.Find.{get_member}
 use Rattle.octets.specs.declared.refusal.Refusal.{Refusal}
 use Rattle.octets.specs.declared.refusal.Refusal.TheVariants.{Form, Header, Unsupported}
-use Rattle.octets.specs.Outcomes.{◌>>=◌, needs}
+use Rattle.octets.specs.Outcomes.{◌>>=◌, needs, if_there}
 use Rattle.octets.specs.Base64url.{decoded}
 use Rattle.keys.specs.declared.algorithm.ContentEncryptionAlg.{ContentEncryptionAlg}
 use Rattle.keys.specs.declared.algorithm.KeyManagementAlg.{KeyManagementAlg}
-use Rattle.keys.specs.Algorithms.{management_alg_of, encryption_alg_of}
+use Rattle.keys.specs.Algorithms.{management_alg_of, encryption_alg_of, supported}
 use Rattle.keys.specs.Json.{is_object, has_only}
 use Rattle.objects.specs.Headers.{header_at, joint_header, string_parameter, number_parameter}
 use Rattle.objects.specs.Jwe.{has_no_crit_or_zip}
@@ -40,23 +40,6 @@ pub record AlgorithmsAsked : Type 0 where
   pub encryption : Option ContentEncryptionAlg
   pub p2c : Result (Option ℕ) Refusal
 
--- other names are refused
-abbrev pub supported_management : Option KeyManagementAlg → Result (Option KeyManagementAlg) Refusal
-supported_management None = Err Unsupported
-supported_management (Some alg) = Ok (Some alg)
-
-abbrev pub management_asked : Option (List ℕ) → Result (Option KeyManagementAlg) Refusal
-management_asked None = Ok None
-management_asked (Some name) = supported_management (management_alg_of name)
-
-abbrev pub supported_encryption : Option ContentEncryptionAlg → Result (Option ContentEncryptionAlg) Refusal
-supported_encryption None = Err Unsupported
-supported_encryption (Some alg) = Ok (Some alg)
-
-abbrev pub encryption_asked : Option (List ℕ) → Result (Option ContentEncryptionAlg) Refusal
-encryption_asked None = Ok None
-encryption_asked (Some name) = supported_encryption (encryption_alg_of name)
-
 -- The header has no parameters that are drawn or made for a recipient, whatever the algorithm: no salt input of a password, and no
 -- initialization vector and tag of AES-GCM key wrap (RFC 7518 sections 4.8.1.1, 4.7.1.1 and 4.7.1.2).
 abbrev pub leaves_parameters : Members → Bool
@@ -71,8 +54,8 @@ algorithms_asked protected unprotected = do
   enc ← string_parameter (codes "enc") header
   left ← needs (leaves_parameters header) Header
   plain ← needs (has_no_crit_or_zip header) Unsupported
-  management ← management_asked alg
-  encryption ← encryption_asked enc
+  management ← if_there (supported management_alg_of) alg
+  encryption ← if_there (supported encryption_alg_of) enc
   Ok (record { management = management; encryption = encryption; p2c = number_parameter (codes "p2c") header })
 
 pub record EncryptionTemplate : Type 0 where

@@ -5,9 +5,9 @@ use Rattle.serde_json.specs.Find.{get_member}
 use Rattle.serde_json.specs.Written.{compact_text}
 use Rattle.octets.specs.declared.refusal.Refusal.{Refusal}
 use Rattle.octets.specs.declared.refusal.Refusal.TheVariants.{Form, Unsupported}
-use Rattle.octets.specs.Outcomes.{◌>>=◌, needs}
+use Rattle.octets.specs.Outcomes.{◌>>=◌, needs, if_there}
 use Rattle.keys.specs.declared.algorithm.SignatureAlg.{SignatureAlg}
-use Rattle.keys.specs.Algorithms.{signature_name, signature_alg_of}
+use Rattle.keys.specs.Algorithms.{signature_name, signature_alg_of, supported}
 use Rattle.keys.specs.Json.{is_object, has_only}
 use Rattle.keys.specs.Limits.{Limits}
 use Rattle.objects.specs.Headers.{header_at, joint_header, string_parameter}
@@ -31,21 +31,13 @@ template_headers value = do
 
 -- ---- the algorithm (docs/SPECIFICATION.md "Signing" 1)
 
-abbrev pub supported : Option SignatureAlg → Result (Option SignatureAlg) Refusal
-supported None = Err Unsupported
-supported (Some alg) = Ok (Some alg)
-
-abbrev pub supported_if_there : Option (List ℕ) → Result (Option SignatureAlg) Refusal
-supported_if_there None = Ok None
-supported_if_there (Some name) = supported (signature_alg_of name)
-
 -- the algorithm that two headers without a `crit` name, if they do
 unfoldable pub named_alg : Members → Members → Result (Option SignatureAlg) Refusal
 named_alg protected per_signature = do
   header ← joint_header protected no_members per_signature
   name ← string_parameter (codes "alg") header
   plain ← needs (is_none (get_member (codes "crit") header)) Unsupported
-  supported_if_there name
+  if_there (supported signature_alg_of) name
 
 -- the template that a value is
 unfoldable pub template_of : Data → Result SignatureTemplate Refusal

@@ -3,14 +3,13 @@ ghost use Rattle.std.specs.Prelude.{◌≡◌, ◌≢◌, ◌⊎◌, ◌≤◌, 
 ghost use Rattle.std.specs.Iterator.{IsFinite};
 ghost use Rattle.std.specs.Option.{unwrap_or};
 ghost use Rattle.octets.specs.Base64url.{base64url};
-ghost use Rattle.octets.specs.Devices.{appended, observed, IsPossibleInput, AppendsPrefixOf, IsFinishedOnce};
-ghost use Rattle.octets.specs.Faults.{TellsFaults, DidNotFail, counts};
-ghost use Rattle.octets.specs.Code.Lent.{lent, wrote_on, IfLent, counts_of};
+ghost use Rattle.octets.specs.Devices.{input_members, output_members, appended, observed, IsPossibleInput};
+ghost use Rattle.octets.specs.Faults.{TellsFaults, counts};
+ghost use Rattle.octets.specs.Code.Lent.{lent, counts_of};
+ghost use Rattle.octets.specs.Code.Streaming.{Draws, Streams};
 ghost use Rattle.octets.specs.Octets.{IsOctets};
-ghost use Rattle.octets.specs.Code.Streams.{fixed_by};
-ghost use Rattle.octets.specs.Outcomes.{AgreesUnlessExternal, is_external};
-ghost use Rattle.octets.specs.Plan.{OutputTexts, begun, planned, plan_from, drawn_of};
-ghost use Rattle.octets.specs.Pumps.{KeepsUp};
+ghost use Rattle.octets.specs.Outcomes.{is_external};
+ghost use Rattle.octets.specs.Plan.{planned, plan_from, drawn_of};
 ghost use Rattle.octets.specs.declared.refusal.Refusal.{Refusal};
 ghost use Rattle.ciphers.specs.Sealing.{cek_len};
 ghost use Rattle.keys.specs.Keys.{fits};
@@ -86,55 +85,16 @@ pub fn jwe_encrypt<I: Input, O: Output>(
     detached: Option<&mut O>,
 ) -> Result<(), Refusal>
     requires { IsFinite (I.remaining content.old) }
-    ensures answer { (octets plaintext : List ℕ)
-        → IsPossibleInput (observed I.consumed I.is_at_end random.old random.new) octets
-        → IsPossibleInput (observed I.consumed I.is_at_end content.old content.new) plaintext
-        → AgreesUnlessExternal (planned (plan_from (enc_plan limits compact (is_some detached.entry) keys.now template.now) octets) plaintext)
-        (record { text = appended (O.written out.old) (O.written out.new); content = wrote_on O.written (lent detached.entry detached.exit) }) result }
 
-    // Exactly the octets for the recipients, the key and the vector are read of the random input, and no more before a refusal.
-    ensures drawn { OnOk result (length (appended (I.consumed random.old) (I.consumed random.new))
-        ≡ drawn_of (enc_plan limits compact (is_some detached.entry) keys.now template.now)) }
-    ensures at_most { length (appended (I.consumed random.old) (I.consumed random.new))
-        ≤ drawn_of (enc_plan limits compact (is_some detached.entry) keys.now template.now) }
-    ensures beginning { OnErr result (AppendsPrefixOf
-        (begun (plan_from (enc_plan limits compact (is_some detached.entry) keys.now template.now) (appended (I.consumed random.old) (I.consumed random.new)))
-        (observed I.consumed I.is_at_end content.old content.new)).text (O.written out.old) (O.written out.new)) }
-    ensures beginning_beside { OnErr result (IfLent (lent detached.entry detached.exit) (λ old new. AppendsPrefixOf
-        (begun (plan_from (enc_plan limits compact (is_some detached.entry) keys.now template.now) (appended (I.consumed random.old) (I.consumed random.new)))
-        (observed I.consumed I.is_at_end content.old content.new)).content (O.written old) (O.written new))) }
-    ensures finished { OnOk result (IsFinishedOnce O.is_finished O.endings out.old out.new × IfLent (lent detached.entry detached.exit) (IsFinishedOnce O.is_finished O.endings)) }
-    ensures unfinished { OnErr result (O.endings out.new ≡ O.endings out.old) }
+    // Exactly the octets for the recipients, the key and the vector are drawn.
+    ensures draws { Draws (input_members I.consumed I.is_at_end I.failures) (enc_plan limits compact (is_some detached.entry) keys.now template.now)
+        random.old random.new result }
 
-    // If the content fails, what was written is at most `most_behind` octets behind what was read.
-    ensures keeps_up { result ≡ Err Refusal.Read → appended (I.consumed content.old) (I.consumed content.new) ≢ []
-        → KeepsUp (λ front. (fixed_by (plan_from (enc_plan limits compact (is_some detached.entry) keys.now template.now) (appended (I.consumed random.old) (I.consumed random.new))) front).text) (appended (I.consumed content.old) (I.consumed content.new)) (O.written out.old) (O.written out.new)
-        × IfLent (lent detached.entry detached.exit) (λ old new.
-        KeepsUp (λ front. (fixed_by (plan_from (enc_plan limits compact (is_some detached.entry) keys.now template.now) (appended (I.consumed random.old) (I.consumed random.new))) front).content) (appended (I.consumed content.old) (I.consumed content.new)) (O.written old) (O.written new)) }
-
-    // The template and the keys are judged before anything is drawn, and the content is touched only after all is drawn.
-    ensures content_last { (refusal : Refusal) → enc_plan limits compact (is_some detached.entry) keys.now template.now ≡ Err refusal
-        → (random.new ≡ random.old) × (content.new ≡ content.old) }
-    ensures random_first { length (appended (I.consumed random.old) (I.consumed random.new))
-        < drawn_of (enc_plan limits compact (is_some detached.entry) keys.now template.now) → content.new ≡ content.old }
-    ensures uncut { IfErr result (λ refusal.
-        (DidNotFail refusal (counts O.failures out.old out.new) → O.written out.new ≡ O.written out.old → out.new ≡ out.old)
-        × IfLent (lent detached.entry detached.exit) (λ old new. refusal ≢ Refusal.Write → O.written new ≡ O.written old → new ≡ old)) }
-
-    // If the ciphertext is detached, the text is begun only after all of the ciphertext was written and its output was finished, once.
-    // An output that is finished before a refusal holds exactly the ciphertext of a plaintext that is not refused.
-    ensures content_first { OnErr result (IfLent (lent detached.entry detached.exit) (λ old new.
-        ((out.new ≡ out.old) × (O.endings new ≡ O.endings old)) ⊎ (IsTrue (I.is_at_end content.new) × IsFinishedOnce O.is_finished O.endings old new
-        × ((texts : OutputTexts) × (planned (plan_from (enc_plan limits compact (is_some detached.entry) keys.now template.now) (appended (I.consumed random.old) (I.consumed random.new)))
-        (appended (I.consumed content.old) (I.consumed content.new)) ≡ Ok texts)
-        × (O.written new ≡ O.written old ++ texts.content))))) }
-
-    // All memory is allocated before the content is touched. If nothing of the content could be read, an output that did not fail
-    // is unchanged.
-    ensures memory_first { IfErr result (λ refusal. refusal ≡ Refusal.Memory → content.new ≡ content.old) }
-    ensures unread { IfErr result (λ refusal. appended (I.consumed content.old) (I.consumed content.new) ≡ []
-        → (DidNotFail refusal (counts O.failures out.old out.new) → out.new ≡ out.old)
-        × IfLent (lent detached.entry detached.exit) (λ old new. refusal ≢ Refusal.Write → new ≡ old)) }
+    // Whatever follows in the random input, the outputs are those of the plan that the template and the keys give with it.
+    ensures streams { (octets : List ℕ) → IsPossibleInput (observed I.consumed I.is_at_end random.old random.new) octets
+        → Streams (input_members I.consumed I.is_at_end I.failures) (output_members O.written O.is_finished O.endings O.failures)
+        (plan_from (enc_plan limits compact (is_some detached.entry) keys.now template.now) octets)
+        content.old content.new out.old out.new (lent detached.entry detached.exit) result }
     ensures same_source { (I.source random.new ≡ I.source random.old) × (I.source content.new ≡ I.source content.old) }
     ensures faults { TellsFaults (counts I.failures random.old random.new ∷ counts I.failures content.old content.new ∷ [])
         (counts O.failures out.old out.new ∷ counts_of O.failures (lent detached.entry detached.exit)) result }
@@ -208,8 +168,10 @@ fn begin_sealing(
 ) -> Result<PreparedEncryption, Refusal>
     requires long { length random.now ≡ random_len (encryption_plan_view encryption) }
     requires made { IsOk (frame_by limits compact detach (encryption_plan_view encryption) random.now) }
-    ensures sealing { IfOk result (λ made. ⟦<ContentSealer as Sealer>⟧.is_sealing made.sealer (sealing_by (encryption_plan_view encryption.entry) random.now) []) }
-    ensures framed { IfOk result (λ made. frame_by limits compact detach (encryption_plan_view encryption.entry) random.now ≡ Ok (map string_bytes made.texts.items)) }
+    ensures sealing { IfOk result
+        (λ made. ⟦<ContentSealer as Sealer>⟧.is_sealing made.sealer (sealing_by (encryption_plan_view encryption.entry) random.now) []) }
+    ensures framed { IfOk result (λ made. frame_by limits compact detach (encryption_plan_view encryption.entry) random.now
+        ≡ Ok (map string_bytes made.texts.items)) }
     ensures cek { IfOk result (λ made. IsOctets (cek_by (encryption_plan_view encryption.entry) random.now)
         × (length (cek_by (encryption_plan_view encryption.entry) random.now) ≡ cek_len (content_alg_of (encryption_plan_view encryption.entry).encryption))) }
     ensures memory { IfErr result (λ e. e ≡ Refusal.Memory) }

@@ -2,14 +2,13 @@
 ghost use Rattle.std.specs.Prelude.{◌≡◌, ◌≢◌, ◌⊎◌, ◌+◌, ◌++◌, ℕ, List, [], ◌∷◌, true, false, length, is_some, Ok, Err, IfOk, IfErr, IsTrue, OnOk, OnErr, map, string_bytes};
 ghost use Rattle.std.specs.Iterator.{IsFinite};
 ghost use Rattle.serde_json.specs.View.{members_view};
-ghost use Rattle.octets.specs.Devices.{appended, observed, IsPossibleInput, AppendsPrefixOf, IsFinishedOnce};
-ghost use Rattle.octets.specs.Faults.{TellsFaults, DidNotFail, counts};
-ghost use Rattle.octets.specs.Code.Lent.{lent, wrote_on, IfLent, counts_of};
-ghost use Rattle.octets.specs.Code.Streams.{fixed_by};
-ghost use Rattle.octets.specs.Outcomes.{AgreesUnlessExternal, is_external};
+ghost use Rattle.octets.specs.Faults.{TellsFaults, counts};
+ghost use Rattle.octets.specs.Code.Lent.{lent, counts_of};
+ghost use Rattle.octets.specs.Code.Streaming.{Streams};
+ghost use Rattle.octets.specs.Devices.{input_members, output_members};
+ghost use Rattle.octets.specs.Outcomes.{is_external};
 ghost use Rattle.octets.specs.Code.Results.{AgreesUnlessMemory, is_memory};
-ghost use Rattle.octets.specs.Plan.{OutputTexts, begun, planned};
-ghost use Rattle.octets.specs.Pumps.{KeepsUp};
+ghost use Rattle.octets.specs.Plan.{planned};
 ghost use Rattle.octets.specs.declared.refusal.Refusal.{Refusal};
 ghost use Rattle.keys.specs.Limits.{limits};
 ghost use Rattle.objects.specs.Code.Frames.{filled};
@@ -59,43 +58,9 @@ pub fn jws_sign<I: Input, O: Output>(
     detached: Option<&mut O>,
 ) -> Result<(), Refusal>
     requires { IsFinite (I.remaining content.old) }
-    ensures answer { (payload : List ℕ)
-        → IsPossibleInput (observed I.consumed I.is_at_end content.old content.new) payload
-        → AgreesUnlessExternal (planned (sig_plan limits compact (is_some detached.entry) keys.now template.now) payload)
-        (record { text = appended (O.written out.old) (O.written out.new); content = wrote_on O.written (lent detached.entry detached.exit) }) result }
-    ensures beginning { OnErr result (AppendsPrefixOf (begun (sig_plan limits compact (is_some detached.entry) keys.now template.now) (observed I.consumed I.is_at_end content.old content.new)).text (O.written out.old) (O.written out.new)) }
-    ensures beginning_beside { OnErr result (IfLent (lent detached.entry detached.exit) (λ old new.
-        AppendsPrefixOf (begun (sig_plan limits compact (is_some detached.entry) keys.now template.now) (observed I.consumed I.is_at_end content.old content.new)).content (O.written old) (O.written new))) }
-    ensures finished { OnOk result (IsFinishedOnce O.is_finished O.endings out.old out.new × IfLent (lent detached.entry detached.exit) (IsFinishedOnce O.is_finished O.endings)) }
-    ensures unfinished { OnErr result (O.endings out.new ≡ O.endings out.old) }
-
-    // If the content fails, what was written is at most `most_behind` octets behind what was read.
-    ensures keeps_up { result ≡ Err Refusal.Read → appended (I.consumed content.old) (I.consumed content.new) ≢ []
-        → KeepsUp (λ front. (fixed_by (sig_plan limits compact (is_some detached.entry) keys.now template.now) front).text) (appended (I.consumed content.old) (I.consumed content.new)) (O.written out.old) (O.written out.new)
-        × IfLent (lent detached.entry detached.exit) (λ old new.
-        KeepsUp (λ front. (fixed_by (sig_plan limits compact (is_some detached.entry) keys.now template.now) front).content) (appended (I.consumed content.old) (I.consumed content.new)) (O.written old) (O.written new)) }
-
-    // The template and the keys are judged before the content is touched. An output to which nothing was written is
-    // unchanged, unless it failed.
-    ensures content_last { (refusal : Refusal) → sig_plan limits compact (is_some detached.entry) keys.now template.now ≡ Err refusal
-        → content.new ≡ content.old }
-    ensures uncut { IfErr result (λ refusal.
-        (DidNotFail refusal (counts O.failures out.old out.new) → O.written out.new ≡ O.written out.old → out.new ≡ out.old)
-        × IfLent (lent detached.entry detached.exit) (λ old new. refusal ≢ Refusal.Write → O.written new ≡ O.written old → new ≡ old)) }
-
-    // If the payload is detached, the text is begun only after all of the payload was written and its output was finished, once.
-    // An output that is finished before a refusal holds exactly the payload.
-    ensures content_first { OnErr result (IfLent (lent detached.entry detached.exit) (λ old new.
-        ((out.new ≡ out.old) × (O.endings new ≡ O.endings old)) ⊎ (IsTrue (I.is_at_end content.new) × IsFinishedOnce O.is_finished O.endings old new
-        × ((texts : OutputTexts) × (planned (sig_plan limits compact (is_some detached.entry) keys.now template.now) (appended (I.consumed content.old) (I.consumed content.new)) ≡ Ok texts)
-        × (O.written new ≡ O.written old ++ texts.content))))) }
-
-    // All memory is allocated before the content is touched. If nothing of the content could be read, an output that did not fail
-    // is unchanged.
-    ensures memory_first { IfErr result (λ refusal. refusal ≡ Refusal.Memory → content.new ≡ content.old) }
-    ensures unread { IfErr result (λ refusal. appended (I.consumed content.old) (I.consumed content.new) ≡ []
-        → (DidNotFail refusal (counts O.failures out.old out.new) → out.new ≡ out.old)
-        × IfLent (lent detached.entry detached.exit) (λ old new. refusal ≢ Refusal.Write → new ≡ old)) }
+    ensures streams { Streams (input_members I.consumed I.is_at_end I.failures) (output_members O.written O.is_finished O.endings O.failures)
+        (sig_plan limits compact (is_some detached.entry) keys.now template.now)
+        content.old content.new out.old out.new (lent detached.entry detached.exit) result }
     ensures same_source { I.source content.new ≡ I.source content.old }
     ensures faults { TellsFaults (counts I.failures content.old content.new ∷ [])
         (counts O.failures out.old out.new ∷ counts_of O.failures (lent detached.entry detached.exit)) result }

@@ -36,7 +36,8 @@ pub fn jws_verify<O: Output>(
     all: bool,
     out: Option<&mut O>,
 ) -> Result<(), Refusal>
-    ensures answer { AgreesUnlessExternal (verifying_by all (is_some out.entry) keys.now (jws_view jws.now)) (wrote_on O.written (lent out.entry out.exit)) result }
+    ensures answer { AgreesUnlessExternal (verifying_by all (is_some out.entry) keys.now (jws_view jws.now))
+        (wrote_on O.written (lent out.entry out.exit)) result }
 
     // The output is not touched before the object is accepted.
     ensures held_back { IfErr result (λ refusal. refusal ≢ Refusal.Write → IfLent (lent out.entry out.exit) (λ old new. new ≡ old)) }
@@ -67,8 +68,10 @@ fn verified(keys: &KeySet, jws: &Jws<'_>, all: bool) -> Result<(), Refusal>
 /// The result of verifying, by whether the signatures are right. Refuses as `jws_verify` does.
 #[tactic(auto, unfolding(crate::specs::Verifying::verified_payload), using(crate::proofs::Tests::views))]
 fn verdict(keys: &[Key], signatures: &[Signature], are_right: bool) -> Result<(), Refusal>
-    ensures { (all : Bool) (payload : List ℕ) → are_right ≡ are_verified_by all (map key_view keys.now) (record { payload = payload; signatures = map signature_view signatures.now })
-        → Agrees (λ done. payload) result (verified_payload all (map key_view keys.now) (record { payload = payload; signatures = map signature_view signatures.now })) }
+    ensures { (all : Bool) (payload : List ℕ) → are_right
+        ≡ are_verified_by all (map key_view keys.now) (record { payload = payload; signatures = map signature_view signatures.now })
+        → Agrees (λ done. payload) result (verified_payload all (map key_view keys.now)
+        (record { payload = payload; signatures = map signature_view signatures.now })) }
 {
     needs(has_supported(signatures), Refusal::Unsupported)?;
     needs(has_candidate(signatures, keys), Refusal::KeyDoesNotFit)?;

@@ -1,14 +1,14 @@
 //! The commands `b64 enc` and `b64 dec`, from devices to devices.
 ghost use Rattle.std.specs.Prelude.{◌≡◌, ◌≢◌, ℕ, List, [], ◌∷◌, Err, OnOk, OnErr, IfErr};
 ghost use Rattle.std.specs.Iterator.{IsFinite};
-ghost use Rattle.octets.specs.Devices.{appended, observed, IsPossibleInput, AppendsPrefixOf, IsFinishedOnce};
+ghost use Rattle.octets.specs.Devices.{appended, observed, IsPossibleInput, AppendsPrefixOf, IsFinishedOnce, input_members, output_members};
 ghost use Rattle.octets.specs.Encoding.{encoding, decoding};
 ghost use Rattle.octets.specs.Faults.{TellsFaults, counts};
 ghost use Rattle.octets.specs.Outcomes.{AgreesUnlessExternal};
 ghost use Rattle.octets.specs.Plan.{beginning_of};
 ghost use Rattle.octets.specs.Pumps.{KeepsUp};
 ghost use Rattle.jose.specs.declared.words.table.Command.{Command};
-ghost use Rattle.jose.specs.Code.Doing.{Does, input_members, output_members};
+ghost use Rattle.jose.specs.Doing.{Does};
 ghost use Rattle.jose.specs.Invocations.{invocation_view};
 ghost use Rattle.jose.specs.Ports.{AreFinite};
 
@@ -24,7 +24,8 @@ pub(crate) fn encode<I: Input, O: Output>(
 ) -> Result<(), Refusal>
     requires command { invocation.now.command ≡ Command.B64Enc }
     requires finite { AreFinite I.remaining inputs.old }
-    ensures { Does (input_members I.consumed I.is_at_end I.failures) (output_members O.written O.is_finished O.endings O.failures) (invocation_view invocation.now) inputs.old inputs.new outputs.old outputs.new result }
+    ensures { Does (input_members I.consumed I.is_at_end I.failures) (output_members O.written O.is_finished O.endings O.failures)
+        (invocation_view invocation.now) inputs.old inputs.new outputs.old outputs.new result }
 {
     encode_content(&mut inputs.content, &mut outputs.text)
 }
@@ -37,7 +38,8 @@ pub(crate) fn decode<I: Input, O: Output>(
 ) -> Result<(), Refusal>
     requires command { invocation.now.command ≡ Command.B64Dec }
     requires finite { AreFinite I.remaining inputs.old }
-    ensures { Does (input_members I.consumed I.is_at_end I.failures) (output_members O.written O.is_finished O.endings O.failures) (invocation_view invocation.now) inputs.old inputs.new outputs.old outputs.new result }
+    ensures { Does (input_members I.consumed I.is_at_end I.failures) (output_members O.written O.is_finished O.endings O.failures)
+        (invocation_view invocation.now) inputs.old inputs.new outputs.old outputs.new result }
 {
     decode_text(&mut inputs.text, &mut outputs.content)
 }
@@ -47,7 +49,8 @@ fn encode_content<I: Input, O: Output>(content: &mut I, out: &mut O) -> Result<(
     requires { IsFinite (I.remaining content.old) }
     ensures answer { (whole : List ℕ) → IsPossibleInput (observed I.consumed I.is_at_end content.old content.new) whole
         → AgreesUnlessExternal (encoding.whole whole) (appended (O.written out.old) (O.written out.new)) result }
-    ensures beginning { OnErr result (AppendsPrefixOf (beginning_of encoding (observed I.consumed I.is_at_end content.old content.new)) (O.written out.old) (O.written out.new)) }
+    ensures beginning { OnErr result
+        (AppendsPrefixOf (beginning_of encoding (observed I.consumed I.is_at_end content.old content.new)) (O.written out.old) (O.written out.new)) }
     ensures finished { OnOk result (IsFinishedOnce O.is_finished O.endings out.old out.new) }
     ensures unfinished { OnErr result (O.endings out.new ≡ O.endings out.old) }
     ensures uncut { IfErr result (λ refusal. refusal ≢ Refusal.Write
@@ -66,7 +69,8 @@ fn decode_text<I: Input, O: Output>(text: &mut I, out: &mut O) -> Result<(), Ref
     requires { IsFinite (I.remaining text.old) }
     ensures answer { (whole : List ℕ) → IsPossibleInput (observed I.consumed I.is_at_end text.old text.new) whole
         → AgreesUnlessExternal (decoding.whole whole) (appended (O.written out.old) (O.written out.new)) result }
-    ensures beginning { OnErr result (AppendsPrefixOf (beginning_of decoding (observed I.consumed I.is_at_end text.old text.new)) (O.written out.old) (O.written out.new)) }
+    ensures beginning { OnErr result
+        (AppendsPrefixOf (beginning_of decoding (observed I.consumed I.is_at_end text.old text.new)) (O.written out.old) (O.written out.new)) }
     ensures finished { OnOk result (IsFinishedOnce O.is_finished O.endings out.old out.new) }
     ensures unfinished { OnErr result (O.endings out.new ≡ O.endings out.old) }
     ensures uncut { IfErr result (λ refusal. refusal ≢ Refusal.Write

@@ -4,7 +4,9 @@ ghost use Rattle.octets.specs.Code.Results.{AgreesUnlessMemory};
 ghost use Rattle.keys.specs.Limits.{limits};
 ghost use Rattle.objects.specs.Code.Views.{jwe_view};
 ghost use Rattle.jose.specs.declared.words.table.Command.{Command};
-ghost use Rattle.jose.specs.Code.Doing.{Does, WritesWhole, input_members, output_members, object_texts};
+ghost use Rattle.octets.specs.Devices.{input_members, output_members};
+ghost use Rattle.jose.specs.Doing.{Does};
+ghost use Rattle.jose.specs.Code.Steps.{WritesWhole, object_texts};
 ghost use Rattle.jose.specs.Invocations.{invocation_view};
 ghost use Rattle.tokens.specs.Jwe.{dec_answer, jwe_fmt_answer};
 ghost use Rattle.jose.specs.Ports.{AreFinite, on_content};
@@ -28,7 +30,8 @@ pub(crate) fn encrypt<I: Input, O: Output>(
 ) -> Result<(), Refusal>
     requires command { invocation.now.command ≡ Command.JweEnc }
     requires finite { AreFinite I.remaining inputs.old }
-    ensures { Does (input_members I.consumed I.is_at_end I.failures) (output_members O.written O.is_finished O.endings O.failures) (invocation_view invocation.now) inputs.old inputs.new outputs.old outputs.new result }
+    ensures { Does (input_members I.consumed I.is_at_end I.failures) (output_members O.written O.is_finished O.endings O.failures)
+        (invocation_view invocation.now) inputs.old inputs.new outputs.old outputs.new result }
 {
     let template = read_inputs(alloc, true, false, inputs)?;
     let set = KeySet::read(alloc, &template.keys, true)?;
@@ -67,7 +70,8 @@ pub(crate) fn decrypt<I: Input, O: Output>(
 ) -> Result<(), Refusal>
     requires command { invocation.now.command ≡ Command.JweDec }
     requires finite { AreFinite I.remaining inputs.old }
-    ensures { Does (input_members I.consumed I.is_at_end I.failures) (output_members O.written O.is_finished O.endings O.failures) (invocation_view invocation.now) inputs.old inputs.new outputs.old outputs.new result }
+    ensures { Does (input_members I.consumed I.is_at_end I.failures) (output_members O.written O.is_finished O.endings O.failures)
+        (invocation_view invocation.now) inputs.old inputs.new outputs.old outputs.new result }
 {
     let whole = read_inputs(alloc, true, invocation.has('I'), inputs)?;
     write_plaintext(alloc, whole, outputs)
@@ -102,7 +106,8 @@ pub(crate) fn format<I: Input, O: Output>(
 ) -> Result<(), Refusal>
     requires command { invocation.now.command ≡ Command.JweFmt }
     requires finite { AreFinite I.remaining inputs.old }
-    ensures { Does (input_members I.consumed I.is_at_end I.failures) (output_members O.written O.is_finished O.endings O.failures) (invocation_view invocation.now) inputs.old inputs.new outputs.old outputs.new result }
+    ensures { Does (input_members I.consumed I.is_at_end I.failures) (output_members O.written O.is_finished O.endings O.failures)
+        (invocation_view invocation.now) inputs.old inputs.new outputs.old outputs.new result }
 {
     let whole = read_inputs(alloc, false, invocation.has('I'), inputs)?;
     write_formed(

@@ -1,6 +1,6 @@
 //! The commands `jwk gen` and `jwk thp`, from devices to devices.
 ghost use Rattle.std.specs.Prelude.{◌≡◌, true, false, ◌≢◌, ◌≤◌, ℕ, List, [], ◌∷◌, Err, length, OnOk, OnErr, IfOk, IfErr};
-ghost use Rattle.octets.specs.Devices.{appended, observed, IsPossibleInput, AppendsPrefixOf, IsFinishedOnce};
+ghost use Rattle.octets.specs.Devices.{appended, observed, IsPossibleInput, AppendsPrefixOf, IsFinishedOnce, input_members, output_members};
 ghost use Rattle.octets.specs.declared.refusal.Refusal.{Refusal};
 ghost use Rattle.octets.specs.Faults.{TellsFaults, counts};
 ghost use Rattle.octets.specs.Outcomes.{AgreesUnlessExternal};
@@ -10,7 +10,8 @@ ghost use Rattle.keys.specs.Limits.{limits};
 ghost use Rattle.keys.specs.Generating.{gen_answer};
 ghost use Rattle.keys.specs.Thumbprints.{thp_answer};
 ghost use Rattle.jose.specs.declared.words.table.Command.{Command};
-ghost use Rattle.jose.specs.Code.Doing.{Does, WritesWhole, input_members, output_members};
+ghost use Rattle.jose.specs.Doing.{Does};
+ghost use Rattle.jose.specs.Code.Steps.{WritesWhole};
 ghost use Rattle.jose.specs.Invocations.{invocation_view};
 ghost use Rattle.jose.specs.Jwk.{making};
 ghost use Rattle.jose.specs.Ports.{AreFinite, on_text};
@@ -31,7 +32,8 @@ pub(crate) fn generate<I: Input, O: Output>(
 ) -> Result<(), Refusal>
     requires command { invocation.now.command ≡ Command.JwkGen }
     requires finite { AreFinite I.remaining inputs.old }
-    ensures { Does (input_members I.consumed I.is_at_end I.failures) (output_members O.written O.is_finished O.endings O.failures) (invocation_view invocation.now) inputs.old inputs.new outputs.old outputs.new result }
+    ensures { Does (input_members I.consumed I.is_at_end I.failures) (output_members O.written O.is_finished O.endings O.failures)
+        (invocation_view invocation.now) inputs.old inputs.new outputs.old outputs.new result }
 {
     let template = read_inputs(alloc, false, false, inputs)?;
     write_key(alloc, &template.text, &mut inputs.random, &mut outputs.text)
@@ -48,7 +50,8 @@ fn write_key<I: Input, O: Output>(
         → AgreesUnlessExternal (gen_answer limits template.now octets) (appended (O.written out.old) (O.written out.new)) result }
     ensures drawn { OnOk result (length (appended (I.consumed random.old) (I.consumed random.new)) ≡ drawn_of (making template.now)) }
     ensures at_most { length (appended (I.consumed random.old) (I.consumed random.new)) ≤ drawn_of (making template.now) }
-    ensures beginning { OnErr result (AppendsPrefixOf (accepted (gen_answer limits template.now (appended (I.consumed random.old) (I.consumed random.new))) true) (O.written out.old) (O.written out.new)) }
+    ensures beginning { OnErr result (AppendsPrefixOf (accepted
+        (gen_answer limits template.now (appended (I.consumed random.old) (I.consumed random.new))) true) (O.written out.old) (O.written out.new)) }
     ensures held_back { IfErr result (λ refusal. refusal ≢ Refusal.Write → out.new ≡ out.old) }
     ensures finished { OnOk result (IsFinishedOnce O.is_finished O.endings out.old out.new) }
     ensures unfinished { OnErr result (O.endings out.new ≡ O.endings out.old) }
@@ -68,7 +71,8 @@ pub(crate) fn thumbprints<I: Input, O: Output>(
 ) -> Result<(), Refusal>
     requires command { invocation.now.command ≡ Command.JwkThp }
     requires finite { AreFinite I.remaining inputs.old }
-    ensures { Does (input_members I.consumed I.is_at_end I.failures) (output_members O.written O.is_finished O.endings O.failures) (invocation_view invocation.now) inputs.old inputs.new outputs.old outputs.new result }
+    ensures { Does (input_members I.consumed I.is_at_end I.failures) (output_members O.written O.is_finished O.endings O.failures)
+        (invocation_view invocation.now) inputs.old inputs.new outputs.old outputs.new result }
 {
     let hash = invocation.hash().ok_or(Refusal::Usage)?;
     let whole = read_inputs(alloc, false, false, inputs)?;
@@ -82,7 +86,8 @@ fn write_thumbprints<O: Output>(
     hash: HashAlg,
     outputs: &mut Outputs<O>,
 ) -> Result<(), Refusal>
-    ensures { WritesWhole (output_members O.written O.is_finished O.endings O.failures) true false (on_text (thp_answer hash text.now)) outputs.old outputs.new result }
+    ensures { WritesWhole (output_members O.written O.is_finished O.endings O.failures) true false
+        (on_text (thp_answer hash text.now)) outputs.old outputs.new result }
 {
     let lines = keys::text_thumbprints(alloc, text, hash)?;
     emit(&mut outputs.text, lines.as_bytes())

@@ -1,7 +1,7 @@
 //! The commands `jws sig`, `jws ver` and `jws fmt`, from devices to devices.
 ghost use Rattle.std.specs.Prelude.{◌≡◌, Bool, true, false, ◌&&◌, ℕ, List, [], ◌∷◌, option_map, Some, Err, OnOk, IfOk, IfErr, IsTrue, string_bytes};
 ghost use Rattle.std.specs.Iterator.{IsFinite};
-ghost use Rattle.octets.specs.Devices.{observed, IsPossibleInput};
+ghost use Rattle.octets.specs.Devices.{observed, IsPossibleInput, input_members, output_members};
 ghost use Rattle.octets.specs.declared.refusal.Refusal.{Refusal};
 ghost use Rattle.octets.specs.Faults.{TellsFaults, counts};
 ghost use Rattle.octets.specs.Octets.{IsOctets};
@@ -12,7 +12,8 @@ ghost use Rattle.objects.specs.HandedIn.{with_payload};
 ghost use Rattle.objects.specs.Code.Views.{jws_view};
 ghost use Rattle.tokens.specs.Verifying.{verifying_by};
 ghost use Rattle.jose.specs.declared.words.table.Command.{Command};
-ghost use Rattle.jose.specs.Code.Doing.{Does, WritesWhole, input_members, output_members, object_texts};
+ghost use Rattle.jose.specs.Doing.{Does};
+ghost use Rattle.jose.specs.Code.Steps.{WritesWhole, object_texts};
 ghost use Rattle.jose.specs.Invocations.{invocation_view};
 ghost use Rattle.tokens.specs.Jws.{ver_answer, jws_fmt_answer};
 ghost use Rattle.jose.specs.Ports.{AreFinite, on_content};
@@ -37,7 +38,8 @@ pub(crate) fn sign<I: Input, O: Output>(
 ) -> Result<(), Refusal>
     requires command { invocation.now.command ≡ Command.JwsSig }
     requires finite { AreFinite I.remaining inputs.old }
-    ensures { Does (input_members I.consumed I.is_at_end I.failures) (output_members O.written O.is_finished O.endings O.failures) (invocation_view invocation.now) inputs.old inputs.new outputs.old outputs.new result }
+    ensures { Does (input_members I.consumed I.is_at_end I.failures) (output_members O.written O.is_finished O.endings O.failures)
+        (invocation_view invocation.now) inputs.old inputs.new outputs.old outputs.new result }
 {
     let template = read_inputs(alloc, true, false, inputs)?;
     let set = KeySet::read(alloc, &template.keys, true)?;
@@ -75,7 +77,8 @@ pub(crate) fn verify<I: Input, O: Output>(
 ) -> Result<(), Refusal>
     requires command { invocation.now.command ≡ Command.JwsVer }
     requires finite { AreFinite I.remaining inputs.old }
-    ensures { Does (input_members I.consumed I.is_at_end I.failures) (output_members O.written O.is_finished O.endings O.failures) (invocation_view invocation.now) inputs.old inputs.new outputs.old outputs.new result }
+    ensures { Does (input_members I.consumed I.is_at_end I.failures) (output_members O.written O.is_finished O.endings O.failures)
+        (invocation_view invocation.now) inputs.old inputs.new outputs.old outputs.new result }
 {
     let detached_given = invocation.has('I');
     let all = invocation.has('a');
@@ -102,7 +105,8 @@ fn write_verified<O: Output>(
     outputs: &mut Outputs<O>,
 ) -> Result<(), Refusal>
     ensures { WritesWhole (output_members O.written O.is_finished O.endings O.failures) false payload_wanted
-        (on_content (ver_answer limits all payload_wanted whole.keys.items (option_map (λ c. c.items) whole.content) whole.text.items)) outputs.old outputs.new result }
+        (on_content (ver_answer limits all payload_wanted whole.keys.items (option_map (λ c. c.items) whole.content) whole.text.items))
+        outputs.old outputs.new result }
 {
     let WholeInputs {
         text,
@@ -139,7 +143,8 @@ fn verify_in_one_pass<I: Input>(
         × (I.is_at_end keys.new && I.is_at_end text.new ≡ false → content.new ≡ content.old) }
     ensures reads_first { IfErr result (λ refusal. is_external refusal ≡ false
         → IsTrue (I.is_at_end text.new) × IsTrue (I.is_at_end keys.new) × IsTrue (I.is_at_end content.new)) }
-    ensures faults { TellsFaults (counts I.failures text.old text.new ∷ counts I.failures keys.old keys.new ∷ counts I.failures content.old content.new ∷ []) [] result }
+    ensures faults { TellsFaults
+        (counts I.failures text.old text.new ∷ counts I.failures keys.old keys.new ∷ counts I.failures content.old content.new ∷ []) [] result }
 {
     let object = read_to_end(alloc, text)?;
     let set = read_to_end(alloc, keys)?;
@@ -180,7 +185,8 @@ pub(crate) fn format<I: Input, O: Output>(
 ) -> Result<(), Refusal>
     requires command { invocation.now.command ≡ Command.JwsFmt }
     requires finite { AreFinite I.remaining inputs.old }
-    ensures { Does (input_members I.consumed I.is_at_end I.failures) (output_members O.written O.is_finished O.endings O.failures) (invocation_view invocation.now) inputs.old inputs.new outputs.old outputs.new result }
+    ensures { Does (input_members I.consumed I.is_at_end I.failures) (output_members O.written O.is_finished O.endings O.failures)
+        (invocation_view invocation.now) inputs.old inputs.new outputs.old outputs.new result }
 {
     let whole = read_inputs(alloc, false, invocation.has('I'), inputs)?;
     write_formed(

@@ -118,7 +118,8 @@ pub(crate) fn recipients_of_one_enc(
 ) -> Result<Vec<Recipient>, Refusal>
     ensures as_many { IfOk result (λ recipients. length recipients.items ≡ length parts.items) }
     ensures exact { AgreesUnlessMemory (λ recipients. map recipient_view recipients.items) result
-        (recipients_of_one_enc limits.management (members_view protected.now.entries) (members_view unprotected.now.entries) (map recipient_members_view parts.items)) }
+        (recipients_of_one_enc limits.management (members_view protected.now.entries) (members_view unprotected.now.entries)
+        (map recipient_members_view parts.items)) }
 {
     let recipients = read_recipients(alloc, protected, unprotected, parts)?;
     needs(have_one_enc(&recipients), Refusal::Header)?;

@@ -52,7 +52,8 @@ impl SharedHeader {
     ) -> Result<Header<'m>, Refusal>
         requires { IsReadFrom (members_view protected.now.entries) (members_view unprotected.now.entries) self.now }
         ensures exact { Agrees header_view result
-            (joint_header (members_view protected.entry.now.entries) (members_view unprotected.entry.now.entries) (members_view per_recipient.entry.now.entries)) }
+            (joint_header (members_view protected.entry.now.entries) (members_view unprotected.entry.now.entries)
+            (members_view per_recipient.entry.now.entries)) }
         ensures read { IfOk result (λ header. AreReadIn (header_view header) self.now.parameters) }
     {
         let overlaps = parts_overlap(Some(per_recipient), Some(protected))

@@ -22,7 +22,8 @@ impl Jwe {
     /// (RFC 7516 section 7.2). Empty optional members are left out, and so is a detached ciphertext. Fails only with `Memory`.
     pub fn to_json(&self, alloc: Global, detach: bool) -> Result<String, Refusal>
         ensures exact { AgreesUnlessMemory string_bytes result (Ok (json_text detach (jwe_view self.now))) }
-        ensures spells { IsMade limits (jwe_view self.now) → IfOk result (λ text. jwe_of limits (handed_in detach (jwe_view self.now).ciphertext) (string_bytes text) ≡ Ok (jwe_view self.now)) }
+        ensures spells { IsMade limits (jwe_view self.now)
+            → IfOk result (λ text. jwe_of limits (handed_in detach (jwe_view self.now).ciphertext) (string_bytes text) ≡ Ok (jwe_view self.now)) }
     {
         self.to_text(alloc, false, detach)
     }
@@ -31,7 +32,8 @@ impl Jwe {
     /// `NotCompact` if the object has several recipients, a header that is not protected, or an `aad`. May fail with `Memory`.
     pub fn to_compact(&self, alloc: Global, detach: bool) -> Result<String, Refusal>
         ensures exact { AgreesUnlessMemory string_bytes result (jwe_compact_text detach (jwe_view self.now)) }
-        ensures spells { IsMade limits (jwe_view self.now) → IfOk result (λ text. jwe_of limits (handed_in detach (jwe_view self.now).ciphertext) (string_bytes text) ≡ Ok (jwe_view self.now)) }
+        ensures spells { IsMade limits (jwe_view self.now)
+            → IfOk result (λ text. jwe_of limits (handed_in detach (jwe_view self.now).ciphertext) (string_bytes text) ≡ Ok (jwe_view self.now)) }
     {
         self.to_text(alloc, true, detach)
     }
@@ -39,7 +41,8 @@ impl Jwe {
     /// Its text in compact form if that is asked for, as by `to_compact`, and else in JSON form, as by `to_json`.
     pub fn to_text(&self, alloc: Global, compact: bool, detach: bool) -> Result<String, Refusal>
         ensures exact { AgreesUnlessMemory string_bytes result (jwe_text compact detach (jwe_view self.now)) }
-        ensures spells { IsMade limits (jwe_view self.now) → IfOk result (λ text. jwe_of limits (handed_in detach (jwe_view self.now).ciphertext) (string_bytes text) ≡ Ok (jwe_view self.now)) }
+        ensures spells { IsMade limits (jwe_view self.now)
+            → IfOk result (λ text. jwe_of limits (handed_in detach (jwe_view self.now).ciphertext) (string_bytes text) ≡ Ok (jwe_view self.now)) }
     {
         Ok(self.written(alloc, false, compact, detach)?.into_text())
     }
@@ -50,7 +53,8 @@ impl Jwe {
     pub fn frame(&self, alloc: Global, compact: bool, detach: bool) -> Result<Vec<String>, Refusal>
         ensures exact { AgreesUnlessMemory (λ texts. map string_bytes texts.items) result (jwe_frame compact detach (jwe_view self.now)) }
         ensures texts { IfOk result (λ texts. IsJweFrame compact detach (jwe_view self.now) (map string_bytes texts.items)) }
-        ensures refused { IfErr result (λ e. e ≢ Refusal.Memory → (e ≡ Refusal.NotCompact) × (jwe_text compact detach (jwe_view self.now) ≡ Err Refusal.NotCompact)) }
+        ensures refused { IfErr result (λ e. e ≢ Refusal.Memory → (e ≡ Refusal.NotCompact)
+            × (jwe_text compact detach (jwe_view self.now) ≡ Err Refusal.NotCompact)) }
     {
         self.written(alloc, true, compact, detach)?.into_texts()
     }
@@ -86,7 +90,8 @@ fn write_compact(
     jwe: &Jwe,
     ciphertext: Option<HeldContent<'_>>,
 ) -> Result<(), Refusal>
-    ensures written { OnOk result (written_view texts.new ≡ with_compact (option_map held_view ciphertext.entry) (parts_of (jwe_view jwe.now)) (written_view texts.old)) }
+    ensures written { OnOk result (written_view texts.new
+        ≡ with_compact (option_map held_view ciphertext.entry) (parts_of (jwe_view jwe.now)) (written_view texts.old)) }
     ensures memory { OnErr result (result ≡ Err Refusal.Memory) }
 {
     texts.push(jwe.protected())?;
@@ -103,7 +108,8 @@ fn write_members(
     jwe: &Jwe,
     ciphertext: Option<HeldContent<'_>>,
 ) -> Result<(), Refusal>
-    ensures written { OnOk result (written_view texts.new ≡ with_members (option_map held_view ciphertext.entry) (parts_of (jwe_view jwe.now)) (written_view texts.old)) }
+    ensures written { OnOk result (written_view texts.new
+        ≡ with_members (option_map held_view ciphertext.entry) (parts_of (jwe_view jwe.now)) (written_view texts.old)) }
     ensures memory { OnErr result (result ≡ Err Refusal.Memory) }
 {
     texts.octets(alloc, "aad", jwe.aad())?;
@@ -126,7 +132,8 @@ fn write_flattened(
     texts: &mut TextWriter,
     recipients: &[Recipient],
 ) -> Result<(), Refusal>
-    ensures written { OnOk result (written_view texts.new ≡ with_flattened (map recipient_parts_of (map recipient_view recipients.now)) (written_view texts.old)) }
+    ensures written { OnOk result (written_view texts.new
+        ≡ with_flattened (map recipient_parts_of (map recipient_view recipients.now)) (written_view texts.old)) }
     ensures memory { OnErr result (result ≡ Err Refusal.Memory) }
 {
     match recipients {
@@ -142,7 +149,8 @@ fn write_general(
     texts: &mut TextWriter,
     recipients: &[Recipient],
 ) -> Result<(), Refusal>
-    ensures written { OnOk result (written_view texts.new ≡ with_general (map recipient_parts_of (map recipient_view recipients.now)) (written_view texts.old)) }
+    ensures written { OnOk result (written_view texts.new
+        ≡ with_general (map recipient_parts_of (map recipient_view recipients.now)) (written_view texts.old)) }
     ensures memory { OnErr result (result ≡ Err Refusal.Memory) }
 {
     match recipients {

@@ -76,7 +76,8 @@ fn decoded_parts(
     parts: Vec<SignatureParts>,
 ) -> Result<Vec<DecodedSignature>, Refusal>
     requires { list_all (λ s. member_numbers_are_whole (signature_parts_view s).header) parts.items ≡ true }
-    ensures exact { AgreesUnlessMemory (λ signatures. map decoded_signature_view signatures.items) result (each decoded_part (map signature_parts_view parts.items)) }
+    ensures exact { AgreesUnlessMemory (λ signatures. map decoded_signature_view signatures.items) result
+        (each decoded_part (map signature_parts_view parts.items)) }
     ensures as_many { IfOk result (λ signatures. length signatures.items ≡ length parts.items) }
 {
     let mut signatures = Vec::new(alloc);

@@ -146,7 +146,8 @@ pub(crate) fn decoded_signatures(
     alloc: Global,
     texts: Vec<EncodedSignature<'_>>,
 ) -> Result<Vec<DecodedSignature>, Refusal>
-    ensures exact { AgreesUnlessMemory (λ signatures. map decoded_signature_view signatures.items) result (each decoded_signature (map encoded_signature_view texts.entry.items)) }
+    ensures exact { AgreesUnlessMemory (λ signatures. map decoded_signature_view signatures.items) result
+        (each decoded_signature (map encoded_signature_view texts.entry.items)) }
     ensures as_many { IfOk result (λ signatures. length signatures.items ≡ length texts.entry.items) }
 {
     let mut signatures = Vec::new(alloc);

@@ -95,7 +95,8 @@ pub(crate) fn read_signatures(
     alloc: Global,
     decoded: Vec<DecodedSignature>,
 ) -> Result<Vec<Signature>, Refusal>
-    ensures exact { AgreesUnlessMemory (λ signatures. map signature_view signatures.items) result (signatures_of limits.management (map decoded_signature_view decoded.items)) }
+    ensures exact { AgreesUnlessMemory (λ signatures. map signature_view signatures.items) result
+        (signatures_of limits.management (map decoded_signature_view decoded.items)) }
     ensures as_many { IfOk result (λ signatures. length signatures.items ≡ length decoded.items) }
 {
     let headed = with_headers(alloc, decoded)?;
@@ -111,7 +112,8 @@ fn with_headers(
     alloc: Global,
     decoded: Vec<DecodedSignature>,
 ) -> Result<Vec<HeadedSignature>, Refusal>
-    ensures exact { AgreesUnlessMemory (λ headed. map headed_signature_view headed.items) result (each headed_signature (map decoded_signature_view decoded.items)) }
+    ensures exact { AgreesUnlessMemory (λ headed. map headed_signature_view headed.items) result
+        (each headed_signature (map decoded_signature_view decoded.items)) }
     ensures as_many { IfOk result (λ headed. length headed.items ≡ length decoded.items) }
 {
     let mut headed = Vec::new(alloc);
@@ -150,7 +152,8 @@ fn headers_have_no_crit(headed: &HeadedSignature) -> bool
 /// The signatures with the algorithms of their joint headers, which must have the parameters of these.
 #[tactic(auto, using(crate::proofs::Each::reading))]
 fn by_headers(alloc: Global, headed: Vec<HeadedSignature>) -> Result<Vec<Signature>, Refusal>
-    ensures exact { AgreesUnlessMemory (λ signatures. map signature_view signatures.items) result (each (signature_by limits.management) (map headed_signature_view headed.items)) }
+    ensures exact { AgreesUnlessMemory (λ signatures. map signature_view signatures.items) result
+        (each (signature_by limits.management) (map headed_signature_view headed.items)) }
     ensures as_many { IfOk result (λ signatures. length signatures.items ≡ length headed.items) }
 {
     let mut signatures = Vec::new(alloc);

@@ -21,7 +21,8 @@ impl Jws<'_> {
     /// (RFC 7515 section 7.2). Empty optional members are left out, and so is a detached payload. Fails only with `Memory`.
     pub fn to_json(&self, alloc: Global, detach: bool) -> Result<String, Refusal>
         ensures exact { AgreesUnlessMemory string_bytes result (Ok (json_text detach (jws_view self.now))) }
-        ensures spells { IsMade limits (jws_view self.now) → IfOk result (λ text. jws_of limits (handed_in detach (jws_view self.now).payload) (string_bytes text) ≡ Ok (jws_view self.now)) }
+        ensures spells { IsMade limits (jws_view self.now)
+            → IfOk result (λ text. jws_of limits (handed_in detach (jws_view self.now).payload) (string_bytes text) ≡ Ok (jws_view self.now)) }
     {
         self.to_text(alloc, false, detach)
     }
@@ -30,7 +31,8 @@ impl Jws<'_> {
     /// the object has several signatures, or a header that is not protected. May fail with `Memory`.
     pub fn to_compact(&self, alloc: Global, detach: bool) -> Result<String, Refusal>
         ensures exact { AgreesUnlessMemory string_bytes result (jws_compact_text detach (jws_view self.now)) }
-        ensures spells { IsMade limits (jws_view self.now) → IfOk result (λ text. jws_of limits (handed_in detach (jws_view self.now).payload) (string_bytes text) ≡ Ok (jws_view self.now)) }
+        ensures spells { IsMade limits (jws_view self.now)
+            → IfOk result (λ text. jws_of limits (handed_in detach (jws_view self.now).payload) (string_bytes text) ≡ Ok (jws_view self.now)) }
     {
         self.to_text(alloc, true, detach)
     }
@@ -38,7 +40,8 @@ impl Jws<'_> {
     /// Its text in compact form if that is asked for, as by `to_compact`, and else in JSON form, as by `to_json`.
     pub fn to_text(&self, alloc: Global, compact: bool, detach: bool) -> Result<String, Refusal>
         ensures exact { AgreesUnlessMemory string_bytes result (jws_text compact detach (jws_view self.now)) }
-        ensures spells { IsMade limits (jws_view self.now) → IfOk result (λ text. jws_of limits (handed_in detach (jws_view self.now).payload) (string_bytes text) ≡ Ok (jws_view self.now)) }
+        ensures spells { IsMade limits (jws_view self.now)
+            → IfOk result (λ text. jws_of limits (handed_in detach (jws_view self.now).payload) (string_bytes text) ≡ Ok (jws_view self.now)) }
     {
         Ok(self.written(alloc, false, compact, detach)?.into_text())
     }
@@ -49,7 +52,8 @@ impl Jws<'_> {
     pub fn frame(&self, alloc: Global, compact: bool, detach: bool) -> Result<Vec<String>, Refusal>
         ensures exact { AgreesUnlessMemory (λ texts. map string_bytes texts.items) result (jws_frame compact detach (jws_view self.now)) }
         ensures texts { IfOk result (λ texts. IsJwsFrame compact detach (jws_view self.now) (map string_bytes texts.items)) }
-        ensures refused { IfErr result (λ e. e ≢ Refusal.Memory → (e ≡ Refusal.NotCompact) × (jws_text compact detach (jws_view self.now) ≡ Err Refusal.NotCompact)) }
+        ensures refused { IfErr result (λ e. e ≢ Refusal.Memory → (e ≡ Refusal.NotCompact)
+            × (jws_text compact detach (jws_view self.now) ≡ Err Refusal.NotCompact)) }
     {
         self.written(alloc, true, compact, detach)?.into_texts()
     }
@@ -85,7 +89,8 @@ fn write_compact(
     payload: Option<HeldContent<'_>>,
     signatures: &[Signature],
 ) -> Result<(), Refusal>
-    ensures written { OnOk result (written_view texts.new ≡ with_compact (option_map held_view payload.entry) (map signature_parts_of (map signature_view signatures.now)) (written_view texts.old)) }
+    ensures written { OnOk result (written_view texts.new
+        ≡ with_compact (option_map held_view payload.entry) (map signature_parts_of (map signature_view signatures.now)) (written_view texts.old)) }
     ensures memory { OnErr result (result ≡ Err Refusal.Memory) }
 {
     match signatures {
@@ -105,7 +110,8 @@ fn write_signatures(
     payload: Option<HeldContent<'_>>,
     signatures: &[Signature],
 ) -> Result<(), Refusal>
-    ensures written { OnOk result (written_view texts.new ≡ with_signatures (option_map held_view payload.entry) (map signature_parts_of (map signature_view signatures.now)) (written_view texts.old)) }
+    ensures written { OnOk result (written_view texts.new
+        ≡ with_signatures (option_map held_view payload.entry) (map signature_parts_of (map signature_view signatures.now)) (written_view texts.old)) }
     ensures memory { OnErr result (result ≡ Err Refusal.Memory) }
 {
     match signatures {
@@ -121,7 +127,8 @@ fn write_flattened(
     payload: Option<HeldContent<'_>>,
     signature: &Signature,
 ) -> Result<(), Refusal>
-    ensures written { OnOk result (written_view texts.new ≡ with_signature (option_map held_view payload.entry) (signature_parts_of (signature_view signature.now)) (written_view texts.old)) }
+    ensures written { OnOk result (written_view texts.new
+        ≡ with_signature (option_map held_view payload.entry) (signature_parts_of (signature_view signature.now)) (written_view texts.old)) }
     ensures memory { OnErr result (result ≡ Err Refusal.Memory) }
 {
     texts.header(alloc, "header", &signature.header)?;
@@ -146,7 +153,8 @@ fn write_general(
     payload: Option<HeldContent<'_>>,
     signatures: &[Signature],
 ) -> Result<(), Refusal>
-    ensures written { OnOk result (written_view texts.new ≡ with_general (option_map held_view payload.entry) (map signature_parts_of (map signature_view signatures.now)) (written_view texts.old)) }
+    ensures written { OnOk result (written_view texts.new
+        ≡ with_general (option_map held_view payload.entry) (map signature_parts_of (map signature_view signatures.now)) (written_view texts.old)) }
     ensures memory { OnErr result (result ≡ Err Refusal.Memory) }
 {
     texts.content(alloc, "payload", payload)?;

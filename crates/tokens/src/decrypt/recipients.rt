@@ -35,9 +35,11 @@ pub(crate) fn open_recipients<'x>(
     requires salted { AreSalted (map key_view keys.now) salted.old }
     requires fresh { work_view work.old ≡ no_work }
     ensures opened { option_map (λ n. take n octets.new) result
-        ≡ first_opened (sealed_with_view sealed.entry octets.old) (all_pairs limits.management (map key_view keys.entry.now) (map recipient_view recipients.entry.now)) }
+        ≡ first_opened (sealed_with_view sealed.entry octets.old)
+        (all_pairs limits.management (map key_view keys.entry.now) (map recipient_view recipients.entry.now)) }
     ensures work { work_view work.new
-        ≡ with_pairs (sealed_with_view sealed.entry octets.old) no_work (all_pairs limits.management (map key_view keys.entry.now) (map recipient_view recipients.entry.now)) }
+        ≡ with_pairs (sealed_with_view sealed.entry octets.old) no_work
+        (all_pairs limits.management (map key_view keys.entry.now) (map recipient_view recipients.entry.now)) }
     ensures bound { IsBounded (work_view work.new) }
 {
     let mut tried = [NO_WORK; MOST_RECIPIENTS];
@@ -79,11 +81,13 @@ fn open_unless_tried<'x>(
     requires within { within_after 0 (pairs_of limits.management (map key_view keys.now) (recipient_view recipient.now)) ≡ true }
     requires salted { AreSalted (map key_view keys.now) salted.old }
     ensures opened { option_map (λ n. take n octets.new) result.0
-        ≡ first_opened (sealed_with_view sealed.entry octets.old) (pairs_of limits.management (map key_view keys.entry.now) (recipient_view recipient.entry.now)) }
+        ≡ first_opened (sealed_with_view sealed.entry octets.old)
+        (pairs_of limits.management (map key_view keys.entry.now) (recipient_view recipient.entry.now)) }
     ensures unchanged { IfNone result.0 (octets.new ≡ octets.old) }
     ensures salted { AreSalted (map key_view keys.entry.now) salted.new }
     ensures work { work_view result.1
-        ≡ with_pairs (sealed_with_view sealed.entry octets.old) no_work (pairs_of limits.management (map key_view keys.entry.now) (recipient_view recipient.entry.now)) }
+        ≡ with_pairs (sealed_with_view sealed.entry octets.old) no_work
+        (pairs_of limits.management (map key_view keys.entry.now) (recipient_view recipient.entry.now)) }
 {
     match same_before(before, recipient) {
         Some(j) => (None, work_before[j]),
@@ -104,11 +108,13 @@ fn open_recipient<'x>(
     requires within { within_after 0 (pairs_of limits.management (map key_view keys.now) (recipient_view recipient.now)) ≡ true }
     requires salted { AreSalted (map key_view keys.now) salted.old }
     ensures opened { option_map (λ n. take n octets.new) result.0
-        ≡ first_opened (sealed_with_view sealed.entry octets.old) (pairs_of limits.management (map key_view keys.entry.now) (recipient_view recipient.entry.now)) }
+        ≡ first_opened (sealed_with_view sealed.entry octets.old)
+        (pairs_of limits.management (map key_view keys.entry.now) (recipient_view recipient.entry.now)) }
     ensures unchanged { IfNone result.0 (octets.new ≡ octets.old) }
     ensures salted { AreSalted (map key_view keys.entry.now) salted.new }
     ensures work { work_view result.1
-        ≡ with_pairs (sealed_with_view sealed.entry octets.old) no_work (pairs_of limits.management (map key_view keys.entry.now) (recipient_view recipient.entry.now)) }
+        ≡ with_pairs (sealed_with_view sealed.entry octets.old) no_work
+        (pairs_of limits.management (map key_view keys.entry.now) (recipient_view recipient.entry.now)) }
 {
     let mut work = NO_WORK;
     let Some(algorithms) = algorithms_of(recipient) else {
@@ -138,11 +144,13 @@ fn open_candidates<'x>(
     requires salt { IsSaltFor salted.old.p2s.now (recipient_view recipient.now).management }
     requires fresh { work_view work.old ≡ no_work }
     ensures opened { option_map (λ n. take n octets.new) result
-        ≡ first_opened (sealed_with_view sealed.entry octets.old) (pairs_with (recipient_view recipient.entry.now) (algorithms_view algorithms) (map key_view keys.entry.now)) }
+        ≡ first_opened (sealed_with_view sealed.entry octets.old)
+        (pairs_with (recipient_view recipient.entry.now) (algorithms_view algorithms) (map key_view keys.entry.now)) }
     ensures unchanged { IfNone result (octets.new ≡ octets.old) }
     ensures salted { AreSalted (map key_view keys.entry.now) salted.new }
     ensures work { work_view work.new
-        ≡ with_pairs (sealed_with_view sealed.entry octets.old) no_work (pairs_with (recipient_view recipient.entry.now) (algorithms_view algorithms) (map key_view keys.entry.now)) }
+        ≡ with_pairs (sealed_with_view sealed.entry octets.old) no_work
+        (pairs_with (recipient_view recipient.entry.now) (algorithms_view algorithms) (map key_view keys.entry.now)) }
 {
     for (i, key) in keys.iter().enumerate() {
         let salted = &mut salted.keys[i];
@@ -176,7 +184,8 @@ fn open_by_key<'x>(
 ) -> Option<usize>
     requires bound { IsBounded (work_view work.old) }
     requires of_alg { is_management_of (Some algorithms.management) (recipient_view recipient.now).management ≡ true }
-    requires counted { within_after work.old.iterations (pairs_with (recipient_view recipient.now) (algorithms_view algorithms) (key_view key.now ∷ [])) ≡ true }
+    requires counted { within_after work.old.iterations
+        (pairs_with (recipient_view recipient.now) (algorithms_view algorithms) (key_view key.now ∷ [])) ≡ true }
     requires key { salted.old.key ≡ (key_view key.now).octets }
     requires salt { IsSaltFor salted.old.p2s (recipient_view recipient.now).management }
     requires tried { first_opened (sealed_with_view sealed octets.old)

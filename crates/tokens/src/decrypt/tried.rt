@@ -59,7 +59,8 @@ fn open_alike(one: &Recipient, other: &Recipient) -> bool
 
 /// Whether one of the keys is a candidate with the octets of this one.
 pub(crate) fn was_tried(keys: &[Key], algorithms: Algorithms, key: &Key) -> bool
-    ensures { result ≡ list_any (λ k. bytes_eq (key_view k).octets (key_view key.now).octets && is_candidate_key (algorithms_view algorithms) (key_view k)) keys.now }
+    ensures { result ≡ list_any
+        (λ k. bytes_eq (key_view k).octets (key_view key.now).octets && is_candidate_key (algorithms_view algorithms) (key_view k)) keys.now }
 {
     keys.iter().any(|earlier| {
         same_octets(earlier.octets(), key.octets()) && is_candidate(algorithms, earlier)
@@ -90,6 +91,10 @@ fn has_same_parameters(one: &KeyManagement, other: &KeyManagement) -> bool
             && tag.octets().len() <= MOST_TAG
             && same_octets(iv.octets(), other_iv.octets())
             && same_octets(tag.octets(), other_tag.octets()),
-        _ => false,
+        (KeyManagement::Unknown, _)
+        | (KeyManagement::Direct, _)
+        | (KeyManagement::KeyWrap, _)
+        | (KeyManagement::Password { .. }, _)
+        | (KeyManagement::GcmKeyWrap { .. }, _) => false,
     }
 }

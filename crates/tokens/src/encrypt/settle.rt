@@ -1,13 +1,14 @@
 //! The choice of algorithms by a template and keys, and all else that they settle before anything is drawn.
-ghost use Rattle.std.specs.Prelude.{◌≡◌, ◌≤◌, ◌==◌, ◌*◌, Some, true, false, is_some, length, map, option_map, IfOk, IfErr};
+ghost use Rattle.std.specs.Prelude.{◌≡◌, ◌≤◌, ◌==◌, ◌*◌, Some, true, false, is_some, length, map, option_map, option_and_then, IfOk, IfErr};
 ghost use Rattle.std.specs.List.{list_all, list_any};
 ghost use Rattle.serde_json.specs.Written.{members_have_float};
 ghost use Rattle.octets.specs.Code.Results.{Agrees, AgreesUnlessMemory};
+ghost use Rattle.keys.specs.Algorithms.{encryption_alg_of, mode_of, kek_len};
 ghost use Rattle.keys.specs.Limits.{limits};
 ghost use Rattle.keys.specs.Code.Views.{key_view};
 ghost use Rattle.objects.specs.Texts.{each};
 ghost use Rattle.objects.specs.Code.Views.{part_view};
-ghost use Rattle.tokens.specs.Choosing.{read_encryption, settle_encryption as settle_encryption_with_keys, recipient_key_by as recipient_key_by_key, direct_key_is_alone, is_direct, encryption_for, chosen_management, management_of_key, management_by_name, management_by_length, chosen_encryption, encryption_by_management, encryption_by_wrap, encryption_by_name, encryption_by_length, may_encrypt, compact_has_room, password_count, chosen_p2c, p2c_may_be_written, is_given, with_name};
+ghost use Rattle.tokens.specs.Choosing.{read_encryption, settle_encryption as settle_encryption_with_keys, recipient_key_by as recipient_key_by_key, direct_key_is_alone, is_direct, encryption_for, chosen_management, management_of_key, management_by_name, management_by_length, chosen_encryption, encryption_in, encryption_by_wrap, encryption_by_length, may_encrypt, compact_has_room, password_count, chosen_p2c, p2c_may_be_written, is_given, with_name};
 ghost use Rattle.tokens.specs.Code.Views.{recipient_key_view, encryption_plan_view, encryption_template_view};
 
 use crate::encrypt::plan::{EncryptionPlan, Given};
@@ -48,7 +49,8 @@ fn settle_encryption<'k>(
     requires few { length keys.now ≤ limits.keys }
     requires no_float { members_have_float (part_view template.protected) ≡ false }
     requires p2c { IfErr template.asked.p2c (λ e. e ≡ Refusal.Header) }
-    ensures { AgreesUnlessMemory encryption_plan_view result (settle_encryption_with_keys limits compact (map key_view keys.now) (encryption_template_view template.entry)) }
+    ensures { AgreesUnlessMemory encryption_plan_view result
+        (settle_encryption_with_keys limits compact (map key_view keys.now) (encryption_template_view template.entry)) }
 {
     let asked = template.asked;
     let recipient_keys = recipient_keys_by(alloc, asked.management, keys)?;
@@ -99,7 +101,8 @@ fn recipient_keys_by<'k>(
     asked: Option<KeyManagementAlg>,
     keys: &'k [Key],
 ) -> Result<Vec<RecipientKey<'k>>, Refusal>
-    ensures exact { AgreesUnlessMemory (λ recipient_keys. map recipient_key_view recipient_keys.items) result (each (recipient_key_by_key asked) (map key_view keys.now)) }
+    ensures exact { AgreesUnlessMemory (λ recipient_keys. map recipient_key_view recipient_keys.items) result
+        (each (recipient_key_by_key asked) (map key_view keys.now)) }
     ensures as_many { IfOk result (λ recipient_keys. length recipient_keys.items ≡ length keys.now) }
 {
     let mut recipient_keys = Vec::new(alloc);
@@ -232,7 +235,7 @@ fn chosen_encryption(
 
 /// The algorithm that goes with key management.
 fn encryption_by_management(management: KeyManagementAlg, key: &Key) -> Option<ContentEncryptionAlg>
-    ensures { result ≡ encryption_by_management management (key_view key.now) }
+    ensures { result ≡ encryption_in (mode_of management) (kek_len management) (key_view key.now) }
 {
     match management.mode() {
         KeyManagementMode::Direct => match encryption_by_name(key.alg()) {
@@ -258,7 +261,7 @@ fn encryption_by_wrap(len: usize) -> Option<ContentEncryptionAlg>
 
 /// The algorithm that the `alg` of a key names.
 fn encryption_by_name(name: Option<&str>) -> Option<ContentEncryptionAlg>
-    ensures { result ≡ encryption_by_name (option_map (λ n. n.now) name.entry) }
+    ensures { result ≡ option_and_then encryption_alg_of (option_map (λ n. n.now) name.entry) }
 {
     ContentEncryptionAlg::named(name?)
 }

@@ -4,7 +4,9 @@ ghost use Rattle.serde_json.specs.View.{view};
 ghost use Rattle.serde_json.specs.Written.{has_float, members_have_float};
 ghost use Rattle.octets.specs.Code.Results.{Agrees, AgreesUnlessMemory};
 ghost use Rattle.objects.specs.Code.Views.{header_view, part_view};
-ghost use Rattle.tokens.specs.EncryptionTemplate.{template_texts, management_asked, encryption_asked, supported_management, leaves_parameters, algorithms_asked, encryption_template};
+ghost use Rattle.keys.specs.Algorithms.{management_alg_of, encryption_alg_of, supported};
+ghost use Rattle.octets.specs.Outcomes.{if_there};
+ghost use Rattle.tokens.specs.EncryptionTemplate.{template_texts, leaves_parameters, algorithms_asked, encryption_template};
 ghost use Rattle.tokens.specs.Code.Views.{template_texts_view, asked_view, encryption_template_view};
 
 use keys::{ContentEncryptionAlg, KeyManagementAlg, has_only, is_object};
@@ -122,26 +124,20 @@ fn leaves_parameters(header: Header<'_>) -> bool
 
 /// The key management algorithm of the name, if there is one. It must be supported.
 fn management_asked(name: Option<&str>) -> Result<Option<KeyManagementAlg>, Refusal>
-    ensures { Agrees (λ alg. alg) result (management_asked (option_map (λ n. n.now) name.entry)) }
+    ensures { Agrees (λ alg. alg) result (if_there (supported management_alg_of) (option_map (λ n. n.now) name.entry)) }
 {
     match name {
         None => Ok(None),
-        Some(name) => supported_management(KeyManagementAlg::named(name)),
-    }
-}
-
-fn supported_management(alg: Option<KeyManagementAlg>) -> Result<Option<KeyManagementAlg>, Refusal>
-    ensures { Agrees (λ alg. alg) result (supported_management alg) }
-{
-    match alg {
-        None => Err(Refusal::Unsupported),
-        Some(alg) => Ok(Some(alg)),
+        Some(name) => match KeyManagementAlg::named(name) {
+            None => Err(Refusal::Unsupported),
+            Some(alg) => Ok(Some(alg)),
+        },
     }
 }
 
 /// The content encryption algorithm of the name, if there is one. It must be supported.
 fn encryption_asked(name: Option<&str>) -> Result<Option<ContentEncryptionAlg>, Refusal>
-    ensures { Agrees (λ alg. alg) result (encryption_asked (option_map (λ n. n.now) name.entry)) }
+    ensures { Agrees (λ alg. alg) result (if_there (supported encryption_alg_of) (option_map (λ n. n.now) name.entry)) }
 {
     match name {
         None => Ok(None),

@@ -73,7 +73,8 @@ fn signers_by<'k>(
     keys: &'k [Key],
 ) -> Result<Vec<Signer<'k>>, Refusal>
     requires { members_have_float (template_view template).protected ≡ false }
-    ensures { AgreesUnlessMemory (λ signers. map signer_view signers.items) result (each (signer_by_key (template_view template.entry)) (map key_view keys.now)) }
+    ensures { AgreesUnlessMemory (λ signers. map signer_view signers.items) result
+        (each (signer_by_key (template_view template.entry)) (map key_view keys.now)) }
 {
     let mut signers = Vec::new(alloc);
     for key in keys {

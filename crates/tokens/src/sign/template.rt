@@ -4,7 +4,9 @@ ghost use Rattle.serde_json.specs.View.{view, members_view};
 ghost use Rattle.serde_json.specs.Written.{has_float, members_have_float};
 ghost use Rattle.octets.specs.Code.Results.{Agrees};
 ghost use Rattle.objects.specs.Code.Views.{part_view};
-ghost use Rattle.tokens.specs.Template.{template_of, template_headers, named_alg, supported_if_there, with_alg};
+ghost use Rattle.tokens.specs.Template.{template_of, template_headers, named_alg, with_alg};
+ghost use Rattle.keys.specs.Algorithms.{signature_alg_of, supported};
+ghost use Rattle.octets.specs.Outcomes.{if_there};
 ghost use Rattle.tokens.specs.Code.Views.{template_view};
 
 use keys::{SignatureAlg, has_only, is_object};
@@ -69,7 +71,7 @@ fn named_alg<'v>(
 
 /// The algorithm of the name, if there is one. It must be supported.
 fn supported_if_there(name: Option<&str>) -> Result<Option<SignatureAlg>, Refusal>
-    ensures { Agrees (λ alg. alg) result (supported_if_there (option_map (λ n. n.now) name.entry)) }
+    ensures { Agrees (λ alg. alg) result (if_there (supported signature_alg_of) (option_map (λ n. n.now) name.entry)) }
 {
     match name {
         None => Ok(None),

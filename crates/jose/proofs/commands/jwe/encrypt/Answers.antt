@@ -1,15 +1,14 @@
 use Rattle.std.proofs.Common.{◌≡◌, Bool, is_some, ◌∙◌, Ok, None, Some, false, refl, sym, true}
 use Rattle.keys.specs.KeySets.{key_set}
 use Rattle.keys.specs.Limits.{limits}
-use Rattle.octets.specs.Devices.{appended}
+use Rattle.octets.specs.Devices.{appended, input_members, output_members}
 use Rattle.octets.specs.Plan.{plan_from}
 use Rattle.tokens.specs.Encrypting.{enc_plan}
-use Rattle.jose.specs.Code.Doing.{input_members, output_members}
 use Rattle.jose.specs.Invocations.{settings_view}
 use Rattle.jose.proofs.Doing.{not_read}
 use Rattle.jose.proofs.Fixed.{encrypted_inside}
 use Rattle.jose.proofs.Rows.{enc_is, is_given}
-use Rattle.jose.proofs.Streamed.{StreamsLent, keys_refused, streamed, unlent_call}
+use Rattle.jose.proofs.Streamed.{StreamsDrawn, keys_refused, streamed, unlent_call}
 use Rattle.jose.proofs.commands.jwe.encrypt.Goals as goal
 
 pub returns-in_err-template : goal.returns-in_err-template
@@ -33,7 +32,7 @@ returns-then-has g c =
     let t : c.in_ok-template.template.text.items ≡ c.deref-then-has.result.now = sym c.deref-then-has.ensures.value in
     let wanted : true ≡ is_given "O" options = sym c.if-has.true ∙ c.has.ensures in
     rw c.requires.command (streamed (Some (record { old = c.args.outputs.now.content; new = c.jwe_encrypt.new.detached.0 })) c.jwe_encrypt.result (enc_is options true wanted) c.in_ok-template.ensures
-    (rw (k, t, ← c.has-compact.ensures, ← wanted) refl) (λ octets. refl) (λ none. cc) (λ none. cc) refl (record { answer = e.answer; drawn = e.drawn; at_most = e.at_most; beginning = e.beginning; beginning_beside = e.beginning_beside; finished = e.finished; unfinished = e.unfinished; keeps_up = e.keeps_up; content_last = e.content_last; random_first = e.random_first; uncut = e.uncut; content_first = e.content_first; memory_first = e.memory_first; unread = e.unread; faults = e.faults }))
+    (rw (k, t, ← c.has-compact.ensures, ← wanted) refl) (λ octets. refl) (λ none. cc) (λ none. cc) refl (record { draws = e.draws; streams = e.streams; faults = e.faults }))
 
 pub returns : goal.returns
 returns g c =
@@ -48,4 +47,4 @@ returns g c =
     let t : c.in_ok-template.template.text.items ≡ c.deref-else-has.result.now = sym c.deref-else-has.ensures.value in
     let wanted : false ≡ is_given "O" options = sym c.if-has.false ∙ c.has.ensures in
     rw c.requires.command (streamed None c.jwe_encrypt-else-has.result (enc_is options false wanted) c.in_ok-template.ensures
-    (rw (k, t, ← c.has-compact.ensures, ← wanted) refl) (λ octets. refl) (λ none. cc) (λ none. encrypted_inside c.has-compact.result c.in_ok-set.set c.deref-else-has.result.now (appended (consumed c.read_inputs.new.inputs.random) (consumed c.jwe_encrypt-else-has.new.random))) refl (unlent_call c.default.result _ (λ detach l. StreamsLent input output (plan_by detach) (plan_from (plan_by detach)) c.read_inputs.new.inputs.random c.jwe_encrypt-else-has.new.random c.read_inputs.new.inputs.content c.jwe_encrypt-else-has.new.content c.args.outputs.now.text c.jwe_encrypt-else-has.new.out l c.jwe_encrypt-else-has.result) c.default.ensures (record { answer = e.answer; drawn = e.drawn; at_most = e.at_most; beginning = e.beginning; beginning_beside = e.beginning_beside; finished = e.finished; unfinished = e.unfinished; keeps_up = e.keeps_up; content_last = e.content_last; random_first = e.random_first; uncut = e.uncut; content_first = e.content_first; memory_first = e.memory_first; unread = e.unread; faults = e.faults })))
+    (rw (k, t, ← c.has-compact.ensures, ← wanted) refl) (λ octets. refl) (λ none. cc) (λ none. encrypted_inside c.has-compact.result c.in_ok-set.set c.deref-else-has.result.now (appended (consumed c.read_inputs.new.inputs.random) (consumed c.jwe_encrypt-else-has.new.random))) refl (unlent_call c.default.result _ (λ detach l. StreamsDrawn input output (plan_by detach) (plan_from (plan_by detach)) c.read_inputs.new.inputs.random c.jwe_encrypt-else-has.new.random c.read_inputs.new.inputs.content c.jwe_encrypt-else-has.new.content c.args.outputs.now.text c.jwe_encrypt-else-has.new.out l c.jwe_encrypt-else-has.result) c.default.ensures (record { draws = e.draws; streams = e.streams; faults = e.faults })))

@@ -3,7 +3,7 @@ use Rattle.objects.specs.Code.Views.{jwe_view}
 use Rattle.keys.specs.KeySets.{key_set}
 use Rattle.keys.specs.Limits.{limits}
 use Rattle.tokens.specs.Decrypting.{decrypted}
-use Rattle.jose.specs.Code.Doing.{output_members}
+use Rattle.octets.specs.Devices.{output_members}
 use Rattle.jose.proofs.Wrote.{wrote_content}
 use Rattle.jose.proofs.commands.jwe.write_plaintext.Goals as goal
 

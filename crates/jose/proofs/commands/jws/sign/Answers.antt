@@ -1,16 +1,15 @@
-use Rattle.std.proofs.Common.{◌≡◌, Bool, is_some, ◌∙◌, Ok, None, Some, false, refl, sym, true, arith}
+use Rattle.std.proofs.Common.{◌≡◌, Bool, is_some, ◌∙◌, Ok, None, Some, false, refl, sym, true}
 use Rattle.keys.specs.KeySets.{key_set}
 use Rattle.keys.specs.Limits.{limits}
 use Rattle.octets.specs.Plan.{by_plan}
-use Rattle.octets.proofs.Lemmas.{on_success, plan_from-by_plan}
+use Rattle.octets.proofs.Lemmas.{plan_from-by_plan}
 use Rattle.tokens.specs.Signing.{sig_plan}
-use Rattle.jose.specs.Code.Doing.{input_members, output_members}
+use Rattle.octets.specs.Devices.{input_members, output_members}
 use Rattle.jose.specs.Invocations.{settings_view}
 use Rattle.jose.proofs.Doing.{not_read}
-use Rattle.jose.proofs.Draws.{by_plan_drawn, by_plan_refused, none_drawn, nothing_drawn}
 use Rattle.jose.proofs.Fixed.{signed_inside}
 use Rattle.jose.proofs.Rows.{sig_is, is_given}
-use Rattle.jose.proofs.Streamed.{StreamsLent, keys_refused, streamed, unlent_call, told_unread}
+use Rattle.jose.proofs.Streamed.{StreamsDrawn, drawn_from_none, keys_refused, streamed, unlent_call}
 use Rattle.jose.proofs.commands.jws.sign.Goals as goal
 
 pub returns-in_err-template : goal.returns-in_err-template
@@ -27,21 +26,18 @@ returns-in_err-set g c =
 pub returns-then-has : goal.returns-then-has
 returns-then-has g c =
     let options = settings_view c.args.invocation.now.options.items in
-    let consumed = g.I.Input.consumed in
-    let random = consumed c.read_inputs.new.inputs.random in
     let e = c.jws_sign.ensures in
     let plan = sig_plan limits c.has-compact.result true c.in_ok-set.set c.deref-then-has.result.now in
     let k : key_set limits c.in_ok-template.template.keys.items true ≡ Ok c.in_ok-set.set = rw (← c.deref.ensures.value) c.in_ok-set.ensures in
     let t : c.in_ok-template.template.text.items ≡ c.deref-then-has.result.now = sym c.deref-then-has.ensures.value in
     let wanted : true ≡ is_given "O" options = sym c.if-has.true ∙ c.has.ensures in
     rw c.requires.command (streamed (Some (record { old = c.args.outputs.now.content; new = c.jws_sign.new.detached.0 })) c.jws_sign.result (sig_is options true wanted) c.in_ok-template.ensures
-    (rw (k, t, ← c.has-compact.ensures, ← wanted) refl) (plan_from-by_plan plan) (λ none. refl) (λ none. cc) refl (record { answer = λ octets whole octets_may may. e.answer whole may; drawn = on_success c.jws_sign.result e.finished (λ done. nothing_drawn random ∙ sym (by_plan_drawn plan)); at_most = none_drawn random _; beginning = e.beginning; beginning_beside = e.beginning_beside; finished = e.finished; unfinished = e.unfinished; keeps_up = e.keeps_up; content_last = λ refusal refused. (refl, e.content_last refusal (by_plan_refused plan refusal refused)); random_first = λ short. let none = by_plan_drawn plan in absurd (omega (arith, none, short)); uncut = e.uncut; content_first = e.content_first; memory_first = e.memory_first; unread = e.unread; faults = told_unread _ _ _ c.jws_sign.result refl e.faults }))
+    (rw (k, t, ← c.has-compact.ensures, ← wanted) refl) (plan_from-by_plan plan) (λ none. refl) (λ none. cc) refl (drawn_from_none plan _ _ _ _ _ _ _ e.streams e.faults))
 
 pub returns : goal.returns
 returns g c =
     let options = settings_view c.args.invocation.now.options.items in
     let consumed = g.I.Input.consumed in
-    let random = consumed c.read_inputs.new.inputs.random in
     let e = c.jws_sign-else-has.ensures in
     let plan_by = λ (detach : Bool). sig_plan limits c.has-compact.result detach c.in_ok-set.set c.deref-else-has.result.now in
     let plan = plan_by (is_some c.default.result) in
@@ -51,4 +47,4 @@ returns g c =
     let t : c.in_ok-template.template.text.items ≡ c.deref-else-has.result.now = sym c.deref-else-has.ensures.value in
     let wanted : false ≡ is_given "O" options = sym c.if-has.false ∙ c.has.ensures in
     rw c.requires.command (streamed None c.jws_sign-else-has.result (sig_is options false wanted) c.in_ok-template.ensures
-    (rw (k, t, ← c.has-compact.ensures, ← wanted) refl) (plan_from-by_plan (plan_by false)) (λ none. refl) (λ none. signed_inside c.has-compact.result c.in_ok-set.set c.deref-else-has.result.now) refl (unlent_call c.default.result _ (λ detach l. StreamsLent input output (by_plan (plan_by detach)) (λ octets. plan_by detach) c.read_inputs.new.inputs.random c.read_inputs.new.inputs.random c.read_inputs.new.inputs.content c.jws_sign-else-has.new.content c.args.outputs.now.text c.jws_sign-else-has.new.out l c.jws_sign-else-has.result) c.default.ensures (record { answer = λ octets whole octets_may may. e.answer whole may; drawn = on_success c.jws_sign-else-has.result e.finished (λ done. nothing_drawn random ∙ sym (by_plan_drawn plan)); at_most = none_drawn random _; beginning = e.beginning; beginning_beside = e.beginning_beside; finished = e.finished; unfinished = e.unfinished; keeps_up = e.keeps_up; content_last = λ refusal refused. (refl, e.content_last refusal (by_plan_refused plan refusal refused)); random_first = λ short. let none = by_plan_drawn plan in absurd (omega (arith, none, short)); uncut = e.uncut; content_first = e.content_first; memory_first = e.memory_first; unread = e.unread; faults = told_unread _ _ _ c.jws_sign-else-has.result refl e.faults })))
+    (rw (k, t, ← c.has-compact.ensures, ← wanted) refl) (plan_from-by_plan (plan_by false)) (λ none. refl) (λ none. signed_inside c.has-compact.result c.in_ok-set.set c.deref-else-has.result.now) refl (unlent_call c.default.result _ (λ detach l. StreamsDrawn input output (by_plan (plan_by detach)) (λ octets. plan_by detach) c.read_inputs.new.inputs.random c.read_inputs.new.inputs.random c.read_inputs.new.inputs.content c.jws_sign-else-has.new.content c.args.outputs.now.text c.jws_sign-else-has.new.out l c.jws_sign-else-has.result) c.default.ensures (drawn_from_none plan _ _ _ _ _ _ _ e.streams e.faults)))

@@ -1,8 +1,7 @@
--- What a command promises about its devices, and what its steps promise, from which this follows.
-use Rattle.std.specs.Prelude.{◌≡◌, ◌⊎◌, ◌++◌, ◌&&◌, ℕ, Bool, true, false, List, [], if◌then◌else◌, option_map, Result, Err, OnOk, OnErr, IfOk, IfErr, IsTrue, Ok}
+-- What the steps of a command promise about its devices. What a command promises follows from this.
+use Rattle.std.specs.Prelude.{◌≡◌, ◌⊎◌, ◌++◌, ◌&&◌, ℕ, Bool, true, false, List, [], if◌then◌else◌, option_map, Result, OnOk, OnErr, IfOk, IfErr, IsTrue, Ok}
 use Rattle.octets.specs.declared.refusal.Refusal.{Refusal}
-use Rattle.octets.specs.declared.refusal.Refusal.TheVariants.{Read}
-use Rattle.octets.specs.Devices.{IsPossibleInput, IsFinishedOnce}
+use Rattle.octets.specs.Devices.{InputMembers, OutputMembers, IsPossibleInput, IsFinishedOnce}
 use Rattle.octets.specs.Faults.{TellsFaults}
 use Rattle.octets.specs.Outcomes.{AgreesUnlessExternal, is_external}
 use Rattle.octets.specs.Plan.{OutputTexts, nothing}
@@ -10,9 +9,8 @@ use Rattle.objects.specs.Texts.{handed_in, handed_out}
 use Rattle.jose.specs.declared.commands.WholeInputs.{WholeInputs}
 use Rattle.jose.specs.declared.ports.Inputs.{Inputs}
 use Rattle.jose.specs.declared.ports.Outputs.{Outputs}
-use Rattle.jose.specs.Invocations.{InvocationView}
-use Rattle.jose.specs.Ports.{ObservedInputs, AppendPrefixesOf, observed_inputs, written_texts, input_counts, output_counts}
-use Rattle.jose.specs.Answer.{Answers, DrawsAll, DrawsNoMore, AreFinished, AreUnfinished, AreUntouched, AreSpared, AreUncut, AreUnread, AreKeptUp, IsContentFirst, AreInOrder, ReadsFirst, DrawsFirst, TakesMemoryFirst, RefusesFirst, HoldsBack, was_read, beginning as beginning_of_run}
+use Rattle.jose.specs.Ports.{AppendPrefixesOf, seen_of, written_texts, input_counts, output_counts}
+use Rattle.jose.specs.Answer.{AreSpared, was_read}
 
 -- the texts of an answer that may be written as a whole, which are empty until its inputs are read and accepted
 -- (docs/SPECIFICATION.md "Commands", "What is left after a refusal")
@@ -23,52 +21,6 @@ formed answer read = nothing
 -- the text of an object, and its content next to it if this is detached (docs/SPECIFICATION.md "Commands" 4)
 abbrev pub object_texts : Bool → List ℕ → List ℕ → OutputTexts
 object_texts detach content text = record { text = text; content = handed_out detach content }
-
--- ---- what contracts see of a device
-
-pub record InputMembers (D : Type 0) : Type 0 where
-  pub consumed : D → List ℕ
-  pub is_at_end : D → Bool
-  pub failures : D → ℕ
-
-pub record OutputMembers (D : Type 0) : Type 0 where
-  pub written : D → List ℕ
-  pub is_finished : D → Bool
-  pub endings : D → ℕ
-  pub failures : D → ℕ
-
-abbrev pub input_members : {D : Type 0} → (D → List ℕ) → (D → Bool) → (D → ℕ) → InputMembers D
-input_members consumed is_at_end failures = record { consumed = consumed; is_at_end = is_at_end; failures = failures }
-
-abbrev pub output_members : {D : Type 0} → (D → List ℕ) → (D → Bool) → (D → ℕ) → (D → ℕ) → OutputMembers D
-output_members written is_finished endings failures = record { written = written; is_finished = is_finished; endings = endings; failures = failures }
-
--- what was seen of the inputs
-abbrev pub seen_of : {D : Type 0} → InputMembers D → Inputs D → Inputs D → ObservedInputs
-seen_of input old new = observed_inputs input.consumed input.is_at_end old new
-
--- ---- a command
-
--- Everything that `run` promises about an invocation, clause by clause.
-pub record Does {D E : Type 0} (input : InputMembers D) (output : OutputMembers E) (invocation : InvocationView) (old new : Inputs D) (before after : Outputs E) (result : Result (Unit {0}) Refusal) : Type 0 where
-  pub answer : Answers invocation (seen_of input old new) (written_texts output.written before after) result
-  pub drawn : OnOk result (DrawsAll invocation (seen_of input old new))
-  pub at_most : DrawsNoMore invocation (seen_of input old new)
-  pub beginning : OnErr result (AppendPrefixesOf output.written (beginning_of_run invocation (seen_of input old new)) before after)
-  pub held_back : IfErr result (HoldsBack output.failures invocation before after)
-  pub uncut : IfErr result (AreUncut output.failures output.written before after)
-  pub unread : IfErr result (AreUnread output.failures invocation (seen_of input old new) before after)
-  pub keeps_up : result ≡ Err Read → AreKeptUp output.written invocation (seen_of input old new) before after
-  pub content_first : OnErr result (IsContentFirst output.written output.is_finished output.endings invocation (seen_of input old new) before after)
-  pub in_order : AreInOrder invocation (seen_of input old new) old new
-  pub reads_first : IfErr result (ReadsFirst invocation (seen_of input old new))
-  pub random_first : DrawsFirst invocation (seen_of input old new) old new
-  pub memory_first : IfErr result (TakesMemoryFirst invocation old new)
-  pub content_last : RefusesFirst invocation (seen_of input old new) old new
-  pub finished : OnOk result (AreFinished output.is_finished output.endings invocation before after)
-  pub unfinished : OnErr result (AreUnfinished output.endings invocation before after)
-  pub untouched : AreUntouched invocation old new before after
-  pub faults : TellsFaults (input_counts input.failures old new) (output_counts output.failures before after) result
 
 -- ---- reading whole inputs
 
