@@ -20,13 +20,10 @@ STATED = [
     "at most {MOST_KEYS} objects",
     "if there are more than {MOST_KEYS};",
     "(more than|up to) {MOST_KEYS} hosts",
-    "split -l {MOST_KEYS}",
     "{MOST_RECIPIENTS} (recipients|signatures)",
     "{MOST_RECIPIENTS} times {MOST_KEYS}",
-    "{MOST_RECIPIENTS} times over",
     "{PAIRS} (pairs|HMACs|of each other)",
     "PBKDF2, from {LEAST_P2C} to {GREATEST_P2C}",
-    "reads at most {GREATEST_P2C_READ} iterations for a recipient, and makes at most {MOST_ITERATIONS} in one call",
     "[Aa] key has at most {MOST_KEY_OCTETS} octets",
     "(text of|each of|in octets, from) 1 to {MOST_KEY_OCTETS}",
     "(bytes is|Key;) above {MOST_KEY_OCTETS}",
@@ -57,7 +54,6 @@ STATED = [
 ]
 # Statements in which the same number is no limit.
 OTHERS = [
-    "jose2go read 2,000,000",
     "[Tt]heirs writes 1,000",
     "(token of|now has all|Parts have) 100,000 octets",
 ]
