@@ -92,9 +92,9 @@ bench:
 pictures:
 	@scripts/pictures
 
-# Compares the pages and the completions with the program's table of commands and its limits, and the pictures with their figures. It tries
-# the refusals that the pages list, the completions, install and uninstall, and runs shellcheck on the scripts that are installed. A test
-# prints the table: the gate's, or a new unproved one if sources changed.
+# Compares the pages and the completions with the program's table of commands and its limits, and the pictures with their figures. It
+# refuses long sentences in the pages for users. It tries the refusals that the pages list, the completions, install and uninstall, and runs
+# shellcheck on the scripts that are installed. A test prints the table: the gate's, or a new unproved one if sources changed.
 pages:
 	@scripts/pages
 	@scripts/pictures --check
