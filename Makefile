@@ -39,7 +39,7 @@ static:
 static-try:
 	@scripts/static-try
 
-# Compares docs/CALLS.md (what each public call may refuse and change) and docs/AUDIT.md (which definitions the promises reach) with the
+# Compares docs/calls.txt (what each public call may refuse and change) and docs/AUDIT.md (which definitions the promises reach) with the
 # sources. It also reads in the code that refusals for memory and devices come only from their errors, and how tags are compared.
 calls:
 	@scripts/calls
@@ -83,10 +83,10 @@ growth:
 hostile:
 	@scripts/hostile $(SEED)
 
-# Measures the built program next to other programs of the machine. With BESIDE=PROGRAM it measures only the commands, in turns with that
+# Measures the built program next to other programs of the machine. With OTHER=PROGRAM it measures only the commands, in turns with that
 # other build. Its output goes into docs/pictures/bench.txt at a release.
 bench:
-	@scripts/bench $(if $(BESIDE),commands $(BESIDE))
+	@scripts/bench $(if $(OTHER),commands $(OTHER))
 
 # Draws the pictures of the pages, from crates.txt and docs/pictures/bench.txt.
 pictures:
