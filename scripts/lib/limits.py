@@ -26,7 +26,7 @@ STATED = [
     "PBKDF2, from {LEAST_P2C} to {GREATEST_P2C}",
     "[Aa] key has at most {MOST_KEY_OCTETS} octets",
     "(text of|each of|in octets, from) 1 to {MOST_KEY_OCTETS}",
-    "(bytes is|Key;) above {MOST_KEY_OCTETS}",
+    "bytes is above {MOST_KEY_OCTETS}",
     "nests? (at most|more than) {MOST_DEPTH} deep",
     "deeper than {DEPTH_READ}",
     "JSON that is read at most {DEPTH_READ}",
@@ -48,14 +48,14 @@ STATED = [
     "at most {MOST_ITERATIONS} in a call",
     "pieces of( at most| PIECE,)? {PIECE} octets",
     "holds? {PIECE} octets",
-    "(reader takes up to|feed\\(piece, out\\) takes at most) {PIECE}",
+    "reader takes up to {PIECE}",
     "at most its last {MOST_BEHIND} octets",
     "at most {MOST_BEHIND} octets are missing",
 ]
 # Statements in which the same number is no limit.
 OTHERS = [
     "[Tt]heirs writes 1,000",
-    "(token of|now has all|Parts have) 100,000 octets",
+    "(token of|Parts have) 100,000 octets",
 ]
 
 
