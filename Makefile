@@ -2,7 +2,7 @@
 
 PREFIX ?= /usr/local
 # Checks that the program is the one that `make build` made. A trial of installing sets this to `:` and takes any program.
-BUILT = scripts/built
+BUILT = scripts/compare-build
 
 .PHONY: demo test edits tests-try build static static-try calls definitions vectors library bindings ports long faults growth hostile bench pictures pages tour interop latchset dist dist-try install uninstall clean
 
@@ -100,7 +100,7 @@ pages:
 	@scripts/pictures --check
 	@scripts/refusals
 	@scripts/completions
-	@scripts/installed
+	@scripts/try-install
 
 # Runs every example of the README, the docs and the man pages, and every recipe of examples/, with the built program. Tries the tools of
 # tools/ in dash, busybox and bash, and makes the attacks that the recipes must withstand.
