@@ -35,14 +35,16 @@ at-block s r c h k = at-square (λ r c. octet (slice_index s c) r) r c h k
 
 -- A block is determined by its columns.
 pub columns_are : (v w x y : ℕ) (b : List ℕ) → length b ≡ 16
-    → ((r : ℕ) → r < 4 → octet v r ≡ at b r 0) → ((r : ℕ) → r < 4 → octet w r ≡ at b r 1) → ((r : ℕ) → r < 4 → octet x r ≡ at b r 2) → ((r : ℕ) → r < 4 → octet y r ≡ at b r 3)
+    → ((r : ℕ) → r < 4 → octet v r ≡ at b r 0) → ((r : ℕ) → r < 4 → octet w r ≡ at b r 1) → ((r : ℕ) → r < 4 → octet x r ≡ at b r 2)
+    → ((r : ℕ) → r < 4 → octet y r ≡ at b r 3)
     → block_of (v ∷ w ∷ x ∷ y ∷ []) ≡ b
 unfolding block_of
 columns_are v w x y b size p q s t = same_square (λ r c. octet (slice_index (v ∷ w ∷ x ∷ y ∷ []) c) r) b size (λ r c hr hc.
     by_row (λ c. (r : ℕ) → r < 4 → octet (slice_index (v ∷ w ∷ x ∷ y ∷ []) c) r ≡ at b r c) p q s t c hc r hr)
 
 -- The octets of four words are written in their order.
-pub written : (s p q t u : List ℕ) → p ≡ to_le_bytes w32 (slice_index s 0) → q ≡ to_le_bytes w32 (slice_index s 1) → t ≡ to_le_bytes w32 (slice_index s 2) → u ≡ to_le_bytes w32 (slice_index s 3)
+pub written : (s p q t u : List ℕ) → p ≡ to_le_bytes w32 (slice_index s 0) → q ≡ to_le_bytes w32 (slice_index s 1) → t ≡ to_le_bytes w32 (slice_index s 2)
+    → u ≡ to_le_bytes w32 (slice_index s 3)
     → slice_index p 0 ∷ slice_index p 1 ∷ slice_index p 2 ∷ slice_index p 3 ∷
     slice_index q 0 ∷ slice_index q 1 ∷ slice_index q 2 ∷ slice_index q 3 ∷
     slice_index t 0 ∷ slice_index t 1 ∷ slice_index t 2 ∷ slice_index t 3 ∷
@@ -96,9 +98,11 @@ inverse_shift_sub_column s t c hc around r h =
 
 -- The sum of four multiples of one column, each rotated, is a sum of products.
 pub sum_of_multiples : (q w : List ℕ) (x : ℕ → ℕ) → ((k : ℕ) → k < 4 → IsColumnTimes q (x k) (slice_index w k))
-    → (r : ℕ) → polynomial_sum (λ k. octet (slice_index w k) ((r + 4 - k) % 4)) 4 ≡ polynomial_sum (λ k. octet_product (slice_index q ((r + 4 - k) % 4)) (x k)) 4
+    → (r : ℕ) → polynomial_sum (λ k. octet (slice_index w k) ((r + 4 - k) % 4)) 4
+    ≡ polynomial_sum (λ k. octet_product (slice_index q ((r + 4 - k) % 4)) (x k)) 4
 sum_of_multiples q w x is r =
-    polynomial_sum-ext (λ k. octet (slice_index w k) ((r + 4 - k) % 4)) (λ k. octet_product (slice_index q ((r + 4 - k) % 4)) (x k)) 4 (λ k l. is k l ((r + 4 - k) % 4) (omega arith))
+    polynomial_sum-ext (λ k. octet (slice_index w k) ((r + 4 - k) % 4)) (λ k. octet_product (slice_index q ((r + 4 - k) % 4)) (x k)) 4
+    (λ k l. is k l ((r + 4 - k) % 4) (omega arith))
 
 -- the other columns of the matrix m are rotations of its column q
 abbrev pub IsTurned : List ℕ → (ℕ → ℕ → ℕ) → Type 0
@@ -107,7 +111,8 @@ IsTurned q m = (r k : ℕ) → r < 4 → k < 4 → slice_index q ((r + 4 - k) % 
 pub mix_column : (q : List ℕ) (m : ℕ → ℕ → ℕ) → IsTurned q m → (b : List ℕ) (x : ℕ → ℕ) (c : ℕ) → c < 4 → ((k : ℕ) → k < 4 → x k ≡ at b k c)
     → (r : ℕ) → r < 4 → polynomial_sum (λ k. octet_product (slice_index q ((r + 4 - k) % 4)) (x k)) 4 ≡ at (times_matrix m b) r c
 mix_column q m turned b x c hc is r h =
-    polynomial_sum-ext (λ k. octet_product (slice_index q ((r + 4 - k) % 4)) (x k)) (λ k. octet_product (m r k) (at b k c)) 4 (λ k l. ap₂ octet_product (turned r k h l) (is k l))
+    polynomial_sum-ext (λ k. octet_product (slice_index q ((r + 4 - k) % 4)) (x k)) (λ k. octet_product (m r k) (at b k c)) 4
+    (λ k l. ap₂ octet_product (turned r k h l) (is k l))
     ∙ sym (at-square (λ r c. polynomial_sum (λ k. octet_product (m r k) (at b k c)) 4) r c h hc)
 
 pub mix_turned : IsTurned (2 ∷ 1 ∷ 1 ∷ 3 ∷ []) mix
@@ -147,17 +152,21 @@ back_around s c = by_row (λ k. slice_index (back_from_column c s) k ≡ slice_i
 -- The sum of products is an octet of the block after the inverse row shift, the inverse S-box, the round key and the inverse matrix.
 pub inverse_round_mixed : (ks s : List ℕ) (m i c r : ℕ) → c < 4 → i ≡ 4 * m + c → r < 4
     → polynomial_sum
-    (λ k. octet_product (slice_index (14 ∷ 9 ∷ 13 ∷ 11 ∷ []) ((r + 4 - k) % 4)) (bit_xor (inverse_s_box (octet (slice_index (back_from_column c s) k) k)) (word ks i k))) 4
+    (λ k. octet_product (slice_index (14 ∷ 9 ∷ 13 ∷ 11 ∷ []) ((r + 4 - k) % 4))
+    (bit_xor (inverse_s_box (octet (slice_index (back_from_column c s) k) k)) (word ks i k))) 4
     ≡ at (inverse_mix_columns (add_round_key ks m (inverse_sub_bytes (inverse_shift_rows (block_of s))))) r c
 inverse_round_mixed ks s m i c r hc e h =
     let b = inverse_sub_bytes (inverse_shift_rows (block_of s)) in
-    mix_column (14 ∷ 9 ∷ 13 ∷ 11 ∷ []) inverse_mix inverse_mix_turned (add_round_key ks m b) (λ k. bit_xor (inverse_s_box (octet (slice_index (back_from_column c s) k) k)) (word ks i k)) c hc
+    mix_column (14 ∷ 9 ∷ 13 ∷ 11 ∷ []) inverse_mix inverse_mix_turned (add_round_key ks m b)
+    (λ k. bit_xor (inverse_s_box (octet (slice_index (back_from_column c s) k) k)) (word ks i k)) c hc
     (λ k l.
     ap₂ bit_xor (inverse_shift_sub_column s (back_from_column c s) c hc (back_around s c) k l) (ap (λ j. word ks j k) e)
     ∙ sym (at-square (λ r c. bit_xor (at b r c) (word ks (4 * m + c) r)) k c l hc)) r h
 
 -- The sum of products is an octet of the block after the S-box, the row shift and the matrix.
 pub sub_shift_mixed : (s : List ℕ) (c r : ℕ) → c < 4 → r < 4
-    → polynomial_sum (λ k. octet_product (slice_index (2 ∷ 1 ∷ 1 ∷ 3 ∷ []) ((r + 4 - k) % 4)) (s_box (octet (slice_index (from_column c s) k) k))) 4 ≡ at (mix_columns (shift_rows (sub_bytes (block_of s)))) r c
-sub_shift_mixed s c r hc h = mix_column (2 ∷ 1 ∷ 1 ∷ 3 ∷ []) mix mix_turned (shift_rows (sub_bytes (block_of s))) (λ k. s_box (octet (slice_index (from_column c s) k) k)) c hc
+    → polynomial_sum (λ k. octet_product (slice_index (2 ∷ 1 ∷ 1 ∷ 3 ∷ []) ((r + 4 - k) % 4)) (s_box (octet (slice_index (from_column c s) k) k))) 4
+    ≡ at (mix_columns (shift_rows (sub_bytes (block_of s)))) r c
+sub_shift_mixed s c r hc h = mix_column (2 ∷ 1 ∷ 1 ∷ 3 ∷ []) mix mix_turned (shift_rows (sub_bytes (block_of s)))
+    (λ k. s_box (octet (slice_index (from_column c s) k) k)) c hc
     (sub_shift_column s (from_column c s) c hc (around s c)) r h

@@ -52,13 +52,15 @@ times_power : (x : ℕ) → suc x < 256 → octet_product (suc x) (power (suc x)
 unfolding is_inverse
 times_power x h =
     quick_is (suc x) (power (suc x)) (power-lt (suc x) h)
-    ∙ eqb-true (quick 8 (suc x) (power (suc x))) 1 (and_parts (quick 8 (suc x) (power (suc x)) == 1) (undoes (power (suc x)) (suc x)) (inverses x (omega arith))).0
+    ∙ eqb-true (quick 8 (suc x) (power (suc x))) 1 (and_parts (quick 8 (suc x) (power (suc x)) == 1) (undoes (power (suc x)) (suc x))
+    (inverses x (omega arith))).0
 
 power_undoes : (x n : ℕ) → suc x < 256 → n < 256 → octet_product (power (suc x)) (octet_product (suc x) n) ≡ n
 unfolding is_inverse undoes
 power_undoes x n h l = linear_agree 8 (λ n. octet_product y (octet_product (suc x) n)) (λ n. n) (
   ap (octet_product y) (octet_product-zero (suc x)) ∙ octet_product-zero y,
-  λ a b ha hb. ap (octet_product y) (octet_product-xor (suc x) a b ha hb) ∙ octet_product-xor y (octet_product (suc x) a) (octet_product (suc x) b) (octet_product-lt (suc x) a ha) (octet_product-lt (suc x) b hb),
+  λ a b ha hb. ap (octet_product y) (octet_product-xor (suc x) a b ha hb)
+      ∙ octet_product-xor y (octet_product (suc x) a) (octet_product (suc x) b) (octet_product-lt (suc x) a ha) (octet_product-lt (suc x) b hb),
 )
     (refl, λ a b ha hb. refl)
     on_powers n l
@@ -71,7 +73,8 @@ power_undoes x n h l = linear_agree 8 (λ n. octet_product y (octet_product (suc
         let small : 2 ^ i < 256 = pow_below i 8 k in
         quick_is y (octet_product (suc x) (2 ^ i)) (octet_product-lt (suc x) (2 ^ i) small)
         ∙ ap (quick 8 y) (quick_is (suc x) (2 ^ i) small)
-        ∙ equal_below (λ i. quick 8 y (quick 8 (suc x) (2 ^ i))) (λ i. 2 ^ i) 8 i (and_parts (quick 8 (suc x) y == 1) (undoes y (suc x)) (inverses x (omega arith))).1 k
+        ∙ equal_below (λ i. quick 8 y (quick 8 (suc x) (2 ^ i))) (λ i. 2 ^ i) 8 i
+        (and_parts (quick 8 (suc x) y == 1) (undoes y (suc x)) (inverses x (omega arith))).1 k
 
 only_power : (x n : ℕ) → suc x < 256 → n < 256 → octet_product (suc x) n ≡ 1 → n ≡ power (suc x)
 only_power x n h l e = sym (power_undoes x n h l) ∙ ap (octet_product (power (suc x))) e ∙ times_one (power (suc x)) (power-lt (suc x) h)
@@ -103,7 +106,8 @@ none_found : (n : ℕ) → n ≤ 256 → inverse_below n 0 ≡ 0
 unfolding inverse_below
 none_found zero h = refl
 none_found (suc n) h = choice (octet_product 0 n == 1) n (inverse_below n 0) 0
-    (λ t. let one : octet_product 0 n ≡ 1 = eqb-true (octet_product 0 n) 1 t in let z : octet_product 0 n ≡ 0 = zero_times n (omega arith) in absurd (omega arith))
+    (λ t. let one : octet_product 0 n ≡ 1 = eqb-true (octet_product 0 n) 1 t in let z : octet_product 0 n
+    ≡ 0 = zero_times n (omega arith) in absurd (omega arith))
     (λ f. none_found n (omega arith))
 
 pub inverse_is : (x : ℕ) → x < 256 → octet_inverse x ≡ power x
@@ -116,7 +120,10 @@ inverse-lt x h = subst (λ y. y < 256) (sym (inverse_is x h)) (power-lt x h)
 
 pub inverse_only : (x y : ℕ) → x < 256 → y < 256 → x ≢ 0 → (octet_product x y ≡ 1) ↔ (y ≡ octet_inverse x)
 inverse_only zero y h l n = absurd (n refl)
-inverse_only (suc x) y h l n = (λ e. only_power x y h l e ∙ sym (inverse_is (suc x) h), λ e. ap (octet_product (suc x)) (e ∙ inverse_is (suc x) h) ∙ times_power x h)
+inverse_only (suc x) y h l n = (
+  λ e. only_power x y h l e ∙ sym (inverse_is (suc x) h),
+  λ e. ap (octet_product (suc x)) (e ∙ inverse_is (suc x) h) ∙ times_power x h,
+)
 
 pub inverse_zero : octet_inverse 0 ≡ 0
 unfolding octet_inverse
@@ -129,5 +136,6 @@ inverse_twice (suc x) h =
     let y = power (suc x) in
     let small : y < 256 = power-lt (suc x) h in
     let one : octet_product y (suc x) ≡ 1 = ap (octet_product y) (sym (times_one (suc x) h)) ∙ power_undoes x 1 h (omega arith) in
-    let ne : y ≢ 0 = λ z. (let bad : ◌≡◌ {A = ℕ} 0 1 = sym (zero_times (suc x) h) ∙ ap (λ v. octet_product v (suc x)) (sym z) ∙ one in absurd (omega (arith, bad))) in
+    let ne : y ≢ 0 = λ z. (let bad : ◌≡◌ {A = ℕ} 0 1 = sym (zero_times (suc x) h) ∙ ap (λ v. octet_product v (suc x)) (sym z)
+    ∙ one in absurd (omega (arith, bad))) in
     ap octet_inverse (inverse_is (suc x) h) ∙ sym ((inverse_only y (suc x) small h ne).0 one)

@@ -11,7 +11,8 @@ use Rattle.aes.proofs.Products.{octet_product-lt}
 use Rattle.aes.proofs.Boxes.{s_box-lt}
 
 -- Word i depends only on the octets before it.
-pub next_word-same : (nk : ℕ) (v w : List ℕ) (i r : ℕ) → 0 < nk → nk ≤ i → r < 4 → ((p : ℕ) → p < 4 * i → slice_index v p ≡ slice_index w p) → next_word nk v i r ≡ next_word nk w i r
+pub next_word-same : (nk : ℕ) (v w : List ℕ) (i r : ℕ) → 0 < nk → nk ≤ i → r < 4 → ((p : ℕ) → p < 4 * i → slice_index v p ≡ slice_index w p)
+    → next_word nk v i r ≡ next_word nk w i r
 next_word-same nk v w i r pos h l same =
     ap₂ bit_xor (same (4 * (i - nk) + r) (omega arith))
     (ap₂ (λ s t. cond (i % nk == 0) (bit_xor (s_box s) (rcon (i / nk) r)) (cond (nat_lt 6 nk && (i % nk == 4)) (s_box t) t))
@@ -71,7 +72,8 @@ module _ (nk : ℕ) (k : List ℕ) (pos : 0 < nk) (size : length k ≡ 4 * nk) w
   key_octet p h = sym (key_words-front (3 * nk + 28) p (omega arith))
 
   -- The octet at place p is computed from any list with the same octets before it.
-  pub next_key_octet : (v : List ℕ) (p : ℕ) → 4 * nk ≤ p → p < 16 * (nk + 7) → ((q : ℕ) → q < p → slice_index v q ≡ slice_index (key_expansion nk k) q) → next_word nk v (p / 4) (p % 4) ≡ slice_index (key_expansion nk k) p
+  pub next_key_octet : (v : List ℕ) (p : ℕ) → 4 * nk ≤ p → p < 16 * (nk + 7) → ((q : ℕ) → q < p → slice_index v q ≡ slice_index (key_expansion nk k) q)
+      → next_word nk v (p / 4) (p % 4) ≡ slice_index (key_expansion nk k) p
   unfolding key_expansion
   next_key_octet v p h l same =
       let w = key_words nk k (3 * nk + 28) in
@@ -103,13 +105,15 @@ unfolding key_words
 key_words-lt nk k small zero p = small p
 key_words-lt nk k small (suc n) p = joined (key_words nk k n) (key_words-lt nk k small n)
   where
-    joined : (w : List ℕ) → ((q : ℕ) → slice_index w q < 256) → slice_index (w ++ next_word nk w (nk + n) 0 ∷ next_word nk w (nk + n) 1 ∷ next_word nk w (nk + n) 2 ∷ next_word nk w (nk + n) 3 ∷ []) p < 256
+    joined : (w : List ℕ) → ((q : ℕ) → slice_index w q < 256)
+        → slice_index (w ++ next_word nk w (nk + n) 0 ∷ next_word nk w (nk + n) 1 ∷ next_word nk w (nk + n) 2 ∷ next_word nk w (nk + n) 3 ∷ []) p < 256
     joined w h = ⊎_elim
         (λ b. subst (λ x. x < 256) (sym (get_or_append_left w _ 0 p b)) (h p))
         (λ b. subst (λ x. x < 256) (sym (get_or-append_right w _ p 0 b)) (in_more w h (p - length w)))
         (cases_lt p (length w))
       where
-        in_more : (w : List ℕ) → ((q : ℕ) → slice_index w q < 256) → (s : ℕ) → slice_index (next_word nk w (nk + n) 0 ∷ next_word nk w (nk + n) 1 ∷ next_word nk w (nk + n) 2 ∷ next_word nk w (nk + n) 3 ∷ []) s < 256
+        in_more : (w : List ℕ) → ((q : ℕ) → slice_index w q < 256) → (s : ℕ)
+            → slice_index (next_word nk w (nk + n) 0 ∷ next_word nk w (nk + n) 1 ∷ next_word nk w (nk + n) 2 ∷ next_word nk w (nk + n) 3 ∷ []) s < 256
         in_more w h zero = next_word-lt nk w (nk + n) 0 h
         in_more w h (suc zero) = next_word-lt nk w (nk + n) 1 h
         in_more w h (suc (suc zero)) = next_word-lt nk w (nk + n) 2 h

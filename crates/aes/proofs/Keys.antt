@@ -21,7 +21,8 @@ module _ (nk : ℕ) (k w : List ℕ) (words : w ≡ key_expansion nk k) where
       let law = makes_cipher small in
       record { is_block = law.gives_block_back c h; is_sent_to = sym (encrypts (inverse_cipher (nk + 6) w c)) ∙ law.mirror c h }
 
-pub encrypted_block_is_cipher : (nk : ℕ) (k : List ℕ) → ((i : ℕ) → slice_index k i < 256) → IsCipher (encrypted_block nk k) (inverse_cipher (nk + 6) (key_expansion nk k))
+pub encrypted_block_is_cipher : (nk : ℕ) (k : List ℕ) → ((i : ℕ) → slice_index k i < 256)
+    → IsCipher (encrypted_block nk k) (inverse_cipher (nk + 6) (key_expansion nk k))
 encrypted_block_is_cipher nk k small =
     subst (λ e. IsCipher e (inverse_cipher (nk + 6) (key_expansion nk k))) (fun_ext (encrypts nk k (key_expansion nk k) refl))
     (makes_cipher nk k (key_expansion nk k) refl small)

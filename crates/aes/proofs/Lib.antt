@@ -16,3 +16,4 @@ pub mod Steps
 pub mod Rounds
 pub mod KeyWords
 pub mod Keys
+pub mod Lemmas

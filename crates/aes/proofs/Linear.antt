@@ -43,7 +43,8 @@ powers c (suc n) k h l =
     let low : s < 2 ^ n = powers_lt c n h in
     ap (λ x. bit_at x k) (xor_comm s (c n * 2 ^ n) ∙ xor_shifted (c n) n s low)
     ∙ ⊎_elim
-    (λ (top : k ≡ n). bit_at_cat_high (c n) n s k low (omega arith) ∙ ap (bit_at (c n)) (let z : k - n ≡ 0 = omega arith in z) ∙ digit_is (c n) (h n) ∙ ap c (sym top))
+    (λ (top : k ≡ n). bit_at_cat_high (c n) n s k low (omega arith) ∙ ap (bit_at (c n)) (let z : k - n ≡ 0 = omega arith in z)
+    ∙ digit_is (c n) (h n) ∙ ap c (sym top))
     (λ ne. let below : k < n = omega (arith, ne) in bit_at_cat_low (c n) n s k below ∙ powers c n k h below) (cases_eq k n)
 
 -- ---- the remainder of a product
@@ -51,8 +52,10 @@ powers c (suc n) k h l =
 module _ (d m p : ℕ) where
   -- The remainder of a multiple by a bit is the multiple of the remainder.
   multiple : (b r : ℕ) → (b ≡ 0) ⊎ (b ≡ 1) → polynomial_remainder d m d (b * r) ≡ b * polynomial_remainder d m d r
-  multiple b r (inl z) = ap (λ x. polynomial_remainder d m d (x * r)) z ∙ ap (polynomial_remainder d m d) (zero-mul r) ∙ polynomial_remainder-zero d m d ∙ sym (ap (λ x. x * polynomial_remainder d m d r) z ∙ zero-mul (polynomial_remainder d m d r))
-  multiple b r (inr o) = ap (λ x. polynomial_remainder d m d (x * r)) o ∙ ap (polynomial_remainder d m d) (one-mul r) ∙ sym (ap (λ x. x * polynomial_remainder d m d r) o ∙ one-mul (polynomial_remainder d m d r))
+  multiple b r (inl z) = ap (λ x. polynomial_remainder d m d (x * r)) z ∙ ap (polynomial_remainder d m d) (zero-mul r) ∙ polynomial_remainder-zero d m d
+      ∙ sym (ap (λ x. x * polynomial_remainder d m d r) z ∙ zero-mul (polynomial_remainder d m d r))
+  multiple b r (inr o) = ap (λ x. polynomial_remainder d m d (x * r)) o ∙ ap (polynomial_remainder d m d) (one-mul r)
+      ∙ sym (ap (λ x. x * polynomial_remainder d m d r) o ∙ one-mul (polynomial_remainder d m d r))
 
   by_rows : (q n : ℕ) → polynomial_remainder d m d (rows_of q p n) ≡ polynomial_sum (λ i. bit_at q i * polynomial_remainder d m d (p * 2 ^ i)) n
   by_rows q n =

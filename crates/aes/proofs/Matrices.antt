@@ -23,7 +23,8 @@ Undoes n m = (r j x : ℕ) → r < 4 → j < 4 → x < 256 → through n m r j x
 
 diagonal_sum : (f : ℕ → ℕ) (r : ℕ) → r < 4 → polynomial_sum (λ j. diagonal r j (f j)) 4 ≡ f r
 unfolding polynomial_sum
-diagonal_sum f zero h = xor_zero_r (bit_xor (bit_xor (bit_xor 0 (f 0)) 0) 0) ∙ xor_zero_r (bit_xor (bit_xor 0 (f 0)) 0) ∙ xor_zero_r (bit_xor 0 (f 0)) ∙ xor_zero_l (f 0)
+diagonal_sum f zero h = xor_zero_r (bit_xor (bit_xor (bit_xor 0 (f 0)) 0) 0) ∙ xor_zero_r (bit_xor (bit_xor 0 (f 0)) 0)
+    ∙ xor_zero_r (bit_xor 0 (f 0)) ∙ xor_zero_l (f 0)
 diagonal_sum f (suc zero) h = xor_zero_r (bit_xor (bit_xor (bit_xor 0 0) (f 1)) 0) ∙ xor_zero_r (bit_xor (bit_xor 0 0) (f 1)) ∙ xor_zero_l (f 1)
 diagonal_sum f (suc (suc zero)) h = xor_zero_r (bit_xor (bit_xor (bit_xor 0 0) 0) (f 2)) ∙ xor_zero_l (f 2)
 diagonal_sum f (suc (suc (suc zero))) h = xor_zero_l (f 3)
@@ -31,7 +32,8 @@ diagonal_sum f (suc (suc (suc (suc r)))) h = absurd (omega arith)
 
 times_matrix-undone : (n m : ℕ → ℕ → ℕ) → Undoes n m → (b : List ℕ) → length b ≡ 16 → ((i : ℕ) → slice_index b i < 256) → times_matrix n (times_matrix m b) ≡ b
 times_matrix-undone n m u b len small = same_square (λ r c. polynomial_sum (λ k. octet_product (n r k) (at (times_matrix m b) k c)) 4) b len (λ r c hr hc.
-    polynomial_sum-ext (λ k. octet_product (n r k) (at (times_matrix m b) k c)) (λ k. polynomial_sum (λ j. octet_product (n r k) (octet_product (m k j) (at b j c))) 4) 4
+    polynomial_sum-ext (λ k. octet_product (n r k) (at (times_matrix m b) k c))
+    (λ k. polynomial_sum (λ j. octet_product (n r k) (octet_product (m k j) (at b j c))) 4) 4
     (λ k hk. ap (octet_product (n r k)) (at-square (λ r c. polynomial_sum (λ j. octet_product (m r j) (at b j c)) 4) k c hk hc)
     ∙ octet_product-sum (n r k) (λ j. octet_product (m k j) (at b j c)) 4 (λ j hj. octet_product-lt (m k j) (at b j c) (small (j + 4 * c))))
     ∙ polynomial_sum-swap (λ k j. octet_product (n r k) (octet_product (m k j) (at b j c))) 4 4
@@ -45,15 +47,19 @@ diagonal_linear r j = elim (r == j) as (λ b. LinearBelow 8 (λ x. cond b x 0)) 
 
 through_linear : (n m : ℕ → ℕ → ℕ) (r j : ℕ) → LinearBelow 8 (through n m r j)
 through_linear n m r j = (
-  polynomial_sum-ext (λ k. octet_product (n r k) (octet_product (m k j) 0)) (λ k. 0) 4 (λ k l. ap (octet_product (n r k)) (octet_product-zero (m k j)) ∙ octet_product-zero (n r k)) ∙ polynomial_sum-zero 4,
+  polynomial_sum-ext (λ k. octet_product (n r k) (octet_product (m k j) 0)) (λ k. 0) 4
+      (λ k l. ap (octet_product (n r k)) (octet_product-zero (m k j)) ∙ octet_product-zero (n r k)) ∙ polynomial_sum-zero 4,
   λ x y h l.
-      polynomial_sum-ext (λ k. octet_product (n r k) (octet_product (m k j) (bit_xor x y))) (λ k. bit_xor (octet_product (n r k) (octet_product (m k j) x)) (octet_product (n r k) (octet_product (m k j) y))) 4
-      (λ k lk. ap (octet_product (n r k)) (octet_product-xor (m k j) x y h l) ∙ octet_product-xor (n r k) (octet_product (m k j) x) (octet_product (m k j) y) (octet_product-lt (m k j) x h) (octet_product-lt (m k j) y l))
+      polynomial_sum-ext (λ k. octet_product (n r k) (octet_product (m k j) (bit_xor x y)))
+      (λ k. bit_xor (octet_product (n r k) (octet_product (m k j) x)) (octet_product (n r k) (octet_product (m k j) y))) 4
+      (λ k lk. ap (octet_product (n r k)) (octet_product-xor (m k j) x y h l)
+      ∙ octet_product-xor (n r k) (octet_product (m k j) x) (octet_product (m k j) y) (octet_product-lt (m k j) x h) (octet_product-lt (m k j) y l))
       ∙ polynomial_sum-xor (λ k. octet_product (n r k) (octet_product (m k j) x)) (λ k. octet_product (n r k) (octet_product (m k j) y)) 4,
 )
 
 -- If all 128 tests pass, n undoes m on the powers of x. Test number i + 8 j + 32 r is the one for r, j and the power i.
-basis : (n m : ℕ → ℕ → ℕ) → all_below (λ t. through n m (t / 32) (t / 8 % 4) (2 ^ (t % 8)) == diagonal (t / 32) (t / 8 % 4) (2 ^ (t % 8))) 128 ≡ true → (r j i : ℕ) → r < 4 → j < 4 → i < 8 → through n m r j (2 ^ i) ≡ diagonal r j (2 ^ i)
+basis : (n m : ℕ → ℕ → ℕ) → all_below (λ t. through n m (t / 32) (t / 8 % 4) (2 ^ (t % 8)) == diagonal (t / 32) (t / 8 % 4) (2 ^ (t % 8))) 128 ≡ true
+    → (r j i : ℕ) → r < 4 → j < 4 → i < 8 → through n m r j (2 ^ i) ≡ diagonal r j (2 ^ i)
 basis n m e r j i hr hj hi =
     let t = i + 8 * j + 32 * r in
     let a : t / 32 ≡ r = omega arith in
@@ -64,8 +70,10 @@ basis n m e r j i hr hj hi =
     (subst (λ v. through n m (t / 32) (t / 8 % 4) (2 ^ v) ≡ diagonal (t / 32) (t / 8 % 4) (2 ^ v)) c
     (equal_below (λ t. through n m (t / 32) (t / 8 % 4) (2 ^ (t % 8))) (λ t. diagonal (t / 32) (t / 8 % 4) (2 ^ (t % 8))) 128 t e (omega arith))))
 
-undoes_from : (n m : ℕ → ℕ → ℕ) → all_below (λ t. through n m (t / 32) (t / 8 % 4) (2 ^ (t % 8)) == diagonal (t / 32) (t / 8 % 4) (2 ^ (t % 8))) 128 ≡ true → Undoes n m
-undoes_from n m e r j x hr hj hx = linear_agree 8 (through n m r j) (diagonal r j) (through_linear n m r j) (diagonal_linear r j) (λ i hi. basis n m e r j i hr hj hi) x hx
+undoes_from : (n m : ℕ → ℕ → ℕ) → all_below (λ t. through n m (t / 32) (t / 8 % 4) (2 ^ (t % 8)) == diagonal (t / 32) (t / 8 % 4) (2 ^ (t % 8))) 128 ≡ true
+    → Undoes n m
+undoes_from n m e r j x hr hj hx = linear_agree 8 (through n m r j) (diagonal r j) (through_linear n m r j) (diagonal_linear r j)
+    (λ i hi. basis n m e r j i hr hj hi) x hx
 
 -- ---- the two matrices
 

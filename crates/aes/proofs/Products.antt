@@ -38,7 +38,8 @@ rows-front a b k =
     polynomial_sum-front (λ j. bit_at a j * (b * 2 ^ j)) k
     ∙ ap₂ bit_xor (ap₂ (λ x y. x * y) (bit_at_lowest a) (mul-one b))
     (polynomial_sum-ext (λ j. bit_at a (suc j) * (b * 2 ^ suc j)) (λ j. bit_at (a / 2) j * (b * 2 ^ j) * 2 ^ 1) k
-    (λ j l. ap₂ (λ x y. x * y) (bit_at-suc a j) (ap (λ i. b * 2 ^ i) (let e : suc j ≡ j + 1 = omega arith in e) ∙ ap (λ x. b * x) (pow-add 2 j 1) ∙ sym (mul_assoc b (2 ^ j) (2 ^ 1))) ∙ sym (mul_assoc (bit_at (a / 2) j) (b * 2 ^ j) (2 ^ 1)))
+    (λ j l. ap₂ (λ x y. x * y) (bit_at-suc a j) (ap (λ i. b * 2 ^ i) (let e : suc j ≡ j + 1 = omega arith in e) ∙ ap (λ x. b * x) (pow-add 2 j 1)
+    ∙ sym (mul_assoc b (2 ^ j) (2 ^ 1))) ∙ sym (mul_assoc (bit_at (a / 2) j) (b * 2 ^ j) (2 ^ 1)))
     ∙ sym (polynomial_sum-map (λ x. x * 2 ^ 1) (zero-mul (2 ^ 1)) (λ x y. sym (xor_times_pow x y 1)) (λ j. bit_at (a / 2) j * (b * 2 ^ j)) k))
 
 -- The multiple of an octet by a bit is an octet.
@@ -54,7 +55,8 @@ quick-rows (suc k) a b h l =
     let under : rows_of (a / 2) b k < 2 ^ 15 = row_below (a / 2) b 8 k 15 l (omega arith) in
     let twice : rows_of (a / 2) b k * 2 ^ 1 < 2 ^ (8 + 8) = shl_below (rows_of (a / 2) b k) 15 1 under in
     ap₂ bit_xor (sym (polynomial_remainder-small 8 0x11b 8 (a % 2 * b) (bit_times-lt a b l)))
-    (ap x_times (quick-rows k (a / 2) b (omega arith) l) ∙ sym (polynomial_remainder-shift 8 0x11b 8 (rows_of (a / 2) b k)) ∙ polynomial_remainder-less 8 0x11b 8 (rows_of (a / 2) b k * 2 ^ 1) twice)
+    (ap x_times (quick-rows k (a / 2) b (omega arith) l) ∙ sym (polynomial_remainder-shift 8 0x11b 8 (rows_of (a / 2) b k))
+    ∙ polynomial_remainder-less 8 0x11b 8 (rows_of (a / 2) b k * 2 ^ 1) twice)
     ∙ sym (polynomial_remainder-xor 8 0x11b 8 (a % 2 * b) (rows_of (a / 2) b k * 2 ^ 1))
     ∙ ap rem (sym (rows-front a b k))
 
@@ -91,10 +93,13 @@ octet_product-xor a x y h k =
         (λ o. ap (λ c. c * bit_xor u v) o ∙ one-mul (bit_xor u v) ∙ sym (ap₂ bit_xor (ap (λ c. c * u) o ∙ one-mul u) (ap (λ c. c * v) o ∙ one-mul v))) s
 
 pub octet_product-zero : (a : ℕ) → octet_product a 0 ≡ 0
-octet_product-zero a = sym (all_rows a 0 (omega arith)) ∙ ap rem (polynomial_sum-ext (λ j. bit_at a j * (0 * 2 ^ j)) (λ j. 0) 8 (λ j l. ap (λ x. bit_at a j * x) (zero-mul (2 ^ j)) ∙ mul-zero (bit_at a j)) ∙ polynomial_sum-zero 8) ∙ polynomial_remainder-zero 8 0x11b 8
+octet_product-zero a = sym (all_rows a 0 (omega arith))
+    ∙ ap rem (polynomial_sum-ext (λ j. bit_at a j * (0 * 2 ^ j)) (λ j. 0) 8 (λ j l. ap (λ x. bit_at a j * x) (zero-mul (2 ^ j)) ∙ mul-zero (bit_at a j))
+    ∙ polynomial_sum-zero 8) ∙ polynomial_remainder-zero 8 0x11b 8
 
 -- The product with a sum of octets is the sum of the products.
-pub octet_product-sum : (a : ℕ) (f : ℕ → ℕ) (n : ℕ) → ((i : ℕ) → i < n → f i < 256) → octet_product a (polynomial_sum f n) ≡ polynomial_sum (λ i. octet_product a (f i)) n
+pub octet_product-sum : (a : ℕ) (f : ℕ → ℕ) (n : ℕ) → ((i : ℕ) → i < n → f i < 256)
+    → octet_product a (polynomial_sum f n) ≡ polynomial_sum (λ i. octet_product a (f i)) n
 unfolding polynomial_sum
 octet_product-sum a f zero h = octet_product-zero a
 octet_product-sum a f (suc n) h =
@@ -112,7 +117,9 @@ unfolding quick x_times polynomial_remainder all_below
 doubled_is a h = equal_below doubled (quick 8 2) 256 a refl h ∙ sym (quick_is 2 a h)
 
 pub doubled_low : (a : ℕ) → a < 256 → bit_and a 128 ≡ 0 → bit_and a 127 * 2 % 256 ≡ octet_product 2 a
-doubled_low a h z = sym (cond-true (bit_and a 128 == 0) (bit_and a 127 * 2 % 256) (bit_xor (bit_and a 127 * 2 % 256) 27) (eq-eqb (bit_and a 128) 0 z)) ∙ doubled_is a h
+doubled_low a h z = sym (cond-true (bit_and a 128 == 0) (bit_and a 127 * 2 % 256) (bit_xor (bit_and a 127 * 2 % 256) 27) (eq-eqb (bit_and a 128) 0 z))
+    ∙ doubled_is a h
 
 pub doubled_high : (a : ℕ) → a < 256 → (bit_and a 128 ≡ 0 → ⊥) → bit_xor (bit_and a 127 * 2 % 256) 27 ≡ octet_product 2 a
-doubled_high a h z = sym (cond-false (bit_and a 128 == 0) (bit_and a 127 * 2 % 256) (bit_xor (bit_and a 127 * 2 % 256) 27) (ne_eqb (bit_and a 128) 0 z)) ∙ doubled_is a h
+doubled_high a h z = sym (cond-false (bit_and a 128 == 0) (bit_and a 127 * 2 % 256) (bit_xor (bit_and a 127 * 2 % 256) 27) (ne_eqb (bit_and a 128) 0 z))
+    ∙ doubled_is a h

@@ -154,13 +154,15 @@ module _ (d m : ℕ) (degree : IsOfDegree d m) where
       (cases_eq i k)
 
   of_digit : (b k i : ℕ) → (b ≡ 0) ⊎ (b ≡ 1) → i < k → polynomial_remainder d m k (b * (m * 2 ^ i)) ≡ 0
-  of_digit b k i (inl z) l = ap (λ c. polynomial_remainder d m k (c * (m * 2 ^ i))) z ∙ ap (polynomial_remainder d m k) (zero-mul (m * 2 ^ i)) ∙ polynomial_remainder-zero d m k
+  of_digit b k i (inl z) l = ap (λ c. polynomial_remainder d m k (c * (m * 2 ^ i))) z ∙ ap (polynomial_remainder d m k) (zero-mul (m * 2 ^ i))
+      ∙ polynomial_remainder-zero d m k
   of_digit b k i (inr o) l = ap (λ c. polynomial_remainder d m k (c * (m * 2 ^ i))) o ∙ ap (polynomial_remainder d m k) (one-mul (m * 2 ^ i)) ∙ of_shifted k i l
 
   of_multiple : (k p : ℕ) (x : IsMultiple m p) → x.n ≤ k → polynomial_remainder d m k p ≡ 0
   of_multiple k p x l =
       ap (polynomial_remainder d m k) (sym x.is_product ∙ polynomial_product-rows x.n x.quotient m x.fits)
-      ∙ polynomial_sum-map (polynomial_remainder d m k) (polynomial_remainder-zero d m k) (polynomial_remainder-xor d m k) (λ i. bit_at x.quotient i * (m * 2 ^ i)) x.n
+      ∙ polynomial_sum-map (polynomial_remainder d m k) (polynomial_remainder-zero d m k) (polynomial_remainder-xor d m k)
+      (λ i. bit_at x.quotient i * (m * 2 ^ i)) x.n
       ∙ polynomial_sum-ext (λ i. polynomial_remainder d m k (bit_at x.quotient i * (m * 2 ^ i))) (λ i. 0) x.n
       (λ i j. of_digit (bit_at x.quotient i) k i (bit_cases x.quotient i) (omega (arith, j, l)))
       ∙ polynomial_sum-zero x.n
@@ -174,5 +176,6 @@ module _ (d m : ℕ) (degree : IsOfDegree d m) where
       sym (polynomial_remainder-small d m k (bit_xor r s) (xor_lt d r s x.lower y.lower))
       ∙ ap (polynomial_remainder d m k) (sym both)
       ∙ polynomial_remainder-xor d m k (bit_xor p r) (bit_xor p s)
-      ∙ ap₂ bit_xor (of_multiple k (bit_xor p r) x.multiple (let e : x.multiple.n ≤ k = omega arith in e)) (of_multiple k (bit_xor p s) y.multiple (let e : y.multiple.n ≤ k = omega arith in e)) in
+      ∙ ap₂ bit_xor (of_multiple k (bit_xor p r) x.multiple (let e : x.multiple.n ≤ k = omega arith in e))
+      (of_multiple k (bit_xor p s) y.multiple (let e : y.multiple.n ≤ k = omega arith in e)) in
       sym (xor_twice r s) ∙ ap (λ v. bit_xor v s) none ∙ xor_zero_l s

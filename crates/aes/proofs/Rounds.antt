@@ -9,14 +9,16 @@ use Rattle.aes.proofs.Steps.{sub_is_block, inverse_sub_is_block, shift_is_block,
 
 -- ---- the steps of the code's loops
 
-pub state_after-more : (w b : List ℕ) (m : ℕ) → 0 < m → add_round_key w m (mix_columns (shift_rows (sub_bytes (state_after w b (m - 1))))) ≡ state_after w b (m + 1 - 1)
+pub state_after-more : (w b : List ℕ) (m : ℕ) → 0 < m
+    → add_round_key w m (mix_columns (shift_rows (sub_bytes (state_after w b (m - 1))))) ≡ state_after w b (m + 1 - 1)
 unfolding state_after
 state_after-more w b zero h = absurd (omega arith)
 state_after-more w b (suc m) h =
     ap (λ k. add_round_key w (suc m) (mix_columns (shift_rows (sub_bytes (state_after w b k))))) (let e : suc m - 1 ≡ m = omega arith in e)
     ∙ ap (state_after w b) (let e : suc m ≡ suc m + 1 - 1 = omega arith in e)
 
-pub undone-more : (w s : List ℕ) (m : ℕ) → 0 < m → undone w (m - 1) (inverse_sub_bytes (inverse_shift_rows (inverse_mix_columns (add_round_key w m s)))) ≡ undone w m s
+pub undone-more : (w s : List ℕ) (m : ℕ) → 0 < m → undone w (m - 1) (inverse_sub_bytes (inverse_shift_rows (inverse_mix_columns (add_round_key w m s))))
+    ≡ undone w m s
 unfolding undone
 undone-more w s zero h = absurd (omega arith)
 undone-more w s (suc m) h =
@@ -34,7 +36,8 @@ module _ (w : List ℕ) (small : (i : ℕ) → slice_index w i < 256) where
   undone_is_block : (b : List ℕ) (m : ℕ) → IsBlock b → IsBlock (undone w m b)
   unfolding undone
   undone_is_block b zero k = key_is_block w b 0 small k
-  undone_is_block b (suc m) k = undone_is_block (inverse_sub_bytes (inverse_shift_rows (inverse_mix_columns (add_round_key w (suc m) b)))) m (inverse_sub_is_block _)
+  undone_is_block b (suc m) k = undone_is_block (inverse_sub_bytes (inverse_shift_rows (inverse_mix_columns (add_round_key w (suc m) b)))) m
+      (inverse_sub_is_block _)
 
   undone-state_after : (b : List ℕ) (m : ℕ) → IsBlock b → undone w m (state_after w b m) ≡ b
   unfolding state_after undone
@@ -59,7 +62,8 @@ module _ (w : List ℕ) (small : (i : ℕ) → slice_index w i < 256) where
       let ak = key_is_block w b (suc m) small k in
       let u = times_is_block _ a ak in
       let t = inverse_shift_is_block (inverse_mix_columns a) u in
-      ap (λ x. add_round_key w (suc m) (mix_columns (shift_rows (sub_bytes x)))) (state_after-undone (inverse_sub_bytes (inverse_shift_rows (inverse_mix_columns a))) m (inverse_sub_is_block _))
+      ap (λ x. add_round_key w (suc m) (mix_columns (shift_rows (sub_bytes x))))
+      (state_after-undone (inverse_sub_bytes (inverse_shift_rows (inverse_mix_columns a))) m (inverse_sub_is_block _))
       ∙ ap (λ x. add_round_key w (suc m) (mix_columns (shift_rows x))) (sub_bytes-inverse (inverse_shift_rows (inverse_mix_columns a)) t)
       ∙ ap (λ x. add_round_key w (suc m) (mix_columns x)) (shift_rows-inverse (inverse_mix_columns a) u)
       ∙ ap (add_round_key w (suc m)) (mix_columns-inverse a ak.sixteen ak.octets)

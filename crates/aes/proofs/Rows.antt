@@ -26,7 +26,8 @@ module _ (d m : ℕ) where
       let small : b * 2 ^ (i + 1) < 2 ^ (d + d) = lt_of_lt_of_le (shl_below b d (i + 1) h) (pow_mono (let e : d + (i + 1) ≤ d + d = omega arith in e)) in
       sym (polynomial_remainder-shift d m d (b * 2 ^ i)) ∙ ap (polynomial_remainder d m (suc d)) next ∙ polynomial_remainder-less d m d (b * 2 ^ (i + 1)) small
 
-pub rows_all : (e m a b : ℕ) → b < 2 ^ suc e → polynomial_remainder (suc e) m (suc e) (rows_of a b (suc e)) ≡ polynomial_remainder (suc e) m e (polynomial_product (suc e) a b)
+pub rows_all : (e m a b : ℕ) → b < 2 ^ suc e → polynomial_remainder (suc e) m (suc e) (rows_of a b (suc e))
+    ≡ polynomial_remainder (suc e) m e (polynomial_product (suc e) a b)
 rows_all e m a b h =
     polynomial_remainder-less (suc e) m e (rows_of a b (suc e)) (row_below a b (suc e) (suc e) (suc e + e) h (omega arith))
     ∙ ap (polynomial_remainder (suc e) m e) (sym (polynomial_product-rows (suc e) a b h))
@@ -36,7 +37,8 @@ rows_all e m a b h =
 abbrev pub LinearBelow : ℕ → (ℕ → ℕ) → Type 0
 LinearBelow n f = (f 0 ≡ 0) × ((x y : ℕ) → x < 2 ^ n → y < 2 ^ n → f (bit_xor x y) ≡ bit_xor (f x) (f y))
 
-same_sum : (n : ℕ) (f g : ℕ → ℕ) → LinearBelow n f → LinearBelow n g → (x k : ℕ) → k ≤ n → ((i : ℕ) → i < k → f (2 ^ i) ≡ g (2 ^ i)) → f (polynomial_sum (λ i. bit_at x i * 2 ^ i) k) ≡ g (polynomial_sum (λ i. bit_at x i * 2 ^ i) k)
+same_sum : (n : ℕ) (f g : ℕ → ℕ) → LinearBelow n f → LinearBelow n g → (x k : ℕ) → k ≤ n → ((i : ℕ) → i < k → f (2 ^ i) ≡ g (2 ^ i))
+    → f (polynomial_sum (λ i. bit_at x i * 2 ^ i) k) ≡ g (polynomial_sum (λ i. bit_at x i * 2 ^ i) k)
 unfolding polynomial_sum
 same_sum n f g lf lg x zero h e = lf.0 ∙ sym lg.0
 same_sum n f g lf lg x (suc k) h e =

@@ -45,7 +45,8 @@ times_is_block m b k = square_is_block (λ r c. polynomial_sum (λ j. octet_prod
     (λ r c h l. polynomial_sum-lt (λ j. octet_product (m r j) (at b j c)) 4 8 (λ j lj. octet_product-lt (m r j) (at b j c) (k.octets (j + 4 * c))))
 
 pub key_is_block : (w b : List ℕ) (m : ℕ) → ((i : ℕ) → slice_index w i < 256) → IsBlock b → IsBlock (add_round_key w m b)
-key_is_block w b m small k = square_is_block (λ r c. bit_xor (at b r c) (word w (4 * m + c) r)) (λ r c h l. xor_lt 8 _ _ (k.octets (r + 4 * c)) (small (4 * (4 * m + c) + r)))
+key_is_block w b m small k = square_is_block (λ r c. bit_xor (at b r c) (word w (4 * m + c) r))
+    (λ r c h l. xor_lt 8 _ _ (k.octets (r + 4 * c)) (small (4 * (4 * m + c) + r)))
 
 -- ---- undoing the steps
 

@@ -65,6 +65,7 @@ sum_of_turned a b c d r hb hc hd h =
     ∙ ap₂ bit_xor
     (octet_xor (bit_xor a b') c' r h
     ∙ ap₂ bit_xor
-    (octet_xor a b' r h ∙ ap₂ bit_xor (ap (octet a) (let e : r ≡ (r + 4 - 0) % 4 = omega arith in e) ∙ sym (xor_zero_l (octet a ((r + 4 - 0) % 4)))) (turned_by_1 b r hb h))
+    (octet_xor a b' r h ∙ ap₂ bit_xor (ap (octet a) (let e : r ≡ (r + 4 - 0) % 4 = omega arith in e)
+    ∙ sym (xor_zero_l (octet a ((r + 4 - 0) % 4)))) (turned_by_1 b r hb h))
     (turned_by_2 c r hc h))
     (turned_by_3 d r hd h)

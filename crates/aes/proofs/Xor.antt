@@ -32,7 +32,8 @@ polynomial_sum-ext f g (suc n) h = ap₂ bit_xor (polynomial_sum-ext f g n (λ i
 pub polynomial_sum-xor : (f g : ℕ → ℕ) (n : ℕ) → polynomial_sum (λ i. bit_xor (f i) (g i)) n ≡ bit_xor (polynomial_sum f n) (polynomial_sum g n)
 unfolding polynomial_sum
 polynomial_sum-xor f g zero = refl
-polynomial_sum-xor f g (suc n) = ap (λ x. bit_xor x (bit_xor (f n) (g n))) (polynomial_sum-xor f g n) ∙ xor_swap (polynomial_sum f n) (polynomial_sum g n) (f n) (g n)
+polynomial_sum-xor f g (suc n) = ap (λ x. bit_xor x (bit_xor (f n) (g n))) (polynomial_sum-xor f g n)
+    ∙ xor_swap (polynomial_sum f n) (polynomial_sum g n) (f n) (g n)
 
 pub polynomial_sum-zero : (n : ℕ) → polynomial_sum (λ i. zero) n ≡ zero
 unfolding polynomial_sum
@@ -40,7 +41,8 @@ polynomial_sum-zero zero = refl
 polynomial_sum-zero (suc n) = ap (λ x. bit_xor x zero) (polynomial_sum-zero n)
 
 -- A function that preserves sums of two preserves every sum.
-pub polynomial_sum-map : (h : ℕ → ℕ) → h zero ≡ zero → ((a b : ℕ) → h (bit_xor a b) ≡ bit_xor (h a) (h b)) → (f : ℕ → ℕ) (n : ℕ) → h (polynomial_sum f n) ≡ polynomial_sum (λ i. h (f i)) n
+pub polynomial_sum-map : (h : ℕ → ℕ) → h zero ≡ zero → ((a b : ℕ) → h (bit_xor a b) ≡ bit_xor (h a) (h b)) → (f : ℕ → ℕ) (n : ℕ)
+    → h (polynomial_sum f n) ≡ polynomial_sum (λ i. h (f i)) n
 unfolding polynomial_sum
 polynomial_sum-map h z l f zero = z
 polynomial_sum-map h z l f (suc n) = l (polynomial_sum f n) (f n) ∙ ap (λ x. bit_xor x (h (f n))) (polynomial_sum-map h z l f n)
@@ -49,7 +51,8 @@ polynomial_sum-map h z l f (suc n) = l (polynomial_sum f n) (f n) ∙ ap (λ x. 
 pub polynomial_sum-swap : (f : ℕ → ℕ → ℕ) (n m : ℕ) → polynomial_sum (λ i. polynomial_sum (f i) m) n ≡ polynomial_sum (λ j. polynomial_sum (λ i. f i j) n) m
 unfolding polynomial_sum
 polynomial_sum-swap f zero m = sym (polynomial_sum-zero m)
-polynomial_sum-swap f (suc n) m = ap (λ x. bit_xor x (polynomial_sum (f n) m)) (polynomial_sum-swap f n m) ∙ sym (polynomial_sum-xor (λ j. polynomial_sum (λ i. f i j) n) (f n) m)
+polynomial_sum-swap f (suc n) m = ap (λ x. bit_xor x (polynomial_sum (f n) m)) (polynomial_sum-swap f n m)
+    ∙ sym (polynomial_sum-xor (λ j. polynomial_sum (λ i. f i j) n) (f n) m)
 
 pub polynomial_sum-lt : (f : ℕ → ℕ) (n k : ℕ) → ((i : ℕ) → i < n → f i < 2 ^ k) → polynomial_sum f n < 2 ^ k
 unfolding polynomial_sum
@@ -77,7 +80,8 @@ bit_times-xor (suc (suc a)) b c h k = absurd (omega arith)
 
 pub bit_at-shifted : (n k i : ℕ) → bit_at (n * 2 ^ k) (k + i) ≡ bit_at n i
 bit_at-shifted n k i =
-    ap (λ x. bit_at x (k + i)) (sym (add-zero (n * 2 ^ k))) ∙ bit_at_cat_high n k zero (k + i) (pow_pos k) (omega arith) ∙ ap (bit_at n) (let e : k + i - k ≡ i = omega arith in e)
+    ap (λ x. bit_at x (k + i)) (sym (add-zero (n * 2 ^ k))) ∙ bit_at_cat_high n k zero (k + i) (pow_pos k) (omega arith)
+    ∙ ap (bit_at n) (let e : k + i - k ≡ i = omega arith in e)
 
 -- A number is the sum of its bits.
 pub bits_sum : (b n : ℕ) → polynomial_sum (λ j. bit_at b j * 2 ^ j) n ≡ b % 2 ^ n

@@ -30,6 +30,8 @@ pub record PolynomialLaws : Type 0 where
   -- a polynomial of degree below d is its own remainder
   pub remainder_small : (d m k p : ℕ) → p < 2 ^ d → polynomial_remainder d m k p ≡ p
   -- the remainder of x times x ^ i p is that of x times the remainder of x ^ i p
-  pub remainder_next : (d m i p : ℕ) → p < 2 ^ d → i < d → polynomial_remainder d m d (p * 2 ^ (i + 1)) ≡ polynomial_remainder d m 1 (polynomial_remainder d m d (p * 2 ^ i) * 2)
+  pub remainder_next : (d m i p : ℕ) → p < 2 ^ d → i < d
+      → polynomial_remainder d m d (p * 2 ^ (i + 1)) ≡ polynomial_remainder d m 1 (polynomial_remainder d m d (p * 2 ^ i) * 2)
   -- the remainder of a product is the sum of the q_i times the remainders of x ^ i p
-  pub remainder_product : (e m q p : ℕ) → p < 2 ^ suc e → polynomial_remainder (suc e) m e (polynomial_product (suc e) q p) ≡ polynomial_sum (λ i. bit_at q i * polynomial_remainder (suc e) m (suc e) (p * 2 ^ i)) (suc e)
+  pub remainder_product : (e m q p : ℕ) → p < 2 ^ suc e → polynomial_remainder (suc e) m e (polynomial_product (suc e) q p)
+      ≡ polynomial_sum (λ i. bit_at q i * polynomial_remainder (suc e) m (suc e) (p * 2 ^ i)) (suc e)

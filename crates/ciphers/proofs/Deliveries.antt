@@ -25,11 +25,13 @@ unfolding gcm_ciphertext ctr
 none_encrypted e iv = refl
 
 -- Equal octets have equal tags.
-pub same_tag : (e : List ℕ → List ℕ) (iv other cek copy : List ℕ) → iv ≡ other → cek ≡ copy → gcm_tag e iv [] (gcm_ciphertext e iv cek) ≡ gcm_tag e other [] (gcm_ciphertext e other copy)
+pub same_tag : (e : List ℕ → List ℕ) (iv other cek copy : List ℕ) → iv ≡ other → cek ≡ copy
+    → gcm_tag e iv [] (gcm_ciphertext e iv cek) ≡ gcm_tag e other [] (gcm_ciphertext e other copy)
 same_tag e iv other cek copy a b = ap₂ (λ i k. gcm_tag e i [] (gcm_ciphertext e i k)) a b
 
 -- Equal octets have the same opening.
-pub same_opening : (e : List ℕ → List ℕ) (iv other c copy tag p q : List ℕ) → iv ≡ other → c ≡ copy → p ≡ q → IsGcmOpening e iv [] c tag p → IsGcmOpening e other [] copy tag q
+pub same_opening : (e : List ℕ → List ℕ) (iv other c copy tag p q : List ℕ) → iv ≡ other → c ≡ copy → p ≡ q → IsGcmOpening e iv [] c tag p
+    → IsGcmOpening e other [] copy tag q
 same_opening e iv other c copy tag p q a b d o =
     subst (λ x. IsGcmOpening e other [] copy tag x) d (subst (λ x. IsGcmOpening e other [] x tag p) b (subst (λ x. IsGcmOpening e x [] c tag p) a o))
 
@@ -120,7 +122,8 @@ module _ (enc : ContentAlg) (key : List ℕ) (p : Parameters) (encrypted : List 
           },
         )
 
-    pub opened_nothing : (o : Option (List ℕ)) → IfNone o ((cek : List ℕ) → length cek ≡ cek_len enc → length p.iv ≡ 12 → IsGcmOpening e p.iv [] encrypted p.tag cek → ⊥)
+    pub opened_nothing : (o : Option (List ℕ)) → IfNone o
+        ((cek : List ℕ) → length cek ≡ cek_len enc → length p.iv ≡ 12 → IsGcmOpening e p.iv [] encrypted p.tag cek → ⊥)
         → IfNone o ((cek : List ℕ) → Delivers (by_gcm e) enc key p encrypted cek → ⊥)
     opened_nothing None none = λ cek d. let o = gcm_opening cek d in none cek ((decided (by_gcm e) cek).0 d.is_delivered).0 o.0 o.1
     opened_nothing (Some cek) none = tt

@@ -87,7 +87,8 @@ under_gcm : (e : List ℕ → List ℕ) (iv p c : List ℕ) → gcm_ciphertext e
 unfolding gcm_ciphertext
 under_gcm e iv p c text = omega (arith, length-ctr e (counter_block (pre_counter_block iv) 1) [] [] p, ap length text)
 
-module _ (cipher : (nk : ℕ) (k : List ℕ) → ((i : ℕ) → slice_index k i < 256) → IsCipher (encrypted_block nk k) (inverse_cipher (nk + 6) (key_expansion nk k))) where
+module _ (cipher : (nk : ℕ) (k : List ℕ) → ((i : ℕ) → slice_index k i < 256)
+    → IsCipher (encrypted_block nk k) (inverse_cipher (nk + 6) (key_expansion nk k))) where
   -- In CBC a plaintext is shorter than its ciphertext.
   under_cbc : (nk n : ℕ) (cek iv p c : List ℕ) → IsOctets cek → IsOctets iv → length iv ≡ 16 → IsOctets p
       → cbc (encrypted_block nk (drop n cek)) iv p ≡ c → length p ≤ length c
@@ -112,7 +113,11 @@ module _ (cipher : (nk : ℕ) (k : List ℕ) → ((i : ℕ) → slice_index k i 
         finds_exactly finds (length c) (is_sealed_to (sealing alg cek iv aad) c tag) (IsOpening alg cek iv aad c tag)
         (λ x octets h. let r = (decided x).0 h in
         record { cek_fits = cek_fits; iv_fits = iv_fits; opens = record { octets = octets; short = r.0; ciphertext = r.1.0; is_tag = r.1.1 } })
-        (λ x o. (o.opens.octets, no_longer (content_family alg) cek iv aad c tag x key start iv_fits o.opens, (decided x).1 (o.opens.short, (o.opens.ciphertext, o.opens.is_tag))))
+        (λ x o. (
+          o.opens.octets,
+          no_longer (content_family alg) cek iv aad c tag x key start iv_fits o.opens,
+          (decided x).1 (o.opens.short, (o.opens.ciphertext, o.opens.is_tag)),
+        ))
         one
 
     -- The function `opening` returns exactly the opening.

@@ -45,16 +45,19 @@ stream_grows e f p q =
     let rest : List ℕ = map octet (range_with_len 0 (length q)) in
     record {
       rest = rest;
-      continues = ctr-append e f p q rest (length-map-range_with_len octet 0 (length q)) (λ i l. get_or-map-range_with_len octet 0 (length q) i i 0 l (omega arith));
+      continues = ctr-append e f p q rest (length-map-range_with_len octet 0 (length q))
+          (λ i l. get_or-map-range_with_len octet 0 (length q) i i 0 l (omega arith));
     }
 
 -- In each family, the fixed part grows.
-fixed_grows_in : (family : ContentFamily) (cek iv aad p q : List ℕ) → Begins ((sealing_in family cek iv aad).fixed p) ((sealing_in family cek iv aad).fixed (p ++ q))
+fixed_grows_in : (family : ContentFamily) (cek iv aad p q : List ℕ)
+    → Begins ((sealing_in family cek iv aad).fixed p) ((sealing_in family cek iv aad).fixed (p ++ q))
 unfolding gcm_ciphertext
 fixed_grows_in (aes_cbc_hmac nk f) cek iv aad p q = blocks_grow _ iv p q
 fixed_grows_in (aes_gcm nk) cek iv aad p q = stream_grows _ _ p q
 
-ciphertext_grows_in : (family : ContentFamily) (cek iv aad p q : List ℕ) → Begins ((sealing_in family cek iv aad).fixed p) ((sealing_in family cek iv aad).sealed (p ++ q)).ciphertext
+ciphertext_grows_in : (family : ContentFamily) (cek iv aad p q : List ℕ)
+    → Begins ((sealing_in family cek iv aad).fixed p) ((sealing_in family cek iv aad).sealed (p ++ q)).ciphertext
 unfolding gcm_ciphertext
 ciphertext_grows_in (aes_cbc_hmac nk f) cek iv aad p q = padded_grows _ iv p q
 ciphertext_grows_in (aes_gcm nk) cek iv aad p q = stream_grows _ _ p q
@@ -65,6 +68,7 @@ unfolding sealing
 fixed_grows alg = fixed_grows_in (content_family alg)
 
 -- With each algorithm, the fixed part begins the ciphertext.
-pub ciphertext_grows : (alg : ContentAlg) (cek iv aad p q : List ℕ) → Begins ((sealing alg cek iv aad).fixed p) ((sealing alg cek iv aad).sealed (p ++ q)).ciphertext
+pub ciphertext_grows : (alg : ContentAlg) (cek iv aad p q : List ℕ)
+    → Begins ((sealing alg cek iv aad).fixed p) ((sealing alg cek iv aad).sealed (p ++ q)).ciphertext
 unfolding sealing
 ciphertext_grows alg = ciphertext_grows_in (content_family alg)

@@ -9,6 +9,7 @@ use Rattle.octets.specs.Octets.{IsOctets}
 use Rattle.octets.proofs.Lemmas.{length-chunk, chunk_octets}
 use Rattle.ciphers.specs.KeyWrap.{xor_count, part}
 use borrow.Rule.Slice.PartMut.{put_mid}
+use Rattle.aes.proofs.Lemmas.{xor_twice}
 
 pub record IsHalf (a : List ℕ) : Type 0 where
   pub eight : length a ≡ 8
@@ -47,9 +48,6 @@ count_is_half t a = record { eight = refl; octets = λ i. search rules }
 
 from_half : (a : List ℕ) → IsHalf a → from_be_bytes w64 a < 2 ^ 64
 from_half a x = search rules
-
-xor_twice : (a t : ℕ) → bit_xor (bit_xor a t) t ≡ a
-xor_twice a t = grind (arith, common_steps)
 
 pub count_twice : (t : ℕ) (a : List ℕ) → IsHalf a → t < 2 ^ 64 → xor_count t (xor_count t a) ≡ a
 unfolding xor_count

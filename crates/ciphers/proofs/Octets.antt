@@ -33,14 +33,16 @@ wrapped_octets e d law p octets two =
     let n = length p / 8 in
     joined_octets (table e p (6 * n)) (suc n) 0 (λ k l. (table_is_half e d law p octets two (6 * n) (0 + k) (omega arith)).octets)
 
-module _ (cipher : (nk : ℕ) (k : List ℕ) → ((i : ℕ) → slice_index k i < 256) → IsCipher (encrypted_block nk k) (inverse_cipher (nk + 6) (key_expansion nk k))) where
+module _ (cipher : (nk : ℕ) (k : List ℕ) → ((i : ℕ) → slice_index k i < 256)
+    → IsCipher (encrypted_block nk k) (inverse_cipher (nk + 6) (key_expansion nk k))) where
   -- The ciphertext of CBC is octets.
   under_cbc : (nk n : ℕ) (cek iv p : List ℕ) → IsOctets cek → IsOctets iv → length iv ≡ 16 → IsOctets p → IsOctets (cbc (encrypted_block nk (drop n cek)) iv p)
   under_cbc nk n cek iv p key start sixteen octets =
       cbc_octets _ _ (cipher nk (drop n cek) (IsOctets-drop n cek key)) iv (record { sixteen = sixteen; octets = start }) p octets
 
   -- A ciphertext and a tag that open are octets.
-  pub opened_is_octets : (alg : ContentAlg) (cek iv aad c tag p : List ℕ) → IsOctets cek → IsOctets iv → IsOpening alg cek iv aad c tag p → IsOctets c × IsOctets tag
+  pub opened_is_octets : (alg : ContentAlg) (cek iv aad c tag p : List ℕ) → IsOctets cek → IsOctets iv → IsOpening alg cek iv aad c tag p
+      → IsOctets c × IsOctets tag
   unfolding sealing
   opened_is_octets alg cek iv aad c tag p key start o =
       let all = in_family (content_family alg) (content_row alg).hash o.iv_fits o.opens in

@@ -13,9 +13,7 @@ use Rattle.modes.specs.Code.Opening.{IsGcmOpening}
 use Rattle.modes.specs.Code.Views as modes
 use Rattle.modes.specs.declared.gcm.Gcm.{Gcm}
 use Rattle.prf.specs.HashFunction.{HashFunction}
-
-octets_of_front : (n : ℕ) (xs : List ℕ) → IsOctets xs → IsOctets (take n xs)
-octets_of_front n xs o i = grind (arith, places, o i)
+use Rattle.octets.proofs.Lemmas.{IsOctets-take}
 
 -- ---- what is behind the plaintext
 
@@ -47,7 +45,7 @@ module _ (e : List ℕ → List ℕ) (f : HashFunction) (mac_key iv aad c tag : 
   opens (Some n) buf octets text right = (
     text.0,
     record {
-      octets = octets_of_front n buf octets;
+      octets = IsOctets-take n buf octets;
       short = λ long. long;
       ciphertext = text.1;
       is_tag = ap (cbc_tag f mac_key iv aad) text.1 ∙ sym right;

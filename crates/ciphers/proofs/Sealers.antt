@@ -31,7 +31,8 @@ first_half copy out rest code len l same is_copy is_code h =
     ∙ is_copy ∙ sym (take-take (len / 2) len out (omega arith)) ∙ ap (take (len / 2)) is_code ∙ ap (λ m. take (m / 2) code) same
 
 -- If GCM accepts a piece, the sealing holds the plaintext with this piece.
-pub gcm_fed : {B : Type 0} (encrypted : B → List ℕ → List ℕ) (x y : Gcm B) (s : Sealing) (p piece out : List ℕ) (r : Result ℕ Refusal) (k : HoldsGcmSealing encrypted x s p)
+pub gcm_fed : {B : Type 0} (encrypted : B → List ℕ → List ℕ) (x y : Gcm B) (s : Sealing) (p piece out : List ℕ) (r : Result ℕ Refusal)
+    (k : HoldsGcmSealing encrypted x s p)
     → length piece ≤ length out
     → IfOk r (λ n. n ≡ length piece) → OnOk r (modes.HoldsGcm encrypted y k.e k.iv k.aad (p ++ piece))
     → IfOk r (λ n. gcm_ciphertext k.e k.iv (p ++ piece) ≡ gcm_ciphertext k.e k.iv p ++ take n out)

@@ -117,7 +117,8 @@ module _ (e : List ℕ → List ℕ) (p : List ℕ) (t i : ℕ) (turn : i ≡ t 
         long = length-written 8 r r' i 8 refl room eight ∙ row.long;
         check = is_a ∙ ap (λ b. xor_count (suc t) (take 8 b)) same ∙ sym (table_check e p t i turn);
         registers = λ j l. ⊎_elim
-            (λ (s : j ≡ i). ap (part (put_mid (8 * i) 8 r r')) s ∙ chunk_written 8 r r' i 8 refl room eight ∙ is_r ∙ ap (drop 8) same ∙ sym (table_turn e p t i turn) ∙ ap (λ k. table e p (suc t) (suc k)) (sym s))
+            (λ (s : j ≡ i). ap (part (put_mid (8 * i) 8 r r')) s ∙ chunk_written 8 r r' i 8 refl room eight ∙ is_r ∙ ap (drop 8) same
+            ∙ sym (table_turn e p t i turn) ∙ ap (λ k. table e p (suc t) (suc k)) (sym s))
             (λ ne. chunk_kept 8 r r' i 8 refl room eight j ne ∙ row.registers j l ∙ sym (table_kept e p t i turn j ne))
             (cases_eq j i);
       }
@@ -169,9 +170,11 @@ module _ (e : List ℕ → List ℕ) (p : List ℕ) (t i : ℕ) (turn : i ≡ t 
         ∙ law.mirror (c ++ part r i) block in
         record {
           long = long;
-          check = sym (count_twice (suc t) a ha few) ∙ ap (xor_count (suc t)) (sym (ap (take 8) b ∙ take_at c (part r i) 8 (count_is_half (suc t) a).eight)) ∙ sym (table_check e p t i turn);
+          check = sym (count_twice (suc t) a ha few) ∙ ap (xor_count (suc t)) (sym (ap (take 8) b ∙ take_at c (part r i) 8 (count_is_half (suc t) a).eight))
+              ∙ sym (table_check e p t i turn);
           registers = λ j l. ⊎_elim
-              (λ (s : j ≡ i). ap (part r) s ∙ sym (ap (drop 8) b ∙ drop_at c (part r i) 8 (count_is_half (suc t) a).eight) ∙ sym (table_turn e p t i turn) ∙ ap (λ k. table e p (suc t) (suc k)) (sym s))
+              (λ (s : j ≡ i). ap (part r) s ∙ sym (ap (drop 8) b ∙ drop_at c (part r i) 8 (count_is_half (suc t) a).eight) ∙ sym (table_turn e p t i turn)
+              ∙ ap (λ k. table e p (suc t) (suc k)) (sym s))
               (λ ne. sym (chunk_kept 8 r r' i 8 refl room eight j ne) ∙ row.registers j l ∙ sym (table_kept e p t i turn j ne))
               (cases_eq j i);
         }
@@ -221,10 +224,12 @@ module _ (e : List ℕ → List ℕ) (p : List ℕ) (t i : ℕ) (turn : i ≡ t 
         (is_a ∙ ap (take 8) deciphered) (is_r ∙ ap (drop 8) deciphered)
         (subst (λ n. IsRow e p t a' (put_mid (8 * i) n r r')) (sym one_part) row))
 
-pub kept_long : (r r' : List ℕ) (t i : ℕ) → i ≡ t % (length r / 8) → 16 ≤ length r → length r' ≡ 8 → length (put_mid (8 * i) (8 * i + 8 - 8 * i) r r') ≡ length r
+pub kept_long : (r r' : List ℕ) (t i : ℕ) → i ≡ t % (length r / 8) → 16 ≤ length r → length r' ≡ 8
+    → length (put_mid (8 * i) (8 * i + 8 - 8 * i) r r') ≡ length r
 kept_long r r' t i turn two eight =
     let inside : i < length r / 8 = subst (λ k. k < length r / 8) (sym turn) (turn_within r t two) in
-    subst (λ n. length (put_mid (8 * i) n r r') ≡ length r) (let e : 8 ≡ 8 * i + 8 - 8 * i = omega arith in e) (length-written 8 r r' i 8 refl (within r i inside) eight)
+    subst (λ n. length (put_mid (8 * i) n r r') ≡ length r) (let e : 8 ≡ 8 * i + 8 - 8 * i = omega arith in e)
+    (length-written 8 r r' i 8 refl (within r i inside) eight)
 
 pub first_row_check : (e : List ℕ → List ℕ) (p a r : List ℕ) → IsRow e p 0 a r → a ≡ initial_value
 unfolding table

@@ -26,7 +26,8 @@ module _
 
   in_family : (family : ContentFamily) (cek iv aad c tag p q : List ℕ) → IsOctets cek → IsOctets iv → length iv ≡ iv_len_in family
       → Opens (sealing_in family cek iv aad) c tag p → Opens (sealing_in family cek iv aad) c tag q → p ≡ q
-  in_family (aes_cbc_hmac nk f) cek iv aad c tag p q key start fits a b = under nk (4 * nk) cek iv p q c key start fits a.octets b.octets a.ciphertext b.ciphertext
+  in_family (aes_cbc_hmac nk f) cek iv aad c tag p q key start fits a b =
+      under nk (4 * nk) cek iv p q c key start fits a.octets b.octets a.ciphertext b.ciphertext
   in_family (aes_gcm nk) cek iv aad c tag p q key start fits a b = one_gcm (encrypted_block nk cek) iv p q (a.ciphertext ∙ sym b.ciphertext)
 
   pub one_opening : (alg : ContentAlg) (cek iv aad c tag p q : List ℕ) → IsOctets cek → IsOctets iv

@@ -2,9 +2,9 @@
 use Rattle.std.proofs.Common.{◌≡◌, ℕ, List, [], length, take, nat_le, Bool, true, false, if◌then◌else◌, Result, Ok, Err, refl, sym, ap, ◌∙◌}
 use Rattle.std.specs.Result.{result_unwrap_or, OnErr, IsErrAnd}
 use Rattle.octets.specs.declared.refusal.Refusal.{Refusal}
-use Rattle.octets.specs.declared.refusal.Refusal.TheVariants.{Memory, Random}
+use Rattle.octets.specs.declared.refusal.Refusal.TheVariants.{Random}
 use Rattle.octets.specs.Outcomes.{◌>>=◌, needs, is_external, AgreesUnlessExternal}
-use Rattle.octets.specs.Code.Results.{is_memory, accepted}
+use Rattle.octets.specs.Code.Results.{accepted}
 use Rattle.octets.specs.Plan.{OutputTexts, nothing, Plan, plan_map, plan_from, begun, beginning_of, without_content}
 use Rattle.octets.proofs.Lemmas.{AgreesUnlessExternal-map}
 use Rattle.keys.specs.Generating.{MadeKey, made_key, key_text, gen_answer}
@@ -14,14 +14,17 @@ use Rattle.jose.specs.Jwk.{making}
 
 pub agrees_as_text : (a : Result (List ℕ) Refusal) (text other : List ℕ) (r : Result (Unit {0}) Refusal) → other ≡ [] → AgreesUnlessExternal a text r
     → AgreesUnlessExternal (a >>= λ x. Ok (as_text x)) (record { text = text; content = other }) r
-agrees_as_text a text other r e h = AgreesUnlessExternal-map as_text a text (record { text = text; content = other }) r (ap (λ q. record { text = text; content = q }) (sym e)) h
+agrees_as_text a text other r e h = AgreesUnlessExternal-map as_text a text (record { text = text; content = other }) r
+    (ap (λ q. record { text = text; content = q }) (sym e)) h
 
 pub agrees_as_content : (a : Result (List ℕ) Refusal) (content other : List ℕ) (r : Result (Unit {0}) Refusal) → other ≡ [] → AgreesUnlessExternal a content r
     → AgreesUnlessExternal (a >>= λ x. Ok (as_content x)) (record { text = other; content = content }) r
-agrees_as_content a content other r e h = AgreesUnlessExternal-map as_content a content (record { text = other; content = content }) r (ap (λ q. record { text = q; content = content }) (sym e)) h
+agrees_as_content a content other r e h = AgreesUnlessExternal-map as_content a content (record { text = other; content = content }) r
+    (ap (λ q. record { text = q; content = content }) (sym e)) h
 
 -- The plan of a made key has the answer of `gen_answer`.
-pub plan_of_making : (template random : List ℕ) → plan_from (making template) random ≡ (gen_answer limits template random >>= λ x. Ok (without_content (as_text x)))
+pub plan_of_making : (template random : List ℕ) → plan_from (making template) random
+    ≡ (gen_answer limits template random >>= λ x. Ok (without_content (as_text x)))
 unfolding gen_answer
 plan_of_making template random = by_made (made_key limits template)
   where
@@ -63,7 +66,3 @@ pub refused : {W : Type 0} (answer : Result W Refusal) (wrote : W) (e : Refusal)
     → (is_external e ≡ false → answer ≡ Err e) → AgreesUnlessExternal answer wrote r
 refused answer wrote e (Ok done) same f = absurd same
 refused answer wrote e (Err r) same f = λ inside. f (ap is_external (sym same) ∙ inside) ∙ ap Err (sym same)
-
-pub not_memory : (e : Refusal) → is_external e ≡ false → is_memory e ≡ false
-not_memory Memory inside = cc inside
-not_memory e inside = refl

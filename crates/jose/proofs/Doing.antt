@@ -7,7 +7,7 @@ use Rattle.octets.specs.Devices.{Observed, appended, IsPossibleInput, InputMembe
 use Rattle.octets.specs.Faults.{Counts, TellsFaults}
 use Rattle.octets.specs.Outcomes.{is_external, AgreesUnlessExternal}
 use Rattle.octets.specs.Plan.{OutputTexts, drawn_of}
-use Rattle.octets.proofs.Lemmas.{AppendsPrefixOf-kept, on_success, on_refusal, seen_possible}
+use Rattle.octets.proofs.Lemmas.{AppendsPrefixOf-kept, on_success, on_refusal, seen_possible, if_weaker}
 use Rattle.objects.specs.Texts.{handed_in}
 use Rattle.jose.specs.declared.commands.WholeInputs.{WholeInputs}
 use Rattle.jose.specs.declared.ports.Inputs.{Inputs}
@@ -64,7 +64,8 @@ pub drawn_for_none : {D : Type 0} (consumed : D → List ℕ) (old new : D) (mos
 drawn_for_none consumed old new most same = subst (λ d. length (appended (consumed old) (consumed d)) ≤ most) (sym same) (none_drawn (consumed old) most)
 
 -- If too few octets are drawn, the content is untouched. If it is handed in, no octets are needed, and otherwise it was not read.
-not_short : {v : InvocationView} {has_keys given : Bool} → IsReader v has_keys given → (P : Type 0) (n : ℕ) (text keys : List ℕ) → (given ≡ false → P) → n < drawn_of (draft_of v text keys) → P
+not_short : {v : InvocationView} {has_keys given : Bool} → IsReader v has_keys given → (P : Type 0) (n : ℕ) (text keys : List ℕ) → (given ≡ false → P)
+    → n < drawn_of (draft_of v text keys) → P
 not_short {v} {has_keys} {given} is P n text keys untouched short = by_given given refl
   where
     by_given : (g : Bool) → given ≡ g → P
@@ -74,10 +75,12 @@ not_short {v} {has_keys} {given} is P n text keys untouched short = by_given giv
 -- ---- a command that ends before anything is drawn or written
 
 -- Memory or an input failed, or the text and the keys that were read whole are refused.
-pub ends_early : {D E X : Type 0} {input : InputMembers D} {v : InvocationView} {has_keys given : Bool} {old new : Inputs D} {e : Refusal} {res : Result WholeInputs Refusal} (output : OutputMembers E) (outs : Outputs E)
+pub ends_early : {D E X : Type 0} {input : InputMembers D} {v : InvocationView} {has_keys given : Bool} {old new : Inputs D} {e : Refusal}
+    {res : Result WholeInputs Refusal} (output : OutputMembers E) (outs : Outputs E)
     → IsReader v has_keys given → ReadsInputs input has_keys given old new res → TellsFaults {X = X} (input_counts input.failures old new) [] (Err e)
     → (is_external e ≡ false → IsTrue (others_read v (seen_of input old new)) × (holds_back v.command ≡ false)
-    × ((text keys : List ℕ) → IsPossibleInput (seen_of input old new).text text → IsPossibleInput (seen_of input old new).keys keys → draft_of v text keys ≡ Err e))
+    × ((text keys : List ℕ) → IsPossibleInput (seen_of input old new).text text → IsPossibleInput (seen_of input old new).keys keys
+    → draft_of v text keys ≡ Err e))
     → (r : Result (Unit {0}) Refusal) → IsErrAnd r (λ refusal. refusal ≡ e) → Does input output v old new outs outs r
 ends_early output outs is read told refused (Ok done) same = absurd same
 ends_early {D} {E} {X} {input} {v} {has_keys} {given} {old} {new} {e} output outs is read told refused (Err r) same =
@@ -124,8 +127,10 @@ ends_early {D} {E} {X} {input} {v} {has_keys} {given} {old} {new} {e} output out
     }
 
 -- The inputs could not be read.
-pub not_read : {D E : Type 0} {input : InputMembers D} {v : InvocationView} {has_keys given : Bool} {old new : Inputs D} {e : Refusal} (output : OutputMembers E) (outs : Outputs E)
-    → IsReader v has_keys given → ReadsInputs input has_keys given old new (Err e) → (r : Result (Unit {0}) Refusal) → IsErrAnd r (λ refusal. refusal ≡ e) → Does input output v old new outs outs r
+pub not_read : {D E : Type 0} {input : InputMembers D} {v : InvocationView} {has_keys given : Bool} {old new : Inputs D} {e : Refusal}
+    (output : OutputMembers E) (outs : Outputs E)
+    → IsReader v has_keys given → ReadsInputs input has_keys given old new (Err e) → (r : Result (Unit {0}) Refusal) → IsErrAnd r (λ refusal. refusal ≡ e)
+    → Does input output v old new outs outs r
 not_read output outs is read = ends_early output outs is read read.faults (λ inside. let outside = read.cause in cc)
 
 -- ---- what holds at each refusal
@@ -138,18 +143,22 @@ pub if_done : {X : Type 0} {P : Type 0} (r : Result X Refusal) → P → OnOk r 
 if_done (Ok x) p = p
 if_done (Err e) p = tt
 
-pub if_weaker : {X : Type 0} (r : Result X Refusal) (P Q : Refusal → Type 0) → IfErr r P → ((e : Refusal) → P e → Q e) → IfErr r Q
-if_weaker (Ok x) P Q p more = tt
-if_weaker (Err e) P Q p more = more e p
-
 -- The inputs did not fail, so the result reports the failures of the outputs.
-pub told_both : {X Y : Type 0} (inputs outputs : List Counts) (x : X) (r : Result Y Refusal) → TellsFaults inputs [] (Ok x) → TellsFaults [] outputs r → TellsFaults inputs outputs r
+pub told_both : {X Y : Type 0} (inputs outputs : List Counts) (x : X) (r : Result Y Refusal) → TellsFaults inputs [] (Ok x) → TellsFaults [] outputs r
+    → TellsFaults inputs outputs r
 told_both inputs outputs x (Ok done) i o = record { works = (i.works.0, o.works.1); read = λ told. cc; write = λ told. cc; inputs_told = tt; outputs_told = tt }
-told_both inputs outputs x (Err e) i o = record { works = tt; read = λ told. absurd (o.read told); write = o.write; inputs_told = λ others. i.works.0; outputs_told = o.outputs_told }
+told_both inputs outputs x (Err e) i o = record {
+  works = tt;
+  read = λ told. absurd (o.read told);
+  write = o.write;
+  inputs_told = λ others. i.works.0;
+  outputs_told = o.outputs_told;
+}
 
 -- ---- a command that answers whole inputs
 
-pub record IsWhole (v : InvocationView) (has_keys given has_text has_content : Bool) (answer : List ℕ → List ℕ → Option (List ℕ) → Result OutputTexts Refusal) : Type 0 where
+pub record IsWhole (v : InvocationView) (has_keys given has_text has_content : Bool)
+    (answer : List ℕ → List ℕ → Option (List ℕ) → Result OutputTexts Refusal) : Type 0 where
   pub text : has_text_input v.command ≡ true
   pub keys : has_keys_input v.command ≡ has_keys
   pub content : has_content_input v ≡ given
@@ -173,16 +182,19 @@ reader_of {v} {has_keys} {given} {has_text} {has_content} {answer} is = record {
   streamed = λ streams. let holds = is.holds in cc;
 }
 
-keys_were_read : (has_keys ended : Bool) (octets : List ℕ) → (IsTrue has_keys → IsTrue ended) → was_read has_keys (record { octets = octets; ended = ended }) ≡ true
+keys_were_read : (has_keys ended : Bool) (octets : List ℕ) → (IsTrue has_keys → IsTrue ended)
+    → was_read has_keys (record { octets = octets; ended = ended }) ≡ true
 keys_were_read true ended octets ends = ends refl
 keys_were_read false ended octets ends = refl
 
-beside_seen : (given : Bool) (content : Observed) → (IsTrue given → IsTrue content.ended) → (cond given content (record { octets = []; ended = true })).ended ≡ true
+beside_seen : (given : Bool) (content : Observed) → (IsTrue given → IsTrue content.ended)
+    → (cond given content (record { octets = []; ended = true })).ended ≡ true
 beside_seen true content ends = ends refl
 beside_seen false content ends = refl
 
 pub wrote_whole : {D E : Type 0} {input : InputMembers D} {output : OutputMembers E} {v : InvocationView} {has_keys given has_text has_content : Bool}
-    {answer : List ℕ → List ℕ → Option (List ℕ) → Result OutputTexts Refusal} {old new : Inputs D} {before after : Outputs E} {read : WholeInputs} (r : Result (Unit {0}) Refusal)
+    {answer : List ℕ → List ℕ → Option (List ℕ) → Result OutputTexts Refusal} {old new : Inputs D} {before after : Outputs E} {read : WholeInputs}
+    (r : Result (Unit {0}) Refusal)
     → IsWhole v has_keys given has_text has_content answer → ReadsInputs input has_keys given old new (Ok read)
     → WritesWhole output has_text has_content (answer read.text.items read.keys.items (option_map (λ c. c.items) read.content)) before after r
     → Does input output v old new before after r
@@ -190,12 +202,14 @@ wrote_whole {D} {E} {input} {output} {v} {has_keys} {given} {has_text} {has_cont
     let reader : IsReader v has_keys given = reader_of is in
     let seen = seen_of input old new in
     let all = by whole.text.items whole.keys.items (option_map (λ c. c.items) whole.content) in
-    let read_as : (inputs : InputTexts) → ArePossibleInputs seen inputs → by inputs.text (where_read has_keys inputs.keys) (handed_in given inputs.content) ≡ all
+    let read_as : (inputs : InputTexts) → ArePossibleInputs seen inputs
+    → by inputs.text (where_read has_keys inputs.keys) (handed_in given inputs.content) ≡ all
     = λ inputs may. rw (read.text inputs.text may.text, read.keys inputs.keys may.keys, read.content inputs.content may.content) refl in
     let answered : (inputs : InputTexts) → ArePossibleInputs seen inputs → answer v inputs ≡ all
     = λ inputs may. rw (is.draft inputs.text inputs.keys, is.content, is.holds)
     (planned_of_object given (by inputs.text (where_read has_keys inputs.keys)) inputs.random inputs.content ∙ read_as inputs may) in
-    let others : others_read v seen ≡ true = others_are reader seen ∙ rw (keys_were_read has_keys seen.keys.ended seen.keys.octets read.keys_end, read.text_ends) refl in
+    let others : others_read v seen ≡ true = others_are reader seen
+    ∙ rw (keys_were_read has_keys seen.keys.ended seen.keys.octets read.keys_end, read.text_ends) refl in
     let ended : (content_seen v seen).ended ≡ true
     = rw (is.content, is.holds) (beside_seen given seen.content read.content_ends) in
     let stands : beginning v seen ≡ formed all true
@@ -215,7 +229,8 @@ wrote_whole {D} {E} {input} {output} {v} {has_keys} {given} {has_text} {has_cont
       keeps_up = λ told streams some. let holds = is.holds in cc;
       content_first = on_refusal r wrote.content_first (λ first. elim first [
         | inl same ↦ inl same
-        | inr whole ↦ inr (λ has. let w = whole (sym is.content_out ∙ has) in (ended, w.0, (w.1.0, answered (seen_texts input old new) (all_possible input old new) ∙ w.1.1, w.1.2)))
+        | inr whole ↦ inr (λ has. let w = whole (sym is.content_out ∙ has) in
+            (ended, w.0, (w.1.0, answered (seen_texts input old new) (all_possible input old new) ∙ w.1.1, w.1.2)))
       ]);
       in_order = record {
         keys = λ unread. read.keys_in_order (rw is.text at unread);

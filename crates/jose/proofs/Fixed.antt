@@ -21,11 +21,13 @@ signed_inside compact keys template q = by_answer (read_signing limits compact k
     by_answer (Err r) = refl
 
 -- A ciphertext that is inside the text is not written to the other output.
-pub encrypted_inside : (compact : Bool) (keys : List OctetKey) (template random q : List ℕ) → (fixed_by (plan_from (enc_plan limits compact false keys template) random) q).content ≡ []
+pub encrypted_inside : (compact : Bool) (keys : List OctetKey) (template random q : List ℕ)
+    → (fixed_by (plan_from (enc_plan limits compact false keys template) random) q).content ≡ []
 unfolding enc_plan
 encrypted_inside compact keys template random q = by_answer (read_encryption limits compact keys template)
   where
-    by_room : (e : EncryptionPlan) (enough : Bool) → (fixed_by (needs enough Random >>= λ _. Ok (encrypting limits compact false e (take (random_len e) random))) q).content ≡ []
+    by_room : (e : EncryptionPlan) (enough : Bool) → (fixed_by
+        (needs enough Random >>= λ _. Ok (encrypting limits compact false e (take (random_len e) random))) q).content ≡ []
     by_room e true = refl
     by_room e false = refl
 

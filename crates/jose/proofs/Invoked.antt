@@ -13,7 +13,8 @@ use Rattle.jose.proofs.Objects.{planned_of_object}
 
 pub answer_is_decrypted : EncryptedIsDecrypted limits limits → AnswerIsDecrypted
 answer_is_decrypted texts encrypting decrypting given wrote random_octets content_octets h =
-    let o = texts (is_compact_asked encrypting) (is_content_wanted encrypting) given.keys given.text given.random given.content wrote random_octets content_octets h in (
+    let o = texts (is_compact_asked encrypting) (is_content_wanted encrypting) given.keys given.text given.random given.content wrote
+    random_octets content_octets h in (
       o.0,
       (
         o.1.0,
@@ -26,12 +27,15 @@ answer_is_decrypted texts encrypting decrypting given wrote random_octets conten
 pub answer_is_verified : SignedIsVerified → AnswerIsVerified
 answer_is_verified texts signing verifying given wrote content_octets h =
     let plan = sig_answer limits (is_compact_asked signing) (is_content_wanted signing) given.keys given.text in
-    let o = texts (is_compact_asked signing) (is_content_wanted signing) given.keys given.text given.content wrote content_octets (ap (λ plan. planned plan given.content) (sym (plan_from-by_plan plan given.random)) ∙ h) in (
+    let o = texts (is_compact_asked signing) (is_content_wanted signing) given.keys given.text given.content wrote content_octets
+    (ap (λ plan. planned plan given.content) (sym (plan_from-by_plan plan given.random)) ∙ h) in (
       o.0,
       (
         o.1.0,
         λ signers back among held read.
-            planned_of_object (is_content_given verifying) (λ detached. on_content (ver_answer limits (is_all_asked verifying) (is_content_wanted verifying) back.keys detached back.text)) back.random back.content
-            ∙ ap on_content (o.1.1 signers (is_all_asked verifying) (is_content_wanted verifying) back.keys (handed_in (is_content_given verifying) back.content) back.text among held read),
+            planned_of_object (is_content_given verifying) (λ detached. on_content
+            (ver_answer limits (is_all_asked verifying) (is_content_wanted verifying) back.keys detached back.text)) back.random back.content
+            ∙ ap on_content (o.1.1 signers (is_all_asked verifying) (is_content_wanted verifying) back.keys
+            (handed_in (is_content_given verifying) back.content) back.text among held read),
       ),
     )

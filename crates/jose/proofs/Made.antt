@@ -8,7 +8,7 @@ use Rattle.octets.specs.Faults.{Counts, counts, TellsFaults}
 use Rattle.octets.specs.Outcomes.{AgreesUnlessExternal}
 use Rattle.octets.specs.Plan.{drawn_of}
 use Rattle.octets.specs.Code.Results.{accepted}
-use Rattle.octets.proofs.Lemmas.{AppendsPrefixOf-none, on_success, on_refusal, planned_without_content, seen_possible}
+use Rattle.octets.proofs.Lemmas.{AppendsPrefixOf-none, on_success, on_refusal, planned_without_content, seen_possible, if_weaker}
 use Rattle.keys.specs.Generating.{gen_answer}
 use Rattle.keys.specs.Limits.{limits}
 use Rattle.jose.specs.declared.commands.WholeInputs.{WholeInputs}
@@ -22,15 +22,18 @@ use Rattle.jose.specs.Ports.{as_text, seen_of}
 use Rattle.jose.specs.Doing.{Does}
 use Rattle.jose.specs.Code.Steps.{ReadsInputs}
 use Rattle.jose.proofs.Agreement.{agrees_as_text, begun_by_text, plan_of_making}
-use Rattle.jose.proofs.Doing.{if_always, if_weaker}
+use Rattle.jose.proofs.Doing.{if_always}
 use Rattle.jose.proofs.Rows.{invoked}
 use Rattle.jose.proofs.Spared.{spared_alone}
 
-pub record MakesKey {D E : Type 0} (input : InputMembers D) (output : OutputMembers E) (template : List ℕ) (random random' : D) (text text' : E) (r : Result (Unit {0}) Refusal) : Type 0 where
-  pub answer : (octets : List ℕ) → IsPossibleInput (observed input.consumed input.is_at_end random random') octets → AgreesUnlessExternal (gen_answer limits template octets) (appended (output.written text) (output.written text')) r
+pub record MakesKey {D E : Type 0} (input : InputMembers D) (output : OutputMembers E) (template : List ℕ) (random random' : D) (text text' : E)
+    (r : Result (Unit {0}) Refusal) : Type 0 where
+  pub answer : (octets : List ℕ) → IsPossibleInput (observed input.consumed input.is_at_end random random') octets
+      → AgreesUnlessExternal (gen_answer limits template octets) (appended (output.written text) (output.written text')) r
   pub drawn : OnOk r (length (appended (input.consumed random) (input.consumed random')) ≡ drawn_of (making template))
   pub at_most : length (appended (input.consumed random) (input.consumed random')) ≤ drawn_of (making template)
-  pub beginning : OnErr r (AppendsPrefixOf (accepted (gen_answer limits template (appended (input.consumed random) (input.consumed random'))) true) (output.written text) (output.written text'))
+  pub beginning : OnErr r (AppendsPrefixOf (accepted (gen_answer limits template (appended (input.consumed random) (input.consumed random'))) true)
+      (output.written text) (output.written text'))
   pub held_back : IfErr r (λ refusal. refusal ≢ Write → text' ≡ text)
   pub finished : OnOk r (IsFinishedOnce output.is_finished output.endings text text')
   pub unfinished : OnErr r (output.endings text' ≡ output.endings text)
@@ -56,7 +59,8 @@ told_of_key text content keys random random' texts contents x (Err e) same i o =
   outputs_told = λ others. ((o.outputs_told others).0, (same, tt));
 }
 
-pub made : {D E : Type 0} {input : InputMembers D} {output : OutputMembers E} {old mid : Inputs D} {random : D} {before : Outputs E} {text : E} {read : WholeInputs} (options : Settings) (r : Result (Unit {0}) Refusal)
+pub made : {D E : Type 0} {input : InputMembers D} {output : OutputMembers E} {old mid : Inputs D} {random : D} {before : Outputs E} {text : E}
+    {read : WholeInputs} (options : Settings) (r : Result (Unit {0}) Refusal)
     → ReadsInputs input false false old mid (Ok read) → MakesKey input output read.text.items mid.random random before.text text r
     → Does input output (invoked JwkGen options) old (record mid { random = random }) before (record before { text = text }) r
 made {D} {E} {input} {output} {old} {mid} {random} {before} {text} {read = whole} options r read key =
@@ -66,13 +70,19 @@ made {D} {E} {input} {output} {old} {mid} {random} {before} {text} {read = whole
     = subst (λ d. MakesKey input output whole.text.items d random before.text text r) read.no_random key in
     let t : seen.text.octets ≡ whole.text.items = read.text _ (seen_possible input.consumed input.is_at_end old.text new.text) in
     let stands : beginning (invoked JwkGen options) seen ≡ as_text (accepted (gen_answer limits whole.text.items seen.random.octets) true)
-    = rw (t, plan_of_making whole.text.items seen.random.octets, begun_by_text as_text refl seen.text.ended (gen_answer limits whole.text.items seen.random.octets), read.text_ends) refl in
+    = rw (
+      t,
+      plan_of_making whole.text.items seen.random.octets,
+      begun_by_text as_text refl seen.text.ended (gen_answer limits whole.text.items seen.random.octets),
+      read.text_ends,
+    ) refl in
     let spared = spared_alone output.failures before.text text (text ≡ before.text) r k.faults k.held_back in
     record {
       answer = λ inputs may.
           let a = gen_answer limits inputs.text inputs.random in
           rw (plan_of_making inputs.text inputs.random, planned_without_content as_text a [], read.text inputs.text may.text)
-          (agrees_as_text (gen_answer limits whole.text.items inputs.random) _ _ r (drop-length (output.written before.content)) (k.answer inputs.random may.random));
+          (agrees_as_text (gen_answer limits whole.text.items inputs.random) _ _ r (drop-length (output.written before.content))
+          (k.answer inputs.random may.random));
       drawn = on_success r k.drawn (λ drawn inputs may. rw (read.text inputs.text may.text) drawn);
       at_most = λ inputs may. rw (read.text inputs.text may.text) k.at_most;
       beginning = on_refusal r k.beginning (λ part. rw stands (record { text = part; content = AppendsPrefixOf-none _ _ refl }));
@@ -88,6 +98,13 @@ made {D} {E} {input} {output} {old} {mid} {random} {before} {text} {read = whole
       content_last = λ refusal refused. (k.content_last refusal (rw t at refused), read.no_content refl);
       finished = on_success r k.finished (λ done. (λ has. done, λ has. cc));
       unfinished = on_refusal r k.unfinished (λ same. (same, λ none. refl));
-      untouched = record { text = λ none. cc; content = λ none. read.no_content refl; keys = λ none. read.no_keys refl; random = λ none. cc; text_out = λ none. cc; content_out = λ none. refl };
+      untouched = record {
+        text = λ none. cc;
+        content = λ none. read.no_content refl;
+        keys = λ none. read.no_keys refl;
+        random = λ none. cc;
+        text_out = λ none. cc;
+        content_out = λ none. refl;
+      };
       faults = told_of_key _ _ _ _ _ _ _ whole r refl read.faults k.faults;
     }

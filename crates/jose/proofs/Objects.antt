@@ -1,15 +1,14 @@
 -- What is written of an object that was read, and the content that is read or written next to it.
-use Rattle.std.proofs.Common.{◌≡◌, ℕ, List, [], length, Bool, true, false, not, ◌&&◌, ◌||◌, cond, IsTrue, Option, Some, None, Result, Ok, Err, refl, ap, ◌∙◌}
-use lib.Dec.{leb-zero}
+use Rattle.std.proofs.Common.{◌≡◌, ℕ, List, [], Bool, true, false, not, ◌&&◌, ◌||◌, cond, IsTrue, Option, Some, None, Result, Ok, Err, refl, ap, ◌∙◌}
 use Rattle.std.specs.Result.{result_unwrap_or}
 use Rattle.octets.specs.declared.refusal.Refusal.{Refusal}
-use Rattle.octets.specs.declared.refusal.Refusal.TheVariants.{Random}
 use Rattle.octets.specs.Devices.{Observed}
-use Rattle.octets.specs.Outcomes.{◌>>=◌, needs}
-use Rattle.octets.specs.Plan.{OutputTexts, nothing, Plan, plan_from, planned, begun, by_text, without_random, without_content, drawn_of}
+use Rattle.octets.specs.Outcomes.{◌>>=◌}
+use Rattle.octets.specs.Plan.{OutputTexts, nothing, plan_from, planned, begun, by_text, without_random, without_content, drawn_of}
 use Rattle.objects.specs.Texts.{handed_in}
 use Rattle.jose.specs.Code.Steps.{formed}
 use Rattle.jose.specs.Meanings.{of_object}
+use Rattle.octets.proofs.Lemmas.{plan_from-without_random}
 
 -- ---- the content next to an object
 
@@ -21,19 +20,16 @@ beside_ended false ended read = refl
 -- ---- what is written of an object
 
 -- A plan that draws nothing is the same for every random input.
-drawing_nothing : {W : Type 0} (plan : Plan W) (random : List ℕ) → plan_from (Ok (without_random plan)) random ≡ Ok plan
-drawing_nothing plan random = ap (λ test. needs test Random >>= λ u. Ok plan) (leb-zero (length random))
-
 -- The draft of a text alone has the answer of this text.
 planned_by_text : {W : Type 0} (a : Result W Refusal) (random : List ℕ) → planned (plan_from (by_text a) random) [] ≡ a
-planned_by_text (Ok texts) random = ap (λ plan. planned plan []) (drawing_nothing (without_content texts) random)
+planned_by_text (Ok texts) random = ap (λ plan. planned plan []) (plan_from-without_random (without_content texts) random)
 planned_by_text (Err r) random = refl
 
 -- The draft of an object has the answer for the content that is handed in, if there is one.
 pub planned_of_object : (given : Bool) (answer : Option (List ℕ) → Result OutputTexts Refusal) (random content : List ℕ)
     → planned (plan_from (of_object given answer) random) (cond given content []) ≡ answer (handed_in given content)
 planned_of_object true answer random content =
-    ap (λ plan. planned plan content) (drawing_nothing (record { whole = λ whole. answer (Some whole); fixed = λ front. nothing }) random)
+    ap (λ plan. planned plan content) (plan_from-without_random (record { whole = λ whole. answer (Some whole); fixed = λ front. nothing }) random)
 planned_of_object false answer random content = planned_by_text (answer None) random
 
 formed_unread : (a : Result OutputTexts Refusal) → nothing ≡ formed a false
@@ -45,8 +41,9 @@ formed_by_content a false = formed_unread a
 formed_by_content (Ok texts) true = refl
 formed_by_content (Err r) true = refl
 
-formed_by_text : (a : Result OutputTexts Refusal) (random : List ℕ) → begun (plan_from (by_text a) random) (record { octets = []; ended = true }) ≡ formed a true
-formed_by_text (Ok texts) random = ap (λ plan. begun plan (record { octets = []; ended = true })) (drawing_nothing (without_content texts) random)
+formed_by_text : (a : Result OutputTexts Refusal) (random : List ℕ)
+    → begun (plan_from (by_text a) random) (record { octets = []; ended = true }) ≡ formed a true
+formed_by_text (Ok texts) random = ap (λ plan. begun plan (record { octets = []; ended = true })) (plan_from-without_random (without_content texts) random)
 formed_by_text (Err r) random = refl
 
 -- All of the answer may be written, but nothing before the other inputs and a content that is handed in were read.
@@ -55,7 +52,7 @@ pub begun_of_object : (given others : Bool) (answer : Option (List ℕ) → Resu
     ≡ formed (answer (handed_in given content.octets)) (others && (not given || content.ended))
 begun_of_object given false answer random content = formed_unread (answer (handed_in given content.octets))
 begun_of_object true true answer random content =
-    ap (λ plan. begun plan content) (drawing_nothing (record { whole = λ whole. answer (Some whole); fixed = λ front. nothing }) random)
+    ap (λ plan. begun plan content) (plan_from-without_random (record { whole = λ whole. answer (Some whole); fixed = λ front. nothing }) random)
     ∙ formed_by_content (answer (Some content.octets)) content.ended
 begun_of_object false true answer random content = formed_by_text (answer None) random
 

@@ -5,7 +5,7 @@ use Rattle.octets.specs.declared.refusal.Refusal.{Refusal}
 use Rattle.octets.specs.Devices.{observed, IsPossibleInput, InputMembers, OutputMembers}
 use Rattle.octets.specs.Faults.{Counts, counts, TellsFaults}
 use Rattle.octets.specs.Outcomes.{is_external, AgreesUnlessExternal}
-use Rattle.octets.proofs.Lemmas.{AppendsPrefixOf-kept}
+use Rattle.octets.proofs.Lemmas.{AppendsPrefixOf-kept, if_weaker}
 use Rattle.keys.specs.Limits.{limits}
 use Rattle.jose.specs.declared.ports.Inputs.{Inputs}
 use Rattle.jose.specs.declared.ports.Outputs.{Outputs}
@@ -14,12 +14,13 @@ use Rattle.jose.specs.Ports.{on_content, output_counts, seen_of}
 use Rattle.jose.specs.Doing.{Does}
 use Rattle.jose.specs.Invocations.{InvocationView}
 use Rattle.jose.proofs.Agreement.{agrees_as_content}
-use Rattle.jose.proofs.Doing.{IsWhole, if_always, if_done, if_weaker, others_are, reader_of}
+use Rattle.jose.proofs.Doing.{IsWhole, if_always, if_done, others_are, reader_of}
 use Rattle.jose.proofs.Draws.{none_drawn, nothing_drawn}
 use Rattle.jose.proofs.Objects.{planned_of_object}
 
 -- The failures of the inputs are reported in the order of a run's inputs.
-told_in_order : {E : Type 0} (failures : E → ℕ) (outs : Outputs E) (text keys content random : Counts) (r : Result (Unit {0}) Refusal) → random.new ≡ random.old → TellsFaults (text ∷ keys ∷ content ∷ []) [] r
+told_in_order : {E : Type 0} (failures : E → ℕ) (outs : Outputs E) (text keys content random : Counts) (r : Result (Unit {0}) Refusal) → random.new ≡ random.old
+    → TellsFaults (text ∷ keys ∷ content ∷ []) [] r
     → TellsFaults (text ∷ content ∷ keys ∷ random ∷ []) (output_counts failures outs outs) r
 told_in_order failures outs text keys content random (Ok done) same told = record {
   works = ((told.works.0.0, (told.works.0.1.1.0, (told.works.0.1.0, (same, tt)))), (refl, (refl, tt)));
@@ -30,16 +31,23 @@ told_in_order failures outs text keys content random (Ok done) same told = recor
 }
 told_in_order failures outs text keys content random (Err e) same told = record {
   works = tt;
-  read = λ is. elim (told.read is) [ inl text ↦ inl text | inr rest ↦ elim rest [ inl keys ↦ inr (inr (inl keys)) | inr last ↦ elim last [ inl content ↦ inr (inl content) | inr nothing ↦ absurd nothing ] ] ];
+  read = λ is. elim (told.read is) [
+    | inl text ↦ inl text
+    | inr rest ↦
+        elim rest [ inl keys ↦ inr (inr (inl keys)) | inr last ↦ elim last [ inl content ↦ inr (inl content) | inr nothing ↦ absurd nothing ] ]
+  ];
   write = λ is. absurd (told.write is);
   inputs_told = λ others. let none = told.inputs_told others in (none.0, (none.1.1.0, (none.1.0, (same, tt))));
   outputs_told = λ others. (refl, (refl, tt));
 }
 
-pub verified_in_one_pass : {D E : Type 0} {input : InputMembers D} {v : InvocationView} {old : Inputs D} {text keys content : D} (all : Bool) (output : OutputMembers E) (outs : Outputs E) (r : Result (Unit {0}) Refusal)
+pub verified_in_one_pass : {D E : Type 0} {input : InputMembers D} {v : InvocationView} {old : Inputs D} {text keys content : D} (all : Bool)
+    (output : OutputMembers E) (outs : Outputs E) (r : Result (Unit {0}) Refusal)
     → IsWhole v true true false false (λ text keys detached. on_content (ver_answer limits all false keys detached text))
-    → ((whole_text whole_keys whole_content : List ℕ) → IsPossibleInput (observed input.consumed input.is_at_end old.text text) whole_text → IsPossibleInput (observed input.consumed input.is_at_end old.keys keys) whole_keys
-    → IsPossibleInput (observed input.consumed input.is_at_end old.content content) whole_content → AgreesUnlessExternal (ver_answer limits all false whole_keys (Some whole_content) whole_text) [] r)
+    → ((whole_text whole_keys whole_content : List ℕ) → IsPossibleInput (observed input.consumed input.is_at_end old.text text) whole_text
+    → IsPossibleInput (observed input.consumed input.is_at_end old.keys keys) whole_keys
+    → IsPossibleInput (observed input.consumed input.is_at_end old.content content) whole_content
+    → AgreesUnlessExternal (ver_answer limits all false whole_keys (Some whole_content) whole_text) [] r)
     → (input.is_at_end text ≡ false → keys ≡ old.keys) × (input.is_at_end keys && input.is_at_end text ≡ false → content ≡ old.content)
     → IfErr r (λ refusal. is_external refusal ≡ false → IsTrue (input.is_at_end text) × IsTrue (input.is_at_end keys) × IsTrue (input.is_at_end content))
     → TellsFaults (counts input.failures old.text text ∷ counts input.failures old.keys keys ∷ counts input.failures old.content content ∷ []) [] r
@@ -50,8 +58,15 @@ verified_in_one_pass {D} {E} {input} {v} {old} {text} {keys} {content} all outpu
     let reader = reader_of is in
     let by = λ (text keys : List ℕ) (detached : Option (List ℕ)). on_content (ver_answer limits all false keys detached text) in
     record {
-      answer = λ inputs may. rw (is.draft inputs.text inputs.keys, is.content, planned_of_object true (by inputs.text inputs.keys) inputs.random inputs.content, drop-length (output.written outs.text), drop-length (output.written outs.content))
-          (agrees_as_content (ver_answer limits all false inputs.keys (Some inputs.content) inputs.text) [] [] r refl (answers inputs.text inputs.keys inputs.content may.text may.keys may.content));
+      answer = λ inputs may. rw (
+        is.draft inputs.text inputs.keys,
+        is.content,
+        planned_of_object true (by inputs.text inputs.keys) inputs.random inputs.content,
+        drop-length (output.written outs.text),
+        drop-length (output.written outs.content),
+      )
+          (agrees_as_content (ver_answer limits all false inputs.keys (Some inputs.content) inputs.text) [] [] r refl
+          (answers inputs.text inputs.keys inputs.content may.text may.keys may.content));
       drawn = if_done r (λ inputs may. nothing_drawn (input.consumed old.random) ∙ sym (reader.draws refl inputs.text inputs.keys));
       at_most = λ inputs may. none_drawn (input.consumed old.random) _;
       beginning = if_always r _ (λ e. record { text = AppendsPrefixOf-kept _ _; content = AppendsPrefixOf-kept _ _ });
@@ -65,7 +80,8 @@ verified_in_one_pass {D} {E} {input} {v} {old} {text} {keys} {content} all outpu
         random = λ unread. refl;
         content = λ unread. in_order.1 (sym (others_are reader seen) ∙ unread);
       };
-      reads_first = if_weaker r _ _ reads_first (λ e ended inside usage. let all = ended inside in rw (others_are reader seen, is.content, is.holds, all.0, all.1, all.2) refl);
+      reads_first = if_weaker r _ _ reads_first (λ e ended inside usage. let all = ended inside in
+          rw (others_are reader seen, is.content, is.holds, all.0, all.1, all.2) refl);
       random_first = λ short. let none = reader.draws refl seen.text.octets seen.keys.octets in absurd (omega (arith, none, short));
       memory_first = if_always r _ (λ e memory. (is.memory, λ streams. let holds = is.holds in cc));
       content_last = λ refusal refused. let given = reader.refuses _ _ refusal refused in cc;

@@ -13,7 +13,8 @@ use Rattle.jose.specs.Reading.{IsRefusalFor, app_for, is_faultless, settings_of,
 pub accepted : (options : List OptionEntry) (words : List Text) → fault_of (app_for options) words ≡ []
     → settings_read options words ≡ Ok (settings_of options (matches_of (app_for options) words))
 unfolding settings_read
-accepted options words none = ap (λ (kinds : Kinds). needs (is_faultless kinds) Usage >>= λ ok. Ok (settings_of options (matches_of (app_for options) words))) none
+accepted options words none = ap (λ (kinds : Kinds). needs (is_faultless kinds) Usage >>= λ ok. Ok (settings_of options (matches_of (app_for options) words)))
+    none
 
 refused_by : {A : Type 0} (settings : Result A Refusal) (kinds : Kinds) (e : Error) (r : Refusal) → HasKind kinds e → IsRefusalFor (kind_of e) r
     → is_memory r ≡ false → ((needs (is_faultless kinds) Usage >>= λ ok. settings) ≡ Err r) × (is_external r ≡ false)
@@ -23,7 +24,8 @@ refused_by settings [] e r (inr among) (inr usage) other = absurd among
 refused_by settings (k ∷ ks) e r (inr among) (inr usage) other = (ap Err (sym usage.1), ap is_external usage.1)
 
 -- `clap` found a fault, or memory ran out.
-pub refused : (options : List OptionEntry) (words : List Text) (e : Error) (r : Refusal) → HasKind (fault_of (app_for options) words) e → IsRefusalFor (kind_of e) r
+pub refused : (options : List OptionEntry) (words : List Text) (e : Error) (r : Refusal) → HasKind (fault_of (app_for options) words) e
+    → IsRefusalFor (kind_of e) r
     → is_memory r ≡ false → (settings_read options words ≡ Err r) × (is_external r ≡ false)
 unfolding settings_read
 refused options words = refused_by (Ok (settings_of options (matches_of (app_for options) words))) (fault_of (app_for options) words)

@@ -20,7 +20,8 @@ value_found letter settings =
     ap (option_map (λ (p : ℕ × Text). p.1)) (find-map (λ p. p.0 == letter) pair_of settings)
     ∙ sym (option_map-option_map pair_of (λ p. p.1) (find (λ setting. setting.letter == letter) settings))
 
-pub setting_before-append : (letter : ℕ) (value : Option Text) (more : List (ℕ × Text)) → setting_before letter value [] ++ more ≡ setting_before letter value more
+pub setting_before-append : (letter : ℕ) (value : Option Text) (more : List (ℕ × Text))
+    → setting_before letter value [] ++ more ≡ setting_before letter value more
 setting_before-append letter None more = refl
 setting_before-append letter (Some v) more = refl
 

@@ -80,11 +80,13 @@ abbrev settled_by : Limits → Bool → List ℕ → List ℕ → Result Encrypt
 settled_by limits compact keys template = key_set limits keys true >>= λ set. read_encryption limits compact set template
 
 -- This is the draft of `jwe enc`.
-draft_is : (limits : Limits) (compact detach : Bool) (keys template : List ℕ) → enc_answer limits compact detach keys template ≡ drafted limits compact detach (settled_by limits compact keys template)
+draft_is : (limits : Limits) (compact detach : Bool) (keys template : List ℕ)
+    → enc_answer limits compact detach keys template ≡ drafted limits compact detach (settled_by limits compact keys template)
 unfolding enc_plan
 draft_is limits compact detach keys template = by_set (key_set limits keys true)
   where
-    by_set : (r : Result (List OctetKey) Refusal) → (r >>= λ set. enc_plan limits compact detach set template) ≡ drafted limits compact detach (r >>= λ set. read_encryption limits compact set template)
+    by_set : (r : Result (List OctetKey) Refusal) → (r >>= λ set. enc_plan limits compact detach set template)
+        ≡ drafted limits compact detach (r >>= λ set. read_encryption limits compact set template)
     by_set (Ok set) = refl
     by_set (Err e) = refl
 
@@ -129,7 +131,8 @@ module _ (narrower wider : Limits) (wide : AreWider narrower wider) where
       then_stays (needs (nat_le (length texts.recipients) narrower.recipients) Limit) (needs (nat_le (length texts.recipients) wider.recipients) Limit) _ _
       (test_stays _ _ (within_wider (length texts.recipients) narrower.recipients wider.recipients wide.recipients))
       (λ few passed.
-      same_stays _ _ (ap (λ algs. decoded texts.shared.protected >>= λ octets. jwe.decoded_members texts >>= λ parts. jwe.encrypted_object algs octets parts) wide.management)))
+      same_stays _ _ (ap (λ algs. decoded texts.protected >>= λ octets. jwe.decoded_members texts >>= λ parts. jwe.encrypted_object algs octets parts)
+      wide.management)))
 
   jws_stays : (detached : Option (List ℕ)) (text : List ℕ) → StaysUnlessLimit (jws.jws_of narrower detached text) (jws.jws_of wider detached text)
   unfolding jws.jws_of jws.decoded_object
@@ -139,20 +142,23 @@ module _ (narrower wider : Limits) (wide : AreWider narrower wider) where
       then_stays (needs (nat_le (length texts.signatures) narrower.recipients) Limit) (needs (nat_le (length texts.signatures) wider.recipients) Limit) _ _
       (test_stays _ _ (within_wider (length texts.signatures) narrower.recipients wider.recipients wide.recipients))
       (λ few passed.
-      same_stays _ _ (ap (λ algs. decoded texts.payload >>= λ payload. each jws.decoded_signature texts.signatures >>= λ signatures. jws.signed_object algs payload signatures) wide.management)))
+      same_stays _ _ (ap (λ algs. decoded texts.payload >>= λ payload. each jws.decoded_signature texts.signatures
+      >>= λ signatures. jws.signed_object algs payload signatures) wide.management)))
 
   -- ---- iterations
 
   -- Pairs whose iterations are within the limits are within wider ones.
   within_both : (pairs : List Pair) → are_within narrower pairs ≡ true → are_within wider pairs ≡ true
   within_both pairs h =
-      let both = and_parts (list_all (λ pair. nat_le (iterations_of pair) narrower.greatest_p2c_read) pairs) (nat_le (all_iterations pairs) narrower.p2c_sum) h in
+      let both = and_parts (list_all (λ pair. nat_le (iterations_of pair) narrower.greatest_p2c_read) pairs)
+      (nat_le (all_iterations pairs) narrower.p2c_sum) h in
       and_from (list_all (λ pair. nat_le (iterations_of pair) wider.greatest_p2c_read) pairs) (nat_le (all_iterations pairs) wider.p2c_sum)
       (all_pass_other (λ pair. nat_le (iterations_of pair) narrower.greatest_p2c_read) (λ pair. nat_le (iterations_of pair) wider.greatest_p2c_read) pairs
       (λ pair few. within_wider (iterations_of pair) narrower.greatest_p2c_read wider.greatest_p2c_read wide.greatest_p2c_read few) both.0)
       (within_wider (all_iterations pairs) narrower.p2c_sum wider.p2c_sum wide.p2c_sum both.1)
 
-  tried_stay : (keys : List OctetKey) (recipients : List jwe.Recipient) → StaysUnlessLimit (pairs_to_try narrower keys recipients) (pairs_to_try wider keys recipients)
+  tried_stay : (keys : List OctetKey) (recipients : List jwe.Recipient)
+      → StaysUnlessLimit (pairs_to_try narrower keys recipients) (pairs_to_try wider keys recipients)
   unfolding pairs_to_try
   tried_stay keys recipients =
       rw wide.management
@@ -160,13 +166,15 @@ module _ (narrower wider : Limits) (wide : AreWider narrower wider) where
       (λ supported passed.
       then_stays (needs (has_pairs (all_pairs narrower.management keys recipients)) KeyDoesNotFit) _ _ _ (same_stays _ _ refl)
       (λ candidates passed.
-      then_stays (needs (are_within narrower (all_pairs narrower.management keys recipients)) Limit) (needs (are_within wider (all_pairs narrower.management keys recipients)) Limit) _ _
+      then_stays (needs (are_within narrower (all_pairs narrower.management keys recipients)) Limit)
+      (needs (are_within wider (all_pairs narrower.management keys recipients)) Limit) _ _
       (test_stays _ _ (within_both (all_pairs narrower.management keys recipients))) (λ few passed. same_stays _ _ refl))))
 
   decrypted_stays : (keys : List OctetKey) (o : jwe.EncryptedObject) → StaysUnlessLimit (decrypted narrower keys o) (decrypted wider keys o)
   unfolding decrypted
   decrypted_stays keys o =
-      then_stays (pairs_to_try narrower keys o.recipients) (pairs_to_try wider keys o.recipients) _ _ (tried_stay keys o.recipients) (λ pairs tried. same_stays _ _ refl)
+      then_stays (pairs_to_try narrower keys o.recipients) (pairs_to_try wider keys o.recipients) _ _ (tried_stay keys o.recipients)
+      (λ pairs tried. same_stays _ _ refl)
 
   -- ---- what is read
 
@@ -175,10 +183,12 @@ module _ (narrower wider : Limits) (wide : AreWider narrower wider) where
   reads_as_before = record {
     dec = λ keys detached text.
         then_stays (key_set narrower keys false) (key_set wider keys false) _ _ (same_stays _ _ (same_set keys false))
-        (λ set read. then_stays (jwe.jwe_of narrower detached text) (jwe.jwe_of wider detached text) _ _ (jwe_stays detached text) (λ o read. decrypted_stays set o));
+        (λ set read. then_stays (jwe.jwe_of narrower detached text) (jwe.jwe_of wider detached text) _ _ (jwe_stays detached text)
+        (λ o read. decrypted_stays set o));
     ver = λ all wanted keys detached text.
         then_stays (key_set narrower keys false) (key_set wider keys false) _ _ (same_stays _ _ (same_set keys false))
-        (λ set read. then_stays (jws.jws_of narrower detached text) (jws.jws_of wider detached text) _ _ (jws_stays detached text) (λ o read. same_stays _ _ refl));
+        (λ set read. then_stays (jws.jws_of narrower detached text) (jws.jws_of wider detached text) _ _ (jws_stays detached text)
+        (λ o read. same_stays _ _ refl));
     jws_fmt = λ compact detach detached text.
         then_stays (jws.jws_of narrower detached text) (jws.jws_of wider detached text) _ _ (jws_stays detached text) (λ o read. same_stays _ _ refl);
     jwe_fmt = λ compact detach detached text.
@@ -205,16 +215,20 @@ module _ (narrower wider : Limits) (wide : AreWider narrower wider) where
       let first = and_parts (nat_le narrower.least_p2c p2c) (nat_le p2c narrower.greatest_p2c && nat_le (suc n * p2c) narrower.p2c_sum) h in
       let second = and_parts (nat_le p2c narrower.greatest_p2c) (nat_le (suc n * p2c) narrower.p2c_sum) first.1 in
       let least : narrower.least_p2c ≤ p2c = leb-true narrower.least_p2c p2c first.0 in
-      and_from (nat_le wider.least_p2c p2c) (nat_le p2c wider.greatest_p2c && nat_le (suc n * p2c) wider.p2c_sum) (le-leb wider.least_p2c p2c (omega (arith, least, wide.least_p2c)))
-      (and_from (nat_le p2c wider.greatest_p2c) (nat_le (suc n * p2c) wider.p2c_sum) (within_wider p2c narrower.greatest_p2c wider.greatest_p2c wide.greatest_p2c second.0)
+      and_from (nat_le wider.least_p2c p2c) (nat_le p2c wider.greatest_p2c && nat_le (suc n * p2c) wider.p2c_sum)
+      (le-leb wider.least_p2c p2c (omega (arith, least, wide.least_p2c)))
+      (and_from (nat_le p2c wider.greatest_p2c) (nat_le (suc n * p2c) wider.p2c_sum)
+      (within_wider p2c narrower.greatest_p2c wider.greatest_p2c wide.greatest_p2c second.0)
       (within_wider (suc n * p2c) narrower.p2c_sum wider.p2c_sum wide.p2c_sum second.1))
 
   -- The headers may nest as deep as before.
-  same_depth : (t : EncryptionTemplate) → (is_shallow wider t.protected && is_shallow wider t.unprotected) ≡ (is_shallow narrower t.protected && is_shallow narrower t.unprotected)
+  same_depth : (t : EncryptionTemplate) → (is_shallow wider t.protected && is_shallow wider t.unprotected)
+      ≡ (is_shallow narrower t.protected && is_shallow narrower t.unprotected)
   same_depth t = rw (wide.depth) refl
 
   with_stays : (compact : Bool) (keys : List OctetKey) (t : EncryptionTemplate)
-      → ((receivers : List RecipientKey) → each (recipient_key_by t.asked.management) keys ≡ Ok receivers → (password_count receivers == 0 || is_given t.asked.p2c) ≡ true)
+      → ((receivers : List RecipientKey) → each (recipient_key_by t.asked.management) keys ≡ Ok receivers
+      → (password_count receivers == 0 || is_given t.asked.p2c) ≡ true)
       → StaysUnlessLimit (settle_encryption narrower compact keys t) (settle_encryption wider compact keys t)
   unfolding settle_encryption
   with_stays compact keys t counted =
@@ -229,9 +243,11 @@ module _ (narrower wider : Limits) (wide : AreWider narrower wider) where
       then_stays (chosen_p2c narrower (password_count receivers) t.asked.p2c) (chosen_p2c wider (password_count receivers) t.asked.p2c) _ _
       (same_stays _ _ (same_count (password_count receivers) t.asked.p2c (counted receivers by_keys)))
       (λ p2c chosen.
-      then_stays (needs (is_shallow narrower t.protected && is_shallow narrower t.unprotected) Limit) _ _ _ (same_stays _ _ (ap (λ b. needs b Limit) (same_depth t)))
+      then_stays (needs (is_shallow narrower t.protected && is_shallow narrower t.unprotected) Limit) _ _ _
+      (same_stays _ _ (ap (λ b. needs b Limit) (same_depth t)))
       (λ shallow passed.
-      then_stays (needs (p2c_may_be_written narrower (password_count receivers) p2c) Limit) (needs (p2c_may_be_written wider (password_count receivers) p2c) Limit) _ _
+      then_stays (needs (p2c_may_be_written narrower (password_count receivers) p2c) Limit)
+      (needs (p2c_may_be_written wider (password_count receivers) p2c) Limit) _ _
       (test_stays _ _ (written_both (password_count receivers) p2c)) (λ written passed. same_stays _ _ refl)))))))
 
   encryption_stays : (compact : Bool) (keys : List OctetKey) (text : List ℕ) → IsCounted keys text
@@ -282,9 +298,11 @@ module _ (narrower wider : Limits) (wide : AreWider narrower wider) where
   pub encrypts_as_before : EncryptsAsBefore narrower wider
   encrypts_as_before compact detach keys template random plaintext counted =
       let settled : StaysUnlessLimit (settled_by narrower compact keys template) (settled_by wider compact keys template) =
-      then_stays (key_set narrower keys true) (key_set wider keys true) _ _ (same_stays _ _ (same_set keys true)) (λ set read. encryption_stays compact set template (counted set read)) in
+      then_stays (key_set narrower keys true) (key_set wider keys true) _ _ (same_stays _ _ (same_set keys true))
+      (λ set read. encryption_stays compact set template (counted set read)) in
       subst (λ a. DraftsAsBefore a (enc_answer wider compact detach keys template) random plaintext) (sym (draft_is narrower compact detach keys template))
-      (subst (λ b. DraftsAsBefore (drafted narrower compact detach (settled_by narrower compact keys template)) b random plaintext) (sym (draft_is wider compact detach keys template))
+      (subst (λ b. DraftsAsBefore (drafted narrower compact detach (settled_by narrower compact keys template)) b random plaintext)
+      (sym (draft_is wider compact detach keys template))
       (planned_stays compact detach (settled_by narrower compact keys template) (settled_by wider compact keys template) random plaintext settled))
 
   -- ---- objects that were encrypted

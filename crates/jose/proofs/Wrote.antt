@@ -7,12 +7,11 @@ use Rattle.octets.specs.declared.refusal.Refusal.TheVariants.{Write}
 use Rattle.octets.specs.Devices.{appended, AppendsPrefixOf, IsFinishedOnce, OutputMembers}
 use Rattle.octets.specs.Faults.{Counts, counts, TellsFaults}
 use Rattle.octets.specs.Outcomes.{AgreesUnlessExternal}
-use Rattle.octets.proofs.Lemmas.{AppendsPrefixOf-none, on_success, on_refusal}
+use Rattle.octets.proofs.Lemmas.{AppendsPrefixOf-none, on_success, on_refusal, if_weaker}
 use Rattle.jose.specs.declared.ports.Outputs.{Outputs}
 use Rattle.jose.specs.Ports.{as_content, on_content}
 use Rattle.jose.specs.Code.Steps.{WritesWhole, formed}
 use Rattle.jose.proofs.Agreement.{agrees_as_content}
-use Rattle.jose.proofs.Doing.{if_weaker}
 
 formed_content : (a : Result (List ℕ) Refusal) → formed (on_content a) true ≡ as_content (result_unwrap_or a [])
 formed_content (Ok content) = refl
@@ -20,7 +19,13 @@ formed_content (Err r) = refl
 
 told_content : (c d : Counts) (r : Result (Unit {0}) Refusal) → c.new ≡ c.old → TellsFaults [] (d ∷ []) r → TellsFaults [] (c ∷ d ∷ []) r
 told_content c d (Ok done) same told = record { works = (tt, (same, told.works.1)); read = λ is. cc; write = λ is. cc; inputs_told = tt; outputs_told = tt }
-told_content c d (Err e) same told = record { works = tt; read = told.read; write = λ is. inr (told.write is); inputs_told = told.inputs_told; outputs_told = λ others. (same, told.outputs_told others) }
+told_content c d (Err e) same told = record {
+  works = tt;
+  read = told.read;
+  write = λ is. inr (told.write is);
+  inputs_told = told.inputs_told;
+  outputs_told = λ others. (same, told.outputs_told others);
+}
 
 pub wrote_content : {E : Type 0} (output : OutputMembers E) (a : Result (List ℕ) Refusal) (outs : Outputs E) (content : E) (r : Result (Unit {0}) Refusal)
     → AgreesUnlessExternal a (appended (output.written outs.content) (output.written content)) r

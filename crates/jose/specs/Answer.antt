@@ -117,7 +117,8 @@ content_seen invocation seen = content_of invocation seen.text seen.content (rec
 -- the texts of which the outputs may hold a beginning, which are empty until the other inputs were read and accepted
 abbrev pub beginning : InvocationView → ObservedInputs → OutputTexts
 beginning invocation seen =
-    if others_read invocation seen then begun (plan_from (draft_of invocation seen.text.octets seen.keys.octets) seen.random.octets) (content_seen invocation seen)
+    if others_read invocation seen then begun (plan_from (draft_of invocation seen.text.octets seen.keys.octets) seen.random.octets)
+    (content_seen invocation seen)
     else nothing
 
 -- Text, a fact about the output of the text, holds unless the refusal is Write and this output itself failed. Content, a fact about the
@@ -136,7 +137,8 @@ HoldsBack failures invocation old new refusal =
 -- it is untouched unless either failed.
 abbrev pub AreUncut : {D : Type 0} → (D → ℕ) → (D → List ℕ) → Outputs D → Outputs D → Refusal → Type 0
 AreUncut failures written old new refusal =
-    AreSpared failures old new refusal (written new.text ≡ written old.text → new.text ≡ old.text) (written new.content ≡ written old.content → new.content ≡ old.content)
+    AreSpared failures old new refusal (written new.text ≡ written old.text → new.text ≡ old.text)
+    (written new.content ≡ written old.content → new.content ≡ old.content)
 
 -- If a command writes as it reads, and no octet of its content was read, the output of the text is untouched unless it failed itself, and
 -- that of the content unless either failed.
@@ -147,7 +149,8 @@ AreUnread failures invocation seen old new refusal =
 
 -- the texts that this beginning of the content fixes, if the other inputs are as they were seen
 abbrev pub fixed_of : InvocationView → ObservedInputs → List ℕ → OutputTexts
-fixed_of invocation seen front = begun (plan_from (draft_of invocation seen.text.octets seen.keys.octets) seen.random.octets) (record { octets = front; ended = false })
+fixed_of invocation seen front = begun (plan_from (draft_of invocation seen.text.octets seen.keys.octets) seen.random.octets)
+    (record { octets = front; ended = false })
 
 -- If a command writes as it reads, and some of its content was read, each output has grown at least as far as the content without its last
 -- 4,160 octets fixes it. `run` promises this if the content fails.

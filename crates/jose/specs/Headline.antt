@@ -93,15 +93,18 @@ AnswerIsVerified = (signing verifying : Settings) (given : InputTexts) (texts : 
 
 -- An object that was read is written in compact form, with the content inside or detached, exactly if it fits. If it does not fit, the
 -- refusal is NotCompact.
-abbrev pub GoesToCompactForm : {O : Type 0} → (Option (List ℕ) → List ℕ → Result O Refusal) → (O → Type 0) → (Bool → Bool → Option (List ℕ) → List ℕ → Result OutputTexts Refusal) → Type 0
+abbrev pub GoesToCompactForm : {O : Type 0} → (Option (List ℕ) → List ℕ → Result O Refusal) → (O → Type 0)
+    → (Bool → Bool → Option (List ℕ) → List ℕ → Result OutputTexts Refusal) → Type 0
 GoesToCompactForm {O} read Fits fmt = (detach : Bool) (detached : Option (List ℕ)) (text : List ℕ) (o : O) → read detached text ≡ Ok o
     → (((compact : OutputTexts) × (fmt true detach detached text ≡ Ok compact)) ↔ Fits o)
     × (¬ Fits o → fmt true detach detached text ≡ Err NotCompact)
 
 -- An object that fits is written in JSON form, then in compact form and then in JSON form again, and the result is the same as at first. In
 -- either form the content may be inside or detached, but both JSON texts have it in the same place.
-abbrev pub FormatsGoBack : {O : Type 0} → (Option (List ℕ) → List ℕ → Result O Refusal) → (O → Type 0) → (Bool → Bool → Option (List ℕ) → List ℕ → Result OutputTexts Refusal) → Type 0
-FormatsGoBack {O} read Fits fmt = (detach_json detach_compact : Bool) (detached : Option (List ℕ)) (text : List ℕ) (o : O) → AreOctetsHandedIn detached → IsOctets text
+abbrev pub FormatsGoBack : {O : Type 0} → (Option (List ℕ) → List ℕ → Result O Refusal) → (O → Type 0)
+    → (Bool → Bool → Option (List ℕ) → List ℕ → Result OutputTexts Refusal) → Type 0
+FormatsGoBack {O} read Fits fmt = (detach_json detach_compact : Bool) (detached : Option (List ℕ)) (text : List ℕ) (o : O)
+    → AreOctetsHandedIn detached → IsOctets text
     → read detached text ≡ Ok o → Fits o
     → (json : OutputTexts) × ((compact : OutputTexts) × ((fmt false detach_json detached text ≡ Ok json)
     × ((fmt true detach_compact (handed_in detach_json json.content) json.text ≡ Ok compact)

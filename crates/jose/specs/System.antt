@@ -100,14 +100,16 @@ IsCompared own_gives gives others = (own : Status) × (own_gives (Ok own) × IsA
 
 -- what becomes of an output that is open and was not cut: it cannot be examined, it may be one of the others and is busy, or it is none of
 -- them and is cut
-abbrev pub IsJudged : {F : Type 0} → (Result Status Error → Type 0) → (PlaceView → Result Status Error → Type 0) → (Result F Error → Type 0) → List (Option PlaceView) → Result F Error → Type 0
+abbrev pub IsJudged : {F : Type 0} → (Result Status Error → Type 0) → (PlaceView → Result Status Error → Type 0) → (Result F Error → Type 0)
+    → List (Option PlaceView) → Result F Error → Type 0
 IsJudged own_gives gives cut_gives others result =
     ((e : Error) × (own_gives (Err e) × (result ≡ Err e)))
     ⊎ (((own : Status) × (own_gives (Ok own) × IsNotApart gives own others × IsErrAnd result (λ e. error_kind e ≡ ResourceBusy)))
     ⊎ (IsCompared own_gives gives others × cut_gives result))
 
 -- An output is opened without being cut. It is cut, and is the result, only if it is none of the others.
-abbrev pub IsCreated : {U F : Type 0} → (Request → Result U Error → Type 0) → (U → Result Status Error → Type 0) → (PlaceView → Result Status Error → Type 0) → (U → Result F Error → Type 0) → Request → Result F Error → Type 0
+abbrev pub IsCreated : {U F : Type 0} → (Request → Result U Error → Type 0) → (U → Result Status Error → Type 0) → (PlaceView → Result Status Error → Type 0)
+    → (U → Result F Error → Type 0) → Request → Result F Error → Type 0
 IsCreated {U} uncut_gives own_gives gives cut_gives request result =
     ((e : Error) × (uncut_gives request (Err e) × (result ≡ Err e)))
     ⊎ ((uncut : U) × (uncut_gives request (Ok uncut) × IsJudged (own_gives uncut) gives (cut_gives uncut) request.others result))

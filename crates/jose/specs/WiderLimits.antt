@@ -37,7 +37,8 @@ StaysUnlessLimit narrower wider = narrower ≢ Err Limit → wider ≡ narrower
 
 -- For all keys and objects, the answers of `jwe dec`, `jws ver` and both `fmt` stay the same unless they are Limit.
 pub record ReadsAsBefore (narrower wider : Limits) : Type 0 where
-  pub dec : (keys : List ℕ) (detached : Option (List ℕ)) (text : List ℕ) → StaysUnlessLimit (dec_answer narrower keys detached text) (dec_answer wider keys detached text)
+  pub dec : (keys : List ℕ) (detached : Option (List ℕ)) (text : List ℕ)
+      → StaysUnlessLimit (dec_answer narrower keys detached text) (dec_answer wider keys detached text)
   pub ver : (all wanted : Bool) (keys : List ℕ) (detached : Option (List ℕ)) (text : List ℕ)
       → StaysUnlessLimit (ver_answer narrower all wanted keys detached text) (ver_answer wider all wanted keys detached text)
   pub jws_fmt : (compact detach : Bool) (detached : Option (List ℕ)) (text : List ℕ)
@@ -55,6 +56,9 @@ IsCounted keys text =
 -- Limit. So does the number of random octets that it draws, unless its draft is Limit.
 abbrev pub EncryptsAsBefore : Limits → Limits → Type 0
 EncryptsAsBefore narrower wider =
-    (compact detach : Bool) (keys : List ℕ) (template random plaintext : List ℕ) → ((set : List OctetKey) → key_set narrower keys true ≡ Ok set → IsCounted set template)
-    → StaysUnlessLimit (planned (plan_from (enc_answer narrower compact detach keys template) random) plaintext) (planned (plan_from (enc_answer wider compact detach keys template) random) plaintext)
-    × ((enc_answer narrower compact detach keys template ≢ Err Limit) → drawn_of (enc_answer wider compact detach keys template) ≡ drawn_of (enc_answer narrower compact detach keys template))
+    (compact detach : Bool) (keys : List ℕ) (template random plaintext : List ℕ)
+    → ((set : List OctetKey) → key_set narrower keys true ≡ Ok set → IsCounted set template)
+    → StaysUnlessLimit (planned (plan_from (enc_answer narrower compact detach keys template) random) plaintext)
+    (planned (plan_from (enc_answer wider compact detach keys template) random) plaintext)
+    × ((enc_answer narrower compact detach keys template ≢ Err Limit)
+    → drawn_of (enc_answer wider compact detach keys template) ≡ drawn_of (enc_answer narrower compact detach keys template))

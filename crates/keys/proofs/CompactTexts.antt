@@ -14,7 +14,8 @@ decimal_is_utf8 n h = IsUtf8-from_ascii (decimal n) (IsAscii-decimal n h)
 number_is_utf8 : (n : Num) → IsJsonNumber n → IsUtf8 (number_text n)
 number_is_utf8 (unsigned n) h = decimal_is_utf8 n h
 number_is_utf8 (negative (pos n)) h = absurd h
-number_is_utf8 (negative (negsuc n)) h = IsUtf8-append (45 ∷ []) (decimal (suc n)) (IsUtf8-are_ascii (45 ∷ []) refl) (decimal_is_utf8 (suc n) (omega (arith, h)))
+number_is_utf8 (negative (negsuc n)) h = IsUtf8-append (45 ∷ []) (decimal (suc n)) (IsUtf8-are_ascii (45 ∷ []) refl)
+    (decimal_is_utf8 (suc n) (omega (arith, h)))
 number_is_utf8 (float x) h = absurd h
 
 comma_is_utf8 : (later : Bool) → IsUtf8 (comma_if later)
@@ -33,7 +34,8 @@ mutual
   items_text_is_utf8 : (later : Bool) (ds : Items) → AreJsonItems ds → IsUtf8 (items_text later ds)
   items_text_is_utf8 later no_items h = IsUtf8-are_ascii (93 ∷ []) refl
   items_text_is_utf8 later (item d ds) h =
-      IsUtf8-append (comma_if later) (compact_text d ++ items_text true ds) (comma_is_utf8 later) (IsUtf8-append (compact_text d) (items_text true ds) (text_is_utf8 d h.0) (items_text_is_utf8 true ds h.1))
+      IsUtf8-append (comma_if later) (compact_text d ++ items_text true ds) (comma_is_utf8 later)
+      (IsUtf8-append (compact_text d) (items_text true ds) (text_is_utf8 d h.0) (items_text_is_utf8 true ds h.1))
 
   members_text_is_utf8 : (later : Bool) (ms : Members) → AreJsonMembers ms → IsUtf8 (members_text later ms)
   members_text_is_utf8 later no_members h = IsUtf8-are_ascii (125 ∷ []) refl

@@ -56,7 +56,8 @@ mutual
             ∙ ap (json.parse_map (json.item j)) (items_stop js d n rest (omega arith))
       ]
 
-  members_stop : (ms : json.Members) (d n : ℕ) (rest : List Token) → d < tree.members_depth ms → json.members (json.value d) n (tree.members_tokens ms ++ rest) ≡ None
+  members_stop : (ms : json.Members) (d n : ℕ) (rest : List Token) → d < tree.members_depth ms
+      → json.members (json.value d) n (tree.members_tokens ms ++ rest) ≡ None
   members_stop json.no_members d n rest h = absurd (omega arith)
   members_stop (json.member k j ms) d zero rest h = refl
   members_stop (json.member k j ms) d (suc n) rest h =
@@ -74,7 +75,8 @@ mutual
 not_read : (d : Data) → IsJson d → max_depth < depth d → read (compact_text d) ≡ None
 not_read d is deep =
     let j = outline d in
-    let text : tokens (compact_text d) ≡ tree.json_tokens j = ap tokens (sym (print-outline d)) ∙ tokens-print (tree.json_tokens j) (ArePrintable-json_tokens j (HasNumbers_outline d is)) in
+    let text : tokens (compact_text d) ≡ tree.json_tokens j = ap tokens (sym (print-outline d))
+    ∙ tokens-print (tree.json_tokens j) (ArePrintable-json_tokens j (HasNumbers_outline d is)) in
     ap (λ o. option_and_then of_json (option_and_then (λ p. json.if_last p.0 p.1) o))
     (ap (json.value max_depth) (text ∙ sym (append-nil (tree.json_tokens j))) ∙ value_stops j max_depth [] (omega (arith, depth_outline d)))
 

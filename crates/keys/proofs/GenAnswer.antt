@@ -6,13 +6,10 @@ use Rattle.octets.specs.declared.refusal.Refusal.{Refusal}
 use Rattle.octets.specs.declared.refusal.Refusal.TheVariants.{Memory, Read, Random}
 use Rattle.octets.specs.Devices.{Observed, IsPossibleInput}
 use Rattle.octets.specs.Outcomes.{◌>>=◌, needs, is_external, GivesUnlessExternal}
-use Rattle.octets.specs.Code.Results.{is_memory, AgreesUnlessMemory, IsDrawingFailure}
+use Rattle.octets.specs.Code.Results.{AgreesUnlessMemory, IsDrawingFailure}
 use Rattle.keys.specs.Limits.{limits}
 use Rattle.keys.specs.Generating.{MadeKey, made_key, key_text, gen_answer}
-
-not_memory : (r : Refusal) → is_external r ≡ false → is_memory r ≡ false
-not_memory Memory h = cc h
-not_memory r h = refl
+use Rattle.octets.proofs.Lemmas.{not_memory}
 
 -- the text of the key, made with the random octets
 abbrev made_of_octets : List ℕ → MadeKey → Result (List ℕ) Refusal
@@ -45,8 +42,10 @@ drawing_cause octets made seen old new wanted len possible Random fails inner = 
 drawing_cause octets made seen old new wanted len possible Read fails inner = absurd (cc inner)
 drawing_cause octets made seen old new wanted len possible other fails inner = absurd fails
 
-pub draw_refused : (template octets : List ℕ) (made : MadeKey) (seen : Observed) (old new wanted : ℕ) (e : Refusal) (result : Result (String Global) Refusal) → result ≡ Err e
-    → made_key limits template ≡ Ok made → wanted ≡ made.len → IsDrawingFailure wanted seen old new e → IsPossibleInput seen octets → GivesUnlessExternal string_bytes result (gen_answer limits template octets)
+pub draw_refused : (template octets : List ℕ) (made : MadeKey) (seen : Observed) (old new wanted : ℕ) (e : Refusal) (result : Result (String Global) Refusal)
+    → result ≡ Err e
+    → made_key limits template ≡ Ok made → wanted ≡ made.len → IsDrawingFailure wanted seen old new e → IsPossibleInput seen octets
+    → GivesUnlessExternal string_bytes result (gen_answer limits template octets)
 draw_refused template octets made seen old new wanted e (Ok text) is makes len fails possible = absurd (cc is)
 draw_refused template octets made seen old new wanted e (Err r) is makes len fails possible =
     let same : r ≡ e = cc is in
@@ -55,8 +54,10 @@ draw_refused template octets made seen old new wanted e (Err r) is makes len fai
     gen_answer_of template octets ∙ ap (λ found. found >>= made_of_octets octets) makes ∙ too_few made octets cause.1 ∙ ap Err (sym (same ∙ cause.0))
 
 -- If the key is made, its text is returned, or the refusal is Memory.
-pub text_made : (template octets drawn : List ℕ) (made : MadeKey) (seen : Observed) (result : Result (String Global) Refusal) → made_key limits template ≡ Ok made → length drawn ≡ made.len → seen.octets ≡ drawn
-    → IfOk result (λ text. string_bytes text ≡ key_text made drawn) → IfErr result (λ e. e ≡ Memory) → IsPossibleInput seen octets → GivesUnlessExternal string_bytes result (gen_answer limits template octets)
+pub text_made : (template octets drawn : List ℕ) (made : MadeKey) (seen : Observed) (result : Result (String Global) Refusal)
+    → made_key limits template ≡ Ok made → length drawn ≡ made.len → seen.octets ≡ drawn
+    → IfOk result (λ text. string_bytes text ≡ key_text made drawn) → IfErr result (λ e. e ≡ Memory) → IsPossibleInput seen octets
+    → GivesUnlessExternal string_bytes result (gen_answer limits template octets)
 text_made template octets drawn made seen (Err e) makes len is text memory possible = λ inner. absurd (cc (ap is_external (sym memory) ∙ inner))
 text_made template octets drawn made seen (Ok found) makes len is text memory possible =
     let whole : octets ≡ drawn ++ possible.rest = possible.continues ∙ ap (λ front. front ++ possible.rest) is in

@@ -12,12 +12,14 @@ use Rattle.keys.specs.JsonTexts.{IsBefore, IsJson, AreJsonItems, AreJsonMembers,
 
 -- ---- members that are found
 
-found_by : (o : Ordering) (n : ℕ) (d e : Data) (rest : Option Data) → IsJson d → depth d ≤ n → (rest ≡ Some e → IsJson e × (depth e ≤ n)) → match_ordering o rest (Some d) rest ≡ Some e → IsJson e × (depth e ≤ n)
+found_by : (o : Ordering) (n : ℕ) (d e : Data) (rest : Option Data) → IsJson d → depth d ≤ n → (rest ≡ Some e → IsJson e × (depth e ≤ n))
+    → match_ordering o rest (Some d) rest ≡ Some e → IsJson e × (depth e ≤ n)
 found_by Less n d e rest is shallow later here = later here
 found_by Equal n d e rest is shallow later here = let same : d ≡ e = cc in rw (← same) (is, shallow)
 found_by Greater n d e rest is shallow later here = later here
 
-in_members : (name : List ℕ) (ms : Members) (n : ℕ) (e : Data) → AreJsonMembers ms → members_depth ms ≤ n → get_member name ms ≡ Some e → IsJson e × (depth e ≤ n)
+in_members : (name : List ℕ) (ms : Members) (n : ℕ) (e : Data) → AreJsonMembers ms → members_depth ms ≤ n → get_member name ms ≡ Some e
+    → IsJson e × (depth e ≤ n)
 in_members name no_members n e is shallow here = cc here
 in_members name (member other d ms) n e is shallow here =
     found_by (slice_cmp nat_cmp name other) n d e (get_member name ms) is.2 (omega (arith, shallow)) (in_members name ms n e is.3 (omega (arith, shallow))) here
@@ -79,7 +81,8 @@ greater k l is = nat_list_cmp_total.antisymm l k ∙ ap ordering_reverse is
 
 -- ---- a member that is inserted
 
-put_by : (o : Ordering) (k l : List ℕ) (d e : Data) (ms : Members) → slice_cmp nat_cmp k l ≡ o → IsUtf8 k → IsJson d → AreJsonMembers (member l e ms) → AreJsonMembers (put k d ms)
+put_by : (o : Ordering) (k l : List ℕ) (d e : Data) (ms : Members) → slice_cmp nat_cmp k l ≡ o → IsUtf8 k → IsJson d → AreJsonMembers (member l e ms)
+    → AreJsonMembers (put k d ms)
     → AreJsonMembers (match_ordering o (member k d (member l e ms)) (member l d ms) (member l e (put k d ms)))
 put_by Less k l d e ms is u t h more = (u, (is, before_later k l ms is h.1), t, h)
 put_by Equal k l d e ms is u t h more = (h.0, h.1, t, h.3)
@@ -101,7 +104,8 @@ depth_put k d (member l e ms) = depth_put_by (slice_cmp nat_cmp k l) k l d e ms 
 
 -- ---- a member that is removed
 
-without_by : (o : Ordering) (l : List ℕ) (e : Data) (ms less : Members) → IsBefore l less → AreJsonMembers (member l e ms) → AreJsonMembers less → AreJsonMembers (match_ordering o (member l e less) ms (member l e less))
+without_by : (o : Ordering) (l : List ℕ) (e : Data) (ms less : Members) → IsBefore l less → AreJsonMembers (member l e ms) → AreJsonMembers less
+    → AreJsonMembers (match_ordering o (member l e less) ms (member l e less))
 without_by Less l e ms less p h more = (h.0, p, h.2, more)
 without_by Equal l e ms less p h more = h.3
 without_by Greater l e ms less p h more = (h.0, p, h.2, more)
@@ -110,7 +114,8 @@ left : (k : List ℕ) (ms : Members) → AreJsonMembers ms → AreJsonMembers (w
 left k no_members h = tt
 left k (member l e ms) h = without_by (slice_cmp nat_cmp k l) l e ms (without k ms) (before_without l k ms h.1) h (left k ms h.3)
 
-depth_left_by : (o : Ordering) (l : List ℕ) (e : Data) (ms less : Members) → members_depth less ≤ members_depth ms → members_depth (match_ordering o (member l e less) ms (member l e less)) ≤ members_depth (member l e ms)
+depth_left_by : (o : Ordering) (l : List ℕ) (e : Data) (ms less : Members) → members_depth less ≤ members_depth ms
+    → members_depth (match_ordering o (member l e less) ms (member l e less)) ≤ members_depth (member l e ms)
 depth_left_by Less l e ms less h = omega (arith, h)
 depth_left_by Equal l e ms less h = omega (arith, h)
 depth_left_by Greater l e ms less h = omega (arith, h)

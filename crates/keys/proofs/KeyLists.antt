@@ -27,20 +27,24 @@ unchanged (Err refusal) = refl
 pub keys_with-none : (strict : Bool) (left : List Value) → octet_keys limits strict (items_view left) ≡ keys_with strict [] left
 keys_with-none strict left = sym (unchanged (octet_keys limits strict (items_view left)))
 
-one_more : (done : List OctetKey) (key : OctetKey) (r : Result (List OctetKey) Refusal) → after done (r >>= λ others. Ok (key ∷ others)) ≡ after (done ++ key ∷ []) r
+one_more : (done : List OctetKey) (key : OctetKey) (r : Result (List OctetKey) Refusal)
+    → after done (r >>= λ others. Ok (key ∷ others)) ≡ after (done ++ key ∷ []) r
 one_more done key (Ok keys) = ap Ok (sym (append_assoc done (key ∷ []) keys))
 one_more done key (Err refusal) = refl
 
-pub keys_with-good : (strict : Bool) (done : List Key) (key : Key) (value : Value) (left : List Value) → octet_key limits (view value) ≡ Ok (key_view key) → keys_with strict done (value ∷ left) ≡ keys_with strict (done ++ key ∷ []) left
+pub keys_with-good : (strict : Bool) (done : List Key) (key : Key) (value : Value) (left : List Value) → octet_key limits (view value) ≡ Ok (key_view key)
+    → keys_with strict done (value ∷ left) ≡ keys_with strict (done ++ key ∷ []) left
 keys_with-good strict done key value left is =
     ap (λ r. after (map key_view done) (unless_bad strict r (octet_keys limits strict (items_view left)))) is
     ∙ one_more (map key_view done) (key_view key) (octet_keys limits strict (items_view left))
     ∙ ap (λ front. after front (octet_keys limits strict (items_view left))) (sym (map-append key_view done (key ∷ [])))
 
-pub keys_with-passed : (done : List Key) (value : Value) (left : List Value) (refusal : Refusal) → octet_key limits (view value) ≡ Err refusal → keys_with false done (value ∷ left) ≡ keys_with false done left
+pub keys_with-passed : (done : List Key) (value : Value) (left : List Value) (refusal : Refusal) → octet_key limits (view value) ≡ Err refusal
+    → keys_with false done (value ∷ left) ≡ keys_with false done left
 keys_with-passed done value left refusal is = ap (λ r. after (map key_view done) (unless_bad false r (octet_keys limits false (items_view left)))) is
 
-pub keys_with-refused : (done : List Key) (value : Value) (left : List Value) (refusal : Refusal) → octet_key limits (view value) ≡ Err refusal → keys_with true done (value ∷ left) ≡ Err refusal
+pub keys_with-refused : (done : List Key) (value : Value) (left : List Value) (refusal : Refusal) → octet_key limits (view value) ≡ Err refusal
+    → keys_with true done (value ∷ left) ≡ Err refusal
 keys_with-refused done value left refusal is = ap (λ r. after (map key_view done) (unless_bad true r (octet_keys limits true (items_view left)))) is
 
 -- The number of items of a view is the number of values.

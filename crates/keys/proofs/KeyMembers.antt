@@ -24,12 +24,14 @@ strings_are_items (text ∷ texts) = ap (item (string text.now)) (strings_are_it
 -- ---- the entries of a map and the members that they represent
 
 removed_at : (o : Ordering) (e : Entry) (es rest : List Entry) (ms : Members) → members_view rest ≡ ms
-    → members_view (cond (is_eq o) es (e ∷ rest)) ≡ match_ordering o (member (string_bytes e.0) (view e.1) ms) (members_view es) (member (string_bytes e.0) (view e.1) ms)
+    → members_view (cond (is_eq o) es (e ∷ rest)) ≡ match_ordering o (member (string_bytes e.0) (view e.1) ms) (members_view es)
+    (member (string_bytes e.0) (view e.1) ms)
 removed_at Less e es rest ms h = ap (member (string_bytes e.0) (view e.1)) h
 removed_at Equal e es rest ms h = refl
 removed_at Greater e es rest ms h = ap (member (string_bytes e.0) (view e.1)) h
 
-pub members_view-remove_entry : (name : List ℕ) (es : List Entry) → members_view (remove_entry (is_at (λ k. slice_cmp nat_cmp name (string_bytes k))) es) ≡ without name (members_view es)
+pub members_view-remove_entry : (name : List ℕ) (es : List Entry)
+    → members_view (remove_entry (is_at (λ k. slice_cmp nat_cmp name (string_bytes k))) es) ≡ without name (members_view es)
 members_view-remove_entry name [] = refl
 members_view-remove_entry name (e ∷ es) = removed_at (slice_cmp nat_cmp name (string_bytes e.0)) e es _ _ (members_view-remove_entry name es)
 
@@ -38,7 +40,8 @@ is_some-option_map f None = refl
 is_some-option_map f (Some a) = refl
 
 -- A map has a key exactly if the members have its name.
-pub has_member : (name : List ℕ) (es : List Entry) → is_some (lookup (is_at (λ k. slice_cmp nat_cmp name (string_bytes k))) es) ≡ is_some (get_member name (members_view es))
+pub has_member : (name : List ℕ) (es : List Entry)
+    → is_some (lookup (is_at (λ k. slice_cmp nat_cmp name (string_bytes k))) es) ≡ is_some (get_member name (members_view es))
 has_member name es = sym (is_some-option_map view (lookup (is_at (λ k. slice_cmp nat_cmp name (string_bytes k))) es)) ∙ ap is_some (view-lookup name es)
 
 -- ---- a choice by two tests

@@ -64,15 +64,19 @@ octets_of_key limits value key json h =
 
 -- ---- the keys of objects
 
-octets_of_keys : (limits : Limits) (strict : Bool) (objects : Items) (keys : List OctetKey) → AreJsonItems objects → octet_keys limits strict objects ≡ Ok keys → AreOctetKeys keys
+octets_of_keys : (limits : Limits) (strict : Bool) (objects : Items) (keys : List OctetKey) → AreJsonItems objects
+    → octet_keys limits strict objects ≡ Ok keys → AreOctetKeys keys
 octets_of_keys limits strict no_items keys json h = subst AreOctetKeys (same_answer [] keys h) tt
-octets_of_keys limits strict (item value values) keys json h = by_key strict (octet_key limits value) refl (octet_keys limits strict values) (λ keys. octets_of_keys limits strict values keys json.1) h
+octets_of_keys limits strict (item value values) keys json h =
+    by_key strict (octet_key limits value) refl (octet_keys limits strict values) (λ keys. octets_of_keys limits strict values keys json.1) h
   where
-    by_rest : (key : OctetKey) → IsOctets key.octets → (rest : Result (List OctetKey) Refusal) → ((keys : List OctetKey) → rest ≡ Ok keys → AreOctetKeys keys) → (rest >>= λ others. Ok (key ∷ others)) ≡ Ok keys → AreOctetKeys keys
+    by_rest : (key : OctetKey) → IsOctets key.octets → (rest : Result (List OctetKey) Refusal) → ((keys : List OctetKey) → rest ≡ Ok keys → AreOctetKeys keys)
+        → (rest >>= λ others. Ok (key ∷ others)) ≡ Ok keys → AreOctetKeys keys
     by_rest key octets (Ok rest) others h = subst AreOctetKeys (same_answer (key ∷ rest) keys h) (octets, others rest refl)
     by_rest key octets (Err e) others h = cc h
 
-    by_key : (strict : Bool) (r : Result OctetKey Refusal) → octet_key limits value ≡ r → (rest : Result (List OctetKey) Refusal) → ((keys : List OctetKey) → rest ≡ Ok keys → AreOctetKeys keys)
+    by_key : (strict : Bool) (r : Result OctetKey Refusal) → octet_key limits value ≡ r → (rest : Result (List OctetKey) Refusal)
+        → ((keys : List OctetKey) → rest ≡ Ok keys → AreOctetKeys keys)
         → unless_bad strict r rest ≡ Ok keys → AreOctetKeys keys
     by_key strict (Ok key) is rest others h = by_rest key (octets_of_key limits value key json.0 is) rest others h
     by_key true (Err e) is rest others h = cc h
@@ -80,7 +84,8 @@ octets_of_keys limits strict (item value values) keys json h = by_key strict (oc
 
 -- ---- the objects of a text
 
-json_at : (value : Data) (o : Option Data) (objects : Items) → IsJson value → get (codes "keys") value ≡ o → objects_at value o ≡ Ok objects → AreJsonItems objects
+json_at : (value : Data) (o : Option Data) (objects : Items) → IsJson value → get (codes "keys") value ≡ o
+    → objects_at value o ≡ Ok objects → AreJsonItems objects
 json_at value None objects json is h = subst AreJsonItems (same_answer (item value no_items) objects h) (json, tt)
 json_at value (Some list) objects json is h =
     let values = steps (ok_or (as_array list) Key) (λ values. needs (are_objects values) Key >>= λ _. Ok values) objects h in
@@ -96,7 +101,8 @@ json_objects value objects json h = by_test (is_object value) h
     by_test true h = json_at value (get (codes "keys") value) objects json refl h
     by_test false h = cc h
 
-octets_of_value : (limits : Limits) (value : Data) (strict : Bool) (keys : List OctetKey) → IsJson value → value_keys limits value strict ≡ Ok keys → AreOctetKeys keys
+octets_of_value : (limits : Limits) (value : Data) (strict : Bool) (keys : List OctetKey) → IsJson value
+    → value_keys limits value strict ≡ Ok keys → AreOctetKeys keys
 unfolding value_keys
 octets_of_value limits value strict keys json h =
     let objects = steps (key_objects value) _ keys h in

@@ -7,27 +7,29 @@ use Rattle.serde_json.specs.Data.{Data, string, array, Members, no_members, memb
 use Rattle.serde_json.specs.Find.{get_member, as_object}
 use Rattle.serde_json.specs.Written.{has_float, items_have_float, members_have_float}
 use Rattle.octets.specs.declared.refusal.Refusal.TheVariants.{Key}
-use Rattle.keys.proofs.Floats.{neither, neither_of, no_float_put_in, no_float_members_of}
+use Rattle.keys.proofs.Floats.{no_float_put_in, no_float_members_of}
 use Rattle.keys.specs.declared.algorithm.NamedAlg.{NamedAlg}
 use Rattle.keys.specs.Generating.{without, string_items, key_ops_of, with_operations, completed}
+use Rattle.std.proofs.lemmas.Bool.{or_from, or_parts}
 
 without_by : (o : Ordering) (l : List ℕ) (e : Data) (ms less : Members) → has_float e ≡ false → members_have_float ms ≡ false → members_have_float less ≡ false
     → members_have_float (match_ordering o (member l e less) ms (member l e less)) ≡ false
-without_by Less l e ms less i j m = neither_of _ _ i m
+without_by Less l e ms less i j m = or_from _ _ i m
 without_by Equal l e ms less i j m = j
-without_by Greater l e ms less i j m = neither_of _ _ i m
+without_by Greater l e ms less i j m = or_from _ _ i m
 
 no_float-without : (k : List ℕ) (ms : Members) → members_have_float ms ≡ false → members_have_float (without k ms) ≡ false
 no_float-without k no_members i = refl
 no_float-without k (member l e ms) i =
-    let parts = neither (has_float e) (members_have_float ms) i in
+    let parts = or_parts (has_float e) (members_have_float ms) i in
     without_by (slice_cmp nat_cmp k l) l e ms (without k ms) parts.0 parts.1 (no_float-without k ms parts.1)
 
 no_float-strings : (texts : List (List ℕ)) → items_have_float (string_items texts) ≡ false
 no_float-strings [] = refl
 no_float-strings (text ∷ texts) = no_float-strings texts
 
-chosen : (p q : Bool) (x y : Members) → members_have_float x ≡ false → members_have_float y ≡ false → members_have_float (if p then x else (if q then x else y)) ≡ false
+chosen : (p q : Bool) (x y : Members) → members_have_float x ≡ false → members_have_float y ≡ false
+    → members_have_float (if p then x else (if q then x else y)) ≡ false
 chosen true q x y h k = h
 chosen false true x y h k = h
 chosen false false x y h k = k
@@ -41,7 +43,8 @@ no_float-with_operations (Some alg) ms h =
 pub no_float-completed : (alg : Option NamedAlg) (ms : Members) → members_have_float ms ≡ false → members_have_float (completed alg ms) ≡ false
 no_float-completed alg ms h =
     let left = without (codes "bytes") ms in
-    no_float_put_in (codes "kty") (string (codes "oct")) (with_operations alg left) refl (no_float-with_operations alg left (no_float-without (codes "bytes") ms h))
+    no_float_put_in (codes "kty") (string (codes "oct")) (with_operations alg left) refl
+    (no_float-with_operations alg left (no_float-without (codes "bytes") ms h))
 
 found_of : (found : Option Members) (ms : Members) → ok_or found Key ≡ Ok ms → found ≡ Some ms
 found_of None ms is = cc is

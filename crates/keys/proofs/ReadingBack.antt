@@ -34,7 +34,8 @@ abbrev AreBefore : Members → Members → Type 0
 AreBefore no_members ms = ⊤
 AreBefore (member k d done) ms = IsBefore k ms × AreBefore done ms
 
-put_at : (o : Ordering) (k l : List ℕ) (d e : Data) (ms : Members) → slice_cmp nat_cmp k l ≡ o → put k d (member l e ms) ≡ match_ordering o (member k d (member l e ms)) (member l d ms) (member l e (put k d ms))
+put_at : (o : Ordering) (k l : List ℕ) (d e : Data) (ms : Members) → slice_cmp nat_cmp k l ≡ o
+    → put k d (member l e ms) ≡ match_ordering o (member k d (member l e ms)) (member l d ms) (member l e (put k d ms))
 put_at o k l d e ms is = ap (λ t. match_ordering t (member k d (member l e ms)) (member l d ms) (member l e (put k d ms))) is
 
 later : (k l : List ℕ) → slice_cmp nat_cmp l k ≡ Less → slice_cmp nat_cmp k l ≡ Greater
@@ -48,7 +49,8 @@ joined_more : (done : Members) (k : List ℕ) (d : Data) (ms : Members) → join
 joined_more no_members k d ms = refl
 joined_more (member l e done) k d ms = ap (member l e) (joined_more done k d ms)
 
-AreBefore_more : (done : Members) (k : List ℕ) (d : Data) (ms : Members) → AreBefore done (member k d ms) → IsBefore k ms → AreBefore (joined done (member k d no_members)) ms
+AreBefore_more : (done : Members) (k : List ℕ) (d : Data) (ms : Members) → AreBefore done (member k d ms) → IsBefore k ms
+    → AreBefore (joined done (member k d no_members)) ms
 AreBefore_more no_members k d ms h p = (p, tt)
 AreBefore_more (member l e done) k d ms h p = (h.0.1, AreBefore_more done k d ms h.1 p)
 
@@ -75,7 +77,8 @@ mutual
 
   of_items_outline : (ds : Items) → AreJsonItems ds → of_items (items_outline ds) ≡ Some ds
   of_items_outline no_items h = refl
-  of_items_outline (item d ds) h = ap (option_and_then (λ e. option_map (item e) (of_items (items_outline ds)))) (of_outline d h.0) ∙ ap (option_map (item d)) (of_items_outline ds h.1)
+  of_items_outline (item d ds) h = ap (option_and_then (λ e. option_map (item e) (of_items (items_outline ds)))) (of_outline d h.0)
+      ∙ ap (option_map (item d)) (of_items_outline ds h.1)
 
   of_members_outline : (done ms : Members) → AreBefore done ms → AreJsonMembers ms → of_members (members_outline ms) done ≡ Some (joined done ms)
   of_members_outline done no_members p h = ap Some (sym (joined_none done))
@@ -128,7 +131,8 @@ mutual
 read_back : (d : Data) → IsJson d → depth d ≤ max_depth → read (compact_text d) ≡ Some d
 read_back d is shallow =
     let j = outline d in
-    let text : tokens (compact_text d) ≡ tree.json_tokens j = ap tokens (sym (print-outline d)) ∙ tokens-print (tree.json_tokens j) (ArePrintable-json_tokens j (HasNumbers_outline d is)) in
+    let text : tokens (compact_text d) ≡ tree.json_tokens j = ap tokens (sym (print-outline d))
+    ∙ tokens-print (tree.json_tokens j) (ArePrintable-json_tokens j (HasNumbers_outline d is)) in
     ap (λ o. option_and_then of_json (option_and_then (λ p. json.if_last p.0 p.1) o))
     (ap (json.value max_depth) (text ∙ sym (append-nil (tree.json_tokens j))) ∙ value-json_tokens j max_depth [] (omega (arith, depth_outline d)))
     ∙ of_outline d is

@@ -20,11 +20,13 @@ unchanged (Some texts) = refl
 pub texts_with-none : (left : List Value) → strings_of (items_view left) ≡ texts_with [] left
 texts_with-none left = sym (unchanged (strings_of (items_view left)))
 
-one_more : (done : List (List ℕ)) (text : List ℕ) (o : Option (List (List ℕ))) → option_map (λ texts. done ++ texts) (option_map (λ texts. text ∷ texts) o) ≡ option_map (λ texts. (done ++ text ∷ []) ++ texts) o
+one_more : (done : List (List ℕ)) (text : List ℕ) (o : Option (List (List ℕ)))
+    → option_map (λ texts. done ++ texts) (option_map (λ texts. text ∷ texts) o) ≡ option_map (λ texts. (done ++ text ∷ []) ++ texts) o
 one_more done text None = refl
 one_more done text (Some texts) = ap Some (sym (append_assoc done (text ∷ []) texts))
 
-pub texts_with-more : (done : List (String Global)) (text : String Global) (v : Value) (left : List Value) → as_str (view v) ≡ Some (string_bytes text) → texts_with done (v ∷ left) ≡ texts_with (done ++ text ∷ []) left
+pub texts_with-more : (done : List (String Global)) (text : String Global) (v : Value) (left : List Value) → as_str (view v) ≡ Some (string_bytes text)
+    → texts_with done (v ∷ left) ≡ texts_with (done ++ text ∷ []) left
 texts_with-more done text v left is =
     ap (λ o. option_map (λ texts. map string_bytes done ++ texts) (option_and_then (λ t. option_map (λ texts. t ∷ texts) (strings_of (items_view left))) o)) is
     ∙ one_more (map string_bytes done) (string_bytes text) (strings_of (items_view left))
@@ -35,10 +37,12 @@ texts_with-other done v left is =
     ap (λ o. option_map (λ texts. map string_bytes done ++ texts) (option_and_then (λ t. option_map (λ texts. t ∷ texts) (strings_of (items_view left))) o)) is
 
 -- Some text of the list passes a test exactly if some string does.
-pub any_text : (asked : List ℕ → Bool) (texts : List (String Global)) → list_any asked (map string_bytes texts) ≡ list_any (λ text. asked (string_bytes text)) texts
+pub any_text : (asked : List ℕ → Bool) (texts : List (String Global))
+    → list_any asked (map string_bytes texts) ≡ list_any (λ text. asked (string_bytes text)) texts
 any_text asked [] = refl
 any_text asked (text ∷ texts) = ap (λ rest. asked (string_bytes text) || rest) (any_text asked texts)
 
-pub any_name : (text : List ℕ) (names : List (Bor (List ℕ))) → list_any (λ name. bytes_eq name text) (map (λ name. name.now) names) ≡ list_any (λ name. bytes_eq name.now text) names
+pub any_name : (text : List ℕ) (names : List (Bor (List ℕ)))
+    → list_any (λ name. bytes_eq name text) (map (λ name. name.now) names) ≡ list_any (λ name. bytes_eq name.now text) names
 any_name text [] = refl
 any_name text (name ∷ names) = ap (λ rest. bytes_eq name.now text || rest) (any_name text names)

@@ -21,7 +21,8 @@ around a b x small u =
     let end : length (a ++ x ∷ []) ≡ i + 1 = omega (arith, length-append a (x ∷ [])) in (
       subst IsUtf8 (take_at a (x ∷ b) i refl) (IsUtf8-take all i u (IsCharBoundary-before_ascii all i within (omega (arith, here, small)))),
       subst IsUtf8 (drop_at (a ++ x ∷ []) b (i + 1) end)
-          (subst (λ l. IsUtf8 (drop (i + 1) l)) (sym (append_assoc a (x ∷ []) b)) (IsUtf8-drop all (i + 1) u (IsCharBoundary-after_ascii all i u within (omega (arith, here, small))))),
+          (subst (λ l. IsUtf8 (drop (i + 1) l)) (sym (append_assoc a (x ∷ []) b))
+          (IsUtf8-drop all (i + 1) u (IsCharBoundary-after_ascii all i u within (omega (arith, here, small))))),
     )
 
 pub rest_of : (b : List ℕ) (x : ℕ) → x < 128 → IsUtf8 (x ∷ b) → IsUtf8 b
@@ -47,8 +48,10 @@ short_is_small x =
       | inl f ↦ elim (or_cases (x == 34) (x == 92) f) [ inl g ↦ here 34 (omega arith) g | inr g ↦ here 92 (omega arith) g ]
       | inr f ↦ here 47 (omega arith) f
     ]))
-    (λ _. cond_both (x == 98) _ _ P (λ e. (here 98 (omega arith) e, omega arith)) (λ _. cond_both (x == 102) _ _ P (λ e. (here 102 (omega arith) e, omega arith))
-    (λ _. cond_both (x == 110) _ _ P (λ e. (here 110 (omega arith) e, omega arith)) (λ _. cond_both (x == 114) _ _ P (λ e. (here 114 (omega arith) e, omega arith))
+    (λ _. cond_both (x == 98) _ _ P (λ e. (here 98 (omega arith) e, omega arith))
+    (λ _. cond_both (x == 102) _ _ P (λ e. (here 102 (omega arith) e, omega arith))
+    (λ _. cond_both (x == 110) _ _ P (λ e. (here 110 (omega arith) e, omega arith))
+    (λ _. cond_both (x == 114) _ _ P (λ e. (here 114 (omega arith) e, omega arith))
     (λ _. cond_both (x == 116) _ _ P (λ e. (here 116 (omega arith) e, omega arith)) (λ _. tt))))))
 
 hex_is_small : (a : ℕ) → is_digit a 16 ≡ true → a < 128
@@ -68,8 +71,13 @@ unit_is a b c d =
     (λ h.
     let p = and_parts (is_digit a 16 && is_digit b 16 && is_digit c 16) (is_digit d 16) h in
     let q = and_parts (is_digit a 16 && is_digit b 16) (is_digit c 16) p.0 in
-    let r = and_parts (is_digit a 16) (is_digit b 16) q.0 in
-    (hex_is_small a r.0, hex_is_small b r.1, hex_is_small c q.1, hex_is_small d p.1, omega (arith, hex_value a r.0, hex_value b r.1, hex_value c q.1, hex_value d p.1)))
+    let r = and_parts (is_digit a 16) (is_digit b 16) q.0 in (
+      hex_is_small a r.0,
+      hex_is_small b r.1,
+      hex_is_small c q.1,
+      hex_is_small d p.1,
+      omega (arith, hex_value a r.0, hex_value b r.1, hex_value c q.1, hex_value d p.1),
+    ))
     (λ _. tt)
 
 scalar_from : (c : ℕ) → (55296 ≤ c → 57344 ≤ c) → c < 1114112 → IsScalar c
@@ -109,7 +117,8 @@ abbrev Gives : List ℕ → Option (List ℕ) → Type 0
 Gives done None = ⊤
 Gives done (Some s) = IsUtf8 (done ++ s)
 
-then : (done : List ℕ) (P : Option ℕ → Type 0) (f : ℕ → Option (List ℕ)) (o : Option ℕ) → P o → ((u : ℕ) → P (Some u) → Gives done (f u)) → Gives done (option_and_then f o)
+then : (done : List ℕ) (P : Option ℕ → Type 0) (f : ℕ → Option (List ℕ)) (o : Option ℕ) → P o → ((u : ℕ) → P (Some u) → Gives done (f u))
+    → Gives done (option_and_then f o)
 then done P f None p h = tt
 then done P f (Some u) p h = h u p
 
@@ -130,12 +139,14 @@ content_gives plain done (x ∷ xs) g =
     let P : Option (List ℕ) → Type 0 = Gives done in
     cond_both (x == 34) _ _ P (λ q. subst IsUtf8 (sym (append-nil done)) (around done xs x (omega (arith, eqb-true x 34 q)) g).0)
     (λ _. cond_both (x == 92) _ _ P (λ b. content_gives after_backslash done xs (around done xs x (omega (arith, eqb-true x 92 b)) g))
-    (λ _. cond_both (nat_lt x 32) _ _ P (λ _. tt) (λ _. prepended done (x ∷ []) (content plain xs) (content_gives plain (done ++ x ∷ []) xs (subst IsUtf8 (sym (append_assoc done (x ∷ []) xs)) g)))))
+    (λ _. cond_both (nat_lt x 32) _ _ P (λ _. tt) (λ _. prepended done (x ∷ []) (content plain xs)
+    (content_gives plain (done ++ x ∷ []) xs (subst IsUtf8 (sym (append_assoc done (x ∷ []) xs)) g)))))
 content_gives after_backslash done [] g = tt
 content_gives after_backslash done (x ∷ xs) g =
     cond_both (x == 117) _ _ (Gives done) (λ e. content_gives after_u done xs (g.0, rest_of xs x (omega (arith, eqb-true x 117 e)) g.1))
     (λ _. then done (IsSmallPair x) _ (short_escape x) (short_is_small x)
-    (λ c small. prepended done (c ∷ []) (content plain xs) (content_gives plain (done ++ c ∷ []) xs (joined done (c ∷ []) xs g.0 (ascii_one c small.1) (rest_of xs x small.0 g.1)))))
+    (λ c small. prepended done (c ∷ []) (content plain xs)
+    (content_gives plain (done ++ c ∷ []) xs (joined done (c ∷ []) xs g.0 (ascii_one c small.1) (rest_of xs x small.0 g.1)))))
 content_gives after_u done [] g = tt
 content_gives after_u done (a ∷ []) g = tt
 content_gives after_u done (a ∷ b ∷ []) g = tt
@@ -146,7 +157,8 @@ content_gives after_u done (a ∷ b ∷ c ∷ d ∷ xs) g =
     let left : IsUtf8 xs = rest_of_four a b c d xs is.0 is.1 is.2 is.3 g.1 in
     cond_both (is_high_surrogate u) _ _ (Gives done) (λ h. content_gives (after_high u) done xs (g.0, left, h))
     (λ h. cond_both (is_low_surrogate u) _ _ (Gives done) (λ _. tt)
-    (λ l. prepended done (encode_utf8 u) (content plain xs) (content_gives plain (done ++ encode_utf8 u) xs (joined done (encode_utf8 u) xs g.0 (IsUtf8-encode u (unit_scalar u is.4 h l)) left)))))
+    (λ l. prepended done (encode_utf8 u) (content plain xs)
+    (content_gives plain (done ++ encode_utf8 u) xs (joined done (encode_utf8 u) xs g.0 (IsUtf8-encode u (unit_scalar u is.4 h l)) left)))))
 content_gives (after_high h) done [] g = tt
 content_gives (after_high h) done (s ∷ []) g = tt
 content_gives (after_high h) done (s ∷ u ∷ []) g = tt
@@ -163,7 +175,8 @@ content_gives (after_high h) done (s ∷ u ∷ a ∷ b ∷ c ∷ d ∷ xs) g =
     (λ low.
     let c : ℕ = surrogate_pair h l in
     prepended done (encode_utf8 c) (content plain xs)
-    (content_gives plain (done ++ encode_utf8 c) xs (joined done (encode_utf8 c) xs g.0 (IsUtf8-encode c (pair_scalar h l g.2 low)) (rest_of_four a b _ d xs is.0 is.1 is.2 is.3 left))))
+    (content_gives plain (done ++ encode_utf8 c) xs (joined done (encode_utf8 c) xs g.0 (IsUtf8-encode c (pair_scalar h l g.2 low))
+    (rest_of_four a b _ d xs is.0 is.1 is.2 is.3 left))))
     (λ _. tt)))
     (λ _. tt)
 

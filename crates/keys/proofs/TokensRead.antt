@@ -46,7 +46,8 @@ AreTextLexemes (l ∷ ls) = IsTextLexeme l × AreTextLexemes ls
 operator_text : (x : ℕ) → IsTextLexeme (operator_lexeme x)
 operator_text x =
     let P : Lexeme → Type 0 = IsTextLexeme in
-    cond_both (x == ascii.open_brace) _ _ P (λ _. tt) (λ _. cond_both (x == ascii.close_brace) _ _ P (λ _. tt) (λ _. cond_both (x == ascii.open_bracket) _ _ P (λ _. tt)
+    cond_both (x == ascii.open_brace) _ _ P (λ _. tt) (λ _. cond_both (x == ascii.close_brace) _ _ P (λ _. tt)
+    (λ _. cond_both (x == ascii.open_bracket) _ _ P (λ _. tt)
     (λ _. cond_both (x == ascii.close_bracket) _ _ P (λ _. tt) (λ _. cond_both (x == ascii.comma) _ _ P (λ _. tt) (λ _. tt)))))
 
 string_text : (o : Option (List ℕ)) → IsTextIfThere o → IsText (string_token o)
@@ -77,7 +78,8 @@ quote_by false false false false e = cc e
 quote_is : (x : ℕ) → class x ≡ quote → x ≡ 34
 quote_is x e = eqb-true x 34 (quote_by (x == 34) (x == 92) (is_operator x) (is_space x) e)
 
-byte_texts : (m : Mode) (c : Class) (x : ℕ) (xs : List ℕ) (k : Mode → List Lexeme) → (c ≡ quote → IsUtf8 xs) → ((next : Mode) → AreTextLexemes (k next)) → AreTextLexemes (lex_byte m c x xs k)
+byte_texts : (m : Mode) (c : Class) (x : ℕ) (xs : List ℕ) (k : Mode → List Lexeme) → (c ≡ quote → IsUtf8 xs) → ((next : Mode) → AreTextLexemes (k next))
+    → AreTextLexemes (lex_byte m c x xs k)
 byte_texts between quote x xs k u h = (string_text (content plain xs) (content_is_utf8 xs (u refl)), h in_string)
 byte_texts between backslash x xs k u h = (tt, h in_word)
 byte_texts between operator x xs k u h = (operator_text x, h between)

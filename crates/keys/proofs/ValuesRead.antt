@@ -33,7 +33,8 @@ every_map : {A B : Type 0} (P : A → Type 0) (Q : B → Type 0) (f : A → B) �
 every_map P Q f k None h = tt
 every_map P Q f k (Some a) h = k a h
 
-every_and_then : {A B : Type 0} (P : A → Type 0) (Q : B → Type 0) (f : A → Option B) → ((a : A) → P a → Every Q (f a)) → (o : Option A) → Every P o → Every Q (option_and_then f o)
+every_and_then : {A B : Type 0} (P : A → Type 0) (Q : B → Type 0) (f : A → Option B) → ((a : A) → P a → Every Q (f a)) → (o : Option A) → Every P o
+    → Every Q (option_and_then f o)
 every_and_then P Q f k None h = tt
 every_and_then P Q f k (Some a) h = k a h
 
@@ -78,9 +79,11 @@ tidy_float sign p =
     every_cond IsTidyNumber (float_is_finite x) (Some (float x)) None (λ _. tt {0}) (tt {0})
 
 tidy_from : (sign : Bool) (p : Parts) → Every IsTidyNumber (number_from sign p)
-tidy_from false p = every_cond IsTidyNumber (is_integer p && nat_lt (numeral_digits p) (2 ^ 64)) (Some (unsigned (numeral_digits p))) (float_of false p) (λ h. ltb-true _ _ (and_parts (is_integer p) _ h).1) (tidy_float false p)
+tidy_from false p = every_cond IsTidyNumber (is_integer p && nat_lt (numeral_digits p) (2 ^ 64)) (Some (unsigned (numeral_digits p))) (float_of false p)
+    (λ h. ltb-true _ _ (and_parts (is_integer p) _ h).1) (tidy_float false p)
 tidy_from true p =
-    every_cond IsTidyNumber (is_integer p && nat_lt 0 (numeral_digits p) && nat_le (numeral_digits p) (2 ^ 63)) (Some (negative (neg_ℤ (pos (numeral_digits p))))) (float_of true p)
+    every_cond IsTidyNumber (is_integer p && nat_lt 0 (numeral_digits p) && nat_le (numeral_digits p) (2 ^ 63))
+    (Some (negative (neg_ℤ (pos (numeral_digits p))))) (float_of true p)
     (λ h. let parts = and_parts (is_integer p && nat_lt 0 (numeral_digits p)) _ h in
     tidy_negative (numeral_digits p) (ltb-true _ _ (and_parts (is_integer p) _ parts.0).1) (leb-true _ _ parts.1))
     (tidy_float true p)
@@ -91,11 +94,13 @@ tidy_either false x y h k = k
 
 tidy_number : (s : List ℕ) → Every IsTidyNumber (number_of s)
 unfolding number_of
-tidy_number s = tidy_either (slice_index s 0 == minus) (number_from true (scan_numeral (drop 1 s))) (number_from false (scan_numeral s)) (tidy_from true (scan_numeral (drop 1 s))) (tidy_from false (scan_numeral s))
+tidy_number s = tidy_either (slice_index s 0 == minus) (number_from true (scan_numeral (drop 1 s))) (number_from false (scan_numeral s))
+    (tidy_from true (scan_numeral (drop 1 s))) (tidy_from false (scan_numeral s))
 
 -- ---- members
 
-tidy_put_at : (o : Ordering) (k l : List ℕ) (d e : Data) (ms : Members) → slice_cmp nat_cmp k l ≡ o → IsUtf8 k → IsTidy d → AreTidyMembers (member l e ms) → AreTidyMembers (put k d ms)
+tidy_put_at : (o : Ordering) (k l : List ℕ) (d e : Data) (ms : Members) → slice_cmp nat_cmp k l ≡ o → IsUtf8 k → IsTidy d → AreTidyMembers (member l e ms)
+    → AreTidyMembers (put k d ms)
     → AreTidyMembers (match_ordering o (member k d (member l e ms)) (member l d ms) (member l e (put k d ms)))
 tidy_put_at Less k l d e ms is u t h more = (u, (is, before_later k l ms is h.1), t, h)
 tidy_put_at Equal k l d e ms is u t h more = (h.0, h.1, t, h.3)
@@ -116,11 +121,13 @@ mutual
 
   tidy_items : (js : json.Items) → ItemsHaveTexts js → Every AreTidyItems (of_items js)
   tidy_items json.no_items u = tt
-  tidy_items (json.item j js) u = every_and_then IsTidy AreTidyItems _ (λ d h. every_map AreTidyItems AreTidyItems (item d) (λ ds k. (h, k)) _ (tidy_items js u.1)) _ (tidy_json j u.0)
+  tidy_items (json.item j js) u = every_and_then IsTidy AreTidyItems _
+      (λ d h. every_map AreTidyItems AreTidyItems (item d) (λ ds k. (h, k)) _ (tidy_items js u.1)) _ (tidy_json j u.0)
 
   tidy_members : (ms : json.Members) (found : Members) → MembersHaveTexts ms → AreTidyMembers found → Every AreTidyMembers (of_members ms found)
   tidy_members json.no_members found u h = h
-  tidy_members (json.member k j ms) found u h = every_and_then IsTidy AreTidyMembers _ (λ d t. tidy_members ms (put k d found) u.2 (tidy_put k d found u.0 t h)) _ (tidy_json j u.1)
+  tidy_members (json.member k j ms) found u h = every_and_then IsTidy AreTidyMembers _
+      (λ d t. tidy_members ms (put k d found) u.2 (tidy_put k d found u.0 t h)) _ (tidy_json j u.1)
 
 -- ---- a tidy value with whole numbers
 
@@ -149,7 +156,8 @@ mutual
 
 -- ---- the value that a text reads as
 
-last_has : (text : List ℕ) (o : Option (json.Json × List Token)) → IsUtf8 text → json.value max_depth (tokens text) ≡ o → Every HasTexts (option_and_then (λ p. json.if_last p.0 p.1) o)
+last_has : (text : List ℕ) (o : Option (json.Json × List Token)) → IsUtf8 text → json.value max_depth (tokens text) ≡ o
+    → Every HasTexts (option_and_then (λ p. json.if_last p.0 p.1) o)
 last_has text None u e = tt
 last_has text (Some (j, [])) u e = texts_read text j [] u e
 last_has text (Some (j, t ∷ ts)) u e = tt
@@ -161,7 +169,8 @@ whole_by : (b : Bool) (v d : Data) → (needs b Number >>= (λ _. Ok v)) ≡ Ok 
 whole_by true v d e = (cc e, refl)
 whole_by false v d e = cc e
 
-value_parts : (r : Result Data Refusal) (d : Data) → (r >>= (λ value. needs (numbers_are_whole value) Number >>= (λ _. Ok value))) ≡ Ok d → (r ≡ Ok d) × (numbers_are_whole d ≡ true)
+value_parts : (r : Result Data Refusal) (d : Data) → (r >>= (λ value. needs (numbers_are_whole value) Number >>= (λ _. Ok value))) ≡ Ok d
+    → (r ≡ Ok d) × (numbers_are_whole d ≡ true)
 value_parts (Err e) d is = cc is
 value_parts (Ok v) d is = let parts = whole_by (numbers_are_whole v) v d is in (ap Ok parts.0, ap numbers_are_whole (sym parts.0) ∙ parts.1)
 

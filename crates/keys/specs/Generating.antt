@@ -76,7 +76,8 @@ fitting_len alg bytes = do
 -- the members without the one of this name
 abbrev pub without : List ℕ → Members → Members
 without name no_members = no_members
-without name (member other value rest) = match_ordering (slice_cmp nat_cmp name other) (member other value (without name rest)) rest (member other value (without name rest))
+without name (member other value rest) = match_ordering (slice_cmp nat_cmp name other) (member other value (without name rest)) rest
+    (member other value (without name rest))
 
 abbrev pub string_items : List (List ℕ) → Items
 string_items [] = no_items

@@ -73,4 +73,5 @@ pub record KeepFloatsOut : Type 0 where
   pub whole : (members : Members) → member_numbers_are_whole members ≡ true → members_have_float members ≡ false
   pub found : (name : List ℕ) (d e : Data) → has_float d ≡ false → get name d ≡ Some e → has_float e ≡ false
   pub members_of : (d : Data) (members : Members) → as_object d ≡ Some members → has_float d ≡ false → members_have_float members ≡ false
-  pub put_in : (name : List ℕ) (d : Data) (members : Members) → has_float d ≡ false → members_have_float members ≡ false → members_have_float (put name d members) ≡ false
+  pub put_in : (name : List ℕ) (d : Data) (members : Members) → has_float d ≡ false → members_have_float members ≡ false
+      → members_have_float (put name d members) ≡ false

@@ -68,7 +68,8 @@ pub record KeepJson : Type 0 where
   pub items_of : (d : Data) (items : Items) → IsJson d → as_array d ≡ Some items → AreJsonItems items × (items_depth items < depth d)
   pub put_in : (name : List ℕ) (d : Data) (members : Members) → IsUtf8 name → IsJson d → AreJsonMembers members
       → AreJsonMembers (put name d members) × (members_depth (put name d members) ≤ max (depth d) (members_depth members))
-  pub left : (name : List ℕ) (members : Members) → AreJsonMembers members → AreJsonMembers (without name members) × (members_depth (without name members) ≤ members_depth members)
+  pub left : (name : List ℕ) (members : Members) → AreJsonMembers members → AreJsonMembers (without name members)
+      × (members_depth (without name members) ≤ members_depth members)
 
 -- a text of letters, digits, `-` and `_` is UTF-8, and its compact text is the same between quotes (RFC 8259 section 7)
 abbrev pub UrlTextsAreJson : Type 0

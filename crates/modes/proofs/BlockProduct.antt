@@ -6,11 +6,12 @@ use Rattle.std.proofs.Math.ListN.{get_or-append}
 use Rattle.std.proofs.lemmas.List.FromFn.{get_or-map-range_with_len}
 use Rattle.std.proofs.lemmas.Nat.{xor_shr, and_mask, mod_below}
 use Rattle.std.proofs.lemmas.Nat.Bits.{bit_at-lt, bit_at_lowest, same_from_bits_below}
-use Rattle.std.specs.Int.Bits.{xor_assoc, xor_comm, xor_zero_r}
+use Rattle.std.specs.Int.Bits.{xor_zero_r}
 use Rattle.aes.specs.Polynomial.{polynomial_sum, polynomial_remainder}
 use Rattle.aes.specs.PolynomialLaws.{IsLinear, PolynomialLaws}
 use Rattle.modes.specs.Ghash.{reflect, modulus, block_product, times_h, ghash_number}
 use Rattle.modes.specs.Code.Shifts.{shifted}
+use Rattle.aes.proofs.Lemmas.{xor_swap}
 
 -- the remainder of x ^ i times the polynomial of h; and the part of the product that comes from the first i coefficients of x
 abbrev pub power_of : ℕ → ℕ → ℕ
@@ -37,14 +38,9 @@ shift_high v e =
     sym (ap (λ b. bit_xor (v / 2) (b * (0xe1 * 2 ^ 120))) o ∙ ap (bit_xor (v / 2)) (one-mul (0xe1 * 2 ^ 120)))
 
 -- In a sum of two sums, the two middle terms may be exchanged.
-pub xor_swap : (a b c d : ℕ) → bit_xor (bit_xor a b) (bit_xor c d) ≡ bit_xor (bit_xor a c) (bit_xor b d)
-xor_swap a b c d =
-    xor_assoc a b (bit_xor c d)
-    ∙ ap (bit_xor a) (sym (xor_assoc b c d) ∙ ap (λ x. bit_xor x d) (xor_comm b c) ∙ xor_assoc c b d)
-    ∙ sym (xor_assoc a c (bit_xor b d))
-
 -- The step of the code and the multiplication by x agree at each power of x.
-steps_agree : map (λ i. reflect (shifted (2 ^ i))) (range_with_len 0 128) ≡ map (λ i. polynomial_remainder 128 modulus 1 (reflect (2 ^ i) * 2)) (range_with_len 0 128)
+steps_agree : map (λ i. reflect (shifted (2 ^ i))) (range_with_len 0 128)
+    ≡ map (λ i. polynomial_remainder 128 modulus 1 (reflect (2 ^ i) * 2)) (range_with_len 0 128)
 unfolding reflect shifted polynomial_sum polynomial_remainder
 steps_agree = refl
 
@@ -141,5 +137,6 @@ module _ (laws : PolynomialLaws) where
       last : slice_index (xs ++ x ∷ []) (length xs) ≡ x
       last = ap (λ k. get_or (xs ++ x ∷ []) k 0) (let e : length xs ≡ length xs + 0 = omega arith in e) ∙ get_or-append-add xs (x ∷ []) 0 0
 
-      front : (i : ℕ) → i < length xs → times_h h (suc (length xs) - i) (slice_index (xs ++ x ∷ []) i) ≡ block_product (times_h h (length xs - i) (slice_index xs i)) h
+      front : (i : ℕ) → i < length xs → times_h h (suc (length xs) - i) (slice_index (xs ++ x ∷ []) i)
+          ≡ block_product (times_h h (length xs - i) (slice_index xs i)) h
       front i l = ap₂ (times_h h) (let e : suc (length xs) - i ≡ suc (length xs - i) = omega arith in e) (get_or-append xs (x ∷ []) 0 i l)

@@ -16,10 +16,12 @@ module _ (f : ℕ → List ℕ) where
   joined-add zero k a = ap₂ (λ b m. concat (map f (range_with_len b m))) (let e : a ≡ a + 0 = omega arith in e) (let e : 0 + k ≡ k = omega arith in e)
   joined-add (suc n) k a =
       ap (λ m. concat (map f (range_with_len a m))) (let e : suc n + k ≡ suc (n + k) = omega arith in e)
-      ∙ ap (λ t. f a ++ t) (joined-add n k (a + 1) ∙ ap (λ b. concat (map f (range_with_len (a + 1) n)) ++ concat (map f (range_with_len b k))) (let e : a + 1 + n ≡ a + suc n = omega arith in e))
+      ∙ ap (λ t. f a ++ t) (joined-add n k (a + 1) ∙ ap (λ b. concat (map f (range_with_len (a + 1) n)) ++ concat (map f (range_with_len b k)))
+      (let e : a + 1 + n ≡ a + suc n = omega arith in e))
       ∙ sym (append_assoc (f a) (concat (map f (range_with_len (a + 1) n))) (concat (map f (range_with_len (a + suc n) k))))
 
-pub joined-same : (f g : ℕ → List ℕ) (n a b : ℕ) → ((i : ℕ) → i < n → f (a + i) ≡ g (b + i)) → concat (map f (range_with_len a n)) ≡ concat (map g (range_with_len b n))
+pub joined-same : (f g : ℕ → List ℕ) (n a b : ℕ) → ((i : ℕ) → i < n → f (a + i) ≡ g (b + i))
+    → concat (map f (range_with_len a n)) ≡ concat (map g (range_with_len b n))
 joined-same f g zero a b h = refl
 joined-same f g (suc n) a b h =
     ap₂ (λ s t. s ++ t)

@@ -16,7 +16,8 @@ pub none_alone : (e : List ℕ → List ℕ) (iv w : List ℕ) → length w < 16
 none_alone e iv w h = blocks_are e iv w 0 (omega arith)
 
 -- A list is the ciphertext if each of its blocks is.
-pub blocks_from : (e : List ℕ → List ℕ) (iv p c : List ℕ) (n : ℕ) → length p / 16 ≡ n → length c ≡ 16 * n → ((i : ℕ) → i < n → block c i ≡ chained e iv p (suc i)) → c ≡ cbc_blocks e iv p
+pub blocks_from : (e : List ℕ → List ℕ) (iv p c : List ℕ) (n : ℕ) → length p / 16 ≡ n → length c ≡ 16 * n
+    → ((i : ℕ) → i < n → block c i ≡ chained e iv p (suc i)) → c ≡ cbc_blocks e iv p
 blocks_from e iv p c n h k same =
     sym (blocks_are e iv p n h ∙ chunks_joined 16 (chained e iv p) n 1 c k (λ i l. same i l ∙ ap (chained e iv p) (let z : suc i ≡ 1 + i = omega arith in z)))
 
@@ -52,4 +53,5 @@ module _ (e : List ℕ → List ℕ) (iv m : List ℕ) (n : ℕ) (whole : length
       ∙ joined-add f n k 1
       ∙ ap₂ (λ s t. s ++ t)
       (joined-same f (chained e iv m) n 1 1 (λ i l. chained_front (1 + i) (omega arith)) ∙ sym (blocks_are e iv m n (omega (arith, whole))))
-      (joined-same f g k (1 + n) 1 (λ i l. ap f (let z : 1 + n + i ≡ n + (1 + i) = omega arith in z) ∙ chained_back (1 + i)) ∙ sym (blocks_are e (chained e iv m n) q k refl))
+      (joined-same f g k (1 + n) 1 (λ i l. ap f (let z : 1 + n + i ≡ n + (1 + i) = omega arith in z) ∙ chained_back (1 + i))
+      ∙ sym (blocks_are e (chained e iv m n) q k refl))

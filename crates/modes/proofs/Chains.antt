@@ -5,8 +5,8 @@ use Rattle.std.proofs.Math.Nat.{mul_assoc, mul-mod_left}
 use Rattle.std.proofs.lemmas.Nat.{pow-add, field_of, xor_shr, xor_mod}
 use Rattle.aes.specs.PolynomialLaws.{PolynomialLaws}
 use Rattle.modes.specs.Code.Shifts.{shifts}
-use Rattle.modes.proofs.BlockProduct.{xor_swap}
 use Rattle.modes.proofs.Shifts.{shifts_plus, shifts_turned, shifts_whole, shifts_part, shifts_quotient, shifts_linear}
+use Rattle.aes.proofs.Lemmas.{xor_swap}
 
 -- the sum of both chains; the odd one is four bits further on
 abbrev pub chains : ℕ → ℕ → ℕ
@@ -22,14 +22,16 @@ added even odd even_back odd_back = bit_xor (multiples even even_back) (bit_xor 
 
 -- A step of both chains is a step of their sum.
 pub chains_next : (a b even odd even_back odd_back : ℕ)
-    → chains (bit_xor (a / 2 ^ 8) (multiples even even_back)) (bit_xor (b / 2 ^ 8) (multiples odd odd_back)) ≡ bit_xor (chains a b / 2 ^ 8) (added even odd even_back odd_back)
+    → chains (bit_xor (a / 2 ^ 8) (multiples even even_back)) (bit_xor (b / 2 ^ 8) (multiples odd odd_back))
+    ≡ bit_xor (chains a b / 2 ^ 8) (added even odd even_back odd_back)
 chains_next a b even odd even_back odd_back =
     ap (bit_xor (bit_xor (a / 2 ^ 8) (multiples even even_back)))
     (xor_shr (b / 2 ^ 8) (multiples odd odd_back) 4
     ∙ ap₂ bit_xor
     (let e : b / 2 ^ 8 / 2 ^ 4 ≡ b / 2 ^ 4 / 2 ^ 8 = omega arith in e)
     (xor_shr (odd * 2 ^ 128) (odd_back * 2 ^ 64) 4
-    ∙ ap₂ bit_xor (let e : odd * 2 ^ 128 / 2 ^ 4 ≡ odd * 2 ^ 124 = omega arith in e) (let e : odd_back * 2 ^ 64 / 2 ^ 4 ≡ odd_back * 2 ^ 60 = omega arith in e)))
+    ∙ ap₂ bit_xor (let e : odd * 2 ^ 128 / 2 ^ 4 ≡ odd * 2 ^ 124 = omega arith in e)
+    (let e : odd_back * 2 ^ 64 / 2 ^ 4 ≡ odd_back * 2 ^ 60 = omega arith in e)))
     ∙ xor_swap (a / 2 ^ 8) (multiples even even_back) (b / 2 ^ 4 / 2 ^ 8) (bit_xor (odd * 2 ^ 124) (odd_back * 2 ^ 60))
     ∙ ap (λ v. bit_xor v (added even odd even_back odd_back)) (sym (xor_shr a (b / 2 ^ 4) 8))
 
@@ -44,7 +46,8 @@ sum_ends_in_zeros : (a b k : ℕ) → a % 2 ^ k ≡ 0 → b % 2 ^ k ≡ 0 → bi
 sum_ends_in_zeros a b k e f = xor_mod a b k ∙ ap₂ bit_xor e f
 
 -- A step uses up eight of the zeros at the end of the sum.
-pub zeros_next : (sum k even odd even_back odd_back : ℕ) → k ≤ 60 → sum % 2 ^ (k + 8) ≡ 0 → bit_xor (sum / 2 ^ 8) (added even odd even_back odd_back) % 2 ^ k ≡ 0
+pub zeros_next : (sum k even odd even_back odd_back : ℕ) → k ≤ 60 → sum % 2 ^ (k + 8) ≡ 0
+    → bit_xor (sum / 2 ^ 8) (added even odd even_back odd_back) % 2 ^ k ≡ 0
 zeros_next sum k even odd even_back odd_back l e =
     sum_ends_in_zeros (sum / 2 ^ 8) (added even odd even_back odd_back) k
     (sym (field_of sum k 8) ∙ ap (λ v. v / 2 ^ 8) e)
@@ -87,7 +90,8 @@ module _ (laws : PolynomialLaws) where
       ∙ ap (bit_xor (bit_xor (shifts front 8) f)) (sym (shifts_linear laws 64 (shifts back 8) b))
 
   -- Two steps of four bits are one step of eight.
-  pub two_nibbles : (a b c first second : ℕ) → bit_xor (shifts a 4) first ≡ b → bit_xor (shifts b 4) second ≡ c → bit_xor (shifts a 8) (bit_xor second (shifts first 4)) ≡ c
+  pub two_nibbles : (a b c first second : ℕ) → bit_xor (shifts a 4) first ≡ b → bit_xor (shifts b 4) second ≡ c
+      → bit_xor (shifts a 8) (bit_xor second (shifts first 4)) ≡ c
   two_nibbles a b c first second one two =
       ap (bit_xor (shifts a 8)) (xor_comm second (shifts first 4))
       ∙ sym (xor_assoc (shifts a 8) (shifts first 4) second)

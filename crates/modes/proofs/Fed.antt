@@ -36,7 +36,8 @@ module _ (e : List ℕ → List ℕ) (iv p previous w : List ℕ) (is : previous
       ap (cbc_blocks e iv) (longer p w waits x t v k same whole short)
       ∙ blocks_behind e iv m n front (t ++ v)
       ∙ ap₂ (λ a b. a ++ b)
-      (sym (ap (cbc_blocks e iv) (sym text) ∙ blocks_behind e iv m n front w ∙ ap (λ s. cbc_blocks e iv m ++ s) (none_alone e _ w (waits_short p w waits)) ∙ append-nil (cbc_blocks e iv m)))
+      (sym (ap (cbc_blocks e iv) (sym text) ∙ blocks_behind e iv m n front w ∙ ap (λ s. cbc_blocks e iv m ++ s) (none_alone e _ w (waits_short p w waits))
+      ∙ append-nil (cbc_blocks e iv m)))
       (ap (λ s. cbc_blocks e s (t ++ v)) (sym goes_on)
       ∙ blocks_behind e previous t k whole v
       ∙ ap (λ s. cbc_blocks e previous t ++ s) (none_alone e _ v short)
@@ -52,15 +53,20 @@ module _ (e : List ℕ → List ℕ) (iv p previous w : List ℕ) (is : previous
   abbrev whole_blocks : List ℕ
   whole_blocks = blocks w front rest fills
 
-  pub filled_previous : chained e (chained e previous full_block 1) whole_blocks (length whole_blocks / 16) ≡ chained e iv (p ++ (front ++ rest)) (length (p ++ (front ++ rest)) / 16)
+  pub filled_previous : chained e (chained e previous full_block 1) whole_blocks (length whole_blocks / 16)
+      ≡ chained e iv (p ++ (front ++ rest)) (length (p ++ (front ++ rest)) / 16)
   filled_previous =
-      ap (chained e (chained e previous full_block 1) whole_blocks) (let z : length whole_blocks / 16 ≡ length rest / 16 = omega (arith, length-blocks w front rest fills) in z)
+      ap (chained e (chained e previous full_block 1) whole_blocks)
+      (let z : length whole_blocks / 16 ≡ length rest / 16 = omega (arith, length-blocks w front rest fills) in z)
       ∙ sym (chained_back e previous full_block 1 (sixteen w front rest fills) whole_blocks (length rest / 16))
-      ∙ fed_previous e iv p previous w is waits (front ++ rest) (full_block ++ whole_blocks) (left w front rest fills) (1 + length rest / 16) (joined w front rest fills) (filled_whole w front rest fills) (left_short w front rest fills)
+      ∙ fed_previous e iv p previous w is waits (front ++ rest) (full_block ++ whole_blocks) (left w front rest fills) (1 + length rest / 16)
+      (joined w front rest fills) (filled_whole w front rest fills) (left_short w front rest fills)
 
-  pub filled_text : cbc_blocks e iv (p ++ (front ++ rest)) ≡ cbc_blocks e iv p ++ (cbc_blocks e previous full_block ++ cbc_blocks e (chained e previous full_block 1) whole_blocks)
+  pub filled_text : cbc_blocks e iv (p ++ (front ++ rest))
+      ≡ cbc_blocks e iv p ++ (cbc_blocks e previous full_block ++ cbc_blocks e (chained e previous full_block 1) whole_blocks)
   filled_text =
-      fed_text e iv p previous w is waits (front ++ rest) (full_block ++ whole_blocks) (left w front rest fills) (1 + length rest / 16) (joined w front rest fills) (filled_whole w front rest fills) (left_short w front rest fills)
+      fed_text e iv p previous w is waits (front ++ rest) (full_block ++ whole_blocks) (left w front rest fills) (1 + length rest / 16)
+      (joined w front rest fills) (filled_whole w front rest fills) (left_short w front rest fills)
       ∙ ap (λ s. cbc_blocks e iv p ++ s) (blocks_behind e previous full_block 1 (sixteen w front rest fills) whole_blocks)
 
 -- ---- the end
@@ -78,6 +84,7 @@ module _ (e : List ℕ → List ℕ) (iv p previous w : List ℕ) (is : previous
   unfolding cbc pad
   finished =
       let x = replicate (16 - length p % 16) (16 - length p % 16) in
-      let one : length (w ++ x) ≡ 16 * 1 = length-append w x ∙ omega (arith, length-waits p w waits, length-replicate (16 - length p % 16) (16 - length p % 16)) in
+      let one : length (w ++ x) ≡ 16 * 1 = length-append w x
+      ∙ omega (arith, length-waits p w waits, length-replicate (16 - length p % 16) (16 - length p % 16)) in
       fed_text e iv p previous w is waits x (w ++ x) [] 1 (sym (append-nil (w ++ x))) one (omega arith)
       ∙ ap (λ s. cbc_blocks e iv p ++ cbc_blocks e previous (w ++ s)) (sym padding)

@@ -25,7 +25,8 @@ add : (f : ℕ → ℕ) (n k a : ℕ) → map f (range_with_len a (n + k)) ≡ m
 add f zero k a = ap₂ (λ b m. map f (range_with_len b m)) (let e : a ≡ a + 0 = omega arith in e) (let e : 0 + k ≡ k = omega arith in e)
 add f (suc n) k a =
     ap (λ m. map f (range_with_len a m)) (let e : suc n + k ≡ suc (n + k) = omega arith in e)
-    ∙ ap (λ t. f a ∷ t) (add f n k (a + 1) ∙ ap (λ b. map f (range_with_len (a + 1) n) ++ map f (range_with_len b k)) (let e : a + 1 + n ≡ a + suc n = omega arith in e))
+    ∙ ap (λ t. f a ∷ t) (add f n k (a + 1) ∙ ap (λ b. map f (range_with_len (a + 1) n) ++ map f (range_with_len b k))
+    (let e : a + 1 + n ≡ a + suc n = omega arith in e))
 
 same : (f g : ℕ → ℕ) (n a b : ℕ) → ((i : ℕ) → i < n → f (a + i) ≡ g (b + i)) → map f (range_with_len a n) ≡ map g (range_with_len b n)
 same f g zero a b h = refl
@@ -44,7 +45,8 @@ numbers_behind m q n whole =
     numbers_are (m ++ q) (n + k) (omega (arith, length-append m q, whole))
     ∙ add (number (m ++ q)) n k 0
     ∙ ap₂ (λ s t. s ++ t)
-    (same (number (m ++ q)) (number m) n 0 0 (λ i l. ap (from_be_bytes w128) (chunk_front 16 m q (0 + i) (omega (arith, whole)))) ∙ sym (numbers_are m n (omega (arith, whole))))
+    (same (number (m ++ q)) (number m) n 0 0 (λ i l. ap (from_be_bytes w128) (chunk_front 16 m q (0 + i) (omega (arith, whole))))
+    ∙ sym (numbers_are m n (omega (arith, whole))))
     (same (number (m ++ q)) (number q) k (0 + n) 0 (λ i l.
     ap (number (m ++ q)) (let e : 0 + n + i ≡ n + i = omega arith in e)
     ∙ ap (from_be_bytes w128) (chunk_back 16 m q n i whole)
@@ -62,13 +64,16 @@ module _ (p w : List ℕ) (waits : w ≡ drop (16 * (length p / 16)) p) where
       ap numbers (longer p w waits x t v k same whole short)
       ∙ numbers_behind (whole_of p) (t ++ v) n size
       ∙ ap₂ (λ a b. a ++ b)
-      (sym (ap numbers (sym (whole_and_rest p w waits)) ∙ numbers_behind (whole_of p) w n size ∙ ap (λ s. numbers (whole_of p) ++ s) (no_numbers w (waits_short p w waits)) ∙ append-nil (numbers (whole_of p))))
+      (sym (ap numbers (sym (whole_and_rest p w waits)) ∙ numbers_behind (whole_of p) w n size
+      ∙ ap (λ s. numbers (whole_of p) ++ s) (no_numbers w (waits_short p w waits)) ∙ append-nil (numbers (whole_of p))))
       (numbers_behind t v k whole ∙ ap (λ s. numbers t ++ s) (no_numbers v short) ∙ append-nil (numbers t))
 
   -- A piece fills the block that is waiting, and more blocks.
-  pub filled_numbers : (front rest : List ℕ) → length w + length front ≡ 16 → numbers (p ++ (front ++ rest)) ≡ (numbers p ++ numbers (w ++ front)) ++ numbers (take (length rest / 16 * 16) rest)
+  pub filled_numbers : (front rest : List ℕ) → length w + length front ≡ 16
+      → numbers (p ++ (front ++ rest)) ≡ (numbers p ++ numbers (w ++ front)) ++ numbers (take (length rest / 16 * 16) rest)
   filled_numbers front rest fills =
       let more = take (length rest / 16 * 16) rest in
-      fed_numbers (front ++ rest) ((w ++ front) ++ more) (left w front rest fills) (1 + length rest / 16) (joined w front rest fills) (filled_whole w front rest fills) (left_short w front rest fills)
+      fed_numbers (front ++ rest) ((w ++ front) ++ more) (left w front rest fills) (1 + length rest / 16) (joined w front rest fills)
+      (filled_whole w front rest fills) (left_short w front rest fills)
       ∙ ap (λ s. numbers p ++ s) (numbers_behind (w ++ front) more 1 (sixteen w front rest fills))
       ∙ sym (append_assoc (numbers p) (numbers (w ++ front)) (numbers more))

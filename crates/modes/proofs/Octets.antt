@@ -71,7 +71,8 @@ ctr_octets e f p blocks octets i = ⊎_elim
     (cases_lt i (length (ctr e f p)))
 
 -- The ciphertext of GCM is octets.
-pub gcm_ciphertext_octets : (e d : List ℕ → List ℕ) → IsCipher e d → (iv p : List ℕ) → length iv ≡ 12 → IsOctets iv → IsOctets p → IsOctets (gcm_ciphertext e iv p)
+pub gcm_ciphertext_octets : (e d : List ℕ → List ℕ) → IsCipher e d → (iv p : List ℕ) → length iv ≡ 12 → IsOctets iv → IsOctets p
+    → IsOctets (gcm_ciphertext e iv p)
 unfolding gcm_ciphertext
 gcm_ciphertext_octets e d law iv p twelve start octets =
     let f = counter_block (pre_counter_block iv) 1 in

@@ -8,7 +8,7 @@ use Rattle.modes.specs.Code.Opening.{before, opened_block, opened_blocks, IsPadd
 use Rattle.octets.proofs.Lemmas.{same_chunks, length-joined, chunk-joined}
 use Rattle.modes.proofs.Blocks.{block_is_block}
 use Rattle.modes.proofs.Chaining.{blocks_are, blocks_from}
-use Rattle.modes.proofs.Sums.{length-xor, xor_is_block, xor_twice}
+use Rattle.modes.proofs.Sums.{length-xor, xor_is_block, xor_octets_twice}
 use Rattle.modes.proofs.Padding.{length-pad, pad_octets, pad_ends, pad_is_unique, unpadded}
 
 -- The opening of a block depends only on this block and the one before it.
@@ -66,8 +66,9 @@ module _ (e d : List ℕ → List ℕ) (law : IsCipher e d) (iv : List ℕ) (sta
     opened_c i l =
         let x = block_is_block q i small (omega (arith, whole)) in
         let y = chained_is_block q small i (omega (arith, whole)) in
-        ap₂ xor_octets (ap d (block_of_c i l) ∙ law.undoes (xor_octets (block q i) (chained e iv q i)) (xor_is_block (block q i) (chained e iv q i) x y)) (before_c i l)
-        ∙ xor_twice (block q i) (chained e iv q i)
+        ap₂ xor_octets (ap d (block_of_c i l) ∙ law.undoes (xor_octets (block q i) (chained e iv q i)) (xor_is_block (block q i) (chained e iv q i) x y))
+        (before_c i l)
+        ∙ xor_octets_twice (block q i) (chained e iv q i)
 
     pub opens_to : (i : ℕ) → i < n → opened_block d iv (cbc_blocks e iv q) i ≡ block q i
     opens_to i l = ap (λ s. opened_block d iv s i) cbc_blocks_is ∙ opened_c i l
@@ -77,14 +78,15 @@ module _ (e d : List ℕ → List ℕ) (law : IsCipher e d) (iv : List ℕ) (sta
   module _ (c : List ℕ) (small : IsOctets c) (n : ℕ) (whole : length c ≡ 16 * n) where
     opened_sixteen : (i : ℕ) → i < n → length (opened_block d iv c i) ≡ 16
     unfolding opened_block
-    opened_sixteen i l = length-xor (d (block c i)) (before iv c i) ∙ (law.gives_block_back (block c i) (block_is_block c i small (omega (arith, whole)))).sixteen
+    opened_sixteen i l = length-xor (d (block c i)) (before iv c i)
+        ∙ (law.gives_block_back (block c i) (block_is_block c i small (omega (arith, whole)))).sixteen
 
     module _ (q : List ℕ) (same_length : length q ≡ 16 * n) (opened : (i : ℕ) → i < n → block q i ≡ opened_block d iv c i) where
       link : (i : ℕ) → i < n → chained e iv q i ≡ before iv c i → chained e iv q (suc i) ≡ block c i
       unfolding chained opened_block
       link i l same =
           let x = block_is_block c i small (omega (arith, whole)) in
-          ap e (ap₂ xor_octets (opened i l) same ∙ xor_twice (d (block c i)) (before iv c i))
+          ap e (ap₂ xor_octets (opened i l) same ∙ xor_octets_twice (d (block c i)) (before iv c i))
           ∙ law.mirror (block c i) x
 
       comes_before : (i : ℕ) → i < n → chained e iv q i ≡ before iv c i
@@ -123,7 +125,8 @@ module _ (e d : List ℕ → List ℕ) (law : IsCipher e d) (iv : List ℕ) (sta
     pub last_is_padded : IsPadded (opened_block d iv (cbc e iv p) (length (cbc e iv p) / 16 - 1)) (16 - length p % 16)
     last_is_padded =
         subst (λ b. IsPadded b (16 - length p % 16))
-        (sym (ap (opened_block d iv (cbc e iv p)) (let z : length (cbc e iv p) / 16 - 1 ≡ length p / 16 = omega (arith, length-cbc) in z) ∙ opened_cbc (length p / 16) (omega arith)))
+        (sym (ap (opened_block d iv (cbc e iv p)) (let z : length (cbc e iv p) / 16 - 1 ≡ length p / 16 = omega (arith, length-cbc) in z)
+        ∙ opened_cbc (length p / 16) (omega arith)))
         (pad_ends p)
 
   pub one_plaintext : (p q : List ℕ) → IsOctets p → IsOctets q → cbc e iv p ≡ cbc e iv q → p ≡ q
@@ -134,7 +137,8 @@ module _ (e d : List ℕ → List ℕ) (law : IsCipher e d) (iv : List ℕ) (sta
 
   -- If the last block of a ciphertext opens to a block that ends in padding, all blocks open to the padded form of the text without this
   -- padding, and the ciphertext is that of this text.
-  module _ (c : List ℕ) (v : ℕ) (small : IsOctets c) (some : length c / 16 ≢ 0) (whole : length c % 16 ≡ 0) (padded : IsPadded (opened_block d iv c (length c / 16 - 1)) v) where
+  module _ (c : List ℕ) (v : ℕ) (small : IsOctets c) (some : length c / 16 ≢ 0) (whole : length c % 16 ≡ 0)
+      (padded : IsPadded (opened_block d iv c (length c / 16 - 1)) v) where
     abbrev q : List ℕ
     q = opened_blocks d iv c
 
@@ -147,7 +151,8 @@ module _ (e d : List ℕ → List ℕ) (law : IsCipher e d) (iv : List ℕ) (sta
     text : pad (take (length q - v) q) ≡ q
     text =
         let last : length c / 16 - 1 < length c / 16 = omega (arith, some) in
-        unpadded q (length c / 16 - 1) v (omega (arith, len, some)) (subst (λ b. IsPadded b v) (sym (block_of_opened c small (length c / 16) all (length c / 16 - 1) last)) padded)
+        unpadded q (length c / 16 - 1) v (omega (arith, len, some))
+        (subst (λ b. IsPadded b v) (sym (block_of_opened c small (length c / 16) all (length c / 16 - 1) last)) padded)
 
     pub opens_padded : opened_blocks d iv c ≡ pad (take (length c - v) (opened_blocks d iv c))
     opens_padded = sym text ∙ ap (λ k. pad (take k q)) (let z : length q - v ≡ length c - v = omega (arith, all, len) in z)

@@ -19,7 +19,8 @@ unfolding pad
 behind p i h l =
     ap (slice_index (pad p)) (let e : i ≡ length p + (i - length p) = omega arith in e)
     ∙ get_or-append-add p (replicate (added p) (added p)) (i - length p) 0
-    ∙ get_or-replicate (added p) (i - length p) (added p) 0 (omega (arith, length-append p (replicate (added p) (added p)), length-replicate (added p) (added p)))
+    ∙ get_or-replicate (added p) (i - length p) (added p) 0
+    (omega (arith, length-append p (replicate (added p) (added p)), length-replicate (added p) (added p)))
 
 pub pad_octets : (p : List ℕ) → IsOctets p → IsOctets (pad p)
 unfolding pad
@@ -53,7 +54,8 @@ pub pad_is_unique : (p q : List ℕ) → pad p ≡ pad q → p ≡ q
 pad_is_unique p q same =
     let blocks : length p / 16 ≡ length q / 16 = omega (arith, length-pad p, length-pad q, ap length same) in
     let padding : added p ≡ added q =
-    one_padding (block (pad q) (length q / 16)) (added p) (added q) (subst (λ k. IsPadded (block (pad q) k) (added p)) blocks (subst (λ x. IsPadded (block x (length p / 16)) (added p)) same (pad_ends p))) (pad_ends q) in
+    one_padding (block (pad q) (length q / 16)) (added p) (added q)
+    (subst (λ k. IsPadded (block (pad q) k) (added p)) blocks (subst (λ x. IsPadded (block x (length p / 16)) (added p)) same (pad_ends p))) (pad_ends q) in
     sym (front p) ∙ ap (take (length p)) same ∙ ap (λ k. take k (pad q)) (let e : length p ≡ length q = omega (arith, blocks, padding) in e) ∙ front q
 
 -- A text whose last block ends in padding is the padded form of the text without this padding.

@@ -72,4 +72,5 @@ module _ (w front rest : List ℕ) (fills : length w + length front ≡ 16) wher
 
 module _ (p w : List ℕ) (waits : w ≡ drop (16 * (length p / 16)) p) (front rest : List ℕ) (fills : length w + length front ≡ 16) where
   pub filled_waiting : left w front rest fills ≡ drop (16 * (length (p ++ (front ++ rest)) / 16)) (p ++ (front ++ rest))
-  filled_waiting = fed_waiting p w waits (front ++ rest) (full w front rest fills ++ blocks w front rest fills) (left w front rest fills) (1 + length rest / 16) (joined w front rest fills) (filled_whole w front rest fills) (left_short w front rest fills)
+  filled_waiting = fed_waiting p w waits (front ++ rest) (full w front rest fills ++ blocks w front rest fills) (left w front rest fills) (1 + length rest / 16)
+      (joined w front rest fills) (filled_whole w front rest fills) (left_short w front rest fills)

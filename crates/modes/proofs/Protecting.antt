@@ -2,17 +2,14 @@
 use Rattle.std.proofs.Common.{◌≡◌, ℕ, ◌+◌, ◌-◌, ◌%◌, ◌^◌, ◌<◌, List, [], ◌∷◌, ◌++◌, length, replicate, get_or, bit_xor, w32, refl, sym, ap, ap₂, subst, ◌∙◌, arith, length-append, append_assoc, append-nil, ext_get_or}
 use Rattle.std.specs.Int.{from_be_bytes, to_be_bytes}
 use Rattle.std.proofs.lemmas.List.{take_at, drop_at, length-replicate}
-use Rattle.std.proofs.lemmas.Grind.{common_steps}
 use Rattle.octets.specs.Octets.{xor_octets}
 use Rattle.modes.specs.Ctr.{counter_block, stream_octet, ctr}
 use Rattle.modes.specs.Gcm.{pre_counter_block, bit_length, gcm_ciphertext, gcm_tag}
 use Rattle.modes.specs.Ghash.{zero_filled, ghash}
 use Rattle.modes.proofs.Counting.{length-ctr, octet-ctr}
+use Rattle.aes.proofs.Lemmas.{xor_twice}
 
 -- ---- counter mode
-
-twice : (a b : ℕ) → bit_xor (bit_xor a b) b ≡ a
-twice a b = grind (arith, common_steps)
 
 pub ctr-ctr : (e : List ℕ → List ℕ) (f p : List ℕ) → ctr e f (ctr e f p) ≡ p
 ctr-ctr e f p =
@@ -21,7 +18,7 @@ ctr-ctr e f p =
     let inner : i < length (ctr e f p) = subst (λ n. i < n) (length-ctr e f [] [] (ctr e f p)) l in
     octet-ctr e f [] [] (ctr e f p) i inner
     ∙ ap (λ v. bit_xor v (stream_octet e f i)) (octet-ctr e f [] [] p i (subst (λ n. i < n) long inner))
-    ∙ twice (get_or p i 0) (stream_octet e f i))
+    ∙ xor_twice (get_or p i 0) (stream_octet e f i))
 
 pub ctr-none : (e : List ℕ → List ℕ) (f : List ℕ) → ctr e f [] ≡ []
 unfolding ctr
@@ -61,7 +58,8 @@ pub filled_behind : (x y : List ℕ) → length x % 16 ≡ 0 → zero_filled (x 
 unfolding zero_filled
 filled_behind x y whole =
     let long = length-append x y in
-    append_assoc x y _ ∙ ap (λ n. x ++ (y ++ replicate n 0)) (let e : (16 - length (x ++ y) % 16) % 16 ≡ (16 - length y % 16) % 16 = omega (arith, whole, long) in e)
+    append_assoc x y _ ∙ ap (λ n. x ++ (y ++ replicate n 0))
+    (let e : (16 - length (x ++ y) % 16) % 16 ≡ (16 - length y % 16) % 16 = omega (arith, whole, long) in e)
 
 -- After whole blocks, both lengths fill a block.
 pub lengths_behind : (x a b : List ℕ) → length a ≡ 8 → length b ≡ 8 → zero_filled ((zero_filled x ++ a) ++ b) ≡ (zero_filled x ++ a) ++ b

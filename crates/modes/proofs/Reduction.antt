@@ -7,8 +7,8 @@ use Rattle.std.proofs.lemmas.List.FromFn.{get_or-map-range_with_len}
 use Rattle.std.proofs.lemmas.Nat.{pow_pos, pow-add, shl-shr, shr_split, shr_below, mod-pow-add, mod_below, xor_shr, xor_mod, xor_block}
 use Rattle.aes.specs.PolynomialLaws.{IsLinear, PolynomialLaws}
 use Rattle.modes.specs.Code.Shifts.{shifted, shifts}
-use Rattle.modes.proofs.BlockProduct.{xor_swap}
 use Rattle.modes.proofs.Shifts.{shifts_whole, shifts_linear}
+use Rattle.aes.proofs.Lemmas.{xor_swap}
 
 -- ---- the two halves of a number of 256 bits
 
@@ -50,7 +50,8 @@ pub step_is : (front back : ℕ) → bit_xor front (back / 2 ^ 64) * 2 ^ 128 + b
 step_is front back =
     ap (λ b. bit_xor front (back / 2 ^ 64) * 2 ^ 128 + b) (sym (xor_comm 0 (back * 2 ^ 64 % 2 ^ 128) ∙ xor_zero_r (back * 2 ^ 64 % 2 ^ 128)))
     ∙ sum_is front 0 (back / 2 ^ 64) (back * 2 ^ 64 % 2 ^ 128) (omega arith) (mod_below (back * 2 ^ 64) (2 ^ 128) (omega arith))
-    ∙ ap₂ bit_xor (let e : front * 2 ^ 128 + 0 ≡ front * 2 ^ 128 = omega arith in e) (let e : back / 2 ^ 64 * 2 ^ 128 + back * 2 ^ 64 % 2 ^ 128 ≡ back * 2 ^ 64 = omega arith in e)
+    ∙ ap₂ bit_xor (let e : front * 2 ^ 128 + 0 ≡ front * 2 ^ 128 = omega arith in e)
+    (let e : back / 2 ^ 64 * 2 ^ 128 + back * 2 ^ 64 % 2 ^ 128 ≡ back * 2 ^ 64 = omega arith in e)
 
 -- ---- the reduction
 
@@ -84,7 +85,8 @@ both_linear f g is_f is_g a b = ap₂ bit_xor (is_f a b) (is_g a b) ∙ xor_swap
 folded_linear : IsLinear folded
 folded_linear =
     both_linear (λ v. bit_xor (bit_xor v (v / 2 ^ 1)) (v / 2 ^ 2)) (λ v. v / 2 ^ 7)
-    (both_linear (λ v. bit_xor v (v / 2 ^ 1)) (λ v. v / 2 ^ 2) (both_linear (λ v. v) (λ v. v / 2 ^ 1) (λ a b. refl) (λ a b. xor_shr a b 1)) (λ a b. xor_shr a b 2))
+    (both_linear (λ v. bit_xor v (v / 2 ^ 1)) (λ v. v / 2 ^ 2)
+    (both_linear (λ v. v) (λ v. v / 2 ^ 1) (λ a b. refl) (λ a b. xor_shr a b 1)) (λ a b. xor_shr a b 2))
     (λ a b. xor_shr a b 7)
 
 module _ (laws : PolynomialLaws) where

@@ -4,9 +4,9 @@ use Rattle.std.proofs.lemmas.List.{ext_get_or, get_or_past}
 use Rattle.std.proofs.lemmas.List.FromFn.{length-map-range_with_len, get_or-map-range_with_len}
 use Rattle.std.proofs.lemmas.Bool.{cases_lt}
 use Rattle.std.proofs.lemmas.Nat.{xor_comm, xor_lt}
-use Rattle.std.proofs.lemmas.Grind.{common_steps}
 use Rattle.aes.specs.Block.{IsBlock}
 use Rattle.octets.specs.Octets.{xor_octets}
+use Rattle.aes.proofs.Lemmas.{xor_twice}
 
 pub length-xor : (x y : List ℕ) → length (xor_octets x y) ≡ length x
 unfolding xor_octets
@@ -21,14 +21,11 @@ xor_turned x y h = ext_get_or 0 (xor_octets x y) (xor_octets y x) (length-xor x 
     let m : i < length x = subst (λ n. i < n) (length-xor x y) l in
     at-xor x y i m ∙ xor_comm (slice_index x i) (slice_index y i) ∙ sym (at-xor y x i (subst (λ n. i < n) h m)))
 
-xor_back : (a t : ℕ) → bit_xor (bit_xor a t) t ≡ a
-xor_back a t = grind (arith, common_steps)
-
-pub xor_twice : (x y : List ℕ) → xor_octets (xor_octets x y) y ≡ x
-xor_twice x y = ext_get_or 0 (xor_octets (xor_octets x y) y) x (length-xor (xor_octets x y) y ∙ length-xor x y) (λ i l.
+pub xor_octets_twice : (x y : List ℕ) → xor_octets (xor_octets x y) y ≡ x
+xor_octets_twice x y = ext_get_or 0 (xor_octets (xor_octets x y) y) x (length-xor (xor_octets x y) y ∙ length-xor x y) (λ i l.
     let k : i < length (xor_octets x y) = subst (λ n. i < n) (length-xor (xor_octets x y) y) l in
     let m : i < length x = subst (λ n. i < n) (length-xor x y) k in
-    at-xor (xor_octets x y) y i k ∙ ap (λ v. bit_xor v (slice_index y i)) (at-xor x y i m) ∙ xor_back (slice_index x i) (slice_index y i))
+    at-xor (xor_octets x y) y i k ∙ ap (λ v. bit_xor v (slice_index y i)) (at-xor x y i m) ∙ xor_twice (slice_index x i) (slice_index y i))
 
 pub xor_is_block : (x y : List ℕ) → IsBlock x → IsBlock y → IsBlock (xor_octets x y)
 xor_is_block x y a b = record {

@@ -7,7 +7,7 @@ use Rattle.octets.specs.declared.refusal.Refusal.TheVariants.{Form}
 use Rattle.octets.specs.Base64url.{base64url, decoded, is_url_character}
 use Rattle.octets.specs.Octets.{IsOctets}
 use Rattle.octets.specs.Outcomes.{needs}
-use Rattle.octets.proofs.Lemmas.{IsOctets-nil, decoded-nil, steps, passed, same_answer, decodes_exactly, octets_of_meaning}
+use Rattle.octets.proofs.Lemmas.{IsOctets-nil, decoded-nil, steps, passed, same_answer, decodes_exactly, octets_of_meaning, text_of_meaning}
 use Rattle.keys.specs.JsonTexts.{IsJson}
 use Rattle.objects.specs.Texts.{kept, text_at, has_text, content_by, content_text, handed_in, AreOctetsHandedIn}
 use Rattle.objects.specs.Values.{Entries, content_there}
@@ -15,7 +15,6 @@ use Rattle.objects.proofs.Characters.{IsUrlText}
 use Rattle.objects.proofs.Members.{put_all, first_there, IsJsonIfThere}
 use Rattle.objects.proofs.ReadJson.{text_octets, required_octets}
 use Rattle.objects.proofs.Spelling.{name_is_json, text_found, required_found, required_entry}
-use Rattle.objects.proofs.TextOctets.{text_is}
 
 -- ---- as a member of a JSON text
 
@@ -60,7 +59,7 @@ no_text (c ∷ text) h = cc h
 -- The part of a compact text is what remains of the text of the content that is read.
 pub part_is : (detached : Option (List ℕ)) (part text content : List ℕ) → IsOctets part → content_by detached part ≡ Ok text → decoded text ≡ Ok content
     → part ≡ kept (is_some detached) (base64url content)
-part_is None part text content is h decodes = text_is part content is (ap decoded (same_answer part text h) ∙ decodes)
+part_is None part text content is h decodes = text_of_meaning part content is (ap decoded (same_answer part text h) ∙ decodes)
 part_is (Some handed) part text content is h decodes =
     let a = steps (needs (not (has_text part)) Form) _ text h in
     no_text part (passed _ Form a.0 a.1)
@@ -76,7 +75,8 @@ text_means_octets : (content : List ℕ) → IsOctets content → MeansOctets (b
 text_means_octets content is octets decodes = subst IsOctets (same_answer content octets (sym (decodes_exactly.round_trip content is) ∙ decodes)) is
 
 -- The text that is read from a part decodes to octets.
-pub part_octets : (detached : Option (List ℕ)) (part text : List ℕ) → AreOctetsHandedIn detached → IsOctets part → content_by detached part ≡ Ok text → MeansOctets text
+pub part_octets : (detached : Option (List ℕ)) (part text : List ℕ) → AreOctetsHandedIn detached → IsOctets part
+    → content_by detached part ≡ Ok text → MeansOctets text
 part_octets None part text handed is h = subst MeansOctets (same_answer part text h) (λ octets decodes. octets_of_meaning part octets is decodes)
 part_octets (Some content) part text handed is h =
     let a = steps (needs (not (has_text part)) Form) _ text h in

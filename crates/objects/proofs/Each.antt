@@ -31,7 +31,8 @@ pub with_one_refused : {X Y : Type 0} (read : X → Result Y Refusal) (done : Li
 with_one_refused read done x rest e is = rw is refl
 
 -- One more element is read, in lists that are views of others.
-pub one_more : {A B X Y : Type 0} (read : X → Result Y Refusal) (given : A → X) (made : B → Y) (all : Result (List Y) Refusal) (done all_done : List B) (a : A) (left rest : List A) (b : B)
+pub one_more : {A B X Y : Type 0} (read : X → Result Y Refusal) (given : A → X) (made : B → Y) (all : Result (List Y) Refusal) (done all_done : List B) (a : A)
+    (left rest : List A) (b : B)
     → all ≡ with_done read (map made done) (map given left) → left ≡ a ∷ rest → read (given a) ≡ Ok (made b) → all_done ≡ done ++ b ∷ []
     → all ≡ with_done read (map made all_done) (map given rest)
 one_more read given made all done all_done a left rest b so_far is reads more =
@@ -55,7 +56,8 @@ as_many read (x ∷ xs) ys h = many_by (read x) (each read xs) h (as_many read x
     many_by (Err r) others h later = cc h
 
 -- For views of lists, too, there are as many results as elements.
-pub as_many_views : {A B X Y : Type 0} (read : X → Result Y Refusal) (given : A → X) (made : B → Y) (xs : List A) (ys : List B) → each read (map given xs) ≡ Ok (map made ys) → length ys ≡ length xs
+pub as_many_views : {A B X Y : Type 0} (read : X → Result Y Refusal) (given : A → X) (made : B → Y) (xs : List A) (ys : List B)
+    → each read (map given xs) ≡ Ok (map made ys) → length ys ≡ length xs
 as_many_views read given made xs ys h = sym (length-map ys made) ∙ as_many read (map given xs) (map made ys) h ∙ length-map xs given
 
 -- If no element is left, there are as many results as elements.

@@ -34,12 +34,14 @@ all_both both [] p q = tt
 all_both both (x ∷ xs) p q = (both x p.0 q.0, all_both both xs p.1 q.1)
 
 -- If P of an element implies Q of its image, and P holds of each element, Q holds of each image.
-pub all_images : {X Y : Type 0} {P : X → Type 0} (Q : Y → Type 0) (image : X → Y) → ((x : X) → P x → Q (image x)) → (xs : List X) → AllByRecursion P xs → AllByRecursion Q (map image xs)
+pub all_images : {X Y : Type 0} {P : X → Type 0} (Q : Y → Type 0) (image : X → Y) → ((x : X) → P x → Q (image x)) → (xs : List X) → AllByRecursion P xs
+    → AllByRecursion Q (map image xs)
 all_images Q image holds [] p = tt
 all_images Q image holds (x ∷ xs) p = (holds x p.0, all_images Q image holds xs p.1)
 
 -- If P of an image implies a test of the element, and P holds of each image, all elements pass the test.
-pub images_pass : {X Y : Type 0} (P : Y → Type 0) (image : X → Y) (test : X → Bool) → ((x : X) → P (image x) → test x ≡ true) → (xs : List X) → AllByRecursion P (map image xs) → list_all test xs ≡ true
+pub images_pass : {X Y : Type 0} (P : Y → Type 0) (image : X → Y) (test : X → Bool) → ((x : X) → P (image x) → test x ≡ true) → (xs : List X)
+    → AllByRecursion P (map image xs) → list_all test xs ≡ true
 images_pass P image test one [] all = refl
 images_pass P image test one (x ∷ xs) all = and_from (test x) (list_all test xs) (one x all.0) (images_pass P image test one xs all.1)
 
@@ -53,7 +55,8 @@ bounded f (x ∷ xs) =
 -- ---- the results of reading
 
 -- If a list is read, its first element was read, and then the others.
-pub first_and_others : {Y : Type 0} (first : Result Y Refusal) (others : Result (List Y) Refusal) (ys : List Y) → (first >>= λ y. others >>= λ rest. Ok (y ∷ rest)) ≡ Ok ys
+pub first_and_others : {Y : Type 0} (first : Result Y Refusal) (others : Result (List Y) Refusal) (ys : List Y)
+    → (first >>= λ y. others >>= λ rest. Ok (y ∷ rest)) ≡ Ok ys
     → (y : Y) × (rest : List Y) × (first ≡ Ok y) × (others ≡ Ok rest) × (y ∷ rest ≡ ys)
 first_and_others first others ys h =
     let a = steps first (λ y. others >>= λ rest. Ok (y ∷ rest)) ys h in
@@ -77,7 +80,8 @@ each_all read holds (x ∷ xs) ys h all =
     (holds x a.0 all.0 a.2, each_all read holds xs a.1 a.3 all.1)
 
 -- If the image of each element with P is read the same as the element, the images of a list are read the same as the list.
-pub each_alike : {X Y Z : Type 0} {P : X → Type 0} (read : X → Result Z Refusal) (other : Y → Result Z Refusal) (given : X → Y) → ((x : X) → P x → other (given x) ≡ read x)
+pub each_alike : {X Y Z : Type 0} {P : X → Type 0} (read : X → Result Z Refusal) (other : Y → Result Z Refusal) (given : X → Y)
+    → ((x : X) → P x → other (given x) ≡ read x)
     → (xs : List X) → AllByRecursion P xs → each other (map given xs) ≡ each read xs
 each_alike read other given alike [] all = refl
 each_alike read other given alike (x ∷ xs) all = rw (alike x all.0, each_alike read other given alike xs all.1) refl
@@ -96,7 +100,8 @@ all_read P Q read one (x ∷ xs) ys all h =
     subst (AllByRecursion Q) a.4 (one x a.0 all.0 a.2, all_read P Q read one xs a.1 all.1 a.3)
 
 -- If an element can be read again from its result, a list can be read again from its results.
-pub read_again : {X Y Z : Type 0} (read : X → Result Y Refusal) (keep : Y → Z) (again : Z → Result Y Refusal) → ((x : X) (y : Y) → read x ≡ Ok y → again (keep y) ≡ Ok y)
+pub read_again : {X Y Z : Type 0} (read : X → Result Y Refusal) (keep : Y → Z) (again : Z → Result Y Refusal)
+    → ((x : X) (y : Y) → read x ≡ Ok y → again (keep y) ≡ Ok y)
     → (xs : List X) (ys : List Y) → each read xs ≡ Ok ys → each again (map keep ys) ≡ Ok ys
 read_again read keep again one [] ys h = subst (λ l. each again (map keep l) ≡ Ok l) (same_answer [] ys h) refl
 read_again read keep again one (x ∷ xs) ys h =
@@ -125,7 +130,8 @@ as_many_items read (item d rest) ys h =
     ap length (sym a.4) ∙ ap suc (as_many_items read rest a.1 a.3)
 
 -- If Q holds of the result of reading any JSON value at most n deep, it holds of each result.
-pub all_items_read : {Y : Type 0} (Q : Y → Type 0) (n : ℕ) (read : Data → Result Y Refusal) → ((d : Data) (y : Y) → IsJson d → depth d ≤ n → read d ≡ Ok y → Q y)
+pub all_items_read : {Y : Type 0} (Q : Y → Type 0) (n : ℕ) (read : Data → Result Y Refusal)
+    → ((d : Data) (y : Y) → IsJson d → depth d ≤ n → read d ≡ Ok y → Q y)
     → (items : Items) (ys : List Y) → AreJsonItems items → items_depth items ≤ n → each_item read items ≡ Ok ys → AllByRecursion Q ys
 all_items_read Q n read one no_items ys json shallow h = subst (AllByRecursion Q) (same_answer [] ys h) tt
 all_items_read Q n read one (item d rest) ys json shallow h =

@@ -8,19 +8,18 @@ use Rattle.octets.specs.Octets.{IsOctets}
 use Rattle.octets.specs.Outcomes.{◌>>=◌, needs}
 use Rattle.keys.specs.Limits.{Limits, are_few}
 use Rattle.serde_json.specs.Data.{no_members}
-use Rattle.objects.specs.Jws.{signature_parts_of, EncodedSignature, EncodedJws, SignatureParts, DecodedSignature, SignedObject, encoded_in_compact, encoded_jws, decoded_signature, decoded_object, jws_of, compact_parts, jws_compact_text, CompactTextsAreExact}
+use Rattle.objects.specs.Jws.{signature_parts_of, SignatureParts, JwsParts, DecodedSignature, SignedObject, encoded_in_compact, encoded_jws, decoded_signature, decoded_object, jws_of, compact_parts, jws_compact_text, CompactTextsAreExact}
 use Rattle.objects.specs.Texts.{each, three_parts, content_by, AreOctetsHandedIn, depth_of_each, kept}
 use Rattle.objects.proofs.DetachedContent.{part_is}
 use Rattle.objects.proofs.EachRead.{one_read, one_kept}
-use Rattle.objects.proofs.Joined.{joined_of_three, three_octets, line_octets}
+use Rattle.objects.proofs.Joined.{joined_of_three, three_octets}
 use Rattle.objects.proofs.MadeJws.{IsSignature, compact_are, signature_spelled}
 use Rattle.objects.proofs.MadeOf.{signed_is}
-use Rattle.octets.proofs.Lemmas.{steps, same_answer}
-use Rattle.objects.proofs.TextOctets.{text_is}
+use Rattle.octets.proofs.Lemmas.{steps, same_answer, IsOctets-without_line_end, text_of_meaning}
 
 -- the texts of a compact text: one signature without an unprotected header, and the part from which the payload is read
-pub record IsCompact (detached : Option (List ℕ)) (text : List ℕ) (t : EncodedJws) : Type 0 where
-  pub signature : EncodedSignature
+pub record IsCompact (detached : Option (List ℕ)) (text : List ℕ) (t : JwsParts) : Type 0 where
+  pub signature : SignatureParts
   pub alone : t.signatures ≡ signature ∷ []
   pub header : signature.header ≡ no_members
   pub part : List ℕ
@@ -28,7 +27,8 @@ pub record IsCompact (detached : Option (List ℕ)) (text : List ℕ) (t : Encod
   pub payload : content_by detached part ≡ Ok t.payload
   pub between_dots : text ≡ signature.protected ++ 46 ∷ (part ++ 46 ∷ signature.signature)
 
-texts_of_compact : (detached : Option (List ℕ)) (text : List ℕ) (t : EncodedJws) → IsOctets text → encoded_in_compact detached text ≡ Ok t → IsCompact detached text t
+texts_of_compact : (detached : Option (List ℕ)) (text : List ℕ) (t : JwsParts) → IsOctets text → encoded_in_compact detached text ≡ Ok t
+    → IsCompact detached text t
 unfolding encoded_in_compact
 texts_of_compact detached text t octets h =
     let a = steps (three_parts text) _ t h in
@@ -45,13 +45,13 @@ texts_of_compact detached text t octets h =
     })
 
 -- the object has the payload and the signatures that its texts spell
-pub record IsSpelled (t : EncodedJws) (o : SignedObject) : Type 0 where
+pub record IsSpelled (t : JwsParts) (o : SignedObject) : Type 0 where
   pub payload : decoded t.payload ≡ Ok o.payload
   pub decoded_signatures : List DecodedSignature
   pub decodes : each decoded_signature t.signatures ≡ Ok decoded_signatures
   pub signatures : map signature_parts_of o.signatures ≡ map (λ (s : DecodedSignature). s.parts) decoded_signatures
 
-object_spelled : (limits : Limits) (t : EncodedJws) (o : SignedObject) → decoded_object limits t ≡ Ok o → IsSpelled t o
+object_spelled : (limits : Limits) (t : JwsParts) (o : SignedObject) → decoded_object limits t ≡ Ok o → IsSpelled t o
 unfolding decoded_object
 object_spelled limits t o h =
     let a = steps (needs (are_few limits (length t.signatures)) Limit) _ o h in
@@ -71,10 +71,11 @@ compact_text_is detach o s alone header =
     (ap Ok (ap (λ s. compact_parts detach o.payload (s ∷ [])) one.2))
 
 -- The parts with dots between them are this text.
-joined_is : (a b c part : List ℕ) (s : SignatureParts) → s.protected ≡ a → b ≡ part → c ≡ base64url s.signature → s.protected ++ 46 ∷ (part ++ 46 ∷ base64url s.signature) ≡ a ++ 46 ∷ (b ++ 46 ∷ c)
+joined_is : (a b c part : List ℕ) (s : SignatureParts) → s.protected ≡ a → b ≡ part → c ≡ base64url s.signature
+    → s.protected ++ 46 ∷ (part ++ 46 ∷ base64url s.signature) ≡ a ++ 46 ∷ (b ++ 46 ∷ c)
 joined_is a b c part s protected same signature = rw (protected, same, signature) refl
 
-exact : (limits : Limits) (detached : Option (List ℕ)) (line : List ℕ) (t : EncodedJws) (o : SignedObject) → AreOctetsHandedIn detached → IsOctets line
+exact : (limits : Limits) (detached : Option (List ℕ)) (line : List ℕ) (t : JwsParts) (o : SignedObject) → AreOctetsHandedIn detached → IsOctets line
     → encoded_in_compact detached line ≡ Ok t → decoded_object limits t ≡ Ok o → jws_compact_text (is_some detached) o ≡ Ok line
 exact limits detached line t o handed octets split h =
     let is = texts_of_compact detached line t octets split in
@@ -84,9 +85,10 @@ exact limits detached line t o handed octets split h =
     let s = signature_spelled is.signature one.0 one.1 in
     let texts = subst (AllByRecursion (IsSignature (depth_of_each (length t.signatures)))) is.alone are.signatures in
     let part = part_is detached is.part t.payload o.payload is.octets is.payload spelled.payload in
-    let signature = text_is is.signature.signature one.0.parts.signature texts.0.signature s.signature in
+    let signature = text_of_meaning is.signature.signature one.0.parts.signature texts.0.signature s.signature in
     compact_text_is (is_some detached) o one.0.parts (spelled.signatures ∙ ap (map (λ (s : DecodedSignature). s.parts)) one.2) (s.header ∙ is.header)
-    ∙ ap Ok (joined_is is.signature.protected is.part is.signature.signature (kept (is_some detached) (base64url o.payload)) one.0.parts s.protected part signature ∙ sym is.between_dots)
+    ∙ ap Ok (joined_is is.signature.protected is.part is.signature.signature (kept (is_some detached) (base64url o.payload)) one.0.parts s.protected part
+    signature ∙ sym is.between_dots)
 
 pub compact_texts_are_exact : CompactTextsAreExact
 unfolding jws_of encoded_jws
@@ -94,4 +96,4 @@ compact_texts_are_exact limits detached text o handed octets form h =
     let line : List ℕ = without_line_end text in
     let read : (encoded_in_compact detached line >>= decoded_object limits) ≡ Ok o = rw form at h in
     let a = steps (encoded_in_compact detached line) (decoded_object limits) o read in
-    exact limits detached line a.0 o handed (line_octets text octets) a.1 a.2
+    exact limits detached line a.0 o handed (IsOctets-without_line_end text octets) a.1 a.2

@@ -10,7 +10,8 @@ use Rattle.serde_json.proofs.Views.{Entry, view-Object}
 use Rattle.objects.specs.Texts.{has_members}
 
 -- A copy of the entries represents the same members.
-pub copied_members : (entries copies : List Entry) → AllZip (λ (p q : Entry). (string_bytes q.0 ≡ string_bytes p.0) × (view q.1 ≡ view p.1)) entries copies → members_view copies ≡ members_view entries
+pub copied_members : (entries copies : List Entry) → AllZip (λ (p q : Entry). (string_bytes q.0 ≡ string_bytes p.0) × (view q.1 ≡ view p.1)) entries copies
+    → members_view copies ≡ members_view entries
 copied_members [] [] h = refl
 copied_members [] (copy ∷ copies) h = absurd h
 copied_members (entry ∷ entries) [] h = absurd h

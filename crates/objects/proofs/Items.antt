@@ -21,13 +21,15 @@ each_view : {Y : Type 0} (read : Data → Result Y Refusal) (values : List Value
 each_view read [] = refl
 each_view read (v ∷ values) = ap (λ rest. read (view v) >>= λ first. rest >>= λ others. Ok (first ∷ others)) (each_view read values)
 
-pub with_no_item_done : {Y : Type 0} (read : Data → Result Y Refusal) (values : List Value) → each_item read (items_view values) ≡ with_done read [] (map view values)
+pub with_no_item_done : {Y : Type 0} (read : Data → Result Y Refusal) (values : List Value)
+    → each_item read (items_view values) ≡ with_done read [] (map view values)
 with_no_item_done read values = each_view read values ∙ with_none_done read (map view values)
 
 -- ---- values without floats
 
 -- If items have no float, none of the values has one.
-pub no_float_at : (values : List Value) (i : ℕ) (d : Value) → i < length values → items_have_float (items_view values) ≡ false → has_float (view (get_or values i d)) ≡ false
+pub no_float_at : (values : List Value) (i : ℕ) (d : Value) → i < length values → items_have_float (items_view values) ≡ false
+    → has_float (view (get_or values i d)) ≡ false
 no_float_at [] i d lt h = absurd (omega (arith, lt))
 no_float_at (v ∷ values) zero d lt h = (or_parts (has_float (view v)) (items_have_float (items_view values)) h).0
 no_float_at (v ∷ values) (suc i) d lt h = no_float_at values i d (omega (arith, lt)) (or_parts (has_float (view v)) (items_have_float (items_view values)) h).1

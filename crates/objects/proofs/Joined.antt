@@ -1,15 +1,14 @@
 -- A text that is split at dots is its parts with dots between them. If the text is octets, so are the parts.
-use Rattle.std.proofs.Common.{◌≡◌, ℕ, suc, ◌+◌, ◌-◌, ◌==◌, List, [], ◌∷◌, ◌++◌, length, slice_index, take, drop, Bool, true, false, cond, position, Option, Some, None, Result, Ok, is_none, refl, sym, ap, ◌∙◌, arith, add-one, subst}
-use Rattle.std.proofs.lemmas.Bool.{cond_both, eqb-true}
+use Rattle.std.proofs.Common.{◌≡◌, ℕ, suc, ◌+◌, ◌-◌, ◌==◌, List, [], ◌∷◌, ◌++◌, take, drop, Bool, true, false, cond, position, Option, Some, None, Result, Ok, is_none, refl, sym, ap, ◌∙◌, arith, add-one, subst}
+use Rattle.std.proofs.lemmas.Bool.{eqb-true}
 use Rattle.std.proofs.lemmas.Iterator.Adapters.{position_from-zero}
 use Rattle.std.specs.List.{position_from}
 use Rattle.std.specs.Option.{ok_or}
 use Rattle.octets.specs.declared.refusal.Refusal.{Refusal}
 use Rattle.octets.specs.declared.refusal.Refusal.TheVariants.{Form}
-use Rattle.octets.specs.LineEnds.{without_line_end}
 use Rattle.octets.specs.Octets.{IsOctets}
 use Rattle.octets.specs.Outcomes.{◌>>=◌, needs}
-use Rattle.octets.proofs.Lemmas.{IsOctets-take, IsOctets-front, IsOctets-back, steps, same_answer}
+use Rattle.octets.proofs.Lemmas.{IsOctets-front, IsOctets-back, steps, same_answer}
 use Rattle.objects.specs.Texts.{is_dot, split_at_dot, three_parts}
 
 -- ---- one dot
@@ -30,7 +29,8 @@ found : (xs : List ℕ) (k n : ℕ) → position_from is_dot k xs ≡ Some n →
 found [] k n h = cc h
 found (x ∷ xs) k n h = found_by (is_dot x) x xs k n refl h (found xs (k + 1) n)
 
-joined_at : (text : List ℕ) (parts : List ℕ × List ℕ) (o : Option ℕ) → position is_dot text ≡ o → (ok_or o Form >>= λ i. Ok (take i text, drop (i + 1) text)) ≡ Ok parts → text ≡ parts.0 ++ 46 ∷ parts.1
+joined_at : (text : List ℕ) (parts : List ℕ × List ℕ) (o : Option ℕ) → position is_dot text ≡ o
+    → (ok_or o Form >>= λ i. Ok (take i text, drop (i + 1) text)) ≡ Ok parts → text ≡ parts.0 ++ 46 ∷ parts.1
 joined_at text parts None e h = cc h
 joined_at text parts (Some i) e h =
     let place = found text 0 i (sym (position_from-zero is_dot text) ∙ e) in
@@ -69,16 +69,9 @@ around_dot a b h = (IsOctets-front a (46 ∷ b) h, λ i. IsOctets-back a (46 ∷
 pub split_octets : (text : List ℕ) (parts : List ℕ × List ℕ) → IsOctets text → split_at_dot text ≡ Ok parts → IsOctets parts.0 × IsOctets parts.1
 split_octets text parts octets h = around_dot parts.0 parts.1 (subst IsOctets (joined_of_split text parts h) octets)
 
-pub three_octets : (text : List ℕ) (parts : List ℕ × List ℕ × List ℕ) → IsOctets text → three_parts text ≡ Ok parts → IsOctets parts.0 × IsOctets parts.1 × IsOctets parts.2
+pub three_octets : (text : List ℕ) (parts : List ℕ × List ℕ × List ℕ) → IsOctets text → three_parts text ≡ Ok parts
+    → IsOctets parts.0 × IsOctets parts.1 × IsOctets parts.2
 three_octets text parts octets h =
     let first = around_dot parts.0 (parts.1 ++ 46 ∷ parts.2) (subst IsOctets (joined_of_three text parts h) octets) in
     let others = around_dot parts.1 parts.2 first.1 in
     (first.0, others.0, others.1)
-
--- Octets without their line end are octets.
-pub line_octets : (text : List ℕ) → IsOctets text → IsOctets (without_line_end text)
-unfolding without_line_end
-line_octets text octets =
-    cond_both (slice_index text (length text - 1) == 10) _ _ IsOctets
-    (λ _. cond_both (slice_index text (length text - 2) == 13) _ _ IsOctets (λ _. IsOctets-take (length text - 2) text octets) (λ _. IsOctets-take (length text - 1) text octets))
-    (λ _. octets)

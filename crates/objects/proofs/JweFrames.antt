@@ -16,25 +16,30 @@ use Rattle.octets.proofs.Lemmas.{IsOctets-nil, first_or, decoded-nil, steps, pas
 
 -- ---- the members
 
-recipient_fills : (r : RecipientParts) (w : Written) (values : List (List ℕ)) (v : Written) → Fills w values v → Fills (with_recipient r w) values (with_recipient r v)
+recipient_fills : (r : RecipientParts) (w : Written) (values : List (List ℕ)) (v : Written) → Fills w values v
+    → Fills (with_recipient r w) values (with_recipient r v)
 recipient_fills r w values v f = fills_header (codes "header") r.header _ values _ (fills_text (codes "encrypted_key") (base64url r.encrypted_key) w values v f)
 
-items_fill : (rs : List RecipientParts) (w : Written) (values : List (List ℕ)) (v : Written) → Fills w values v → Fills (with_items with_recipient rs w) values (with_items with_recipient rs v)
+items_fill : (rs : List RecipientParts) (w : Written) (values : List (List ℕ)) (v : Written) → Fills w values v
+    → Fills (with_items with_recipient rs w) values (with_items with_recipient rs v)
 items_fill [] w values v f = f
 items_fill (r ∷ rs) w values v f =
     let start = fills_opened (codes "{") _ values _ (fills_separated w values v f) in
     items_fill rs _ values _ (fills_closed (codes "}") _ values _ (recipient_fills r _ values _ start))
 
-flattened_fills : (rs : List RecipientParts) (w : Written) (values : List (List ℕ)) (v : Written) → Fills w values v → Fills (with_flattened rs w) values (with_flattened rs v)
+flattened_fills : (rs : List RecipientParts) (w : Written) (values : List (List ℕ)) (v : Written) → Fills w values v
+    → Fills (with_flattened rs w) values (with_flattened rs v)
 flattened_fills [] w values v f = f
 flattened_fills (r ∷ []) w values v f = recipient_fills r w values v f
 flattened_fills (r ∷ (other ∷ rest)) w values v f = f
 
-general_fills : (rs : List RecipientParts) (w : Written) (values : List (List ℕ)) (v : Written) → Fills w values v → Fills (with_general rs w) values (with_general rs v)
+general_fills : (rs : List RecipientParts) (w : Written) (values : List (List ℕ)) (v : Written) → Fills w values v
+    → Fills (with_general rs w) values (with_general rs v)
 general_fills [] w values v f = fills_closed (codes "]") _ values _ (fills_opened (codes "[") _ values _ (fills_named (codes "recipients") w values v f))
 general_fills (r ∷ []) w values v f = f
 general_fills (r ∷ (other ∷ rest)) w values v f =
-    fills_closed (codes "]") _ values _ (items_fill (r ∷ (other ∷ rest)) _ values _ (fills_opened (codes "[") _ values _ (fills_named (codes "recipients") w values v f)))
+    fills_closed (codes "]") _ values _ (items_fill (r ∷ (other ∷ rest)) _ values _
+    (fills_opened (codes "[") _ values _ (fills_named (codes "recipients") w values v f)))
 
 -- The text of octets is not empty, if there are any.
 some_text : (octets : List ℕ) → IsOctets octets → nat_le 1 (length octets) ≡ true → (c : ℕ) × ((rest : List ℕ) × (base64url octets ≡ c ∷ rest))
@@ -74,9 +79,11 @@ tag_fills own tag w values v is some f =
     let both : List (List ℕ) = values ++ base64url tag ∷ [] in
     let text = some_text tag is some in
     let value : with_text (codes "tag") (base64url tag) v ≡ place_by false (codes "tag") tag v = rw text.1.1 refl in
-    let placed = subst (λ b. Fills (with_place (codes "tag") own w) both (place_by b (codes "tag") tag v)) f.whole (fills_place (codes "tag") own tag w values v is f) in
+    let placed = subst (λ b. Fills (with_place (codes "tag") own w) both (place_by b (codes "tag") tag v)) f.whole
+    (fills_place (codes "tag") own tag w values v is f) in
     subst (λ b. Fills (tag_by b own w) both (with_tag tag v)) (sym f.leaves)
-    (subst (λ b. Fills (with_place (codes "tag") own w) both (tag_by b tag v)) (sym f.whole) (subst (Fills (with_place (codes "tag") own w) both) (sym value) placed))
+    (subst (λ b. Fills (with_place (codes "tag") own w) both (tag_by b tag v)) (sym f.whole)
+    (subst (Fills (with_place (codes "tag") own w) both) (sym value) placed))
 
 -- ---- in either form
 
@@ -92,15 +99,18 @@ same_fit o ciphertext tag [] = refl
 same_fit o ciphertext tag (r ∷ []) = refl
 same_fit o ciphertext tag (r ∷ (other ∷ rest)) = refl
 
-compact_fills : (detach : Bool) (o : EncryptedObject) (ciphertext tag : List ℕ) → Fills (with_compact (inside detach o.ciphertext) (parts_of o) (nothing_written true))
-    (in_places detach ciphertext [] ++ base64url tag ∷ []) (with_compact (inside detach ciphertext) (parts_of (sealed_with o ciphertext tag)) (nothing_written false))
+compact_fills : (detach : Bool) (o : EncryptedObject) (ciphertext tag : List ℕ)
+    → Fills (with_compact (inside detach o.ciphertext) (parts_of o) (nothing_written true))
+    (in_places detach ciphertext [] ++ base64url tag ∷ [])
+    (with_compact (inside detach ciphertext) (parts_of (sealed_with o ciphertext tag)) (nothing_written false))
 compact_fills detach o ciphertext tag =
     let key = fills_part (key_of_first (parts_of o).recipients) _ [] _ (fills_pushed o.protected _ [] _ fills_nothing) in
     let content = fills_content_part detach o.ciphertext ciphertext _ _ (fills_part o.iv _ [] _ key) in
     fills_place_part o.tag tag _ (in_places detach ciphertext []) _ content
 
 json_fills : (detach : Bool) (o : EncryptedObject) (ciphertext tag : List ℕ) → IsOctets ciphertext → IsOctets tag → nat_le 1 (length tag) ≡ true
-    → Fills (jwe_json true detach (parts_of o)) (in_places detach ciphertext [] ++ base64url tag ∷ []) (jwe_json false detach (parts_of (sealed_with o ciphertext tag)))
+    → Fills (jwe_json true detach (parts_of o)) (in_places detach ciphertext [] ++ base64url tag ∷ [])
+    (jwe_json false detach (parts_of (sealed_with o ciphertext tag)))
 json_fills detach o ciphertext tag is tagged some =
     let rs : List RecipientParts = (parts_of o).recipients in
     let first : List (List ℕ) = in_places detach ciphertext [] in
@@ -111,7 +121,8 @@ json_fills detach o ciphertext tag is tagged some =
     let general = general_fills rs _ first _ (fills_text (codes "protected") o.protected _ first _ iv) in
     fills_closed (codes "}") _ both _ (fills_header (codes "unprotected") o.unprotected _ both _ (tag_fills o.tag tag _ first _ tagged some general))
 
-round : (compact detach : Bool) (o : EncryptedObject) (w : Written) → jwe_written true compact detach o ≡ Ok w → (ciphertext tag : List ℕ) → IsOctets ciphertext → IsOctets tag
+round : (compact detach : Bool) (o : EncryptedObject) (w : Written) → jwe_written true compact detach o ≡ Ok w → (ciphertext tag : List ℕ)
+    → IsOctets ciphertext → IsOctets tag
     → nat_le 1 (length tag) ≡ true → IsRound compact detach o w ciphertext tag
 round true detach o w h ciphertext tag octets tagged some =
     let fits = steps (needs (is_compact o o.recipients) NotCompact) _ w h in
@@ -124,7 +135,11 @@ round true detach o w h ciphertext tag octets tagged some =
     })
 round false detach o w h ciphertext tag octets tagged some =
     subst (λ w. IsRound false detach o w ciphertext tag) (same_answer _ w h)
-    (record { whole = jwe_json false detach (parts_of (sealed_with o ciphertext tag)); written = refl; fills = json_fills detach o ciphertext tag octets tagged some })
+    (record {
+      whole = jwe_json false detach (parts_of (sealed_with o ciphertext tag));
+      written = refl;
+      fills = json_fills detach o ciphertext tag octets tagged some;
+    })
 
 -- The texts of the object are a frame for a ciphertext and a tag.
 texts_are : (compact detach : Bool) (o : EncryptedObject) (w : Written) → jwe_written true compact detach o ≡ Ok w → IsJweFrame compact detach o (all_texts w)
@@ -132,7 +147,8 @@ texts_are compact detach o w h = record {
   places = let r = round compact detach o w h [] (0 ∷ []) IsOctets-nil zero_octet refl in places_count w _ r.whole r.fills ∙ count detach;
   filled = λ ciphertext tag is tagged some.
       let r = round compact detach o w h ciphertext tag is tagged some in
-      let text = is_filled w (in_places detach ciphertext (tag ∷ [])) r.whole (subst (λ values. Fills w values r.whole) (places_are detach ciphertext (tag ∷ [])) r.fills) in
+      let text = is_filled w (in_places detach ciphertext (tag ∷ [])) r.whole
+      (subst (λ values. Fills w values r.whole) (places_are detach ciphertext (tag ∷ [])) r.fills) in
       jwe_whole compact detach (sealed_with o ciphertext tag) r.whole r.written ∙ ap Ok (sym text);
 }
   where
@@ -143,7 +159,8 @@ texts_are compact detach o w h = record {
     count true = refl
     count false = refl
 
-pub is_jwe_frame : (compact detach : Bool) (o : EncryptedObject) (texts : List (List ℕ)) → jwe_frame compact detach o ≡ Ok texts → IsJweFrame compact detach o texts
+pub is_jwe_frame : (compact detach : Bool) (o : EncryptedObject) (texts : List (List ℕ)) → jwe_frame compact detach o ≡ Ok texts
+    → IsJweFrame compact detach o texts
 is_jwe_frame compact detach o texts h =
     let w = steps (jwe_written true compact detach o) _ texts h in
     subst (IsJweFrame compact detach o) (same_answer _ texts w.2) (texts_are compact detach o w.0 w.1)

@@ -43,10 +43,12 @@ middle_members p rs = (codes "iv", text_there (base64url p.iv)) ∷ (codes "prot
 
 abbrev in_order : Bool → JweParts → List RecipientParts → Entries
 in_order detach p rs =
-    (codes "aad", text_there (base64url p.aad)) ∷ (codes "ciphertext", content_there detach (base64url p.ciphertext)) ∷ flattened_before rs (middle_members p rs)
+    (codes "aad", text_there (base64url p.aad)) ∷ (codes "ciphertext", content_there detach (base64url p.ciphertext))
+    ∷ flattened_before rs (middle_members p rs)
 
 -- The members are in this order in either form.
-in_order_is : (detach : Bool) (p : JweParts) (rs : List RecipientParts) → in_order detach p rs ≡ jwe_members (content_there detach (base64url p.ciphertext)) p rs
+in_order_is : (detach : Bool) (p : JweParts) (rs : List RecipientParts)
+    → in_order detach p rs ≡ jwe_members (content_there detach (base64url p.ciphertext)) p rs
 in_order_is detach p [] = refl
 in_order_is detach p (r ∷ []) = refl
 in_order_is detach p (r ∷ (other ∷ rest)) = refl
@@ -55,20 +57,23 @@ same_members : (r : RecipientParts) → put_all (recipient_entries (recipient_sp
 same_members r = put_sorted (recipient_entries (recipient_spelled r)) refl
 
 members_sorted : (detach : Bool) (p : JweParts) (rs : List RecipientParts)
-    → put_all (own_entries detach (parts_spelled p) ++ each_entries (codes "recipients") recipient_entries (map recipient_spelled rs)) ≡ present (in_order detach p rs)
+    → put_all (own_entries detach (parts_spelled p) ++ each_entries (codes "recipients") recipient_entries (map recipient_spelled rs))
+    ≡ present (in_order detach p rs)
 members_sorted detach p [] = put_sorted (own_entries detach (parts_spelled p) ++ each_entries (codes "recipients") recipient_entries []) refl
 members_sorted detach p (r ∷ []) = put_sorted (own_entries detach (parts_spelled p) ++ recipient_entries (recipient_spelled r)) refl
 members_sorted detach p (r ∷ (other ∷ rest)) =
     let rs : List RecipientParts = r ∷ (other ∷ rest) in
     put_sorted (own_entries detach (parts_spelled p) ++ each_entries (codes "recipients") recipient_entries (map recipient_spelled rs)) refl
-    ∙ ap (λ (items : Items). present ((codes "aad", text_there (base64url p.aad)) ∷ (codes "ciphertext", content_there detach (base64url p.ciphertext)) ∷ (codes "iv", text_there (base64url p.iv))
+    ∙ ap (λ (items : Items). present ((codes "aad", text_there (base64url p.aad)) ∷ (codes "ciphertext", content_there detach (base64url p.ciphertext))
+    ∷ (codes "iv", text_there (base64url p.iv))
     ∷ (codes "protected", text_there p.protected) ∷ (codes "recipients", Some (array items)) ∷ last_members p))
     (listed_is recipient_entries recipient_spelled recipient_members same_members rs)
 
 -- ---- recipients
 
 recipient_begins : (r : RecipientParts) (later : Entries) (tail : List ℕ) (w : Written) (all : List ℕ)
-    → Begins w (members_text w.later (present ((codes "encrypted_key", text_there (base64url r.encrypted_key)) ∷ (codes "header", header_there r.header) ∷ later)) ++ tail) all
+    → Begins w (members_text w.later (present ((codes "encrypted_key", text_there (base64url r.encrypted_key))
+    ∷ (codes "header", header_there r.header) ∷ later)) ++ tail) all
     → Begins (with_recipient r w) (members_text (with_recipient r w).later (present later) ++ tail) all
 recipient_begins r later tail w all b =
     let key = begins_text (codes "encrypted_key") (base64url r.encrypted_key) (present ((codes "header", header_there r.header) ∷ later)) tail w all refl b in
@@ -78,13 +83,15 @@ each_begins : WritesEach with_recipient recipient_members
 each_begins r tail w all b = recipient_begins r [] tail w all b
 
 flattened_begins : (rs : List RecipientParts) (later : Entries) (tail : List ℕ) (w : Written) (all : List ℕ)
-    → Begins w (members_text w.later (present (flattened_before rs later)) ++ tail) all → Begins (with_flattened rs w) (members_text (with_flattened rs w).later (present later) ++ tail) all
+    → Begins w (members_text w.later (present (flattened_before rs later)) ++ tail) all
+    → Begins (with_flattened rs w) (members_text (with_flattened rs w).later (present later) ++ tail) all
 flattened_begins [] later tail w all b = b
 flattened_begins (r ∷ []) later tail w all b = recipient_begins r later tail w all b
 flattened_begins (r ∷ (other ∷ rest)) later tail w all b = b
 
 general_begins : (rs : List RecipientParts) (later : Entries) (tail : List ℕ) (w : Written) (all : List ℕ)
-    → Begins w (members_text w.later (present (general_before rs later)) ++ tail) all → Begins (with_general rs w) (members_text (with_general rs w).later (present later) ++ tail) all
+    → Begins w (members_text w.later (present (general_before rs later)) ++ tail) all
+    → Begins (with_general rs w) (members_text (with_general rs w).later (present later) ++ tail) all
 general_begins [] later tail w all b = begins_list (codes "recipients") with_recipient recipient_members [] each_begins (present later) tail w all refl b
 general_begins (r ∷ []) later tail w all b = b
 general_begins (r ∷ (other ∷ rest)) later tail w all b =
@@ -110,7 +117,8 @@ json_is_written detach p =
     let last : Entries = (codes "unprotected", header_there p.unprotected) ∷ [] in
     let protected_later : Entries = (codes "protected", text_there p.protected) ∷ general_before p.recipients (last_members p) in
     let flattened_later : Entries = flattened_before p.recipients (middle_members p p.recipients) in
-    let aad = begins_text (codes "aad") (base64url p.aad) (present ((codes "ciphertext", content_there detach (base64url p.ciphertext)) ∷ flattened_later)) [] _ all refl (begins_object (present es)) in
+    let aad = begins_text (codes "aad") (base64url p.aad) (present ((codes "ciphertext", content_there detach (base64url p.ciphertext)) ∷ flattened_later)) [] _
+    all refl (begins_object (present es)) in
     let ciphertext = begins_content (codes "ciphertext") detach p.ciphertext (present flattened_later) [] _ all refl aad in
     let flattened = flattened_begins p.recipients (middle_members p p.recipients) [] _ all ciphertext in
     let iv = begins_text (codes "iv") (base64url p.iv) (present protected_later) [] _ all refl flattened in
@@ -121,10 +129,12 @@ json_is_written detach p =
     ∙ ap (λ es. compact_text (object (present es))) (in_order_is detach p p.recipients)
 
 -- The text of the members does not depend on the order in which they are inserted.
-pub members_are_written : (detach : Bool) (parts : JweParts) → jwe.members_text detach parts ≡ compact_text (object (put_all (entries detach (parts_spelled parts))))
+pub members_are_written : (detach : Bool) (parts : JweParts)
+    → jwe.members_text detach parts ≡ compact_text (object (put_all (entries detach (parts_spelled parts))))
 unfolding jwe.members_text
 members_are_written detach p =
-    ap (λ es. compact_text (object (present es))) (sym (in_order_is detach p p.recipients)) ∙ ap (λ ms. compact_text (object ms)) (sym (members_sorted detach p p.recipients))
+    ap (λ es. compact_text (object (present es))) (sym (in_order_is detach p p.recipients))
+    ∙ ap (λ ms. compact_text (object ms)) (sym (members_sorted detach p p.recipients))
 
 -- ---- the compact text
 
@@ -144,7 +154,8 @@ jwe_whole true detach o w h =
 jwe_whole false detach o w h = ap Ok (sym (json_is_written detach (jwe.parts_of o)) ∙ ap (λ (w : Written). w.text) (same_answer _ w h))
 
 -- If writing is refused, the text of the object is refused with the same cause.
-pub jwe_refused : (places compact detach : Bool) (o : EncryptedObject) (e : Refusal) → jwe_written places compact detach o ≡ Err e → (e ≡ NotCompact) × (jwe_text compact detach o ≡ Err NotCompact)
+pub jwe_refused : (places compact detach : Bool) (o : EncryptedObject) (e : Refusal) → jwe_written places compact detach o ≡ Err e
+    → (e ≡ NotCompact) × (jwe_text compact detach o ≡ Err NotCompact)
 unfolding jwe_compact_text
 jwe_refused places true detach o e h = refused_alike (is_compact o o.recipients) NotCompact e _ (compact_parts detach (jwe.parts_of o)) h
 jwe_refused places false detach o e h = cc h

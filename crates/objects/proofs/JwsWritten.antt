@@ -64,7 +64,8 @@ same_members : (s : SignatureParts) → put_all (signature_entries (signature_sp
 same_members s = put_sorted (signature_entries (signature_spelled s)) refl
 
 members_sorted : (detach : Bool) (payload : List ℕ) (ss : List SignatureParts)
-    → put_all (entries detach (parts_spelled (record { payload = payload; signatures = ss }))) ≡ present (jws_members (content_there detach (base64url payload)) ss)
+    → put_all (entries detach (parts_spelled (record { payload = payload; signatures = ss })))
+    ≡ present (jws_members (content_there detach (base64url payload)) ss)
 members_sorted detach payload [] = put_sorted (entries detach (parts_spelled (record { payload = payload; signatures = [] }))) refl
 members_sorted detach payload (s ∷ []) = put_sorted (entries detach (parts_spelled (record { payload = payload; signatures = s ∷ [] }))) refl
 members_sorted detach payload (s ∷ (other ∷ rest)) =
@@ -74,13 +75,15 @@ members_sorted detach payload (s ∷ (other ∷ rest)) =
     (listed_is signature_entries signature_spelled (signature_members None) same_members ss)
 
 -- The text of the members does not depend on the order in which they are inserted.
-pub members_are_written : (detach : Bool) (parts : JwsParts) → jws.members_text detach parts ≡ compact_text (object (put_all (entries detach (parts_spelled parts))))
+pub members_are_written : (detach : Bool) (parts : JwsParts)
+    → jws.members_text detach parts ≡ compact_text (object (put_all (entries detach (parts_spelled parts))))
 unfolding jws.members_text
 members_are_written detach parts = ap (λ ms. compact_text (object ms)) (sym (members_sorted detach parts.payload parts.signatures))
 
 -- ---- the compact text
 
-compact_is : (detach : Bool) (payload : List ℕ) (ss : List SignatureParts) → (with_compact (inside detach payload) ss (nothing_written false)).text ≡ compact_parts detach payload ss
+compact_is : (detach : Bool) (payload : List ℕ) (ss : List SignatureParts)
+    → (with_compact (inside detach payload) ss (nothing_written false)).text ≡ compact_parts detach payload ss
 compact_is detach payload [] = refl
 compact_is true payload (s ∷ rest) = simp append_assoc
 compact_is false payload (s ∷ rest) = simp append_assoc
@@ -92,11 +95,13 @@ pub jws_whole : (compact detach : Bool) (o : SignedObject) (w : Written) → jws
 unfolding jws_compact_text
 jws_whole true detach o w h =
     let fits = steps (needs (is_compact o.signatures) NotCompact) _ w h in
-    rw (passed _ NotCompact fits.0 fits.1) (ap Ok (sym (compact_is detach o.payload (jws.parts_of o).signatures) ∙ ap (λ (w : Written). w.text) (same_answer _ w fits.2)))
+    rw (passed _ NotCompact fits.0 fits.1) (ap Ok (sym (compact_is detach o.payload (jws.parts_of o).signatures)
+    ∙ ap (λ (w : Written). w.text) (same_answer _ w fits.2)))
 jws_whole false detach o w h = ap Ok (sym (json_is_written detach (jws.parts_of o)) ∙ ap (λ (w : Written). w.text) (same_answer _ w h))
 
 -- If writing is refused, the text of the object is refused with the same cause.
-pub jws_refused : (places compact detach : Bool) (o : SignedObject) (e : Refusal) → jws_written places compact detach o ≡ Err e → (e ≡ NotCompact) × (jws_text compact detach o ≡ Err NotCompact)
+pub jws_refused : (places compact detach : Bool) (o : SignedObject) (e : Refusal) → jws_written places compact detach o ≡ Err e
+    → (e ≡ NotCompact) × (jws_text compact detach o ≡ Err NotCompact)
 unfolding jws_compact_text
 jws_refused places true detach o e h = refused_alike (is_compact o.signatures) NotCompact e _ (compact_parts detach o.payload (jws.parts_of o).signatures) h
 jws_refused places false detach o e h = cc h

@@ -33,7 +33,8 @@ salt_is_long header p2s h =
         ap (λ (s : List ℕ). nat_le 8 (length s)) (sym (same_answer octets.0 found.0 long.2 ∙ same)) ∙ passed _ Header long.0 long.1
 
 -- The parameters of a password that are read are valid.
-password_is : (header : Members) (m : KeyManagement) → password_management header ≡ Ok m → (p2s : List ℕ) × (p2c : ℕ) × (are_password_parameters p2s p2c ≡ true) × (Password p2s p2c ≡ m)
+password_is : (header : Members) (m : KeyManagement) → password_management header ≡ Ok m
+    → (p2s : List ℕ) × (p2c : ℕ) × (are_password_parameters p2s p2c ≡ true) × (Password p2s p2c ≡ m)
 unfolding password_management
 password_is header m h =
     let salt = steps (salt_parameter (codes "p2s") header) _ m h in
@@ -41,8 +42,12 @@ password_is header m h =
     let count = steps (number_parameter (codes "p2c") header) _ m p2s.2 in
     let p2c = steps (ok_or count.0 Header) _ m count.2 in
     let some = steps (needs (nat_le 1 p2c.0) Header) _ m p2c.2 in
-    let there : salt_parameter (codes "p2s") header ≡ Ok (Some p2s.0) = salt.1 ∙ ap Ok (is_there salt.0 Header p2s.0 p2s.1) in
-    (p2s.0, p2c.0, and_from (nat_le 8 (length p2s.0)) (nat_le 1 p2c.0) (salt_is_long header p2s.0 there) (passed _ Header some.0 some.1), same_answer _ m some.2)
+    let there : salt_parameter (codes "p2s") header ≡ Ok (Some p2s.0) = salt.1 ∙ ap Ok (is_there salt.0 Header p2s.0 p2s.1) in (
+      p2s.0,
+      p2c.0,
+      and_from (nat_le 8 (length p2s.0)) (nat_le 1 p2c.0) (salt_is_long header p2s.0 there) (passed _ Header some.0 some.1),
+      same_answer _ m some.2,
+    )
 
 gcm_is : (header : Members) (m : KeyManagement) → gcm_management header ≡ Ok m → (iv : List ℕ) × (tag : List ℕ) × (GcmKeyWrap iv tag ≡ m)
 unfolding gcm_management

@@ -1,6 +1,6 @@
 -- The lemmas of these proofs that the crates above cite.
 pub use Rattle.objects.specs.Values.{Entries}
-pub use Rattle.objects.proofs.Names.{get_member-all_members}
+pub use Rattle.objects.proofs.Names.{not_there, get_member-all_members}
 pub use Rattle.objects.proofs.Each.{with_done, as_many, reading}
 pub use Rattle.objects.proofs.EachRead.{all_passed, all_then, all_both, all_images, each_keeps}
 pub use Rattle.objects.proofs.Members.{put_if_there, first_there, IsJsonIfThere, AreJsonEntries}

@@ -15,7 +15,6 @@ pub mod CompactTexts
 pub mod ListedMembers
 pub mod MadeOf
 pub mod Spelling
-pub mod TextOctets
 pub mod ReceivedTexts
 pub mod Joined
 pub mod ReadJson
@@ -31,6 +30,7 @@ pub mod JwsFrames
 pub mod MadeJwe
 pub mod MadeJws
 pub mod BuildingJwe
+pub mod Building
 pub mod BuildingJws
 pub mod SpellingJweCompact
 pub mod SpellingJwsCompact

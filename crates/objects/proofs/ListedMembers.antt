@@ -23,7 +23,8 @@ listed entries [] = no_items
 listed entries (t ∷ ts) = item (object (put_all (entries t))) (listed entries ts)
 
 -- The list is the objects of these members, if each element has the same members.
-pub listed_is : {X T : Type 0} (entries : T → Entries) (text : X → T) (members : X → Entries) → ((x : X) → put_all (entries (text x)) ≡ present (members x)) → (xs : List X)
+pub listed_is : {X T : Type 0} (entries : T → Entries) (text : X → T) (members : X → Entries)
+    → ((x : X) → put_all (entries (text x)) ≡ present (members x)) → (xs : List X)
     → listed entries (map text xs) ≡ objects members xs
 listed_is entries text members same [] = refl
 listed_is entries text members same (x ∷ xs) = rw (same x, listed_is entries text members same xs) refl
@@ -64,7 +65,8 @@ objects_by nothing_at value None = Ok (item value no_items)
 objects_by nothing_at value (Some list) = nothing_at value >>= λ alone. object_list list
 
 -- One element and a list are read, with other members before them. One element is also read from its own object.
-pub record ReadsEach {T : Type 0} (name : List ℕ) (entries : T → Entries) (read : Data → Result T Refusal) (nothing_at : Data → Result (Unit {0}) Refusal) (front : Entries) : Type 0 where
+pub record ReadsEach {T : Type 0} (name : List ℕ) (entries : T → Entries) (read : Data → Result T Refusal) (nothing_at : Data → Result (Unit {0}) Refusal)
+    (front : Entries) : Type 0 where
   pub has_no_list : (t : T) → get name (object (put_all (front ++ entries t))) ≡ None
   pub beside : (t : T) → read (object (put_all (front ++ entries t))) ≡ Ok t
   pub alone : (t : T) → read (object (put_all (entries t))) ≡ Ok t
@@ -72,7 +74,8 @@ pub record ReadsEach {T : Type 0} (name : List ℕ) (entries : T → Entries) (r
   pub nothing : (list : Data) → nothing_at (object (put_all (front ++ (name, Some list) ∷ []))) ≡ Ok tt
 
 -- All elements are read.
-pub each_read : {T : Type 0} (name : List ℕ) (entries : T → Entries) (read : Data → Result T Refusal) (nothing_at : Data → Result (Unit {0}) Refusal) (front : Entries)
+pub each_read : {T : Type 0} (name : List ℕ) (entries : T → Entries) (read : Data → Result T Refusal)
+    (nothing_at : Data → Result (Unit {0}) Refusal) (front : Entries)
     → ReadsEach name entries read nothing_at front → (ts : List T) → nat_le 1 (length ts) ≡ true
     → let value = object (put_all (front ++ each_entries name entries ts)) in
     (items : Items) × (objects_by nothing_at value (get name value) ≡ Ok items) × (each_item read items ≡ Ok ts)
@@ -89,7 +92,8 @@ each_read name entries read nothing_at front is (t ∷ (other ∷ rest)) some =
     )
 
 -- An empty list is refused.
-pub none_read : {T : Type 0} (name : List ℕ) (entries : T → Entries) (read : Data → Result T Refusal) (nothing_at : Data → Result (Unit {0}) Refusal) (front : Entries)
+pub none_read : {T : Type 0} (name : List ℕ) (entries : T → Entries) (read : Data → Result T Refusal)
+    (nothing_at : Data → Result (Unit {0}) Refusal) (front : Entries)
     → ReadsEach name entries read nothing_at front → (ts : List T) → ts ≡ []
     → let value = object (put_all (front ++ each_entries name entries ts)) in objects_by nothing_at value (get name value) ≡ Err Form
 unfolding object_list
@@ -114,7 +118,8 @@ items_json n text entries (x ∷ xs) all =
 
 -- If the members of each element are no deeper than its header may be, all members are no deeper than a header at the top may be.
 pub each_json : {X T : Type 0} → (name : List ℕ) (text : X → T) (entries : T → Entries) (xs : List X) → IsUtf8 name
-    → AllByRecursion (λ x. AreJsonEntries (depth_of_each (length xs)) (entries (text x))) xs → AreJsonEntries header_depth (each_entries name entries (map text xs))
+    → AllByRecursion (λ x. AreJsonEntries (depth_of_each (length xs)) (entries (text x))) xs
+    → AreJsonEntries header_depth (each_entries name entries (map text xs))
 each_json name text entries [] named all = ((named, (tt, omega arith)), tt)
 each_json name text entries (x ∷ []) named all = all.0
 each_json name text entries (x ∷ (other ∷ rest)) named all =

@@ -11,7 +11,7 @@ use Rattle.octets.specs.Octets.{IsOctets}
 use Rattle.octets.specs.Outcomes.{◌>>=◌, needs}
 use Rattle.keys.specs.Limits.{Limits, are_few}
 use Rattle.objects.specs.Headers.{header_at}
-use Rattle.objects.specs.Jws.{EncodedSignature, SignatureParts, EncodedJws, JwsParts, DecodedSignature, SignedObject, encoded_signature, no_signature_at, signatures_by, signature_objects, encoded_in_json, encoded_in_compact, encoded_jws, decoded_part, decoded_signature, decoded_object, jws_of, nest_at_most, have_whole_numbers, built, AreMembers, ObjectsAreMade}
+use Rattle.objects.specs.Jws.{SignatureParts, JwsParts, DecodedSignature, SignedObject, encoded_signature, no_signature_at, signatures_by, signature_objects, encoded_in_json, encoded_in_compact, encoded_jws, decoded_part, decoded_signature, decoded_object, jws_of, nest_at_most, have_whole_numbers, built, AreMembers, ObjectsAreMade}
 use Rattle.objects.specs.Texts.{each, each_item, is_json_form, three_parts, text_at, required_text, content_by, content_text, AreOctetsHandedIn, depth_of_each}
 use Rattle.objects.proofs.DetachedContent.{MeansOctets, part_octets, member_octets}
 use Rattle.objects.proofs.Each.{as_many}
@@ -22,19 +22,19 @@ use Rattle.octets.proofs.Lemmas.{steps, passed, same_answer, octets_of_meaning}
 
 -- ---- the headers are JSON and the texts are octets, except that of the payload, which decodes to octets
 
-pub record IsSignature (n : ℕ) (t : EncodedSignature) : Type 0 where
+pub record IsSignature (n : ℕ) (t : SignatureParts) : Type 0 where
   pub protected : IsOctets t.protected
   pub header : IsHeader n t.header
   pub signature : IsOctets t.signature
 
-pub record AreTexts (t : EncodedJws) : Type 0 where
+pub record AreTexts (t : JwsParts) : Type 0 where
   pub payload : MeansOctets t.payload
   pub signatures : AllByRecursion (IsSignature (depth_of_each (length t.signatures))) t.signatures
   pub some : 1 ≤ length t.signatures
 
 -- ---- in JSON form
 
-signature_is : (n : ℕ) (d : Data) (t : EncodedSignature) → 1 ≤ n → IsShallow (suc n) d → encoded_signature d ≡ Ok t → IsSignature n t
+signature_is : (n : ℕ) (d : Data) (t : SignatureParts) → 1 ≤ n → IsShallow (suc n) d → encoded_signature d ≡ Ok t → IsSignature n t
 unfolding encoded_signature
 signature_is n d t some is h =
     let a = steps (text_at (codes "protected") d) _ t h in
@@ -57,7 +57,8 @@ objects_are : (d : Data) (items : Items) → IsShallow 127 d → signature_objec
 unfolding signature_objects
 objects_are d items is h = objects_by d (get (codes "signatures") d) items is refl h
 
-pub json_are : (detached : Option (List ℕ)) → AreOctetsHandedIn detached → (d : Data) (t : EncodedJws) → IsShallow 127 d → encoded_in_json detached d ≡ Ok t → AreTexts t
+pub json_are : (detached : Option (List ℕ)) → AreOctetsHandedIn detached → (d : Data) (t : JwsParts) → IsShallow 127 d
+    → encoded_in_json detached d ≡ Ok t → AreTexts t
 unfolding encoded_in_json
 json_are detached handed d t is h =
     let a = steps (content_text detached (codes "payload") d) _ t h in
@@ -69,7 +70,8 @@ json_are detached handed d t is h =
 
 -- ---- in compact form
 
-pub compact_are : (detached : Option (List ℕ)) → AreOctetsHandedIn detached → (text : List ℕ) (t : EncodedJws) → IsOctets text → encoded_in_compact detached text ≡ Ok t → AreTexts t
+pub compact_are : (detached : Option (List ℕ)) → AreOctetsHandedIn detached → (text : List ℕ) (t : JwsParts) → IsOctets text
+    → encoded_in_compact detached text ≡ Ok t → AreTexts t
 unfolding encoded_in_compact
 compact_are detached handed text t octets h =
     let a = steps (three_parts text) _ t h in
@@ -84,33 +86,40 @@ compact_are detached handed text t octets h =
 
 -- ---- in either form
 
-texts_are : (detached : Option (List ℕ)) → AreOctetsHandedIn detached → (text : List ℕ) (t : EncodedJws) → IsOctets text → encoded_jws detached text ≡ Ok t → AreTexts t
+texts_are : (detached : Option (List ℕ)) → AreOctetsHandedIn detached → (text : List ℕ) (t : JwsParts) → IsOctets text
+    → encoded_jws detached text ≡ Ok t → AreTexts t
 unfolding encoded_jws
 texts_are detached handed text t octets h =
-    of_text AreTexts (encoded_in_json detached) (encoded_in_compact detached) (json_are detached handed) (compact_are detached handed) (is_json_form text) text t octets h
+    of_text AreTexts (encoded_in_json detached) (encoded_in_compact detached) (json_are detached handed) (compact_are detached handed)
+    (is_json_form text) text t octets h
 
 -- ---- the members
 
 -- the signature has the members that its texts spell, and is decoded from them the same
-pub record IsSpelled (t : EncodedSignature) (s : DecodedSignature) : Type 0 where
+pub record IsSpelled (t : SignatureParts) (s : DecodedSignature) : Type 0 where
   pub protected : s.parts.protected ≡ t.protected
   pub header : s.parts.header ≡ t.header
   pub signature : decoded t.signature ≡ Ok s.parts.signature
   pub again : decoded_part s.parts ≡ Ok s
 
-pub signature_spelled : (t : EncodedSignature) (s : DecodedSignature) → decoded_signature t ≡ Ok s → IsSpelled t s
+pub signature_spelled : (t : SignatureParts) (s : DecodedSignature) → decoded_signature t ≡ Ok s → IsSpelled t s
 unfolding decoded_signature decoded_part
 signature_spelled t s h =
     let a = steps (decoded t.signature) _ s h in
     let b = steps (decoded t.protected) _ s a.2 in
     let parts : SignatureParts = record { protected = t.protected; header = t.header; signature = a.0 } in
-    subst (IsSpelled t) (same_answer _ s b.2) (record { protected = refl; header = refl; signature = a.1; again = ap (λ r. r >>= λ octets. Ok (record { octets = octets; parts = parts })) b.1 })
+    subst (IsSpelled t) (same_answer _ s b.2) (record {
+      protected = refl;
+      header = refl;
+      signature = a.1;
+      again = ap (λ r. r >>= λ octets. Ok (record { octets = octets; parts = parts })) b.1;
+    })
 
 -- the members of a signature are JSON and octets
 abbrev IsMade : ℕ → SignatureParts → Type 0
 IsMade n s = IsUtf8 s.protected × IsHeader n s.header × IsOctets s.signature
 
-signature_made : (n : ℕ) (t : EncodedSignature) (s : DecodedSignature) → IsSignature n t → decoded_signature t ≡ Ok s → IsMade n s.parts
+signature_made : (n : ℕ) (t : SignatureParts) (s : DecodedSignature) → IsSignature n t → decoded_signature t ≡ Ok s → IsMade n s.parts
 unfolding decoded_part
 signature_made n t s is h =
     let spelled = signature_spelled t s h in
@@ -120,7 +129,8 @@ signature_made n t s is h =
       octets_of_meaning t.signature s.parts.signature is.signature spelled.signature,
     )
 
-object_made : (limits : Limits) (t : EncodedJws) (o : SignedObject) → AreTexts t → decoded_object limits t ≡ Ok o → (parts : JwsParts) × (AreMembers parts × (built limits parts ≡ Ok o))
+object_made : (limits : Limits) (t : JwsParts) (o : SignedObject) → AreTexts t → decoded_object limits t ≡ Ok o
+    → (parts : JwsParts) × (AreMembers parts × (built limits parts ≡ Ok o))
 unfolding decoded_object built
 object_made limits t o are h =
     let a = steps (needs (are_few limits (length t.signatures)) Limit) _ o h in
@@ -130,9 +140,11 @@ object_made limits t o are h =
     let signatures : List SignatureParts = map members_of c.0 in
     let many : length signatures ≡ length t.signatures = length-map c.0 members_of ∙ as_many decoded_signature t.signatures c.0 c.1 in
     let n : ℕ = depth_of_each (length signatures) in
-    let texts : AllByRecursion (IsSignature n) t.signatures = subst (λ k. AllByRecursion (IsSignature (depth_of_each k)) t.signatures) (sym many) are.signatures in
+    let texts : AllByRecursion (IsSignature n) t.signatures =
+    subst (λ k. AllByRecursion (IsSignature (depth_of_each k)) t.signatures) (sym many) are.signatures in
     let all : AllByRecursion (IsMade n) signatures =
-    all_images (IsMade n) members_of (λ s is. is) c.0 (all_read (IsSignature n) (λ s. IsMade n s.parts) decoded_signature (signature_made n) t.signatures c.0 texts c.1) in
+    all_images (IsMade n) members_of (λ s is. is) c.0 (all_read (IsSignature n) (λ s. IsMade n s.parts) decoded_signature
+    (signature_made n) t.signatures c.0 texts c.1) in
     let members : AreMembers (record { payload = b.0; signatures = signatures }) = record {
       payload = are.payload b.0 b.1;
       signatures = all_then (IsMade n) _ (λ s is. (is.0, (is.1.json, is.2))) signatures all;
@@ -141,7 +153,8 @@ object_made limits t o are h =
     let whole : have_whole_numbers signatures ≡ true = all_pass (IsMade n) _ (λ s is. header_whole n s.header is.1) signatures all in
     let some : nat_le 1 (length signatures) ≡ true = le-leb 1 _ (omega (arith, are.some, many)) in
     let few : are_few limits (length signatures) ≡ true = ap (λ k. are_few limits k) many ∙ passed _ Limit a.0 a.1 in
-    let again : each decoded_part signatures ≡ Ok c.0 = read_again decoded_signature members_of decoded_part (λ t s h. (signature_spelled t s h).again) t.signatures c.0 c.1 in
+    let again : each decoded_part signatures ≡ Ok c.0 =
+    read_again decoded_signature members_of decoded_part (λ t s h. (signature_spelled t s h).again) t.signatures c.0 c.1 in
     (record { payload = b.0; signatures = signatures }, (members, rw (shallow, whole, some, few, again) c.2))
 
 pub objects_are_made : ObjectsAreMade

@@ -16,7 +16,8 @@ use Rattle.octets.proofs.Lemmas.{steps, same_answer}
 
 -- ---- encrypted objects
 
-recipient_by_is : (algs : List KeyManagementAlg) (header : Members) (p : RecipientParts) (r : Recipient) → recipient_by algs header p ≡ Ok r → recipient_parts_of r ≡ p
+recipient_by_is : (algs : List KeyManagementAlg) (header : Members) (p : RecipientParts) (r : Recipient) → recipient_by algs header p ≡ Ok r
+    → recipient_parts_of r ≡ p
 unfolding recipient_by
 recipient_by_is algs header p r h =
     let a = steps (string_there (codes "alg") header) _ r h in
@@ -24,13 +25,15 @@ recipient_by_is algs header p r h =
     let c = steps (key_management algs a.0 header) _ r b.2 in
     ap recipient_parts_of (sym (same_answer _ r c.2))
 
-recipient_is : (algs : List KeyManagementAlg) (protected unprotected : Members) (p : RecipientParts) (r : Recipient) → recipient_of algs protected unprotected p ≡ Ok r → recipient_parts_of r ≡ p
+recipient_is : (algs : List KeyManagementAlg) (protected unprotected : Members) (p : RecipientParts) (r : Recipient)
+    → recipient_of algs protected unprotected p ≡ Ok r → recipient_parts_of r ≡ p
 unfolding recipient_of
 recipient_is algs protected unprotected p r h =
     let a = steps (joint_header protected unprotected p.header) (λ header. recipient_by algs header p) r h in
     recipient_by_is algs a.0 p r a.2
 
-pub object_is : (algs : List KeyManagementAlg) (octets : List ℕ) (parts : JweParts) (o : EncryptedObject) → encrypted_object algs octets parts ≡ Ok o → parts_of o ≡ parts
+pub object_is : (algs : List KeyManagementAlg) (octets : List ℕ) (parts : JweParts) (o : EncryptedObject)
+    → encrypted_object algs octets parts ≡ Ok o → parts_of o ≡ parts
 unfolding encrypted_object recipients_of_one_enc
 object_is algs octets parts o h =
     let a = steps (protected_members octets) _ o h in
@@ -40,7 +43,8 @@ object_is algs octets parts o h =
     let e = steps (needs (have_one_enc d.0) Header) _ b.0 d.2 in
     let same : d.0 ≡ b.0 = same_answer d.0 b.0 e.2 in
     let recipients : map recipient_parts_of b.0 ≡ parts.recipients =
-    ap (map recipient_parts_of) (sym same) ∙ each_keeps (recipient_of algs a.0 parts.unprotected) (λ p. p) recipient_parts_of (recipient_is algs a.0 parts.unprotected) parts.recipients d.0 d.1 ∙ map-id parts.recipients in
+    ap (map recipient_parts_of) (sym same) ∙ each_keeps (recipient_of algs a.0 parts.unprotected) (λ p. p) recipient_parts_of
+    (recipient_is algs a.0 parts.unprotected) parts.recipients d.0 d.1 ∙ map-id parts.recipients in
     ap parts_of (sym (same_answer _ o c.2)) ∙ ap (λ (rs : List RecipientParts). record parts { recipients = rs }) recipients
 
 -- ---- signed objects
@@ -64,7 +68,8 @@ pub record IsSigned (octets : List ℕ) (decoded : List DecodedSignature) (o : S
   pub payload : o.payload ≡ octets
   pub signatures : map signature_parts_of o.signatures ≡ map (λ (d : DecodedSignature). d.parts) decoded
 
-pub signed_is : (algs : List KeyManagementAlg) (octets : List ℕ) (decoded : List DecodedSignature) (o : SignedObject) → signed_object algs octets decoded ≡ Ok o → IsSigned octets decoded o
+pub signed_is : (algs : List KeyManagementAlg) (octets : List ℕ) (decoded : List DecodedSignature) (o : SignedObject) → signed_object algs octets decoded ≡ Ok o
+    → IsSigned octets decoded o
 unfolding signed_object signatures_of
 signed_is algs octets decoded o h =
     let a = steps (signatures_of algs decoded) _ o h in
@@ -75,5 +80,6 @@ signed_is algs octets decoded o h =
     let headed_parts_of : HeadedSignature → SignatureParts = λ s. s.parts in
     let same : c.0 ≡ a.0 = same_answer c.0 a.0 d.2 in
     let signatures : map signature_parts_of a.0 ≡ map decoded_parts_of decoded =
-    ap (map signature_parts_of) (sym same) ∙ each_keeps (signature_by algs) headed_parts_of signature_parts_of (signature_is algs) b.0 c.0 c.1 ∙ each_keeps headed_signature decoded_parts_of headed_parts_of headed_is decoded b.0 b.1 in
+    ap (map signature_parts_of) (sym same) ∙ each_keeps (signature_by algs) headed_parts_of signature_parts_of (signature_is algs) b.0 c.0 c.1
+    ∙ each_keeps headed_signature decoded_parts_of headed_parts_of headed_is decoded b.0 b.1 in
     subst (IsSigned octets decoded) (same_answer _ o a.2) (record { payload = refl; signatures = signatures })

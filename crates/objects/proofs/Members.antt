@@ -29,7 +29,8 @@ first_there name [] = None
 first_there name (e ∷ rest) = cond (bytes_eq name e.0) (option_or e.1 (first_there name rest)) (first_there name rest)
 
 -- One more entry at the front is found if it has the name and is there.
-found_by : (b : Bool) (name other : List ℕ) (d : Option Data) (members : Members) (later : Option Data) → bytes_eq name other ≡ b → get_member name members ≡ later
+found_by : (b : Bool) (name other : List ℕ) (d : Option Data) (members : Members) (later : Option Data) → bytes_eq name other ≡ b
+    → get_member name members ≡ later
     → get_member name (put_if_there other d members) ≡ cond b (option_or d later) later
 found_by true name other None ms later is there = there
 found_by false name other None ms later is there = there
@@ -54,7 +55,8 @@ abbrev pub AreJsonEntries : ℕ → Entries → Type 0
 AreJsonEntries n entries = AllByRecursion (λ e. IsUtf8 e.0 × IsJsonIfThere n e.1) entries
 
 -- With one more entry, members are still JSON and at most n deep.
-one_more : (n : ℕ) (name : List ℕ) (d : Option Data) (members : Members) → IsUtf8 name → IsJsonIfThere n d → AreJsonMembers members × (members_depth members ≤ n)
+one_more : (n : ℕ) (name : List ℕ) (d : Option Data) (members : Members) → IsUtf8 name → IsJsonIfThere n d
+    → AreJsonMembers members × (members_depth members ≤ n)
     → AreJsonMembers (put_if_there name d members) × (members_depth (put_if_there name d members) ≤ n)
 one_more n name None ms text is all = all
 one_more n name (Some d) ms text is all =

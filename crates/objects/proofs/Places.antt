@@ -26,7 +26,8 @@ filled_last (t ∷ texts) [] last h = absurd (omega (arith, h))
 filled_last (t ∷ texts) (v ∷ values) last h =
     ap (λ l. t ++ (v ++ l)) (filled_last texts values last (omega (arith, h))) ∙ simp append_assoc
 
-front_more : (texts values : List (List ℕ)) (text value : List ℕ) → length texts ≡ length values → front (texts ++ text ∷ []) (values ++ value ∷ []) ≡ front texts values ++ (text ++ value)
+front_more : (texts values : List (List ℕ)) (text value : List ℕ) → length texts ≡ length values
+    → front (texts ++ text ∷ []) (values ++ value ∷ []) ≡ front texts values ++ (text ++ value)
 front_more [] [] text value h = ap (λ l. text ++ l) (append-nil value)
 front_more [] (v ∷ values) text value h = absurd (omega (arith, h))
 front_more (t ∷ texts) [] text value h = absurd (omega (arith, h))
@@ -68,18 +69,21 @@ pub fills_opened : (x : List ℕ) (w : Written) (values : List (List ℕ)) (v : 
 fills_opened x w values v f = let p = fills_pushed x w values v f in record { leaves = p.leaves; whole = p.whole; count = p.count; text = p.text; later = refl }
 
 -- A place takes the value.
-fills_left : (own octets : List ℕ) (w : Written) (values : List (List ℕ)) (v : Written) → Fills w values v → Fills (slot_by true own w) (values ++ base64url octets ∷ []) (slot_by false octets v)
+fills_left : (own octets : List ℕ) (w : Written) (values : List (List ℕ)) (v : Written) → Fills w values v
+    → Fills (slot_by true own w) (values ++ base64url octets ∷ []) (slot_by false octets v)
 fills_left own octets w values v f =
     let value : List ℕ = base64url octets in
     record {
       leaves = f.leaves;
       whole = f.whole;
       count = length-append w.finished (w.text ∷ []) ∙ ap (λ n. n + 1) f.count ∙ sym (length-append values (value ∷ []));
-      text = append-nil _ ∙ front_more w.finished values w.text value f.count ∙ sym (append_assoc (front w.finished values) w.text value) ∙ ap (λ l. l ++ value) f.text;
+      text = append-nil _ ∙ front_more w.finished values w.text value f.count ∙ sym (append_assoc (front w.finished values) w.text value)
+          ∙ ap (λ l. l ++ value) f.text;
       later = f.later;
     }
 
-fills_slot : (own octets : List ℕ) (w : Written) (values : List (List ℕ)) (v : Written) → Fills w values v → Fills (with_slot own w) (values ++ base64url octets ∷ []) (with_slot octets v)
+fills_slot : (own octets : List ℕ) (w : Written) (values : List (List ℕ)) (v : Written) → Fills w values v
+    → Fills (with_slot own w) (values ++ base64url octets ∷ []) (with_slot octets v)
 fills_slot own octets w values v f =
     let both : List (List ℕ) = values ++ base64url octets ∷ [] in
     subst (λ b. Fills (slot_by b own w) both (with_slot octets v)) (sym f.leaves)
@@ -95,16 +99,20 @@ pub fills_separated : (w : Written) (values : List (List ℕ)) (v : Written) →
 fills_separated w values v f = subst (λ b. Fills (separated w) values (comma_by b v)) f.later (fills_comma w.later w values v f)
 
 pub fills_named : (name : List ℕ) (w : Written) (values : List (List ℕ)) (v : Written) → Fills w values v → Fills (named name w) values (named name v)
-fills_named name w values v f = fills_closed (codes "\":") _ values _ (fills_pushed name _ values _ (fills_pushed (codes "\"") _ values _ (fills_separated w values v f)))
+fills_named name w values v f = fills_closed (codes "\":") _ values _
+    (fills_pushed name _ values _ (fills_pushed (codes "\"") _ values _ (fills_separated w values v f)))
 
-fills_value : (name : List ℕ) (d : Data) (w : Written) (values : List (List ℕ)) (v : Written) → Fills w values v → Fills (with_value name d w) values (with_value name d v)
+fills_value : (name : List ℕ) (d : Data) (w : Written) (values : List (List ℕ)) (v : Written) → Fills w values v
+    → Fills (with_value name d w) values (with_value name d v)
 fills_value name d w values v f = fills_pushed (compact_text d) _ values _ (fills_named name w values v f)
 
-pub fills_text : (name text : List ℕ) (w : Written) (values : List (List ℕ)) (v : Written) → Fills w values v → Fills (with_text name text w) values (with_text name text v)
+pub fills_text : (name text : List ℕ) (w : Written) (values : List (List ℕ)) (v : Written) → Fills w values v
+    → Fills (with_text name text w) values (with_text name text v)
 fills_text name [] w values v f = f
 fills_text name (c ∷ text) w values v f = fills_value name (string (c ∷ text)) w values v f
 
-pub fills_header : (name : List ℕ) (header : Members) (w : Written) (values : List (List ℕ)) (v : Written) → Fills w values v → Fills (with_header name header w) values (with_header name header v)
+pub fills_header : (name : List ℕ) (header : Members) (w : Written) (values : List (List ℕ)) (v : Written) → Fills w values v
+    → Fills (with_header name header w) values (with_header name header v)
 fills_header name no_members w values v f = f
 fills_header name (member k d header) w values v f = fills_value name (object (member k d header)) w values v f
 
@@ -114,15 +122,18 @@ quoted_text : (octets : List ℕ) (w : Written) → IsUrlText (base64url octets)
 quoted_text octets w plain =
     let text : List ℕ = base64url octets in
     ap (λ (t : List ℕ). let x : Written = record { finished = w.finished; text = t; later = w.later; places = w.places } in x)
-    (append_assoc (w.text ++ codes "\"") text (codes "\"") ∙ append_assoc w.text (codes "\"") (text ++ codes "\"") ∙ ap (λ l. w.text ++ l) (sym (url_texts_are_json text plain).1))
+    (append_assoc (w.text ++ codes "\"") text (codes "\"") ∙ append_assoc w.text (codes "\"") (text ++ codes "\"")
+    ∙ ap (λ l. w.text ++ l) (sym (url_texts_are_json text plain).1))
 
 comma_places : (b : Bool) (w : Written) → (comma_by b w).places ≡ w.places
 comma_places true w = refl
 comma_places false w = refl
 
 -- A member is written, or a place is left for its value.
-pub placed : (name octets : List ℕ) (w : Written) → IsOctets octets → pushed (codes "\"") (with_slot octets (pushed (codes "\"") (named name w))) ≡ with_place name octets w
-placed name octets w is = subst (λ b. pushed (codes "\"") (slot_by b octets (pushed (codes "\"") (named name w))) ≡ with_place name octets w) (sym (comma_places w.later w)) (by_places w.places)
+pub placed : (name octets : List ℕ) (w : Written) → IsOctets octets
+    → pushed (codes "\"") (with_slot octets (pushed (codes "\"") (named name w))) ≡ with_place name octets w
+placed name octets w is = subst (λ b. pushed (codes "\"") (slot_by b octets (pushed (codes "\"") (named name w))) ≡ with_place name octets w)
+    (sym (comma_places w.later w)) (by_places w.places)
   where
     by_places : (b : Bool) → pushed (codes "\"") (slot_by b octets (pushed (codes "\"") (named name w))) ≡ place_by b name octets w
     by_places true = refl
@@ -146,7 +157,8 @@ fills_content name false own content w v is f = fills_place name own content w [
 
 -- ---- parts of a compact text
 
-pub fills_part : (octets : List ℕ) (w : Written) (values : List (List ℕ)) (v : Written) → Fills w values v → Fills (with_part octets w) values (with_part octets v)
+pub fills_part : (octets : List ℕ) (w : Written) (values : List (List ℕ)) (v : Written) → Fills w values v
+    → Fills (with_part octets w) values (with_part octets v)
 fills_part octets w values v f = fills_pushed (base64url octets) _ values _ (fills_pushed (codes ".") w values v f)
 
 pub fills_place_part : (own octets : List ℕ) (w : Written) (values : List (List ℕ)) (v : Written) → Fills w values v
@@ -161,11 +173,13 @@ fills_content_part false own content w v f = fills_place_part own content w [] v
 -- ---- the values of all places
 
 -- The values of all places are the text of the content and the texts of the others.
-pub places_are : (detach : Bool) (content : List ℕ) (others : List (List ℕ)) → in_places detach content [] ++ map base64url others ≡ in_places detach content others
+pub places_are : (detach : Bool) (content : List ℕ) (others : List (List ℕ))
+    → in_places detach content [] ++ map base64url others ≡ in_places detach content others
 places_are true content others = refl
 places_are false content others = refl
 
 -- There is one text more than there are values.
-pub texts_count : (detach : Bool) (content : List ℕ) (others : List (List ℕ)) → suc (length (in_places detach content others)) ≡ (if detach then 1 else 2) + length others
+pub texts_count : (detach : Bool) (content : List ℕ) (others : List (List ℕ))
+    → suc (length (in_places detach content others)) ≡ (if detach then 1 else 2) + length others
 texts_count true content others = ap suc (length-map others base64url) ∙ omega arith
 texts_count false content others = ap (λ n. suc (suc n)) (length-map others base64url) ∙ omega arith

@@ -10,10 +10,9 @@ use Rattle.octets.specs.Devices.{AppendsPrefixOf}
 use Rattle.octets.specs.Encoding.{octets_of_groups}
 use Rattle.octets.specs.LineEnds.{without_line_end}
 use Rattle.octets.specs.Octets.{IsOctets}
-use Rattle.octets.proofs.Lemmas.{IsOctets-front, AppendsPrefixOf-front, cut, reading_starts, settling_grows, decodes_exactly, has_url_characters, octets_of_meaning}
+use Rattle.octets.proofs.Lemmas.{IsOctets-front, AppendsPrefixOf-front, cut, reading_starts, settling_grows, decodes_exactly, has_url_characters, octets_of_meaning, text_of_meaning}
 use Rattle.objects.specs.Code.Meaning.{meaning}
 use Rattle.objects.proofs.Characters.{joined_characters, no_line_end}
-use Rattle.objects.proofs.TextOctets.{text_is}
 
 -- ---- line ends
 
@@ -43,7 +42,7 @@ none_with_line_end text octets longer = by_meaning (decoded text) refl
 
     by_meaning : (r : Result (List ℕ) Refusal) → decoded text ≡ r → decoded text ≡ Err Base64
     by_meaning (Ok x) is =
-        let whole = text_is text x octets is in
+        let whole = text_of_meaning text x octets is in
         let same : without_line_end text ≡ text = ap without_line_end whole ∙ octets_end_so x (octets_of_meaning text x octets is) ∙ sym whole in
         let test : (length text == length text) ≡ false = sym (ap (λ t. length t == length text) same) ∙ longer in
         absurd (differs (length text) test)
@@ -57,7 +56,8 @@ meant_by text x is = is ∙ ap (λ r. Ok (result_unwrap_or r [])) (sym is)
 
 -- A text that is the text of its meaning has no line end and decodes to this meaning.
 pub means : (text : List ℕ) → IsOctets (meaning text) → text ≡ base64url (meaning text) → decoded (without_line_end text) ≡ Ok (meaning text)
-means text octets is = ap (λ t. decoded (without_line_end t)) is ∙ ap decoded (octets_end_so (meaning text) octets) ∙ decodes_exactly.round_trip (meaning text) octets
+means text octets is = ap (λ t. decoded (without_line_end t)) is ∙ ap decoded (octets_end_so (meaning text) octets)
+    ∙ decodes_exactly.round_trip (meaning text) octets
 
 -- ---- a text in pieces
 
@@ -86,11 +86,13 @@ module _ {waiting all rest : List ℕ} (k : IsReadTo waiting all rest) where
 
   -- A piece is read after the text before it.
   abbrev pub piece_read : (waiting_then left piece : List ℕ) → rest ≡ piece ++ left
-      → (waiting_then ≡ unsettled (k.front ++ piece)) × (decoded (settled (k.front ++ piece)) ≡ Ok (octets_of_groups (settled (k.front ++ piece)))) → IsReadTo waiting_then all left
+      → (waiting_then ≡ unsettled (k.front ++ piece)) × (decoded (settled (k.front ++ piece)) ≡ Ok (octets_of_groups (settled (k.front ++ piece))))
+      → IsReadTo waiting_then all left
   piece_read waiting_then left piece parts fed = record { front = k.front ++ piece; parts = with_piece left piece parts; fed = fed }
 
   -- If a piece is refused, the whole text does not decode.
-  pub piece_refused : (left piece : List ℕ) (e : Refusal) → rest ≡ piece ++ left → IsOctets all → RefusesFrom settling (k.front ++ piece) e → decoded (without_line_end all) ≡ Err e
+  pub piece_refused : (left piece : List ℕ) (e : Refusal) → rest ≡ piece ++ left → IsOctets all → RefusesFrom settling (k.front ++ piece) e
+      → decoded (without_line_end all) ≡ Err e
   piece_refused left piece e parts octets refuses =
       let whole = with_piece left piece parts in
       ap (λ t. decoded (without_line_end t)) (sym whole) ∙ refuses left (subst IsOctets (sym whole) octets)
@@ -103,17 +105,21 @@ module _ {waiting all rest : List ℕ} (k : IsReadTo waiting all rest) where
 
   -- If some of the octets that a piece settles are written after the earlier ones, a beginning of the meaning was written.
   pub piece_stands : (left piece octets meant old out new : List ℕ) → rest ≡ piece ++ left → IsOctets all → decoded (without_line_end all) ≡ Ok meant
-      → octets_of_groups (settled (k.front ++ piece)) ≡ octets_of_groups (settled k.front) ++ octets → out ≡ old ++ octets_of_groups (settled k.front) → AppendsPrefixOf octets out new
+      → octets_of_groups (settled (k.front ++ piece)) ≡ octets_of_groups (settled k.front) ++ octets → out ≡ old ++ octets_of_groups (settled k.front)
+      → AppendsPrefixOf octets out new
       → AppendsPrefixOf meant old new
   piece_stands left piece octets meant old out new parts is_octets means adds written stands =
       let whole = with_piece left piece parts in
-      let begins = settling_grows.whole (k.front ++ piece) left meant (subst IsOctets (sym whole) is_octets) (ap (λ t. decoded (without_line_end t)) whole ∙ means) in
+      let begins = settling_grows.whole (k.front ++ piece) left meant (subst IsOctets (sym whole) is_octets)
+      (ap (λ t. decoded (without_line_end t)) whole ∙ means) in
       subst (λ w. AppendsPrefixOf w old new) (sym (begins.continues ∙ ap (λ w. w ++ begins.rest) adds))
-      (AppendsPrefixOf-front (octets_of_groups (settled k.front) ++ octets) begins.rest old new (behind old (octets_of_groups (settled k.front)) octets new (subst (λ o. AppendsPrefixOf octets o new) written stands)))
+      (AppendsPrefixOf-front (octets_of_groups (settled k.front) ++ octets) begins.rest old new
+      (behind old (octets_of_groups (settled k.front)) octets new (subst (λ o. AppendsPrefixOf octets o new) written stands)))
 
   -- If nothing is left, the last octets complete the meaning.
   pub all_written : IsOctets (meaning all) → all ≡ base64url (meaning all) → IsOctets all → (last : List ℕ) → length rest ≡ 0
-      → (IsOctets k.front → decoded (without_line_end k.front) ≡ Ok (octets_of_groups (settled k.front) ++ last)) → meaning all ≡ octets_of_groups (settled k.front) ++ last
+      → (IsOctets k.front → decoded (without_line_end k.front) ≡ Ok (octets_of_groups (settled k.front) ++ last))
+      → meaning all ≡ octets_of_groups (settled k.front) ++ last
   all_written meant_octets is octets last none ends =
       let front = all_read none in
       let meant = sym (means all meant_octets is) ∙ ap (λ t. decoded (without_line_end t)) (sym front) ∙ ends (subst IsOctets (sym front) octets) in

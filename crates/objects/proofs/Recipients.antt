@@ -8,7 +8,8 @@ use Rattle.objects.specs.Code.Views.{recipient_view}
 use Rattle.objects.specs.declared.jwe.recipient.Recipient.{Recipient as Code}
 
 -- All views have this `enc` exactly if all recipients do.
-all_have_enc : (enc : List ℕ) (recipients : List Code) → have_enc enc (map recipient_view recipients) ≡ list_all (λ (r : Code). bytes_eq (recipient_view r).enc enc) recipients
+all_have_enc : (enc : List ℕ) (recipients : List Code)
+    → have_enc enc (map recipient_view recipients) ≡ list_all (λ (r : Code). bytes_eq (recipient_view r).enc enc) recipients
 all_have_enc enc = list_all-map (λ r. bytes_eq r.enc enc) recipient_view
 
 -- All views have the same `enc` exactly if all recipients have that of the first.

@@ -42,7 +42,8 @@ placed name o [] = (name, o) ∷ []
 placed name o (e ∷ rest) = cond (is_first name (e ∷ rest)) ((name, o) ∷ e ∷ rest) (e ∷ placed name o rest)
 
 -- A member is inserted before an entry with a later name.
-put_before : (name other : List ℕ) (d : Data) (o : Option Data) (ms : Members) → is_less (slice_cmp nat_cmp name other) ≡ true → put name d ms ≡ member name d ms
+put_before : (name other : List ℕ) (d : Data) (o : Option Data) (ms : Members) → is_less (slice_cmp nat_cmp name other) ≡ true
+    → put name d ms ≡ member name d ms
     → put name d (member_if_there other o ms) ≡ member name d (member_if_there other o ms)
 put_before name other d None ms is later = later
 put_before name other d (Some e) ms is later = rw (less (slice_cmp nat_cmp name other) is) refl
@@ -60,7 +61,8 @@ put_behind name other d None ms more is later = later
 put_behind name other d (Some e) ms more is later = rw (greater (slice_cmp nat_cmp name other) is) (ap (member other e) later)
 
 put_by : (b : Bool) (name : List ℕ) (d : Data) (e : List ℕ × Option Data) (rest : Entries) → is_first name (e ∷ rest) ≡ b
-    → cond b true (is_greater (slice_cmp nat_cmp name e.0) && has_place name rest) ≡ true → (has_place name rest ≡ true → put name d (present rest) ≡ present (placed name (Some d) rest))
+    → cond b true (is_greater (slice_cmp nat_cmp name e.0) && has_place name rest) ≡ true
+    → (has_place name rest ≡ true → put name d (present rest) ≡ present (placed name (Some d) rest))
     → put name d (present (e ∷ rest)) ≡ present (cond b ((name, Some d) ∷ e ∷ rest) (e ∷ placed name (Some d) rest))
 put_by true name d e rest first h later = put_first name d (e ∷ rest) first
 put_by false name d e rest first h later =

@@ -41,17 +41,20 @@ header_read no_members = refl
 header_read (member name value rest) = refl
 
 -- A text is read from its member.
-pub text_found : (name : List ℕ) (es : Entries) (text : List ℕ) → first_there name es ≡ option_or (text_there text) None → text_at name (object (put_all es)) ≡ Ok text
+pub text_found : (name : List ℕ) (es : Entries) (text : List ℕ) → first_there name es ≡ option_or (text_there text) None
+    → text_at name (object (put_all es)) ≡ Ok text
 unfolding text_at
 text_found name es text is = ap text_if_there (get_member-put_all name es ∙ is) ∙ text_read text
 
 -- A header is read from its member.
-pub header_found : (name : List ℕ) (es : Entries) (header : Members) → first_there name es ≡ option_or (header_there header) None → header_at name (object (put_all es)) ≡ Ok header
+pub header_found : (name : List ℕ) (es : Entries) (header : Members) → first_there name es ≡ option_or (header_there header) None
+    → header_at name (object (put_all es)) ≡ Ok header
 unfolding header_at
 header_found name es header is = ap members_if_there (get_member-put_all name es ∙ is) ∙ header_read header
 
 -- A required text is read from its member.
-pub required_found : (name : List ℕ) (es : Entries) (text : List ℕ) → first_there name es ≡ Some (string text) → required_text name (object (put_all es)) ≡ Ok text
+pub required_found : (name : List ℕ) (es : Entries) (text : List ℕ) → first_there name es ≡ Some (string text)
+    → required_text name (object (put_all es)) ≡ Ok text
 unfolding required_text
 required_found name es text is = ap (λ o. ok_or (option_and_then as_str o) Form) (get_member-put_all name es ∙ is)
 
@@ -82,7 +85,8 @@ text_entry n name [] is h = (name_is_json name is, tt)
 text_entry n name (c ∷ text) is h = required_entry n name (c ∷ text) is h
 
 -- The entry of a header is JSON, if the header is and is not too deep.
-pub header_entry : (n : ℕ) (name : List ℕ) (header : Members) → list_all is_url_character name ≡ true → AreJsonMembers header → nat_le (depth (object header)) n ≡ true
+pub header_entry : (n : ℕ) (name : List ℕ) (header : Members) → list_all is_url_character name ≡ true → AreJsonMembers header
+    → nat_le (depth (object header)) n ≡ true
     → IsUtf8 name × IsJsonIfThere n (header_there header)
 header_entry n name no_members is json shallow = (name_is_json name is, tt)
 header_entry n name (member k d rest) is json shallow = (name_is_json name is, (json, leb-true _ n shallow))

@@ -15,7 +15,7 @@ use Rattle.keys.specs.JsonTexts.{IsJson, AreJsonMembers}
 use Rattle.keys.specs.declared.algorithm.KeyManagementAlg.{KeyManagementAlg}
 use Rattle.keys.specs.Limits.{Limits, are_few}
 use Rattle.objects.specs.Headers.{header_at}
-use Rattle.objects.specs.Jwe.{JweParts, RecipientParts, EncryptedObject, EncodedJwe, EncodedRecipient, encoded_shared, encoded_recipient, encoded_content, no_recipient_at, recipients_by, recipient_objects, encoded_in_json, decoded_recipient, decoded_members, encrypted_object, decoded_object, nest_at_most, headers_are_shallow, have_whole_numbers, built, parts_of, AreMembers}
+use Rattle.objects.specs.Jwe.{JweParts, RecipientParts, EncryptedObject, encoded_recipient, no_recipient_at, recipients_by, recipient_objects, encoded_in_json, decoded_recipient, decoded_members, encrypted_object, decoded_object, nest_at_most, headers_are_shallow, have_whole_numbers, built, parts_of, AreMembers}
 use Rattle.objects.specs.Texts.{handed_in, header_depth, depth_of_each}
 use Rattle.objects.specs.Values.{content_there, Entries, text_there, header_there}
 use Rattle.objects.proofs.Characters.{IsUrlText}
@@ -31,31 +31,34 @@ use Rattle.keys.proofs.Lemmas.{octets_of_utf8}
 -- ---- the members of the JSON text
 
 -- the members of a recipient, from the one that is inserted last
-abbrev pub recipient_entries : EncodedRecipient → Entries
+abbrev pub recipient_entries : RecipientParts → Entries
 recipient_entries t = (codes "header", header_there t.header) ∷ (codes "encrypted_key", text_there t.encrypted_key) ∷ []
 
 -- the members other than the recipients
-abbrev pub own_entries : Bool → EncodedJwe → Entries
+abbrev pub own_entries : Bool → JweParts → Entries
 own_entries detach t =
-    (codes "unprotected", header_there t.shared.unprotected) ∷ (codes "tag", text_there t.content.tag) ∷ (codes "protected", text_there t.shared.protected)
-    ∷ (codes "iv", text_there t.content.iv) ∷ (codes "ciphertext", content_there detach t.content.ciphertext) ∷ (codes "aad", text_there t.shared.aad) ∷ []
+    (codes "unprotected", header_there t.unprotected) ∷ (codes "tag", text_there t.tag) ∷ (codes "protected", text_there t.protected)
+    ∷ (codes "iv", text_there t.iv) ∷ (codes "ciphertext", content_there detach t.ciphertext) ∷ (codes "aad", text_there t.aad) ∷ []
 
-abbrev pub entries : Bool → EncodedJwe → Entries
+abbrev pub entries : Bool → JweParts → Entries
 entries detach t = own_entries detach t ++ each_entries (codes "recipients") recipient_entries t.recipients
 
 -- A recipient is read from its members.
-recipient_found : (es : Entries) (t : EncodedRecipient) → first_there (codes "encrypted_key") es ≡ option_or (text_there t.encrypted_key) None
+recipient_found : (es : Entries) (t : RecipientParts) → first_there (codes "encrypted_key") es ≡ option_or (text_there t.encrypted_key) None
     → first_there (codes "header") es ≡ option_or (header_there t.header) None → encoded_recipient (object (put_all es)) ≡ Ok t
 unfolding encoded_recipient
 recipient_found es t key header = rw (text_found (codes "encrypted_key") es t.encrypted_key key, header_found (codes "header") es t.header header) refl
 
 -- Next to a list of recipients, there are no members of a single one.
-nothing_beside : (detach : Bool) (t : EncodedJwe) (list : Data) → no_recipient_at (object (put_all (own_entries detach t ++ (codes "recipients", Some list) ∷ []))) ≡ Ok tt
+nothing_beside : (detach : Bool) (t : JweParts) (list : Data)
+    → no_recipient_at (object (put_all (own_entries detach t ++ (codes "recipients", Some list) ∷ []))) ≡ Ok tt
 unfolding no_recipient_at
-nothing_beside detach t list = rw (recipient_found (own_entries detach t ++ (codes "recipients", Some list) ∷ []) (record { header = no_members; encrypted_key = [] }) refl refl) refl
+nothing_beside detach t list = rw (recipient_found (own_entries detach t ++ (codes "recipients", Some list) ∷ [])
+    (record { header = no_members; encrypted_key = [] }) refl refl) refl
 
 -- Recipients are read, one or a list of them.
-recipients_are_read : (detach : Bool) (t : EncodedJwe) → ReadsEach (codes "recipients") recipient_entries encoded_recipient no_recipient_at (own_entries detach t)
+recipients_are_read : (detach : Bool) (t : JweParts)
+    → ReadsEach (codes "recipients") recipient_entries encoded_recipient no_recipient_at (own_entries detach t)
 recipients_are_read detach t = record {
   has_no_list = λ r. get_member-put_all (codes "recipients") (own_entries detach t ++ recipient_entries r);
   beside = λ r. recipient_found (own_entries detach t ++ recipient_entries r) r refl refl;
@@ -70,66 +73,75 @@ by_list value None = refl
 by_list value (Some list) = refl
 
 -- The shared header is read as it was inserted.
-pub unprotected_found : (detach : Bool) (t : EncodedJwe) → header_at (codes "unprotected") (object (put_all (entries detach t))) ≡ Ok t.shared.unprotected
+pub unprotected_found : (detach : Bool) (t : JweParts) → header_at (codes "unprotected") (object (put_all (entries detach t))) ≡ Ok t.unprotected
 unprotected_found detach t =
-    header_found (codes "unprotected") (entries detach t) t.shared.unprotected (in_front (codes "recipients") recipient_entries t.recipients (codes "unprotected") _ refl (λ r. refl))
+    header_found (codes "unprotected") (entries detach t) t.unprotected
+    (in_front (codes "recipients") recipient_entries t.recipients (codes "unprotected") _ refl (λ r. refl))
 
 -- All texts are read as they were inserted, with the ciphertext that is handed in if it is detached.
-pub texts_read : (detach : Bool) (ciphertext : List ℕ) (t : EncodedJwe) → base64url ciphertext ≡ t.content.ciphertext → nat_le 1 (length t.recipients) ≡ true
+pub texts_read : (detach : Bool) (ciphertext : List ℕ) (t : JweParts) → base64url ciphertext ≡ t.ciphertext → nat_le 1 (length t.recipients) ≡ true
     → encoded_in_json (handed_in detach ciphertext) (object (put_all (entries detach t))) ≡ Ok t
-unfolding encoded_in_json encoded_shared recipient_objects encoded_content
+unfolding encoded_in_json recipient_objects
 texts_read detach ciphertext t same some =
     let es = entries detach t in
     let value = object (put_all es) in
     let front = in_front (codes "recipients") recipient_entries t.recipients in
-    let found = each_read (codes "recipients") recipient_entries encoded_recipient no_recipient_at (own_entries detach t) (recipients_are_read detach t) t.recipients some in
+    let found = each_read (codes "recipients") recipient_entries encoded_recipient no_recipient_at (own_entries detach t)
+    (recipients_are_read detach t) t.recipients some in
     rw (
-      text_found (codes "protected") es t.shared.protected (front (codes "protected") _ refl (λ r. refl)),
+      text_found (codes "protected") es t.protected (front (codes "protected") _ refl (λ r. refl)),
       unprotected_found detach t,
-      text_found (codes "aad") es t.shared.aad (front (codes "aad") _ refl (λ r. refl)),
+      text_found (codes "aad") es t.aad (front (codes "aad") _ refl (λ r. refl)),
       by_list value (get (codes "recipients") value),
       found.1,
       found.2,
-      text_found (codes "iv") es t.content.iv (front (codes "iv") _ refl (λ r. refl)),
-      content_found detach (codes "ciphertext") es ciphertext t.content.ciphertext same (front (codes "ciphertext") _ refl (λ r. refl)),
-      text_found (codes "tag") es t.content.tag (front (codes "tag") _ refl (λ r. refl)),
+      text_found (codes "iv") es t.iv (front (codes "iv") _ refl (λ r. refl)),
+      content_found detach (codes "ciphertext") es ciphertext t.ciphertext same (front (codes "ciphertext") _ refl (λ r. refl)),
+      text_found (codes "tag") es t.tag (front (codes "tag") _ refl (λ r. refl)),
     ) refl
 
 -- Without a recipient, the members are refused.
-pub no_texts_read : (detach : Bool) (ciphertext : List ℕ) (t : EncodedJwe) → t.recipients ≡ [] → encoded_in_json (handed_in detach ciphertext) (object (put_all (entries detach t))) ≡ Err Form
-unfolding encoded_in_json encoded_shared recipient_objects
+pub no_texts_read : (detach : Bool) (ciphertext : List ℕ) (t : JweParts) → t.recipients ≡ []
+    → encoded_in_json (handed_in detach ciphertext) (object (put_all (entries detach t))) ≡ Err Form
+unfolding encoded_in_json recipient_objects
 no_texts_read detach ciphertext t none =
     let es = entries detach t in
     let value = object (put_all es) in
     let front = in_front (codes "recipients") recipient_entries t.recipients in
-    let found = none_read (codes "recipients") recipient_entries encoded_recipient no_recipient_at (own_entries detach t) (recipients_are_read detach t) t.recipients none in
+    let found = none_read (codes "recipients") recipient_entries encoded_recipient no_recipient_at (own_entries detach t)
+    (recipients_are_read detach t) t.recipients none in
     rw (
-      text_found (codes "protected") es t.shared.protected (front (codes "protected") _ refl (λ r. refl)),
+      text_found (codes "protected") es t.protected (front (codes "protected") _ refl (λ r. refl)),
       unprotected_found detach t,
-      text_found (codes "aad") es t.shared.aad (front (codes "aad") _ refl (λ r. refl)),
+      text_found (codes "aad") es t.aad (front (codes "aad") _ refl (λ r. refl)),
       by_list value (get (codes "recipients") value),
       found,
     ) refl
 
 -- the texts of a recipient's members
-abbrev pub recipient_spelled : RecipientParts → EncodedRecipient
+abbrev pub recipient_spelled : RecipientParts → RecipientParts
 recipient_spelled p = record { header = p.header; encrypted_key = base64url p.encrypted_key }
 
-abbrev pub parts_spelled : JweParts → EncodedJwe
+abbrev pub parts_spelled : JweParts → JweParts
 parts_spelled p = record {
-  shared = record { protected = p.protected; unprotected = p.unprotected; aad = base64url p.aad };
+  protected = p.protected;
+  unprotected = p.unprotected;
+  iv = base64url p.iv;
+  aad = base64url p.aad;
+  ciphertext = base64url p.ciphertext;
+  tag = base64url p.tag;
   recipients = map recipient_spelled p.recipients;
-  content = record { iv = base64url p.iv; ciphertext = base64url p.ciphertext; tag = base64url p.tag };
 }
 
 -- the texts of an object's members
-abbrev pub spelled : EncryptedObject → EncodedJwe
+abbrev pub spelled : EncryptedObject → JweParts
 spelled o = parts_spelled (parts_of o)
 
 -- ---- the members of which an object is made
 
 -- An object has the texts of the parts that it is made of.
-pub object_keeps : (algs : List KeyManagementAlg) (octets : List ℕ) (parts : JweParts) (o : EncryptedObject) → encrypted_object algs octets parts ≡ Ok o → spelled o ≡ parts_spelled parts
+pub object_keeps : (algs : List KeyManagementAlg) (octets : List ℕ) (parts : JweParts) (o : EncryptedObject) → encrypted_object algs octets parts ≡ Ok o
+    → spelled o ≡ parts_spelled parts
 object_keeps algs octets parts o h = ap parts_spelled (object_is algs octets parts o h)
 
 -- an object that is built of these parts
@@ -186,19 +198,20 @@ unfolding decoded_object
 decoding_is limits parts members = rw (length-map parts.recipients recipient_spelled, parts_read parts members) refl
 
 -- The object is read from the texts of its parts.
-pub object_read : (limits : Limits) (parts : JweParts) (o : EncryptedObject) → AreMembers parts → IsBuilt limits parts o → decoded_object limits (parts_spelled parts) ≡ Ok o
+pub object_read : (limits : Limits) (parts : JweParts) (o : EncryptedObject) → AreMembers parts → IsBuilt limits parts o
+    → decoded_object limits (parts_spelled parts) ≡ Ok o
 object_read limits parts o members is = decoding_is limits parts members ∙ rw (is.few, is.decodes) is.made
 
 -- ---- the texts
 
 -- the texts have only letters, digits, `-` and `_`
-pub record HasUrlTexts (t : EncodedJwe) : Type 0 where
-  pub protected : IsUrlText t.shared.protected
-  pub aad : IsUrlText t.shared.aad
+pub record HasUrlTexts (t : JweParts) : Type 0 where
+  pub protected : IsUrlText t.protected
+  pub aad : IsUrlText t.aad
   pub keys : AllByRecursion (λ r. IsUrlText r.encrypted_key) t.recipients
-  pub iv : IsUrlText t.content.iv
-  pub ciphertext : IsUrlText t.content.ciphertext
-  pub tag : IsUrlText t.content.tag
+  pub iv : IsUrlText t.iv
+  pub ciphertext : IsUrlText t.ciphertext
+  pub tag : IsUrlText t.tag
 
 pub url_texts : (limits : Limits) (parts : JweParts) (o : EncryptedObject) → AreMembers parts → IsBuilt limits parts o → HasUrlTexts (parts_spelled parts)
 url_texts limits parts o members is = record {
@@ -219,7 +232,8 @@ recipient_json n p members shallow = (
 )
 
 -- The members other than the recipients are JSON, if those after them are.
-own_json : (n : ℕ) (parts : JweParts) → AreMembers parts → nat_le (depth (object parts.unprotected)) n ≡ true → (detach : Bool) (later : Entries) → AreJsonEntries n later
+own_json : (n : ℕ) (parts : JweParts) → AreMembers parts → nat_le (depth (object parts.unprotected)) n ≡ true → (detach : Bool) (later : Entries)
+    → AreJsonEntries n later
     → AreJsonEntries n (own_entries detach (parts_spelled parts) ++ later)
 own_json n parts members shallow detach later are =
     let unprotected = header_entry n (codes "unprotected") parts.unprotected refl members.unprotected shallow in
@@ -231,7 +245,8 @@ own_json n parts members shallow detach later are =
     (unprotected, (tag, (protected, (iv, (ciphertext, (aad, are))))))
 
 -- If no header is too deep, all members are JSON and not too deep.
-pub members_json : (parts : JweParts) → AreMembers parts → headers_are_shallow parts ≡ true → (detach : Bool) → AreJsonEntries header_depth (entries detach (parts_spelled parts))
+pub members_json : (parts : JweParts) → AreMembers parts → headers_are_shallow parts ≡ true → (detach : Bool)
+    → AreJsonEntries header_depth (entries detach (parts_spelled parts))
 members_json parts members shallow detach =
     let n : ℕ = depth_of_each (length parts.recipients) in
     let both = and_parts (nat_le (depth (object parts.unprotected)) header_depth) (nest_at_most n parts.recipients) shallow in
@@ -245,7 +260,9 @@ object_json parts members detach =
     let most = bounded (λ (p : RecipientParts). depth (object p.header)) parts.recipients in
     let n : ℕ = most.0 + depth (object parts.unprotected) in
     let each = all_both (λ p is h. recipient_json n p is (le-leb (depth (object p.header)) n (omega (arith, h)))) parts.recipients members.recipients most.1 in
-    let recipients = each_json_deeper n (codes "recipients") recipient_spelled recipient_entries parts.recipients (name_is_json (codes "recipients") refl) each in
+    let recipients = each_json_deeper n (codes "recipients") recipient_spelled recipient_entries parts.recipients
+    (name_is_json (codes "recipients") refl) each in
     let shallow : nat_le (depth (object parts.unprotected)) (suc (suc n)) ≡ true = le-leb _ _ (omega arith) in
     (all_json (suc (suc n)) (entries detach (parts_spelled parts))
-    (own_json (suc (suc n)) parts members shallow detach (each_entries (codes "recipients") recipient_entries (map recipient_spelled parts.recipients)) recipients)).0
+    (own_json (suc (suc n)) parts members shallow detach
+    (each_entries (codes "recipients") recipient_entries (map recipient_spelled parts.recipients)) recipients)).0

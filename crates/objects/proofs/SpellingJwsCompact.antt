@@ -5,7 +5,7 @@ use Rattle.octets.specs.declared.refusal.Refusal.TheVariants.{NotCompact}
 use Rattle.octets.specs.Base64url.{base64url}
 use Rattle.octets.specs.Outcomes.{needs}
 use Rattle.keys.specs.Limits.{Limits}
-use Rattle.objects.specs.Jws.{JwsParts, Signature, SignedObject, EncodedJws, encoded_in_compact, encoded_jws, decoded_object, jws_of, built, members_text, signature_parts_of, json_text, compact_parts, is_compact, jws_compact_text, jws_text, AreMembers, IsMade, TextsSpellObjects}
+use Rattle.objects.specs.Jws.{JwsParts, Signature, SignedObject, encoded_in_compact, encoded_jws, decoded_object, jws_of, built, members_text, signature_parts_of, json_text, compact_parts, is_compact, jws_compact_text, jws_text, AreMembers, IsMade, TextsSpellObjects}
 use Rattle.objects.specs.Texts.{handed_in, between_dots, kept}
 use Rattle.objects.proofs.BuildingJws.{building_is_reading}
 use Rattle.objects.proofs.Characters.{joined_characters, no_json_form, no_line_end}
@@ -16,12 +16,16 @@ use Rattle.objects.proofs.SpellingJws.{spelled, parts_spelled, parts_are, object
 use Rattle.octets.proofs.Lemmas.{steps, passed, same_answer}
 
 -- the texts of a compact text with these parts
-abbrev compact : List ℕ → List ℕ → List ℕ → EncodedJws
-compact protected payload signature = record { payload = payload; signatures = record { protected = protected; header = no_members; signature = signature } ∷ [] }
+abbrev compact : List ℕ → List ℕ → List ℕ → JwsParts
+compact protected payload signature = record {
+  payload = payload;
+  signatures = record { protected = protected; header = no_members; signature = signature } ∷ [];
+}
 
 -- The parts are read as they were joined, with the payload that is handed in if it is detached.
 split_in_three : (detach : Bool) (protected payload signature : List ℕ) → HasUrlTexts (compact protected (base64url payload) signature)
-    → encoded_in_compact (handed_in detach payload) (between_dots (protected ∷ kept detach (base64url payload) ∷ signature ∷ [])) ≡ Ok (compact protected (base64url payload) signature)
+    → encoded_in_compact (handed_in detach payload) (between_dots (protected ∷ kept detach (base64url payload) ∷ signature ∷ []))
+    ≡ Ok (compact protected (base64url payload) signature)
 unfolding encoded_in_compact
 split_in_three detach protected payload signature h =
     let part : List ℕ = kept detach (base64url payload) in
@@ -36,7 +40,8 @@ record IsAlone (detach : Bool) (o : SignedObject) (signatures : List Signature) 
   texts : spelled o ≡ compact protected (base64url o.payload) signature
   text : compact_parts detach o.payload (map signature_parts_of signatures) ≡ between_dots (protected ∷ kept detach (base64url o.payload) ∷ signature ∷ [])
 
-only_signature : (detach : Bool) (o : SignedObject) (signatures : List Signature) → o.signatures ≡ signatures → is_compact signatures ≡ true → IsAlone detach o signatures
+only_signature : (detach : Bool) (o : SignedObject) (signatures : List Signature) → o.signatures ≡ signatures → is_compact signatures ≡ true
+    → IsAlone detach o signatures
 only_signature detach o [] is fits = cc fits
 only_signature detach o (s ∷ []) is fits = record {
   protected = s.protected;
@@ -47,7 +52,8 @@ only_signature detach o (s ∷ []) is fits = record {
 only_signature detach o (s ∷ (other ∷ rest)) is fits = cc fits
 
 -- If the object is read from its texts, it is read from the compact text of these.
-read_compact : (limits : Limits) (detach : Bool) (protected payload signature : List ℕ) (o : SignedObject) → HasUrlTexts (compact protected (base64url payload) signature)
+read_compact : (limits : Limits) (detach : Bool) (protected payload signature : List ℕ) (o : SignedObject)
+    → HasUrlTexts (compact protected (base64url payload) signature)
     → decoded_object limits (compact protected (base64url payload) signature) ≡ Ok o
     → jws_of limits (handed_in detach payload) (between_dots (protected ∷ kept detach (base64url payload) ∷ signature ∷ [])) ≡ Ok o
 unfolding jws_of encoded_jws
@@ -88,4 +94,5 @@ pub written_spells : (limits : Limits) (compact detach : Bool) (o : SignedObject
     → jws_of limits (handed_in detach o.payload) text ≡ Ok o
 written_spells limits true detach o text made h = (texts_spell_objects limits made.0 o made.1.0 made.1.1 detach).1 text h
 written_spells limits false detach o text made h =
-    ap (jws_of limits (handed_in detach o.payload)) (sym (same_answer (json_text detach o) text h)) ∙ (texts_spell_objects limits made.0 o made.1.0 made.1.1 detach).0
+    ap (jws_of limits (handed_in detach o.payload)) (sym (same_answer (json_text detach o) text h))
+    ∙ (texts_spell_objects limits made.0 o made.1.0 made.1.1 detach).0

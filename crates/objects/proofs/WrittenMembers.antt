@@ -55,17 +55,20 @@ begins_named name d ms tail w all is b =
     ∙ ap (λ l. compact_text (string name) ++ 58 ∷ l) (append_assoc (compact_text d) (members_text true ms) tail)
     ∙ quoted name (58 ∷ value) (all_passed is_url_character name is)) in
     let before = begins_comma w.later w (codes "\"" ++ (name ++ (codes "\":" ++ value))) all (at_rest w _ _ all split b) in
-    begins_closed (codes "\":") _ value all (begins_pushed name _ (codes "\":" ++ value) all (begins_pushed (codes "\"") _ (name ++ (codes "\":" ++ value)) all before))
+    begins_closed (codes "\":") _ value all (begins_pushed name _ (codes "\":" ++ value) all
+    (begins_pushed (codes "\"") _ (name ++ (codes "\":" ++ value)) all before))
 
 begins_value : (name : List ℕ) (d : Data) (ms : Members) (tail : List ℕ) (w : Written) (all : List ℕ) → list_all is_url_character name ≡ true
     → Begins w (members_text w.later (member name d ms) ++ tail) all → Begins (with_value name d w) (members_text true ms ++ tail) all
-begins_value name d ms tail w all is b = begins_pushed (compact_text d) (named name w) (members_text true ms ++ tail) all (begins_named name d ms tail w all is b)
+begins_value name d ms tail w all is b = begins_pushed (compact_text d) (named name w) (members_text true ms ++ tail) all
+    (begins_named name d ms tail w all is b)
 
 -- ---- members
 
 -- A text is written if it is there.
 pub begins_text : (name text : List ℕ) (ms : Members) (tail : List ℕ) (w : Written) (all : List ℕ) → list_all is_url_character name ≡ true
-    → Begins w (members_text w.later (member_if_there name (text_there text) ms) ++ tail) all → Begins (with_text name text w) (members_text (with_text name text w).later ms ++ tail) all
+    → Begins w (members_text w.later (member_if_there name (text_there text) ms) ++ tail) all
+    → Begins (with_text name text w) (members_text (with_text name text w).later ms ++ tail) all
 begins_text name [] ms tail w all is b = b
 begins_text name (c ∷ text) ms tail w all is b = begins_value name (string (c ∷ text)) ms tail w all is b
 
@@ -85,7 +88,8 @@ begins_place name octets ms tail w all is b =
     (begins_value name (string (base64url octets)) ms tail w all is b)
 
 -- The text of a content is written unless it is detached.
-pub begins_content : (name : List ℕ) (detach : Bool) (content : List ℕ) (ms : Members) (tail : List ℕ) (w : Written) (all : List ℕ) → list_all is_url_character name ≡ true
+pub begins_content : (name : List ℕ) (detach : Bool) (content : List ℕ) (ms : Members) (tail : List ℕ) (w : Written) (all : List ℕ)
+    → list_all is_url_character name ≡ true
     → Begins w (members_text w.later (member_if_there name (content_there detach (base64url content)) ms) ++ tail) all
     → Begins (with_content name (inside detach content) w) (members_text (with_content name (inside detach content) w).later ms ++ tail) all
 begins_content name true content ms tail w all is b = b
@@ -99,7 +103,8 @@ WritesEach {X} with_one members = (x : X) (tail : List ℕ) (w : Written) (all :
     → Begins w (members_text w.later (present (members x)) ++ tail) all → Begins (with_one x w) (codes "}" ++ tail) all
 
 begins_items : {X : Type 0} (with_one : X → Written → Written) (members : X → Entries) (xs : List X) → WritesEach with_one members
-    → (tail : List ℕ) (w : Written) (all : List ℕ) → Begins w (items_text w.later (objects members xs) ++ tail) all → Begins (with_items with_one xs w) (codes "]" ++ tail) all
+    → (tail : List ℕ) (w : Written) (all : List ℕ) → Begins w (items_text w.later (objects members xs) ++ tail) all
+    → Begins (with_items with_one xs w) (codes "]" ++ tail) all
 begins_items with_one members [] writes tail w all b = b
 begins_items with_one members (x ∷ xs) writes tail w all b =
     let ms : Members = present (members x) in
@@ -113,7 +118,8 @@ begins_items with_one members (x ∷ xs) writes tail w all b =
 
 pub begins_list : {X : Type 0} (name : List ℕ) (with_one : X → Written → Written) (members : X → Entries) (xs : List X)
     → WritesEach with_one members → (ms : Members) (tail : List ℕ) (w : Written) (all : List ℕ) → list_all is_url_character name ≡ true
-    → Begins w (members_text w.later (member name (array (objects members xs)) ms) ++ tail) all → Begins (with_list name with_one xs w) (members_text true ms ++ tail) all
+    → Begins w (members_text w.later (member name (array (objects members xs)) ms) ++ tail) all
+    → Begins (with_list name with_one xs w) (members_text true ms ++ tail) all
 begins_list name with_one members xs writes ms tail w all is b =
     let list = objects members xs in
     let rest : List ℕ = members_text true ms ++ tail in

@@ -11,4 +11,5 @@ with_payload payload o = record { payload = payload; signatures = o.signatures }
 
 -- A text is read with a detached payload as it is with an empty one, except for the payload of the object. See RFC 7515 appendix F.
 abbrev pub PayloadIsHandedIn : Type 0
-PayloadIsHandedIn = (limits : Limits) (payload text : List ℕ) → IsOctets payload → jws_of limits (Some payload) text ≡ (jws_of limits (Some []) text >>= λ o. Ok (with_payload payload o))
+PayloadIsHandedIn = (limits : Limits) (payload text : List ℕ) → IsOctets payload
+    → jws_of limits (Some payload) text ≡ (jws_of limits (Some []) text >>= λ o. Ok (with_payload payload o))

@@ -60,13 +60,18 @@ joint_header protected unprotected per_recipient = do
 
 -- If no name is in two parts, the joint header has the members of each part and no others.
 pub record HasAllMembers (protected unprotected per_recipient : Members) : Type 0 where
-  pub of_protected : (name : List ℕ) (value : Data) → get_member name protected ≡ Some value → get_member name (all_members protected unprotected per_recipient) ≡ Some value
-  pub of_unprotected : (name : List ℕ) (value : Data) → get_member name unprotected ≡ Some value → get_member name (all_members protected unprotected per_recipient) ≡ Some value
-  pub of_per_recipient : (name : List ℕ) (value : Data) → get_member name per_recipient ≡ Some value → get_member name (all_members protected unprotected per_recipient) ≡ Some value
-  pub no_others : (name : List ℕ) → get_member name protected ≡ None → get_member name unprotected ≡ None → get_member name per_recipient ≡ None → get_member name (all_members protected unprotected per_recipient) ≡ None
+  pub of_protected : (name : List ℕ) (value : Data) → get_member name protected ≡ Some value
+      → get_member name (all_members protected unprotected per_recipient) ≡ Some value
+  pub of_unprotected : (name : List ℕ) (value : Data) → get_member name unprotected ≡ Some value
+      → get_member name (all_members protected unprotected per_recipient) ≡ Some value
+  pub of_per_recipient : (name : List ℕ) (value : Data) → get_member name per_recipient ≡ Some value
+      → get_member name (all_members protected unprotected per_recipient) ≡ Some value
+  pub no_others : (name : List ℕ) → get_member name protected ≡ None → get_member name unprotected ≡ None → get_member name per_recipient ≡ None
+      → get_member name (all_members protected unprotected per_recipient) ≡ None
 
 abbrev pub JointHeaderHasAllMembers : Type 0
-JointHeaderHasAllMembers = (protected unprotected per_recipient : Members) → are_disjoint protected unprotected per_recipient ≡ true → HasAllMembers protected unprotected per_recipient
+JointHeaderHasAllMembers = (protected unprotected per_recipient : Members) → are_disjoint protected unprotected per_recipient ≡ true
+    → HasAllMembers protected unprotected per_recipient
 
 -- ---- parameters (docs/SPECIFICATION.md "Objects" 3)
 

@@ -39,46 +39,15 @@ pub record JweParts : Type 0 where
 
 -- ---- the members of a text (RFC 7516 section 5.2, step 1, and section 7)
 
--- what all recipients share except the content: headers and additional data
-pub record EncodedShared : Type 0 where
-  pub protected : List ℕ
-  pub unprotected : Members
-  pub aad : List ℕ
+-- The same records have the members of a text. Then `iv`, `aad`, `ciphertext`, `tag` and `encrypted_key` are base64url texts, and not yet
+-- octets.
 
-pub record EncodedRecipient : Type 0 where
-  pub header : Members
-  pub encrypted_key : List ℕ
-
-pub record EncodedContent : Type 0 where
-  pub iv : List ℕ
-  pub ciphertext : List ℕ
-  pub tag : List ℕ
-
--- the members of an object, with the texts that they have
-pub record EncodedJwe : Type 0 where
-  pub shared : EncodedShared
-  pub recipients : List EncodedRecipient
-  pub content : EncodedContent
-
-unfoldable pub encoded_shared : Data → Result EncodedShared Refusal
-encoded_shared value = do
-  protected ← text_at (codes "protected") value
-  unprotected ← header_at (codes "unprotected") value
-  aad ← text_at (codes "aad") value
-  Ok (record { protected = protected; unprotected = unprotected; aad = aad })
-
-unfoldable pub encoded_recipient : Data → Result EncodedRecipient Refusal
+-- the members of a recipient
+unfoldable pub encoded_recipient : Data → Result RecipientParts Refusal
 encoded_recipient value = do
   encrypted_key ← text_at (codes "encrypted_key") value
   header ← header_at (codes "header") value
   Ok (record { header = header; encrypted_key = encrypted_key })
-
-unfoldable pub encoded_content : Option (List ℕ) → Data → Result EncodedContent Refusal
-encoded_content detached value = do
-  iv ← text_at (codes "iv") value
-  ciphertext ← content_text detached (codes "ciphertext") value
-  tag ← text_at (codes "tag") value
-  Ok (record { iv = iv; ciphertext = ciphertext; tag = tag })
 
 -- the object has no members of a recipient, other than empty ones
 unfoldable pub no_recipient_at : Data → Result (Unit {0}) Refusal
@@ -97,53 +66,57 @@ recipients_by value (Some list) = do
 unfoldable pub recipient_objects : Data → Result Items Refusal
 recipient_objects value = recipients_by value (get (codes "recipients") value)
 
-unfoldable pub encoded_in_json : Option (List ℕ) → Data → Result EncodedJwe Refusal
+unfoldable pub encoded_in_json : Option (List ℕ) → Data → Result JweParts Refusal
 encoded_in_json detached value = do
-  shared ← encoded_shared value
+  protected ← text_at (codes "protected") value
+  unprotected ← header_at (codes "unprotected") value
+  aad ← text_at (codes "aad") value
   objects ← recipient_objects value
   recipients ← each_item encoded_recipient objects
-  content ← encoded_content detached value
-  Ok (record { shared = shared; recipients = recipients; content = content })
+  iv ← text_at (codes "iv") value
+  ciphertext ← content_text detached (codes "ciphertext") value
+  tag ← text_at (codes "tag") value
+  Ok (record { protected = protected; unprotected = unprotected; iv = iv; aad = aad; ciphertext = ciphertext; tag = tag; recipients = recipients })
+
+-- the members of a compact text with these parts
+abbrev pub compact_members : List ℕ → List ℕ → List ℕ → List ℕ → List ℕ → JweParts
+compact_members protected encrypted_key iv ciphertext tag = record {
+  protected = protected;
+  unprotected = no_members;
+  iv = iv;
+  aad = [];
+  ciphertext = ciphertext;
+  tag = tag;
+  recipients = record { header = no_members; encrypted_key = encrypted_key } ∷ [];
+}
 
 -- exactly five parts with dots between them (section 7.1)
-unfoldable pub encoded_in_compact : Option (List ℕ) → List ℕ → Result EncodedJwe Refusal
+unfoldable pub encoded_in_compact : Option (List ℕ) → List ℕ → Result JweParts Refusal
 encoded_in_compact detached text = do
   protected ← split_at_dot text
   encrypted_key ← split_at_dot protected.1
   content ← three_parts encrypted_key.1
   ciphertext ← content_by detached content.1
-  Ok (record {
-    shared = record { protected = protected.0; unprotected = no_members; aad = [] };
-    recipients = record { header = no_members; encrypted_key = encrypted_key.0 } ∷ [];
-    content = record { iv = content.0; ciphertext = ciphertext; tag = content.2 };
-  })
+  Ok (compact_members protected.0 encrypted_key.0 content.0 ciphertext content.2)
 
 -- The members of a JSON text, or of a compact text with or without a line end. The ciphertext may have been handed in.
-unfoldable pub encoded_jwe : Option (List ℕ) → List ℕ → Result EncodedJwe Refusal
+unfoldable pub encoded_jwe : Option (List ℕ) → List ℕ → Result JweParts Refusal
 encoded_jwe detached text = if is_json_form text then (json_value text >>= encoded_in_json detached) else encoded_in_compact detached (without_line_end text)
 
 -- the octets of the base64url texts of the members, except the protected header (RFC 7516 section 5.2, step 2)
-unfoldable pub decoded_recipient : EncodedRecipient → Result RecipientParts Refusal
+unfoldable pub decoded_recipient : RecipientParts → Result RecipientParts Refusal
 decoded_recipient texts = do
   encrypted_key ← decoded texts.encrypted_key
-  Ok (record { header = texts.header; encrypted_key = encrypted_key })
+  Ok (record texts { encrypted_key = encrypted_key })
 
-unfoldable pub decoded_members : EncodedJwe → Result JweParts Refusal
+unfoldable pub decoded_members : JweParts → Result JweParts Refusal
 decoded_members texts = do
-  aad ← decoded texts.shared.aad
+  aad ← decoded texts.aad
   recipients ← each decoded_recipient texts.recipients
-  iv ← decoded texts.content.iv
-  ciphertext ← decoded texts.content.ciphertext
-  tag ← decoded texts.content.tag
-  Ok (record {
-    protected = texts.shared.protected;
-    unprotected = texts.shared.unprotected;
-    iv = iv;
-    aad = aad;
-    ciphertext = ciphertext;
-    tag = tag;
-    recipients = recipients;
-  })
+  iv ← decoded texts.iv
+  ciphertext ← decoded texts.ciphertext
+  tag ← decoded texts.tag
+  Ok (record texts { iv = iv; aad = aad; ciphertext = ciphertext; tag = tag; recipients = recipients })
 
 -- ---- the object (RFC 7516 section 3)
 
@@ -207,7 +180,8 @@ has_no_crit_or_zip header = has_no_crit header && is_none (get_member (codes "zi
 
 -- no part of a header has one (RFC 7516 section 5.2, step 5, and docs/SPECIFICATION.md "Objects" 4)
 abbrev pub have_no_crit_or_zip : Members → Members → List RecipientParts → Bool
-have_no_crit_or_zip protected unprotected recipients = has_no_crit_or_zip protected && (has_no_crit_or_zip unprotected && list_all (λ r. has_no_crit_or_zip r.header) recipients)
+have_no_crit_or_zip protected unprotected recipients =
+    has_no_crit_or_zip protected && (has_no_crit_or_zip unprotected && list_all (λ r. has_no_crit_or_zip r.header) recipients)
 
 -- the object with these members and these octets of its protected header (RFC 7516 section 5.2, steps 3 to 5)
 unfoldable pub encrypted_object : List KeyManagementAlg → List ℕ → JweParts → Result EncryptedObject Refusal
@@ -215,13 +189,22 @@ encrypted_object algs octets parts = do
   protected ← protected_members octets
   recipients ← recipients_of_one_enc algs protected parts.unprotected parts.recipients
   plain ← needs (have_no_crit_or_zip protected parts.unprotected parts.recipients) Unsupported
-  Ok (record { protected = parts.protected; protected_members = protected; unprotected = parts.unprotected; iv = parts.iv; aad = parts.aad; ciphertext = parts.ciphertext; tag = parts.tag; recipients = recipients })
+  Ok (record {
+    protected = parts.protected;
+    protected_members = protected;
+    unprotected = parts.unprotected;
+    iv = parts.iv;
+    aad = parts.aad;
+    ciphertext = parts.ciphertext;
+    tag = parts.tag;
+    recipients = recipients;
+  })
 
 -- the object whose members have these texts, if it has not too many recipients (RFC 7516 section 5.2, steps 2 to 5)
-unfoldable pub decoded_object : Limits → EncodedJwe → Result EncryptedObject Refusal
+unfoldable pub decoded_object : Limits → JweParts → Result EncryptedObject Refusal
 decoded_object limits texts = do
   few ← needs (are_few limits (length texts.recipients)) Limit
-  octets ← decoded texts.shared.protected
+  octets ← decoded texts.protected
   parts ← decoded_members texts
   encrypted_object limits.management octets parts
 
@@ -352,12 +335,14 @@ pub record AreMembers (parts : JweParts) : Type 0 where
 
 -- Making an object of members is the same as reading their JSON text, with a detached ciphertext handed in.
 abbrev pub BuildingIsReading : Type 0
-BuildingIsReading = (limits : Limits) (parts : JweParts) → AreMembers parts → (detach : Bool) → built limits parts ≡ jwe_of limits (handed_in detach parts.ciphertext) (members_text detach parts)
+BuildingIsReading = (limits : Limits) (parts : JweParts) → AreMembers parts → (detach : Bool)
+    → built limits parts ≡ jwe_of limits (handed_in detach parts.ciphertext) (members_text detach parts)
 
 -- The JSON text of members is the compact text of the value that it reads as: it has no white space, and the names of each object stand in
 -- byte order, each once.
 abbrev pub JsonTextsAreCompact : Type 0
-JsonTextsAreCompact = (detach : Bool) (parts : JweParts) (value : Data) → AreMembers parts → json_value (members_text detach parts) ≡ Ok value → members_text detach parts ≡ compact_text value
+JsonTextsAreCompact = (detach : Bool) (parts : JweParts) (value : Data) → AreMembers parts → json_value (members_text detach parts) ≡ Ok value
+    → members_text detach parts ≡ compact_text value
 
 -- the object can be made of members
 abbrev pub IsMade : Limits → EncryptedObject → Type 0
@@ -372,10 +357,12 @@ TextsSpellObjects = (limits : Limits) (parts : JweParts) (o : EncryptedObject) �
 
 -- An object that is read can be made of its members.
 abbrev pub ObjectsAreMade : Type 0
-ObjectsAreMade = (limits : Limits) (detached : Option (List ℕ)) (text : List ℕ) (o : EncryptedObject) → AreOctetsHandedIn detached → IsOctets text → jwe_of limits detached text ≡ Ok o
+ObjectsAreMade = (limits : Limits) (detached : Option (List ℕ)) (text : List ℕ) (o : EncryptedObject) → AreOctetsHandedIn detached → IsOctets text
+    → jwe_of limits detached text ≡ Ok o
     → IsMade limits o
 
 -- A compact text that is read is the compact text of the object, except for a line end.
 abbrev pub CompactTextsAreExact : Type 0
-CompactTextsAreExact = (limits : Limits) (detached : Option (List ℕ)) (text : List ℕ) (o : EncryptedObject) → AreOctetsHandedIn detached → IsOctets text → is_json_form text ≡ false
+CompactTextsAreExact = (limits : Limits) (detached : Option (List ℕ)) (text : List ℕ) (o : EncryptedObject) → AreOctetsHandedIn detached → IsOctets text
+    → is_json_form text ≡ false
     → jwe_of limits detached text ≡ Ok o → jwe_compact_text (is_some detached) o ≡ Ok (without_line_end text)

@@ -34,18 +34,10 @@ pub record JwsParts : Type 0 where
 
 -- ---- the members of a text (RFC 7515 section 5.2, step 1, and section 7)
 
--- the members of a signature, with the text of `signature` in place of its octets
-pub record EncodedSignature : Type 0 where
-  pub protected : List ℕ
-  pub header : Members
-  pub signature : List ℕ
-
-pub record EncodedJws : Type 0 where
-  pub payload : List ℕ
-  pub signatures : List EncodedSignature
+-- The same records have the members of a text. Then `payload` and `signature` are base64url texts, and not yet octets.
 
 -- the members of a signature; `signature` must be there
-unfoldable pub encoded_signature : Data → Result EncodedSignature Refusal
+unfoldable pub encoded_signature : Data → Result SignatureParts Refusal
 encoded_signature value = do
   protected ← text_at (codes "protected") value
   header ← header_at (codes "header") value
@@ -70,7 +62,7 @@ signatures_by value (Some list) = do
 unfoldable pub signature_objects : Data → Result Items Refusal
 signature_objects value = signatures_by value (get (codes "signatures") value)
 
-unfoldable pub encoded_in_json : Option (List ℕ) → Data → Result EncodedJws Refusal
+unfoldable pub encoded_in_json : Option (List ℕ) → Data → Result JwsParts Refusal
 encoded_in_json detached value = do
   payload ← content_text detached (codes "payload") value
   objects ← signature_objects value
@@ -78,14 +70,14 @@ encoded_in_json detached value = do
   Ok (record { payload = payload; signatures = signatures })
 
 -- exactly three parts with dots between them (section 7.1)
-unfoldable pub encoded_in_compact : Option (List ℕ) → List ℕ → Result EncodedJws Refusal
+unfoldable pub encoded_in_compact : Option (List ℕ) → List ℕ → Result JwsParts Refusal
 encoded_in_compact detached text = do
   parts ← three_parts text
   payload ← content_by detached parts.1
   Ok (record { payload = payload; signatures = record { protected = parts.0; header = no_members; signature = parts.2 } ∷ [] })
 
 -- The members of a JSON text, or of a compact text with or without a line end. The payload may have been handed in.
-unfoldable pub encoded_jws : Option (List ℕ) → List ℕ → Result EncodedJws Refusal
+unfoldable pub encoded_jws : Option (List ℕ) → List ℕ → Result JwsParts Refusal
 encoded_jws detached text = if is_json_form text then (json_value text >>= encoded_in_json detached) else encoded_in_compact detached (without_line_end text)
 
 -- ---- the object (RFC 7515 section 3)
@@ -119,10 +111,10 @@ decoded_part parts = do
   Ok (record { octets = octets; parts = parts })
 
 -- a signature whose members have these texts (RFC 7515 section 5.2, steps 2 and 7)
-unfoldable pub decoded_signature : EncodedSignature → Result DecodedSignature Refusal
+unfoldable pub decoded_signature : SignatureParts → Result DecodedSignature Refusal
 decoded_signature texts = do
   signature ← decoded texts.signature
-  decoded_part (record { protected = texts.protected; header = texts.header; signature = signature })
+  decoded_part (record texts { signature = signature })
 
 -- a signature whose protected header is the text of a JSON object (RFC 7515 section 5.2, step 3)
 unfoldable pub headed_signature : DecodedSignature → Result HeadedSignature Refusal
@@ -158,7 +150,7 @@ signed_object algs payload decoded = do
   Ok (record { payload = payload; signatures = signatures })
 
 -- the object whose members have these texts, if it has not too many signatures (RFC 7515 section 5.2, steps 2 to 7)
-unfoldable pub decoded_object : Limits → EncodedJws → Result SignedObject Refusal
+unfoldable pub decoded_object : Limits → JwsParts → Result SignedObject Refusal
 decoded_object limits texts = do
   few ← needs (are_few limits (length texts.signatures)) Limit
   payload ← decoded texts.payload
@@ -194,7 +186,8 @@ built limits parts = do
 -- the members of a signature, with the payload if it is next to them
 abbrev pub signature_members : Option Data → SignatureParts → Entries
 signature_members payload s =
-    (codes "header", header_there s.header) ∷ (codes "payload", payload) ∷ (codes "protected", text_there s.protected) ∷ (codes "signature", Some (string (base64url s.signature))) ∷ []
+    (codes "header", header_there s.header) ∷ (codes "payload", payload) ∷ (codes "protected", text_there s.protected)
+    ∷ (codes "signature", Some (string (base64url s.signature))) ∷ []
 
 -- general (section 7.2.1)
 abbrev pub general_members : Option Data → List SignatureParts → Entries
@@ -252,12 +245,14 @@ pub record AreMembers (parts : JwsParts) : Type 0 where
 
 -- Making an object of members is the same as reading their JSON text, with a detached payload handed in.
 abbrev pub BuildingIsReading : Type 0
-BuildingIsReading = (limits : Limits) (parts : JwsParts) → AreMembers parts → (detach : Bool) → built limits parts ≡ jws_of limits (handed_in detach parts.payload) (members_text detach parts)
+BuildingIsReading = (limits : Limits) (parts : JwsParts) → AreMembers parts → (detach : Bool)
+    → built limits parts ≡ jws_of limits (handed_in detach parts.payload) (members_text detach parts)
 
 -- The JSON text of members is the compact text of the value that it reads as: it has no white space, and the names of each object stand in
 -- byte order, each once.
 abbrev pub JsonTextsAreCompact : Type 0
-JsonTextsAreCompact = (detach : Bool) (parts : JwsParts) (value : Data) → AreMembers parts → json_value (members_text detach parts) ≡ Ok value → members_text detach parts ≡ compact_text value
+JsonTextsAreCompact = (detach : Bool) (parts : JwsParts) (value : Data) → AreMembers parts → json_value (members_text detach parts) ≡ Ok value
+    → members_text detach parts ≡ compact_text value
 
 -- the object can be made of members
 abbrev pub IsMade : Limits → SignedObject → Type 0
@@ -272,10 +267,12 @@ TextsSpellObjects = (limits : Limits) (parts : JwsParts) (o : SignedObject) → 
 
 -- An object that is read can be made of its members.
 abbrev pub ObjectsAreMade : Type 0
-ObjectsAreMade = (limits : Limits) (detached : Option (List ℕ)) (text : List ℕ) (o : SignedObject) → AreOctetsHandedIn detached → IsOctets text → jws_of limits detached text ≡ Ok o
+ObjectsAreMade = (limits : Limits) (detached : Option (List ℕ)) (text : List ℕ) (o : SignedObject) → AreOctetsHandedIn detached → IsOctets text
+    → jws_of limits detached text ≡ Ok o
     → IsMade limits o
 
 -- A compact text that is read is the compact text of the object, except for a line end.
 abbrev pub CompactTextsAreExact : Type 0
-CompactTextsAreExact = (limits : Limits) (detached : Option (List ℕ)) (text : List ℕ) (o : SignedObject) → AreOctetsHandedIn detached → IsOctets text → is_json_form text ≡ false
+CompactTextsAreExact = (limits : Limits) (detached : Option (List ℕ)) (text : List ℕ) (o : SignedObject) → AreOctetsHandedIn detached → IsOctets text
+    → is_json_form text ≡ false
     → jws_of limits detached text ≡ Ok o → jws_compact_text (is_some detached) o ≡ Ok (without_line_end text)

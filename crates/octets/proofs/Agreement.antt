@@ -16,12 +16,12 @@ AgreesUnlessExternal-map f a w v (Err r) e h = λ inside. ap (λ q. q >>= λ x. 
 -- ---- drafts
 
 -- A plan that draws nothing is the same for every random input.
-enough : {W : Type 0} (plan : Plan W) (random : List ℕ) → plan_from (Ok (without_random plan)) random ≡ Ok plan
-enough plan random = ap (λ test. needs test Random >>= λ u. Ok plan) (leb-zero (length random))
+pub plan_from-without_random : {W : Type 0} (plan : Plan W) (random : List ℕ) → plan_from (Ok (without_random plan)) random ≡ Ok plan
+plan_from-without_random plan random = ap (λ test. needs test Random >>= λ u. Ok plan) (leb-zero (length random))
 
 -- The draft of a plan that draws nothing leads to this plan for every random input.
 pub plan_from-by_plan : {W : Type 0} (plan : Result (Plan W) Refusal) (random : List ℕ) → plan_from (by_plan plan) random ≡ plan
-plan_from-by_plan (Ok p) random = enough p random
+plan_from-by_plan (Ok p) random = plan_from-without_random p random
 plan_from-by_plan (Err r) random = refl
 
 -- ---- answers
@@ -58,12 +58,19 @@ pub of_refusal : {X : Type 0} (P : Refusal → Type 0) (r : Result X Refusal) (e
 of_refusal P r e is fact = subst (λ r. IfErr r P) (sym is) fact
 
 -- The octets that were read may be the whole input.
-pub seen_possible : {D : Type 0} (consumed : D → List ℕ) (is_at_end : D → Bool) (old new : D) → IsPossibleInput (observed consumed is_at_end old new) (appended (consumed old) (consumed new))
-seen_possible consumed is_at_end old new = record { rest = []; continues = sym (append-nil (appended (consumed old) (consumed new))); ends = λ _. refl; octets = search rules }
+pub seen_possible : {D : Type 0} (consumed : D → List ℕ) (is_at_end : D → Bool) (old new : D)
+    → IsPossibleInput (observed consumed is_at_end old new) (appended (consumed old) (consumed new))
+seen_possible consumed is_at_end old new = record {
+  rest = [];
+  continues = sym (append-nil (appended (consumed old) (consumed new)));
+  ends = λ _. refl;
+  octets = search rules;
+}
 
 -- ---- the last call decides: it succeeded, or an output failed
 
-pub agrees_last : {W P : Type 0} (answer : Result W Refusal) (wrote : W) (r : Result (Unit {0}) Refusal) → OnOk r P → OnErr r (r ≡ Err Write) → (P → answer ≡ Ok wrote)
+pub agrees_last : {W P : Type 0} (answer : Result W Refusal) (wrote : W) (r : Result (Unit {0}) Refusal) → OnOk r P → OnErr r (r ≡ Err Write)
+    → (P → answer ≡ Ok wrote)
     → AgreesUnlessExternal answer wrote r
 agrees_last answer wrote (Ok done) all cause f = f all
 agrees_last answer wrote (Err e) all cause f = λ inside.
@@ -77,10 +84,12 @@ pub appended-append : (old p : List ℕ) → appended old (old ++ p) ≡ p
 appended-append old p = drop-append_seam old p
 
 -- If an input was read to its end, the whole input is what was read.
-pub whole_is : {D : Type 0} (consumed : D → List ℕ) (is_at_end : D → Bool) (old new : D) (items whole : List ℕ) → consumed new ≡ consumed old ++ items → IsTrue (is_at_end new)
+pub whole_is : {D : Type 0} (consumed : D → List ℕ) (is_at_end : D → Bool) (old new : D) (items whole : List ℕ) → consumed new ≡ consumed old ++ items
+    → IsTrue (is_at_end new)
     → IsPossibleInput (observed consumed is_at_end old new) whole → whole ≡ items
 whole_is consumed is_at_end old new items whole e at_end possible =
-    possible.continues ∙ ap (λ rest. appended (consumed old) (consumed new) ++ rest) (possible.ends at_end) ∙ append-nil (appended (consumed old) (consumed new))
+    possible.continues ∙ ap (λ rest. appended (consumed old) (consumed new) ++ rest) (possible.ends at_end)
+    ∙ append-nil (appended (consumed old) (consumed new))
     ∙ ap (appended (consumed old)) e ∙ appended-append (consumed old) items
 
 -- ---- two outputs that were written

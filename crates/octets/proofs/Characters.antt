@@ -37,8 +37,13 @@ symbols (a ∷ b ∷ c ∷ rest) h =
     let ha : a < 256 = h 0 in
     let hb : b < 256 = h 1 in
     let hc : c < 256 = h 2 in
-    let more : AreUrl (encode_symbols alphabet rest) = symbols rest (λ i. h (suc (suc (suc i)))) in
-    (symbol (a / 4) (omega arith), (symbol (a % 4 * 16 + b / 16) (omega arith), (symbol (b % 16 * 4 + c / 64) (omega arith), (symbol (c % 64) (omega arith), more))))
+    let more : AreUrl (encode_symbols alphabet rest) = symbols rest (λ i. h (suc (suc (suc i)))) in (
+      symbol (a / 4) (omega arith),
+      (
+        symbol (a % 4 * 16 + b / 16) (omega arith),
+        (symbol (b % 16 * 4 + c / 64) (omega arith), (symbol (c % 64) (omega arith), more)),
+      ),
+    )
 
 -- After three more octets, the characters are four further on.
 later : (a b c : ℕ) (rest : List ℕ) (j : ℕ) → six_bits (a ∷ b ∷ c ∷ rest) (suc (suc (suc (suc j)))) ≡ six_bits rest j
@@ -92,7 +97,8 @@ symbol_at (a ∷ b ∷ c ∷ rest) h (suc (suc (suc zero))) l =
     let hd : get_or rest 0 0 < 256 = h 3 in
     same (c % 64) (six_bits (a ∷ b ∷ c ∷ rest) 3) (omega arith)
 symbol_at (a ∷ b ∷ c ∷ rest) h (suc (suc (suc (suc i)))) l =
-    symbol_at rest (λ j. h (suc (suc (suc j)))) i (omega arith) ∙ same (six_bits rest i) (six_bits (a ∷ b ∷ c ∷ rest) (suc (suc (suc (suc i))))) (sym (later a b c rest i))
+    symbol_at rest (λ j. h (suc (suc (suc j)))) i (omega arith)
+    ∙ same (six_bits rest i) (six_bits (a ∷ b ∷ c ∷ rest) (suc (suc (suc (suc i))))) (sym (later a b c rest i))
 
 pub spells_six_bits : SpellsSixBits
 unfolding base64url

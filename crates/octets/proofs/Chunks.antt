@@ -69,7 +69,16 @@ module _ (w : ℕ) (r x : List ℕ) (i n : ℕ) (wide : n ≡ w) (room : w * i +
   pub length-written : length written ≡ length r
   length-written =
       length-append (take (w * i) r) (x ++ drop n (drop (w * i) r))
-      ∙ omega (arith, length-append x (drop n (drop (w * i) r)), length-take-le (w * i) r (omega (arith, room)), length-drop n (drop (w * i) r), length-drop (w * i) r, room, long, wide)
+      ∙ omega (
+        arith,
+        length-append x (drop n (drop (w * i) r)),
+        length-take-le (w * i) r (omega (arith, room)),
+        length-drop n (drop (w * i) r),
+        length-drop (w * i) r,
+        room,
+        long,
+        wide,
+      )
 
   below : (j : ℕ) → j < i → between (w * j) (w * j + w) written ≡ between (w * j) (w * j + w) r
   below j l =
@@ -78,7 +87,8 @@ module _ (w : ℕ) (r x : List ℕ) (i n : ℕ) (wide : n ≡ w) (room : w * i +
       ∙ sym (between_is r (w * j) (w * j + w))
 
   above : (j : ℕ) → i < j → between (w * j) (w * j + w) written ≡ between (w * j) (w * j + w) r
-  above j l = ap (take (w * j + w - w * j)) (drop-put_mid (w * i) n r x (w * j) (omega (arith, times_below w i j l, wide)) (omega (arith, room)) (omega (arith, long, wide)))
+  above j l = ap (take (w * j + w - w * j)) (drop-put_mid (w * i) n r x (w * j) (omega (arith, times_below w i j l, wide)) (omega (arith, room))
+      (omega (arith, long, wide)))
 
   pub chunk_kept : (j : ℕ) → j ≢ i → chunk w written j ≡ chunk w r j
   chunk_kept j ne =
@@ -95,7 +105,8 @@ module _ (w : ℕ) (r x : List ℕ) (i n : ℕ) (wide : n ≡ w) (room : w * i +
 
 -- ---- all chunks joined
 
-pub chunks_joined : (w : ℕ) (f : ℕ → List ℕ) (n a : ℕ) (r : List ℕ) → length r ≡ w * n → ((i : ℕ) → i < n → chunk w r i ≡ f (a + i)) → concat (map f (range_with_len a n)) ≡ r
+pub chunks_joined : (w : ℕ) (f : ℕ → List ℕ) (n a : ℕ) (r : List ℕ) → length r ≡ w * n → ((i : ℕ) → i < n → chunk w r i ≡ f (a + i))
+    → concat (map f (range_with_len a n)) ≡ r
 chunks_joined w f zero a r h k = sym (drop_all 0 r (omega (arith, h)))
 chunks_joined w f (suc n) a r h k =
     ap₂ (λ s t. s ++ t)
@@ -131,5 +142,6 @@ module _ (w : ℕ) (f : ℕ → List ℕ) where
       let rest = concat (map f (range_with_len (a + 1) n)) in
       ap (λ k. chunk w (f a ++ rest) k) (let e : suc i ≡ 1 + i = omega arith in e)
       ∙ chunk_back w (f a) rest 1 i (first ∙ (let e : w ≡ w * 1 = omega arith in e))
-      ∙ chunk-joined n (a + 1) i (λ k l'. ap (λ m. length (f m)) (let e : a + 1 + k ≡ a + (k + 1) = omega arith in e) ∙ h (k + 1) (omega (arith, l'))) (omega (arith, l))
+      ∙ chunk-joined n (a + 1) i (λ k l'. ap (λ m. length (f m)) (let e : a + 1 + k ≡ a + (k + 1) = omega arith in e)
+      ∙ h (k + 1) (omega (arith, l'))) (omega (arith, l))
       ∙ ap f (let e : a + 1 + i ≡ a + suc i = omega arith in e)

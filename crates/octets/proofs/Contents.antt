@@ -22,7 +22,9 @@ contents_same a b octets position step =
     ∙ ap (λ s. made b.octets b.position s b.fronts_are_octets) step
 
 -- If nothing was read from an input before a call, all its octets are a possible input of the call.
-pub contents_possible : (old new : Contents) (octets : List ℕ) → old.octets ≡ octets → old.position ≡ 0 → source_of new ≡ source_of old → IsPossibleInput (observed front_of is_read old new) octets
+pub contents_possible : (old new : Contents) (octets : List ℕ) → old.octets ≡ octets → old.position ≡ 0 → source_of new ≡ source_of old
+    → IsPossibleInput (observed front_of is_read old new) octets
 contents_possible old new octets all begins same =
     let nothing : front_of old ≡ [] = ap (λ n. take n old.octets) begins in
-    subst (λ read. IsPossibleInput (record { octets = appended read (front_of new); ended = is_read new }) octets) (sym nothing) (source_is_given new octets (same ∙ ap Some all))
+    subst (λ read. IsPossibleInput (record { octets = appended read (front_of new); ended = is_read new }) octets) (sym nothing)
+    (source_is_given new octets (same ∙ ap Some all))

@@ -83,7 +83,8 @@ scanned dec pad at [] st fin i table bytes held h =
     let n : st ≡ fin = cc h in
     (i, rw (← n) held)
 scanned dec pad at (b ∷ bs) st fin i table bytes held h = elim (result_cases (push_leftover dec pad at st i b)) [
-  | inl ok ↦ scanned dec pad at bs ok.0 fin (i + 1) table (λ k. bytes (suc k)) (IsLeftover_next dec pad at st i b ok.0 table held (bytes 0) ok.1) (rw (ok.1, scan_steps) at h)
+  | inl ok ↦ scanned dec pad at bs ok.0 fin (i + 1) table (λ k. bytes (suc k)) (IsLeftover_next dec pad at st i b ok.0 table held (bytes 0) ok.1)
+      (rw (ok.1, scan_steps) at h)
   | inr err ↦ cc (rw (err.1, scan_steps) at h)
 ]
 
@@ -114,7 +115,8 @@ octets_of_meaning text z bytes ok =
     let front : IsOctets (groups_bytes dec text q) = groups_octets dec text q table bytes p1.0 in
     let back : IsOctets (suffix_bytes dec e.padding.value (4 * q) text) = elim (result_cases (scan_last dec e.padding.value (4 * q) text)) [
       | inl ok ↦
-          let small = scanned dec e.padding.value (4 * q) (drop (4 * q) text) no_leftover ok.0 0 table (IsOctets-drop (4 * q) text bytes) (omega arith, omega arith, omega arith, zeros_below) ok.1 in
+          let small = scanned dec e.padding.value (4 * q) (drop (4 * q) text) no_leftover ok.0 0 table (IsOctets-drop (4 * q) text bytes)
+          (omega arith, omega arith, omega arith, zeros_below) ok.1 in
           rw ok.1 (leftover_octets ok.0 small.0 small.1)
       | inr err ↦ cc (rw err.1 at p1.1)
     ] in

@@ -42,8 +42,8 @@ settled_kept p r =
           ∙ ap (λ l. l ++ drop k (take n (p ++ r))) (take-take k n (p ++ r) le ∙ take-append-le k p r (omega arith)),
     )
 
-pub octets_kept : (text : List ℕ) → IsOctets text → IsOctets (without_line_end text)
-octets_kept text h = let c = cut text in subst IsOctets (sym c.1) (IsOctets-take c.0 text h)
+pub IsOctets-without_line_end : (text : List ℕ) → IsOctets text → IsOctets (without_line_end text)
+IsOctets-without_line_end text h = let c = cut text in subst IsOctets (sym c.1) (IsOctets-take c.0 text h)
 
 by_tests_kept : (b c : Bool) (g t t1 t2 u u1 u2 : List ℕ) → t ≡ g ++ u → t1 ≡ g ++ u1 → t2 ≡ g ++ u2 → cond b (cond c t2 t1) t ≡ g ++ cond b (cond c u2 u1) u
 by_tests_kept true true g t t1 t2 u u1 u2 e e1 e2 = e2
@@ -60,10 +60,14 @@ some_kept g h long =
     get_or-append_right g h (length g) (length (g ++ h) - 1) 0 refl (omega (arith, all)) ∙ ap (slice_index h) (omega (arith, all)) in
     let before : slice_index (g ++ h) (length (g ++ h) - 2) ≡ slice_index h (length h - 2) =
     get_or-append_right g h (length g) (length (g ++ h) - 2) 0 refl (omega (arith, all)) ∙ ap (slice_index h) (omega (arith, all)) in
-    ap (λ x. cond (x == 10) (cond (slice_index (g ++ h) (length (g ++ h) - 2) == 13) (take (length (g ++ h) - 2) (g ++ h)) (take (length (g ++ h) - 1) (g ++ h))) (g ++ h)) last
-    ∙ ap (λ x. cond (slice_index h (length h - 1) == 10) (cond (x == 13) (take (length (g ++ h) - 2) (g ++ h)) (take (length (g ++ h) - 1) (g ++ h))) (g ++ h)) before
-    ∙ by_tests_kept (slice_index h (length h - 1) == 10) (slice_index h (length h - 2) == 13) g (g ++ h) (take (length (g ++ h) - 1) (g ++ h)) (take (length (g ++ h) - 2) (g ++ h))
-    h (take (length h - 1) h) (take (length h - 2) h) refl (ap (λ n. take n (g ++ h)) one ∙ take-append-add g h (length h - 1)) (ap (λ n. take n (g ++ h)) two ∙ take-append-add g h (length h - 2))
+    ap (λ x. cond (x == 10) (cond (slice_index (g ++ h) (length (g ++ h) - 2) == 13) (take (length (g ++ h) - 2) (g ++ h))
+    (take (length (g ++ h) - 1) (g ++ h))) (g ++ h)) last
+    ∙ ap (λ x. cond (slice_index h (length h - 1) == 10) (cond (x == 13) (take (length (g ++ h) - 2) (g ++ h)) (take (length (g ++ h) - 1) (g ++ h))) (g ++ h))
+    before
+    ∙ by_tests_kept (slice_index h (length h - 1) == 10) (slice_index h (length h - 2) == 13) g (g ++ h) (take (length (g ++ h) - 1) (g ++ h))
+    (take (length (g ++ h) - 2) (g ++ h))
+    h (take (length h - 1) h) (take (length h - 2) h) refl (ap (λ n. take n (g ++ h)) one ∙ take-append-add g h (length h - 1))
+    (ap (λ n. take n (g ++ h)) two ∙ take-append-add g h (length h - 2))
 
 -- The line end is in the part that is waiting.
 pub waiting_kept : (p : List ℕ) → without_line_end p ≡ settled p ++ without_line_end (unsettled p)
@@ -88,22 +92,28 @@ refused_whole p r octets none = by_answer (decoded (without_line_end (p ++ r))) 
     by_answer : (a : Result (List ℕ) Refusal) → decoded (without_line_end (p ++ r)) ≡ a → a ≡ Err Base64
     by_answer (Ok w) e =
         let k = settled_kept p r in
-        let parts = parts_of_meaning (settled p) k.0 w (subst IsOctets k.1 (octets_kept (p ++ r) octets)) (are_groups p) (ap decoded (sym k.1) ∙ e) in
+        let parts = parts_of_meaning (settled p) k.0 w (subst IsOctets k.1 (IsOctets-without_line_end (p ++ r) octets)) (are_groups p)
+        (ap decoded (sym k.1) ∙ e) in
         absurd (none (take (length (settled p) / 4 * 3) w) parts.0)
     by_answer (Err e) is = ap Err (decodes_exactly.refusal (without_line_end (p ++ r)) e is)
 
 -- ---- the end was found
 
-pub last_decoded : (p x y : List ℕ) → IsOctets p → decoded (settled p) ≡ Ok x → decoded (without_line_end (unsettled p)) ≡ Ok y → decoded (without_line_end p) ≡ Ok (x ++ y)
+pub last_decoded : (p x y : List ℕ) → IsOctets p → decoded (settled p) ≡ Ok x → decoded (without_line_end (unsettled p)) ≡ Ok y
+    → decoded (without_line_end p) ≡ Ok (x ++ y)
 last_decoded p x y octets front back =
-    ap decoded (waiting_kept p) ∙ meaning_of_parts (settled p) (without_line_end (unsettled p)) x y (subst IsOctets (waiting_kept p) (octets_kept p octets)) (are_groups p) front back
+    ap decoded (waiting_kept p) ∙ meaning_of_parts (settled p) (without_line_end (unsettled p)) x y
+    (subst IsOctets (waiting_kept p) (IsOctets-without_line_end p octets))
+    (are_groups p) front back
 
 pub last_refused : (p : List ℕ) → IsOctets p → decoded (without_line_end (unsettled p)) ≡ Err Base64 → decoded (without_line_end p) ≡ Err Base64
 last_refused p octets back = by_answer (decoded (without_line_end p)) refl
   where
     by_answer : (a : Result (List ℕ) Refusal) → decoded (without_line_end p) ≡ a → a ≡ Err Base64
     by_answer (Ok w) e =
-        let parts = parts_of_meaning (settled p) (without_line_end (unsettled p)) w (subst IsOctets (waiting_kept p) (octets_kept p octets)) (are_groups p) (ap decoded (sym (waiting_kept p)) ∙ e) in
+        let parts = parts_of_meaning (settled p) (without_line_end (unsettled p)) w
+        (subst IsOctets (waiting_kept p) (IsOctets-without_line_end p octets)) (are_groups p)
+        (ap decoded (sym (waiting_kept p)) ∙ e) in
         let both = sym back ∙ parts.1 in
         cc both
     by_answer (Err e) is = ap Err (decodes_exactly.refusal (without_line_end p) e is)
@@ -137,8 +147,10 @@ unfolding settled octets_of_groups
 reading_starts waiting none = (none ∙ sym unsettled-nil, decoded-nil)
 
 -- The groups that a piece completes add their octets to the settled ones.
-pub settled_adds : (p piece text : List ℕ) → IsOctets (p ++ piece) → decoded (settled p) ≡ Ok (octets_of_groups (settled p)) → decoded (settled (unsettled p ++ piece)) ≡ Ok text
-    → (decoded (settled (p ++ piece)) ≡ Ok (octets_of_groups (settled (p ++ piece)))) × (octets_of_groups (settled (p ++ piece)) ≡ octets_of_groups (settled p) ++ text)
+pub settled_adds : (p piece text : List ℕ) → IsOctets (p ++ piece) → decoded (settled p) ≡ Ok (octets_of_groups (settled p))
+    → decoded (settled (unsettled p ++ piece)) ≡ Ok text
+    → (decoded (settled (p ++ piece)) ≡ Ok (octets_of_groups (settled (p ++ piece))))
+    × (octets_of_groups (settled (p ++ piece)) ≡ octets_of_groups (settled p) ++ text)
 settled_adds p piece text octets front back =
     let both = decoded_settled-append p piece (octets_of_groups (settled p)) text octets front back in
     let same = good_octets (settled (p ++ piece)) (octets_of_groups (settled p) ++ text) (settled_octets (p ++ piece) octets) (are_groups (p ++ piece)) both in
@@ -153,7 +165,8 @@ settled_refuses p piece none rest octets =
 
 pub settling_grows : Grows settling
 settling_grows = record {
-  more = λ p q. subst (λ l. Begins (octets_of_groups (settled p)) (octets_of_groups l)) (sym (settled-append p q)) (groups_go_on (settled p) (settled (unsettled p ++ q)));
+  more = λ p q. subst (λ l. Begins (octets_of_groups (settled p)) (octets_of_groups l)) (sym (settled-append p q))
+      (groups_go_on (settled p) (settled (unsettled p ++ q)));
   whole = λ p q w octets e. begins_all (octets_of_groups (settled p)) (octets_of_groups p) w (settled_begins p) (decoding_grows.whole p q w octets e);
 }
   where
@@ -164,7 +177,8 @@ settling_grows = record {
     settled_begins p = subst (λ l. Begins (octets_of_groups (settled p)) (octets_of_groups l)) (settled-unsettled p) (groups_go_on (settled p) (unsettled p))
 
 -- The octets that are settled begin the octets that may be written.
-pub settling_begins : (p : List ℕ) (ended : Bool) → Begins (beginning_of settling (record { octets = p; ended = ended })) (beginning_of decoding (record { octets = p; ended = ended }))
+pub settling_begins : (p : List ℕ) (ended : Bool) → Begins (beginning_of settling (record { octets = p; ended = ended }))
+    (beginning_of decoding (record { octets = p; ended = ended }))
 settling_begins p false = subst (λ l. Begins (octets_of_groups (settled p)) (octets_of_groups l)) (settled-unsettled p) (groups_go_on (settled p) (unsettled p))
 settling_begins p true = by_answer (decoding.whole p)
   where
@@ -179,7 +193,8 @@ settling_keeps_up p =
     let n : ℕ = length p - 4160 in
     let k : ℕ = (length p - 2) / 4 * 4 in
     let b = groups_go_on (take n p) (drop n (settled p)) in
-    let same : take n p ++ drop n (settled p) ≡ settled p = ap (λ l. l ++ drop n (settled p)) (sym (take-take n k p (omega arith))) ∙ take-append-drop n (settled p) in
+    let same : take n p ++ drop n (settled p) ≡ settled p = ap (λ l. l ++ drop n (settled p)) (sym (take-take n k p (omega arith)))
+    ∙ take-append-drop n (settled p) in
     omega (arith, ap length b.continues, length-append (octets_of_groups (take n p)) b.rest, ap (λ l. length (octets_of_groups l)) same)
 
 pub short_kept : (text : List ℕ) → length (without_line_end text) ≤ length text

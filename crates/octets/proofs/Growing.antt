@@ -52,30 +52,36 @@ unfolding without_line_end
 cut_at text = by_tests (slice_index text (length text - 1) == 10) (slice_index text (length text - 2) == 13) refl refl
   where
     by_tests : (b c : Bool) → (slice_index text (length text - 1) == 10) ≡ b → (slice_index text (length text - 2) == 13) ≡ c
-        → (n : ℕ) × (cond b (cond c (take (length text - 2) text) (take (length text - 1) text)) text ≡ take n text) × (n < length text → is_url_character (slice_index text n) ≡ false)
+        → (n : ℕ) × (cond b (cond c (take (length text - 2) text) (take (length text - 1) text)) text ≡ take n text)
+        × (n < length text → is_url_character (slice_index text n) ≡ false)
     by_tests true true e f = (length text - 2, refl, λ l. ap is_url_character (eqb-true (slice_index text (length text - 2)) 13 f))
     by_tests true false e f = (length text - 1, refl, λ l. ap is_url_character (eqb-true (slice_index text (length text - 1)) 10 e))
     by_tests false c e f = (length text, sym (take-length text), λ l. absurd (omega arith))
 
-group_characters : (a b c d : ℕ) (o : List ℕ) → IsOctets (a ∷ b ∷ c ∷ d ∷ []) → decoded (a ∷ b ∷ c ∷ d ∷ []) ≡ Ok o → AllByRecursion (λ x. is_url_character x ≡ true) (a ∷ b ∷ c ∷ d ∷ [])
+group_characters : (a b c d : ℕ) (o : List ℕ) → IsOctets (a ∷ b ∷ c ∷ d ∷ []) → decoded (a ∷ b ∷ c ∷ d ∷ []) ≡ Ok o
+    → AllByRecursion (λ x. is_url_character x ≡ true) (a ∷ b ∷ c ∷ d ∷ [])
 group_characters a b c d o octets ok =
     let text = text_of_meaning (a ∷ b ∷ c ∷ d ∷ []) o octets ok in
     subst (AllByRecursion (λ x. is_url_character x ≡ true)) (sym text) (has_url_characters o (octets_of_meaning (a ∷ b ∷ c ∷ d ∷ []) o octets ok))
 
-begins_cut : (p q w : List ℕ) (n : ℕ) → IsOctets (p ++ q) → (n < length (p ++ q) → is_url_character (slice_index (p ++ q) n) ≡ false) → decoded (take n (p ++ q)) ≡ Ok w → Begins (octets_of_groups p) w
+begins_cut : (p q w : List ℕ) (n : ℕ) → IsOctets (p ++ q) → (n < length (p ++ q) → is_url_character (slice_index (p ++ q) n) ≡ false)
+    → decoded (take n (p ++ q)) ≡ Ok w → Begins (octets_of_groups p) w
 unfolding octets_of_groups
 begins_cut [] q w n octets bad ok = record { rest = w; continues = refl }
 begins_cut (a ∷ []) q w n octets bad ok = record { rest = w; continues = refl }
 begins_cut (a ∷ b ∷ []) q w n octets bad ok = record { rest = w; continues = refl }
 begins_cut (a ∷ b ∷ c ∷ []) q w n octets bad ok = record { rest = w; continues = refl }
-begins_cut (a ∷ b ∷ c ∷ d ∷ rest) q w n octets bad ok = by_group n (decoded first) refl bad ok (λ m. begins_cut rest q (drop 3 w) m (λ k. octets (suc (suc (suc (suc k))))))
+begins_cut (a ∷ b ∷ c ∷ d ∷ rest) q w n octets bad ok =
+    by_group n (decoded first) refl bad ok (λ m. begins_cut rest q (drop 3 w) m (λ k. octets (suc (suc (suc (suc k))))))
   where
     first : List ℕ
     first = a ∷ b ∷ c ∷ d ∷ []
 
-    by_group : (m : ℕ) (r : Result (List ℕ) Refusal) → decoded first ≡ r → (m < length (first ++ (rest ++ q)) → is_url_character (slice_index (first ++ (rest ++ q)) m) ≡ false)
+    by_group : (m : ℕ) (r : Result (List ℕ) Refusal) → decoded first ≡ r
+        → (m < length (first ++ (rest ++ q)) → is_url_character (slice_index (first ++ (rest ++ q)) m) ≡ false)
         → decoded (take m (first ++ (rest ++ q))) ≡ Ok w
-        → ((k : ℕ) → (k < length (rest ++ q) → is_url_character (slice_index (rest ++ q) k) ≡ false) → decoded (take k (rest ++ q)) ≡ Ok (drop 3 w) → Begins (octets_of_groups rest) (drop 3 w))
+        → ((k : ℕ) → (k < length (rest ++ q) → is_url_character (slice_index (rest ++ q) k) ≡ false) → decoded (take k (rest ++ q)) ≡ Ok (drop 3 w)
+        → Begins (octets_of_groups rest) (drop 3 w))
         → Begins (and_octets r (octets_of_groups rest)) w
     by_group m (Err e) is bad ok later = record { rest = w; continues = refl }
     by_group zero (Ok o) is bad ok later =
@@ -98,7 +104,8 @@ begins_cut (a ∷ b ∷ c ∷ d ∷ rest) q w n octets bad ok = by_group n (deco
         let b = later k (λ l. bad (omega arith)) parts.1 in
         record {
           rest = b.rest;
-          continues = sym (take-append-drop 3 w) ∙ ap (λ l. take 3 w ++ l) b.continues ∙ ap (λ l. l ++ (octets_of_groups rest ++ b.rest)) (sym same) ∙ sym (append_assoc o (octets_of_groups rest) b.rest);
+          continues = sym (take-append-drop 3 w) ∙ ap (λ l. take 3 w ++ l) b.continues ∙ ap (λ l. l ++ (octets_of_groups rest ++ b.rest)) (sym same)
+              ∙ sym (append_assoc o (octets_of_groups rest) b.rest);
         }
 
 pub decoding_grows : Grows decoding
@@ -130,7 +137,8 @@ first_group a b c d rest y some groups begins =
     ap base64url (sym (take-append-drop 3 y)) ∙ base64url-append (take 3 y) (drop 3 y) (omega (arith, front)) in
     let all : (a ∷ b ∷ c ∷ d ∷ []) ++ rest ≡ base64url (take 3 y) ++ (base64url (drop 3 y) ++ begins.rest) =
     begins.continues ∙ ap (λ t. t ++ begins.rest) cut ∙ append_assoc (base64url (take 3 y)) (base64url (drop 3 y)) begins.rest in
-    let same = same_front (a ∷ b ∷ c ∷ d ∷ []) rest (base64url (take 3 y)) (base64url (drop 3 y) ++ begins.rest) all (omega (arith, front, length-base64url (take 3 y))) in
+    let same = same_front (a ∷ b ∷ c ∷ d ∷ []) rest (base64url (take 3 y)) (base64url (drop 3 y) ++ begins.rest) all
+    (omega (arith, front, length-base64url (take 3 y))) in
     (same.0, record { rest = begins.rest; continues = same.1 })
 
 no_text : base64url [] ≡ []
@@ -163,7 +171,8 @@ longer a b c d rest x (Ok o) is octets later =
       longest = λ y y_octets groups front. by_length y y_octets groups front (cases_lt 0 (length y)) three;
     }
   where
-    by_length : (y : List ℕ) → IsOctets y → length y % 3 ≡ 0 → Begins (base64url y) (a ∷ b ∷ c ∷ d ∷ rest) → (0 < length y) ⊎ (length y ≤ 0) → length o ≡ 3 → length y ≤ length (o ++ x)
+    by_length : (y : List ℕ) → IsOctets y → length y % 3 ≡ 0 → Begins (base64url y) (a ∷ b ∷ c ∷ d ∷ rest) → (0 < length y) ⊎ (length y ≤ 0) → length o ≡ 3
+        → length y ≤ length (o ++ x)
     by_length y y_octets groups front (inl some) three =
         let first = first_group a b c d rest y some groups front in
         let back = later.longest (drop 3 y) (IsOctets-drop 3 y y_octets) (omega (arith, groups, length-drop 3 y)) first.1 in

@@ -35,7 +35,8 @@ length-filled f k xs ys in_range rest len =
     ∙ omega (arith, length-append (take f xs) (take k ys), length-take-le f xs in_range, length-take-le k ys (omega arith), length-drop (f + k) xs)
 
 -- Writing octets to the front of a part leaves the elements after them as they were in the whole.
-pub drop-part : (n k : ℕ) (put whole : List ℕ) → n ≤ length put → n ≤ length (take k whole) → drop n put ≡ drop n (take k whole) → drop n (put ++ drop k whole) ≡ drop n whole
+pub drop-part : (n k : ℕ) (put whole : List ℕ) → n ≤ length put → n ≤ length (take k whole) → drop n put ≡ drop n (take k whole)
+    → drop n (put ++ drop k whole) ≡ drop n whole
 drop-part n k put whole within fits same =
     drop-append-le n put (drop k whole) within ∙ ap (λ l. l ++ drop k whole) same ∙ sym (drop-append-le n (take k whole) (drop k whole) fits)
     ∙ ap (drop n) (take-append-drop k whole)

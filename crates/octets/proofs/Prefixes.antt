@@ -25,7 +25,8 @@ AppendsPrefixOf-front front rest old new grows =
 -- The first n octets of the text were appended.
 pub AppendsPrefixOf-part : (text old new : List ℕ) (n : ℕ) → new ≡ old ++ take n text → AppendsPrefixOf text old new
 AppendsPrefixOf-part text old new n e =
-    subst (λ t. AppendsPrefixOf t old new) (take-append-drop n text) (AppendsPrefixOf-front (take n text) (drop n text) old new (AppendsPrefixOf-all (take n text) old new e))
+    subst (λ t. AppendsPrefixOf t old new) (take-append-drop n text)
+    (AppendsPrefixOf-front (take n text) (drop n text) old new (AppendsPrefixOf-all (take n text) old new e))
 
 -- Nothing of the text was appended.
 pub AppendsPrefixOf-kept : (text old : List ℕ) → AppendsPrefixOf text old old

@@ -16,7 +16,8 @@ use Rattle.octets.proofs.Streaming.{Due, Last, may_stand, read_more}
 
 -- ---- plans after a text
 
-begins_behind : (before x y : List ℕ) → Begins x y → Begins (before ++ x) (before ++ y)
+-- What begins a list still begins it with the same list in front of both.
+pub begins_behind : (before x y : List ℕ) → Begins x y → Begins (before ++ x) (before ++ y)
 begins_behind before x y b = record { rest = b.rest; continues = ap (λ l. before ++ l) b.continues ∙ sym (append_assoc before x b.rest) }
 
 pub behind_grows : (before : List ℕ) (plan : Plan (List ℕ)) → Grows plan → Grows (behind before plan)
@@ -25,22 +26,26 @@ behind_grows before plan g = record {
   whole = λ p q w octets e. by_answer p q w octets (plan.whole (p ++ q)) refl e;
 }
   where
-    by_answer : (p q w : List ℕ) → IsOctets (p ++ q) → (a : Result (List ℕ) Refusal) → plan.whole (p ++ q) ≡ a → (a >>= λ t. Ok (before ++ t)) ≡ Ok w → Begins (before ++ plan.fixed p) w
+    by_answer : (p q w : List ℕ) → IsOctets (p ++ q) → (a : Result (List ℕ) Refusal) → plan.whole (p ++ q) ≡ a → (a >>= λ t. Ok (before ++ t)) ≡ Ok w
+        → Begins (before ++ plan.fixed p) w
     by_answer p q w octets (Ok t) is e =
         let same : before ++ t ≡ w = cc e in
         subst (Begins (before ++ plan.fixed p)) same (begins_behind before (plan.fixed p) t (g.whole p q t octets is))
     by_answer p q w octets (Err r) is e = cc e
 
-pub behind_adds : (before : List ℕ) (plan : Plan (List ℕ)) (p q text : List ℕ) → plan.fixed (p ++ q) ≡ plan.fixed p ++ text → (behind before plan).fixed (p ++ q) ≡ (behind before plan).fixed p ++ text
+pub behind_adds : (before : List ℕ) (plan : Plan (List ℕ)) (p q text : List ℕ) → plan.fixed (p ++ q) ≡ plan.fixed p ++ text
+    → (behind before plan).fixed (p ++ q) ≡ (behind before plan).fixed p ++ text
 behind_adds before plan p q text h = ap (λ l. before ++ l) h ∙ sym (append_assoc before (plan.fixed p) text)
 
-pub behind_ends : (before : List ℕ) (plan : Plan (List ℕ)) (p text : List ℕ) → plan.whole p ≡ Ok (plan.fixed p ++ text) → (behind before plan).whole p ≡ Ok ((behind before plan).fixed p ++ text)
+pub behind_ends : (before : List ℕ) (plan : Plan (List ℕ)) (p text : List ℕ) → plan.whole p ≡ Ok (plan.fixed p ++ text)
+    → (behind before plan).whole p ≡ Ok ((behind before plan).fixed p ++ text)
 behind_ends before plan p text h = ap (λ a. a >>= λ t. Ok (before ++ t)) h ∙ ap Ok (sym (append_assoc before (plan.fixed p) text))
 
 pub behind_refuses : (before : List ℕ) (plan : Plan (List ℕ)) (p : List ℕ) (e : Refusal) → plan.whole p ≡ Err e → (behind before plan).whole p ≡ Err e
 behind_refuses before plan p e h = ap (λ a. a >>= λ t. Ok (before ++ t)) h
 
-pub behind_refused : (before : List ℕ) (plan : Plan (List ℕ)) (content : List ℕ) (e : Refusal) → (behind before plan).whole content ≡ Err e → plan.whole content ≡ Err e
+pub behind_refused : (before : List ℕ) (plan : Plan (List ℕ)) (content : List ℕ) (e : Refusal) → (behind before plan).whole content ≡ Err e
+    → plan.whole content ≡ Err e
 behind_refused before plan content e h = by_answer (plan.whole content) refl
   where
     by_answer : (a : Result (List ℕ) Refusal) → plan.whole content ≡ a → a ≡ Err e
@@ -55,7 +60,8 @@ behind_nothing plan content = by_answer (plan.whole content)
     by_answer (Ok text) = refl
     by_answer (Err r) = refl
 
-pub beginning_behind_nothing : (plan : Plan (List ℕ)) (p : List ℕ) (ended : Bool) → beginning_of (behind [] plan) (record { octets = p; ended = ended }) ≡ beginning_of plan (record { octets = p; ended = ended })
+pub beginning_behind_nothing : (plan : Plan (List ℕ)) (p : List ℕ) (ended : Bool)
+    → beginning_of (behind [] plan) (record { octets = p; ended = ended }) ≡ beginning_of plan (record { octets = p; ended = ended })
 beginning_behind_nothing plan p false = refl
 beginning_behind_nothing plan p true = ap (λ a. result_unwrap_or a (plan.fixed p)) (behind_nothing plan p)
 
@@ -66,9 +72,11 @@ extends_itself l = sym (append-nil l) ∙ ap (λ x. l ++ x) (sym (drop-length l)
 
 pub extended_by : (first read now piece : List ℕ) → Extends first read → now ≡ read ++ piece → Extends first now
 extended_by first read now piece extends more =
-    more ∙ ap (λ l. l ++ piece) extends ∙ append_assoc first (appended first read) piece ∙ ap (λ l. first ++ l) (sym (read_more first read now piece extends more))
+    more ∙ ap (λ l. l ++ piece) extends ∙ append_assoc first (appended first read) piece
+    ∙ ap (λ l. first ++ l) (sym (read_more first read now piece extends more))
 
-pub octets_with : (first read now piece : List ℕ) → Extends first read → IsOctets (appended first read) → now ≡ read ++ piece → IsOctets piece → IsOctets (appended first now)
+pub octets_with : (first read now piece : List ℕ) → Extends first read → IsOctets (appended first read) → now ≡ read ++ piece → IsOctets piece
+    → IsOctets (appended first now)
 octets_with first read now piece extends octets more is =
     subst IsOctets (sym (read_more first read now piece extends more)) (IsOctets-append (appended first read) piece octets is)
 
@@ -81,7 +89,8 @@ something_read n buf p l some room is none = some (omega (arith, room, ap length
 -- ---- the text that is due
 
 -- At the start, the text before the plan is due, if the plan fixes nothing yet.
-pub first_due : (before : List ℕ) (plan : Plan (List ℕ)) (read written : List ℕ) → plan.fixed [] ≡ [] → Due (behind before plan) read read written written before
+pub first_due : (before : List ℕ) (plan : Plan (List ℕ)) (read written : List ℕ) → plan.fixed [] ≡ []
+    → Due (behind before plan) read read written written before
 first_due before plan read written is =
     let none : appended read read ≡ [] = drop-length read in record {
       extends = sym (append-nil read) ∙ ap (λ l. read ++ l) (sym none);
@@ -91,11 +100,13 @@ first_due before plan read written is =
     }
 
 -- If nothing more was read, the same text is due.
-pub due_read : (plan : Plan (List ℕ)) (first read now old_written written text : List ℕ) → Due plan first read old_written written text → now ≡ read → Due plan first now old_written written text
+pub due_read : (plan : Plan (List ℕ)) (first read now old_written written text : List ℕ) → Due plan first read old_written written text → now ≡ read
+    → Due plan first now old_written written text
 due_read plan first read now old_written written text d same = subst (λ l. Due plan first l old_written written text) (sym same) d
 
 -- If a piece was read, the text that it adds is also due.
-pub due_more : (plan : Plan (List ℕ)) (first read now old_written written piece front text : List ℕ) → Due plan first read old_written written front → now ≡ read ++ piece → IsOctets piece
+pub due_more : (plan : Plan (List ℕ)) (first read now old_written written piece front text : List ℕ) → Due plan first read old_written written front
+    → now ≡ read ++ piece → IsOctets piece
     → plan.fixed (appended first read ++ piece) ≡ plan.fixed (appended first read) ++ text → Due plan first now old_written written (front ++ text)
 due_more plan first read now old_written written piece front text d more octets adds =
     let p = appended first read in
@@ -108,7 +119,8 @@ due_more plan first read now old_written written piece front text d more octets 
     }
 
 -- If a part of the text was written, the rest is due.
-pub due_rest : (plan : Plan (List ℕ)) (first read old_written written front text now : List ℕ) → Due plan first read old_written written (front ++ text) → now ≡ written ++ front
+pub due_rest : (plan : Plan (List ℕ)) (first read old_written written front text now : List ℕ) → Due plan first read old_written written (front ++ text)
+    → now ≡ written ++ front
     → Due plan first read old_written now text
 due_rest plan first read old_written written front text now d e = record {
   extends = d.extends;
@@ -118,7 +130,8 @@ due_rest plan first read old_written written front text now d e = record {
 }
 
 -- If the transform refuses a piece, the output holds a beginning of what may be written.
-pub refused_may_stand : (plan : Plan (List ℕ)) (grows : Grows plan) (first read now old_written written piece text : List ℕ) (ended : Bool) → Due plan first read old_written written text → now ≡ read ++ piece → IsOctets piece
+pub refused_may_stand : (plan : Plan (List ℕ)) (grows : Grows plan) (first read now old_written written piece text : List ℕ) (ended : Bool)
+    → Due plan first read old_written written text → now ≡ read ++ piece → IsOctets piece
     → AppendsPrefixOf (beginning_of plan (record { octets = appended first now; ended = ended })) old_written written
 refused_may_stand plan grows first read now old_written written piece text ended d more octets =
     let b = grows.more (appended first read) piece in
@@ -136,7 +149,8 @@ last_due plan first read old_written written front text d e = record {
   due = sym (append_assoc written front text) ∙ ap (λ l. l ++ text) d.due ∙ append_assoc old_written (plan.fixed (appended first read)) text;
 }
 
-pub last_rest : (plan : Plan (List ℕ)) (first read old_written written front text now : List ℕ) → Last plan first read old_written written (front ++ text) → now ≡ written ++ front
+pub last_rest : (plan : Plan (List ℕ)) (first read old_written written front text now : List ℕ) → Last plan first read old_written written (front ++ text)
+    → now ≡ written ++ front
     → Last plan first read old_written now text
 last_rest plan first read old_written written front text now l e = record {
   answer = l.answer;
@@ -147,8 +161,10 @@ last_rest plan first read old_written written front text now l e = record {
 
 -- ---- refusals
 
-pub refused_all : (plan : Plan (List ℕ)) (first read now piece whole : List ℕ) (ended : Bool) (e : Refusal) → Extends first read → IsOctets (appended first read) → now ≡ read ++ piece → IsOctets piece
-    → RefusesFrom plan (appended first read ++ piece) e → IsPossibleInput (record { octets = appended first now; ended = ended }) whole → plan.whole whole ≡ Err e
+pub refused_all : (plan : Plan (List ℕ)) (first read now piece whole : List ℕ) (ended : Bool) (e : Refusal) → Extends first read
+    → IsOctets (appended first read) → now ≡ read ++ piece → IsOctets piece
+    → RefusesFrom plan (appended first read ++ piece) e → IsPossibleInput (record { octets = appended first now; ended = ended }) whole
+    → plan.whole whole ≡ Err e
 refused_all plan first read now piece whole ended e extends octets more is refuses possible =
     let p = appended first read in
     let same : appended first now ≡ p ++ piece = read_more first read now piece extends more in
@@ -158,13 +174,15 @@ refused_all plan first read now piece whole ended e extends octets more is refus
 -- ---- the length after a failure of the content
 
 -- Everything that a beginning of the input fixes was written.
-pub stands_as_long : (plan : Plan (List ℕ)) → Grows plan → (p q old_written written : List ℕ) → written ≡ old_written ++ plan.fixed (p ++ q) → length old_written + length (plan.fixed p) ≤ length written
+pub stands_as_long : (plan : Plan (List ℕ)) → Grows plan → (p q old_written written : List ℕ) → written ≡ old_written ++ plan.fixed (p ++ q)
+    → length old_written + length (plan.fixed p) ≤ length written
 stands_as_long plan grows p q old_written written e =
     let b = grows.more p q in
     omega (arith, ap length e, length-append old_written (plan.fixed (p ++ q)), ap length b.continues, length-append (plan.fixed p) b.rest)
 
 -- The output keeps up, if the plan fixes these octets.
-pub keeps_up : (plan : Plan (List ℕ)) → Grows plan → (fixed : List ℕ → List ℕ) → ((q : List ℕ) → fixed q ≡ plan.fixed q) → (p old written : List ℕ) → written ≡ old ++ plan.fixed p → KeepsUp fixed p old written
+pub keeps_up : (plan : Plan (List ℕ)) → Grows plan → (fixed : List ℕ → List ℕ) → ((q : List ℕ) → fixed q ≡ plan.fixed q) → (p old written : List ℕ)
+    → written ≡ old ++ plan.fixed p → KeepsUp fixed p old written
 keeps_up plan grows fixed same p old written e =
     let n : ℕ = length p - most_behind in
     let long = stands_as_long plan grows (take n p) (drop n p) old written (e ∙ ap (λ l. old ++ plan.fixed l) (sym (take-append-drop n p))) in
@@ -173,17 +191,21 @@ keeps_up plan grows fixed same p old written e =
 -- ---- the end of the content, seen from outside
 
 -- A refusal is passed on.
-pub passed_on : {W : Type 0} (answer : Result W Refusal) (wrote : W) (r : Result (Unit {0}) Refusal) (e : Refusal) → r ≡ Err e → (is_external e ≡ false → answer ≡ Err e) → AgreesUnlessExternal answer wrote r
+pub passed_on : {W : Type 0} (answer : Result W Refusal) (wrote : W) (r : Result (Unit {0}) Refusal) (e : Refusal) → r ≡ Err e
+    → (is_external e ≡ false → answer ≡ Err e) → AgreesUnlessExternal answer wrote r
 passed_on answer wrote r e is refused = subst (AgreesUnlessExternal answer wrote) (sym is) refused
 
 -- The call refuses as the plan does.
-pub agrees_err : {X W : Type 0} (answer : Result W Refusal) (view : X → W) (r : Result X Refusal) (e : Refusal) → r ≡ Err e → answer ≡ Err e → GivesUnlessExternal view r answer
+pub agrees_err : {X W : Type 0} (answer : Result W Refusal) (view : X → W) (r : Result X Refusal) (e : Refusal) → r ≡ Err e → answer ≡ Err e
+    → GivesUnlessExternal view r answer
 agrees_err answer view r e is none = subst (λ r. GivesUnlessExternal view r answer) (sym is) (λ inside. none)
 
 -- If the end was found, the whole text is on the output.
-pub whole_stands : (plan : Plan (List ℕ)) (first read old written now : List ℕ) (ended : Bool) → IsTrue ended → plan.whole (appended first read) ≡ Ok (appended old written) → Extends old written → now ≡ written
+pub whole_stands : (plan : Plan (List ℕ)) (first read old written now : List ℕ) (ended : Bool) → IsTrue ended
+    → plan.whole (appended first read) ≡ Ok (appended old written) → Extends old written → now ≡ written
     → AppendsPrefixOf (beginning_of plan (record { octets = appended first read; ended = ended })) old now
 whole_stands plan first read old written now ended at_end whole extends same =
     let is : beginning_of plan (record { octets = appended first read; ended = ended }) ≡ appended old written =
-    ap (λ b. beginning_of plan (record { octets = appended first read; ended = b })) at_end ∙ ap (λ a. result_unwrap_or a (plan.fixed (appended first read))) whole in
+    ap (λ b. beginning_of plan (record { octets = appended first read; ended = b })) at_end
+    ∙ ap (λ a. result_unwrap_or a (plan.fixed (appended first read))) whole in
     subst (λ t. AppendsPrefixOf t old now) (sym is) (AppendsPrefixOf-all (appended old written) old now (same ∙ extends))

@@ -85,7 +85,8 @@ nothing (suc n) test [] h octets short = (if_none (test []) [] (first_below (beh
 nothing (suc n) test (y ∷ x) h octets short =
     let none = (if_none (test []) [] (first_below (behind n test) 256) h).1 in
     let here = below_none (behind n test) 256 y none (octets 0) in
-    nothing n (λ others. test (y ∷ others)) x (map_none (λ (others : List ℕ). y ∷ others) (found_within n (λ others. test (y ∷ others))) here) (λ i. octets (suc i)) (omega arith)
+    nothing n (λ others. test (y ∷ others)) x (map_none (λ (others : List ℕ). y ∷ others) (found_within n (λ others. test (y ∷ others))) here)
+    (λ i. octets (suc i)) (omega arith)
 
 -- The search finds an octet string that passes, if there is one.
 pub finds_octets : FindsOctets

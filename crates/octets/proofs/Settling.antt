@@ -15,7 +15,8 @@ unfolding settled
 settled_front cells text all k e len is =
     sym (take-take k all cells (omega arith)) ∙ ap (take k) e ∙ ap (λ n. take n text) (is ∙ ap (λ n. (n - 2) / 4 * 4) (sym len))
 
-pub unsettled_front : (cells text : List ℕ) (all k : ℕ) → take all cells ≡ text → length text ≡ all → k ≡ (all - 2) / 4 * 4 → drop k (take all cells) ≡ unsettled text
+pub unsettled_front : (cells text : List ℕ) (all k : ℕ) → take all cells ≡ text → length text ≡ all → k ≡ (all - 2) / 4 * 4
+    → drop k (take all cells) ≡ unsettled text
 unfolding unsettled
 unsettled_front cells text all k e len is = ap (drop k) e ∙ ap (λ n. drop n text) (is ∙ ap (λ n. (n - 2) / 4 * 4) (sym len))
 
@@ -65,17 +66,20 @@ pub are_groups : (p : List ℕ) → length (settled p) % 4 ≡ 0
 are_groups p = omega (arith, length-settled p)
 
 -- The octets of the groups that a piece completes follow the settled ones.
-pub decoded_settled-append : (p q x y : List ℕ) → IsOctets (p ++ q) → decoded (settled p) ≡ Ok x → decoded (settled (unsettled p ++ q)) ≡ Ok y → decoded (settled (p ++ q)) ≡ Ok (x ++ y)
+pub decoded_settled-append : (p q x y : List ℕ) → IsOctets (p ++ q) → decoded (settled p) ≡ Ok x → decoded (settled (unsettled p ++ q)) ≡ Ok y
+    → decoded (settled (p ++ q)) ≡ Ok (x ++ y)
 decoded_settled-append p q x y octets front back =
     let e = settled-append p q in
-    let front_octets : IsOctets (settled (p ++ q)) = IsOctets-front (settled (p ++ q)) (unsettled (p ++ q)) (subst IsOctets (sym (settled-unsettled (p ++ q))) octets) in
+    let front_octets : IsOctets (settled (p ++ q)) = IsOctets-front (settled (p ++ q)) (unsettled (p ++ q))
+    (subst IsOctets (sym (settled-unsettled (p ++ q))) octets) in
     ap decoded e ∙ meaning_of_parts (settled p) (settled (unsettled p ++ q)) x y (subst IsOctets e front_octets) (are_groups p) front back
 
 -- If the groups that a piece completes do not decode, the settled part does not.
 pub no_settled-append : (p q z : List ℕ) → IsOctets (p ++ q) → decoded (settled (unsettled p ++ q)) ≡ Err Base64 → decoded (settled (p ++ q)) ≡ Ok z → ⊥
 no_settled-append p q z octets none some =
     let e = settled-append p q in
-    let front_octets : IsOctets (settled (p ++ q)) = IsOctets-front (settled (p ++ q)) (unsettled (p ++ q)) (subst IsOctets (sym (settled-unsettled (p ++ q))) octets) in
+    let front_octets : IsOctets (settled (p ++ q)) = IsOctets-front (settled (p ++ q)) (unsettled (p ++ q))
+    (subst IsOctets (sym (settled-unsettled (p ++ q))) octets) in
     let back = (parts_of_meaning (settled p) (settled (unsettled p ++ q)) z (subst IsOctets e front_octets) (are_groups p) (ap decoded (sym e) ∙ some)).1 in
     let both = sym none ∙ back in
     cc both

@@ -1,5 +1,5 @@
 -- An output that did not fail, even if the other one did.
-use Rattle.std.proofs.Common.{◌≡◌, ◌≢◌, ◌⊎◌, ℕ, refl, [], ◌∷◌, Result, OnErr, inl, inr, arith}
+use Rattle.std.proofs.Common.{◌≡◌, ◌≢◌, ◌⊎◌, [], ◌∷◌, Result, OnErr, inl, inr, arith}
 use Rattle.octets.specs.declared.refusal.Refusal.{Refusal}
 use Rattle.octets.specs.declared.refusal.Refusal.TheVariants.{Write}
 use Rattle.octets.specs.Faults.{Counts, SomeFailed, DidNotFail}

@@ -28,7 +28,8 @@ read_more first read now piece e more =
     ap (appended first) (more ∙ ap (λ l. l ++ piece) e ∙ append_assoc first (appended first read) piece) ∙ drop-append_seam first (appended first read ++ piece)
 
 -- After the text is written, nothing more is due.
-pub Stands-written : (plan : Plan (List ℕ)) (first read old_written written text now : List ℕ) → Due plan first read old_written written text → now ≡ written ++ text
+pub Stands-written : (plan : Plan (List ℕ)) (first read old_written written text now : List ℕ)
+    → Due plan first read old_written written text → now ≡ written ++ text
     → Stands plan first read old_written now
 Stands-written plan first read old_written written text now d e = record {
   extends = d.extends;
@@ -39,7 +40,8 @@ Stands-written plan first read old_written written text now d e = record {
 
 -- ---- the output that may be there
 
-begins : (plan : Plan (List ℕ)) → Grows plan → (p : List ℕ) (ended : Bool) → IsOctets p → Begins (plan.fixed p) (beginning_of plan (record { octets = p; ended = ended }))
+begins : (plan : Plan (List ℕ)) → Grows plan → (p : List ℕ) (ended : Bool) → IsOctets p
+    → Begins (plan.fixed p) (beginning_of plan (record { octets = p; ended = ended }))
 begins plan grows p false octets = record { rest = []; continues = sym (append-nil (plan.fixed p)) }
 begins plan grows p true octets = by_answer (plan.whole p) refl
   where
@@ -51,7 +53,8 @@ pub AppendsPrefixOf-Begins : (front all old new : List ℕ) → Begins front all
 AppendsPrefixOf-Begins front all old new b h = subst (λ text. AppendsPrefixOf text old new) (sym b.continues) (AppendsPrefixOf-front front b.rest old new h)
 
 -- If only a part of the text that is due is written, the output holds a beginning of what may be written.
-pub may_stand : (plan : Plan (List ℕ)) → Grows plan → (first read old_written written text now : List ℕ) (ended : Bool) → Due plan first read old_written written text
+pub may_stand : (plan : Plan (List ℕ)) → Grows plan → (first read old_written written text now : List ℕ) (ended : Bool)
+    → Due plan first read old_written written text
     → AppendsPrefixOf text written now → AppendsPrefixOf (beginning_of plan (record { octets = appended first read; ended = ended })) old_written now
 may_stand plan grows first read old_written written text now ended d part =
     AppendsPrefixOf-Begins (plan.fixed (appended first read)) (beginning_of plan (record { octets = appended first read; ended = ended })) old_written now
@@ -73,16 +76,19 @@ pub record Last (plan : Plan (List ℕ)) (first read old_written written text : 
   pub is : plan.whole (appended first read) ≡ Ok answer
   pub due : written ++ text ≡ old_written ++ answer
 
-pub last_may_stand : (plan : Plan (List ℕ)) (first read old_written written text now : List ℕ) (ended : Bool) → Last plan first read old_written written text → IsTrue ended
+pub last_may_stand : (plan : Plan (List ℕ)) (first read old_written written text now : List ℕ) (ended : Bool)
+    → Last plan first read old_written written text → IsTrue ended
     → AppendsPrefixOf text written now → AppendsPrefixOf (beginning_of plan (record { octets = appended first read; ended = ended })) old_written now
 last_may_stand plan first read old_written written text now ended l at_end part =
     let is : beginning_of plan (record { octets = appended first read; ended = ended }) ≡ l.answer =
-    ap (λ b. beginning_of plan (record { octets = appended first read; ended = b })) at_end ∙ ap (λ a. result_unwrap_or a (plan.fixed (appended first read))) l.is in
+    ap (λ b. beginning_of plan (record { octets = appended first read; ended = b })) at_end
+    ∙ ap (λ a. result_unwrap_or a (plan.fixed (appended first read))) l.is in
     subst (λ t. AppendsPrefixOf t old_written now) (sym is) (omega (arith, l.grown, part.0), ap (take (length now)) (sym l.due) ∙ part.1)
 
 -- ---- an output to which nothing was written
 
-pub untouched_more : {D : Type 0} (written : D → List ℕ) (old out now : D) (text : List ℕ) → length (written old) ≤ length (written out) → (written out ≡ written old → out ≡ old)
+pub untouched_more : {D : Type 0} (written : D → List ℕ) (old out now : D) (text : List ℕ) → length (written old) ≤ length (written out)
+    → (written out ≡ written old → out ≡ old)
     → written now ≡ written out ++ text → (length text ≡ 0 → now ≡ out) → written now ≡ written old → now ≡ old
 untouched_more written old out now text grown before more none same =
     let empty : length text ≡ 0 = omega (arith, grown, ap length more, ap length same, length-append (written out) text) in

@@ -8,7 +8,8 @@ use Rattle.std.specs.Simd.{first_chunks}
 use Rattle.std.specs.Simd.Lanes.{zip2, put_chunk, chunk}
 use Rattle.octets.specs.Octets.{xor_octets}
 
-pub zip2-append : {A B C : Type 0} (f : A → B → C) (xs us : List A) (ys vs : List B) → length xs ≡ length ys → zip2 f (xs ++ us) (ys ++ vs) ≡ zip2 f xs ys ++ zip2 f us vs
+pub zip2-append : {A B C : Type 0} (f : A → B → C) (xs us : List A) (ys vs : List B) → length xs ≡ length ys
+    → zip2 f (xs ++ us) (ys ++ vs) ≡ zip2 f xs ys ++ zip2 f us vs
 zip2-append f [] us [] vs h = refl
 zip2-append f [] us (y ∷ ys) vs h = absurd (omega arith)
 zip2-append f (x ∷ xs) us [] vs h = absurd (omega arith)
@@ -42,13 +43,16 @@ sum_block into b f n at next same is room long e =
     let ly : length ys ≡ n = length-zip2 bit_xor (chunk at n b) (chunk at n f) (cb ∙ sym cf) ∙ cb in
     let put = put_chunk_is at into ys (omega arith) in
     let more : zip2 bit_xor (take next b) (take next f) ≡ done ++ ys =
-    ap₂ (zip2 bit_xor) (ap (λ k. take k b) is ∙ take-add at n b) (ap (λ k. take k f) is ∙ take-add at n f) ∙ zip2-append bit_xor (take at b) (chunk at n b) (take at f) (chunk at n f) (lb ∙ sym lf) in
-    let rest : drop (length ys) (drop at into) ≡ drop next b = ap (λ k. drop k (drop at into)) ly ∙ ap (drop n) here ∙ drop-drop n at b ∙ ap (λ k. drop k b) (sym is) in
+    ap₂ (zip2 bit_xor) (ap (λ k. take k b) is ∙ take-add at n b) (ap (λ k. take k f) is ∙ take-add at n f)
+    ∙ zip2-append bit_xor (take at b) (chunk at n b) (take at f) (chunk at n f) (lb ∙ sym lf) in
+    let rest : drop (length ys) (drop at into) ≡ drop next b = ap (λ k. drop k (drop at into)) ly ∙ ap (drop n) here ∙ drop-drop n at b
+    ∙ ap (λ k. drop k b) (sym is) in
     ap (λ c. put_chunk at into (zip2 bit_xor (take n c) (chunk at n f))) here ∙ put ∙ ap₂ (λ p r. p ++ (ys ++ r)) before rest
     ∙ sym (append_assoc done ys (drop next b)) ∙ sym (ap (λ p. p ++ drop next b) more)
 
 -- One more octet is added.
-pub sum_octet : (into b f : List ℕ) (i : ℕ) → length b ≡ length f → i < length b → into ≡ summed b f i → slice_set into i (bit_xor (get_or into i 0) (get_or f i 0)) ≡ summed b f (i + 1)
+pub sum_octet : (into b f : List ℕ) (i : ℕ) → length b ≡ length f → i < length b → into ≡ summed b f i
+    → slice_set into i (bit_xor (get_or into i 0) (get_or f i 0)) ≡ summed b f (i + 1)
 sum_octet into b f i same room e =
     let done = zip2 bit_xor (take i b) (take i f) in
     let lb : length (take i b) ≡ i = length-take-le i b (omega arith) in
@@ -75,4 +79,5 @@ unfolding xor_octets
 sum_whole into b f i same past e =
     let whole : into ≡ zip2 bit_xor b f =
     e ∙ ap₂ (λ p r. p ++ r) (ap₂ (zip2 bit_xor) (take_all i b past) (take_all i f (omega arith))) (drop_all i b past) ∙ append-nil (zip2 bit_xor b f) in
-    whole ∙ fill_by_all (λ k. bit_xor (slice_index b k) (slice_index f k)) (zip2 bit_xor b f) (length b) 0 (length-zip2 bit_xor b f same) (λ k l. zip2_at b f k same l)
+    whole ∙ fill_by_all (λ k. bit_xor (slice_index b k) (slice_index f k)) (zip2 bit_xor b f) (length b) 0 (length-zip2 bit_xor b f same)
+    (λ k l. zip2_at b f k same l)

@@ -33,11 +33,15 @@ appended_nothing old new part =
     sym part.1 ∙ ap (take (length new)) (append-nil old) ∙ take_all (length new) old part.0
 
 -- If nothing could be read, every refusal except Write leaves the output untouched.
-pub unread_untouched : {D : Type 0} (written : D → List ℕ) (old new : D) (plan : Plan (List ℕ)) (seen : Observed) (r : Result (Unit {0}) Refusal) → FixesNothing plan
-    → OnErr r (AppendsPrefixOf (beginning_of plan seen) (written old) (written new)) → IfErr r (λ refusal. refusal ≢ Write → written new ≡ written old → new ≡ old)
+pub unread_untouched : {D : Type 0} (written : D → List ℕ) (old new : D) (plan : Plan (List ℕ)) (seen : Observed) (r : Result (Unit {0}) Refusal)
+    → FixesNothing plan
+    → OnErr r (AppendsPrefixOf (beginning_of plan seen) (written old) (written new))
+    → IfErr r (λ refusal. refusal ≢ Write → written new ≡ written old → new ≡ old)
     → IfErr r (λ refusal. seen.octets ≡ [] → refusal ≢ Write → new ≡ old)
 unread_untouched written old new plan seen (Ok done) none part uncut = tt
-unread_untouched written old new plan seen (Err e) none part uncut = λ nothing other. uncut other (appended_nothing (written old) (written new) (subst (λ text. AppendsPrefixOf text (written old) (written new)) (is nothing) part))
+unread_untouched written old new plan seen (Err e) none part uncut =
+    λ nothing other. uncut other (appended_nothing (written old) (written new)
+    (subst (λ text. AppendsPrefixOf text (written old) (written new)) (is nothing) part))
   where
     is : seen.octets ≡ [] → beginning_of plan seen ≡ []
     is nothing = ap (λ octets. beginning_of plan (record { octets = octets; ended = seen.ended })) nothing ∙ none seen.ended

@@ -17,7 +17,8 @@ xor_each-more block b pad i h e =
     let lp : length p ≡ i = simp length-map (length-take-le i b (omega arith)) in
     let whole : block ≡ p ++ y ∷ rest = e ∙ ap (λ l. p ++ l) (drop_more b i 0 h) in
     let read : get_or block i 0 ≡ y = ap (λ l. get_or l i 0) whole ∙ get_or_at p y rest 0 i lp in
-    let more : xor_each pad (take (i + 1) b) ≡ p ++ bit_xor y pad ∷ [] = ap (xor_each pad) (take_more b i 0 h) ∙ map-append (λ o. bit_xor o pad) (take i b) (y ∷ []) in
+    let more : xor_each pad (take (i + 1) b) ≡ p ++ bit_xor y pad ∷ [] = ap (xor_each pad) (take_more b i 0 h)
+    ∙ map-append (λ o. bit_xor o pad) (take i b) (y ∷ []) in
     ap (λ v. slice_set block i (bit_xor v pad)) read ∙ ap (λ l. slice_set l i (bit_xor y pad)) whole ∙ set_at p y rest (bit_xor y pad) i lp
     ∙ sym (ap (λ l. l ++ rest) more ∙ append_assoc p (bit_xor y pad ∷ []) rest)
 
@@ -26,7 +27,8 @@ pub take-xor_each : (pad n : ℕ) (b : List ℕ) → take n (xor_each pad b) ≡
 take-xor_each pad n b = take-map (λ o. bit_xor o pad) n b
 
 -- Octets at the front of a block of zeros are followed by zeros.
-filled : (short : List ℕ) (n : ℕ) → length short ≤ n → n ≤ 128 → take n (short ++ drop (length short) (replicate 128 0)) ≡ short ++ replicate (n - length short) 0
+filled : (short : List ℕ) (n : ℕ) → length short ≤ n → n ≤ 128
+    → take n (short ++ drop (length short) (replicate 128 0)) ≡ short ++ replicate (n - length short) 0
 filled short n h k =
     let parts : n ≡ length short + (n - length short) = omega arith in
     let zeros : drop (length short) (replicate 128 0) ≡ replicate (128 - length short) 0 = drop-replicate (length short) 128 0 in
@@ -51,7 +53,8 @@ block_of f key short old new h k zeros is same =
     ap (take f.block_len) (is ∙ ap (λ o. short ++ drop (length short) o) zeros) ∙ filled short f.block_len k h ∙ same
 
 -- A key that is longer than a block is hashed first.
-pub block_of_long : (f : HashFunction) (key old new : List ℕ) (b : ℕ) → b ≡ f.block_len → b < length key → f.block_len ≤ 128 → length (f.digest key) ≤ f.block_len
+pub block_of_long : (f : HashFunction) (key old new : List ℕ) (b : ℕ) → b ≡ f.block_len → b < length key → f.block_len ≤ 128
+    → length (f.digest key) ≤ f.block_len
     → old ≡ replicate 128 0 → new ≡ f.digest key ++ drop (length (f.digest key)) old → take f.block_len new ≡ key_block f key
 block_of_long f key old new b e l h k zeros is =
     block_of f key (f.digest key) old new h k zeros is (key_block_by f key true (longer f.block_len (length key) b e l))

@@ -14,7 +14,8 @@ use Rattle.prf.specs.Hmac.{hmac}
 use Rattle.prf.specs.Pbkdf2.{first_text, iterate, derived_block, pbkdf2}
 
 -- The two parts of a salt are joined.
-pub both_parts : (parts : List (Bor (List ℕ))) (d : Bor (List ℕ)) → length parts ≡ 2 → concat (map (λ part. part.now) parts) ≡ (get_or parts 0 d).now ++ (get_or parts 1 d).now
+pub both_parts : (parts : List (Bor (List ℕ))) (d : Bor (List ℕ)) → length parts ≡ 2
+    → concat (map (λ part. part.now) parts) ≡ (get_or parts 0 d).now ++ (get_or parts 1 d).now
 both_parts [] d h = absurd (omega arith)
 both_parts (x ∷ []) d h = absurd (omega arith)
 both_parts (x ∷ y ∷ []) d h = ap (λ l. x.now ++ l) (append-nil y.now)
@@ -41,14 +42,17 @@ pub derived_block-more : (f : HashFunction) (password salt : List ℕ) (i j : �
 unfolding derived_block
 derived_block-more f password salt i j h =
     let u = iterate f password salt i in
-    let more : map u (range_with_len 2 (j - 1 + 1)) ≡ map u (range_with_len 2 (j - 1)) ++ u (j + 1) ∷ [] = map-range_with_len_more u 2 (j - 1) (j + 1) (omega arith) in
+    let more : map u (range_with_len 2 (j - 1 + 1)) ≡ map u (range_with_len 2 (j - 1)) ++ u (j + 1) ∷ [] =
+    map-range_with_len_more u 2 (j - 1) (j + 1) (omega arith) in
     let e : j + 1 - 1 ≡ j - 1 + 1 = omega arith in
-    sym (ap (λ n. fold xor_octets (u 1) (map u (range_with_len 2 n))) e ∙ ap (fold xor_octets (u 1)) more ∙ fold-append xor_octets (u 1) (map u (range_with_len 2 (j - 1))) (u (j + 1) ∷ []))
+    sym (ap (λ n. fold xor_octets (u 1) (map u (range_with_len 2 n))) e ∙ ap (fold xor_octets (u 1)) more
+    ∙ fold-append xor_octets (u 1) (map u (range_with_len 2 (j - 1))) (u (j + 1) ∷ []))
 
 -- One more block is appended.
 pub blocks-more : (t : ℕ → List ℕ) (i : ℕ) → concat (map t (range_with_len 1 (i + 1))) ≡ concat (map t (range_with_len 1 i)) ++ t (i + 1)
 blocks-more t i =
-    ap concat (map-range_with_len_more t 1 i (i + 1) (omega arith)) ∙ concat-append (map t (range_with_len 1 i)) (t (i + 1) ∷ []) ∙ ap (λ l. concat (map t (range_with_len 1 i)) ++ l) (append-nil (t (i + 1)))
+    ap concat (map-range_with_len_more t 1 i (i + 1) (omega arith)) ∙ concat-append (map t (range_with_len 1 i)) (t (i + 1) ∷ [])
+    ∙ ap (λ l. concat (map t (range_with_len 1 i)) ++ l) (append-nil (t (i + 1)))
 
 -- If whole blocks were derived, the key is their first n octets.
 pub key_of_blocks : (f : HashFunction) (password salt : List ℕ) (c n len i : ℕ) (blocks : List ℕ) → len ≡ f.output_len → 0 < f.output_len → i ≡ div_ceil n len

@@ -72,7 +72,8 @@ encryption_named A192Gcm = refl
 encryption_named A256Gcm = refl
 
 -- An element that is found by a name has this name.
-found_by_name : {A : Type 0} (name_of : A → List ℕ) (name : List ℕ) (a : A) (algs : List A) → find (λ alg. bytes_eq name (name_of alg)) algs ≡ Some a → name ≡ name_of a
+found_by_name : {A : Type 0} (name_of : A → List ℕ) (name : List ℕ) (a : A) (algs : List A)
+    → find (λ alg. bytes_eq name (name_of alg)) algs ≡ Some a → name ≡ name_of a
 found_by_name name_of name a [] h = cc h
 found_by_name name_of name a (first ∷ rest) h = by_test (bytes_eq name (name_of first)) refl (found_by_name name_of name a rest) h
   where
@@ -230,16 +231,19 @@ counts alg m =
     of_password m h = cc h
 
 -- A key that is salted for a recipient has the salt that the algorithm reads.
-pub salts : (alg : KeyManagementAlg) (m : KeyManagement) (salt : List ℕ) → is_management_of (Some alg) m ≡ true → IsSaltFor salt m → IsSaltOf (key_alg alg) salt (parameters_by m).p2s
+pub salts : (alg : KeyManagementAlg) (m : KeyManagement) (salt : List ℕ) → is_management_of (Some alg) m ≡ true → IsSaltFor salt m
+    → IsSaltOf (key_alg alg) salt (parameters_by m).p2s
 salts alg m salt =
-    by_row (λ mode n k. is_management_in mode m ≡ true → IsSaltFor salt m → IsSaltIn k salt (parameters_by m).p2s) (λ h s. tt) (λ nk h s. tt) (λ f name nk. of_password m) (λ nk h s. tt) alg
+    by_row (λ mode n k. is_management_in mode m ≡ true → IsSaltFor salt m → IsSaltIn k salt (parameters_by m).p2s) (λ h s. tt) (λ nk h s. tt)
+    (λ f name nk. of_password m) (λ nk h s. tt) alg
   where
     of_password : (m : KeyManagement) → is_management_in mode.Password m ≡ true → IsSaltFor salt m → salt ≡ (parameters_by m).p2s
     of_password (Password p2s p2c) h s = s
     of_password m h s = cc h
 
 -- The number of iterations that are made is the one in the header.
-pub iterations_made : (alg : KeyManagementAlg) (m : KeyManagement) → is_management_of (Some alg) m ≡ true → iteration_count (key_alg alg) (parameters_by m).p2c ≡ iterations_by m
+pub iterations_made : (alg : KeyManagementAlg) (m : KeyManagement) → is_management_of (Some alg) m ≡ true
+    → iteration_count (key_alg alg) (parameters_by m).p2c ≡ iterations_by m
 iterations_made alg m =
     by_row (λ mode n k. is_management_in mode m ≡ true → iterations_in k (parameters_by m).p2c ≡ iterations_by m)
     (of_direct m) (λ nk. of_wrap m) (λ f name nk. of_password m) (λ nk. of_gcm m) alg
@@ -278,13 +282,15 @@ module _ (enc : ContentAlg) (key drawn : List ℕ) (p2c : ℕ) (cek : List ℕ) 
       → key_tag_of (key_alg alg) key (parameters_by (management_with alg drawn p2c tag)) cek ≡ key_tag_of (key_alg alg) key (parameters_with drawn p2c) cek
   unfolding key_tag_of
   tag_alike alg tag =
-      by_row (λ m n k. (let p = parameters_by (delivered_in m drawn p2c tag) in tag_by (way_in k key p) p cek) ≡ (let p = parameters_with drawn p2c in tag_by (way_in k key p) p cek))
+      by_row (λ m n k. (let p = parameters_by (delivered_in m drawn p2c tag) in tag_by (way_in k key p) p cek)
+      ≡ (let p = parameters_with drawn p2c in tag_by (way_in k key p) p cek))
       refl (λ nk. refl) (λ f name nk. refl) (λ nk. refl) alg
 
   -- An initialization vector that is read is octets, if the drawn ones are.
   pub iv_is_octets : (alg : KeyManagementAlg) (tag : List ℕ) → IsOctets drawn → IsOctets (parameters_by (management_with alg drawn p2c tag)).iv
   iv_is_octets alg tag octets =
-      by_row (λ m n k. IsOctets (parameters_by (delivered_in m drawn p2c tag)).iv) IsOctets-nil (λ nk. IsOctets-nil) (λ f name nk. IsOctets-nil) (λ nk. octets) alg
+      by_row (λ m n k. IsOctets (parameters_by (delivered_in m drawn p2c tag)).iv) IsOctets-nil (λ nk. IsOctets-nil)
+      (λ f name nk. IsOctets-nil) (λ nk. octets) alg
 
   -- the parameters with which the key was encrypted: the drawn octets and the number of iterations
   abbrev given : Parameters
@@ -299,7 +305,8 @@ module _ (enc : ContentAlg) (key drawn : List ℕ) (p2c : ℕ) (cek : List ℕ) 
   delivered_as : (m : KeyManagementMode) (k : KeyFamily) → length cek ≡ ciphers.cek_len enc
       → encrypted_by (way_in k key (written m k)) (written m k) cek ≡ encrypted_by (way_in k key given) given cek
       → agrees_by (way_in k key (written m k)) key (written m k) cek ≡ true → IsDeliveredIn m k
-  delivered_as m k fits same agrees = (decided enc key (written m k) (encrypted_by (way_in k key given) given cek) (way_in k key (written m k)) cek).1 (fits, (same, agrees))
+  delivered_as m k fits same agrees = (decided enc key (written m k) (encrypted_by (way_in k key given) given cek) (way_in k key (written m k)) cek).1
+      (fits, (same, agrees))
 
   pub is_delivered : (alg : KeyManagementAlg) → length cek ≡ ciphers.cek_len enc → (is_direct alg ≡ true → cek ≡ key) → length drawn ≡ drawn_by alg
       → (let q = parameters_with drawn p2c in
@@ -313,5 +320,6 @@ module _ (enc : ContentAlg) (key drawn : List ℕ) (p2c : ℕ) (cek : List ℕ) 
       (λ f name nk is long. delivered_as mode.Password (pbes2 f name nk) fits refl refl)
       (λ nk is long.
       let tag : List ℕ = tag_by (way_in (aes_gcm_key_wrap nk) key given) given cek in
-      delivered_as mode.GcmKeyWrap (aes_gcm_key_wrap nk) fits refl ((Decides-and _ _ (Decides-eqb (length drawn) 12) (bytes_eq-Decides tag tag)).1 (long, refl)))
+      delivered_as mode.GcmKeyWrap (aes_gcm_key_wrap nk) fits refl
+      ((Decides-and _ _ (Decides-eqb (length drawn) 12) (bytes_eq-Decides tag tag)).1 (long, refl)))
       alg

@@ -7,15 +7,11 @@ use Rattle.octets.specs.Code.Streams.{part_group}
 use Rattle.octets.specs.Devices.{AppendsPrefixOf}
 use Rattle.octets.specs.Octets.{IsOctets}
 use Rattle.octets.specs.Plan.{OutputTexts, Plan, Begins, Grows, plan_map, BothGrow}
-use Rattle.octets.proofs.Lemmas.{IsOctets-nil, first_or, base64url_whole-append, base64url_whole_part, steps, same_answer, spells_six_bits}
+use Rattle.octets.proofs.Lemmas.{IsOctets-nil, first_or, base64url_whole-append, base64url_whole_part, steps, same_answer, spells_six_bits, begins_behind}
 use Rattle.objects.specs.Code.Frames.{filled, in_places, first_text}
 use Rattle.objects.specs.Texts.{handed_in, handed_out, common_beginning, before_content}
 
 -- ---- lists
-
--- If a list begins another, it still does with the same list in front of both.
-pub begins_behind : (front x y : List ℕ) → Begins x y → Begins (front ++ x) (front ++ y)
-begins_behind front x y b = record { rest = b.rest; continues = ap (λ l. front ++ l) b.continues ∙ sym (append_assoc front x b.rest) }
 
 -- A beginning of a beginning of a list begins the list.
 pub begins_all : (x y z : List ℕ) → Begins x y → Begins y z → Begins x z
@@ -99,7 +95,8 @@ pub record BothBegin (front all : OutputTexts) : Type 0 where
 
 -- An output grows if its fixed part grows with the content and begins everything that is written on it.
 output_grows : (plan : Plan OutputTexts) (output : OutputTexts → List ℕ) → ((p q : List ℕ) → Begins (output (plan.fixed p)) (output (plan.fixed (p ++ q))))
-    → ((p q : List ℕ) (texts : OutputTexts) → IsOctets (p ++ q) → plan.whole (p ++ q) ≡ Ok texts → Begins (output (plan.fixed p)) (output texts)) → Grows (plan_map output plan)
+    → ((p q : List ℕ) (texts : OutputTexts) → IsOctets (p ++ q) → plan.whole (p ++ q) ≡ Ok texts → Begins (output (plan.fixed p)) (output texts))
+    → Grows (plan_map output plan)
 output_grows plan output more whole = record {
   more = more;
   whole = λ p q w octets h.

@@ -24,7 +24,8 @@ pub record IsWhole (before : List ℕ) (content : Plan (List ℕ)) (p old out : 
   pub is : content.whole p ≡ Ok text
   pub written : out ≡ old ++ (before ++ text)
 
-pub is_whole : (before : List ℕ) (content : Plan (List ℕ)) (p old out : List ℕ) → (behind before content).whole p ≡ Ok (appended old out) → Extends old out → IsWhole before content p old out
+pub is_whole : (before : List ℕ) (content : Plan (List ℕ)) (p old out : List ℕ) → (behind before content).whole p ≡ Ok (appended old out) → Extends old out
+    → IsWhole before content p old out
 is_whole before content p old out whole extends =
     let made = steps (content.whole p) (λ text. Ok (before ++ text)) (appended old out) whole in
     record {
@@ -34,7 +35,8 @@ is_whole before content p old out whole extends =
     }
 
 -- If everything was read, all that the plan returns may be written.
-stands_whole : (plan : Plan OutputTexts) (p : List ℕ) (ended : Bool) (texts : OutputTexts) → IsTrue ended → plan.whole p ≡ Ok texts → beginning_of plan (record { octets = p; ended = ended }) ≡ texts
+stands_whole : (plan : Plan OutputTexts) (p : List ℕ) (ended : Bool) (texts : OutputTexts) → IsTrue ended → plan.whole p ≡ Ok texts
+    → beginning_of plan (record { octets = p; ended = ended }) ≡ texts
 stands_whole plan p ended texts at_end is =
     ap (λ b. beginning_of plan (record { octets = p; ended = b })) at_end ∙ ap (λ a. result_unwrap_or a (plan.fixed p)) is
 
@@ -53,12 +55,14 @@ module _ (content : Plan (List ℕ)) (values : List ℕ → List (List ℕ)) (pl
       continues = ap (λ r. (result_unwrap_or r (plan.fixed p)).text) (f.refused p e h) ∙ ap (λ (t : OutputTexts). t.text) (f.fixed p) ∙ sym (append-nil _);
     }
 
-    inside_begins : (p : List ℕ) (ended : Bool) → IsOctets p → Begins (beginning_of (behind first content) (record { octets = p; ended = ended })) (beginning_of plan (record { octets = p; ended = ended })).text
+    inside_begins : (p : List ℕ) (ended : Bool) → IsOctets p
+        → Begins (beginning_of (behind first content) (record { octets = p; ended = ended })) (beginning_of plan (record { octets = p; ended = ended })).text
     inside_begins p false octets = record { rest = []; continues = ap (λ (t : OutputTexts). t.text) (f.fixed p) ∙ sym (append-nil _) }
     inside_begins p true octets = by_answer p (content.whole p) octets refl
 
     -- If the first text and the content's text are written in part, the text of the plan is written in part.
-    pub inside_part : (p : List ℕ) (ended : Bool) (old new : List ℕ) → IsOctets p → AppendsPrefixOf (beginning_of (behind first content) (record { octets = p; ended = ended })) old new
+    pub inside_part : (p : List ℕ) (ended : Bool) (old new : List ℕ) → IsOctets p
+        → AppendsPrefixOf (beginning_of (behind first content) (record { octets = p; ended = ended })) old new
         → AppendsPrefixOf (beginning_of plan (record { octets = p; ended = ended })).text old new
     inside_part p ended old new octets part = AppendsPrefixOf-Begins _ _ old new (inside_begins p ended octets) part
 
@@ -71,11 +75,13 @@ module _ (content : Plan (List ℕ)) (values : List ℕ → List (List ℕ)) (pl
       so_far value = ap (λ l. l ++ value) w.written ∙ append_assoc old (first ++ w.text) value ∙ ap (λ l. old ++ l) (append_assoc first w.text value)
 
       -- If the values are written in part, the text of the plan is written in part.
-      pub inside_values_part : (new : List ℕ) → AppendsPrefixOf (filled rest (values p)) out new → AppendsPrefixOf (beginning_of plan (record { octets = p; ended = ended })).text old new
+      pub inside_values_part : (new : List ℕ) → AppendsPrefixOf (filled rest (values p)) out new
+          → AppendsPrefixOf (beginning_of plan (record { octets = p; ended = ended })).text old new
       inside_values_part new part =
           let is = stands_whole plan p ended _ at_end (f.whole p w.text octets w.is) in
           subst (λ t. AppendsPrefixOf t old new) (append_assoc first w.text (filled rest (values p)) ∙ sym (ap (λ (t : OutputTexts). t.text) is))
-          (AppendsPrefixOf-behind (first ++ w.text) (filled rest (values p)) old new (subst (λ l. AppendsPrefixOf (filled rest (values p)) l new) w.written part))
+          (AppendsPrefixOf-behind (first ++ w.text) (filled rest (values p)) old new
+          (subst (λ l. AppendsPrefixOf (filled rest (values p)) l new) w.written part))
 
       -- If everything is written, the plan returns exactly the text that was written.
       pub inside_answer : (payload new : List ℕ) → IsPossibleInput (record { octets = p; ended = ended }) payload → new ≡ out ++ filled rest (values p)
@@ -90,10 +96,12 @@ module _ (content : Plan (List ℕ)) (values : List ℕ → List (List ℕ)) (pl
     beside_by_answer : (p : List ℕ) (a : Result (List ℕ) Refusal) → IsOctets p → content.whole p ≡ a
         → result_unwrap_or a (content.fixed p) ≡ (result_unwrap_or (plan.whole p) (plan.fixed p)).content
     beside_by_answer p (Ok text) octets h = sym (ap (λ r. (result_unwrap_or r (plan.fixed p)).content) (f.whole p text octets h))
-    beside_by_answer p (Err e) octets h = sym (ap (λ r. (result_unwrap_or r (plan.fixed p)).content) (f.refused p e h) ∙ ap (λ (t : OutputTexts). t.content) (f.fixed p))
+    beside_by_answer p (Err e) octets h = sym (ap (λ r. (result_unwrap_or r (plan.fixed p)).content) (f.refused p e h)
+        ∙ ap (λ (t : OutputTexts). t.content) (f.fixed p))
 
     -- The part of the content that may be written is the part that the plan allows on the output of the content.
-    pub beside_is : (p : List ℕ) (ended : Bool) → IsOctets p → beginning_of content (record { octets = p; ended = ended }) ≡ (beginning_of plan (record { octets = p; ended = ended })).content
+    pub beside_is : (p : List ℕ) (ended : Bool) → IsOctets p
+        → beginning_of content (record { octets = p; ended = ended }) ≡ (beginning_of plan (record { octets = p; ended = ended })).content
     beside_is p false octets = sym (ap (λ (t : OutputTexts). t.content) (f.fixed p))
     beside_is p true octets = beside_by_answer p (content.whole p) octets refl
 
@@ -114,7 +122,8 @@ module _ (content : Plan (List ℕ)) (values : List ℕ → List (List ℕ)) (pl
       text_is = ap (λ (t : OutputTexts). t.text) (sym (stands_whole plan p ended _ at_end beside_whole))
 
       -- If everything is written, the plan returns exactly what was written on both outputs.
-      pub beside_answer : (payload old_text new : List ℕ) → IsPossibleInput (record { octets = p; ended = ended }) payload → new ≡ old_text ++ filled texts (values p)
+      pub beside_answer : (payload old_text new : List ℕ) → IsPossibleInput (record { octets = p; ended = ended }) payload
+          → new ≡ old_text ++ filled texts (values p)
           → plan.whole payload ≡ Ok (record { text = appended old_text new; content = appended old out })
       beside_answer payload old_text new may e =
           ap plan.whole (all_read p payload ended may at_end) ∙ beside_whole ∙ ap Ok (both_written _ old_text new old out e w.written)

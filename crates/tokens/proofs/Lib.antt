@@ -1,45 +1,23 @@
-pub mod Tests
-pub mod Encoded
-pub mod HeldInputs
-pub mod VerifyingInputs
-pub mod Heads
-pub mod StartedInputs
-pub mod WrittenSignatures
-pub mod SignedAlike
-pub mod FramedSigning
-pub mod Framing
-pub mod StandingSignatures
-pub mod HeaderMembers
-pub mod HeaderTexts
+-- Lemmas. The folders that begin with a capital letter have a page for each part of src, and the others the proofs of single functions.
+-- facts about each algorithm
 pub mod AlgorithmCases
-pub mod RecipientKeys
-pub mod PairLists
-pub mod TriedPairs
-pub mod SealedPlans
-pub mod Openings
-pub mod ReadLists
+-- tests of the elements of a list, seen by a view
+pub mod Tests
+-- lists whose elements are read from another list, or made of it
+pub mod Each
+-- lists that are beginnings of others
 pub mod Beginnings
-pub mod SigningTemplates
-pub mod SignedObjects
-pub mod SignedTexts
-pub mod SigningGrowth
-pub mod SignedRoundTrip
-pub mod EncryptingPlans
-pub mod JointHeaders
-pub mod JointParameters
-pub mod EncryptedTemplates
-pub mod SoundLimits
-pub mod SettledEncryptions
-pub mod DeliveredKeys
-pub mod EncryptedHeaders
-pub mod EncryptedObjects
-pub mod EncryptedTexts
-pub mod DecryptedPairs
-pub mod EncryptedRoundTrip
-pub mod EncryptingGrowth
-pub mod EncryptionFrames
-pub mod StandingCiphertexts
-pub mod MoreAlgorithms
+pub mod WrittenHeaders
+-- a content that is written inside the texts of a frame, or apart from them
+pub mod Framing
+-- a call that ended before it touched its content
 pub mod Streamed
+pub mod SigningInputs
+pub mod Signing
+pub mod Verifying
+pub mod Encrypting
+pub mod Decrypting
+-- more algorithms open the same objects alike
+pub mod MoreAlgorithms
+-- the lemmas that the crates above cite
 pub mod Lemmas
-pub mod SaltedKeys

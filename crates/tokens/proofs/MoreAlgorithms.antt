@@ -13,9 +13,9 @@ use Rattle.keys.specs.Algorithms.{management_name, management_alg_among}
 use Rattle.keys.specs.Keys.{OctetKey}
 use Rattle.keys.specs.Limits.{Limits, are_few}
 use Rattle.objects.specs.Headers.{protected_members, joint_header, string_there}
-use Rattle.objects.specs.Jwe.{EncodedJwe, RecipientParts, Recipient, JweParts, EncryptedObject, recipient_by, recipient_of, recipients_of, have_one_enc, recipients_of_one_enc, have_no_crit_or_zip, encrypted_object, decoded_members, decoded_object, encoded_jwe, jwe_of}
+use Rattle.objects.specs.Jwe.{JweParts, RecipientParts, Recipient, EncryptedObject, recipient_by, recipient_of, recipients_of, have_one_enc, recipients_of_one_enc, have_no_crit_or_zip, encrypted_object, decoded_members, decoded_object, encoded_jwe, jwe_of}
 use Rattle.objects.specs.Jws as jws
-use Rattle.objects.specs.Jws.{EncodedJws, DecodedSignature, HeadedSignature, Signature, SignedObject, decoded_signature, headed_signature, signature_by, signatures_of, signed_object, encoded_jws, jws_of}
+use Rattle.objects.specs.Jws.{JwsParts, DecodedSignature, HeadedSignature, Signature, SignedObject, decoded_signature, headed_signature, signature_by, signatures_of, signed_object, encoded_jws, jws_of}
 use Rattle.objects.specs.KeyManagement.{KeyManagement, management_by, key_management}
 use Rattle.objects.specs.Texts.{each}
 use Rattle.objects.proofs.Lemmas.{all_passed}
@@ -66,7 +66,8 @@ each_alike P read other alike (x ∷ xs) ys all h =
 abbrev recipient_with : RecipientParts → List ℕ → List ℕ → KeyManagement → Recipient
 recipient_with parts alg enc q = record { header = parts.header; encrypted_key = parts.encrypted_key; alg = alg; enc = enc; management = q }
 
-recipient_made : (algs : List KeyManagementAlg) (p u header : Members) (parts : RecipientParts) (alg enc : List ℕ) (q : KeyManagement) → joint_header p u parts.header ≡ Ok header
+recipient_made : (algs : List KeyManagementAlg) (p u header : Members) (parts : RecipientParts) (alg enc : List ℕ) (q : KeyManagement)
+    → joint_header p u parts.header ≡ Ok header
     → string_there (codes "alg") header ≡ Ok alg → string_there (codes "enc") header ≡ Ok enc → key_management algs alg header ≡ Ok q
     → recipient_of algs p u parts ≡ Ok (recipient_with parts alg enc q)
 unfolding recipient_of recipient_by
@@ -85,24 +86,34 @@ object_with parts protected recipients = record {
   recipients = recipients;
 }
 
-object_made : (algs : List KeyManagementAlg) (octets : List ℕ) (parts : JweParts) (protected : Members) (recipients : List Recipient) → protected_members octets ≡ Ok protected
-    → recipients_of algs protected parts.unprotected parts.recipients ≡ Ok recipients → have_one_enc recipients ≡ true → have_no_crit_or_zip protected parts.unprotected parts.recipients ≡ true
+object_made : (algs : List KeyManagementAlg) (octets : List ℕ) (parts : JweParts) (protected : Members) (recipients : List Recipient)
+    → protected_members octets ≡ Ok protected
+    → recipients_of algs protected parts.unprotected parts.recipients ≡ Ok recipients → have_one_enc recipients ≡ true
+    → have_no_crit_or_zip protected parts.unprotected parts.recipients ≡ true
     → encrypted_object algs octets parts ≡ Ok (object_with parts protected recipients)
 unfolding encrypted_object recipients_of_one_enc
 object_made algs octets parts protected recipients a b c d = rw (a, b, c, d) refl
 
 -- The text of an encrypted object is decoded and then read as the object.
-text_read : (limits : Limits) (algs : List KeyManagementAlg) (detached : Option (List ℕ)) (text octets : List ℕ) (texts : EncodedJwe) (parts : JweParts) → encoded_jwe detached text ≡ Ok texts
-    → are_few limits (length texts.recipients) ≡ true → decoded texts.shared.protected ≡ Ok octets → decoded_members texts ≡ Ok parts
+text_read : (limits : Limits) (algs : List KeyManagementAlg) (detached : Option (List ℕ)) (text octets : List ℕ) (texts : JweParts) (parts : JweParts)
+    → encoded_jwe detached text ≡ Ok texts
+    → are_few limits (length texts.recipients) ≡ true → decoded texts.protected ≡ Ok octets → decoded_members texts ≡ Ok parts
     → jwe_of (knowing limits algs) detached text ≡ encrypted_object algs octets parts
 unfolding jwe_of decoded_object
 text_read limits algs detached text octets texts parts a b c d = rw (a, b, c, d) refl
 
 -- the signature that is read
 abbrev signature_with : HeadedSignature → List ℕ → Signature
-signature_with s alg = record { protected = s.parts.protected; protected_members = s.members; header = s.parts.header; signature = s.parts.signature; alg = alg }
+signature_with s alg = record {
+  protected = s.parts.protected;
+  protected_members = s.members;
+  header = s.parts.header;
+  signature = s.parts.signature;
+  alg = alg;
+}
 
-signature_made : (algs : List KeyManagementAlg) (s : HeadedSignature) (header : Members) (alg : List ℕ) (q : KeyManagement) → joint_header s.members no_members s.parts.header ≡ Ok header
+signature_made : (algs : List KeyManagementAlg) (s : HeadedSignature) (header : Members) (alg : List ℕ) (q : KeyManagement)
+    → joint_header s.members no_members s.parts.header ≡ Ok header
     → string_there (codes "alg") header ≡ Ok alg → key_management algs alg header ≡ Ok q → signature_by algs s ≡ Ok (signature_with s alg)
 unfolding signature_by
 signature_made algs s header alg q a b c = rw (a, b, c) refl
@@ -115,7 +126,8 @@ unfolding signed_object signatures_of
 signed_made algs payload decoded headed signatures a b c = rw (a, b, c) refl
 
 -- The text of a signed object is decoded and then read as the object.
-signed_text_read : (limits : Limits) (algs : List KeyManagementAlg) (detached : Option (List ℕ)) (text payload : List ℕ) (texts : EncodedJws) (signatures : List DecodedSignature)
+signed_text_read : (limits : Limits) (algs : List KeyManagementAlg) (detached : Option (List ℕ)) (text payload : List ℕ) (texts : JwsParts)
+    (signatures : List DecodedSignature)
     → encoded_jws detached text ≡ Ok texts → are_few limits (length texts.signatures) ≡ true → decoded texts.payload ≡ Ok payload
     → each decoded_signature texts.signatures ≡ Ok signatures → jws_of (knowing limits algs) detached text ≡ signed_object algs payload signatures
 unfolding jws_of jws.decoded_object
@@ -125,12 +137,14 @@ signed_text_read limits algs detached text payload texts signatures a b c d = rw
 module _ (limits : Limits) (algs others : List KeyManagementAlg) (enough : List ℕ → Bool)
     (alike : (name : List ℕ) → enough name ≡ true → management_alg_among algs name ≡ management_alg_among others name) where
   -- The key management is read the same.
-  management_alike : (header : Members) (alg : List ℕ) (q : KeyManagement) → enough alg ≡ true → key_management algs alg header ≡ Ok q → key_management others alg header ≡ Ok q
+  management_alike : (header : Members) (alg : List ℕ) (q : KeyManagement) → enough alg ≡ true → key_management algs alg header ≡ Ok q
+      → key_management others alg header ≡ Ok q
   management_alike header alg q is h =
       ap (λ found. management_by found header) (sym (alike alg is)) ∙ h
 
   -- A recipient is read the same.
-  recipient_alike : (p u : Members) (parts : RecipientParts) (r : Recipient) → enough r.alg ≡ true → recipient_of algs p u parts ≡ Ok r → recipient_of others p u parts ≡ Ok r
+  recipient_alike : (p u : Members) (parts : RecipientParts) (r : Recipient) → enough r.alg ≡ true → recipient_of algs p u parts ≡ Ok r
+      → recipient_of others p u parts ≡ Ok r
   unfolding recipient_of recipient_by
   recipient_alike p u parts r is h =
       let header = steps (joint_header p u parts.header) _ r h in
@@ -142,7 +156,8 @@ module _ (limits : Limits) (algs others : List KeyManagementAlg) (enough : List 
       recipient_made others p u header.0 parts alg.0 enc.0 management.0 header.1 alg.1 enc.1 read ∙ management.2
 
   -- An encrypted object is read the same.
-  object_alike : (octets : List ℕ) (parts : JweParts) (o : EncryptedObject) → list_all (λ r. enough r.alg) o.recipients ≡ true → encrypted_object algs octets parts ≡ Ok o
+  object_alike : (octets : List ℕ) (parts : JweParts) (o : EncryptedObject) → list_all (λ r. enough r.alg) o.recipients ≡ true
+      → encrypted_object algs octets parts ≡ Ok o
       → encrypted_object others octets parts ≡ Ok o
   unfolding encrypted_object recipients_of_one_enc
   object_alike octets parts o all h =
@@ -162,15 +177,17 @@ module _ (limits : Limits) (algs others : List KeyManagementAlg) (enough : List 
       ∙ ap (λ rs. let r : Result EncryptedObject Refusal = Ok (object_with parts protected.0 rs) in r) same ∙ plain.2
 
   -- The text of an encrypted object is read the same.
-  read_alike : (detached : Option (List ℕ)) (text : List ℕ) (o : EncryptedObject) → list_all (λ r. enough r.alg) o.recipients ≡ true → jwe_of (knowing limits algs) detached text ≡ Ok o
+  read_alike : (detached : Option (List ℕ)) (text : List ℕ) (o : EncryptedObject) → list_all (λ r. enough r.alg) o.recipients ≡ true
+      → jwe_of (knowing limits algs) detached text ≡ Ok o
       → jwe_of (knowing limits others) detached text ≡ Ok o
   unfolding jwe_of decoded_object
   read_alike detached text o all h =
       let texts = steps (encoded_jwe detached text) _ o h in
       let few = steps (needs (are_few limits (length texts.0.recipients)) Limit) _ o texts.2 in
-      let octets = steps (decoded texts.0.shared.protected) _ o few.2 in
+      let octets = steps (decoded texts.0.protected) _ o few.2 in
       let parts = steps (decoded_members texts.0) _ o octets.2 in
-      text_read limits others detached text octets.0 texts.0 parts.0 texts.1 (passed _ Limit few.0 few.1) octets.1 parts.1 ∙ object_alike octets.0 parts.0 o all parts.2
+      text_read limits others detached text octets.0 texts.0 parts.0 texts.1 (passed _ Limit few.0 few.1) octets.1 parts.1
+      ∙ object_alike octets.0 parts.0 o all parts.2
 
   -- A signature is read the same.
   signature_alike : (h : HeadedSignature) (s : Signature) → enough s.alg ≡ true → signature_by algs h ≡ Ok s → signature_by others h ≡ Ok s
@@ -184,7 +201,8 @@ module _ (limits : Limits) (algs others : List KeyManagementAlg) (enough : List 
       signature_made others d header.0 alg.0 management.0 header.1 alg.1 read ∙ management.2
 
   -- A signed object is read the same.
-  signed_object_alike : (payload : List ℕ) (decoded : List DecodedSignature) (o : SignedObject) → list_all (λ s. enough s.alg) o.signatures ≡ true → signed_object algs payload decoded ≡ Ok o
+  signed_object_alike : (payload : List ℕ) (decoded : List DecodedSignature) (o : SignedObject) → list_all (λ s. enough s.alg) o.signatures ≡ true
+      → signed_object algs payload decoded ≡ Ok o
       → signed_object others payload decoded ≡ Ok o
   unfolding signed_object signatures_of
   signed_object_alike payload decoded o all h =
@@ -202,7 +220,8 @@ module _ (limits : Limits) (algs others : List KeyManagementAlg) (enough : List 
       ∙ ap (λ ss. let r : Result SignedObject Refusal = Ok (record { payload = payload; signatures = ss }) in r) same ∙ read.2
 
   -- The text of a signed object is read the same.
-  signed_read_alike : (detached : Option (List ℕ)) (text : List ℕ) (o : SignedObject) → list_all (λ s. enough s.alg) o.signatures ≡ true → jws_of (knowing limits algs) detached text ≡ Ok o
+  signed_read_alike : (detached : Option (List ℕ)) (text : List ℕ) (o : SignedObject) → list_all (λ s. enough s.alg) o.signatures ≡ true
+      → jws_of (knowing limits algs) detached text ≡ Ok o
       → jws_of (knowing limits others) detached text ≡ Ok o
   unfolding jws_of jws.decoded_object
   signed_read_alike detached text o all h =
@@ -214,7 +233,8 @@ module _ (limits : Limits) (algs others : List KeyManagementAlg) (enough : List 
       ∙ signed_object_alike payload.0 signatures.0 o all signatures.2
 
   -- The pairs that are tried are the same.
-  pairs_alike : (keys : List OctetKey) (recipients : List Recipient) → AllByRecursion (λ r. enough r.alg ≡ true) recipients → all_pairs algs keys recipients ≡ all_pairs others keys recipients
+  pairs_alike : (keys : List OctetKey) (recipients : List Recipient) → AllByRecursion (λ r. enough r.alg ≡ true) recipients
+      → all_pairs algs keys recipients ≡ all_pairs others keys recipients
   unfolding algorithms_of
   pairs_alike keys [] all = refl
   pairs_alike keys (r ∷ rest) all = rw (alike r.alg all.0, pairs_alike keys rest all.1) refl
@@ -239,7 +259,8 @@ pub opens_alike : (limits : Limits) (known further : List KeyManagementAlg) → 
 opens_alike limits known further =
     let more : List KeyManagementAlg = known ++ further in
     let enough : List ℕ → Bool = needs_no_more known further in
-    let back : (name : List ℕ) → enough name ≡ true → management_alg_among known name ≡ management_alg_among more name = λ name is. sym (named_alike known further name is) in
+    let back : (name : List ℕ) → enough name ≡ true → management_alg_among known name ≡ management_alg_among more name =
+    λ name is. sym (named_alike known further name is) in
     record {
       read = λ detached text o all. (
         read_alike limits more known enough (named_alike known further) detached text o all,

@@ -6,7 +6,6 @@ use Rattle.octets.specs.declared.refusal.Refusal.TheVariants.{Memory, Read, Writ
 use Rattle.octets.specs.Faults.{TellsFaults, DidNotFail, counts}
 use Rattle.octets.specs.Outcomes.{is_external}
 use Rattle.octets.specs.Code.Lent.{Lent, IfLent}
-use Rattle.octets.specs.Code.Results.{is_memory}
 use Rattle.octets.specs.Plan.{OutputTexts, Plan, planned}
 use Rattle.octets.proofs.Lemmas.{AppendsPrefixOf-kept, not_told}
 use Rattle.octets.specs.Code.Streaming.{Streams}
@@ -17,8 +16,10 @@ kept : {E : Type 0} (l : Option (Lent E)) (P : E → E → Type 0) → IfLent l 
 kept None P same p = tt
 kept (Some it) P same p = subst (P it.old) (sym same) (p it.old)
 
-pub ended_early : {D E : Type 0} (input : InputMembers D) (output : OutputMembers E) (plan : Result (Plan OutputTexts) Refusal) (content : D) (text : E) (l : Option (Lent E)) → IfLent l (λ old new. new ≡ old)
-    → (e : Refusal) → (is_external e ≡ false → (whole : List ℕ) → planned plan whole ≡ Err e) → (r : Result (Unit {0}) Refusal) → IsErrAnd r (λ refusal. refusal ≡ e)
+pub ended_early : {D E : Type 0} (input : InputMembers D) (output : OutputMembers E) (plan : Result (Plan OutputTexts) Refusal) (content : D) (text : E)
+    (l : Option (Lent E)) → IfLent l (λ old new. new ≡ old)
+    → (e : Refusal) → (is_external e ≡ false → (whole : List ℕ) → planned plan whole ≡ Err e) → (r : Result (Unit {0}) Refusal)
+    → IsErrAnd r (λ refusal. refusal ≡ e)
     → Streams input output plan content content text text l r
 ended_early input output plan content text l same e refused (Ok done) is = absurd is
 ended_early input output plan content text l same e refused (Err r) is = record {
@@ -35,14 +36,6 @@ ended_early input output plan content text l same e refused (Err r) is = record 
   unread = λ nothing. (λ spared. refl, kept l _ same (λ d others. refl));
 }
 
-pub not_memory : (e : Refusal) → is_external e ≡ false → is_memory e ≡ false
-not_memory Memory inside = cc inside
-not_memory e inside = refl
-
-pub on_refusals : {X : Type 0} (r : Result X Refusal) (P Q : Refusal → Type 0) → IfErr r P → ((e : Refusal) → P e → Q e) → IfErr r Q
-on_refusals (Ok x) P Q p f = tt
-on_refusals (Err e) P Q p f = f e p
-
 -- ---- a call whose last step writes a text, and failed there
 
 -- It does not report the content.
@@ -56,11 +49,13 @@ not_memory_last P (Ok done) cause = tt
 not_memory_last P (Err e) cause = λ memory. cc
 
 -- The output of the text failed, and no other one.
-pub text_failed : {E : Type 0} (P Q : Type 0) (failures : E → ℕ) (before mid after : E) (r : Result (Unit {0}) Refusal) → failures mid ≡ failures before → OnErr r (r ≡ Err Write) → TellsFaults [] (counts failures mid after ∷ []) r
+pub text_failed : {E : Type 0} (P Q : Type 0) (failures : E → ℕ) (before mid after : E) (r : Result (Unit {0}) Refusal) → failures mid ≡ failures before
+    → OnErr r (r ≡ Err Write) → TellsFaults [] (counts failures mid after ∷ []) r
     → IfErr r (λ refusal. (DidNotFail refusal (counts failures before after) → P) × (refusal ≢ Write → Q))
 text_failed P Q failures before mid after (Ok done) same cause told = tt
 text_failed P Q failures before mid after (Err e) same cause told =
     let write : e ≡ Write = cc cause in (
-      λ spared. absurd (not_told e (counts failures mid after) (λ is. told.write (ap Err is)) (subst (λ n. DidNotFail e (record { old = n; new = failures after })) (sym same) spared) write),
+      λ spared. absurd (not_told e (counts failures mid after) (λ is. told.write (ap Err is))
+          (subst (λ n. DidNotFail e (record { old = n; new = failures after })) (sym same) spared) write),
       λ others. absurd (others write),
     )

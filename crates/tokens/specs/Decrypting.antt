@@ -107,7 +107,8 @@ sealed_content o = record { iv = o.iv; aad = additional_authenticated_data o.pro
 -- the content encryption key that the recipient's encrypted key delivers (steps 9 to 11)
 unfoldable pub cek_of : Pair → Option (List ℕ)
 cek_of pair =
-    delivered (key_alg pair.algorithms.management) (content_alg pair.algorithms.encryption) pair.key.octets (parameters_by pair.recipient.management) pair.recipient.encrypted_key
+    delivered (key_alg pair.algorithms.management) (content_alg pair.algorithms.encryption) pair.key.octets
+    (parameters_by pair.recipient.management) pair.recipient.encrypted_key
 
 -- the plaintext under this key (step 16)
 unfoldable pub opened_by : SealedContent → Pair → Option (List ℕ)

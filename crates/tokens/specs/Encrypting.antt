@@ -98,7 +98,8 @@ recipients_by e random = map (recipient_parts_by e.given (is_alone e.recipient_k
 -- ---- the object of a plaintext (RFC 7516 section 5.1, steps 14 and 15)
 
 abbrev pub sealing_by : EncryptionPlan → List ℕ → Sealing
-sealing_by e random = sealing (content_alg e.encryption) (cek_by e random) (iv_by e random) (additional_authenticated_data (base64url (header_by e random)) e.aad)
+sealing_by e random = sealing (content_alg e.encryption) (cek_by e random) (iv_by e random)
+    (additional_authenticated_data (base64url (header_by e random)) e.aad)
 
 -- the sealed plaintext, if it is not too long (docs/SPECIFICATION.md "Encrypting" 7)
 unfoldable pub sealed_by : Sealing → List ℕ → Result Sealed Refusal
@@ -154,7 +155,10 @@ text_fixed limits compact false e random ciphertext = text_before limits compact
 abbrev pub plan_by : Limits → Bool → Bool → EncryptionPlan → List ℕ → Plan OutputTexts
 plan_by limits compact detach e random = record {
   whole = λ plaintext. encrypted limits e random plaintext >>= written_of compact detach;
-  fixed = λ front. record { text = text_fixed limits compact detach e random (ciphertext_fixed e random front); content = handed_out detach (ciphertext_fixed e random front) };
+  fixed = λ front. record {
+    text = text_fixed limits compact detach e random (ciphertext_fixed e random front);
+    content = handed_out detach (ciphertext_fixed e random front);
+  };
 }
 
 -- what keys and a template's text settle, or the first refusal
@@ -173,8 +177,10 @@ EncryptingGrows = (compact detach : Bool) (keys : List OctetKey) (template rando
 -- If at most 256 keys and a template are accepted, every plaintext that is not too long has an object and its texts: after the random
 -- octets the only refusal is Limit, and only of a plaintext that is too long for the content encryption.
 abbrev pub EncryptingMakesTexts : Type 0
-EncryptingMakesTexts = (compact detach : Bool) (keys : List OctetKey) (template random plaintext : List ℕ) (plan : Plan OutputTexts) → are_few limits (length keys) ≡ true
-    → AreOctetKeys keys → IsOctets random → plan_from (enc_plan limits compact detach keys template) random ≡ Ok plan → IfErr (plan.whole plaintext) (λ refusal. (refusal ≡ Limit)
+EncryptingMakesTexts = (compact detach : Bool) (keys : List OctetKey) (template random plaintext : List ℕ) (plan : Plan OutputTexts)
+    → are_few limits (length keys) ≡ true
+    → AreOctetKeys keys → IsOctets random → plan_from (enc_plan limits compact detach keys template) random ≡ Ok plan
+    → IfErr (plan.whole plaintext) (λ refusal. (refusal ≡ Limit)
     × ((e : EncryptionPlan) × (read_encryption limits compact keys template ≡ Ok e) × IsTooLong (sealing_by e (take (random_len e) random)) plaintext))
 
 -- ---- what is encrypted is decrypted (docs/SPECIFICATION.md "Encrypting" and "Decrypting")
@@ -199,13 +205,16 @@ MayDecrypt limits compact keys key template =
 -- it, so this asks nothing of it.
 abbrev pub OpensNoOther : ℕ → OctetKey → EncryptedObject → List ℕ → Type 0
 OpensNoOther n key o plaintext =
-    AllByRecursion (λ pair. (other : List ℕ) → opened_by (sealed_content o) pair ≡ Some other → other ≡ plaintext) (all_pairs management_algs (key ∷ []) (take n o.recipients))
+    AllByRecursion (λ pair. (other : List ℕ) → opened_by (sealed_content o) pair ≡ Some other → other ≡ plaintext)
+    (all_pairs management_algs (key ∷ []) (take n o.recipients))
 
 -- A text that is encrypted to keys is an object. Each of the keys alone decrypts it to the plaintext, if the key may decrypt and opens
 -- nothing else at the recipient of an earlier key.
 abbrev pub EncryptedDecrypts : Limits → Type 0
-EncryptedDecrypts limits = (compact detach : Bool) (keys : List OctetKey) (template random plaintext : List ℕ) (texts : OutputTexts) → AreOctetKeys keys → IsOctets random → IsOctets plaintext
+EncryptedDecrypts limits = (compact detach : Bool) (keys : List OctetKey) (template random plaintext : List ℕ) (texts : OutputTexts) → AreOctetKeys keys
+    → IsOctets random → IsOctets plaintext
     → planned (plan_from (enc_plan limits compact detach keys template) random) plaintext ≡ Ok texts
     → (o : EncryptedObject) × ((jwe_of limits (handed_in detach texts.content) texts.text ≡ Ok o)
-    × ((before after : List OctetKey) (key : OctetKey) → keys ≡ before ++ key ∷ after → MayDecrypt limits compact keys key template → OpensNoOther (length before) key o plaintext
+    × ((before after : List OctetKey) (key : OctetKey) → keys ≡ before ++ key ∷ after → MayDecrypt limits compact keys key template
+    → OpensNoOther (length before) key o plaintext
     → decrypted limits (key ∷ []) o ≡ Ok plaintext))

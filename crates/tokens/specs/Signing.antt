@@ -136,5 +136,6 @@ SigningGrows = (compact detach : Bool) (s : Signing) → BothGrow (plan_by limit
 
 -- What a template and 1 to 256 keys settle makes an object of every payload, and its texts.
 abbrev pub SigningMakesTexts : Type 0
-SigningMakesTexts = (compact detach : Bool) (keys : List OctetKey) (template payload : List ℕ) (plan : Plan OutputTexts) → nat_le 1 (length keys) ≡ true → are_few limits (length keys) ≡ true
+SigningMakesTexts = (compact detach : Bool) (keys : List OctetKey) (template payload : List ℕ) (plan : Plan OutputTexts) → nat_le 1 (length keys) ≡ true
+    → are_few limits (length keys) ≡ true
     → sig_plan limits compact detach keys template ≡ Ok plan → (texts : OutputTexts) × (plan.whole payload ≡ Ok texts)

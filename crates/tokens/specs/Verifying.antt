@@ -76,4 +76,5 @@ abbrev pub SignedVerifies : Type 0
 SignedVerifies = (compact detach : Bool) (keys : List OctetKey) (template payload : List ℕ) (texts : OutputTexts) → IsOctets payload
     → planned (sig_plan limits compact detach keys template) payload ≡ Ok texts
     → (o : SignedObject) × ((jws_of limits (handed_in detach texts.content) texts.text ≡ Ok o)
-    × ((all : Bool) (before after : List OctetKey) (key : OctetKey) → keys ≡ before ++ key ∷ after → allows key Verify ≡ true → verifying_by all true (key ∷ []) o ≡ Ok payload))
+    × ((all : Bool) (before after : List OctetKey) (key : OctetKey) → keys ≡ before ++ key ∷ after → allows key Verify ≡ true
+    → verifying_by all true (key ∷ []) o ≡ Ok payload))

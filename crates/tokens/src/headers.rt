@@ -22,7 +22,7 @@ pub(crate) fn is_shallow(part: Option<&Map<String, Value>>) -> bool
 }
 
 /// Whether the header has no members.
-#[tactic(auto, using(crate::proofs::HeaderMembers::empty_members))]
+#[tactic(auto, using(crate::proofs::WrittenHeaders::Members::empty_members))]
 pub(crate) fn is_empty(part: Option<&Map<String, Value>>) -> bool
     ensures { result ≡ is_empty (part_view part.entry) }
 {
@@ -33,7 +33,7 @@ pub(crate) fn is_empty(part: Option<&Map<String, Value>>) -> bool
 }
 
 /// The compact JSON text of a header. One without members has the empty text.
-#[tactic(auto, using(crate::proofs::HeaderMembers::text_of_some, crate::proofs::HeaderMembers::text_of_none))]
+#[tactic(auto, using(crate::proofs::WrittenHeaders::Members::text_of_some, crate::proofs::WrittenHeaders::Members::text_of_none))]
 pub(crate) fn header_text(alloc: Global, members: Map<String, Value>) -> Result<String, AllocError>
     requires { members_have_float (members_view members.entries) ≡ false }
     ensures { IfOk result (λ text. string_bytes text ≡ header_text (members_view members.entries)) }

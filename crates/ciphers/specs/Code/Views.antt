@@ -76,7 +76,8 @@ pub record HoldsAuthentication {H : Type 0} (f : HashFunction) (holds : H → Li
   pub bits : s.aad_bits ≡ bit_length aad
 
 -- it was started for this sealing, and has taken p
-pub record HoldsCbcHmac {B H : Type 0} (encrypted : B → List ℕ → List ℕ) (f : HashFunction) (holds : H → List ℕ → Type 0) (s : CbcHmac B H) (sealing : Sealing) (p : List ℕ) : Type 0 where
+pub record HoldsCbcHmac {B H : Type 0} (encrypted : B → List ℕ → List ℕ) (f : HashFunction) (holds : H → List ℕ → Type 0) (s : CbcHmac B H) (sealing : Sealing)
+    (p : List ℕ) : Type 0 where
   pub e : List ℕ → List ℕ
   pub mac_key : List ℕ
   pub iv : List ℕ

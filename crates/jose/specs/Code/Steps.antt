@@ -33,7 +33,8 @@ where_read is_read whole = if is_read then whole else []
 pub record ReadsInputs {D : Type 0} (input : InputMembers D) (has_keys given : Bool) (old new : Inputs D) (result : Result WholeInputs Refusal) : Type 0 where
   pub text : IfOk result (λ read. (whole : List ℕ) → IsPossibleInput (seen_of input old new).text whole → whole ≡ read.text.items)
   pub keys : IfOk result (λ read. (whole : List ℕ) → IsPossibleInput (seen_of input old new).keys whole → where_read has_keys whole ≡ read.keys.items)
-  pub content : IfOk result (λ read. (whole : List ℕ) → IsPossibleInput (seen_of input old new).content whole → handed_in given whole ≡ option_map (λ c. c.items) read.content)
+  pub content : IfOk result (λ read. (whole : List ℕ) → IsPossibleInput (seen_of input old new).content whole
+      → handed_in given whole ≡ option_map (λ c. c.items) read.content)
   pub text_ends : OnOk result (IsTrue (input.is_at_end new.text))
   pub keys_end : OnOk result (IsTrue has_keys → IsTrue (input.is_at_end new.keys))
   pub content_ends : OnOk result (IsTrue given → IsTrue (input.is_at_end new.content))
@@ -49,7 +50,8 @@ pub record ReadsInputs {D : Type 0} (input : InputMembers D) (has_keys given : B
 
 -- The answer to whole inputs is written, with the content first if the command has an output for it. No output is touched before the answer
 -- is ready.
-pub record WritesWhole {E : Type 0} (output : OutputMembers E) (has_text has_content : Bool) (answer : Result OutputTexts Refusal) (before after : Outputs E) (result : Result (Unit {0}) Refusal) : Type 0 where
+pub record WritesWhole {E : Type 0} (output : OutputMembers E) (has_text has_content : Bool) (answer : Result OutputTexts Refusal) (before after : Outputs E)
+    (result : Result (Unit {0}) Refusal) : Type 0 where
   pub agrees : AgreesUnlessExternal answer (written_texts output.written before after) result
   pub beginning : OnErr result (AppendPrefixesOf output.written (formed answer true) before after)
   pub held_back : IfErr result (λ refusal. AreSpared output.failures before after refusal (after.text ≡ before.text) (after.content ≡ before.content))

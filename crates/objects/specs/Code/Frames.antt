@@ -40,7 +40,13 @@ jws_frame compact detach o = do
 abbrev pub with_octets : List Signature → List (List ℕ) → List Signature
 with_octets [] octets = []
 with_octets (s ∷ rest) [] = s ∷ rest
-with_octets (s ∷ rest) (octets ∷ more) = record { protected = s.protected; protected_members = s.protected_members; header = s.header; signature = octets; alg = s.alg } ∷ with_octets rest more
+with_octets (s ∷ rest) (octets ∷ more) = record {
+  protected = s.protected;
+  protected_members = s.protected_members;
+  header = s.header;
+  signature = octets;
+  alg = s.alg;
+} ∷ with_octets rest more
 
 abbrev pub signed_with : SignedObject → List ℕ → List (List ℕ) → SignedObject
 signed_with o payload signatures = record { payload = payload; signatures = with_octets o.signatures signatures }

@@ -8,8 +8,8 @@ use Rattle.serde_json.specs.View.{members_view}
 use Rattle.serde_json.specs.declared.value.Value.{Value}
 use Rattle.octets.specs.Base64url.{base64url}
 use Rattle.objects.specs.Headers.{all_members}
-use Rattle.objects.specs.Jwe.{RecipientParts, Recipient, EncodedShared, EncodedRecipient, EncodedContent, EncodedJwe, JweParts, EncryptedObject}
-use Rattle.objects.specs.Jws.{SignatureParts, JwsParts, EncodedSignature, EncodedJws, Signature, DecodedSignature, HeadedSignature, SignedObject}
+use Rattle.objects.specs.Jwe.{RecipientParts, Recipient, JweParts, EncryptedObject}
+use Rattle.objects.specs.Jws.{SignatureParts, JwsParts, Signature, DecodedSignature, HeadedSignature, SignedObject}
 use Rattle.objects.specs.Code.KeyManagementView.{management_view}
 use Rattle.objects.specs.Code.Meaning.{meaning}
 use Rattle.objects.specs.Code.Writing.{Written}
@@ -20,10 +20,8 @@ use Rattle.objects.specs.declared.header.Header as header
 use Rattle.objects.specs.declared.jwe.Jwe as jwe
 use Rattle.objects.specs.declared.jwe.parts.JweMembers as jwe_members
 use Rattle.objects.specs.declared.jwe.parts.JweParts as jwe_parts
-use Rattle.objects.specs.declared.jwe.encoded.EncodedContent as content
 use Rattle.objects.specs.declared.jwe.encoded.EncodedJwe as texts
 use Rattle.objects.specs.declared.jwe.encoded.EncodedRecipient as encoded_recipient
-use Rattle.objects.specs.declared.jwe.encoded.EncodedShared as shared
 use Rattle.objects.specs.declared.jws.parts.DecodedSignature as decoded
 use Rattle.objects.specs.declared.jws.signature.HeadedSignature as headed
 use Rattle.objects.specs.declared.jws.Jws as jws
@@ -88,10 +86,10 @@ abbrev pub payload_view : payload.Payload → List ℕ
 payload_view (PayloadText text) = received_view text
 payload_view (PayloadOctets octets) = octets.items
 
-abbrev pub encoded_signature_view : encoded_signature.EncodedSignature → EncodedSignature
+abbrev pub encoded_signature_view : encoded_signature.EncodedSignature → SignatureParts
 encoded_signature_view t = record { protected = t.protected.now; header = members_view t.header.map.entries; signature = t.signature.now }
 
-abbrev pub encoded_jws_view : encoded_jws.EncodedJws → EncodedJws
+abbrev pub encoded_jws_view : encoded_jws.EncodedJws → JwsParts
 encoded_jws_view t = record { payload = content_text_view t.payload; signatures = map encoded_signature_view t.signatures.items }
 
 abbrev pub signature_parts_view : signature_parts.SignatureParts → SignatureParts
@@ -142,17 +140,19 @@ recipient_view r = record {
   management = management_view r.named.management;
 }
 
-abbrev pub encoded_shared_view : shared.EncodedShared → EncodedShared
-encoded_shared_view t = record { protected = t.protected.now; unprotected = members_view t.unprotected.map.entries; aad = t.aad.now }
-
-abbrev pub encoded_recipient_view : encoded_recipient.EncodedRecipient → EncodedRecipient
+abbrev pub encoded_recipient_view : encoded_recipient.EncodedRecipient → RecipientParts
 encoded_recipient_view t = record { header = members_view t.header.map.entries; encrypted_key = t.encrypted_key.now }
 
-abbrev pub encoded_content_view : content.EncodedContent → EncodedContent
-encoded_content_view t = record { iv = t.iv.now; ciphertext = content_text_view t.ciphertext; tag = t.tag.now }
-
-abbrev pub encoded_jwe_view : texts.EncodedJwe → EncodedJwe
-encoded_jwe_view t = record { shared = encoded_shared_view t.shared; recipients = map encoded_recipient_view t.recipients.items; content = encoded_content_view t.content }
+abbrev pub encoded_jwe_view : texts.EncodedJwe → JweParts
+encoded_jwe_view t = record {
+  protected = t.protected.now;
+  unprotected = members_view t.unprotected.map.entries;
+  iv = t.iv.now;
+  aad = t.aad.now;
+  ciphertext = content_text_view t.ciphertext;
+  tag = t.tag.now;
+  recipients = map encoded_recipient_view t.recipients.items;
+}
 
 abbrev pub jwe_parts_view : jwe_parts.JweParts → JweParts
 jwe_parts_view p = record {

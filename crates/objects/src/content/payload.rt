@@ -31,7 +31,7 @@ pub enum HeldContent<'c> {
 
 impl<'t> ReceivedText<'t> {
     /// A text that was received. Refuses with `Base64` if it is no base64url text.
-    #[tactic(auto, using(octets::proofs::Lemmas::octets_of_meaning, crate::proofs::TextOctets::text_is))]
+    #[tactic(auto, using(octets::proofs::Lemmas::octets_of_meaning, octets::proofs::Lemmas::text_of_meaning))]
     pub(crate) fn read(text: &'t [u8]) -> Result<ReceivedText<'t>, Refusal>
         ensures { Agrees received_view result (decoded text.entry.now) }
     {

@@ -5,17 +5,18 @@ ghost use Rattle.serde_json.specs.View.{view, items_view};
 ghost use Rattle.serde_json.specs.Written.{has_float, items_have_float};
 ghost use Rattle.octets.specs.Base64url.{base64url};
 ghost use Rattle.octets.specs.Code.Results.{Agrees, AgreesUnlessMemory};
-ghost use Rattle.objects.specs.Code.Views.{encoded_shared_view, encoded_recipient_view, encoded_content_view, encoded_jwe_view, jwe_members_view, recipient_members_view};
-ghost use Rattle.objects.specs.Jwe.{encoded_shared, encoded_recipient, encoded_content, no_recipient_at, recipient_objects, encoded_in_json, encoded_in_compact, decoded_recipient, decoded_members};
+ghost use Rattle.objects.specs.Code.Views.{encoded_recipient_view, encoded_jwe_view, jwe_members_view, recipient_members_view};
+ghost use Rattle.objects.specs.Jwe.{encoded_recipient, no_recipient_at, recipient_objects, encoded_in_json, encoded_in_compact, decoded_recipient, decoded_members};
 ghost use Rattle.objects.specs.Texts.{each, each_item};
 
 use crate::compact::{split_at_dot, three_parts_of};
 use crate::content::Content;
+use crate::content::received_text::copied_text;
 use crate::header::members::HeaderMembers;
 use crate::header::parts::{has_some_members, header_at, no_members, owned_header_at};
 use crate::json_members::{object_list, text_at};
 use crate::jwe::parts::{JweMembers, RecipientMembers};
-use octets::{Refusal, b64_decode, b64_encode, needs};
+use octets::{Refusal, b64_decode, needs};
 use serde_json::Value;
 use std::alloc::Global;
 use std::slice;
@@ -23,38 +24,28 @@ use std::slice;
 /// The members of an encrypted object, with the texts that they have. An absent one is empty.
 #[derive(Drop)]
 pub(crate) struct EncodedJwe<'t> {
-    shared: EncodedShared<'t>,
-    pub(crate) recipients: Vec<EncodedRecipient<'t>>,
-    content: EncodedContent<'t>,
-}
-
-/// What all recipients share except the content: headers and additional data.
-#[derive(Drop)]
-struct EncodedShared<'t> {
     protected: &'t [u8],
     unprotected: HeaderMembers,
+    iv: &'t [u8],
     aad: &'t [u8],
+    ciphertext: Content<'t>,
+    tag: &'t [u8],
+    pub(crate) recipients: Vec<EncodedRecipient<'t>>,
 }
 
+/// Those of a recipient.
 #[derive(Drop)]
 pub(crate) struct EncodedRecipient<'t> {
     header: HeaderMembers,
     encrypted_key: &'t [u8],
 }
 
-#[derive(Drop)]
-struct EncodedContent<'t> {
-    iv: &'t [u8],
-    ciphertext: Content<'t>,
-    tag: &'t [u8],
-}
-
 impl<'t> EncodedJwe<'t> {
     /// The text of the protected header.
     pub(crate) fn protected(&self) -> &'t [u8]
-        ensures { result.now ≡ (encoded_jwe_view self.now).shared.protected }
+        ensures { result.now ≡ (encoded_jwe_view self.now).protected }
     {
-        self.shared.protected
+        self.protected
     }
 }
 
@@ -70,29 +61,22 @@ pub(crate) fn encoded_in_json(
     requires { has_float (view value.now) ≡ false }
     ensures { AgreesUnlessMemory encoded_jwe_view result (encoded_in_json (option_map (λ c. c.items) detached) (view value.now)) }
 {
-    let shared = encoded_shared(alloc, value)?;
-    let objects = recipient_objects(value)?;
-    let recipients = encoded_recipients(alloc, objects)?;
-    let content = encoded_content(value, detached)?;
-    Ok(EncodedJwe {
-        shared,
-        recipients,
-        content,
-    })
-}
-
-#[tactic(auto, unfolding(crate::specs::Jwe::encoded_shared))]
-fn encoded_shared(alloc: Global, value: &Value) -> Result<EncodedShared<'_>, Refusal>
-    requires { has_float (view value.now) ≡ false }
-    ensures { AgreesUnlessMemory encoded_shared_view result (encoded_shared (view value.now)) }
-{
     let protected = text_at(value, "protected")?;
     let unprotected = owned_header_at(alloc, value, "unprotected")?;
     let aad = text_at(value, "aad")?;
-    Ok(EncodedShared {
+    let objects = recipient_objects(value)?;
+    let recipients = encoded_recipients(alloc, objects)?;
+    let iv = text_at(value, "iv")?;
+    let ciphertext = Content::of_member(value, "ciphertext", detached)?;
+    let tag = text_at(value, "tag")?;
+    Ok(EncodedJwe {
         protected,
         unprotected,
+        iv,
         aad,
+        ciphertext,
+        tag,
+        recipients,
     })
 }
 
@@ -154,20 +138,6 @@ fn encoded_recipient(alloc: Global, value: &Value) -> Result<EncodedRecipient<'_
     })
 }
 
-#[tactic(auto, unfolding(crate::specs::Jwe::encoded_content))]
-fn encoded_content(value: &Value, detached: Option<Vec<u8>>) -> Result<EncodedContent<'_>, Refusal>
-    ensures { Agrees encoded_content_view result (encoded_content (option_map (λ c. c.items) detached) (view value.now)) }
-{
-    let iv = text_at(value, "iv")?;
-    let ciphertext = Content::of_member(value, "ciphertext", detached)?;
-    let tag = text_at(value, "tag")?;
-    Ok(EncodedContent {
-        iv,
-        ciphertext,
-        tag,
-    })
-}
-
 /// The five parts of a compact text (RFC 7516 section 7.1). Refuses with `Form` if there are more or fewer, or if a ciphertext
 /// was handed in and its part is not empty.
 #[tactic(auto, unfolding(crate::specs::Jwe::encoded_in_compact))]
@@ -182,25 +152,19 @@ pub(crate) fn encoded_in_compact(
     let (encrypted_key, rest) = split_at_dot(rest)?;
     let (iv, ciphertext, tag) = three_parts_of(rest)?;
     let ciphertext = Content::of_part(ciphertext, detached)?;
-    let shared = EncodedShared {
-        protected,
-        unprotected: no_members(alloc),
-        aad: b"",
-    };
     let mut recipients = Vec::new(alloc);
     recipients.push(EncodedRecipient {
         header: no_members(alloc),
         encrypted_key,
     })?;
-    let content = EncodedContent {
+    Ok(EncodedJwe {
+        protected,
+        unprotected: no_members(alloc),
         iv,
+        aad: b"",
         ciphertext,
         tag,
-    };
-    Ok(EncodedJwe {
-        shared,
         recipients,
-        content,
     })
 }
 
@@ -212,32 +176,26 @@ pub(crate) fn decoded_members(
     texts: EncodedJwe<'_>,
     protected: &[u8],
 ) -> Result<JweMembers, Refusal>
-    requires { base64url protected.now ≡ texts.shared.protected.now }
+    requires { texts.protected.now ≡ base64url protected.now }
     ensures exact { AgreesUnlessMemory jwe_members_view result (decoded_members (encoded_jwe_view texts.entry)) }
     ensures as_many { IfOk result (λ members. length members.recipients.items ≡ length texts.entry.recipients.items) }
 {
     let EncodedJwe {
-        shared,
-        recipients,
-        content,
-    } = texts;
-    let EncodedShared {
+        protected: text,
         unprotected,
-        aad,
-        ..
-    } = shared;
-    let aad = b64_decode(alloc, aad)?;
-    let recipients = decoded_recipients(alloc, recipients)?;
-    let EncodedContent {
         iv,
+        aad,
         ciphertext,
         tag,
-    } = content;
+        recipients,
+    } = texts;
+    let aad = b64_decode(alloc, aad)?;
+    let recipients = decoded_recipients(alloc, recipients)?;
     let iv = b64_decode(alloc, iv)?;
     let ciphertext = ciphertext.octets(alloc)?;
     let tag = b64_decode(alloc, tag)?;
     Ok(JweMembers {
-        protected: b64_encode(alloc, protected)?,
+        protected: copied_text(alloc, text, protected)?,
         unprotected,
         iv,
         aad,

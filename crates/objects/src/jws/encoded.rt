@@ -10,11 +10,12 @@ ghost use Rattle.objects.specs.Code.Views.{content_is_text, encoded_jws_view, en
 
 use crate::compact::three_parts_of;
 use crate::content::Content;
+use crate::content::received_text::copied_text;
 use crate::header::members::HeaderMembers;
 use crate::header::parts::{has_some_members, header_at, no_members, owned_header_at};
 use crate::json_members::{object_list, required_text, text_at};
 use crate::jws::parts::{DecodedSignature, SignatureMembers};
-use octets::{Refusal, b64_decode, b64_encode, needs};
+use octets::{Refusal, b64_decode, needs};
 use serde_json::Value;
 use std::alloc::Global;
 use std::slice;
@@ -171,7 +172,7 @@ fn decoded_signature(
     } = texts;
     let signature = b64_decode(alloc, signature)?;
     let octets = b64_decode(alloc, protected)?;
-    let protected = b64_encode(alloc, &octets)?;
+    let protected = copied_text(alloc, protected, &octets)?;
     Ok(DecodedSignature {
         octets,
         members: SignatureMembers {

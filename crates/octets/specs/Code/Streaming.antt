@@ -1,5 +1,5 @@
 -- A call that reads a content in pieces and writes as it reads: a text, and perhaps the content to another output.
-use Rattle.std.specs.Prelude.{◌≡◌, ◌≢◌, ◌⊎◌, ◌≤◌, ◌++◌, ℕ, Bool, List, [], length, Option, Result, Ok, Err, OnOk, OnErr, IfErr, IsTrue}
+use Rattle.std.specs.Prelude.{◌≡◌, ◌≢◌, ◌⊎◌, ◌≤◌, ◌++◌, ℕ, List, [], length, Option, Result, Ok, Err, OnOk, OnErr, IfErr, IsTrue}
 use Rattle.octets.specs.declared.refusal.Refusal.{Refusal}
 use Rattle.octets.specs.declared.refusal.Refusal.TheVariants.{Read, Write, Memory}
 use Rattle.octets.specs.Devices.{Observed, InputMembers, OutputMembers, appended, observed, IsPossibleInput, AppendsPrefixOf, IsFinishedOnce}
@@ -60,7 +60,8 @@ pub record Streams {D E : Type 0} (input : InputMembers D) (output : OutputMembe
 
 -- What a call promises of a random input: it draws what the draft says, no more than that before a refusal, and nothing if the draft is
 -- refused.
-pub record Draws {D : Type 0} (input : InputMembers D) (draft : Result (Draft OutputTexts) Refusal) (old new : D) (result : Result (Unit {0}) Refusal) : Type 0 where
+pub record Draws {D : Type 0} (input : InputMembers D) (draft : Result (Draft OutputTexts) Refusal) (old new : D)
+    (result : Result (Unit {0}) Refusal) : Type 0 where
   pub drawn : OnOk result (length (read_of input old new) ≡ drawn_of draft)
   pub at_most : length (read_of input old new) ≤ drawn_of draft
   pub untouched : (refusal : Refusal) → draft ≡ Err refusal → new ≡ old

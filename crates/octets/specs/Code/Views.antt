@@ -48,7 +48,8 @@ source_is_given c octets is =
       rest = rest;
       continues = sym all ∙ sym (take-append-drop c.position c.octets);
       ends = λ end. drop_all c.position c.octets (omega (arith, eqb-true c.position (length c.octets) end));
-      octets = λ i. subst (λ n. n < 256) (ap (λ xs. get_or xs (c.position + i) 0) (take_all (length c.octets) c.octets (omega arith)) ∙ sym (get_or-drop c.position c.octets i 0)) (c.fronts_are_octets (length c.octets) (c.position + i));
+      octets = λ i. subst (λ n. n < 256) (ap (λ xs. get_or xs (c.position + i) 0) (take_all (length c.octets) c.octets (omega arith))
+          ∙ sym (get_or-drop c.position c.octets i 0)) (c.fronts_are_octets (length c.octets) (c.position + i));
     }
 
 -- the number of octets of a read into this much room
@@ -85,7 +86,8 @@ is_at_end_of s = s.is_at_end
 abbrev pub unknown_source : {R : Type 0} → ReaderInput R → Option (List ℕ)
 unknown_source s = None
 
-pub nothing_is_known : {R : Type 0} (s : ReaderInput R) (octets : List ℕ) → unknown_source s ≡ Some octets → IsPossibleInput (record { octets = consumed_of s; ended = is_at_end_of s }) octets
+pub nothing_is_known : {R : Type 0} (s : ReaderInput R) (octets : List ℕ) → unknown_source s ≡ Some octets
+    → IsPossibleInput (record { octets = consumed_of s; ended = is_at_end_of s }) octets
 nothing_is_known s octets is = cc is
 
 abbrev pub remaining_of : {R : Type 0} → ReaderInput R → Count

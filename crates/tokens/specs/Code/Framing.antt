@@ -16,7 +16,8 @@ fixed_in true texts content = record { text = []; content = content }
 fixed_in false texts content = record { text = first_text (Ok texts) ++ content; content = [] }
 
 -- The plan writes the content, by the plan for contents, and its values, in the places of the texts.
-pub record IsFraming (detach : Bool) (texts : List (List ℕ)) (content : Plan (List ℕ)) (values : List ℕ → List (List ℕ)) (plan : Plan OutputTexts) : Type 0 where
+pub record IsFraming (detach : Bool) (texts : List (List ℕ)) (content : Plan (List ℕ)) (values : List ℕ → List (List ℕ))
+    (plan : Plan OutputTexts) : Type 0 where
   pub grows : Grows content
   pub places : (p : List ℕ) → length texts ≡ (if detach then 1 else 2) + length (values p)
   pub whole : (p text : List ℕ) → IsOctets p → content.whole p ≡ Ok text → plan.whole p ≡ Ok (all_in detach texts text (values p))
@@ -24,7 +25,8 @@ pub record IsFraming (detach : Bool) (texts : List (List ℕ)) (content : Plan (
   pub fixed : (q : List ℕ) → plan.fixed q ≡ fixed_in detach texts (content.fixed q)
 
 -- The same if the transform is fed the content, and what is left of the transform has the values.
-pub record FillsFrame {X R J : Type 0} (is_fed : X → J → List ℕ → Type 0) (content : J → Plan (List ℕ)) (is_left : R → J → List ℕ → Type 0) (gives : R → List (List ℕ) → Type 0)
+pub record FillsFrame {X R J : Type 0} (is_fed : X → J → List ℕ → Type 0) (content : J → Plan (List ℕ)) (is_left : R → J → List ℕ → Type 0)
+    (gives : R → List (List ℕ) → Type 0)
     (detach : Bool) (transform : X) (texts : List (List ℕ)) (plan : Plan OutputTexts) : Type 0 where
   pub job : J
   pub values : List ℕ → List (List ℕ)

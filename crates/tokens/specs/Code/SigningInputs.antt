@@ -56,13 +56,15 @@ pub record GiveSignatures {S : Type 0} (has_taken : S → HashFunction → List 
   pub are : values ≡ map (signature_text text) starts
 
 -- there are as many starts as inputs
-hold_count : {S : Type 0} (has_taken : S → HashFunction → List ℕ → List ℕ → Type 0) (inputs : List S) (starts : List InputStart) (text : List ℕ) → HoldEach has_taken inputs starts text → length starts ≡ length inputs
+hold_count : {S : Type 0} (has_taken : S → HashFunction → List ℕ → List ℕ → Type 0) (inputs : List S) (starts : List InputStart) (text : List ℕ)
+    → HoldEach has_taken inputs starts text → length starts ≡ length inputs
 hold_count has_taken [] [] text h = refl
 hold_count has_taken [] (s ∷ starts) text h = absurd h
 hold_count has_taken (x ∷ inputs) [] text h = absurd h
 hold_count has_taken (x ∷ inputs) (s ∷ starts) text h = omega (arith, hold_count has_taken inputs starts text h.1)
 
-pub count_signatures : {S : Type 0} {has_taken : S → HashFunction → List ℕ → List ℕ → Type 0} {inputs : List S} {values : List (List ℕ)} → GiveSignatures has_taken inputs values → length values ≡ length inputs
+pub count_signatures : {S : Type 0} {has_taken : S → HashFunction → List ℕ → List ℕ → Type 0} {inputs : List S} {values : List (List ℕ)}
+    → GiveSignatures has_taken inputs values → length values ≡ length inputs
 count_signatures {has_taken = has_taken} {inputs = inputs} given =
     ap length given.are ∙ length-map given.starts (signature_text given.text) ∙ hold_count has_taken inputs given.starts given.text given.hold
 
@@ -83,7 +85,8 @@ abbrev pub unsigned_protected : List Signature → List (List ℕ)
 unsigned_protected signatures = map (λ s. s.protected) signatures
 
 -- The texts are those of the frame of the plan's object, and the inputs were started for its signers.
-pub record IsFramed {S : Type 0} (has_taken : S → HashFunction → List ℕ → List ℕ → Type 0) (compact detach : Bool) (plan : Result (Plan OutputTexts) Refusal) (inputs : List S) (texts : List (List ℕ)) : Type 0 where
+pub record IsFramed {S : Type 0} (has_taken : S → HashFunction → List ℕ → List ℕ → Type 0) (compact detach : Bool) (plan : Result (Plan OutputTexts) Refusal)
+    (inputs : List S) (texts : List (List ℕ)) : Type 0 where
   pub signing : Signing
   pub object : SignedObject
   pub is : plan ≡ Ok (plan_by limits compact detach signing)

@@ -54,4 +54,5 @@ pub record WasTried (s : SealedContent) (keys : List OctetKey) (work : WorkCount
 -- so it is for each of these recipients, by the work at its index
 abbrev pub AreTried : SealedContent → List OctetKey → List Work → List CodeRecipient → Type 0
 AreTried s keys works recipients =
-    (j : ℕ) (work : Work) (r : CodeRecipient) → j < length recipients → work ≡ get_or works j work → r ≡ get_or recipients j r → WasTried s keys (work_view work) (recipient_view r)
+    (j : ℕ) (work : Work) (r : CodeRecipient) → j < length recipients → work ≡ get_or works j work → r ≡ get_or recipients j r
+    → WasTried s keys (work_view work) (recipient_view r)

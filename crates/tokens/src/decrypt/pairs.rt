@@ -44,7 +44,7 @@ fn has_pairs(keys: &[Key], recipients: &[Recipient]) -> bool
 }
 
 /// Whether the iterations of each pair, and of all together, are within the limits.
-#[tactic(auto, using(crate::proofs::PairLists::added_iterations))]
+#[tactic(auto, using(crate::proofs::Decrypting::Pairs::added_iterations))]
 fn are_within(keys: &[Key], recipients: &[Recipient]) -> bool
     requires { length keys.now ≤ limits.keys }
     ensures { result ≡ are_within limits (all_pairs limits.management (map key_view keys.now) (map recipient_view recipients.now)) }
@@ -60,7 +60,7 @@ fn are_within(keys: &[Key], recipients: &[Recipient]) -> bool
 }
 
 /// The sum with the iterations of a recipient's pairs. `None` if one of them, or the new sum, is above the limits.
-#[tactic(auto, using(crate::proofs::PairLists::same_iterations))]
+#[tactic(auto, using(crate::proofs::Decrypting::Pairs::same_iterations))]
 fn sum_with(sum: u64, keys: &[Key], recipient: &Recipient) -> Option<u64>
     requires few { length keys.now ≤ limits.keys }
     requires so_far { sum ≤ limits.p2c_sum }

@@ -57,14 +57,14 @@ pub fn jws_verify_detached<I: Input>(
     let signatures = jws.signatures();
     let heads = heads_of(signatures);
     let heads = heads.list();
-    let mut inputs = signing_inputs(alloc, keys, heads)?;
+    let mut inputs = candidate_inputs(alloc, keys, heads)?;
     take_content(&mut inputs, content)?;
     let are_right = are_signed(all, keys, heads, signatures, inputs);
     verdict(keys, signatures, are_right)
 }
 
 /// The signing input of each pair of a key and a head that it may verify. Each was fed the text before that of the payload.
-fn signing_inputs(
+fn candidate_inputs(
     alloc: Global,
     keys: &[Key],
     heads: &[&Signature],
@@ -75,13 +75,17 @@ fn signing_inputs(
 {
     let mut inputs = Vec::new(alloc);
     for key in keys {
-        push_inputs(&mut inputs, key, heads)?;
+        push_inputs_of_key(&mut inputs, key, heads)?;
     }
     Ok(inputs)
 }
 
 /// Adds the signing inputs of a key.
-fn push_inputs(inputs: &mut Vec<HmacInput>, key: &Key, heads: &[&Signature]) -> Result<(), Refusal>
+fn push_inputs_of_key(
+    inputs: &mut Vec<HmacInput>,
+    key: &Key,
+    heads: &[&Signature],
+) -> Result<(), Refusal>
     ensures pushed { (starts : List InputStart) → HoldEach ⟦<HmacInput as SigningInput>⟧.has_taken inputs.old.items starts []
         → OnOk result (HoldEach ⟦<HmacInput as SigningInput>⟧.has_taken inputs.new.items
         (starts ++ starts_for_key (pointed_views heads.now) (key_view key.now)) []) }
@@ -111,7 +115,7 @@ fn push_input(inputs: &mut Vec<HmacInput>, key: &Key, head: &Signature) -> Resul
 }
 
 /// Each key made a signature, where that is asked for, or else some key made some. The heads cover the signatures. The inputs are those
-/// of `signing_inputs`, and have taken the payload.
+/// of `candidate_inputs`, and have taken the payload.
 fn are_signed<S: SigningInput>(
     all: bool,
     keys: &[Key],
@@ -125,7 +129,7 @@ fn are_signed<S: SigningInput>(
 {
     let mut inputs = inputs.into_iter();
     for key in keys {
-        let signed = has_signed(key, heads, signatures, &mut inputs);
+        let signed = has_signed_next(key, heads, signatures, &mut inputs);
         if signed != all {
             return signed;
         }
@@ -133,8 +137,8 @@ fn are_signed<S: SigningInput>(
     all
 }
 
-/// Whether the key made one of the signatures, which the heads cover. Takes the signing inputs of the key from the front.
-fn has_signed<S: SigningInput>(
+/// Whether the key made one of the signatures, which the heads cover. Takes the next signing inputs, which are those of the key.
+fn has_signed_next<S: SigningInput>(
     key: &Key,
     heads: &[&Signature],
     signatures: &[Signature],
@@ -148,15 +152,14 @@ fn has_signed<S: SigningInput>(
 {
     let mut signed = false;
     for head in heads {
-        let made = has_made_alike(key, head, signatures, inputs);
+        let made = has_made_alike_next(key, head, signatures, inputs);
         signed = signed || made;
     }
     signed
 }
 
-/// Whether the key may verify the head and made a signature that is alike to it. Takes their signing input, if there is one, from the
-/// front.
-fn has_made_alike<S: SigningInput>(
+/// Whether the key may verify the head and made a signature that is alike to it. Takes the next signing input, if they have one.
+fn has_made_alike_next<S: SigningInput>(
     key: &Key,
     head: &Signature,
     signatures: &[Signature],

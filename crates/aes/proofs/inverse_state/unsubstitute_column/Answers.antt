@@ -6,7 +6,8 @@ use Rattle.aes.proofs.inverse_state.unsubstitute_column.Goals as goal
 
 pub returns : goal.returns
 unfolding octet
-returns c = four_octets (λ r. inverse_s_box (octet (slice_index (c.args.a ∷ c.args.b ∷ c.args.c ∷ c.args.d ∷ []) r) r)) c.unsubstitute.result c.unsubstitute-2.result c.unsubstitute-3.result c.unsubstitute-4.result c.from_le_bytes.result
+returns c = four_octets (λ r. inverse_s_box (octet (slice_index (c.args.a ∷ c.args.b ∷ c.args.c ∷ c.args.d ∷ []) r) r)) c.unsubstitute.result
+    c.unsubstitute-2.result c.unsubstitute-3.result c.unsubstitute-4.result c.from_le_bytes.result
     (omega arith) (omega arith) (omega arith) (omega arith) c.from_le_bytes.ensures
     (c.unsubstitute.ensures ∙ ap (λ l. inverse_s_box (slice_index l 0)) c.to_le_bytes.ensures)
     (c.unsubstitute-2.ensures ∙ ap (λ l. inverse_s_box (slice_index l 1)) c.to_le_bytes-2.ensures)

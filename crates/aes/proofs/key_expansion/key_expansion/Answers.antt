@@ -16,7 +16,9 @@ loop-n-preserved c = λ p h.
     octet : c.if-n-key.round_keys ≡ slice_index whole c.loop-n.n
     octet = elim c.if-n-key.branch [
       | then-n-key w ↦ w.round_keys-is ∙ key_octet c.args.nk c.args.key.now c.requires.size.0 c.requires.key c.loop-n.n (omega arith)
-      | else-n-key w ↦ w.round_keys-is ∙ w.next_octet.ensures ∙ next_key_octet c.args.nk c.args.key.now c.requires.size.0 c.requires.key c.loop-n.round_keys c.loop-n.n (omega arith) (omega arith) c.loop-n.invariant
+      | else-n-key w ↦ w.round_keys-is ∙ w.next_octet.ensures
+          ∙ next_key_octet c.args.nk c.args.key.now c.requires.size.0 c.requires.key c.loop-n.round_keys c.loop-n.n (omega arith)
+          (omega arith) c.loop-n.invariant
     ]
 
 pub returns : goal.returns

@@ -10,7 +10,8 @@ returns-clause-opened g c =
     c.cbc_open.result c.cbc_open.new.buf (λ i. search rules) (rw c.array.ensures at c.cbc_open.ensures.opened) right
 
 pub returns-clause-rest : goal.returns-clause-rest
-returns-clause-rest g c = padding_behind _ c.cbc_open.result c.args.buf.now c.cbc_open.new.buf c.cbc_open.auto.buf c.cbc_open.ensures.opened c.cbc_open.ensures.rest
+returns-clause-rest g c = padding_behind _ c.cbc_open.result c.args.buf.now c.cbc_open.new.buf c.cbc_open.auto.buf
+    c.cbc_open.ensures.opened c.cbc_open.ensures.rest
 
 pub returns-clause-nothing : goal.returns-clause-nothing
 returns-clause-nothing g c =
@@ -20,4 +21,5 @@ returns-clause-nothing g c =
 pub returns-then-not-same_octets-clause-nothing : goal.returns-then-not-same_octets-clause-nothing
 returns-then-not-same_octets-clause-nothing g c =
     let wrong : c.args.tag.now ≢ cbc_tag g.H.Hash.function c.args.mac_key.now c.args.iv.now c.args.aad.now c.args.buf.now = search rules in
-    λ p o. wrong (right_tag (g.B.Block.encrypted c.args.cipher.now) g.H.Hash.function c.args.mac_key.now c.args.iv.now c.args.aad.now c.args.buf.now c.args.tag.now p o)
+    λ p o. wrong (right_tag (g.B.Block.encrypted c.args.cipher.now) g.H.Hash.function c.args.mac_key.now c.args.iv.now c.args.aad.now
+    c.args.buf.now c.args.tag.now p o)

@@ -25,7 +25,8 @@ returns-then-ne-clause-nothing g c p u =
     let a = c.copy_from_slice.new.self in
     let r = c.copy_from_slice-2.new.self in
     let whole = text c.args.wrapped.now a r c.copy_from_slice.ensures.after c.copy_from_slice-2.ensures.after in
-    let long : length r ≡ length p = ap length c.copy_from_slice-2.ensures.after ∙ rest (length p) c.args.wrapped.now (unwrapping_long e d law c.args.wrapped.now p u) in
+    let long : length r ≡ length p = ap length c.copy_from_slice-2.ensures.after
+    ∙ rest (length p) c.args.wrapped.now (unwrapping_long e d law c.args.wrapped.now p u) in
     let last = last_row e d law p a r c.copy_from_slice.ensures.len (subst (λ x. IsUnwrapping e x p) (sym whole) u) long in
     let first = c.unwrap_registers.ensures.back p u.key_data.octets (subst (λ n. IsRow e p (6 * (n / 8)) a r) (sym long) last) in
     let other : c.unwrap_registers.new.a ≢ initial_value = other_text _ _ (search rules) in
@@ -39,10 +40,15 @@ returns-clause-unwraps g c =
     let r = c.copy_from_slice-2.new.self in
     let whole = text c.args.wrapped.now a r c.copy_from_slice.ensures.after c.copy_from_slice-2.ensures.after in
     let same : c.unwrap_registers.new.a ≡ initial_value = same_text _ _ (search rules) in
-    let first = subst (λ x. IsRow e p 0 x c.unwrap_registers.new.r) (sym same) (subst (λ x. IsRow e p 0 initial_value x) c.copy_from_slice-3.ensures.after (first_row e p)) in
+    let first = subst (λ x. IsRow e p 0 x c.unwrap_registers.new.r) (sym same)
+    (subst (λ x. IsRow e p 0 initial_value x) c.copy_from_slice-3.ensures.after (first_row e p)) in
     let last = c.unwrap_registers.ensures.forth p first in
     let long : length p ≡ length c.args.out.now = c.copy_from_slice-3.ensures.len in
-    let key_data : IsKeyData p = record { octets = λ i. search (rules, c.type_inv.out i); parts = omega (arith, c.requires, long); two = omega (arith, c.requires, long) } in
+    let key_data : IsKeyData p = record {
+      octets = λ i. search (rules, c.type_inv.out i);
+      parts = omega (arith, c.requires, long);
+      two = omega (arith, c.requires, long);
+    } in
     record {
       key_data = key_data;
       wraps = sym (wrapped_of_row e p a r key_data.parts (subst (λ n. IsRow e p (6 * (n / 8)) a r) last.long last)) ∙ whole;

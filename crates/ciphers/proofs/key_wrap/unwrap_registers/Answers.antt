@@ -27,7 +27,8 @@ loop-t-preserved g c =
     let two : 16 ≤ length r = subst (λ n. 16 ≤ n) (sym c.loop-t.auto.r) c.requires.0 in
     let room : 8 * i + 8 ≤ length r = within r i (subst (λ k. k < length r / 8) (sym turn) (turn_within r t two)) in
     record {
-      half = half_down e r t i turn two a r c.step_back.new.a c.step_back.new.r eight d law few c.step_back.ensures.check c.step_back.ensures.register c.loop-t.invariant.octets room;
+      half = half_down e r t i turn two a r c.step_back.new.a c.step_back.new.r eight d law few c.step_back.ensures.check c.step_back.ensures.register
+          c.loop-t.invariant.octets room;
       octets = λ k. search (rules, c.type_inv.r k);
       back = λ p octets start.
           row_down e p t i (ap (λ n. t % (n / 8)) start.long) (subst (λ n. 16 ≤ n) start.long c.requires.0)

@@ -8,6 +8,8 @@ abbrev pub invariant-loop-t : goal.invariant-loop-t
 invariant-loop-t g l = record {
   half : IsHalf l.a;
   octets : IsOctets l.r;
-  back : (p : List ℕ) → IsOctets p → IsRow (g.B.Block.encrypted l.kek) p (6 * (length l.initial.r / 8)) l.initial.a l.initial.r → IsRow (g.B.Block.encrypted l.kek) p l.t l.a l.r;
-  forth : (p : List ℕ) → IsRow (g.B.Block.encrypted l.kek) p l.t l.a l.r → IsRow (g.B.Block.encrypted l.kek) p (6 * (length l.initial.r / 8)) l.initial.a l.initial.r;
+  back : (p : List ℕ) → IsOctets p → IsRow (g.B.Block.encrypted l.kek) p (6 * (length l.initial.r / 8)) l.initial.a l.initial.r
+      → IsRow (g.B.Block.encrypted l.kek) p l.t l.a l.r;
+  forth : (p : List ℕ) → IsRow (g.B.Block.encrypted l.kek) p l.t l.a l.r
+      → IsRow (g.B.Block.encrypted l.kek) p (6 * (length l.initial.r / 8)) l.initial.a l.initial.r;
 }

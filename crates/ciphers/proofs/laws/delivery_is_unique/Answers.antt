@@ -48,4 +48,5 @@ module _
 
 pub returns : goal.returns
 returns c = λ alg enc key p encrypted cek other octets a b.
-    one c.encrypted_block_is_cipher.ensures c.derived_key_is_octets.ensures c.gcm_plaintext_is_unique.ensures enc key p encrypted cek other (key_family alg) (key_row alg) octets a b
+    one c.encrypted_block_is_cipher.ensures c.derived_key_is_octets.ensures c.gcm_plaintext_is_unique.ensures enc key p encrypted cek other (key_family alg)
+    (key_row alg) octets a b

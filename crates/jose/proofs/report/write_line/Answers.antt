@@ -10,7 +10,8 @@ returns-in_err-write_whole-clause-part g c =
     let n = c.in_err-write_whole.field-0.0.written in
     let name = codes "jose: " in
     let rest = refusal_text c.args.refusal ++ 10 ∷ [] in
-    front_written (report_line c.args.refusal) (take n name) (drop n name ++ rest) (written c.args.out.now) (written c.write_whole.new.out) (cut_within [] name rest n) c.in_err-write_whole.ensures.part.1
+    front_written (report_line c.args.refusal) (take n name) (drop n name ++ rest) (written c.args.out.now) (written c.write_whole.new.out)
+    (cut_within [] name rest n) c.in_err-write_whole.ensures.part.1
 
 pub returns-in_err-write_whole-2-clause-part : goal.returns-in_err-write_whole-2-clause-part
 returns-in_err-write_whole-2-clause-part g c =
@@ -18,6 +19,8 @@ returns-in_err-write_whole-2-clause-part g c =
     let n = c.in_err-write_whole-2.field-0.0.written in
     let name = codes "jose: " in
     let text = refusal_text c.args.refusal in
-    front_written (report_line c.args.refusal) (name ++ take n text) (drop n text ++ 10 ∷ []) (written c.args.out.now) (written c.write_whole-2.new.out) (cut_within name text (10 ∷ []) n)
+    front_written (report_line c.args.refusal) (name ++ take n text) (drop n text ++ 10 ∷ []) (written c.args.out.now) (written c.write_whole-2.new.out)
+    (cut_within name text (10 ∷ []) n)
     (c.in_err-write_whole-2.ensures.part.1 ∙ ap (λ l. l ++ take n c.as_bytes.result.now) c.in_ok-write_whole.ensures.all
-    ∙ append_assoc (written c.args.out.now) name (take n c.as_bytes.result.now) ∙ ap (λ l. written c.args.out.now ++ (name ++ take n l)) (c.as_bytes.ensures.value ∙ c.text.ensures))
+    ∙ append_assoc (written c.args.out.now) name (take n c.as_bytes.result.now)
+    ∙ ap (λ l. written c.args.out.now ++ (name ++ take n l)) (c.as_bytes.ensures.value ∙ c.text.ensures))

@@ -16,7 +16,8 @@ returns-then-has_member c =
     let added = put (codes "key_ops") (array (string_items (key_ops_of c.args.alg))) members in
     elim c.then-has_member.branch [
       | then-has_member-via-then-has_member w ↦ by_first key_ops key_use members added (sym c.has_member.ensures ∙ w.if-has_member.true)
-      | then-has_member-via-else-has_member+then-has_member-2 w ↦ by_second key_ops key_use members added (sym w.has_member-else-has_member.ensures ∙ w.if-has_member-2.true)
+      | then-has_member-via-else-has_member+then-has_member-2 w ↦
+          by_second key_ops key_use members added (sym w.has_member-else-has_member.ensures ∙ w.if-has_member-2.true)
     ]
 
 pub returns : goal.returns

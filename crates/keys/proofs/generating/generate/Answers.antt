@@ -13,7 +13,8 @@ returns-in_err-plan-clause-answer g c octets _ =
 pub returns-in_err-draw-clause-answer : goal.returns-in_err-draw-clause-answer
 returns-in_err-draw-clause-answer g c octets possible =
     let is : c.from_residual-in_err-draw.result ≡ Err c.in_err-draw.field-0.0 = search rules in
-    draw_refused c.args.template.now octets (plan_view c.in_ok-plan.plan) _ _ _ _ _ c.from_residual-in_err-draw.result is c.in_ok-plan.ensures.exact (grind (arith, common_steps)) c.in_err-draw.ensures.fails possible
+    draw_refused c.args.template.now octets (plan_view c.in_ok-plan.plan) _ _ _ _ _ c.from_residual-in_err-draw.result is c.in_ok-plan.ensures.exact
+    (grind (arith, common_steps)) c.in_err-draw.ensures.fails possible
 
 pub returns-clause-answer : goal.returns-clause-answer
 returns-clause-answer g c octets possible =
@@ -21,4 +22,5 @@ returns-clause-answer g c octets possible =
     let consumed = g.R.Input.consumed in
     let drawn : drop (length (consumed c.args.random.now)) (consumed c.draw.new.random) ≡ c.draw.new.out =
     ap (drop (length (consumed c.args.random.now))) c.in_ok-draw.ensures.octets ∙ drop_at (consumed c.args.random.now) c.draw.new.out _ refl in
-    text_made c.args.template.now octets c.draw.new.out (plan_view c.in_ok-plan.plan) _ c.key_text.result c.in_ok-plan.ensures.exact len drawn c.key_text.ensures.text c.key_text.ensures.memory possible
+    text_made c.args.template.now octets c.draw.new.out (plan_view c.in_ok-plan.plan) _ c.key_text.result c.in_ok-plan.ensures.exact len drawn
+    c.key_text.ensures.text c.key_text.ensures.memory possible

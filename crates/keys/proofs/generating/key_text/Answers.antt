@@ -16,4 +16,5 @@ returns-clause-text c =
     let there : members_view c.put.new.map.entries ≡ all =
     c.in_ok-put.ensures.ok ∙ ap (λ value. put (codes "k") value before) (view-String c.in_ok-b64_encode.field-0 ∙ ap string c.in_ok-b64_encode.ensures.text) in
     let whole : view (Object c.put.new.map) ≡ object all = view-Object c.put.new.map ∙ ap object there in
-    c.in_ok-to_string.ensures.text (ap has_float whole ∙ no_float_put_in (codes "k") (string (base64url c.args.octets.now)) before refl c.requires) ∙ ap compact_text whole
+    c.in_ok-to_string.ensures.text (ap has_float whole ∙ no_float_put_in (codes "k") (string (base64url c.args.octets.now)) before refl c.requires)
+    ∙ ap compact_text whole

@@ -7,4 +7,5 @@ use Rattle.keys.proofs.set.read_keys.Given as goal
 
 -- the keys so far and those of the objects that are left are all keys
 abbrev pub invariant-loop-value : goal.invariant-loop-value
-invariant-loop-value l = (length l.keys.items ≤ l.value-index) × (octet_keys limits l.strict (items_view l.objects) ≡ keys_with l.strict l.keys.items (drop l.value-index l.objects))
+invariant-loop-value l = (length l.keys.items ≤ l.value-index)
+    × (octet_keys limits l.strict (items_view l.objects) ≡ keys_with l.strict l.keys.items (drop l.value-index l.objects))

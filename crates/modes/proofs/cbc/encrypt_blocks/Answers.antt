@@ -23,7 +23,8 @@ loop-i-preserved g c =
     let sixteen : length x ≡ 16 = c.copy_from_slice.auto.self ∙ omega arith in
     record {
       last = next ∙ ap f (let z : suc i ≡ i + 1 = omega arith in z);
-      text = λ j l. chunk_more 16 c.loop-i.out x i (16 * i + 16 - 16 * i) one_block room sixteen (λ k. f (suc k)) (c.copy_from_slice.ensures.after ∙ next) j (λ ne. c.loop-i.invariant.text j (omega (arith, ne, l)));
+      text = λ j l. chunk_more 16 c.loop-i.out x i (16 * i + 16 - 16 * i) one_block room sixteen (λ k. f (suc k)) (c.copy_from_slice.ensures.after ∙ next) j
+          (λ ne. c.loop-i.invariant.text j (omega (arith, ne, l)));
     }
 
 pub returns-clause-text : goal.returns-clause-text

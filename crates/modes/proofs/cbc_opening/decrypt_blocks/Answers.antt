@@ -13,4 +13,5 @@ loop-i-preserved g c j l =
     let one_block : 16 * i + 16 - 16 * i ≡ 16 = omega arith in
     let sixteen : length x ≡ 16 = c.copy_from_slice-in-loop-i.auto.self ∙ omega (arith, room) in
     let is : x ≡ d (block p i) = c.copy_from_slice-in-loop-i.ensures.after ∙ c.decrypt.ensures ∙ ap d (c.copy_from_slice.ensures.after ∙ chunk_is 16 p i) in
-    chunk_more 16 c.loop-i.out x i (16 * i + 16 - 16 * i) one_block room sixteen (λ (k : ℕ). d (block p k)) is j (λ ne. c.loop-i.invariant j (omega (arith, ne, l)))
+    chunk_more 16 c.loop-i.out x i (16 * i + 16 - 16 * i) one_block room sixteen (λ (k : ℕ). d (block p k)) is j
+    (λ ne. c.loop-i.invariant j (omega (arith, ne, l)))

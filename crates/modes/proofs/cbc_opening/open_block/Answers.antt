@@ -15,5 +15,6 @@ pub returns-else-i-eq0 : goal.returns-else-i-eq0
 returns-else-i-eq0 g c =
     let d = g.B.Block.decrypted c.args.cipher.now in
     c.xor_into-else-i-eq0.ensures
-    ∙ ap₂ xor_octets (c.decrypt-opened.ensures ∙ ap d (c.copy_from_slice.ensures.after ∙ chunk_is 16 c.args.buf.now c.args.i)) (chunk_is 16 c.args.buf.now (c.args.i - 1))
+    ∙ ap₂ xor_octets (c.decrypt-opened.ensures ∙ ap d (c.copy_from_slice.ensures.after ∙ chunk_is 16 c.args.buf.now c.args.i))
+    (chunk_is 16 c.args.buf.now (c.args.i - 1))
     ∙ opened_later d c.args.iv.now c.args.buf.now c.args.i c.if-i-eq0.false

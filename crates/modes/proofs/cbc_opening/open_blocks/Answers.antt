@@ -39,7 +39,8 @@ returns g c =
     let wide : 16 ≤ length b = omega (arith, c.loop-end.auto.buf, c.requires) in
     let long : length x ≡ 16 = c.copy_from_slice.auto.self ∙ length-within b 0 16 wide in
     let r = x ++ drop 16 b in
-    let all : length r ≡ 16 * (length c.args.buf.now / 16) = omega (arith, length-append x (drop 16 b), long, wide, length-drop 16 b, c.loop-end.auto.buf, c.requires) in
+    let all : length r ≡ 16 * (length c.args.buf.now / 16) =
+    omega (arith, length-append x (drop 16 b), long, wide, length-drop 16 b, c.loop-end.auto.buf, c.requires) in
     let first : block r 0 ≡ f 0 =
     block_written b x 0 16 0 refl long wide 0 (omega arith)
     ∙ take_all 16 x (omega (arith, long))

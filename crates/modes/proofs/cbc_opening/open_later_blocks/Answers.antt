@@ -38,7 +38,8 @@ pub returns-clause-before : goal.returns-clause-before
 returns-clause-before g c i h =
     let a = c.args.first in
     let n = 16 * c.args.end - 16 * a in
-    let long : length c.copy_from_slice.new.self ≡ n = c.copy_from_slice.auto.self ∙ length-within c.args.buf.now (16 * a) (16 * c.args.end) c.requires.within in
+    let long : length c.copy_from_slice.new.self ≡ n = c.copy_from_slice.auto.self
+    ∙ length-within c.args.buf.now (16 * a) (16 * c.args.end) c.requires.within in
     let room : 16 * a + n ≤ length c.args.buf.now = omega (arith, c.requires) in
     block_before c.args.buf.now c.copy_from_slice.new.self a n (16 * a) refl long room i h
 
@@ -46,6 +47,7 @@ pub returns-clause-behind : goal.returns-clause-behind
 returns-clause-behind g c i h =
     let a = c.args.first in
     let n = 16 * c.args.end - 16 * a in
-    let long : length c.copy_from_slice.new.self ≡ n = c.copy_from_slice.auto.self ∙ length-within c.args.buf.now (16 * a) (16 * c.args.end) c.requires.within in
+    let long : length c.copy_from_slice.new.self ≡ n = c.copy_from_slice.auto.self
+    ∙ length-within c.args.buf.now (16 * a) (16 * c.args.end) c.requires.within in
     let room : 16 * a + n ≤ length c.args.buf.now = omega (arith, c.requires) in
     block_behind c.args.buf.now c.copy_from_slice.new.self a n (16 * a) refl long room i (omega (arith, h, c.requires))

@@ -9,14 +9,16 @@ use Rattle.modes.proofs.gcm.gcm_open.Goals as goal
 
 pub returns-then-buf-gt-LONGEST-clause-nothing : goal.returns-then-buf-gt-LONGEST-clause-nothing
 returns-then-buf-gt-LONGEST-clause-nothing g c p o =
-    let long : length c.args.buf.now ≡ length p = ap length (sym o.is_ciphertext) ∙ length-gcm_ciphertext (g.B.Block.encrypted c.args.cipher.now) c.args.iv.now p in
+    let long : length c.args.buf.now ≡ length p = ap length (sym o.is_ciphertext)
+    ∙ length-gcm_ciphertext (g.B.Block.encrypted c.args.cipher.now) c.args.iv.now p in
     absurd (omega (arith, long, o.short, c.if-buf-gt-LONGEST.true))
 
 pub returns-then-not-same_octets-clause-nothing : goal.returns-then-not-same_octets-clause-nothing
 returns-then-not-same_octets-clause-nothing g c p o =
     let e = g.B.Block.encrypted c.args.cipher.now in
     let tag = tag_is e c.args.iv.now c.args.aad.now c.args.buf.now c.bit_length.result c.bit_length-2.result c.tag_mask-tag_mask.result c.tag_of-expected.result
-    (c.tag_of-expected.ensures (e (replicate 16 0)) (zero_filled c.args.aad.now ++ c.args.buf.now) (c.feed.ensures (e (replicate 16 0)) (zero_filled c.args.aad.now) c.aad_hash-hash.ensures))
+    (c.tag_of-expected.ensures (e (replicate 16 0)) (zero_filled c.args.aad.now ++ c.args.buf.now)
+    (c.feed.ensures (e (replicate 16 0)) (zero_filled c.args.aad.now) c.aad_hash-hash.ensures))
     c.bit_length.ensures c.bit_length-2.ensures c.tag_mask-tag_mask.ensures in
     iff_false c.same_octets.ensures c.if-not-same_octets.true (tag ∙ o.is_tag)
 
@@ -27,7 +29,8 @@ returns-clause-opened g c =
     let f = counter_block (pre_counter_block c.args.iv.now) 1 in
     let out = c.apply.new.octets in
     let tag = tag_is e c.args.iv.now c.args.aad.now c.args.buf.now c.bit_length.result c.bit_length-2.result c.tag_mask-tag_mask.result c.tag_of-expected.result
-    (c.tag_of-expected.ensures (e (replicate 16 0)) (zero_filled c.args.aad.now ++ c.args.buf.now) (c.feed.ensures (e (replicate 16 0)) (zero_filled c.args.aad.now) c.aad_hash-hash.ensures))
+    (c.tag_of-expected.ensures (e (replicate 16 0)) (zero_filled c.args.aad.now ++ c.args.buf.now)
+    (c.feed.ensures (e (replicate 16 0)) (zero_filled c.args.aad.now) c.aad_hash-hash.ensures))
     c.bit_length.ensures c.bit_length-2.ensures c.tag_mask-tag_mask.ensures in
     let text : ctr e f c.args.buf.now ≡ out =
     ap (λ h. ctr e h c.args.buf.now) (second_counter c.args.iv.now c.told-iv ∙ sym c.counter_block.ensures)

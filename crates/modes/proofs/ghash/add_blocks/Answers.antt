@@ -16,7 +16,8 @@ loop-i-preserved c xs e =
     c.add_block-total.ensures (xs ++ numbers_to p i) (c.loop-i.invariant xs e)
     ∙ ap (λ x. ghash_number c.args.subkey.now.h ((xs ++ numbers_to p i) ++ x ∷ []))
     (c.from_be_bytes.ensures ∙ ap (from_be_bytes w128) (c.copy_from_slice.ensures.after ∙ chunk_is 16 p i))
-    ∙ ap (ghash_number c.args.subkey.now.h) (append_assoc xs (numbers_to p i) (number p i ∷ []) ∙ ap (λ t. xs ++ t) (sym (map-range_with_len_more (number p) 0 i i (omega arith))))
+    ∙ ap (ghash_number c.args.subkey.now.h) (append_assoc xs (numbers_to p i) (number p i ∷ [])
+    ∙ ap (λ t. xs ++ t) (sym (map-range_with_len_more (number p) 0 i i (omega arith))))
 
 pub returns : goal.returns
 returns c xs e =

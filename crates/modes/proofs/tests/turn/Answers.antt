@@ -6,4 +6,5 @@ use Rattle.modes.proofs.tests.turn.Goals as goal
 pub returns : goal.returns
 unfolding turned
 returns c =
-    fill_by_all (λ k. bit_xor (slice_index c.args.b.now ((k + c.args.n) % 16)) 1) c.loop-i.out 16 0 c.loop-i.invariant.room (λ k l. c.loop-i.invariant.below k (omega (arith, l)))
+    fill_by_all (λ k. bit_xor (slice_index c.args.b.now ((k + c.args.n) % 16)) 1) c.loop-i.out 16 0 c.loop-i.invariant.room
+    (λ k l. c.loop-i.invariant.below k (omega (arith, l)))

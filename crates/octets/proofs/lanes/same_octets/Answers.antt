@@ -18,7 +18,8 @@ loop-i-preserved c =
     ap (λ (l : List (List ℕ)). get_or l i []) c.as_chunks.ensures.front ∙ chunk_at 32 (length a / 32) i a [] (omega (arith, c.as_chunks.ensures.front_len)) in
     let second : get_or c.as_chunks-2.result.0.now i [] ≡ chunk (32 * i) 32 b =
     ap (λ (l : List (List ℕ)). get_or l i []) c.as_chunks-2.ensures.front ∙ chunk_at 32 (length b / 32) i b [] (omega (arith, c.as_chunks.ensures.front_len)) in
-    block_more c.loop-i.difference c.block_difference-difference.result a b 32 (32 * i) (32 * (i + 1)) same (omega arith) (omega (arith, c.as_chunks.ensures.front_len)) c.loop-i.invariant
+    block_more c.loop-i.difference c.block_difference-difference.result a b 32 (32 * i) (32 * (i + 1)) same (omega arith)
+    (omega (arith, c.as_chunks.ensures.front_len)) c.loop-i.invariant
     (blocks_are c.block_difference-difference.result _ _ _ _ c.block_difference-difference.ensures first second)
 
 pub loop-i-2-preserved : goal.loop-i-2-preserved

@@ -11,7 +11,8 @@ loop-i-preserved c =
     let block : get_or c.as_chunks.result.0.now i [] ≡ chunk (32 * i) 32 f =
     ap (λ (l : List (List ℕ)). get_or l i []) c.as_chunks.ensures.front ∙ chunk_at 32 (length f / 32) i f [] (omega (arith, c.as_chunks.ensures.front_len)) in
     c.xor_block.ensures ∙ ap (λ y. put_chunk (32 * i) into (zip2 bit_xor (chunk (32 * i) 32 into) y)) block
-    ∙ sum_block into c.args.octets.now f 32 (32 * i) (32 * (i + 1)) (sym c.requires) (omega arith) (omega (arith, c.as_chunks.ensures.front_len)) c.loop-i.auto.octets c.loop-i.invariant
+    ∙ sum_block into c.args.octets.now f 32 (32 * i) (32 * (i + 1)) (sym c.requires) (omega arith)
+    (omega (arith, c.as_chunks.ensures.front_len)) c.loop-i.auto.octets c.loop-i.invariant
 
 pub loop-i-2-preserved : goal.loop-i-2-preserved
 loop-i-2-preserved c = sum_octet c.loop-i-2.octets c.args.octets.now c.args.other.now c.loop-i-2.i (sym c.requires) (omega arith) c.loop-i-2.invariant

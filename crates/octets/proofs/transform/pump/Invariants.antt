@@ -15,7 +15,8 @@ invariant-pieces g l =
       extends : Extends (input.consumed l.fn.content) (input.consumed l.content);
       octets : IsOctets (appended (input.consumed l.fn.content) (input.consumed l.content));
       due : (job : t.Job) → t.is_fed l.fn.transform job []
-          → Due (behind l.fn.before (t.plan job)) (input.consumed l.fn.content) (input.consumed l.content) (output.written l.fn.out) (output.written l.out) l.front;
+          → Due (behind l.fn.before (t.plan job)) (input.consumed l.fn.content) (input.consumed l.content) (output.written l.fn.out)
+          (output.written l.out) l.front;
       fed : (job : t.Job) → t.is_fed l.fn.transform job [] → t.is_fed l.transform job (appended (input.consumed l.fn.content) (input.consumed l.content));
       front_written : (appended (input.consumed l.fn.content) (input.consumed l.content) ≡ [] → ⊥) → l.front ≡ [];
       unread : appended (input.consumed l.fn.content) (input.consumed l.content) ≡ [] → l.out ≡ l.fn.out;

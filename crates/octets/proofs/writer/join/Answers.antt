@@ -5,5 +5,6 @@ use Rattle.octets.proofs.writer.join.Goals as goal
 
 pub returns : goal.returns
 returns c =
-    take-filled (length c.args.front.now) _ (length c.args.back.now) _ c.copy_from_slice-2.new.self (grind (arith, common_steps)) (grind (arith, common_steps)) (grind (arith, common_steps))
+    take-filled (length c.args.front.now) _ (length c.args.back.now) _ c.copy_from_slice-2.new.self (grind (arith, common_steps)) (grind (arith, common_steps))
+    (grind (arith, common_steps))
     ∙ grind (arith, common_steps)

@@ -17,7 +17,14 @@ loop-i-preserved g c =
     let block = c.derive_block.ensures c.args.password.now c.new-keyed.ensures in
     let few = div_ceil_times (length c.args.out.now) len (omega (arith, g.met.H.Hash.is_hash_function.some_output, c.output_len-len.ensures)) in
     let below : (i + 1) * len ≤ c.div_ceil-block_count.result * len = mul-le-mul_right len (omega arith) in
-    let fits : (i + 1) * len ≤ 128 = omega (arith, few.1, ap (λ n. n * len) c.div_ceil-block_count.ensures, below, g.met.H.Hash.is_hash_function.output_fits, c.output_len-len.ensures) in
+    let fits : (i + 1) * len ≤ 128 = omega (
+      arith,
+      few.1,
+      ap (λ n. n * len) c.div_ceil-block_count.ensures,
+      below,
+      g.met.H.Hash.is_hash_function.output_fits,
+      c.output_len-len.ensures,
+    ) in
     let whole : length c.derive_block.new.block ≡ len = omega arith in
     let room : i * len ≤ length c.loop-i.derived = omega (arith, fits) in
     take-put_mid (i * len) _ c.loop-i.derived c.derive_block.new.block ((i + 1) * len) (omega (arith, whole)) room

@@ -1,4 +1,4 @@
-use Rattle.tokens.proofs.RecipientKeys.{direct_is_cek}
+use Rattle.tokens.proofs.Encrypting.RecipientKeys.{direct_is_cek}
 use Rattle.tokens.proofs.encrypt.begin_sealing.Goals as goal
 
 pub deliver_to_all-requires-clause-direct : goal.deliver_to_all-requires-clause-direct

@@ -2,7 +2,7 @@ use Rattle.std.proofs.Common.{◌≡◌, Some, length, map, ap, ◌∙◌, arith
 use Rattle.tokens.specs.Encrypting.{direct_key}
 use Rattle.tokens.specs.Code.Views.{recipient_key_view}
 use Rattle.tokens.proofs.AlgorithmCases.{cek_size}
-use Rattle.tokens.proofs.RecipientKeys.{direct_fits}
+use Rattle.tokens.proofs.Encrypting.RecipientKeys.{direct_fits}
 use Rattle.tokens.proofs.encrypt.content_key.Goals as goal
 
 pub new-requires : goal.new-requires

@@ -1,7 +1,7 @@
 use Rattle.std.proofs.Common.{rules, map, string_bytes, ap, refl}
 use Rattle.octets.proofs.Lemmas.{seen_possible}
 use Rattle.ciphers.specs.contracts.content_alg.ContentSealerSealer.TheImpl.{is_sealing-value}
-use Rattle.tokens.proofs.StandingCiphertexts.{fills_inside, fills_beside}
+use Rattle.tokens.proofs.Encrypting.Ciphertext.{fills_inside, fills_beside}
 use Rattle.tokens.proofs.Streamed.{ended_early}
 use Rattle.tokens.proofs.encrypt.jwe_encrypt.Goals as goal
 
@@ -17,21 +17,25 @@ write_beside-requires-clause-framed g c =
 
 pub returns-in_err-texts-in-None-clause-streams : goal.returns-in_err-texts-in-None-clause-streams
 returns-in_err-texts-in-None-clause-streams g c octets may =
-    rw (c.in-None.is) (ended_early _ _ _ _ _ _ tt _ (λ inside whole. c.in_err-texts-in-None.ensures.refused octets whole may inside) c.from_residual.result c.from_residual.ensures.1)
+    rw (c.in-None.is) (ended_early _ _ _ _ _ _ tt _ (λ inside whole. c.in_err-texts-in-None.ensures.refused octets whole may inside) c.from_residual.result
+    c.from_residual.ensures.1)
 
 pub returns-in_err-texts-in-Some-clause-streams : goal.returns-in_err-texts-in-Some-clause-streams
 returns-in_err-texts-in-Some-clause-streams g c octets may =
-    rw (c.in-Some.is) (ended_early _ _ _ _ _ _ refl _ (λ inside whole. c.in_err-texts-in-Some.ensures.refused octets whole may inside) c.from_residual-in_err-texts-in-Some.result c.from_residual-in_err-texts-in-Some.ensures.1)
+    rw (c.in-Some.is) (ended_early _ _ _ _ _ _ refl _ (λ inside whole. c.in_err-texts-in-Some.ensures.refused octets whole may inside)
+    c.from_residual-in_err-texts-in-Some.result c.from_residual-in_err-texts-in-Some.ensures.1)
 
 pub returns-in_ok-texts-in-None-clause-streams : goal.returns-in_ok-texts-in-None-clause-streams
 returns-in_ok-texts-in-None-clause-streams g c octets may =
     let u = c.in_ok-texts-in-None.ensures.unsealed octets may in
-    rw (c.in-None.is, u.is) (c.write_inside.ensures.streams _ (fills_inside is_sealing-value.it _ _ _ _ _ _ _ u (c.start.ensures _ u.started) (ap (map string_bytes) c.deref.ensures.value)))
+    rw (c.in-None.is, u.is) (c.write_inside.ensures.streams _
+    (fills_inside is_sealing-value.it _ _ _ _ _ _ _ u (c.start.ensures _ u.started) (ap (map string_bytes) c.deref.ensures.value)))
 
 pub returns-in_ok-texts-in-Some-clause-streams : goal.returns-in_ok-texts-in-Some-clause-streams
 returns-in_ok-texts-in-Some-clause-streams g c octets may =
     let u = c.in_ok-texts-in-Some.ensures.unsealed octets may in
-    rw (c.in-Some.is, u.is) (c.write_beside.ensures.streams _ (fills_beside is_sealing-value.it _ _ _ _ _ _ _ u (c.start-in-Some.ensures _ u.started) (ap (map string_bytes) c.deref-in-Some.ensures.value)))
+    rw (c.in-Some.is, u.is) (c.write_beside.ensures.streams _
+    (fills_beside is_sealing-value.it _ _ _ _ _ _ _ u (c.start-in-Some.ensures _ u.started) (ap (map string_bytes) c.deref-in-Some.ensures.value)))
 
 pub returns-in_err-texts-in-Some-clause-faults : goal.returns-in_err-texts-in-Some-clause-faults
 returns-in_err-texts-in-Some-clause-faults g c =

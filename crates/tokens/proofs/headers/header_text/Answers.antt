@@ -1,5 +1,5 @@
 use Rattle.std.proofs.Common.{rules}
-use Rattle.tokens.proofs.HeaderMembers.{written_text}
+use Rattle.tokens.proofs.WrittenHeaders.Members.{written_text}
 use Rattle.tokens.proofs.headers.header_text.Goals as goal
 
 pub returns-else-is_empty : goal.returns-else-is_empty

@@ -1,4 +1,4 @@
-use Rattle.tokens.proofs.EncryptingGrowth.{encrypting_grows}
+use Rattle.tokens.proofs.Encrypting.Growth.{encrypting_grows}
 use Rattle.tokens.proofs.laws.encrypting_grows.Goals as goal
 
 pub returns : goal.returns

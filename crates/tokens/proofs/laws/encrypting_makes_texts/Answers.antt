@@ -1,4 +1,4 @@
-use Rattle.tokens.proofs.EncryptedTexts.{encrypting_makes_texts}
+use Rattle.tokens.proofs.Encrypting.Texts.{encrypting_makes_texts}
 use Rattle.tokens.proofs.laws.encrypting_makes_texts.Goals as goal
 
 pub returns : goal.returns

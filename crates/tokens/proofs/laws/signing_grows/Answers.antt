@@ -1,4 +1,4 @@
-use Rattle.tokens.proofs.SigningGrowth.{signing_grows}
+use Rattle.tokens.proofs.Signing.Growth.{signing_grows}
 use Rattle.tokens.proofs.laws.signing_grows.Goals as goal
 
 pub returns : goal.returns

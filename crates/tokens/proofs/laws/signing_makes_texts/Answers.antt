@@ -1,4 +1,4 @@
-use Rattle.tokens.proofs.SignedTexts.{signing_makes_texts}
+use Rattle.tokens.proofs.Signing.Texts.{signing_makes_texts}
 use Rattle.tokens.proofs.laws.signing_makes_texts.Goals as goal
 
 pub returns : goal.returns

@@ -1,6 +1,6 @@
 use Rattle.keys.specs.Limits.{limits}
-use Rattle.tokens.proofs.EncryptedRoundTrip.{encrypted_decrypts}
-use Rattle.tokens.proofs.SoundLimits.{these_are_sound}
+use Rattle.tokens.proofs.Encrypting.RoundTrip.{encrypted_decrypts}
+use Rattle.tokens.proofs.Encrypting.SoundLimits.{these_are_sound}
 use Rattle.tokens.proofs.laws.what_is_encrypted_decrypts.Goals as goal
 
 pub returns-clause-all : goal.returns-clause-all

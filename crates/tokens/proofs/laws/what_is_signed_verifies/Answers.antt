@@ -1,4 +1,4 @@
-use Rattle.tokens.proofs.SignedRoundTrip.{signed_verifies}
+use Rattle.tokens.proofs.Signing.RoundTrip.{signed_verifies}
 use Rattle.tokens.proofs.laws.what_is_signed_verifies.Goals as goal
 
 pub returns : goal.returns

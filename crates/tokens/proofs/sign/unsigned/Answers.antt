@@ -10,4 +10,5 @@ pub returns : goal.returns
 unfolding unsigned_by
 returns c =
     let parts_of : List ℕ → List SignatureParts → JwsParts = λ payload signatures. record { payload = payload; signatures = signatures } in
-    subst (λ parts. AgreesUnlessMemory jws_view c.build.result (built limits parts)) (ap₂ parts_of c.new.ensures.items c.in_ok-signatures.ensures.parts) c.build.ensures.exact
+    subst (λ parts. AgreesUnlessMemory jws_view c.build.result (built limits parts))
+    (ap₂ parts_of c.new.ensures.items c.in_ok-signatures.ensures.parts) c.build.ensures.exact

@@ -12,7 +12,8 @@ pieces-init g c =
     let none : appended first first ≡ [] = drop-length first in
     record {
       extends = sym (ap (λ l. first ++ l) none ∙ append-nil first);
-      taken = λ starts h. subst (HoldEach g.S.SigningInput.has_taken c.args.inputs.now starts) (sym (ap (λ p. base64url (whole_groups p)) none ∙ encoding_starts)) h;
+      taken = λ starts h. subst (HoldEach g.S.SigningInput.has_taken c.args.inputs.now starts)
+          (sym (ap (λ p. base64url (whole_groups p)) none ∙ encoding_starts)) h;
       waits = c.start-writer.ensures ∙ ap part_group (sym none);
       len = refl;
       source = refl;

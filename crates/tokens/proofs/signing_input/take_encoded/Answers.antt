@@ -1,5 +1,5 @@
 use Rattle.std.proofs.Common.{rules}
-use Rattle.tokens.proofs.Encoded.{nothing_encoded, piece_encoded, all_encoded}
+use Rattle.tokens.proofs.SigningInputs.Encoded.{nothing_encoded, piece_encoded, all_encoded}
 use Rattle.tokens.proofs.signing_input.take_encoded.Goals as goal
 
 pub loop-piece-init : goal.loop-piece-init

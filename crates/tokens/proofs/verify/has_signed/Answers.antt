@@ -5,7 +5,7 @@ use Rattle.keys.specs.Code.Views.{key_view}
 use Rattle.objects.specs.Code.Views.{held_view, signature_view}
 use Rattle.tokens.specs.Verifying.{verifies}
 use Rattle.tokens.specs.Code.Heads.{has_made_alike}
-use Rattle.tokens.proofs.Heads.{pointed_decide}
+use Rattle.tokens.proofs.Verifying.Heads.{pointed_decide}
 use Rattle.tokens.proofs.Tests.{list_any-map}
 use Rattle.tokens.proofs.verify.has_signed.Goals as goal
 

@@ -20,7 +20,8 @@ returns-in_ok-verified-in-Some-clause-answer g c =
     let old = g.O.Output.written c.in-Some.out.now in
     let payload = (jws_view c.args.jws.now).payload in
     let is : verifying_by c.args.all true c.args.keys.now (jws_view c.args.jws.now) ≡ Ok payload = rw (c.in_ok-verified-in-Some.ensures.exact) refl in
-    rw (c.in-Some.is) (agrees_last _ _ c.write_payload.result c.write_payload.ensures.all c.write_payload.ensures.cause (λ all. is ∙ ap Ok (sym (ap (appended old) all ∙ appended-append old payload))))
+    rw (c.in-Some.is) (agrees_last _ _ c.write_payload.result c.write_payload.ensures.all c.write_payload.ensures.cause
+    (λ all. is ∙ ap Ok (sym (ap (appended old) all ∙ appended-append old payload))))
 
 pub returns-in_ok-verified-in-Some-clause-beginning : goal.returns-in_ok-verified-in-Some-clause-beginning
 unfolding verifying_by

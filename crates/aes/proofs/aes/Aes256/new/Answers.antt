@@ -3,7 +3,10 @@ use Rattle.aes.proofs.Keys.{encrypts, makes_cipher, decrypts}
 use Rattle.aes.proofs.aes.Aes256.new.Goals as goal
 
 pub invariant_of-result : goal.invariant_of-result
-invariant_of-result c = record { is_cipher = makes_cipher 8 c.args.key.now c.key_expansion.new.round_keys c.key_expansion.ensures (λ i. omega (arith, c.fits-key i)) }
+invariant_of-result c = record {
+  is_cipher = makes_cipher 8 c.args.key.now c.key_expansion.new.round_keys c.key_expansion.ensures
+      (λ i. omega (arith, c.fits-key i));
+}
 
 pub returns-clause-encrypts : goal.returns-clause-encrypts
 returns-clause-encrypts c = encrypts 8 c.args.key.now c.key_expansion.new.round_keys c.key_expansion.ensures

@@ -11,5 +11,7 @@ returns-clause-ciphertext g c s p fed =
 
 -- No octets follow the last block, so they are unchanged.
 pub returns-clause-rest : goal.returns-clause-rest
-returns-clause-rest g c =
-    (drop_all 16 c.finish.new.out (omega (arith, c.finish.array_long)) ∙ sym (drop_all 16 c.args.last.now (omega (arith, c.fits-last))), c.finish-2.ensures.rest)
+returns-clause-rest g c = (
+  drop_all 16 c.finish.new.out (omega (arith, c.finish.array_long)) ∙ sym (drop_all 16 c.args.last.now (omega (arith, c.fits-last))),
+  c.finish-2.ensures.rest,
+)

@@ -7,11 +7,13 @@ returns-in-A128CbcHs256 c = rw c.in-A128CbcHs256.is (rw (c.aes128.ensures, c.spl
 
 pub returns-in-A192CbcHs384 : goal.returns-in-A192CbcHs384
 unfolding sealing
-returns-in-A192CbcHs384 c = rw c.in-A192CbcHs384.is (rw (c.aes192.ensures, c.split_at-in-A192CbcHs384.ensures.front, c.split_at-in-A192CbcHs384.ensures.back) at c.start-in-A192CbcHs384.ensures)
+returns-in-A192CbcHs384 c = rw c.in-A192CbcHs384.is
+    (rw (c.aes192.ensures, c.split_at-in-A192CbcHs384.ensures.front, c.split_at-in-A192CbcHs384.ensures.back) at c.start-in-A192CbcHs384.ensures)
 
 pub returns-in-A256CbcHs512 : goal.returns-in-A256CbcHs512
 unfolding sealing
-returns-in-A256CbcHs512 c = rw c.in-A256CbcHs512.is (rw (c.aes256.ensures, c.split_at-in-A256CbcHs512.ensures.front, c.split_at-in-A256CbcHs512.ensures.back) at c.start-in-A256CbcHs512.ensures)
+returns-in-A256CbcHs512 c = rw c.in-A256CbcHs512.is
+    (rw (c.aes256.ensures, c.split_at-in-A256CbcHs512.ensures.front, c.split_at-in-A256CbcHs512.ensures.back) at c.start-in-A256CbcHs512.ensures)
 
 pub returns-in-A128Gcm : goal.returns-in-A128Gcm
 unfolding sealing

@@ -33,8 +33,10 @@ returns-in_err-finish-clause-beginning g c =
     let consumed = g.I.Input.consumed in
     let written = g.O.Output.written in
     let p = appended (consumed c.args.text.now) (consumed c.pump.new.content) in
-    let whole = sym (behind_nothing settling p) ∙ c.in_ok-pump.ensures.answer tt p (reading_starts _ c.start.ensures) (seen_possible consumed g.I.Input.is_at_end c.args.text.now c.pump.new.content) in
-    at_refusal _ (whole_stands decoding (consumed c.args.text.now) (consumed c.pump.new.content) (written c.args.out.now) (written c.pump.new.out) (written c.finish.new.self) (g.I.Input.is_at_end c.pump.new.content)
+    let whole = sym (behind_nothing settling p) ∙ c.in_ok-pump.ensures.answer tt p (reading_starts _ c.start.ensures)
+    (seen_possible consumed g.I.Input.is_at_end c.args.text.now c.pump.new.content) in
+    at_refusal _ (whole_stands decoding (consumed c.args.text.now) (consumed c.pump.new.content) (written c.args.out.now) (written c.pump.new.out)
+    (written c.finish.new.self) (g.I.Input.is_at_end c.pump.new.content)
     c.in_ok-pump.ensures.ends whole c.in_ok-pump.ensures.extends c.finish.ensures.same)
 
 pub returns-clause-answer : goal.returns-clause-answer

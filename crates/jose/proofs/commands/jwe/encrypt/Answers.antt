@@ -19,7 +19,8 @@ returns-in_err-template g c =
 pub returns-in_err-set : goal.returns-in_err-set
 returns-in_err-set g c =
     let is = enc_is (settings_view c.args.invocation.now.options.items) _ refl in
-    rw c.requires.command (keys_refused _ _ is c.in_ok-template.ensures (λ memory. let k = c.in_err-set.ensures memory in (rw (← c.deref.ensures.value, k.0) refl, k.1))
+    rw c.requires.command (keys_refused _ _ is c.in_ok-template.ensures
+    (λ memory. let k = c.in_err-set.ensures memory in (rw (← c.deref.ensures.value, k.0) refl, k.1))
     c.from_residual-in_err-set.result c.from_residual-in_err-set.ensures.1)
 
 pub returns-then-has : goal.returns-then-has
@@ -31,8 +32,10 @@ returns-then-has g c =
     let k : key_set limits c.in_ok-template.template.keys.items true ≡ Ok c.in_ok-set.set = rw (← c.deref.ensures.value) c.in_ok-set.ensures in
     let t : c.in_ok-template.template.text.items ≡ c.deref-then-has.result.now = sym c.deref-then-has.ensures.value in
     let wanted : true ≡ is_given "O" options = sym c.if-has.true ∙ c.has.ensures in
-    rw c.requires.command (streamed (Some (record { old = c.args.outputs.now.content; new = c.jwe_encrypt.new.detached.0 })) c.jwe_encrypt.result (enc_is options true wanted) c.in_ok-template.ensures
-    (rw (k, t, ← c.has-compact.ensures, ← wanted) refl) (λ octets. refl) (λ none. cc) (λ none. cc) refl (record { draws = e.draws; streams = e.streams; faults = e.faults }))
+    rw c.requires.command (streamed (Some (record { old = c.args.outputs.now.content; new = c.jwe_encrypt.new.detached.0 })) c.jwe_encrypt.result
+    (enc_is options true wanted) c.in_ok-template.ensures
+    (rw (k, t, ← c.has-compact.ensures, ← wanted) refl) (λ octets. refl) (λ none. cc) (λ none. cc) refl
+    (record { draws = e.draws; streams = e.streams; faults = e.faults }))
 
 pub returns : goal.returns
 returns g c =
@@ -47,4 +50,10 @@ returns g c =
     let t : c.in_ok-template.template.text.items ≡ c.deref-else-has.result.now = sym c.deref-else-has.ensures.value in
     let wanted : false ≡ is_given "O" options = sym c.if-has.false ∙ c.has.ensures in
     rw c.requires.command (streamed None c.jwe_encrypt-else-has.result (enc_is options false wanted) c.in_ok-template.ensures
-    (rw (k, t, ← c.has-compact.ensures, ← wanted) refl) (λ octets. refl) (λ none. cc) (λ none. encrypted_inside c.has-compact.result c.in_ok-set.set c.deref-else-has.result.now (appended (consumed c.read_inputs.new.inputs.random) (consumed c.jwe_encrypt-else-has.new.random))) refl (unlent_call c.default.result _ (λ detach l. StreamsDrawn input output (plan_by detach) (plan_from (plan_by detach)) c.read_inputs.new.inputs.random c.jwe_encrypt-else-has.new.random c.read_inputs.new.inputs.content c.jwe_encrypt-else-has.new.content c.args.outputs.now.text c.jwe_encrypt-else-has.new.out l c.jwe_encrypt-else-has.result) c.default.ensures (record { draws = e.draws; streams = e.streams; faults = e.faults })))
+    (rw (k, t, ← c.has-compact.ensures, ← wanted) refl) (λ octets. refl) (λ none. cc)
+    (λ none. encrypted_inside c.has-compact.result c.in_ok-set.set c.deref-else-has.result.now
+    (appended (consumed c.read_inputs.new.inputs.random) (consumed c.jwe_encrypt-else-has.new.random))) refl
+    (unlent_call c.default.result _ (λ detach l. StreamsDrawn input output (plan_by detach)
+    (plan_from (plan_by detach)) c.read_inputs.new.inputs.random c.jwe_encrypt-else-has.new.random c.read_inputs.new.inputs.content
+    c.jwe_encrypt-else-has.new.content c.args.outputs.now.text c.jwe_encrypt-else-has.new.out l c.jwe_encrypt-else-has.result)
+    c.default.ensures (record { draws = e.draws; streams = e.streams; faults = e.faults })))

@@ -10,4 +10,5 @@ pub returns : goal.returns
 returns g c =
     let options = settings_view c.args.invocation.now.options.items in
     let asked : ok_or (hash_asked options) Usage ≡ Ok c.in_ok-hash.hash = search rules in
-    rw c.requires.command (wrote_whole c.write_thumbprints.result (thp_is options c.in_ok-hash.hash asked) c.in_ok-whole.ensures (rw c.deref.ensures.value at c.write_thumbprints.ensures))
+    rw c.requires.command (wrote_whole c.write_thumbprints.result (thp_is options c.in_ok-hash.hash asked) c.in_ok-whole.ensures
+    (rw c.deref.ensures.value at c.write_thumbprints.ensures))

@@ -26,7 +26,8 @@ pub returns-clause-answer : goal.returns-clause-answer
 returns-clause-answer g c octets octets_may =
     let old = g.O.Output.written c.args.out.now in
     agrees_last _ _ c.emit.result c.emit.ensures.all c.emit.ensures.cause
-    (λ all. c.in_ok-key.ensures.answer octets octets_may ∙ ap Ok (sym (ap (appended old) all ∙ appended-append old c.as_bytes.result.now ∙ c.as_bytes.ensures.value)))
+    (λ all. c.in_ok-key.ensures.answer octets octets_may
+    ∙ ap Ok (sym (ap (appended old) all ∙ appended-append old c.as_bytes.result.now ∙ c.as_bytes.ensures.value)))
 
 pub returns-clause-drawn : goal.returns-clause-drawn
 returns-clause-drawn g c = on_success c.emit.result c.emit.ensures.finished
@@ -40,7 +41,8 @@ pub returns-clause-beginning : goal.returns-clause-beginning
 returns-clause-beginning g c =
     let random = appended (g.I.Input.consumed c.args.random.now) (g.I.Input.consumed c.generate.new.random) in
     let made : gen_answer limits c.args.template.now random ≡ Ok c.as_bytes.result.now =
-    c.in_ok-key.ensures.answer random (seen_possible g.I.Input.consumed g.I.Input.is_at_end c.args.random.now c.generate.new.random) ∙ ap Ok (sym c.as_bytes.ensures.value)
+    c.in_ok-key.ensures.answer random (seen_possible g.I.Input.consumed g.I.Input.is_at_end c.args.random.now c.generate.new.random)
+    ∙ ap Ok (sym c.as_bytes.ensures.value)
     in
     on_refusal c.emit.result c.emit.ensures.part (λ part. rw made part)
 

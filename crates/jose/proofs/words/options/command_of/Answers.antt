@@ -13,7 +13,8 @@ use Rattle.jose.proofs.words.options.command_of.Goals as goal
 pub loop-option-init : goal.loop-option-init
 loop-option-init c =
     let made : app_of c.disable_help_flag-command.result ≡ bare =
-    ap app_of_fields (c.disable_help_flag-command.ensures ∙ ap (λ (fields : Command-F Command). record fields { disable_help_flag = true }) c.no_binary_name.ensures)
+    ap app_of_fields (c.disable_help_flag-command.ensures
+    ∙ ap (λ (fields : Command-F Command). record fields { disable_help_flag = true }) c.no_binary_name.ensures)
     ∙ ap (λ (app : App). record app { top = record app.top { no_binary_name = true; disable_help_flag = true } }) c.new.ensures.app
     in
     ap (with_options (map option_entry c.args.options.now)) made
@@ -21,7 +22,8 @@ loop-option-init c =
 -- Adding the next option leads to the same whole command.
 one_more : (left rest : List OptionRow) (o : OptionRow) (old new all : App) → left ≡ o ∷ rest → new ≡ with_rule old (rule_for (option_entry o))
     → with_options (map option_entry left) old ≡ all → with_options (map option_entry rest) new ≡ all
-one_more left rest o old new all here added whole = ap (with_options (map option_entry rest)) added ∙ ap (λ l. with_options (map option_entry l) old) (sym here) ∙ whole
+one_more left rest o old new all here added whole = ap (with_options (map option_entry rest)) added
+    ∙ ap (λ l. with_options (map option_entry l) old) (sym here) ∙ whole
 
 pub loop-option-preserved : goal.loop-option-preserved
 loop-option-preserved c =

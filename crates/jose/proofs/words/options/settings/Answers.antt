@@ -26,6 +26,8 @@ loop-option-preserved c =
     let options = c.args.options.now in
     let o = get_or options i no_option in
     let value = option_map (λ (s : Bor (List ℕ)). s.now) c.value_of-value.result in
-    let given : value ≡ value_given (takes_of o.2) (first_of o.1.now (rows_of m)) = c.value_of-value.ensures ∙ ap (value_given (takes_of o.2)) (c.get_str.ensures ∙ first_value-rows m o.1.now) in
-    one_more (settings_view c.loop-option.settings.items) (settings_view c.add_setting.new.settings.items) (drop i options) (drop (i + 1) options) o (rows_of m) (settings_of (map option_entry options) (rows_of m)) value
+    let given : value ≡ value_given (takes_of o.2) (first_of o.1.now (rows_of m)) = c.value_of-value.ensures
+    ∙ ap (value_given (takes_of o.2)) (c.get_str.ensures ∙ first_value-rows m o.1.now) in
+    one_more (settings_view c.loop-option.settings.items) (settings_view c.add_setting.new.settings.items) (drop i options) (drop (i + 1) options) o (rows_of m)
+    (settings_of (map option_entry options) (rows_of m)) value
     (drop_more options i no_option (omega arith)) given c.in_ok-add_setting.ensures c.loop-option.invariant

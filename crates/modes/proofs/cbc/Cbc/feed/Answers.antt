@@ -40,9 +40,11 @@ returns-then-piece-space-clause-text g c e iv p f =
     ∙ ap (λ t. cbc_blocks e iv p ++ t) (none_alone e s.previous [] (omega arith))
 
 -- The block that is filled is encrypted in one step.
-first_block : (e h : List ℕ → List ℕ) (previous last b block : List ℕ) → last ≡ chained h previous b (length b / 16) → b ≡ block → length block ≡ 16 → h ≡ e → last ≡ chained e previous block 1
+first_block : (e h : List ℕ → List ℕ) (previous last b block : List ℕ) → last ≡ chained h previous b (length b / 16) → b ≡ block → length block ≡ 16 → h ≡ e
+    → last ≡ chained e previous block 1
 first_block e h previous last b block is same sixteen cipher =
-    is ∙ ap₂ (λ f x. chained f previous x (length x / 16)) cipher same ∙ ap (chained e previous block) (let z : length block / 16 ≡ 1 = omega (arith, sixteen) in z)
+    is ∙ ap₂ (λ f x. chained f previous x (length x / 16)) cipher same
+    ∙ ap (chained e previous block) (let z : length block / 16 ≡ 1 = omega (arith, sixteen) in z)
 
 pub returns-clause-fed : goal.returns-clause-fed
 returns-clause-fed g c e iv p f =
@@ -80,7 +82,15 @@ returns-clause-text g c e iv p f =
     c.encrypt_blocks.ensures.last c.complete-block.ensures.block (length-append w front ∙ fills) f.cipher in
     let others = c.split_at_mut-first.result.1.now in
     let sizes : length c.encrypt_blocks.new.out + length c.encrypt_blocks-2.new.out ≡ 16 + length rest / 16 * 16 =
-    omega (arith, c.encrypt_blocks.auto.out, c.encrypt_blocks-2.auto.out, c.split_at_mut-first.ensures.front_len, c.split_at_mut-first.ensures.back_len, c.split_at.ensures.back_len, length-take (length rest / 16 * 16) others) in
+    omega (
+      arith,
+      c.encrypt_blocks.auto.out,
+      c.encrypt_blocks-2.auto.out,
+      c.split_at_mut-first.ensures.front_len,
+      c.split_at_mut-first.ensures.back_len,
+      c.split_at.ensures.back_len,
+      length-take (length rest / 16 * 16) others,
+    ) in
     ap (λ x. cbc_blocks e iv (p ++ x)) c.split_at.ensures.by_index.0
     ∙ filled_text e iv p s.previous w f.previous f.waiting front rest fills
     ∙ ap (λ t. cbc_blocks e iv p ++ t)

@@ -10,7 +10,8 @@ returns-then-octets-space c h p f =
     let w = c.args.self.now.waiting in
     let x = c.args.octets.now in
     let short : length (w ++ x) < 16 = omega (arith, length-append w x, c.space-space.ensures.space, c.if-octets-space.true) in
-    let none : numbers (p ++ x) ≡ numbers p = fed_numbers p w f.waiting x [] (w ++ x) 0 refl refl short ∙ ap (λ t. numbers p ++ t) (no_numbers [] (omega arith)) ∙ append-nil (numbers p) in
+    let none : numbers (p ++ x) ≡ numbers p = fed_numbers p w f.waiting x [] (w ++ x) 0 refl refl short ∙ ap (λ t. numbers p ++ t) (no_numbers [] (omega arith))
+    ∙ append-nil (numbers p) in
     record {
       key = f.key;
       sum = f.sum ∙ ap (ghash_number c.args.self.now.subkey.h) (sym none);

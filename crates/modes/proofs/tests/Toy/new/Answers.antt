@@ -3,10 +3,10 @@ use Rattle.std.proofs.lemmas.List.{ext_get_or, get_or_past}
 use Rattle.std.proofs.lemmas.List.FromFn.{length-map-range_with_len, get_or-map-range_with_len}
 use Rattle.std.proofs.lemmas.Bool.{cases_lt}
 use Rattle.std.proofs.lemmas.Nat.{xor_lt}
-use Rattle.std.proofs.lemmas.Grind.{common_steps}
 use Rattle.aes.specs.Block.{IsBlock}
 use Rattle.modes.specs.Code.Toy.{turned}
 use Rattle.modes.proofs.tests.Toy.new.Goals as goal
+use Rattle.aes.proofs.Lemmas.{xor_twice}
 
 length-turned : (n : ℕ) (b : List ℕ) → length (turned n b) ≡ 16
 unfolding turned
@@ -25,15 +25,12 @@ turned_is_block n b x = record {
       (cases_lt i 16);
 }
 
-xor_back : (a t : ℕ) → bit_xor (bit_xor a t) t ≡ a
-xor_back a t = grind (arith, common_steps)
-
 turned_round : (n m : ℕ) (b : List ℕ) → n + m ≡ 16 → length b ≡ 16 → turned m (turned n b) ≡ b
 turned_round n m b all h = ext_get_or 0 (turned m (turned n b)) b (length-turned m (turned n b) ∙ sym h) (λ i l.
     let k : i < 16 = subst (λ n. i < n) (length-turned m (turned n b)) l in
     at-turned m (turned n b) i k
     ∙ ap (λ v. bit_xor v 1) (at-turned n b ((i + m) % 16) (omega arith))
-    ∙ xor_back (slice_index b (((i + m) % 16 + n) % 16)) 1
+    ∙ xor_twice (slice_index b (((i + m) % 16 + n) % 16)) 1
     ∙ ap (slice_index b) (let e : ((i + m) % 16 + n) % 16 ≡ i = omega arith in e))
 
 pub invariant_of-result : goal.invariant_of-result

@@ -12,7 +12,8 @@ loop-i-preserved c =
     let text = c.args.text.now in
     let i = c.loop-i.i in
     let block : get_or c.as_chunks.result.0.now i [] ≡ chunk (32 * i) 32 text =
-    ap (λ l. get_or l i []) c.as_chunks.ensures.front ∙ chunk_at 32 (length text / 32) i text [] (omega (arith, c.as_chunks.ensures.front_len, c.loop-i-test.true)) in
+    ap (λ l. get_or l i []) c.as_chunks.ensures.front ∙ chunk_at 32 (length text / 32) i text []
+    (omega (arith, c.as_chunks.ensures.front_len, c.loop-i-test.true)) in
     let none : 32 ≤ position_or_len is_dot (get_or c.as_chunks.result.0.now i []) = ltb-false _ 32 (sym c.has_dot.ensures ∙ c.if-has_dot.false) in
     let more = block_passed (λ x. not (is_dot x)) text (32 * i) 32 c.loop-i.invariant (subst (λ b. 32 ≤ position_or_len is_dot b) block none) in
     omega (arith, more)

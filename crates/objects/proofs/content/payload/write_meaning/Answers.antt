@@ -11,7 +11,13 @@ use Rattle.objects.proofs.ReceivedTexts.{means, nothing_read, octets_read, piece
 use Rattle.objects.proofs.content.payload.write_meaning.Goals as goal
 
 pub loop-piece-init : goal.loop-piece-init
-loop-piece-init g c = (search rules, (nothing_read (search rules) c.start-reader.ensures, (sym (ap (λ t. g.O.Output.written c.args.out.now ++ t) settling_starts ∙ append-nil _), (refl, refl))))
+loop-piece-init g c = (
+  search rules,
+  (
+    nothing_read (search rules) c.start-reader.ensures,
+    (sym (ap (λ t. g.O.Output.written c.args.out.now ++ t) settling_starts ∙ append-nil _), (refl, refl)),
+  ),
+)
 
 pub unreachable-requires : goal.unreachable-requires
 unreachable-requires g c =
@@ -30,8 +36,14 @@ loop-piece-preserved g c =
     let parts = c.in-Some.ensures.steps.1.0 in
     let is = octets_read k _ piece parts c.are_octets.ensures in
     let adds = c.in-Ok.ensures.text tt k.front k.fed is in
-    let wrote = c.in_ok-write_whole.ensures.all ∙ ap (λ t. t ++ c.in-Ok.octets.now) i.1.1.0 ∙ append_assoc old (octets_of_groups (settled k.front)) c.in-Ok.octets.now ∙ ap (λ t. old ++ t) (sym adds) in
-    (search rules, (piece_read k c.feed.new.self _ piece parts (c.in-Ok.ensures.fed tt k.front k.fed is), (wrote, (c.in_ok-write_whole.ensures.works ∙ i.1.1.1.0, c.write_whole.ensures.endings ∙ i.1.1.1.1))))
+    let wrote = c.in_ok-write_whole.ensures.all ∙ ap (λ t. t ++ c.in-Ok.octets.now) i.1.1.0
+    ∙ append_assoc old (octets_of_groups (settled k.front)) c.in-Ok.octets.now ∙ ap (λ t. old ++ t) (sym adds) in (
+      search rules,
+      (
+        piece_read k c.feed.new.self _ piece parts (c.in-Ok.ensures.fed tt k.front k.fed is),
+        (wrote, (c.in_ok-write_whole.ensures.works ∙ i.1.1.1.0, c.write_whole.ensures.endings ∙ i.1.1.1.1)),
+      ),
+    )
 
 pub returns-in_err-write_whole-clause-part : goal.returns-in_err-write_whole-clause-part
 returns-in_err-write_whole-clause-part g c =
@@ -45,7 +57,8 @@ returns-in_err-write_whole-clause-part g c =
     let meant = means text c.args.text.now.is_octets c.args.text.now.is_text in
     let adds = c.in-Ok.ensures.text tt k.front k.fed (octets_read k _ piece parts c.are_octets.ensures) in
     let stands = AppendsPrefixOf-part c.in-Ok.octets.now out new _ c.in_err-write_whole.ensures.part.1 in
-    at_refusal _ (piece_stands k _ piece c.in-Ok.octets.now (meaning text) (g.O.Output.written c.args.out.now) out new parts c.are_octets.ensures meant adds i.1.1.0 stands)
+    at_refusal _ (piece_stands k _ piece c.in-Ok.octets.now (meaning text) (g.O.Output.written c.args.out.now) out new parts c.are_octets.ensures
+    meant adds i.1.1.0 stands)
 
 pub returns-in_err-write_whole-clause-fails : goal.returns-in_err-write_whole-clause-fails
 returns-in_err-write_whole-clause-fails g c =
@@ -72,7 +85,8 @@ returns-clause-all g c =
     let last = c.in-Ok-finish.octets.now in
     let all = all_written k c.args.text.now.is_octets c.args.text.now.is_text c.are_octets.ensures last c.in-None.ensures.steps.1.0
     (c.in-Ok-finish.ensures.text tt k.front k.fed) in
-    on_success c.emit.result c.emit.ensures.all (λ wrote. wrote ∙ ap (λ t. t ++ last) i.1.1.0 ∙ append_assoc old (octets_of_groups (settled k.front)) last ∙ ap (λ t. old ++ t) (sym all))
+    on_success c.emit.result c.emit.ensures.all (λ wrote. wrote ∙ ap (λ t. t ++ last) i.1.1.0 ∙ append_assoc old (octets_of_groups (settled k.front)) last
+    ∙ ap (λ t. old ++ t) (sym all))
 
 pub returns-clause-works : goal.returns-clause-works
 returns-clause-works g c = on_success c.emit.result c.emit.ensures.works (λ same. same ∙ c.loop-piece.invariant.1.1.1.0)
@@ -86,7 +100,8 @@ returns-clause-part g c =
     let last = c.in-Ok-finish.octets.now in
     let all = all_written k c.args.text.now.is_octets c.args.text.now.is_text c.are_octets.ensures last c.in-None.ensures.steps.1.0
     (c.in-Ok-finish.ensures.text tt k.front k.fed) in
-    on_refusal c.emit.result c.emit.ensures.part (λ stands. subst (λ t. AppendsPrefixOf t old new) (sym all) (behind old (octets_of_groups (settled k.front)) last new (subst (λ o. AppendsPrefixOf last o new) i.1.1.0 stands)))
+    on_refusal c.emit.result c.emit.ensures.part (λ stands. subst (λ t. AppendsPrefixOf t old new) (sym all)
+    (behind old (octets_of_groups (settled k.front)) last new (subst (λ o. AppendsPrefixOf last o new) i.1.1.0 stands)))
 
 pub returns-clause-fails : goal.returns-clause-fails
 returns-clause-fails g c =

@@ -10,4 +10,5 @@ invariant-loop-piece g l =
     let output = g.O.Output in
     (chunks_size l.piece-iterator ≡ 4096)
     × ((read : IsReadTo l.reader l.text.text.now (chunks_rest l.piece-iterator))
-    × ((output.written l.out ≡ output.written l.initial.out ++ octets_of_groups (settled read.front)) × ((output.failures l.out ≡ output.failures l.initial.out) × (output.endings l.out ≡ output.endings l.initial.out))))
+    × ((output.written l.out ≡ output.written l.initial.out ++ octets_of_groups (settled read.front))
+    × ((output.failures l.out ≡ output.failures l.initial.out) × (output.endings l.out ≡ output.endings l.initial.out))))

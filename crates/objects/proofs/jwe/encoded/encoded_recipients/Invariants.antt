@@ -9,4 +9,5 @@ use Rattle.objects.proofs.jwe.encoded.encoded_recipients.Given as goal
 -- the recipients so far and those that are left are all recipients
 abbrev pub invariant-loop-object : goal.invariant-loop-object
 invariant-loop-object l =
-    each_item encoded_recipient (items_view l.objects) ≡ with_done encoded_recipient (map encoded_recipient_view l.texts.items) (map view (drop l.object-index l.objects))
+    each_item encoded_recipient (items_view l.objects)
+    ≡ with_done encoded_recipient (map encoded_recipient_view l.texts.items) (map view (drop l.object-index l.objects))

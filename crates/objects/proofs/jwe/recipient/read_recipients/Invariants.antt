@@ -12,4 +12,5 @@ invariant-loop-recipient l =
     let protected = members_view l.fn.protected.entries in
     let unprotected = members_view l.fn.unprotected.entries in
     recipients_of limits.management protected unprotected (map recipient_members_view l.fn.parts.items)
-    ≡ with_done (recipient_of limits.management protected unprotected) (map recipient_view l.recipients.items) (map recipient_members_view l.recipient-iterator.rest.items)
+    ≡ with_done (recipient_of limits.management protected unprotected) (map recipient_view l.recipients.items)
+    (map recipient_members_view l.recipient-iterator.rest.items)

@@ -10,7 +10,8 @@ returns-in_err-written-clause-exact c = search (rules, jws_refused)
 
 pub returns-clause-exact : goal.returns-clause-exact
 returns-clause-exact c =
-    jws_whole c.args.compact c.args.detach (jws_view c.args.self.now) (written_view c.in_ok-written.field-0) c.in_ok-written.ensures ∙ ap Ok (sym c.into_text.ensures)
+    jws_whole c.args.compact c.args.detach (jws_view c.args.self.now) (written_view c.in_ok-written.field-0) c.in_ok-written.ensures
+    ∙ ap Ok (sym c.into_text.ensures)
 
 pub returns-clause-spells : goal.returns-clause-spells
 returns-clause-spells c made =

@@ -8,4 +8,5 @@ use Rattle.objects.proofs.jws.encoded.decoded_signatures.Given as goal
 -- the signatures so far and those that are left are all signatures
 abbrev pub invariant-loop-text : goal.invariant-loop-text
 invariant-loop-text l =
-    each decoded_signature (map encoded_signature_view l.fn.texts.items) ≡ with_done decoded_signature (map decoded_signature_view l.signatures.items) (map encoded_signature_view l.text-iterator.rest.items)
+    each decoded_signature (map encoded_signature_view l.fn.texts.items)
+    ≡ with_done decoded_signature (map decoded_signature_view l.signatures.items) (map encoded_signature_view l.text-iterator.rest.items)

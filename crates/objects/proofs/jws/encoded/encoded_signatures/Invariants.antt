@@ -9,4 +9,5 @@ use Rattle.objects.proofs.jws.encoded.encoded_signatures.Given as goal
 -- the signatures so far and those that are left are all signatures
 abbrev pub invariant-loop-object : goal.invariant-loop-object
 invariant-loop-object l =
-    each_item encoded_signature (items_view l.objects) ≡ with_done encoded_signature (map encoded_signature_view l.texts.items) (map view (drop l.object-index l.objects))
+    each_item encoded_signature (items_view l.objects)
+    ≡ with_done encoded_signature (map encoded_signature_view l.texts.items) (map view (drop l.object-index l.objects))

@@ -9,4 +9,5 @@ use Rattle.objects.proofs.jws.signature.by_headers.Given as goal
 -- the signatures so far and those that are left are all signatures
 abbrev pub invariant-loop-signature : goal.invariant-loop-signature
 invariant-loop-signature l =
-    each (signature_by limits.management) (map headed_signature_view l.fn.headed.items) ≡ with_done (signature_by limits.management) (map signature_view l.signatures.items) (map headed_signature_view l.signature-iterator.rest.items)
+    each (signature_by limits.management) (map headed_signature_view l.fn.headed.items)
+    ≡ with_done (signature_by limits.management) (map signature_view l.signatures.items) (map headed_signature_view l.signature-iterator.rest.items)

@@ -9,5 +9,6 @@ use Rattle.objects.proofs.jws.signature.have_no_crit.Goals as goal
 pub returns : goal.returns
 returns c =
     let headed = c.args.headed.now in
-    all_from_yields_List (λ s. headers_have_no_crit (headed_signature_view s)) _ _ _ c.all.ensures.ran (YieldsList-from_slice headed cc) (λ x b q k. search (rules, tests))
+    all_from_yields_List (λ s. headers_have_no_crit (headed_signature_view s)) _ _ _ c.all.ensures.ran (YieldsList-from_slice headed cc)
+    (λ x b q k. search (rules, tests))
     ∙ sym (list_all-map headers_have_no_crit headed_signature_view headed)

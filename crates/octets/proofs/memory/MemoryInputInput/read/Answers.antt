@@ -10,14 +10,16 @@ returns-clause-octets c =
     let n = c.min-n.result in
     let buf = c.copy_from_slice.new.self ++ drop n c.args.buf.now in (
       grind (arith, common_steps),
-      take_copied c.self.inside.position n c.self.inside.octets.now c.copy_from_slice.new.self (drop n c.args.buf.now) (grind (arith, common_steps)) (grind (arith, common_steps))
+      take_copied c.self.inside.position n c.self.inside.octets.now c.copy_from_slice.new.self (drop n c.args.buf.now) (grind (arith, common_steps))
+          (grind (arith, common_steps))
           ∙ ap (λ front. front ++ take n buf) (ap front_of c.self.view_is),
     )
 
 pub returns-clause-moves : goal.returns-clause-moves
 returns-clause-moves c =
     let count : c.min-n.result ≡ read_count c.args.self.now (length c.args.buf.now) = grind (arith, common_steps) in
-    contents_same _ _ (ap (λ s. s.octets) c.self.view_is) (ap (λ s. s.position + c.min-n.result) c.self.view_is ∙ ap (λ n. c.args.self.now.position + n) count) (ap (λ s. s.step) c.self.view_is)
+    contents_same _ _ (ap (λ s. s.octets) c.self.view_is) (ap (λ s. s.position + c.min-n.result) c.self.view_is ∙ ap (λ n. c.args.self.now.position + n) count)
+    (ap (λ s. s.step) c.self.view_is)
 
 pub returns-clause-no_room : goal.returns-clause-no_room
 returns-clause-no_room c none =

@@ -13,13 +13,16 @@ use Rattle.octets.proofs.reader.B64ReaderTransform.feed.Goals as goal
 -- The cells hold the waiting characters, followed by the piece.
 text_is : (c : After-saturating_sub) → (take (c.self.inside.count + length c.args.piece.now) c.join.new.octets ≡ c.args.self.now ++ c.args.piece.now)
     × (length (c.args.self.now ++ c.args.piece.now) ≡ c.self.inside.count + length c.args.piece.now)
-text_is c = joined c.self.inside.waiting c.join.new.octets c.args.piece.now c.args.self.now c.self.inside.count (omega (arith, c.self.told, c.self.invariant)) c.self.view_is c.join.ensures
+text_is c = joined c.self.inside.waiting c.join.new.octets c.args.piece.now c.args.self.now c.self.inside.count
+    (omega (arith, c.self.told, c.self.invariant)) c.self.view_is c.join.ensures
 
 -- The characters that are decoded are those that are settled now.
-front_is : (c : After-saturating_sub) (p : List ℕ) → c.args.self.now ≡ unsettled p → take (c.saturating_sub.result / 4 * 4) c.join.new.octets ≡ settled (unsettled p ++ c.args.piece.now)
+front_is : (c : After-saturating_sub) (p : List ℕ) → c.args.self.now ≡ unsettled p
+    → take (c.saturating_sub.result / 4 * 4) c.join.new.octets ≡ settled (unsettled p ++ c.args.piece.now)
 front_is c p fed =
     let text = text_is c in
-    settled_front c.join.new.octets (c.args.self.now ++ c.args.piece.now) (c.self.inside.count + length c.args.piece.now) (c.saturating_sub.result / 4 * 4) text.0 text.1 (ap (λ n. n / 4 * 4) c.saturating_sub.ensures)
+    settled_front c.join.new.octets (c.args.self.now ++ c.args.piece.now) (c.self.inside.count + length c.args.piece.now)
+    (c.saturating_sub.result / 4 * 4) text.0 text.1 (ap (λ n. n / 4 * 4) c.saturating_sub.ensures)
     ∙ ap (λ l. settled (l ++ c.args.piece.now)) fed
 
 pub returns-in_err-len-clause-refused : goal.returns-in_err-len-clause-refused
@@ -47,4 +50,5 @@ returns-clause-fed c job p fed octets =
 
 pub returns-clause-text : goal.returns-clause-text
 returns-clause-text c job p fed octets =
-    (settled_adds p c.args.piece.now _ octets fed.1 (ap decoded (sym (front_is (goal.at.returns-clause-text c).After-saturating_sub p fed.0)) ∙ c.in_ok-len.ensures.octets)).1
+    (settled_adds p c.args.piece.now _ octets fed.1 (ap decoded (sym (front_is (goal.at.returns-clause-text c).After-saturating_sub p fed.0))
+    ∙ c.in_ok-len.ensures.octets)).1

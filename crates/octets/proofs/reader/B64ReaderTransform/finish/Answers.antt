@@ -22,4 +22,5 @@ returns-in_err-len-clause-refused c job p fed octets =
 pub returns-clause-text : goal.returns-clause-text
 returns-clause-text c job p fed octets =
     let waits = c.self.view_is ∙ fed.0 in
-    last_decoded p _ _ octets fed.1 (ap (λ l. decoded (without_line_end l)) (sym waits) ∙ ap decoded (sym c.without_line_end.ensures) ∙ c.in_ok-len.ensures.octets)
+    last_decoded p _ _ octets fed.1 (ap (λ l. decoded (without_line_end l)) (sym waits) ∙ ap decoded (sym c.without_line_end.ensures)
+    ∙ c.in_ok-len.ensures.octets)

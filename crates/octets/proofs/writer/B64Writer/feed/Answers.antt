@@ -31,8 +31,10 @@ returns-clause-waits c fed waits =
     let all = c.self.inside.count + length piece in
     let back : all ≡ all / 3 * 3 + (all - all / 3 * 3) = omega arith in
     let part : drop (all / 3 * 3) (take all c.join.new.octets) ≡ c.copy_from_slice.new.self =
-    ap (λ n. drop (all / 3 * 3) (take n c.join.new.octets)) back ∙ drop-take (all / 3 * 3) (all - all / 3 * 3) c.join.new.octets ∙ sym c.copy_from_slice.ensures.after in
-    let len : length c.copy_from_slice.new.self ≡ all - all / 3 * 3 = grind (arith, common_steps, c.copy_from_slice.ensures.len, c.join.array_long, c.told-out) in
+    ap (λ n. drop (all / 3 * 3) (take n c.join.new.octets)) back ∙ drop-take (all / 3 * 3) (all - all / 3 * 3) c.join.new.octets
+    ∙ sym c.copy_from_slice.ensures.after in
+    let len : length c.copy_from_slice.new.self ≡ all - all / 3 * 3 =
+    grind (arith, common_steps, c.copy_from_slice.ensures.len, c.join.array_long, c.told-out) in
     rw (← len) (take-append_seam c.copy_from_slice.new.self _) ∙ sym part
     ∙ part_front c.join.new.octets (c.args.self.now ++ piece) all (joined c) (counted c)
     ∙ ap (λ w. part_group (w ++ piece)) waits ∙ sym (part-append fed piece)

@@ -5,7 +5,7 @@ use Rattle.keys.specs.Limits.{limits}
 use Rattle.keys.specs.Code.Views.{key_view}
 use Rattle.objects.specs.Code.Views.{recipient_view}
 use Rattle.tokens.specs.Decrypting.{pairs_of}
-use Rattle.tokens.proofs.PairLists.{some_has}
+use Rattle.tokens.proofs.Decrypting.Pairs.{some_has}
 use Rattle.tokens.proofs.decrypt.pairs.has_pairs.Goals as goal
 
 pub returns : goal.returns

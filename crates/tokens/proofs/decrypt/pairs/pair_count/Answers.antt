@@ -5,7 +5,7 @@ use Rattle.keys.specs.Code.Views.{key_view}
 use Rattle.objects.specs.Code.Views.{recipient_view}
 use Rattle.tokens.specs.Decrypting.{is_candidate, pairs_by}
 use Rattle.tokens.specs.Code.Views.{algorithms_view}
-use Rattle.tokens.proofs.PairLists.{candidates_are}
+use Rattle.tokens.proofs.Decrypting.Pairs.{candidates_are}
 use Rattle.tokens.proofs.decrypt.pairs.pair_count.Goals as goal
 
 pub returns-in-Some-clause-count : goal.returns-in-Some-clause-count

@@ -7,8 +7,8 @@ use Rattle.tokens.specs.Decrypting.{first_opened, pairs_with}
 use Rattle.tokens.specs.Code.Trying.{IsSaltFor, within_after}
 use Rattle.tokens.specs.Code.Views.{algorithms_view, sealed_with_view, work_view}
 use Rattle.tokens.specs.Code.Work.{with_pairs}
-use Rattle.tokens.proofs.SaltedKeys.{salted_at, stays}
-use Rattle.tokens.proofs.TriedPairs.{with_more, at_most_one, within_parts, within_sum, opened_later, opened_none, work_later, iterations_all, unwraps_most, openings_most}
+use Rattle.tokens.proofs.Decrypting.Salted.{salted_at, stays}
+use Rattle.tokens.proofs.Decrypting.Tried.{with_more, at_most_one, within_parts, within_sum, opened_later, opened_none, work_later, iterations_all, unwraps_most, openings_most}
 use Rattle.tokens.proofs.decrypt.recipients.open_candidates.Goals as goal
 
 pub open_by_key-opened-requires-clause-key : goal.open_by_key-opened-requires-clause-key
@@ -20,7 +20,8 @@ pub open_by_key-opened-requires-clause-salt : goal.open_by_key-opened-requires-c
 open_by_key-opened-requires-clause-salt c =
     let is = salted_at c.loop-i.salted.p2s.now c.args.keys.now c.loop-i.salted.keys.items c.loop-i.i c.index_mut-salted.result.now c.index-keys-i.result
     (omega (arith, c.loop-i-test.true)) c.loop-i.invariant.salted c.index_mut-salted.ensures.value c.index-keys-i.is in
-    subst (λ salt. IsSaltFor salt (recipient_view c.args.recipient.now).management) (sym (ap (λ x. x.p2s) is ∙ ap (λ b. b.now) c.loop-i.invariant.salt)) c.requires.salt
+    subst (λ salt. IsSaltFor salt (recipient_view c.args.recipient.now).management)
+    (sym (ap (λ x. x.p2s) is ∙ ap (λ b. b.now) c.loop-i.invariant.salt)) c.requires.salt
 
 pub loop-i-preserved : goal.loop-i-preserved
 loop-i-preserved c =
@@ -34,14 +35,17 @@ loop-i-preserved c =
     let w = work_view c.loop-i.work in
     let here = pairs_with r a (key_view key ∷ []) in
     let rest = pairs_with r a (map key_view (drop (i + 1) keys)) in
-    let at : drop i keys ≡ key ∷ drop (i + 1) keys = drop_more keys i key (omega (arith, c.loop-i-test.true)) ∙ ap (λ k. k ∷ drop (i + 1) keys) (sym c.index-keys-i.is) in
+    let at : drop i keys ≡ key ∷ drop (i + 1) keys = drop_more keys i key (omega (arith, c.loop-i-test.true))
+    ∙ ap (λ k. k ∷ drop (i + 1) keys) (sym c.index-keys-i.is) in
     let left = ap (λ l. pairs_with r a (map key_view l)) at ∙ with_more r a (key_view key ∷ []) (map key_view (drop (i + 1) keys)) in
     let now : first_opened (sealed_with_view c.args.sealed c.loop-i.octets) here ≡ None = search rules in
     let none : first_opened s here ≡ None = ap (λ l. first_opened (sealed_with_view c.args.sealed l) here) (sym k.octets) ∙ now in
-    let done : work_view c.open_by_key-opened.new.work ≡ with_pairs s w here = c.open_by_key-opened.ensures.work ∙ ap (λ l. with_pairs (sealed_with_view c.args.sealed l) w here) k.octets in
+    let done : work_view c.open_by_key-opened.new.work ≡ with_pairs s w here = c.open_by_key-opened.ensures.work
+    ∙ ap (λ l. with_pairs (sealed_with_view c.args.sealed l) w here) k.octets in
     let parts = within_parts c.loop-i.work.iterations here rest (sym (ap (within_after c.loop-i.work.iterations) left) ∙ k.within) in
     let iterations = ap (λ x. x.iterations) done ∙ iterations_all s w here none in
-    let first = ap (λ l. pairs_with r a l) (ap (map key_view) (take_more keys i key (omega (arith, c.loop-i-test.true)) ∙ ap (λ k. take i keys ++ k ∷ []) (sym c.index-keys-i.is)) ∙ map-append key_view (take i keys) (key ∷ []))
+    let first = ap (λ l. pairs_with r a l) (ap (map key_view) (take_more keys i key (omega (arith, c.loop-i-test.true))
+    ∙ ap (λ k. take i keys ++ k ∷ []) (sym c.index-keys-i.is)) ∙ map-append key_view (take i keys) (key ∷ []))
     ∙ with_more r a (map key_view (take i keys)) (key_view key ∷ []) in
     record {
       octets = grind (arith, common_steps);
@@ -52,6 +56,7 @@ loop-i-preserved c =
       iterations = omega (arith, iterations, within_sum c.loop-i.work.iterations here parts.0);
       unwraps = omega (arith, ap (λ x. x.unwraps) done, unwraps_most s w here, at_most_one r a (key_view key), k.unwraps);
       openings = omega (arith, ap (λ x. x.openings) done, openings_most s w here, at_most_one r a (key_view key), k.openings);
-      salted = stays c.loop-i.salted.keys.items i c.index_mut-salted.result.now c.open_by_key-opened.new.salted c.index_mut-salted.ensures.value c.open_by_key-opened.ensures.same ∙ k.salted;
+      salted = stays c.loop-i.salted.keys.items i c.index_mut-salted.result.now c.open_by_key-opened.new.salted c.index_mut-salted.ensures.value
+          c.open_by_key-opened.ensures.same ∙ k.salted;
       salt = k.salt;
     }

@@ -8,7 +8,7 @@ use Rattle.tokens.specs.Decrypting.{all_pairs, pairs_of, first_opened}
 use Rattle.tokens.specs.Code.Trying.{within_after}
 use Rattle.tokens.specs.Code.Views.{sealed_with_view, work_view}
 use Rattle.tokens.specs.Code.Work.{no_work, plus, with_pairs}
-use Rattle.tokens.proofs.TriedPairs.{decided_now, few_pairs, from_none, iterations_all, iterations_most, one_recipient_first, opened_later, openings_most, tried_more, undecided, unwraps_most, within_alone, within_parts, within_sum, work_later, work_now}
+use Rattle.tokens.proofs.Decrypting.Tried.{decided_now, few_pairs, from_none, iterations_all, iterations_most, one_recipient_first, opened_later, openings_most, tried_more, undecided, unwraps_most, within_alone, within_parts, within_sum, work_later, work_now}
 use Rattle.tokens.proofs.decrypt.recipients.open_recipients.Goals as goal
 
 pub open_unless_tried-opened-requires-clause-within : goal.open_unless_tried-opened-requires-clause-within
@@ -17,7 +17,8 @@ open_unless_tried-opened-requires-clause-within c =
     let r = c.index-recipients-i.result in
     let split = one_recipient_first keys c.args.recipients.now c.loop-i.i r c.loop-i-test.true c.index-recipients-i.is in
     within_alone c.loop-i.work.iterations (pairs_of limits.management keys (recipient_view r))
-    (within_parts c.loop-i.work.iterations (pairs_of limits.management keys (recipient_view r)) _ (sym (ap (within_after c.loop-i.work.iterations) split) ∙ c.loop-i.invariant.within)).0
+    (within_parts c.loop-i.work.iterations (pairs_of limits.management keys (recipient_view r)) _
+    (sym (ap (within_after c.loop-i.work.iterations) split) ∙ c.loop-i.invariant.within)).0
 
 pub add-requires-clause-iterations : goal.add-requires-clause-iterations
 add-requires-clause-iterations c =
@@ -27,7 +28,12 @@ add-requires-clause-iterations c =
     let n = c.loop-i.work.iterations in
     let split = one_recipient_first keys c.args.recipients.now c.loop-i.i r c.loop-i-test.true c.index-recipients-i.is in
     let parts = within_parts n here _ (sym (ap (within_after n) split) ∙ c.loop-i.invariant.within) in
-    omega (arith, ap (λ x. x.iterations) c.open_unless_tried-opened.ensures.work, iterations_most (sealed_with_view c.args.sealed c.loop-i.octets) no_work here, within_sum n here parts.0)
+    omega (
+      arith,
+      ap (λ x. x.iterations) c.open_unless_tried-opened.ensures.work,
+      iterations_most (sealed_with_view c.args.sealed c.loop-i.octets) no_work here,
+      within_sum n here parts.0,
+    )
 
 pub add-requires-clause-unwraps : goal.add-requires-clause-unwraps
 add-requires-clause-unwraps c =
@@ -81,7 +87,8 @@ returns-then-is_some-clause-work c =
     let done : work_view c.open_unless_tried-opened.result.1 ≡ with_pairs s no_work here =
     c.open_unless_tried-opened.ensures.work ∙ ap (λ l. with_pairs (sealed_with_view c.args.sealed l) no_work here) c.loop-i.invariant.octets in
     c.add.ensures.sums ∙ ap (plus w) done
-    ∙ work_now s here _ _ w _ (λ n. take n c.open_unless_tried-opened.new.octets) c.open_unless_tried-opened.result.0 (sym c.is_some.ensures ∙ c.if-is_some.true)
+    ∙ work_now s here _ _ w _ (λ n. take n c.open_unless_tried-opened.new.octets) c.open_unless_tried-opened.result.0
+    (sym c.is_some.ensures ∙ c.if-is_some.true)
     (c.open_unless_tried-opened.ensures.opened ∙ ap (λ l. first_opened (sealed_with_view c.args.sealed l) here) c.loop-i.invariant.octets)
     (one_recipient_first keys c.args.recipients.now c.loop-i.i r c.loop-i-test.true c.index-recipients-i.is) c.loop-i.invariant.work
 
@@ -108,14 +115,31 @@ loop-i-preserved c =
     let iterations = ap (λ x. x.iterations) now ∙ iterations_all s w here none in
     record {
       octets = grind (arith, common_steps);
-      tried = tried_more s keys c.loop-i.tried recipients i c.open_unless_tried-opened.result.1 r c.loop-i-test.true (omega (arith, k.room, c.requires.few, c.loop-i-test.true)) c.index-recipients-i.is k.tried
+      tried = tried_more s keys c.loop-i.tried recipients i c.open_unless_tried-opened.result.1 r c.loop-i-test.true
+          (omega (arith, k.room, c.requires.few, c.loop-i-test.true)) c.index-recipients-i.is k.tried
           (record { none = none; counted = done });
       opened = sym (opened_later s here rest none) ∙ ap (first_opened s) (sym split) ∙ k.opened;
       work = ap (λ x. with_pairs s x rest) now ∙ sym (work_later s w here rest none) ∙ ap (with_pairs s w) (sym split) ∙ k.work;
       within = ap (λ m. within_after m rest) iterations ∙ parts.1;
       iterations = omega (arith, iterations, within_sum n here parts.0);
-      unwraps = omega (arith, ap (λ x. x.unwraps) now, unwraps_most s w here, few_pairs keys (recipient_view r), length-map c.args.keys.now key_view, c.requires.few_keys, k.unwraps);
-      openings = omega (arith, ap (λ x. x.openings) now, openings_most s w here, few_pairs keys (recipient_view r), length-map c.args.keys.now key_view, c.requires.few_keys, k.openings);
+      unwraps = omega (
+        arith,
+        ap (λ x. x.unwraps) now,
+        unwraps_most s w here,
+        few_pairs keys (recipient_view r),
+        length-map c.args.keys.now key_view,
+        c.requires.few_keys,
+        k.unwraps,
+      );
+      openings = omega (
+        arith,
+        ap (λ x. x.openings) now,
+        openings_most s w here,
+        few_pairs keys (recipient_view r),
+        length-map c.args.keys.now key_view,
+        c.requires.few_keys,
+        k.openings,
+      );
       salted = c.open_unless_tried-opened.ensures.salted;
       room = grind (arith, common_steps);
     }

@@ -1,7 +1,7 @@
 use Rattle.std.proofs.Common.{arith}
 use Rattle.std.proofs.lemmas.Grind.{common_steps}
 use Rattle.tokens.specs.Code.Trying.{salted_with}
-use Rattle.tokens.proofs.SaltedKeys.{one_more}
+use Rattle.tokens.proofs.Decrypting.Salted.{one_more}
 use Rattle.tokens.proofs.decrypt.salted.salt_each.Goals as goal
 
 pub loop-i-preserved : goal.loop-i-preserved

@@ -6,6 +6,7 @@ use Rattle.tokens.proofs.encrypt.deliver.drawn_for_all.Given as goal
 -- the number of octets so far and that of the recipients that are left are the whole number
 abbrev pub invariant-loop-recipient_key : goal.invariant-loop-recipient_key
 invariant-loop-recipient_key l = record {
-  count : l.count + drawn_for_all (map recipient_key_view (drop l.recipient_key-index l.recipient_keys)) ≡ drawn_for_all (map recipient_key_view l.recipient_keys);
+  count : l.count + drawn_for_all (map recipient_key_view (drop l.recipient_key-index l.recipient_keys))
+      ≡ drawn_for_all (map recipient_key_view l.recipient_keys);
   bound : l.count ≤ 16 * l.recipient_key-index;
 }

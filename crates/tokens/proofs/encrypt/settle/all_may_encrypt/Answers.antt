@@ -8,5 +8,6 @@ use Rattle.tokens.proofs.encrypt.settle.all_may_encrypt.Goals as goal
 
 pub returns : goal.returns
 returns c =
-    all_from_yields_List (λ r. may_encrypt c.args.encryption (recipient_key_view r)) _ _ _ c.all.ensures.ran (YieldsList-from_slice c.args.recipient_keys.now cc) (λ x b q k. search (rules, tests))
+    all_from_yields_List (λ r. may_encrypt c.args.encryption (recipient_key_view r)) _ _ _ c.all.ensures.ran
+    (YieldsList-from_slice c.args.recipient_keys.now cc) (λ x b q k. search (rules, tests))
     ∙ sym (list_all-map (may_encrypt c.args.encryption) recipient_key_view c.args.recipient_keys.now)

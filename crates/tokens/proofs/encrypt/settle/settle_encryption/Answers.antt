@@ -1,5 +1,5 @@
 use Rattle.std.proofs.Common.{◌≡◌, true}
-use Rattle.tokens.proofs.RecipientKeys.{held, all_fit, all_counted, all_stand_together}
+use Rattle.tokens.proofs.Encrypting.RecipientKeys.{held, all_fit, all_counted, all_stand_together}
 use Rattle.tokens.proofs.encrypt.settle.settle_encryption.Goals as goal
 
 pub invariant_of-result-clause-fit : goal.invariant_of-result-clause-fit

@@ -6,7 +6,7 @@ use Rattle.objects.specs.Code.Views.{signature_view}
 use Rattle.tokens.specs.Code.SigningInputs.{HoldEach}
 use Rattle.tokens.specs.Code.Heads.{pointed_views}
 use Rattle.tokens.specs.Code.VerifyingInputs.{starts_for_keys}
-use Rattle.tokens.proofs.VerifyingInputs.{have_signed}
+use Rattle.tokens.proofs.Verifying.Detached.{have_signed}
 use Rattle.tokens.proofs.verify.detached.are_signed.Given as goal
 
 -- the keys that are left decide the result, and their inputs are left

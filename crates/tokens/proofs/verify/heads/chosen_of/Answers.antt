@@ -2,7 +2,7 @@ use Rattle.std.proofs.Common.{◌≡◌, ◌+◌, ◌∷◌, ◌++◌, [], true,
 use Rattle.std.proofs.lemmas.List.{map-append}
 use Rattle.objects.specs.Code.Views.{signature_view}
 use Rattle.tokens.specs.Code.Heads.{is_covered, covers}
-use Rattle.tokens.proofs.Heads.{covers_one_more, covers_by_one_more}
+use Rattle.tokens.proofs.Verifying.Heads.{covers_one_more, covers_by_one_more}
 use Rattle.tokens.proofs.verify.heads.chosen_of.Goals as goal
 use Rattle.tokens.proofs.verify.heads.chosen_of.Goals.{then-not-is_covered, else-not-is_covered}
 

@@ -5,7 +5,7 @@ use Rattle.std.specs.List.{list_any}
 use Rattle.std.specs.Prelude.{◌||◌}
 use Rattle.objects.specs.Code.Views.{signature_view}
 use Rattle.tokens.specs.Code.Heads.{has_signature_len, is_alike, pointed_views}
-use Rattle.tokens.proofs.Heads.{list_any_pointed}
+use Rattle.tokens.proofs.Verifying.Heads.{list_any_pointed}
 use Rattle.tokens.proofs.verify.heads.is_covered.Goals as goal
 
 pub returns-else-not-has_signature_len : goal.returns-else-not-has_signature_len

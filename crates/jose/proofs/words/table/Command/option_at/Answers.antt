@@ -9,4 +9,5 @@ pub returns : goal.returns
 returns c =
     let options = c.options.result.now in
     found_mapped (λ entry. entry.letter == c.args.letter) option_entry options _ c.find.result c.options.ensures
-    (find_from_yields_List (λ row. row.0 == c.args.letter) _ _ c.find.result c.find.ensures.ran (YieldsList-from_slice options cc) (λ x b q k. search (rules, tests)))
+    (find_from_yields_List (λ row. row.0 == c.args.letter) _ _ c.find.result c.find.ensures.ran (YieldsList-from_slice options cc)
+    (λ x b q k. search (rules, tests)))

@@ -10,4 +10,5 @@ pub returns : goal.returns
 returns c =
     let options = c.options.result.now in
     found_mapped (λ entry. same_role entry.role c.args.role) option_entry options _ c.find.result c.options.ensures
-    (find_from_yields_List (λ row. same_role row.3 c.args.role) _ _ c.find.result c.find.ensures.ran (YieldsList-from_slice options cc) (λ x b q k. search (rules, tests)))
+    (find_from_yields_List (λ row. same_role row.3 c.args.role) _ _ c.find.result c.find.ensures.ran (YieldsList-from_slice options cc)
+    (λ x b q k. search (rules, tests)))

@@ -1,4 +1,4 @@
-use Rattle.tokens.proofs.SaltedKeys.{salted_again}
+use Rattle.tokens.proofs.Decrypting.Salted.{salted_again}
 use Rattle.tokens.proofs.decrypt.salted.SaltedKeys.salt.Goals as goal
 
 pub returns-clause-salted : goal.returns-clause-salted

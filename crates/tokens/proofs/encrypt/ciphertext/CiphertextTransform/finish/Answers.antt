@@ -1,4 +1,4 @@
-use Rattle.tokens.proofs.SealedPlans.{octets_end}
+use Rattle.tokens.proofs.Encrypting.Sealing.{octets_end}
 use Rattle.tokens.proofs.encrypt.ciphertext.CiphertextTransform.finish.Goals as goal
 
 pub returns-clause-text : goal.returns-clause-text
