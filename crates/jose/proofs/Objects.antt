@@ -3,8 +3,7 @@ use Rattle.std.proofs.Common.{◌≡◌, ℕ, List, [], Bool, true, false, not, 
 use Rattle.std.specs.Result.{result_unwrap_or}
 use Rattle.octets.specs.declared.refusal.Refusal.{Refusal}
 use Rattle.octets.specs.Devices.{Observed}
-use Rattle.octets.specs.Outcomes.{◌>>=◌}
-use Rattle.octets.specs.Plan.{OutputTexts, nothing, plan_from, planned, begun, by_text, without_random, without_content, drawn_of}
+use Rattle.octets.specs.Plan.{OutputTexts, nothing, plan_from, planned, begun, by_text, without_content, drawn_of}
 use Rattle.objects.specs.Texts.{handed_in}
 use Rattle.jose.specs.Code.Steps.{formed}
 use Rattle.jose.specs.Meanings.{of_object}

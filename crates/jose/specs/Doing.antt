@@ -7,7 +7,7 @@ use Rattle.octets.specs.Faults.{TellsFaults}
 use Rattle.jose.specs.declared.ports.Inputs.{Inputs}
 use Rattle.jose.specs.declared.ports.Outputs.{Outputs}
 use Rattle.jose.specs.Invocations.{InvocationView}
-use Rattle.jose.specs.Ports.{ObservedInputs, AppendPrefixesOf, seen_of, written_texts, input_counts, output_counts}
+use Rattle.jose.specs.Ports.{AppendPrefixesOf, seen_of, written_texts, input_counts, output_counts}
 use Rattle.jose.specs.Answer.{Answers, DrawsAll, DrawsNoMore, AreFinished, AreUnfinished, AreUntouched, AreUncut, AreUnread, AreKeptUp, IsContentFirst, AreInOrder, ReadsFirst, DrawsFirst, TakesMemoryFirst, RefusesFirst, HoldsBack, beginning as beginning_of}
 
 -- ---- a run (docs/SPECIFICATION.md "Commands" and "Refusals")

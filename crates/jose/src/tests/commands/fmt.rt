@@ -84,6 +84,35 @@ const FORMATTED: &[(&[&str], &str, Answer<'_>)] = &[
         "eyJhbGciOiJIUzI1NiJ9.YWJj",
         Answer::Refusal(Refusal::Form),
     ),
+    // The protected header without members is kept as it was received.
+    (
+        &FORMAT_JWS,
+        "{\"header\":{\"alg\":\"x\"},\"payload\":\"\",\"protected\":\"e30\",\"signature\":\"\"}",
+        Answer::Text(
+            "{\"header\":{\"alg\":\"x\"},\"payload\":\"\",\"protected\":\"e30\",\"signature\":\"\"}",
+        ),
+    ),
+    // A header that is no object, and a `crit` or a `zip` of any value, in a shared header or in that of the second recipient.
+    (
+        &FORMAT_JWS,
+        "{\"header\":null,\"payload\":\"YWJj\",\"protected\":\"eyJhbGciOiJIUzI1NiJ9\",\"signature\":\"\"}",
+        Answer::Refusal(Refusal::Form),
+    ),
+    (
+        &FORMAT_JWE,
+        "{\"ciphertext\":\"\",\"unprotected\":{\"alg\":\"x\",\"enc\":\"y\",\"crit\":1}}",
+        Answer::Refusal(Refusal::Unsupported),
+    ),
+    (
+        &FORMAT_JWE,
+        "{\"ciphertext\":\"\",\"unprotected\":{\"alg\":\"x\",\"enc\":\"y\",\"zip\":null}}",
+        Answer::Refusal(Refusal::Unsupported),
+    ),
+    (
+        &FORMAT_JWE,
+        "{\"ciphertext\":\"\",\"unprotected\":{\"alg\":\"x\",\"enc\":\"y\"},\"recipients\":[{},{\"header\":{\"crit\":[]}}]}",
+        Answer::Refusal(Refusal::Unsupported),
+    ),
     // An algorithm that derives a key from a password: without parameters, with them, and with a short salt or no iterations.
     (
         &FORMAT_JWS,
@@ -105,6 +134,12 @@ const FORMATTED: &[(&[&str], &str, Answer<'_>)] = &[
     (
         &FORMAT_JWS,
         "{\"payload\":\"YWJj\",\"signature\":\"\",\"header\":{\"alg\":\"PBES2-HS256+A128KW\",\"p2s\":\"AAECAwQFBgc\",\"p2c\":0}}",
+        Answer::Refusal(Refusal::Header),
+    ),
+    // A salt that is no base64url text.
+    (
+        &FORMAT_JWS,
+        "{\"payload\":\"YWJj\",\"signature\":\"\",\"header\":{\"alg\":\"PBES2-HS256+A128KW\",\"p2s\":\"AAECAwQFBgcIC\",\"p2c\":1}}",
         Answer::Refusal(Refusal::Header),
     ),
     // An algorithm that wraps a key in GCM, in a signature.

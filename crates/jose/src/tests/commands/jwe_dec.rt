@@ -132,6 +132,33 @@ fn what_does_not_open_is_refused(rt: HostRuntime) -> Result<(), Fail> {
     Ok(())
 }
 
+/// An object of which two keys open one ciphertext, with different content encryption keys. The first key is that of the second recipient.
+const OPENED_BY_TWO: &str =
+    "{\"ciphertext\":\"AAAAAAAAAAAAAAAAAAAAAMVIsqZ5hX7v3iyYLqHqxuY\",\"iv\":\"AAAAAAAAAAAAAAAA\",\"protected\":\"eyJhbGciOiJBMTI4S1ciLCJlbmMiOiJBMTI4R0NNIn0\",\"recipients\":[{\"encrypted_key\":\"tYwpgidngSzvdfIm3DN9Ii4Zbi1OCvyK\"},{\"encrypted_key\":\"L-jhO87WNKSeZYrF7GlC1YU5ZGqhd9CS\"}],\"tag\":\"Pu8knYtBLLiWhZD_XHn8cQ\"}";
+
+/// The plaintexts of the first and of the second recipient (Python's `cryptography`).
+const OF_FIRST: &[u8] =
+    b"\x49\xd6\x87\x53\x99\x9b\xa6\x8c\xe3\x89\x7a\x68\x60\x81\xb0\x9d\x7c\xe5\x99\x88\x4d\xef\xbc\xd7\x8e\x71\xae\x70\x3d\x5d\x3a\xb0";
+
+const OF_SECOND: &[u8] =
+    b"\x11\x13\x64\xb3\x18\x1d\xd1\xfc\x89\x45\x70\x8c\x2d\xbb\x68\xf4\x77\x46\x51\xb4\xa5\x93\x92\xfa\xa0\x24\xbe\x02\xff\x55\xdb\xb1";
+
+#[test]
+fn the_first_recipient_that_opens_decides(rt: HostRuntime) -> Result<(), Fail> {
+    decrypts(
+        &rt,
+        OPENED_BY_TWO,
+        "{\"keys\":[{\"k\":\"ICEiIyQlJicoKSorLC0uLw\",\"kty\":\"oct\"},{\"k\":\"MDEyMzQ1Njc4OTo7PD0-Pw\",\"kty\":\"oct\"}]}",
+        Answer::Content(OF_FIRST),
+    )?;
+    decrypts(
+        &rt,
+        OPENED_BY_TWO,
+        "{\"k\":\"ICEiIyQlJicoKSorLC0uLw\",\"kty\":\"oct\"}",
+        Answer::Content(OF_SECOND),
+    )
+}
+
 /// An object with this many recipients before the last, which is that of RFC 7516 appendix A.4, has this answer.
 fn decrypts_for_last_of<R: Abort + AllocGlobal + Print>(
     rt: &R,

@@ -36,6 +36,31 @@ const TEMPLATES: &[(&str, Answer<'_>)] = &[
             "{\"alg\":\"A128KW\",\"k\":\"AAECAwQFBgcICQoLDA0ODw\",\"kty\":\"oct\",\"use\":\"enc\"}",
         ),
     ),
+    // A `kty` and `key_ops` of the template are kept.
+    (
+        "{\"kty\":\"oct\",\"bytes\":1}",
+        Answer::Text("{\"k\":\"AA\",\"kty\":\"oct\"}"),
+    ),
+    (
+        "{\"alg\":\"A128KW\",\"key_ops\":[\"wrapKey\"]}",
+        Answer::Text(
+            "{\"alg\":\"A128KW\",\"k\":\"AAECAwQFBgcICQoLDA0ODw\",\"key_ops\":[\"wrapKey\"],\"kty\":\"oct\"}",
+        ),
+    ),
+    // A content encryption algorithm has a usual length and operations.
+    (
+        "{\"alg\":\"A128GCM\"}",
+        Answer::Text(
+            "{\"alg\":\"A128GCM\",\"k\":\"AAECAwQFBgcICQoLDA0ODw\",\"key_ops\":[\"encrypt\",\"decrypt\"],\"kty\":\"oct\"}",
+        ),
+    ),
+    // 63 lists in one another, so the key is 64 deep.
+    (
+        "{\"bytes\":1,\"x\":[[[[[[[[[[[[[[[[[[[[[[[[[[[[[[[[[[[[[[[[[[[[[[[[[[[[[[[[[[[[[[[]]]]]]]]]]]]]]]]]]]]]]]]]]]]]]]]]]]]]]]]]]]]]]]]]]]]]]]]]]]]]]]}",
+        Answer::Text(
+            "{\"k\":\"AA\",\"kty\":\"oct\",\"x\":[[[[[[[[[[[[[[[[[[[[[[[[[[[[[[[[[[[[[[[[[[[[[[[[[[[[[[[[[[[[[[[]]]]]]]]]]]]]]]]]]]]]]]]]]]]]]]]]]]]]]]]]]]]]]]]]]]]]]]]]]]]]]]}",
+        ),
+    ),
 ];
 
 #[test]
@@ -47,11 +72,17 @@ fn a_key_is_made_by_its_template(rt: HostRuntime) -> Result<(), Fail> {
 const OTHER_TEMPLATES: &[(&str, Answer<'_>)] = &[
     // Too few random octets, and no size.
     ("{\"bytes\":17}", Answer::Refusal(Refusal::Random)),
+    ("{\"bytes\":4096}", Answer::Refusal(Refusal::Random)),
+    ("{\"alg\":\"HS256\"}", Answer::Refusal(Refusal::Random)),
     ("{}", Answer::Refusal(Refusal::NoAlgorithm)),
     ("{\"alg\":\"dir\"}", Answer::Refusal(Refusal::NoAlgorithm)),
     // Sizes that do not fit, an unknown algorithm, and too many octets.
     (
         "{\"alg\":\"HS256\",\"bytes\":16}",
+        Answer::Refusal(Refusal::KeyDoesNotFit),
+    ),
+    (
+        "{\"alg\":\"A128GCM\",\"bytes\":17}",
         Answer::Refusal(Refusal::KeyDoesNotFit),
     ),
     ("{\"alg\":\"RS256\"}", Answer::Refusal(Refusal::Unsupported)),

@@ -40,8 +40,26 @@ const KEYS: &[(&str, Answer<'_>)] = &[
         "{\"kty\":\"oct\",\"k\":\"AAECAwQFBgcICQoLDA0ODxAREhMUFRYXGBkaGxwdHh8gISIjJCUmJygpKissLS4vMDEyMzQ1Njc4OTo7PD0-P0A\"}",
         Answer::Text("RK2CO6hMp7UbHMs_vLAiRM19XcD_Dl9e4Vj5duqYuIM"),
     ),
+    // 63 objects and a key of one octet (Python's `hashlib`).
+    (
+        "{\"keys\":[{},{},{},{},{},{},{},{},{},{},{},{},{},{},{},{},{},{},{},{},{},{},{},{},{},{},{},{},{},{},{},{},{},{},{},{},{},{},{},{},{},{},{},{},{},{},{},{},{},{},{},{},{},{},{},{},{},{},{},{},{},{},{},{\"kty\":\"oct\",\"k\":\"AQ\"}]}",
+        Answer::Text("6M5dhswegk-lGkEckPG0gNJzBbZr7ST3BN40i1Cm3_E"),
+    ),
     ("{\"keys\":[]}", Answer::Refusal(Refusal::Key)),
     (MANY, Answer::Refusal(Refusal::Limit)),
+    // A list with another value than objects, a `kid` that is no string, and a number with a fraction in a list.
+    (
+        "{\"keys\":[{\"kty\":\"oct\",\"k\":\"AQ\"},1]}",
+        Answer::Refusal(Refusal::Key),
+    ),
+    (
+        "{\"kty\":\"oct\",\"k\":\"AQ\",\"kid\":[]}",
+        Answer::Refusal(Refusal::Key),
+    ),
+    (
+        "{\"kty\":\"oct\",\"k\":\"AQ\",\"x\":[1,1.5]}",
+        Answer::Refusal(Refusal::Number),
+    ),
 ];
 
 #[test]
