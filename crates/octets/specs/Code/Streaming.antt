@@ -59,8 +59,8 @@ pub record Streams {D E : Type 0} (input : InputMembers D) (output : OutputMembe
       → (DidNotFail refusal (counts output.failures before after) → after ≡ before) × IfLent content_out (λ was is. refusal ≢ Write → is ≡ was))
 
 -- What a call promises of a random input: it draws what the draft says, no more than that before a refusal, and nothing if the draft is
--- refused. A plan needs all that is drawn. So a call that promises `Streams` too, and has read of its content or written, has drawn exactly
--- as many octets as the draft says.
+-- refused. A plan needs all that is drawn. So it follows for a call that promises `Streams` for every possible random input: if it has read
+-- of its content or written, it has drawn exactly as many octets as the draft says.
 pub record Draws {D : Type 0} (input : InputMembers D) (draft : Result (Draft OutputTexts) Refusal) (old new : D)
     (result : Result (Unit {0}) Refusal) : Type 0 where
   pub drawn : OnOk result (length (read_of input old new) ≡ drawn_of draft)
