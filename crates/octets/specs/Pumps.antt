@@ -5,6 +5,7 @@ use Rattle.std.specs.Prelude.{◌≤◌, ℕ, ◌+◌, ◌-◌, List, length, ta
 abbrev pub most_behind : ℕ
 most_behind = 4160
 
--- The written text is at least as long as that fixed by the octets read except the last `most_behind`. See docs/SPECIFICATION.md "Commands".
+-- The written text is at least as long as that fixed by the octets read except the last `most_behind`. See
+-- docs/SPECIFICATION.md "Commands".
 abbrev pub KeepsUp : (List ℕ → List ℕ) → List ℕ → List ℕ → List ℕ → Type 0
 KeepsUp fixed read old new = length old + length (fixed (take (length read - most_behind) read)) ≤ length new

@@ -1,5 +1,5 @@
--- The first octet string that passes a test, when all up to a length are tried. By it the inverse of a definition is a function. No
--- code computes so.
+-- The first octet string that passes a test, when all up to a length are tried. By it the inverse of a definition is a function. No code
+-- computes so.
 use Rattle.std.specs.Prelude.{◌≡◌, ℕ, zero, suc, ◌≤◌, Bool, true, false, List, [], ◌∷◌, length, if◌then◌else◌, Option, Some, None, option_map}
 use Rattle.std.specs.Option.{option_or}
 use Rattle.octets.specs.Octets.{IsOctets}

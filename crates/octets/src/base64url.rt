@@ -18,8 +18,7 @@ pub fn b64_encode(alloc: Global, octets: &[u8]) -> Result<String, Refusal>
     Ok(BASE64URL.encode(alloc, octets)?)
 }
 
-/// Appends the base64url text of the octets to a text. Fails only with `Memory`, and then the text is
-/// unchanged.
+/// Appends the base64url text of the octets to a text. Fails only with `Memory`, and then the text is unchanged.
 #[tactic(auto, unfolding(crate::specs::Base64url::base64url))]
 pub fn b64_append(text: &mut String, octets: &[u8]) -> Result<(), Refusal>
     ensures text { OnOk result (string_bytes text.new ≡ string_bytes text.old ++ base64url octets.now) }
@@ -29,8 +28,8 @@ pub fn b64_append(text: &mut String, octets: &[u8]) -> Result<(), Refusal>
     Ok(BASE64URL.encode_string(octets, text)?)
 }
 
-/// The octets of a base64url text. Each octet string has one text: padding, white space, characters
-/// outside the alphabet and trailing bits that are not zero are refused with `Base64`.
+/// The octets of a base64url text. Each octet string has one text: padding, white space, characters outside the alphabet and trailing bits
+/// that are not zero are refused with `Base64`.
 #[tactic(auto, unfolding(crate::specs::Base64url::base64url, crate::specs::Base64url::decoded))]
 pub fn b64_decode(alloc: Global, text: &[u8]) -> Result<Vec<u8>, Refusal>
     ensures exact { AgreesUnlessMemory (λ octets. octets.items) result (decoded text.now) }

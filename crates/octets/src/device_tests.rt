@@ -113,10 +113,10 @@ fn expect_reading<R: Read>(
     answer: Result<usize, Fault>,
     kind: ErrorKind,
 ) {
-    let mut place = [0u8; 8];
+    let mut place = *b"........";
     expect_same(rt, input.read(&mut place), answer, kind);
     if answer.is_ok() {
-        expect_octets(rt, &place, b"abc\0\0\0\0\0");
+        expect_octets(rt, &place, b"abc.....");
     }
 }
 

@@ -1,6 +1,7 @@
 //! Inputs and outputs. Each device counts its failures, and each output how often it was finished, up to 2^64 - 1.
-ghost use Rattle.std.specs.Prelude.{◌≡◌, ℕ, ◌<◌, ◌≤◌, Bool, false, List, ◌++◌, Option, Some, length, take, IfOk, IfErr, OnOk, OnErr, Ok, MatchResult, IsTrue};
+ghost use Rattle.std.specs.Prelude.{◌≡◌, ℕ, ◌<◌, ◌≤◌, Bool, false, List, ◌++◌, Option, Some, length, take, IfOk, IfErr, OnOk, OnErr, Ok, IsTrue};
 ghost use Rattle.std.specs.Iterator.{Count};
+ghost use Rattle.std.specs.Result.{result_unwrap_or};
 ghost use Rattle.octets.specs.Devices.{next_count, ComesNearer, IsFinishedOnce, IsPossibleInput};
 ghost use Rattle.octets.specs.Octets.{IsOctets};
 
@@ -23,8 +24,8 @@ pub trait Input {
     /// All its octets, if they are known.
     ghost source: { Self → Option (List ℕ) };
 
-    /// Reads octets into the front of `buf` and returns how many. If `buf` has room, 0 is the end. A read that fails
-    /// finds no end, and may leave anything in `buf`. A read without room does nothing.
+    /// Reads octets into the front of `buf` and returns how many. If `buf` has room, 0 is the end. A read that fails finds no end, and may
+    /// leave anything in `buf`. A read without room does nothing.
     fn read(&mut self, buf: &mut [u8]) -> Result<usize, Fault>
         ensures octets { IfOk result (λ n. (n ≤ length buf.old)
             × (consumed self.new ≡ consumed self.old ++ take n buf.new)) }
@@ -32,9 +33,7 @@ pub trait Input {
         ensures end { result ≡ Ok 0 → 0 < length buf.old → IsTrue (is_at_end self.new) }
         ensures stays_at_end { IsTrue (is_at_end self.old)
             → IsTrue (is_at_end self.new) × (consumed self.new ≡ consumed self.old) }
-        ensures nearer { MatchResult result
-            (λ n. ComesNearer (remaining self.old) (remaining self.new) n)
-            (λ _. ComesNearer (remaining self.old) (remaining self.new) 0) }
+        ensures nearer { ComesNearer (remaining self.old) (remaining self.new) (result_unwrap_or result 0) }
         ensures same_source { source self.new ≡ source self.old }
         ensures works { OnOk result (failures self.new ≡ failures self.old) }
         ensures fails { IfErr result (λ e. (e ≡ Fault.Reading)
@@ -64,8 +63,7 @@ pub trait Output {
     /// How often it has failed.
     ghost failures: { Self → ℕ };
 
-    /// Writes octets from the front of `octets` and returns how many: at least one, if there are any.
-    /// A write of nothing does nothing.
+    /// Writes octets from the front of `octets` and returns how many: at least one, if there are any. A write of nothing does nothing.
     fn write(&mut self, octets: &[u8]) -> Result<usize, Fault>
         ensures octets { IfOk result (λ n. (n ≤ length octets.now)
             × (written self.new ≡ written self.old ++ take n octets.now)) }

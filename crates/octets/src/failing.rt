@@ -1,8 +1,9 @@
 //! Devices over memory that fail, to test what a call leaves behind when one of its devices fails.
 ghost use Rattle.std.specs.Prelude.{◌≡◌, ◌↔◌, ◌+◌, ◌<◌, ◌≤◌, [], ◌++◌, length, take, drop, min, true, false, IfOk, IfErr, IsOk, OnOk, OnErr, Ok, Err, MatchResult, IsTrue};
+ghost use Rattle.std.specs.Result.{result_unwrap_or};
 ghost use Rattle.octets.specs.Devices.{next_count, ComesNearer, IsFinishedOnce};
-ghost use Rattle.octets.specs.Code.Failing.{is_due, room_for, uncalled, fails_next, after_call, after_failure};
-ghost use Rattle.octets.specs.Code.Views.{front_of, is_read, rest_of, read_count, write_count};
+ghost use Rattle.octets.specs.Code.Failing.{is_due, room_for, uncalled, fails_next, after_failure, after_result};
+ghost use Rattle.octets.specs.Code.Views.{front_of, moved_by};
 
 use crate::devices::count_one;
 use crate::{Fault, Input, MemoryInput, MemoryOutput, Output, Refusal};
@@ -80,7 +81,7 @@ impl<'a> FailingInput<'a> {
 }
 
 impl<'a> Input for FailingInput<'a> {
-    ghost use Rattle.octets.specs.Code.FailingDevices.{input_contents, input_consumed, input_is_at_end, input_remaining, input_failures, input_source, input_course};
+    ghost use Rattle.octets.specs.Code.FailingDevices.{input_contents, input_consumed, input_is_at_end, input_remaining, input_failures, input_source, input_course, input_count};
     ghost use Rattle.octets.specs.Code.Views.{source_is_given};
 
     ghost consumed = { input_consumed };
@@ -99,15 +100,11 @@ impl<'a> Input for FailingInput<'a> {
 
     fn read(&mut self, buf: &mut [u8]) -> Result<usize, Fault>
         ensures due { 0 < length buf.old → (fails_next (input_course self.old) ≡ true) ↔ (result ≡ Err Fault.Reading) }
-        ensures count { IfOk result (λ n. n ≡ read_count (input_contents self.old)
-            (room_for (input_course self.old).failing (input_course self.old).passed (length buf.old))) }
-        ensures moves { 0 < length buf.old → IfOk result (λ n. input_contents self.new
-            ≡ record (input_contents self.old) { position = (input_contents self.old).position + n }) }
+        ensures count { IfOk result (λ n. n ≡ input_count self.old (length buf.old)) }
+        ensures moves { 0 < length buf.old → IfOk result (λ n. input_contents self.new ≡ moved_by n (input_contents self.old)) }
         ensures rest { MatchResult result (λ n. drop n buf.new ≡ drop n buf.old)
             (λ _. (buf.new ≡ buf.old) × (input_contents self.new ≡ input_contents self.old)) }
-        ensures course { 0 < length buf.old → MatchResult result
-            (λ n. input_course self.new ≡ after_call n (input_course self.old))
-            (λ _. input_course self.new ≡ after_failure (input_course self.old)) }
+        ensures course { 0 < length buf.old → input_course self.new ≡ after_result result (input_course self.old) }
 
         // What the trait says.
         ensures octets { IfOk result (λ n. (n ≤ length buf.old)
@@ -116,9 +113,7 @@ impl<'a> Input for FailingInput<'a> {
         ensures end { result ≡ Ok 0 → 0 < length buf.old → IsTrue (input_is_at_end self.new) }
         ensures stays_at_end { IsTrue (input_is_at_end self.old)
             → IsTrue (input_is_at_end self.new) × (input_consumed self.new ≡ input_consumed self.old) }
-        ensures nearer { MatchResult result
-            (λ n. ComesNearer (input_remaining self.old) (input_remaining self.new) n)
-            (λ _. ComesNearer (input_remaining self.old) (input_remaining self.new) 0) }
+        ensures nearer { ComesNearer (input_remaining self.old) (input_remaining self.new) (result_unwrap_or result 0) }
         ensures same_source { input_source self.new ≡ input_source self.old }
         ensures works { OnOk result (input_failures self.new ≡ input_failures self.old) }
         ensures fails { IfErr result (λ e. (e ≡ Fault.Reading)
@@ -220,7 +215,7 @@ impl FailingOutput {
 }
 
 impl Output for FailingOutput {
-    ghost use Rattle.octets.specs.Code.FailingDevices.{output_store, output_written, output_is_finished, output_endings, output_failures, output_course, output_room, output_step};
+    ghost use Rattle.octets.specs.Code.FailingDevices.{output_store, output_written, output_is_finished, output_endings, output_failures, output_course, output_room, output_step, output_count};
 
     ghost written = { output_written };
 
@@ -233,11 +228,8 @@ impl Output for FailingOutput {
     fn write(&mut self, octets: &[u8]) -> Result<usize, Fault>
         ensures due { 0 < length octets.now → fails_next (output_course self.old) ≡ true → result ≡ Err Fault.Writing }
         ensures succeeds { fails_next (output_course self.old) ≡ false → length (output_written self.old) < output_room self.old → IsOk result }
-        ensures count { IfOk result (λ n. n ≡ write_count (output_store self.old)
-            (room_for (output_course self.old).failing (output_course self.old).passed (min (length octets.now) (output_step self.old)))) }
-        ensures course { 0 < length octets.now → MatchResult result
-            (λ n. output_course self.new ≡ after_call n (output_course self.old))
-            (λ _. output_course self.new ≡ after_failure (output_course self.old)) }
+        ensures count { IfOk result (λ n. n ≡ output_count self.old (length octets.now)) }
+        ensures course { 0 < length octets.now → output_course self.new ≡ after_result result (output_course self.old) }
         ensures same { (output_room self.new ≡ output_room self.old) × (output_step self.new ≡ output_step self.old) }
 
         // What the trait says.

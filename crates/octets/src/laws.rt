@@ -6,8 +6,7 @@ ghost use Rattle.octets.specs.Octets.{IsOctets};
 ghost use Rattle.octets.specs.Plan.{Grows};
 ghost use Rattle.octets.specs.Search.{FindsOctets};
 
-/// A slice of octets holds octets. Callers need this of a buffer that a call has filled, since
-/// contracts do not say so.
+/// A slice of octets holds octets. Callers need this of a buffer that a call has filled, since contracts do not say so.
 pub fn are_octets(octets: &[u8])
     ensures { IsOctets octets.now }
 {}
@@ -17,8 +16,7 @@ pub fn base64url_texts_are_distinct()
     ensures { TextsAreDistinct }
 {}
 
-/// A text decodes to octets exactly if it is their base64url text. Every other text is refused with
-/// `Base64`.
+/// A text decodes to octets exactly if it is their base64url text. Every other text is refused with `Base64`.
 pub fn base64url_decodes_exactly()
     ensures { DecodesExactly }
 {}
@@ -28,8 +26,8 @@ pub fn base64url_decodes_to_octets()
     ensures { (text octets : List ℕ) → IsOctets text → decoded text ≡ Ok octets → IsOctets octets }
 {}
 
-/// A base64url text is the characters of the octets' groups of six bits, in order, in the URL and
-/// filename safe alphabet (RFC 4648 section 5).
+/// A base64url text is the characters of the octets' groups of six bits, in order, in the URL and filename safe alphabet (RFC 4648 section
+/// 5).
 pub fn base64url_spells_six_bits()
     ensures { SpellsSixBits }
 {}

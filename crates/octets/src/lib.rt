@@ -1,7 +1,7 @@
 //! Octet devices, base64url, line ends and the refusals of all commands.
 //!
-//! Octets are read from an `Input` and written to an `Output`, over memory or over std's readers and writers.
-//! A call that fails returns a `Refusal`.
+//! Octets are read from an `Input` and written to an `Output`, over memory or over std's readers and writers. A call that fails returns a
+//! `Refusal`.
 //!
 //! ```rust
 //! let mut input = MemoryInput::new(b"hello", 2);

@@ -1,5 +1,6 @@
 //! Devices over memory.
 ghost use Rattle.std.specs.Prelude.{◌≡◌, ℕ, ◌↔◌, ◌+◌, ◌<◌, ◌≤◌, [], ◌++◌, length, take, drop, IfOk, IfErr, IsOk, IsErr, IsTrue, OnOk, OnErr, Ok, MatchResult, true, false};
+ghost use Rattle.std.specs.Result.{result_unwrap_or};
 ghost use Rattle.octets.specs.Devices.{next_count, ComesNearer, IsFinishedOnce};
 ghost use Rattle.octets.specs.Octets.{IsOctets};
 ghost use Rattle.octets.specs.Code.Views.{front_of, is_read, rest_of, failures_of, source_of, source_is_given, read_count, write_count};
@@ -75,9 +76,7 @@ impl<'a> Input for MemoryInput<'a> {
         ensures end { result ≡ Ok 0 → 0 < length buf.old → IsTrue (is_read self.new) }
         ensures stays_at_end { IsTrue (is_read self.old)
             → IsTrue (is_read self.new) × (front_of self.new ≡ front_of self.old) }
-        ensures nearer { MatchResult result
-            (λ n. ComesNearer (rest_of self.old) (rest_of self.new) n)
-            (λ _. ComesNearer (rest_of self.old) (rest_of self.new) 0) }
+        ensures nearer { ComesNearer (rest_of self.old) (rest_of self.new) (result_unwrap_or result 0) }
         ensures same_source { source_of self.new ≡ source_of self.old }
         ensures works { OnOk result (failures_of self.new ≡ failures_of self.old) }
         ensures fails { IfErr result (λ e. (e ≡ Fault.Reading)

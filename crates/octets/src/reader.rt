@@ -10,8 +10,8 @@ use crate::{Refusal, without_line_end};
 use base64::engine::general_purpose::URL_SAFE_NO_PAD as BASE64URL;
 use std::marker::Model;
 
-/// Decodes a base64url text that comes in pieces and may end in a line end. It holds, and contracts see, the at most
-/// five characters that are not in a whole group of four with two characters after it.
+/// Decodes a base64url text that comes in pieces and may end in a line end. It holds, and contracts see, the at most five characters that
+/// are not in a whole group of four with two characters after it.
 #[derive(Drop)]
 pub struct B64Reader {
     waiting: [u8; 5],
@@ -80,8 +80,8 @@ impl Transform for B64Reader {
     }
 }
 
-/// Decodes the text into the front of `out` and returns the number of octets. Refuses with `Base64`.
-/// After three octets for each four characters, or part of four, `out` is unchanged.
+/// Decodes the text into the front of `out` and returns the number of octets. Refuses with `Base64`. After three octets for each four
+/// characters, or part of four, `out` is unchanged.
 #[tactic(auto, unfolding(crate::specs::Base64url::decoded))]
 pub(crate) fn decode_onto(text: &[u8], out: &mut [u8]) -> Result<usize, Refusal>
     requires { (length text.now + 3) / 4 * 3 ≤ length out.old }

@@ -4,6 +4,7 @@ ghost use Rattle.std.specs.Iterator.{at_most};
 ghost use Rattle.std.specs.Io.KnownBytes.{Consumes, Appends, Keeps, IsAtEnd, ReadConsumes, WriteAppends};
 ghost use Rattle.std.specs.Io.{ReadsAtMost, WritesAtMost};
 ghost use Rattle.std.specs.IoError.{error_kind};
+ghost use Rattle.std.specs.Result.{result_unwrap_or};
 ghost use Rattle.octets.specs.Devices.{next_count, ComesNearer, IsFinishedOnce};
 ghost use Rattle.octets.specs.Code.Streams.{most_octets};
 ghost use Rattle.octets.specs.Octets.{IsOctets};
@@ -85,9 +86,7 @@ impl<R: Read> Input for ReaderInput<R> {
         ensures end { result ≡ Ok 0 → 0 < length buf.old → IsTrue (is_at_end_of self.new) }
         ensures stays_at_end { IsTrue (is_at_end_of self.old)
             → IsTrue (is_at_end_of self.new) × (consumed_of self.new ≡ consumed_of self.old) }
-        ensures nearer { MatchResult result
-            (λ n. ComesNearer (remaining_of self.old) (remaining_of self.new) n)
-            (λ _. ComesNearer (remaining_of self.old) (remaining_of self.new) 0) }
+        ensures nearer { ComesNearer (remaining_of self.old) (remaining_of self.new) (result_unwrap_or result 0) }
         ensures same_source { unknown_source self.new ≡ unknown_source self.old }
         ensures works { OnOk result (read_failures_of self.new ≡ read_failures_of self.old) }
         ensures fails { IfErr result (λ e. (e ≡ Fault.Reading)

@@ -265,8 +265,7 @@ fn what_fails_below_is_a_fault(rt: HostRuntime) {
     expect_same(&rt, written, Err(Fault::Writing), "no room");
 }
 
-/// A reader and a writer. Signals interrupt each of its calls three times, and then one octet is read or
-/// written.
+/// A reader and a writer. Signals interrupt each of its calls three times, and then one octet is read or written.
 #[derive(Drop)]
 struct Slow<'a> {
     gives: &'a [u8],

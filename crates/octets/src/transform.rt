@@ -29,8 +29,8 @@ pub trait Transform: Drop {
     /// This is left of a transform that was started for this job, and was fed all of this content.
     ghost is_left: { Self.Rest → Job → List ℕ → Type 0 };
 
-    /// Feeds the next piece, of at most `PIECE` octets, and returns what it fixes now, which may be in `space`. Refuses only
-    /// if every content that begins so is refused.
+    /// Feeds the next piece, of at most `PIECE` octets, and returns what it fixes now, which may be in `space`. Refuses only if every
+    /// content that begins so is refused.
     fn feed<'t>(
         &mut self,
         piece: &'t [u8],
@@ -59,9 +59,9 @@ pub trait Transform: Drop {
     ghost starts_with_nothing: { (x : Self) (job : Job) → is_fed x job [] → (plan job).fixed [] ≡ [] };
 }
 
-/// Reads the content to its end, and writes what the transform returns of it. `before` is written first, after the first piece
-/// was read and accepted. Returns what is left of the transform. Refuses with `Read`, with `Write`, and as the transform does.
-/// The output is not finished.
+/// Reads the content to its end, and writes what the transform returns of it. `before` is written first, after the first piece was read and
+/// accepted. Returns what is left of the transform. Refuses with `Read`, with `Write`, and as the transform does. The output is not
+/// finished.
 pub fn pump<I: Input, T: Transform, O: Output>(
     content: &mut I,
     transform: T,

@@ -32,8 +32,8 @@ pub fn read_to_end<I: Input>(alloc: Global, input: &mut I) -> Result<Vec<u8>, Re
     }
 }
 
-/// Reads the next piece of a content into the front of `buf` and returns its length, which is 0 only at the end. Refuses with
-/// `Read` if the input fails.
+/// Reads the next piece of a content into the front of `buf` and returns its length, which is 0 only at the end. Refuses with `Read` if the
+/// input fails.
 pub(crate) fn read_piece<I: Input>(content: &mut I, buf: &mut [u8; PIECE]) -> Result<usize, Refusal>
     requires { IsFinite (I.remaining content.old) }
     ensures within { IfOk result (λ n. n ≤ PIECE) }
@@ -53,9 +53,8 @@ pub(crate) fn read_piece<I: Input>(content: &mut I, buf: &mut [u8; PIECE]) -> Re
     Ok(n)
 }
 
-/// Fills `out` from the random input, and reads exactly so many octets of it. Refuses with `Read` if the
-/// input fails, and with `Random` if it ends too early. Then the front of `out` has what was read, and
-/// the rest is unchanged.
+/// Fills `out` from the random input, and reads exactly so many octets of it. Refuses with `Read` if the input fails, and with `Random` if
+/// it ends too early. Then the front of `out` has what was read, and the rest is unchanged.
 pub fn draw<I: Input>(random: &mut I, out: &mut [u8]) -> Result<(), Refusal>
     ensures octets { OnOk result (I.consumed random.new ≡ I.consumed random.old ++ out.new) }
     ensures taken { let drawn = appended (I.consumed random.old) (I.consumed random.new)

@@ -9,8 +9,8 @@ use crate::transform::Transform;
 use base64::engine::general_purpose::URL_SAFE_NO_PAD as BASE64URL;
 use std::marker::Model;
 
-/// Encodes octets that come in pieces as base64url. It holds, and contracts see, the at most two octets
-/// that wait for a whole group of three. In the clauses `fed` is all octets so far.
+/// Encodes octets that come in pieces as base64url. It holds, and contracts see, the at most two octets that wait for a whole group of
+/// three. In the clauses `fed` is all octets so far.
 #[derive(Drop)]
 pub struct B64Writer {
     waiting: [u8; 2],
@@ -38,8 +38,8 @@ impl B64Writer {
         }
     }
 
-    /// Feeds the next piece, of at most `SEALED_PIECE` octets. Writes the text of the groups that are whole
-    /// now to the front of `out` and returns its length.
+    /// Feeds the next piece, of at most `SEALED_PIECE` octets. Writes the text of the groups that are whole now to the front of `out` and
+    /// returns its length.
     pub fn feed(&mut self, piece: &[u8], out: &mut [u8; PIECE_TEXT]) -> usize
         requires { length piece.now ≤ SEALED_PIECE }
         ensures within { result ≤ PIECE_TEXT }

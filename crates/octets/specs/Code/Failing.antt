@@ -1,5 +1,5 @@
 -- When a device fails that was made to fail.
-use Rattle.std.specs.Prelude.{ℕ, ◌+◌, ◌-◌, ◌==◌, min, Bool, nat_le}
+use Rattle.std.specs.Prelude.{ℕ, ◌+◌, ◌-◌, ◌==◌, min, Bool, nat_le, Result, Ok, Err}
 use Rattle.octets.specs.Devices.{greatest_count, next_count}
 use Rattle.octets.specs.declared.failing.Failing.{Failing}
 use Rattle.octets.specs.declared.failing.Failing.TheVariants.{Once, From, After}
@@ -37,3 +37,8 @@ after_call n c = record { failing = c.failing; calls = next_count c.calls; passe
 -- after a call that failed
 abbrev pub after_failure : Course → Course
 after_failure c = record { failing = c.failing; calls = next_count c.calls; passed = c.passed }
+
+-- after a call with this result
+abbrev pub after_result : {E : Type 0} → Result ℕ E → Course → Course
+after_result (Ok n) c = after_call n c
+after_result (Err e) c = after_failure c

@@ -1,10 +1,10 @@
 -- Devices over memory that fail, as clauses see them.
-use Rattle.std.specs.Prelude.{ℕ, Bool, List, Option}
+use Rattle.std.specs.Prelude.{ℕ, Bool, List, Option, min}
 use Rattle.std.specs.Iterator.{Count}
 use Rattle.octets.specs.declared.failing.FailingInput.{FailingInput}
 use Rattle.octets.specs.declared.failing.FailingOutput.{FailingOutput}
-use Rattle.octets.specs.Code.Failing.{Course}
-use Rattle.octets.specs.Code.Views.{Contents, Store, front_of, is_read, rest_of, source_of}
+use Rattle.octets.specs.Code.Failing.{Course, room_for}
+use Rattle.octets.specs.Code.Views.{Contents, Store, front_of, is_read, rest_of, source_of, read_count, write_count}
 
 -- ---- an input
 
@@ -29,6 +29,10 @@ input_source s = source_of s.input
 
 abbrev pub input_course : FailingInput → Course
 input_course s = record { failing = s.failing; calls = s.calls; passed = s.passed }
+
+-- how many octets a read into this much room gives, if it does not fail
+abbrev pub input_count : FailingInput → ℕ → ℕ
+input_count s room = read_count s.input (room_for s.failing s.passed room)
 
 -- ---- an output
 
@@ -58,3 +62,7 @@ output_course s = record { failing = s.failing; calls = s.calls; passed = s.pass
 -- the most octets that one write takes
 abbrev pub output_step : FailingOutput → ℕ
 output_step s = s.step
+
+-- how many of n octets a write takes, if it does not fail
+abbrev pub output_count : FailingOutput → ℕ → ℕ
+output_count s n = write_count s.output (room_for s.failing s.passed (min n s.step))

@@ -52,6 +52,10 @@ source_is_given c octets is =
           ∙ sym (get_or-drop c.position c.octets i 0)) (c.fronts_are_octets (length c.octets) (c.position + i));
     }
 
+-- after n more octets were read
+abbrev pub moved_by : ℕ → Contents → Contents
+moved_by n c = record c { position = c.position + n }
+
 -- the number of octets of a read into this much room
 abbrev pub read_count : Contents → ℕ → ℕ
 read_count c room = min (min (length c.octets - c.position) room) c.step
