@@ -3,8 +3,8 @@ ghost use Rattle.std.specs.Prelude.{◌≡◌, ℕ, ◌≤◌, List, [], ◌++�
 ghost use Rattle.ciphers.specs.Sealing.{Sealing, cbc_hmac, Opens};
 ghost use Rattle.ciphers.specs.Code.Views.{IsPaddingBehind};
 
+use crate::arrays::array;
 use crate::authentication::Authentication;
-use crate::content_alg::array;
 use crate::sealer::Sealer;
 use aes::Block;
 use modes::{Cbc, cbc_open};

@@ -53,8 +53,8 @@ impl ContentAlg {
         }
     }
 
-    /// Starts an encryption under the content encryption key, with the IV and the additional data. The caller must know that the key
-    /// and the IV have the lengths of the algorithm.
+    /// Starts an encryption under the content encryption key, with the IV and the additional data. The caller must know that the key and
+    /// the IV have the lengths of the algorithm.
     pub fn seal(self, cek: &[u8], iv: &[u8], aad: &[u8]) -> ContentSealer
         requires cek_fits { length cek.now ≡ cek_len self }
         requires iv_fits { length iv.now ≡ iv_len self }
@@ -80,8 +80,8 @@ impl ContentAlg {
     }
 
     /// Decrypts the ciphertext in `buf` to the plaintext at its front, and returns the length of the plaintext. Its padding, if there is
-    /// one, is behind it. Returns `None` and leaves `buf` unchanged if no plaintext has this ciphertext and tag, for example under a key
-    /// or an IV of another length.
+    /// one, is behind it. Returns `None` and leaves `buf` unchanged if no plaintext has this ciphertext and tag, for example under a key or
+    /// an IV of another length.
     pub fn open(
         self,
         cek: &[u8],
@@ -151,15 +151,19 @@ pub enum ContentSealer {
 }
 
 impl Sealer for ContentSealer {
-    ghost use Rattle.ciphers.specs.Code.Views.{HoldsCbcHmac, HoldsGcmSealing, on_sealer, on_each_sealer};
+    ghost use Rattle.ciphers.specs.Code.Views.{HoldsSealing, sealing_keeps_pace};
 
-    ghost is_sealing = { λ x s p. on_sealer x
-        (λ y. HoldsCbcHmac ⟦<Aes128 as Block>⟧.encrypted ⟦<Sha256 as Hash>⟧.function ⟦<Sha256 as Hash>⟧.holds y s p)
-        (λ y. HoldsCbcHmac ⟦<Aes192 as Block>⟧.encrypted ⟦<Sha384 as Hash>⟧.function ⟦<Sha384 as Hash>⟧.holds y s p)
-        (λ y. HoldsCbcHmac ⟦<Aes256 as Block>⟧.encrypted ⟦<Sha512 as Hash>⟧.function ⟦<Sha512 as Hash>⟧.holds y s p)
-        (λ y. HoldsGcmSealing ⟦<Aes128 as Block>⟧.encrypted y s p)
-        (λ y. HoldsGcmSealing ⟦<Aes192 as Block>⟧.encrypted y s p)
-        (λ y. HoldsGcmSealing ⟦<Aes256 as Block>⟧.encrypted y s p) };
+    ghost is_sealing = { λ x s p. HoldsSealing (record {
+      aes128 = ⟦<Aes128 as Block>⟧.encrypted;
+      aes192 = ⟦<Aes192 as Block>⟧.encrypted;
+      aes256 = ⟦<Aes256 as Block>⟧.encrypted;
+      sha256 = ⟦<Sha256 as Hash>⟧.function;
+      sha384 = ⟦<Sha384 as Hash>⟧.function;
+      sha512 = ⟦<Sha512 as Hash>⟧.function;
+      holds_sha256 = ⟦<Sha256 as Hash>⟧.holds;
+      holds_sha384 = ⟦<Sha384 as Hash>⟧.holds;
+      holds_sha512 = ⟦<Sha512 as Hash>⟧.holds;
+    }) x s p };
 
     fn feed(&mut self, piece: &[u8], out: &mut [u8; SEALED_PIECE]) -> Result<usize, Refusal> {
         match self {
@@ -183,15 +187,5 @@ impl Sealer for ContentSealer {
         }
     }
 
-    ghost keeps_pace = { λ x s p. on_each_sealer x (λ y r. r.pace) (λ y r. r.pace) (λ y r. r.pace) (λ y r. r.pace) (λ y r. r.pace) (λ y r. r.pace) };
-}
-
-/// Copies the octets into an array.
-pub(crate) fn array<const N: usize>(octets: &[u8]) -> [u8; N]
-    requires { length octets.now ≡ N }
-    ensures { result ≡ octets.now }
-{
-    let mut out = [0; N];
-    out.copy_from_slice(octets);
-    out
+    ghost keeps_pace = { λ x s p. sealing_keeps_pace _ x s p };
 }

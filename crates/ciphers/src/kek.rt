@@ -2,7 +2,7 @@
 ghost use Rattle.std.specs.Prelude.{◌≡◌, ℕ, List, length};
 ghost use Rattle.aes.specs.Cipher.{encrypted_block};
 
-use crate::content_alg::array;
+use crate::arrays::array;
 use aes::{Aes128, Aes192, Aes256, Block};
 
 /// AES under a key encryption key.

@@ -8,8 +8,9 @@ ghost use Rattle.ciphers.specs.Code.Views.{parameters_view, way_view, calls_made
 ghost use Rattle.modes.specs.Gcm.{gcm_ciphertext, gcm_tag};
 ghost use Rattle.modes.specs.Code.Opening.{IsGcmOpening};
 
+use crate::arrays::array;
 use crate::cek::Cek;
-use crate::content_alg::{ContentAlg, array};
+use crate::content_alg::ContentAlg;
 use crate::kek::{Kek, Way, aes128, aes192, aes256};
 use crate::key_wrap::{unwrap, wrap};
 use crate::salted_key::SaltedKey;
@@ -42,9 +43,9 @@ pub enum KeyAlg {
     Pbes2Hs512A256Kw,
 }
 
-/// The header parameters of a recipient that its algorithm reads: the initialization vector and the tag of an encryption in
-/// GCM (section 4.7.1), or the salt input p2s and the count p2c of a password (section 4.8.1). Those that it does not read may be
-/// anything. So may the tag when a key is wrapped.
+/// The header parameters of a recipient that its algorithm reads: the initialization vector and the tag of an encryption in GCM
+/// (section 4.7.1), or the salt input p2s and the count p2c of a password (section 4.8.1). Those that it does not read may be anything. So
+/// may the tag when a key is wrapped.
 #[derive(Clone, Copy)]
 pub struct KeyParameters<'p> {
     pub iv: &'p [u8],
@@ -55,8 +56,8 @@ pub struct KeyParameters<'p> {
 
 impl KeyAlg {
     /// Encrypts the content encryption key, of 16 to 64 octets in parts of 8, to the front of `encrypted_key`. The first result is the
-    /// length of the encrypted key: 0 for `Dir`, where `cek` must be the key itself; the length of `cek` in GCM; otherwise 8 octets
-    /// more. The second result is the length of the tag at the front of `tag`: 16 in GCM, otherwise 0.
+    /// length of the encrypted key: 0 for `Dir`, where `cek` must be the key itself; the length of `cek` in GCM; otherwise 8 octets more.
+    /// The second result is the length of the tag at the front of `tag`: 16 in GCM, otherwise 0.
     pub fn wrap_cek(
         self,
         key: &[u8],
@@ -112,8 +113,8 @@ impl KeyAlg {
         self.unwrap_cek_salted(enc, &mut salted, parameters, encrypted_key)
     }
 
-    /// Returns what `unwrap_cek` returns. It is for many recipients with one p2s: all calls with one salted key hash p2s once for each hash.
-    /// If the key is a password, it must be salted with the p2s of the parameters (section 4.8.1.1).
+    /// Returns what `unwrap_cek` returns. It is for many recipients with one p2s: all calls with one salted key hash p2s once for each
+    /// hash. If the key is a password, it must be salted with the p2s of the parameters (section 4.8.1.1).
     pub fn unwrap_cek_salted(
         self,
         enc: ContentAlg,

@@ -1,8 +1,8 @@
 //! The algorithms that a token names (RFC 7518), over the ciphers of `aes`.
 //!
-//! `ContentAlg` encrypts content that comes in pieces, and decrypts it in place. `KeyAlg` delivers a content encryption key to
-//! a recipient, and a `SaltedKey` serves many recipients with one salt. `wrap` and `unwrap` are AES key wrap (RFC 3394). No call
-//! allocates memory or reads a header.
+//! `ContentAlg` encrypts content that comes in pieces, and decrypts it in place. `KeyAlg` delivers a content encryption key to a recipient,
+//! and a `SaltedKey` serves many recipients with one salt. `wrap` and `unwrap` are AES key wrap (RFC 3394). No call allocates memory or
+//! reads a header.
 //!
 //! ```rust
 //! // A recipient's encrypted key, and content that is encrypted in pieces.
@@ -22,6 +22,7 @@
 //! ```
 #![tactic(auto)]
 
+mod arrays;
 mod authentication;
 mod cbc_hmac;
 mod cek;

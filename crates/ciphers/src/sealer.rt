@@ -3,7 +3,7 @@ ghost use Rattle.std.specs.Prelude.{◌≡◌, ◌↔◌, ℕ, ◌≤◌, List, 
 ghost use Rattle.ciphers.specs.Code.Views.{KeepsPace, HoldsGcmSealing};
 ghost use Rattle.ciphers.specs.Sealing.{Sealing, IsTooLong, gcm, Opens};
 
-use crate::content_alg::array;
+use crate::arrays::array;
 use aes::Block;
 use modes::{Gcm, gcm_open};
 use octets::{PIECE, Refusal, SEALED_PIECE};
@@ -29,8 +29,8 @@ pub trait Sealer: Drop {
         ensures unchanged { OnErr result (self.new ≡ self.old) }
         ensures place { OnErr result (out.new ≡ out.old) };
 
-    /// Writes the rest of the ciphertext to the front of `last`, and the tag to the front of `tag`. Returns both lengths. The rest of
-    /// both buffers is unchanged.
+    /// Writes the rest of the ciphertext to the front of `last`, and the tag to the front of `tag`. Returns both lengths. The rest of both
+    /// buffers is unchanged.
     fn finish(self, last: &mut [u8; 16], tag: &mut [u8; 32]) -> (usize, usize)
         ensures within { (result.0 ≤ 16) × (result.1 ≤ 32) }
         ensures ciphertext { (s : Sealing) (p : List ℕ) → is_sealing self s p

@@ -97,28 +97,34 @@ pub record HoldsGcmSealing {B : Type 0} (encrypted : B → List ℕ → List ℕ
   pub whole : length (gcm_ciphertext e iv p) ≡ length p
   pub pace : KeepsPace sealing p
 
--- what is said of the one sealing that there is
-abbrev pub on_sealer : ContentSealer → (CbcHmac Aes128 Sha256 → Type 0) → (CbcHmac Aes192 Sha384 → Type 0) → (CbcHmac Aes256 Sha512 → Type 0)
-    → (Gcm Aes128 → Type 0) → (Gcm Aes192 → Type 0) → (Gcm Aes256 → Type 0) → Type 0
-on_sealer (A128CbcHs256 x) a b c d e f = a x
-on_sealer (A192CbcHs384 x) a b c d e f = b x
-on_sealer (A256CbcHs512 x) a b c d e f = c x
-on_sealer (A128Gcm x) a b c d e f = d x
-on_sealer (A192Gcm x) a b c d e f = e x
-on_sealer (A256Gcm x) a b c d e f = f x
+-- what the types of the code say of themselves: what a cipher sends a block to, the function of a hash, and what a hash has taken
+pub record Primitives : Type 1 where
+  pub aes128 : Aes128 → List ℕ → List ℕ
+  pub aes192 : Aes192 → List ℕ → List ℕ
+  pub aes256 : Aes256 → List ℕ → List ℕ
+  pub sha256 : HashFunction
+  pub sha384 : HashFunction
+  pub sha512 : HashFunction
+  pub holds_sha256 : Sha256 → List ℕ → Type 0
+  pub holds_sha384 : Sha384 → List ℕ → Type 0
+  pub holds_sha512 : Sha512 → List ℕ → Type 0
 
-pub on_each_sealer : {P : Type 0} (x : ContentSealer)
-    {a : CbcHmac Aes128 Sha256 → Type 0} {b : CbcHmac Aes192 Sha384 → Type 0} {c : CbcHmac Aes256 Sha512 → Type 0}
-    {d : Gcm Aes128 → Type 0} {e : Gcm Aes192 → Type 0} {f : Gcm Aes256 → Type 0}
-    → ((y : CbcHmac Aes128 Sha256) → a y → P) → ((y : CbcHmac Aes192 Sha384) → b y → P) → ((y : CbcHmac Aes256 Sha512) → c y → P)
-    → ((y : Gcm Aes128) → d y → P) → ((y : Gcm Aes192) → e y → P) → ((y : Gcm Aes256) → f y → P)
-    → on_sealer x a b c d e f → P
-on_each_sealer (A128CbcHs256 x) a b c d e f k = a x k
-on_each_sealer (A192CbcHs384 x) a b c d e f k = b x k
-on_each_sealer (A256CbcHs512 x) a b c d e f k = c x k
-on_each_sealer (A128Gcm x) a b c d e f k = d x k
-on_each_sealer (A192Gcm x) a b c d e f k = e x k
-on_each_sealer (A256Gcm x) a b c d e f k = f x k
+-- it was started for this sealing, and has taken p, whichever encryption it is
+abbrev pub HoldsSealing : Primitives → ContentSealer → Sealing → List ℕ → Type 0
+HoldsSealing of (A128CbcHs256 x) s p = HoldsCbcHmac of.aes128 of.sha256 of.holds_sha256 x s p
+HoldsSealing of (A192CbcHs384 x) s p = HoldsCbcHmac of.aes192 of.sha384 of.holds_sha384 x s p
+HoldsSealing of (A256CbcHs512 x) s p = HoldsCbcHmac of.aes256 of.sha512 of.holds_sha512 x s p
+HoldsSealing of (A128Gcm x) s p = HoldsGcmSealing of.aes128 x s p
+HoldsSealing of (A192Gcm x) s p = HoldsGcmSealing of.aes192 x s p
+HoldsSealing of (A256Gcm x) s p = HoldsGcmSealing of.aes256 x s p
+
+pub sealing_keeps_pace : (of : Primitives) (x : ContentSealer) (s : Sealing) (p : List ℕ) → HoldsSealing of x s p → KeepsPace s p
+sealing_keeps_pace of (A128CbcHs256 x) s p holds = holds.pace
+sealing_keeps_pace of (A192CbcHs384 x) s p holds = holds.pace
+sealing_keeps_pace of (A256CbcHs512 x) s p holds = holds.pace
+sealing_keeps_pace of (A128Gcm x) s p holds = holds.pace
+sealing_keeps_pace of (A192Gcm x) s p holds = holds.pace
+sealing_keeps_pace of (A256Gcm x) s p holds = holds.pace
 
 -- ---- the padding that an opening leaves (RFC 5652 section 6.3)
 
