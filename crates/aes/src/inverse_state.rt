@@ -61,8 +61,8 @@ fn inverse_round_column(round_keys: &[u8], i: usize, a: u32, b: u32, c: u32, d: 
     )
 }
 
-/// `inverse_shift_sub`, then the sum with the key words of a round (section 5.1.4), and then each column multiplied by the
-/// inverse matrix (section 5.3.3).
+/// `inverse_shift_sub`, then the sum with the key words of a round (section 5.1.4), and then each column multiplied by the inverse matrix
+/// (section 5.3.3).
 pub(crate) fn inverse_round(round_keys: &[u8], round: usize, state: [u32; 4]) -> [u32; 4]
     requires { 16 * round + 16 ≤ length round_keys.now }
     ensures { block_of result

@@ -1,5 +1,5 @@
-//! The key expansion (FIPS 197 section 5.2), for a key of `nk` words of four octets. A round key is four words. The
-//! round keys are one list, which is made octet by octet.
+//! The key expansion (FIPS 197 section 5.2), for a key of `nk` words of four octets. A round key is four words. The round keys are one
+//! list, which is made octet by octet.
 ghost use Rattle.std.specs.Prelude.{◌≡◌, ◌+◌, ◌-◌, ◌*◌, ◌/◌, ◌≤◌, ◌<◌, length};
 ghost use Rattle.aes.specs.KeyExpansion.{power_of_x, transformed, next_word, key_expansion};
 ghost use Rattle.aes.specs.Octet.{octet_product};

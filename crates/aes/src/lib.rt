@@ -1,8 +1,7 @@
 //! The block cipher AES (FIPS 197) under keys of 128, 192 and 256 bits.
 //!
-//! The modes of operation use the trait `Block`: a cipher of blocks of sixteen octets, with the law that decrypting
-//! undoes encrypting. The three ciphers are made from the octets of their keys. The crate has no modes and no padding,
-//! and allocates nothing.
+//! The modes of operation use the trait `Block`: a cipher of blocks of sixteen octets, with the law that decrypting undoes encrypting. The
+//! three ciphers are made from the octets of their keys. The crate has no modes and no padding, and allocates nothing.
 //!
 //! ```rust
 //! use aes::{Aes128, Block};

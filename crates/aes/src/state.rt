@@ -1,5 +1,5 @@
-//! The state and the steps of a round (FIPS 197 sections 3.4, 3.5 and 5.1). A state is held as four words, one for each
-//! column. The octet in the first row is the lowest.
+//! The state and the steps of a round (FIPS 197 sections 3.4, 3.5 and 5.1). A state is held as four words, one for each column. The octet
+//! in the first row is the lowest.
 ghost use Rattle.std.specs.Prelude.{◌≡◌, ℕ, ◌+◌, ◌-◌, ◌*◌, ◌%◌, ◌≤◌, ◌<◌, [], ◌∷◌, length, slice_index};
 ghost use Rattle.aes.specs.Octet.{octet_product};
 ghost use Rattle.aes.specs.Polynomial.{polynomial_sum};

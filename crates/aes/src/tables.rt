@@ -1,5 +1,5 @@
-//! The tables of the rounds, with one entry for each octet. Each entry is proved to be the octet or column of FIPS 197
-//! (sections 4 and 5). Columns are mixed by these tables only.
+//! The tables of the rounds, with one entry for each octet. Each entry is proved to be the octet or column of FIPS 197 (sections 4 and 5).
+//! Columns are mixed by these tables only.
 ghost use Rattle.std.specs.Prelude.{◌≡◌, [], ◌∷◌};
 ghost use Rattle.aes.specs.SBox.{s_box};
 ghost use Rattle.aes.specs.InverseCipher.{inverse_s_box};

@@ -34,8 +34,7 @@ where_so : {X P Q : Type 0} (b : Bool) (o : Option X) (x : X) → Decides b Q �
 where_so true o x decided exactly needs = exactly (decided.0 refl)
 where_so false o x decided exactly needs = (λ e. cc e, λ p. cc (decided.1 (needs p)))
 
--- If a test decides a property of octet strings with at most n octets, and at most one string has it, the search finds exactly this
--- string.
+-- If a test decides a property of octet strings with at most n octets, and at most one string has it, the search finds exactly this string.
 module _ (finds : FindsOctets) (n : ℕ) (test : List ℕ → Bool) (P : List ℕ → Type 0)
     (holds : (x : List ℕ) → IsOctets x → test x ≡ true → P x)
     (passes : (x : List ℕ) → P x → IsOctets x × (length x ≤ n) × (test x ≡ true))

@@ -1,5 +1,5 @@
--- The algorithms (RFC 7518 sections 4.1 and 5.1). The row of an algorithm says what it is made of, and the other pages define all else
--- by the row.
+-- The algorithms (RFC 7518 sections 4.1 and 5.1). The row of an algorithm says what it is made of, and the other pages define all else by
+-- the row.
 use Rattle.std.specs.Prelude.{ℕ, List, codes}
 use Rattle.ciphers.specs.declared.content_alg.ContentAlg.{ContentAlg}
 use Rattle.ciphers.specs.declared.content_alg.ContentAlg.TheVariants.{A128CbcHs256, A192CbcHs384, A256CbcHs512, A128Gcm, A192Gcm, A256Gcm}
@@ -25,8 +25,8 @@ content_family A256Gcm = aes_gcm 8
 
 -- ---- key management (section 4.1)
 
--- Direct use of the key (section 4.5), AES key wrap (section 4.4), AES in GCM (section 4.7), or AES key wrap under a key that PBKDF2 derives
--- from a password with the HMAC of a hash function, where the algorithm's name is part of the salt (section 4.8).
+-- Direct use of the key (section 4.5), AES key wrap (section 4.4), AES in GCM (section 4.7), or AES key wrap under a key that PBKDF2
+-- derives from a password with the HMAC of a hash function, where the algorithm's name is part of the salt (section 4.8).
 pub data KeyFamily : Type 0 where
   direct : KeyFamily
   aes_key_wrap : ℕ → KeyFamily

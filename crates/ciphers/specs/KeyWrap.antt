@@ -35,8 +35,8 @@ pub record IsKeyData (p : List ℕ) : Type 0 where
   pub parts : length p % 8 ≡ 0
   pub two : 16 ≤ length p
 
--- p is the unwrapping of c: the key data whose wrapping it is (section 2.2.2). Laws use this and `IsKeyData`. A content encryption key
--- has 16 to 64 octets in parts of eight, so `Delivery` need not ask.
+-- p is the unwrapping of c: the key data whose wrapping it is (section 2.2.2). Laws use this and `IsKeyData`. A content encryption key has
+-- 16 to 64 octets in parts of eight, so `Delivery` need not ask.
 pub record IsUnwrapping (e : List ℕ → List ℕ) (c p : List ℕ) : Type 0 where
   pub key_data : IsKeyData p
   pub wraps : wrapped e p ≡ c

@@ -343,8 +343,8 @@ const GCM_AAD: &[u8; 20] =
 const GCM_PLAINTEXT: &[u8; 64] =
     b"\xd9\x31\x32\x25\xf8\x84\x06\xe5\xa5\x59\x09\xc5\xaf\xf5\x26\x9a\x86\xa7\xa9\x53\x15\x34\xf7\xda\x2e\x4c\x30\x3d\x8a\x31\x8a\x72\x1c\x3c\x0c\x95\x95\x68\x09\x53\x2f\xcf\x0e\x24\x49\xa6\xb5\x25\xb1\x6a\xed\xf5\xaa\x0d\xe6\x57\xba\x63\x7b\x39\x1a\xaf\xd2\x55";
 
-// Test cases 1 and 2, 7 and 8, 13 and 14, whose keys and IVs are zero: the tag of no text, and the ciphertext and the
-// tag of a block of zero octets.
+// Test cases 1 and 2, 7 and 8, 13 and 14, whose keys and IVs are zero: the tag of no text, and the ciphertext and the tag of a block of
+// zero octets.
 const OF_ZERO: [(ContentAlg, &[u8], &[u8], &[u8]); 3] = [
     (
         ContentAlg::A128Gcm,
@@ -366,8 +366,8 @@ const OF_ZERO: [(ContentAlg, &[u8], &[u8], &[u8]); 3] = [
     ),
 ];
 
-// Test cases 3 and 4, 9 and 10, 15 and 16: the key, the ciphertext, its tag, and the tag of the first sixty octets of
-// the text with additional data.
+// Test cases 3 and 4, 9 and 10, 15 and 16: the key, the ciphertext, its tag, and the tag of the first sixty octets of the text with
+// additional data.
 const OF_TEXT: [(ContentAlg, &[u8], &[u8; 64], &[u8], &[u8]); 3] = [
     (
         ContentAlg::A128Gcm,

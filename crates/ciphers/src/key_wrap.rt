@@ -92,8 +92,8 @@ pub fn wrap<B: Block>(kek: &B, key_data: &[u8], out: &mut [u8])
     first.copy_from_slice(&a);
 }
 
-/// Unwraps `wrapped`, of 24 to 72 octets in parts of 8, into `out`, which is 8 octets shorter (RFC 3394 section
-/// 2.2.2). Returns `None` and leaves `out` unchanged if no key data wraps to it.
+/// Unwraps `wrapped`, of 24 to 72 octets in parts of 8, into `out`, which is 8 octets shorter (RFC 3394 section 2.2.2). Returns `None` and
+/// leaves `out` unchanged if no key data wraps to it.
 pub fn unwrap<B: Block>(kek: &B, wrapped: &[u8], out: &mut [u8]) -> Option<()>
     requires parts { length wrapped.now % 8 ≡ 0 }
     requires size { (24 ≤ length wrapped.now) × (length wrapped.now ≤ 72) }

@@ -14,8 +14,7 @@ use modes::laws::{cbc_plaintext_is_unique, gcm_plaintext_is_unique};
 use octets::laws::search_finds_octets;
 use prf::laws::derived_key_is_octets;
 
-/// No two key data have the same wrapping of at most 72 octets, so `unwrap` returns the key data that was wrapped (RFC 3394
-/// section 2.2).
+/// No two key data have the same wrapping of at most 72 octets, so `unwrap` returns the key data that was wrapped (RFC 3394 section 2.2).
 pub fn unwrapping_is_unique()
     ensures { (e d : List ℕ → List ℕ) (c p q : List ℕ) → IsCipher e d → length c ≤ 72
         → IsUnwrapping e c p → IsUnwrapping e c q → p ≡ q }

@@ -28,8 +28,8 @@ impl<B: Block> Cbc<B> {
         }
     }
 
-    /// Feeds the next piece, of at most `PIECE` octets. Writes the ciphertext of the blocks that are whole now to the
-    /// front of `out` and returns its length.
+    /// Feeds the next piece, of at most `PIECE` octets. Writes the ciphertext of the blocks that are whole now to the front of `out` and
+    /// returns its length.
     pub fn feed(&mut self, piece: &[u8], out: &mut [u8; SEALED_PIECE]) -> usize
         requires { length piece.now ≤ PIECE }
         ensures within { result ≤ SEALED_PIECE }

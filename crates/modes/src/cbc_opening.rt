@@ -7,8 +7,8 @@ ghost use Rattle.octets.specs.Octets.{IsOctets, xor_octets};
 use aes::Block;
 use octets::xor_into;
 
-/// Opens the ciphertext in `buf` to the plaintext at its front, with its padding behind it, and returns the length of the
-/// plaintext. Returns `None`, with `buf` unchanged, if no plaintext has this ciphertext (RFC 5652 section 6.3).
+/// Opens the ciphertext in `buf` to the plaintext at its front, with its padding behind it, and returns the length of the plaintext.
+/// Returns `None`, with `buf` unchanged, if no plaintext has this ciphertext (RFC 5652 section 6.3).
 pub fn cbc_open<B: Block>(cipher: &B, iv: &[u8; 16], buf: &mut [u8]) -> Option<usize>
     ensures opened { IfSome result (λ n. (n ≤ length buf.old)
         × (cbc (B.encrypted cipher.now) iv.now (take n buf.new) ≡ buf.old)) }

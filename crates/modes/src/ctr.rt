@@ -26,8 +26,7 @@ impl<B: Block> Ctr32<B> {
         }
     }
 
-    /// Feeds the next piece, of at most `PIECE` octets. Writes as many octets of the result to the front of `out` and
-    /// returns their number.
+    /// Feeds the next piece, of at most `PIECE` octets. Writes as many octets of the result to the front of `out` and returns their number.
     pub fn feed(&mut self, piece: &[u8], out: &mut [u8; SEALED_PIECE]) -> usize
         requires { length piece.now ≤ PIECE }
         ensures len { result ≡ length piece.now }
@@ -47,8 +46,7 @@ impl<B: Block> Ctr32<B> {
     pub fn finish(self) {}
 }
 
-/// The key stream after a text: the next counter block, the last sixteen blocks of the stream, and how many of their
-/// octets are used.
+/// The key stream after a text: the next counter block, the last sixteen blocks of the stream, and how many of their octets are used.
 #[derive(Drop)]
 pub(crate) struct KeyStream {
     counter: [u8; 16],

@@ -1,5 +1,5 @@
-//! GCM of a text that comes in pieces, and its opening in place (SP 800-38D sections 7.1 and 7.2). The steps are those of
-//! section 7.1: H and J0, the ciphertext from the counter block after J0, S, and the tag.
+//! GCM of a text that comes in pieces, and its opening in place (SP 800-38D sections 7.1 and 7.2). The steps are those of section 7.1: H
+//! and J0, the ciphertext from the counter block after J0, S, and the tag.
 ghost use Rattle.std.specs.Prelude.{◌≡◌, ◌↔◌, ℕ, ◌*◌, ◌%◌, ◌^◌, ◌<◌, ◌≤◌, List, [], ◌∷◌, ◌++◌, length, take, drop, IfOk, IfErr, IsErr, OnOk, OnErr, IfSome, IfNone};
 ghost use Rattle.modes.specs.Gcm.{hash_subkey, pre_counter_block, gcm_ciphertext, gcm_tag, longest};
 ghost use Rattle.modes.specs.Code.Opening.{IsGcmOpening};
@@ -42,8 +42,8 @@ impl<B: Block> Gcm<B> {
         }
     }
 
-    /// Feeds the next piece, of at most `PIECE` octets. Writes as many octets of the ciphertext to the front of `out` and
-    /// returns their number. Refuses with `Limit`, and takes nothing, if the plaintext would be longer than 2^36 - 32 octets.
+    /// Feeds the next piece, of at most `PIECE` octets. Writes as many octets of the ciphertext to the front of `out` and returns their
+    /// number. Refuses with `Limit`, and takes nothing, if the plaintext would be longer than 2^36 - 32 octets.
     pub fn feed(&mut self, piece: &[u8], out: &mut [u8; SEALED_PIECE]) -> Result<usize, Refusal>
         requires { length piece.now ≤ PIECE }
         ensures len { IfOk result (λ n. n ≡ length piece.now) }
@@ -84,8 +84,8 @@ impl<B: Block> Gcm<B> {
     }
 }
 
-/// Opens the ciphertext in `buf` to the plaintext and returns the length of the plaintext, which is the same. Returns
-/// `None`, with `buf` unchanged, if no plaintext has this ciphertext and tag (section 7.2).
+/// Opens the ciphertext in `buf` to the plaintext and returns the length of the plaintext, which is the same. Returns `None`, with `buf`
+/// unchanged, if no plaintext has this ciphertext and tag (section 7.2).
 pub fn gcm_open<B: Block>(
     cipher: &B,
     iv: &[u8; 12],

@@ -6,8 +6,8 @@ ghost use Rattle.modes.specs.Code.Shifts.{shifted};
 use crate::unreduced::Unreduced;
 use aes::laws::polynomial_laws;
 
-/// The hash subkey H, with its products by the sixteen polynomials of degree below 4. Multiple n is the product by the
-/// block whose first four bits are n and whose other bits are 0.
+/// The hash subkey H, with its products by the sixteen polynomials of degree below 4. Multiple n is the product by the block whose first
+/// four bits are n and whose other bits are 0.
 #[derive(Drop)]
 pub(crate) struct HashSubkey {
     h: u128,
@@ -46,8 +46,8 @@ impl HashSubkey {
         HashSubkey { h, multiples }
     }
 
-    /// The product of the block and H, by Horner's rule over both halves of the block at once. Its groups of four bits with
-    /// even numbers are one chain, and those with odd numbers, four bits further on, another. Their sum is reduced once.
+    /// The product of the block and H, by Horner's rule over both halves of the block at once. Its groups of four bits with even numbers
+    /// are one chain, and those with odd numbers, four bits further on, another. Their sum is reduced once.
     pub(crate) fn times(&self, block: u128) -> u128
         ensures { result ≡ block_product block self.now.h }
     {

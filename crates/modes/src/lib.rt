@@ -1,7 +1,7 @@
 //! Modes of operation over any block cipher.
 //!
-//! `Cbc`, `Ctr32` and `Gcm` encrypt a text that comes in pieces (SP 800-38A, SP 800-38D), `Ghash` sums blocks, and
-//! `cbc_open` and `gcm_open` open a ciphertext in place. The crate allocates nothing, and does not see the octets of keys.
+//! `Cbc`, `Ctr32` and `Gcm` encrypt a text that comes in pieces (SP 800-38A, SP 800-38D), `Ghash` sums blocks, and `cbc_open` and
+//! `gcm_open` open a ciphertext in place. The crate allocates nothing, and does not see the octets of keys.
 //!
 //! ```rust
 //! let mut gcm = Gcm::start(Aes128::new(&key), &iv, &aad);

@@ -8,8 +8,7 @@ const INNER_PAD: u8 = 0x36;
 
 const OUTER_PAD: u8 = 0x5c;
 
-/// An HMAC whose text comes in pieces: the inner hash, of the key and the text so far, and the outer
-/// hash, of the key.
+/// An HMAC whose text comes in pieces: the inner hash, of the key and the text so far, and the outer hash, of the key.
 #[derive(Drop)]
 pub struct Hmac<H: Hash> {
     inner: H,
@@ -19,8 +18,7 @@ pub struct Hmac<H: Hash> {
 impl<H: Hash> Hmac<H> {
     ghost use Rattle.prf.specs.Code.Views.{HoldsHmac};
 
-    /// The HMAC of the empty text, under a key of any length. The standards ask for a key at least
-    /// as long as the digest.
+    /// The HMAC of the empty text, under a key of any length. The standards ask for a key at least as long as the digest.
     pub fn new(key: &[u8]) -> Hmac<H>
         ensures { HoldsHmac H.function H.holds result key.now [] }
     {
@@ -51,8 +49,7 @@ impl<H: Hash> Hmac<H> {
         }
     }
 
-    /// Writes the HMAC of the text to the front of `out` and returns its length, which is that of the
-    /// hash. The rest of `out` is unchanged.
+    /// Writes the HMAC of the text to the front of `out` and returns its length, which is that of the hash. The rest of `out` is unchanged.
     pub fn finish(self, out: &mut [u8; 64]) -> usize
         ensures code { (key text : List ℕ) → HoldsHmac H.function H.holds self key text
             → take result out.new ≡ hmac H.function key text }

@@ -8,8 +8,8 @@ use crate::hash::Hash;
 use crate::hmac::Hmac;
 use octets::xor_into;
 
-/// PBKDF2 with HMAC. Fills `out`, of at most 64 octets, with the key derived by `count` iterations from the password and
-/// the salt, which is both parts joined. Returns the number of HMAC calls.
+/// PBKDF2 with HMAC. Fills `out`, of at most 64 octets, with the key derived by `count` iterations from the password and the salt, which is
+/// both parts joined. Returns the number of HMAC calls.
 pub fn pbkdf2<H: Hash>(password: &[u8], salt: [&[u8]; 2], count: u32, out: &mut [u8]) -> u64
     requires iterated { 1 ≤ count }
     requires fits { length out.old ≤ 64 }
@@ -28,9 +28,9 @@ pub fn pbkdf2<H: Hash>(password: &[u8], salt: [&[u8]; 2], count: u32, out: &mut 
     u64::from(count) * block_count as u64
 }
 
-/// The first iterate of PBKDF2's first block, from which `pbkdf2_after` derives keys without the salt (RFC 8018 section 5.2 step 3). The salt is
-/// both parts joined. Writes the iterate to the front of `out` and returns its length, which is that of the hash. The rest of `out` is
-/// unchanged.
+/// The first iterate of PBKDF2's first block, from which `pbkdf2_after` derives keys without the salt (RFC 8018 section 5.2 step 3). The
+/// salt is both parts joined. Writes the iterate to the front of `out` and returns its length, which is that of the hash. The rest of `out`
+/// is unchanged.
 pub fn first_iterate<H: Hash>(password: &[u8], salt: [&[u8]; 2], out: &mut [u8; 64]) -> usize
     ensures first { take result out.new ≡ iterate H.function password.now (concat (map (λ part. part.now) salt.entry)) 1 1 }
     ensures len { result ≡ H.function.output_len }
@@ -39,9 +39,9 @@ pub fn first_iterate<H: Hash>(password: &[u8], salt: [&[u8]; 2], out: &mut [u8; 
     first_of_block(&Hmac::<H>::new(password), salt, 1, out)
 }
 
-/// PBKDF2 with HMAC for many keys with one salt, which is hashed only for their first iterate (RFC 8018 section 5.2). Fills `out`, which is at
-/// most as long as that iterate, with the key that `pbkdf2` derives. Returns the number of HMAC calls that PBKDF2 needs. That of the first
-/// iterate is counted too.
+/// PBKDF2 with HMAC for many keys with one salt, which is hashed only for their first iterate (RFC 8018 section 5.2). Fills `out`, which is
+/// at most as long as that iterate, with the key that `pbkdf2` derives. Returns the number of HMAC calls that PBKDF2 needs. That of the
+/// first iterate is counted too.
 pub fn pbkdf2_after<H: Hash>(password: &[u8], first: &[u8], count: u32, out: &mut [u8]) -> u64
     requires iterated { 1 ≤ count }
     requires whole { length first.now ≡ H.function.output_len }

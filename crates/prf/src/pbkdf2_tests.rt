@@ -17,8 +17,8 @@ fn all_octets() -> [u8; 256] {
     octets
 }
 
-/// Cases, each in base64url: five octets and the key. The octets are the start and the length of the password in all octets, the
-/// start and the length of the salt, and the count. One text is proved much sooner than a list.
+/// Cases, each in base64url: five octets and the key. The octets are the start and the length of the password in all octets, the start and
+/// the length of the salt, and the count. One text is proved much sooner than a list.
 const SHA_256: &str = "\
     EQDLAAH3zgtlPS1ypBCM9avpEv_dd3YW27snpw6CBPOuLQ9vrYn2j0gR0eh7zDvXQAqf_SkJTwGEY5V085rloTFSF7zX \
     bgGRCAKf \
