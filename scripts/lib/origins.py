@@ -8,7 +8,8 @@ row fails, and so does a row whose code is not there exactly once.
   is_memory, Partial, ErrorKind and `Error`. Imports and the types of results are free.
 - Each `impl` for `Refusal` or `Fault`; each device, which is an `impl` of Read, Write, Input or Output; unsafe code, since it can make any
   value.
-- A growth that is asked for by a number (ROOMS), and each loop that does not go through a list, in a function that may take memory.
+- A growth that is asked for by a number (ROOMS), and each loop that does not go through a list, in a function that may take memory. The
+  types of fields are free.
 - Each comparison for equality in the crates that compare tags and signatures (COMPARING), unless one side is a number or a length. In all
   crates: a function that has two octet parameters and returns a bool, and `same_octets` if it is named without being called.
 - Each answer that is made or inspected in the files that pass on the answers of std's files and streams (PASSING, by the beginnings of
@@ -149,9 +150,7 @@ PLACES = [
     ("octets/src/failing.rt", "FailingOutput::new", "MemoryOutput::new(alloc, room)?", "the room that the caller asks for"),
     ("octets/src/whole.rt", "read_to_end", "'reads: loop { let n = input.read(&mut buf)?; if n == 0 { return Ok(octets); } octets.extend_from_slice(&buf[..n])?; }",
      "all that an input gives"),
-    ("objects/src/shared.rt", "", "octets: Rc<Vec<u8>>,", "one for each parameter of a header"),
     ("objects/src/shared.rt", "SharedOctets::new", "octets: Rc::new(alloc, octets)?,", "one for each parameter of a header"),
-    ("objects/src/shared.rt", "", "text: Rc<String>,", "one for each name of a header"),
     ("objects/src/shared.rt", "SharedText::new", "text: Rc::new(alloc, String::from_str(alloc, text)?)?,", "one for each name of a header"),
     ("jose/src/system.rt", "HostRuntime::args", "args.collect(self.alloc())?", "the program's arguments"),
 
@@ -261,16 +260,18 @@ def is_of_numbers(tokens, at):
 def advice_at(part, at):
     """The advice for the word at this place, if no row has it, or None for a word that needs no row."""
     tokens, crate = part.tokens, part.path.split("/")[1]
-    word, after = tokens[at].text, text_at(tokens, at + 1)
+    word, before, after = tokens[at].text, text_at(tokens, at - 1), text_at(tokens, at + 1)
+    # The type of a field, such as `Rc<String>`, asks for no memory.
+    is_field = not part.function and before == ":" and after == "<"
     if word in CASES or word == "unsafe" or word in ERRORS and not is_type(tokens, at):
         return "cause"
-    if word in ("kind", "is_memory") and text_at(tokens, at - 1) == "." or word in ("Refusal", "Fault") and before_path(tokens, at) == "for":
+    if word in ("kind", "is_memory") and before == "." or word in ("Refusal", "Fault") and before_path(tokens, at) == "for":
         return "cause"
     if word in ("Read", "Write", "Input", "Output") and after == "for":
         return "device"
     if word in ("Read", "Write") and not is_trait(tokens, at):
         return "cause"
-    if word in ROOMS or word in ROOM_MACROS and after == "!" or word in ROOM_DEVICES and after == "::":
+    if word in ROOMS and not is_field or word in ROOM_MACROS and after == "!" or word in ROOM_DEVICES and after == "::":
         return "room"
     if word == "same_octets" and not is_call(tokens, at) or word in EQUALITIES and crate in COMPARING and not is_of_numbers(tokens, at):
         return "equality"
