@@ -67,8 +67,8 @@ has_only names (object members) = members_have_only names members
 
 -- ---- values without floats (docs/SPECIFICATION.md "Octets and texts")
 
--- Members whose numbers are whole have no float. A value without floats has none in its members, and these have none after a value
--- without floats is put in.
+-- Members whose numbers are whole have no float. A value without floats has none in its members, and these have none after a value without
+-- floats is put in.
 pub record KeepFloatsOut : Type 0 where
   pub whole : (members : Members) → member_numbers_are_whole members ≡ true → members_have_float members ≡ false
   pub found : (name : List ℕ) (d e : Data) → has_float d ≡ false → get name d ≡ Some e → has_float e ≡ false

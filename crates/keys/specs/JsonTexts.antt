@@ -59,8 +59,8 @@ DeepTextsAreRefused = (d : Data) → IsJson d → 127 < depth d → json_value (
 abbrev pub ReadsJson : Type 0
 ReadsJson = (text : List ℕ) (d : Data) → json_value text ≡ Ok d → IsJson d × (depth d ≤ 127)
 
--- A JSON value has no float. A value found in it, its members and its items are JSON values that nest less deep. Members stay JSON
--- values when one is put in or left out.
+-- A JSON value has no float. A value found in it, its members and its items are JSON values that nest less deep. Members stay JSON values
+-- when one is put in or left out.
 pub record KeepJson : Type 0 where
   pub no_float : (d : Data) → IsJson d → has_float d ≡ false
   pub found : (name : List ℕ) (d e : Data) → IsJson d → get name d ≡ Some e → IsJson e × (depth e < depth d)

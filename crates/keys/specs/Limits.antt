@@ -1,5 +1,5 @@
--- The limits of this profile, and its algorithms. They are an argument of the definitions that test them, so that a law can compare
--- two versions.
+-- The limits of this profile, and its algorithms. They are an argument of the definitions that test them, so that a law can compare two
+-- versions.
 use Rattle.std.specs.Prelude.{ℕ, Bool, nat_le, List}
 use Rattle.keys.specs.declared.algorithm.KeyManagementAlg.{KeyManagementAlg}
 use Rattle.keys.specs.Algorithms.{management_algs}

@@ -31,16 +31,14 @@ struct KeyPlan {
 
 /// The JSON text of a new octet key, made as the template asks from octets of the random input.
 ///
-/// The template is a JSON object without `k` and `keys`. Its other members are typed as those of a key.
-/// `bytes` is the key's length in octets, from 1 to `MOST_KEY_OCTETS`; without it the `alg` implies
-/// one. The key has the template's members except `bytes`, and `k` and `kty` "oct". If the template has
-/// an `alg` but neither `use` nor `key_ops`, the key has the `key_ops` of this `alg`. Exactly the octets
+/// The template is a JSON object without `k` and `keys`. Its other members are typed as those of a key. `bytes` is the key's length in
+/// octets, from 1 to `MOST_KEY_OCTETS`; without it the `alg` implies one. The key has the template's members except `bytes`, and `k` and
+/// `kty` "oct". If the template has an `alg` but neither `use` nor `key_ops`, the key has the `key_ops` of this `alg`. Exactly the octets
 /// of `k` are read.
 ///
-/// Refuses, in this order, with `Json`; `Number`; `Key` if the template is bad; `Limit` if `bytes` is
-/// above `MOST_KEY_OCTETS`; `Unsupported` if `alg` names no algorithm; `NoAlgorithm` if nothing says
-/// the length; `KeyDoesNotFit` if `bytes` does not fit the `alg`; `Limit` if the key nests deeper than
-/// `MOST_DEPTH`; `Read` if the random input fails; and `Random` if it ends too early. May fail with
+/// Refuses, in this order, with `Json`; `Number`; `Key` if the template is bad; `Limit` if `bytes` is above `MOST_KEY_OCTETS`;
+/// `Unsupported` if `alg` names no algorithm; `NoAlgorithm` if nothing says the length; `KeyDoesNotFit` if `bytes` does not fit the `alg`;
+/// `Limit` if the key nests deeper than `MOST_DEPTH`; `Read` if the random input fails; and `Random` if it ends too early. May fail with
 /// `Memory`.
 pub fn generate<R: Input>(alloc: Global, template: &[u8], random: &mut R) -> Result<String, Refusal>
     ensures answer { (octets : List ℕ)
@@ -91,8 +89,7 @@ fn into_members(value: Value) -> Result<Map<String, Value>, Refusal>
     }
 }
 
-/// The members of a key except `k`: those of the template except `bytes`, with `kty`, and with `key_ops`
-/// if these are to be added.
+/// The members of a key except `k`: those of the template except `bytes`, with `kty`, and with `key_ops` if these are to be added.
 fn completed(
     alloc: Global,
     mut members: Map<String, Value>,

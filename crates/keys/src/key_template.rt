@@ -26,8 +26,8 @@ pub(crate) struct Asked<'v> {
     pub(crate) bytes: Option<usize>,
 }
 
-/// What a template asks for. Refuses with `Key` if it is no object, if it is a key or a set of keys, or
-/// if a member is not typed as that of a key.
+/// What a template asks for. Refuses with `Key` if it is no object, if it is a key or a set of keys, or if a member is not typed as that of
+/// a key.
 #[tactic(auto, unfolding(crate::specs::Generating::key_template))]
 pub(crate) fn read_template<'v>(alloc: Global, value: &'v Value) -> Result<Asked<'v>, Refusal>
     ensures object { (members : Members) → view value.now ≡ object members
@@ -94,8 +94,8 @@ pub(crate) fn alg_if_there(alg: Option<&str>) -> Result<Option<NamedAlg>, Refusa
     }
 }
 
-/// The length that is asked for, or the usual one of the algorithm. Refuses with `NoAlgorithm` if there is
-/// neither, and with `KeyDoesNotFit` if the algorithm does not allow the length.
+/// The length that is asked for, or the usual one of the algorithm. Refuses with `NoAlgorithm` if there is neither, and with
+/// `KeyDoesNotFit` if the algorithm does not allow the length.
 #[tactic(auto, unfolding(crate::specs::Generating::fitting_len))]
 pub(crate) fn fitting_len(alg: Option<NamedAlg>, asked: Option<usize>) -> Result<usize, Refusal>
     ensures len { Agrees (λ len. len) result (fitting_len alg asked) }

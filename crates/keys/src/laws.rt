@@ -13,8 +13,8 @@ pub fn are_octet_keys(keys: &KeySet)
     keys.keys();
 }
 
-/// Members whose numbers are whole have no float, and values without floats may be taken out and put in. So a value of
-/// `read_json`, and what is made of it, has a compact text.
+/// Members whose numbers are whole have no float, and values without floats may be taken out and put in. So a value of `read_json`, and
+/// what is made of it, has a compact text.
 pub fn members_keep_floats_out()
     ensures { KeepFloatsOut }
 {}
@@ -34,8 +34,8 @@ pub fn what_is_read_is_json()
     ensures { ReadsJson }
 {}
 
-/// The parts of a JSON value are JSON values, and members stay JSON values when one is put in or left
-/// out. So the compact text of a value that is made of values that were read reads back.
+/// The parts of a JSON value are JSON values, and members stay JSON values when one is put in or left out. So the compact text of a value
+/// that is made of values that were read reads back.
 pub fn members_keep_json()
     ensures { KeepJson }
 {}

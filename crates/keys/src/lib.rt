@@ -1,5 +1,5 @@
-//! JSON texts, octet keys and their sets, thumbprints, and the making of keys (RFC 7517, RFC 7638).
-//! The crate reads key texts and other JSON texts, but no objects and no content.
+//! JSON texts, octet keys and their sets, thumbprints, and the making of keys (RFC 7517, RFC 7638). The crate reads key texts and other
+//! JSON texts, but no objects and no content.
 //!
 //! ```rust
 //! let text = b"{\"kty\":\"oct\",\"k\":\"AAECAwQFBgcICQoLDA0ODw\"}";

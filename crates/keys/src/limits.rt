@@ -21,6 +21,6 @@ pub const GREATEST_P2C: u64 = 2_000_000;
 
 pub const USUAL_P2C: u64 = 100_000;
 
-/// The greatest sum of these counts, both over the passwords that an object is encrypted to, and over the pairs of a recipient
-/// and a key that are tried.
+/// The greatest sum of these counts, both over the passwords that an object is encrypted to, and over the pairs of a recipient and a key
+/// that are tried.
 pub const MOST_ITERATIONS: u64 = 16_000_000;

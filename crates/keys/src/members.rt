@@ -1,5 +1,5 @@
-//! The members of a key or a template (RFC 7517 section 4) that are texts and lists of texts. A member of another type is
-//! refused with `Key`.
+//! The members of a key or a template (RFC 7517 section 4) that are texts and lists of texts. A member of another type is refused with
+//! `Key`.
 ghost use Rattle.std.specs.Prelude.{option_map, map, string_bytes};
 ghost use Rattle.std.specs.Option.{ok_or};
 ghost use Rattle.serde_json.specs.View.{view, items_view};

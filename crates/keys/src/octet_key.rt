@@ -40,8 +40,7 @@ impl Key {
         }
     }
 
-    /// Whether the key's `use` and `key_ops` allow the operation (RFC 7517 sections 4.2 and 4.3). An absent
-    /// one allows all.
+    /// Whether the key's `use` and `key_ops` allow the operation (RFC 7517 sections 4.2 and 4.3). An absent one allows all.
     #[tactic(auto, unfolding(crate::specs::Keys::allows))]
     pub fn allows(&self, operation: Operation) -> bool
         ensures { result ≡ allows (key_view self.now) operation }
@@ -50,8 +49,8 @@ impl Key {
             && is_absent_or_allows(&self.key_ops, operation)
     }
 
-    /// Whether the key has a length that the algorithm allows, and its `alg` names no other algorithm. For
-    /// direct encryption `alg` may name the content encryption algorithm instead.
+    /// Whether the key has a length that the algorithm allows, and its `alg` names no other algorithm. For direct encryption `alg` may name
+    /// the content encryption algorithm instead.
     #[tactic(auto, unfolding(crate::specs::Keys::fits))]
     pub fn fits(&self, algorithm: Algorithm) -> bool
         ensures { result ≡ fits (key_view self.now) algorithm }
@@ -60,9 +59,9 @@ impl Key {
     }
 }
 
-/// The key of an object. Refuses with `Key` unless it is a good octet key: `kty` is "oct", `k` is the
-/// base64url text of 1 to `MOST_KEY_OCTETS` octets, `alg`, `use` and `kid` are strings or absent, and
-/// `key_ops` is a list of strings or absent. Other members are ignored.
+/// The key of an object. Refuses with `Key` unless it is a good octet key: `kty` is "oct", `k` is the base64url text of 1 to
+/// `MOST_KEY_OCTETS` octets, `alg`, `use` and `kid` are strings or absent, and `key_ops` is a list of strings or absent. Other members are
+/// ignored.
 #[tactic(auto, unfolding(crate::specs::Keys::octet_key))]
 pub(crate) fn read_key(alloc: Global, value: &Value) -> Result<Key, Refusal>
     ensures { AgreesUnlessMemory key_view result (octet_key limits (view value.now)) }

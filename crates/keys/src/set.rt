@@ -37,10 +37,9 @@ impl Model for KeySet {
 }
 
 impl KeySet {
-    /// Reads the keys of a JSON text: one key, or a set with the member `keys`. With `strict` all of
-    /// them must be good octet keys. Refuses, in this order, with `Json`; `Number`; `Key` if the text is
-    /// no object, or its `keys` is no list of objects; `Limit` if there are more than `MOST_KEYS`; and
-    /// `Key` if no key is good, or one is bad with `strict`. May fail with `Memory`.
+    /// Reads the keys of a JSON text: one key, or a set with the member `keys`. With `strict` all of them must be good octet keys. Refuses,
+    /// in this order, with `Json`; `Number`; `Key` if the text is no object, or its `keys` is no list of objects; `Limit` if there are more
+    /// than `MOST_KEYS`; and `Key` if no key is good, or one is bad with `strict`. May fail with `Memory`.
     #[tactic(auto, unfolding(crate::specs::KeySets::key_set))]
     pub fn read(alloc: Global, text: &[u8], strict: bool) -> Result<KeySet, Refusal>
         ensures { AgreesUnlessMemory (λ set. set) result (key_set limits text.now strict) }

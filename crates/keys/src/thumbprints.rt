@@ -35,8 +35,8 @@ fn required_members(alloc: Global, key: &Key) -> Result<String, Refusal>
     Ok(text)
 }
 
-/// The thumbprints of the good keys of a text, in order, with a line feed between each two. A bad key of a set is passed
-/// over. Refuses as `KeySet::read` does.
+/// The thumbprints of the good keys of a text, in order, with a line feed between each two. A bad key of a set is passed over. Refuses as
+/// `KeySet::read` does.
 #[tactic(auto, unfolding(crate::specs::Thumbprints::thp_answer))]
 pub fn text_thumbprints(alloc: Global, text: &[u8], hash: HashAlg) -> Result<String, Refusal>
     ensures answer { AgreesUnlessMemory string_bytes result (thp_answer hash text.now) }

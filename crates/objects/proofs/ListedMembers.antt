@@ -1,5 +1,5 @@
--- The members of one element next to others, or those of several elements as a list of objects: reading them returns the elements, and
--- they are JSON.
+-- The members of one element next to others, or those of several elements as a list of objects: reading them returns the elements, and they
+-- are JSON.
 use Rattle.std.proofs.Common.{◌≡◌, ◌≤◌, ℕ, suc, List, [], ◌∷◌, ◌++◌, length, map, true, false, nat_le, Option, Some, None, Result, Ok, Err, IsUtf8, if◌then◌else◌, refl, ap, ◌∙◌, subst, arith}
 use Rattle.std.proofs.Math.Dec.{leb-suc-suc, leb-suc-zero}
 use Rattle.std.specs.List.{AllByRecursion}

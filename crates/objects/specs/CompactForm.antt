@@ -52,8 +52,8 @@ abbrev pub jwe_parts_text : Bool → EncryptedObject → Recipient → List ℕ
 jwe_parts_text detach o r =
     between_dots (o.protected ∷ base64url r.encrypted_key ∷ base64url o.iv ∷ kept detach (base64url o.ciphertext) ∷ base64url o.tag ∷ [])
 
--- An encrypted object has a compact text exactly if it has one recipient, only a protected header, and no additional data. The text is
--- its five parts, joined by dots. Every other object is refused with NotCompact.
+-- An encrypted object has a compact text exactly if it has one recipient, only a protected header, and no additional data. The text is its
+-- five parts, joined by dots. Every other object is refused with NotCompact.
 pub record JweCompactFormIsExact : Type 0 where
   pub exists : (detach : Bool) (o : EncryptedObject) → HasText (jwe_compact_text detach o) ↔ HasOnlyRecipient o
   pub text : (detach : Bool) (o : EncryptedObject) (r : Recipient) → IsOnlyRecipient o r → jwe_compact_text detach o ≡ Ok (jwe_parts_text detach o r)

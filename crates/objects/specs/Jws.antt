@@ -122,8 +122,8 @@ headed_signature s = do
   members ← protected_members s.octets
   Ok (record { members = members; parts = s.parts })
 
--- Its headers have no name in common, and one of them names the algorithm. If that is one of key management, they have its parameters.
--- See RFC 7515 section 5.2, step 4, and docs/SPECIFICATION.md "Objects" 3.
+-- Its headers have no name in common, and one of them names the algorithm. If that is one of key management, they have its parameters. See
+-- RFC 7515 section 5.2, step 4, and docs/SPECIFICATION.md "Objects" 3.
 unfoldable pub signature_by : List KeyManagementAlg → HeadedSignature → Result Signature Refusal
 signature_by algs s = do
   header ← joint_header s.members no_members s.parts.header

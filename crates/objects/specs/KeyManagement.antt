@@ -1,5 +1,5 @@
--- Key management (RFC 7518 section 4): how a recipient's key delivers the content encryption key, by the algorithm and the parameters
--- of a joint header.
+-- Key management (RFC 7518 section 4): how a recipient's key delivers the content encryption key, by the algorithm and the parameters of a
+-- joint header.
 use Rattle.std.specs.Prelude.{ℕ, nat_le, List, codes, Option, Some, None, Result, Ok}
 use Rattle.std.specs.Option.{ok_or}
 use Rattle.serde_json.specs.Data.{Members}
@@ -20,7 +20,8 @@ pub data KeyManagement : Type 0 where
   Direct : KeyManagement
   -- AES key wrap (section 4.4)
   KeyWrap : KeyManagement
-  -- key wrap with a key that is derived from a password: the salt input p2s of 8 octets or more, and the count p2c of 1 or more (section 4.8.1)
+  -- key wrap with a key that is derived from a password: the salt input p2s of 8 octets or more, and the count p2c of 1 or more (section
+  -- 4.8.1)
   Password : List ℕ → ℕ → KeyManagement
   -- key wrap by AES in GCM: the initialization vector iv and the tag, of any lengths (section 4.7.1)
   GcmKeyWrap : List ℕ → List ℕ → KeyManagement

@@ -1,5 +1,4 @@
-//! The parts of a compact text between its dots (RFC 7515 section 7.1, RFC 7516 section 7.1), not decoded, for both kinds of
-//! objects.
+//! The parts of a compact text between its dots (RFC 7515 section 7.1, RFC 7516 section 7.1), not decoded, for both kinds of objects.
 ghost use Rattle.octets.specs.Code.Results.{Agrees};
 ghost use Rattle.objects.specs.Texts.{split_at_dot as parts_at_dot, three_parts};
 

@@ -39,8 +39,8 @@ impl<'t> Content<'t> {
         }
     }
 
-    /// The content of an object with this member. Refuses with `Form` if the member is no string, if it is absent and no content
-    /// was handed in, or if one was handed in and the member is not empty.
+    /// The content of an object with this member. Refuses with `Form` if the member is no string, if it is absent and no content was handed
+    /// in, or if one was handed in and the member is not empty.
     pub(crate) fn of_member(
         value: &'t Value,
         name: &str,

@@ -18,9 +18,8 @@ use octets::{Refusal, b64_decode, needs};
 use serde_json::{Map, Value};
 use std::alloc::Global;
 
-/// The JOSE Header of a signature or a recipient (RFC 7515 section 4, RFC 7516 section 4): the union of its
-/// parts, no two of which have a name in common. `per_recipient` is the unprotected part of this one
-/// recipient or signature: the member `header` in JSON form.
+/// The JOSE Header of a signature or a recipient (RFC 7515 section 4, RFC 7516 section 4): the union of its parts, no two of which have a
+/// name in common. `per_recipient` is the unprotected part of this one recipient or signature: the member `header` in JSON form.
 #[derive(Clone, Copy)]
 pub struct Header<'m> {
     pub(crate) protected: Option<&'m Map<String, Value>>,
@@ -29,9 +28,8 @@ pub struct Header<'m> {
 }
 
 impl<'m> Header<'m> {
-    /// The union of these parts: the protected header, the shared unprotected header, and the unprotected
-    /// header of one recipient or signature. An absent part has no members. Refuses with `Header` if a name
-    /// is in two parts.
+    /// The union of these parts: the protected header, the shared unprotected header, and the unprotected header of one recipient or
+    /// signature. An absent part has no members. Refuses with `Header` if a name is in two parts.
     #[tactic(auto, unfolding(crate::specs::Headers::joint_header))]
     pub fn joint(
         protected: Option<&'m Map<String, Value>>,
@@ -87,8 +85,8 @@ impl<'m> Header<'m> {
         self.string("enc")
     }
 
-    /// `p2s`, the salt input, if it is there (RFC 7518 section 4.8.1.1). Refuses with `Header` if it is not
-    /// the base64url text of at least 8 octets. May fail with `Memory`.
+    /// `p2s`, the salt input, if it is there (RFC 7518 section 4.8.1.1). Refuses with `Header` if it is not the base64url text of at least
+    /// 8 octets. May fail with `Memory`.
     #[tactic(auto, unfolding(crate::specs::Headers::salt_parameter))]
     pub fn p2s(&self, alloc: Global) -> Result<Option<Vec<u8>>, Refusal>
         ensures { AgreesUnlessMemory (option_map (λ octets. octets.items)) result
@@ -100,8 +98,7 @@ impl<'m> Header<'m> {
         }
     }
 
-    /// `p2c`, the count of iterations, if it is there (RFC 7518 section 4.8.1.2). Refuses with `Header` if
-    /// it is no whole number from 0.
+    /// `p2c`, the count of iterations, if it is there (RFC 7518 section 4.8.1.2). Refuses with `Header` if it is no whole number from 0.
     #[tactic(auto, unfolding(crate::specs::Headers::number_parameter))]
     pub fn p2c(&self) -> Result<Option<u64>, Refusal>
         ensures exact { Agrees (λ count. count) result
@@ -114,8 +111,8 @@ impl<'m> Header<'m> {
         }
     }
 
-    /// `iv`, the initialization vector of AES-GCM key wrap, if it is there (RFC 7518 section 4.7.1.1).
-    /// Refuses with `Header` if it is no base64url text. May fail with `Memory`.
+    /// `iv`, the initialization vector of AES-GCM key wrap, if it is there (RFC 7518 section 4.7.1.1). Refuses with `Header` if it is no
+    /// base64url text. May fail with `Memory`.
     pub fn iv(&self, alloc: Global) -> Result<Option<Vec<u8>>, Refusal>
         ensures { AgreesUnlessMemory (option_map (λ octets. octets.items)) result
             (octets_parameter (codes "iv") (header_view self.now)) }
@@ -123,8 +120,8 @@ impl<'m> Header<'m> {
         self.octets(alloc, "iv")
     }
 
-    /// `tag`, the tag of AES-GCM key wrap, if it is there (RFC 7518 section 4.7.1.2). Refuses with `Header`
-    /// if it is no base64url text. May fail with `Memory`.
+    /// `tag`, the tag of AES-GCM key wrap, if it is there (RFC 7518 section 4.7.1.2). Refuses with `Header` if it is no base64url text. May
+    /// fail with `Memory`.
     pub fn tag(&self, alloc: Global) -> Result<Option<Vec<u8>>, Refusal>
         ensures { AgreesUnlessMemory (option_map (λ octets. octets.items)) result
             (octets_parameter (codes "tag") (header_view self.now)) }

@@ -1,5 +1,5 @@
-//! The members of an object's JSON text that are texts, not decoded, and its lists of objects, for both kinds of objects (RFC 7515
-//! section 7.2, RFC 7516 section 7.2).
+//! The members of an object's JSON text that are texts, not decoded, and its lists of objects, for both kinds of objects (RFC 7515 section
+//! 7.2, RFC 7516 section 7.2).
 ghost use Rattle.std.specs.Prelude.{◌≡◌, ◌&&◌, false, IfOk, IfErr};
 ghost use Rattle.serde_json.specs.View.{view, items_view};
 ghost use Rattle.serde_json.specs.Written.{has_float, items_have_float};

@@ -46,15 +46,14 @@ pub struct Jwe {
 }
 
 impl Jwe {
-    /// Reads the object of a text in compact form, with or without an LF or a CR LF at its end, or in JSON form, general or
-    /// flattened (RFC 7516 section 7). A detached ciphertext is handed in, and then that of the text must be absent or empty.
-    /// The algorithms may be unsupported.
+    /// Reads the object of a text in compact form, with or without an LF or a CR LF at its end, or in JSON form, general or flattened
+    /// (RFC 7516 section 7). A detached ciphertext is handed in, and then that of the text must be absent or empty. The algorithms may be
+    /// unsupported.
     ///
-    /// Refuses, each cause over the whole text before the next (docs/SPECIFICATION.md "Objects"), with `Json` or `Number`;
-    /// `Form`; `Limit` if there are more than `MOST_RECIPIENTS`; `Base64`; `Json`, `Number` or `Header` if the protected header
-    /// is no object; `Header` if a name is in two headers of a recipient, its `alg` or `enc` is absent or no string, a
-    /// parameter of its `alg` is missing or wrong, or `enc` is not the same for all; and `Unsupported` if a header has a `crit`
-    /// or a `zip`. May fail with `Memory`.
+    /// Refuses, each cause over the whole text before the next (docs/SPECIFICATION.md "Objects"), with `Json` or `Number`; `Form`; `Limit`
+    /// if there are more than `MOST_RECIPIENTS`; `Base64`; `Json`, `Number` or `Header` if the protected header is no object; `Header` if a
+    /// name is in two headers of a recipient, its `alg` or `enc` is absent or no string, a parameter of its `alg` is missing or wrong, or
+    /// `enc` is not the same for all; and `Unsupported` if a header has a `crit` or a `zip`. May fail with `Memory`.
     #[tactic(auto, using(crate::proofs::MadeJwe::objects_are_made))]
     pub fn read(alloc: Global, text: &[u8], detached: Option<Vec<u8>>) -> Result<Jwe, Refusal>
         ensures exact { AgreesUnlessMemory jwe_view result (jwe_of limits (option_map (λ c. c.items) detached) text.now) }

@@ -36,15 +36,14 @@ pub struct Jws<'t> {
 }
 
 impl<'t> Jws<'t> {
-    /// Reads the object of a text in compact form, with or without an LF or a CR LF at its end, or in JSON form, general or
-    /// flattened (RFC 7515 section 7). A detached payload (RFC 7515 appendix F) is handed in, and then that of the text must be
-    /// absent or empty. Nothing is verified, and the algorithms may be unsupported.
+    /// Reads the object of a text in compact form, with or without an LF or a CR LF at its end, or in JSON form, general or flattened
+    /// (RFC 7515 section 7). A detached payload (RFC 7515 appendix F) is handed in, and then that of the text must be absent or empty.
+    /// Nothing is verified, and the algorithms may be unsupported.
     ///
-    /// Refuses, each cause over the whole text before the next (docs/SPECIFICATION.md "Objects"), with `Json` or `Number`;
-    /// `Form`; `Limit` if there are more than `MOST_RECIPIENTS` signatures; `Base64`; `Json`, `Number` or `Header` if a protected
-    /// header is no object; `Header` if a name is in both headers of a signature, its `alg` is absent or no string, or a
-    /// parameter of its `alg` is missing or wrong; and `Unsupported` if a header has a `crit` (RFC 7515 section 4.1.11). May
-    /// fail with `Memory`.
+    /// Refuses, each cause over the whole text before the next (docs/SPECIFICATION.md "Objects"), with `Json` or `Number`; `Form`; `Limit`
+    /// if there are more than `MOST_RECIPIENTS` signatures; `Base64`; `Json`, `Number` or `Header` if a protected header is no object;
+    /// `Header` if a name is in both headers of a signature, its `alg` is absent or no string, or a parameter of its `alg` is missing or
+    /// wrong; and `Unsupported` if a header has a `crit` (RFC 7515 section 4.1.11). May fail with `Memory`.
     #[tactic(auto, using(crate::proofs::MadeJws::objects_are_made))]
     pub fn read(
         alloc: Global,
@@ -76,8 +75,8 @@ impl<'t> Jws<'t> {
         self.payload.held()
     }
 
-    /// Writes the octets of the payload and finishes the output, without memory. Refuses with `Write` if the output fails, and
-    /// then a beginning of them is written.
+    /// Writes the octets of the payload and finishes the output, without memory. Refuses with `Write` if the output fails, and then a
+    /// beginning of them is written.
     pub fn write_payload<O: Output>(&self, out: &mut O) -> Result<(), Refusal>
         ensures all { OnOk result (O.written out.new ≡ O.written out.old ++ (jws_view self.now).payload) }
         ensures finished { OnOk result (IsFinishedOnce O.is_finished O.endings out.old out.new) }

@@ -16,8 +16,7 @@ use keys::{KeyManagementAlg, KeyManagementMode};
 use octets::{Refusal, needs};
 use std::alloc::Global;
 
-/// How a recipient's key delivers the content encryption key (RFC 7518 section 4), with the header parameters that its
-/// algorithm reads.
+/// How a recipient's key delivers the content encryption key (RFC 7518 section 4), with the header parameters that its algorithm reads.
 #[derive(Drop)]
 pub enum KeyManagement {
     /// An algorithm that is not known; none of its parameters is read.

@@ -20,8 +20,7 @@ pub fn jws_json_texts_are_compact()
     ensures { jws.JsonTextsAreCompact }
 {}
 
-/// The JSON text of a signed object that is made of its members reads as this object, and so does its compact text, if
-/// it has one.
+/// The JSON text of a signed object that is made of its members reads as this object, and so does its compact text, if it has one.
 pub fn jws_texts_spell_objects()
     ensures { jws.TextsSpellObjects }
 {}
@@ -36,8 +35,8 @@ pub fn jws_compact_texts_are_exact()
     ensures { jws.CompactTextsAreExact }
 {}
 
-/// A signed object has a compact text exactly if it has one signature and no unprotected header. The text is then its
-/// three parts, joined by dots. Every other object is refused with `NotCompact`.
+/// A signed object has a compact text exactly if it has one signature and no unprotected header. The text is then its three parts, joined
+/// by dots. Every other object is refused with `NotCompact`.
 pub fn jws_compact_form_is_exact()
     ensures { JwsCompactFormIsExact }
 {}
@@ -57,8 +56,7 @@ pub fn jwe_json_texts_are_compact()
     ensures { jwe.JsonTextsAreCompact }
 {}
 
-/// The JSON text of an encrypted object that is made of its members reads as this object, and so does its compact text,
-/// if it has one.
+/// The JSON text of an encrypted object that is made of its members reads as this object, and so does its compact text, if it has one.
 pub fn jwe_texts_spell_objects()
     ensures { jwe.TextsSpellObjects }
 {}
@@ -73,8 +71,8 @@ pub fn jwe_compact_texts_are_exact()
     ensures { jwe.CompactTextsAreExact }
 {}
 
-/// An encrypted object has a compact text exactly if it has one recipient, only a protected header and no additional data. The
-/// text is then its five parts, joined by dots. Every other object is refused with `NotCompact`.
+/// An encrypted object has a compact text exactly if it has one recipient, only a protected header and no additional data. The text is then
+/// its five parts, joined by dots. Every other object is refused with `NotCompact`.
 pub fn jwe_compact_form_is_exact()
     ensures { JweCompactFormIsExact }
 {}

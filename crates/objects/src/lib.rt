@@ -1,6 +1,5 @@
-//! JOSE headers (RFC 7515 section 4, RFC 7516 section 4), and signed and encrypted objects in compact form and in JSON
-//! form, general and flattened (RFC 7515 section 7, RFC 7516 section 7). The crate reads texts of objects and headers, and
-//! sees no octets of keys.
+//! JOSE headers (RFC 7515 section 4, RFC 7516 section 4), and signed and encrypted objects in compact form and in JSON form, general and
+//! flattened (RFC 7515 section 7, RFC 7516 section 7). The crate reads texts of objects and headers, and sees no octets of keys.
 //!
 //! ```rust
 //! let protected = read_protected(alloc, b"{\"alg\":\"HS256\"}")?;

@@ -1,5 +1,5 @@
-//! Writing the text of an object of either kind (RFC 7515 section 7, RFC 7516 section 7): as one text with its values, or as the
-//! texts around places that are left for values.
+//! Writing the text of an object of either kind (RFC 7515 section 7, RFC 7516 section 7): as one text with its values, or as the texts
+//! around places that are left for values.
 ghost use Rattle.std.specs.Prelude.{◌≡◌, ◌++◌, true, false, map, option_map, Err, Ok, IfOk, IfErr, OnOk, OnErr, string_bytes};
 ghost use Rattle.serde_json.specs.Data.{object};
 ghost use Rattle.serde_json.specs.View.{view, members_view};

@@ -43,8 +43,7 @@ text_grows x y b =
 
 -- ---- frames
 
--- If a content begins another, the first text of a frame and the text of the content's whole groups begin the frame filled with the
--- other.
+-- If a content begins another, the first text of a frame and the text of the content's whole groups begin the frame filled with the other.
 pub frame_begins : (texts : List (List ℕ)) (x content : List ℕ) (others : List (List ℕ)) → 1 ≤ length texts → Begins x content
     → Begins (first_text (Ok texts) ++ base64url (whole_groups x)) (filled texts (in_places false content others))
 frame_begins [] x content others some b = absurd (omega (arith, some))

@@ -185,8 +185,8 @@ EncryptingMakesTexts = (compact detach : Bool) (keys : List OctetKey) (template 
 
 -- ---- what is encrypted is decrypted (docs/SPECIFICATION.md "Encrypting" and "Decrypting")
 
--- Limits under which what is written may be read: a header is not too deep for a list of recipients, a count of iterations is at least 1,
--- a JSON number, and at most the greatest that is read, and the algorithms are those that may be chosen.
+-- Limits under which what is written may be read: a header is not too deep for a list of recipients, a count of iterations is at least 1, a
+-- JSON number, and at most the greatest that is read, and the algorithms are those that may be chosen.
 pub record AreSound (limits : Limits) : Type 0 where
   pub depth : limits.depth ≤ listed_header_depth
   pub some : 1 ≤ limits.least_p2c

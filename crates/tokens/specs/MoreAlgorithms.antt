@@ -1,5 +1,5 @@
--- What stays as it is if more algorithms of key management are known: every object whose recipients name none of the further ones, or
--- name algorithms that are known without them.
+-- What stays as it is if more algorithms of key management are known: every object whose recipients name none of the further ones, or name
+-- algorithms that are known without them.
 use Rattle.std.specs.Prelude.{◌≡◌, ◌↔◌, ◌||◌, ℕ, not, is_some, true, false, Bool, List, [], ◌∷◌, ◌++◌, Option, Ok}
 use Rattle.std.specs.List.{filter, list_all}
 use Rattle.keys.specs.declared.algorithm.KeyManagementAlg.{KeyManagementAlg}
@@ -59,8 +59,8 @@ NeedsNoMore known further o = list_all (λ r. needs_no_more known further r.alg)
 abbrev pub NeedsNoMoreSigned : List KeyManagementAlg → List KeyManagementAlg → SignedObject → Type 0
 NeedsNoMoreSigned known further o = list_all (λ s. needs_no_more known further s.alg) o.signatures ≡ true
 
--- They are read of the same texts, and the encrypted ones are decrypted by the same keys to the same plaintexts, or with the same
--- refusals, whether the further algorithms are known or not.
+-- They are read of the same texts, and the encrypted ones are decrypted by the same keys to the same plaintexts, or with the same refusals,
+-- whether the further algorithms are known or not.
 pub record OpensAlike (limits : Limits) (known further : List KeyManagementAlg) : Type 0 where
   pub read : (detached : Option (List ℕ)) (text : List ℕ) (o : EncryptedObject) → NeedsNoMore known further o
       → (jwe_of (knowing limits (known ++ further)) detached text ≡ Ok o) ↔ (jwe_of (knowing limits known) detached text ≡ Ok o)

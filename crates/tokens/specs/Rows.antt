@@ -1,4 +1,5 @@
--- An algorithm of key management has one row in `keys` and one in `ciphers`. Neither crate uses the other, and a law says that the rows agree.
+-- An algorithm of key management has one row in `keys` and one in `ciphers`. Neither crate uses the other, and a law says that the rows
+-- agree.
 use Rattle.std.specs.Prelude.{◌≡◌, ℕ, ◌*◌, List, ⊤}
 use Rattle.ciphers.specs.Algorithms.{KeyFamily, direct, aes_key_wrap, aes_gcm_key_wrap, pbes2, key_family}
 use Rattle.keys.specs.declared.algorithm.KeyManagementAlg.{KeyManagementAlg}

@@ -7,8 +7,8 @@ use octets::{Refusal, b64_append};
 use std::alloc::Global;
 use std::borrow::CowStr;
 
-/// The additional data: the text of the protected header and, if there is an `aad`, a dot and its base64url text
-/// (RFC 7516 section 5.1, step 14, and section 5.2, step 15).
+/// The additional data: the text of the protected header and, if there is an `aad`, a dot and its base64url text (RFC 7516 section 5.1,
+/// step 14, and section 5.2, step 15).
 pub(crate) fn additional_authenticated_data<'t>(
     alloc: Global,
     protected: &'t str,

@@ -75,14 +75,13 @@ struct SealedWith<'j, 'a> {
     tag: &'j [u8],
 }
 
-/// Decrypts the object with the keys (RFC 7516 section 5.2) and writes its plaintext. The recipients are tried in order,
-/// and for each the keys in order that may decrypt by its algorithms and fit. The plaintext is that of the first pair whose
-/// encrypted key unwraps to a content encryption key under which the tag is right.
+/// Decrypts the object with the keys (RFC 7516 section 5.2) and writes its plaintext. The recipients are tried in order, and for each the
+/// keys in order that may decrypt by its algorithms and fit. The plaintext is that of the first pair whose encrypted key unwraps to a
+/// content encryption key under which the tag is right.
 ///
-/// Refuses, in this order, with `Unsupported` if no recipient's algorithms are supported; `KeyDoesNotFit` if no key may
-/// decrypt and fits; `Limit` if a pair needs more than `GREATEST_P2C_READ` iterations of PBKDF2, or all pairs more than
-/// `MOST_ITERATIONS`; `NotOpened` if no pair opens; and `Write` if the output fails. May fail with `Memory`. `Work` is 0
-/// after every refusal except `NotOpened` and `Write`.
+/// Refuses, in this order, with `Unsupported` if no recipient's algorithms are supported; `KeyDoesNotFit` if no key may decrypt and fits;
+/// `Limit` if a pair needs more than `GREATEST_P2C_READ` iterations of PBKDF2, or all pairs more than `MOST_ITERATIONS`; `NotOpened` if no
+/// pair opens; and `Write` if the output fails. May fail with `Memory`. `Work` is 0 after every refusal except `NotOpened` and `Write`.
 pub fn jwe_decrypt<O: Output>(
     alloc: Global,
     keys: &KeySet,
@@ -145,8 +144,8 @@ fn open_first(alloc: Global, keys: &KeySet, jwe: Jwe, work: &mut Work) -> Result
     Ok(octets)
 }
 
-/// Opens the ciphertext of the object where it stands, by the first pair that opens it, and answers the length of the plaintext. Refuses
-/// as `jwe_decrypt` does.
+/// Opens the ciphertext of the object where it stands, by the first pair that opens it, and answers the length of the plaintext. Refuses as
+/// `jwe_decrypt` does.
 #[tactic(auto, unfolding(crate::specs::Decrypting::decrypted))]
 fn open_in_place<'x>(
     alloc: Global,
@@ -175,8 +174,8 @@ fn open_in_place<'x>(
     opened.ok_or(Refusal::NotOpened)
 }
 
-/// Opens the ciphertext by a pair, after those of the recipient and the keys before. If one of these is the same, the content is not
-/// tried again. If the pair does not open it, the octets are unchanged.
+/// Opens the ciphertext by a pair, after those of the recipient and the keys before. If one of these is the same, the content is not tried
+/// again. If the pair does not open it, the octets are unchanged.
 #[tactic(auto, unfolding(crate::specs::Decrypting::opened_by))]
 fn open_pair(
     pair: &Pair<'_>,

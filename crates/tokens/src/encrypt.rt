@@ -50,29 +50,28 @@ use std::alloc::Global;
 /// The most octets that are drawn: for each key a salt input, a content encryption key of 64, and an initialization vector of 16.
 const MOST_DRAWN: usize = MOST_KEYS * SALT_LEN + 80;
 
-/// Reads the content to its end, encrypts it to each key in order (RFC 7516 section 5.1), as the template asks, and writes the
-/// object's text: with `compact` its compact text (section 7.1), and else its JSON text (section 7.2), flattened if there is one
-/// key. If there is an output for it, the ciphertext is detached: it is written there as plain octets, before the text, and the
-/// text is without it.
+/// Reads the content to its end, encrypts it to each key in order (RFC 7516 section 5.1), as the template asks, and writes the object's
+/// text: with `compact` its compact text (section 7.1), and else its JSON text (section 7.2), flattened if there is one key. If there is an
+/// output for it, the ciphertext is detached: it is written there as plain octets, before the text, and the text is without it.
 ///
-/// The template is a JSON object with no members other than `protected` and `unprotected`, which are objects, and `aad`, a
-/// base64url text. The algorithm of key management is the `alg` of the headers; else the key's `alg`, where a content encryption
-/// means direct use; else A128KW, A192KW or A256KW by the key's length. The algorithm of content encryption is the `enc` of the
-/// headers; else, if a key is used directly, its `alg` or the CBC algorithm of its length; else the CBC algorithm that goes with
-/// the key management of the first key. For a password `p2c` is that of the headers, or else `USUAL_P2C`, and `p2s`, of 16
-/// octets, is drawn. For AES-GCM key wrap `iv`, of 12 octets, is drawn, and `tag` is made with the encrypted key.
+/// The template is a JSON object with no members other than `protected` and `unprotected`, which are objects, and `aad`, a base64url text.
+/// The algorithm of key management is the `alg` of the headers; else the key's `alg`, where a content encryption means direct use; else
+/// A128KW, A192KW or A256KW by the key's length. The algorithm of content encryption is the `enc` of the headers; else, if a key is used
+/// directly, its `alg` or the CBC algorithm of its length; else the CBC algorithm that goes with the key management of the first key. For a
+/// password `p2c` is that of the headers, or else `USUAL_P2C`, and `p2s`, of 16 octets, is drawn. For AES-GCM key wrap `iv`, of 12 octets,
+/// is drawn, and `tag` is made with the encrypted key.
 ///
-/// What the headers do not have is added: `enc` to the protected header; `alg`, `p2c`, `p2s`, `iv` and `tag` to the protected
-/// header if there is one key, and else to the header of each recipient.
+/// What the headers do not have is added: `enc` to the protected header; `alg`, `p2c`, `p2s`, `iv` and `tag` to the protected header if
+/// there is one key, and else to the header of each recipient.
 ///
-/// Exactly these octets of the random input are read, after every refusal for the template and the keys: the `p2s` or the `iv`
-/// of each key that needs one, in order; the content encryption key, unless a key is it; and the initialization vector.
+/// Exactly these octets of the random input are read, after every refusal for the template and the keys: the `p2s` or the `iv` of each key
+/// that needs one, in order; the content encryption key, unless a key is it; and the initialization vector.
 ///
-/// Refuses, each step for every key before the next (docs/SPECIFICATION.md "Encrypting"), with `Json`, `Number`, `Form`,
-/// `Base64`, `Header` or `Unsupported` for the template; `NoAlgorithm`, `KeyDoesNotFit` or `Header` for the keys and the
-/// algorithms; `Limit` for a header that is too deep, or for iterations; `NotCompact` if compact form cannot hold the object;
-/// `Read` if the random input fails, and `Random` if it ends too early; `Read` if the content fails, and `Limit` if it is too
-/// long; and `Write` if an output fails. May fail with `Memory`, before the content is read.
+/// Refuses, each step for every key before the next (docs/SPECIFICATION.md "Encrypting"), with `Json`, `Number`, `Form`, `Base64`, `Header`
+/// or `Unsupported` for the template; `NoAlgorithm`, `KeyDoesNotFit` or `Header` for the keys and the algorithms; `Limit` for a header that
+/// is too deep, or for iterations; `NotCompact` if compact form cannot hold the object; `Read` if the random input fails, and `Random` if
+/// it ends too early; `Read` if the content fails, and `Limit` if it is too long; and `Write` if an output fails. May fail with `Memory`,
+/// before the content is read.
 #[tactic(auto, unfolding(crate::specs::Encrypting::enc_plan))]
 pub fn jwe_encrypt<I: Input, O: Output>(
     alloc: Global,
@@ -122,8 +121,8 @@ struct PreparedEncryption {
     sealer: ContentSealer,
 }
 
-/// All that is settled before the plaintext is read. Apart from `Memory` and failures of the random input, it is refused exactly
-/// when the plan is refused for every plaintext.
+/// All that is settled before the plaintext is read. Apart from `Memory` and failures of the random input, it is refused exactly when the
+/// plan is refused for every plaintext.
 #[tactic(auto, unfolding(crate::specs::Encrypting::enc_plan))]
 fn prepare<I: Input>(
     alloc: Global,

@@ -1,5 +1,5 @@
-//! A content that is written as it is read, inside the texts of an object's frame or apart from them, and the values that follow
-//! it in their places: the signatures, or the tag.
+//! A content that is written as it is read, inside the texts of an object's frame or apart from them, and the values that follow it in
+//! their places: the signatures, or the tag.
 ghost use Rattle.std.specs.Prelude.{◌≡◌, ◌≢◌, ◌⊎◌, ◌+◌, ◌++◌, ℕ, List, [], ◌∷◌, true, false, length, map, string_bytes, Some, None, Ok, Err, IfErr, IsTrue, OnOk, OnErr};
 ghost use Rattle.std.specs.Iterator.{IsFinite};
 ghost use Rattle.octets.specs.Devices.{AppendsPrefixOf, IsFinishedOnce, input_members, output_members};
@@ -36,8 +36,8 @@ pub(crate) trait Values: Drop {
     ghost as_many: { (x : Self) (values : List (List ℕ)) → gives x values → length values ≡ count x };
 }
 
-/// Writes the content inside the texts: the first text, what the transform returns of the content as it is read, and then each other
-/// text after a value. Refuses with `Read` if the content fails, as the transform does, and with `Write`.
+/// Writes the content inside the texts: the first text, what the transform returns of the content as it is read, and then each other text
+/// after a value. Refuses with `Read` if the content fails, as the transform does, and with `Write`.
 pub(crate) fn write_inside<I: Input, T: Transform, O: Output>(
     content: &mut I,
     transform: T,
@@ -62,8 +62,8 @@ where
     rest.write(others, out)
 }
 
-/// Writes what the transform returns of the content as it is read to an output of its own, and finishes that. Then writes the texts,
-/// with a value between each two. Refuses with `Read` if the content fails, as the transform does, and with `Write`.
+/// Writes what the transform returns of the content as it is read to an output of its own, and finishes that. Then writes the texts, with a
+/// value between each two. Refuses with `Read` if the content fails, as the transform does, and with `Write`.
 pub(crate) fn write_beside<I: Input, T: Transform, O: Output>(
     content: &mut I,
     transform: T,

@@ -34,8 +34,7 @@ pub fn what_is_signed_verifies()
     jws_texts_spell_objects();
 }
 
-/// The text of an encrypted object that a beginning of the plaintext fixes grows as more is read, and is a beginning of the
-/// whole text.
+/// The text of an encrypted object that a beginning of the plaintext fixes grows as more is read, and is a beginning of the whole text.
 pub fn encrypting_grows()
     ensures { EncryptingGrows }
 {
@@ -51,9 +50,9 @@ pub fn encrypting_makes_texts()
     what_delivers_is_octets();
 }
 
-/// An object that is encrypted to keys is decrypted to the plaintext with each of these keys alone, if the key may decrypt and
-/// opens nothing else at the recipient of an earlier key. This holds under all limits under which what is written may be read,
-/// and so under those of this profile.
+/// An object that is encrypted to keys is decrypted to the plaintext with each of these keys alone, if the key may decrypt and opens
+/// nothing else at the recipient of an earlier key. This holds under all limits under which what is written may be read, and so under those
+/// of this profile.
 pub fn what_is_encrypted_decrypts()
     ensures all { (limits : Limits) → AreSound limits → EncryptedDecrypts limits }
     ensures here { EncryptedDecrypts limits }
@@ -65,9 +64,9 @@ pub fn what_is_encrypted_decrypts()
     jwe_texts_spell_objects();
 }
 
-/// With further algorithms of key management, objects are read as before, and encrypted ones are decrypted as before, if their
-/// names are those of algorithms that were known before, or of none of the further ones. So it is when the three of AES-GCM key
-/// wrap are added to the earlier ones, which together are the algorithms of the limits.
+/// With further algorithms of key management, objects are read as before, and encrypted ones are decrypted as before, if their names are
+/// those of algorithms that were known before, or of none of the further ones. So it is when the three of AES-GCM key wrap are added to the
+/// earlier ones, which together are the algorithms of the limits.
 pub fn more_algorithms_open_alike()
     ensures all { (limits : Limits) (known further : List KeyManagementAlg) → OpensAlike limits known further }
     ensures gcm { OpensAlike limits earlier_management_algs gcm_management_algs

@@ -1,5 +1,5 @@
-//! Signing and verifying (RFC 7515), encrypting and decrypting (RFC 7516), as the standards' functions of keys and objects. The
-//! calls have keys, texts of templates, objects, and devices for their content, but no commands and no options.
+//! Signing and verifying (RFC 7515), encrypting and decrypting (RFC 7516), as the standards' functions of keys and objects. The calls have
+//! keys, texts of templates, objects, and devices for their content, but no commands and no options.
 //!
 //! ```rust
 //! let keys = KeySet::read(alloc, b"{\"kty\":\"oct\",\"k\":\"AAECAwQFBgcICQoLDA0ODxAREhMUFRYXGBkaGxwdHh8\"}", true)?;

@@ -34,19 +34,18 @@ use objects::{Jws, JwsParts, SignatureParts, copy_header};
 use octets::{Input, Output, Refusal, b64_encode};
 use std::alloc::Global;
 
-/// Reads the content to its end, signs it with each key in order (RFC 7515 section 5.1), as the template asks, and writes the
-/// object's text: with `compact` its compact text (section 7.1), and else its JSON text (section 7.2), flattened if there is one
-/// key. If there is an output for it, the payload is detached (appendix F): it is written there as it is, before the text, and the
-/// text is without it.
+/// Reads the content to its end, signs it with each key in order (RFC 7515 section 5.1), as the template asks, and writes the object's
+/// text: with `compact` its compact text (section 7.1), and else its JSON text (section 7.2), flattened if there is one key. If there is an
+/// output for it, the payload is detached (appendix F): it is written there as it is, before the text, and the text is without it.
 ///
-/// The template is a JSON object with no members other than `protected` and `header`, which are objects. It is used for every
-/// signature. The algorithm is the `alg` of these headers; else the key's `alg`; else the one with the longest hash that the key
-/// is long enough for. If the template does not name it, the written protected header does.
+/// The template is a JSON object with no members other than `protected` and `header`, which are objects. It is used for every signature.
+/// The algorithm is the `alg` of these headers; else the key's `alg`; else the one with the longest hash that the key is long enough for.
+/// If the template does not name it, the written protected header does.
 ///
 /// Refuses, each step for every key before the next (docs/SPECIFICATION.md "Signing"), with `Json`, `Number`, `Form`, `Header` or
-/// `Unsupported` for the template; `NoAlgorithm` or `KeyDoesNotFit` for a key; `Limit` for a header that is too deep; `NotCompact`
-/// if compact form cannot hold the object; `Read` if the content fails; and `Write` if an output fails. May fail with `Memory`,
-/// before the content is read.
+/// `Unsupported` for the template; `NoAlgorithm` or `KeyDoesNotFit` for a key; `Limit` for a header that is too deep; `NotCompact` if
+/// compact form cannot hold the object; `Read` if the content fails; and `Write` if an output fails. May fail with `Memory`, before the
+/// content is read.
 #[tactic(auto, unfolding(crate::specs::Signing::sig_plan))]
 pub fn jws_sign<I: Input, O: Output>(
     alloc: Global,
@@ -84,8 +83,7 @@ struct PreparedSigning {
     inputs: Vec<HmacInput>,
 }
 
-/// All that is settled before the payload is read. Apart from `Memory`, it is refused exactly when the plan is refused for every
-/// payload.
+/// All that is settled before the payload is read. Apart from `Memory`, it is refused exactly when the plan is refused for every payload.
 fn prepare(
     alloc: Global,
     keys: &KeySet,

@@ -23,12 +23,12 @@ use keys::{Algorithm, Key, KeySet, Operation, SignatureAlg};
 use objects::{HeldContent, Jws, Signature};
 use octets::{Output, Refusal, needs};
 
-/// Verifies the object with the keys (RFC 7515 section 5.2), and writes its payload if there is an output. Some key that may
-/// verify by the algorithm of a signature, and fits, must have made this signature. With `all`, each key must have made one.
+/// Verifies the object with the keys (RFC 7515 section 5.2), and writes its payload if there is an output. Some key that may verify by the
+/// algorithm of a signature, and fits, must have made this signature. With `all`, each key must have made one.
 ///
-/// Refuses, in this order, with `Unsupported` if no signature's algorithm is supported; `KeyDoesNotFit` if no key may verify by
-/// a supported one and fits; `NotOpened` if no such pair of a signature and a key verifies, or with `all` none of some key; and
-/// `Write` if the output fails.
+/// Refuses, in this order, with `Unsupported` if no signature's algorithm is supported; `KeyDoesNotFit` if no key may verify by a supported
+/// one and fits; `NotOpened` if no such pair of a signature and a key verifies, or with `all` none of some key; and `Write` if the output
+/// fails.
 #[tactic(auto, unfolding(crate::specs::Verifying::verifying_by))]
 pub fn jws_verify<O: Output>(
     keys: &KeySet,

@@ -22,8 +22,8 @@ abbrev pub in_places : Bool → List ℕ → List (List ℕ) → List (List ℕ)
 in_places true content others = map base64url others
 in_places false content others = base64url content ∷ map base64url others
 
--- the first of the texts, which is before all places, or nothing if there is no frame (docs/SPECIFICATION.md "Commands", what is left
--- after a refusal)
+-- the first of the texts, which is before all places, or nothing if there is no frame (docs/SPECIFICATION.md "Commands", what is left after
+-- a refusal)
 abbrev pub first_text : Result (List (List ℕ)) Refusal → List ℕ
 first_text (Ok (text ∷ rest)) = text
 first_text r = []

@@ -25,8 +25,8 @@ with_signatures payload [] w = with_general payload [] w
 with_signatures payload (s ∷ []) w = with_signature payload s w
 with_signatures payload (s ∷ (other ∷ rest)) w = with_general payload (s ∷ (other ∷ rest)) w
 
--- The JSON text of members, in byte order of their names: flattened if there is one signature, and else general. A detached payload is
--- not in it.
+-- The JSON text of members, in byte order of their names: flattened if there is one signature, and else general. A detached payload is not
+-- in it.
 abbrev pub jws_json : Bool → Bool → JwsParts → Written
 jws_json places detach parts = closed (codes "}") (with_signatures (inside detach parts.payload) parts.signatures (opened (codes "{") (nothing_written places)))
 

@@ -21,8 +21,8 @@ fn first_dot_by_octets(text: &[u8]) -> Option<usize>
     text.iter().position(|c| *c == b'.')
 }
 
-/// A number of octets at the front of the text without a dot: those before the first block with a dot, or before the last octets,
-/// which are no block.
+/// A number of octets at the front of the text without a dot: those before the first block with a dot, or before the last octets, which are
+/// no block.
 fn without_dots(text: &[u8]) -> usize
     ensures none { result ≤ position_or_len is_dot text.now }
     ensures within { result ≤ length text.now }

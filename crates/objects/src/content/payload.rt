@@ -1,5 +1,5 @@
-//! The payload of a signed object, as the base64url text that was received or as octets. A text is checked and written in
-//! pieces, without memory.
+//! The payload of a signed object, as the base64url text that was received or as octets. A text is checked and written in pieces, without
+//! memory.
 ghost use Rattle.std.specs.Prelude.{◌≡◌, ◌++◌, Err, IfOk, IfErr, OnOk, OnErr};
 ghost use Rattle.octets.specs.Base64url.{base64url, decoded};
 ghost use Rattle.octets.specs.Devices.{next_count, AppendsPrefixOf, IsFinishedOnce};

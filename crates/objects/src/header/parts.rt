@@ -17,8 +17,8 @@ use octets::Refusal;
 use serde_json::{Map, Value};
 use std::alloc::Global;
 
-/// The header in a member of the value, if it is there (RFC 7515 section 7.2.1, RFC 7516 section 7.2.1).
-/// Refuses with `Form` if the member is no object.
+/// The header in a member of the value, if it is there (RFC 7515 section 7.2.1, RFC 7516 section 7.2.1). Refuses with `Form` if the member
+/// is no object.
 #[tactic(auto, unfolding(crate::specs::Headers::header_at), using(keys::proofs::Lemmas::no_float_in_member, keys::proofs::Lemmas::no_float_members_of))]
 pub fn header_at<'v>(
     value: &'v Value,
@@ -38,8 +38,7 @@ pub fn header_at<'v>(
     }
 }
 
-/// A copy of the header in a member of the value. An absent one has no members. Refuses with `Form` if the member is no
-/// object.
+/// A copy of the header in a member of the value. An absent one has no members. Refuses with `Form` if the member is no object.
 pub(crate) fn owned_header_at(
     alloc: Global,
     value: &Value,
@@ -105,8 +104,8 @@ pub fn copy_header(
     }
 }
 
-/// The members of a protected header's octets (RFC 7515 section 5.2, step 3). A header of no octets has no
-/// members. Refuses with `Json`, `Number`, and then with `Header` if it is no object. May fail with `Memory`.
+/// The members of a protected header's octets (RFC 7515 section 5.2, step 3). A header of no octets has no members. Refuses with `Json`,
+/// `Number`, and then with `Header` if it is no object. May fail with `Memory`.
 #[tactic(auto, unfolding(crate::specs::Headers::protected_members))]
 pub fn read_protected(alloc: Global, octets: &[u8]) -> Result<Map<String, Value>, Refusal>
     ensures { AgreesUnlessMemory (λ members. members_view members.entries) result

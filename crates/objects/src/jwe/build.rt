@@ -17,10 +17,9 @@ use octets::{Refusal, b64_decode, needs};
 use std::alloc::Global;
 
 impl Jwe {
-    /// The object with these members. Refuses as `Jwe::read` refuses its JSON text, in the same order: `Json` if that nests
-    /// deeper than 127; `Number` if a header has a number that is not whole or not of 64 bits, as `-0`; `Form` if there is no
-    /// recipient; `Limit` if there are more than `MOST_RECIPIENTS`; `Base64` if the text of the protected header is no base64url
-    /// text; and then for the headers.
+    /// The object with these members. Refuses as `Jwe::read` refuses its JSON text, in the same order: `Json` if that nests deeper than
+    /// 127; `Number` if a header has a number that is not whole or not of 64 bits, as `-0`; `Form` if there is no recipient; `Limit` if
+    /// there are more than `MOST_RECIPIENTS`; `Base64` if the text of the protected header is no base64url text; and then for the headers.
     pub fn build(alloc: Global, parts: JweParts) -> Result<Jwe, Refusal>
         ensures exact { AgreesUnlessMemory jwe_view result (built limits (jwe_parts_view parts)) }
         ensures made { IfOk result (λ jwe. AreMembers (jwe_parts_view parts) → IsMade limits (jwe_view jwe)) }

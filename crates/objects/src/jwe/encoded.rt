@@ -1,5 +1,5 @@
-//! The members of an encrypted object as texts, from its compact or its JSON serialization (RFC 7516 section 7), and their
-//! decoding. The protected header is not read.
+//! The members of an encrypted object as texts, from its compact or its JSON serialization (RFC 7516 section 7), and their decoding. The
+//! protected header is not read.
 ghost use Rattle.std.specs.Prelude.{◌≡◌, false, length, map, option_map, IfOk};
 ghost use Rattle.serde_json.specs.View.{view, items_view};
 ghost use Rattle.serde_json.specs.Written.{has_float, items_have_float};
@@ -49,9 +49,8 @@ impl<'t> EncodedJwe<'t> {
     }
 }
 
-/// The members of an object in JSON form (RFC 7516 section 7.2). Refuses with `Form` if one has a wrong type, if `ciphertext` is
-/// not empty although it was handed in, or is absent although it was not, or if the recipients are neither one nor a list of at
-/// least one.
+/// The members of an object in JSON form (RFC 7516 section 7.2). Refuses with `Form` if one has a wrong type, if `ciphertext` is not empty
+/// although it was handed in, or is absent although it was not, or if the recipients are neither one nor a list of at least one.
 #[tactic(auto, unfolding(crate::specs::Jwe::encoded_in_json))]
 pub(crate) fn encoded_in_json(
     alloc: Global,
@@ -138,8 +137,8 @@ fn encoded_recipient(alloc: Global, value: &Value) -> Result<EncodedRecipient<'_
     })
 }
 
-/// The five parts of a compact text (RFC 7516 section 7.1). Refuses with `Form` if there are more or fewer, or if a ciphertext
-/// was handed in and its part is not empty.
+/// The five parts of a compact text (RFC 7516 section 7.1). Refuses with `Form` if there are more or fewer, or if a ciphertext was handed
+/// in and its part is not empty.
 #[tactic(auto, unfolding(crate::specs::Jwe::encoded_in_compact))]
 pub(crate) fn encoded_in_compact(
     alloc: Global,
@@ -168,8 +167,8 @@ pub(crate) fn encoded_in_compact(
     })
 }
 
-/// The octets of the members' texts, except for the protected header, whose text is kept. Refuses with `Base64` if a text is
-/// no base64url text.
+/// The octets of the members' texts, except for the protected header, whose text is kept. Refuses with `Base64` if a text is no base64url
+/// text.
 #[tactic(auto, unfolding(crate::specs::Jwe::decoded_members))]
 pub(crate) fn decoded_members(
     alloc: Global,

@@ -32,8 +32,8 @@ pub struct Recipient {
     enc: SharedText,
 }
 
-/// The recipient, with the other parts of its joint header. Refuses with `Header` if a name is in two parts, `alg` or `enc`
-/// is absent or no string, or a parameter of the `alg` is missing or wrong (docs/SPECIFICATION.md "Objects" 3).
+/// The recipient, with the other parts of its joint header. Refuses with `Header` if a name is in two parts, `alg` or `enc` is absent or no
+/// string, or a parameter of the `alg` is missing or wrong (docs/SPECIFICATION.md "Objects" 3).
 #[tactic(auto, unfolding(crate::specs::Jwe::recipient_of, crate::specs::Jwe::recipient_by))]
 fn read_recipient(
     alloc: Global,
@@ -100,8 +100,8 @@ impl Recipient {
     }
 }
 
-/// Whether the header has neither a `crit` nor a `zip`, of any value: no extension is known (RFC 7515 section 4.1.11),
-/// and no content is compressed (RFC 7516 section 4.1.3).
+/// Whether the header has neither a `crit` nor a `zip`, of any value: no extension is known (RFC 7515 section 4.1.11), and no content is
+/// compressed (RFC 7516 section 4.1.3).
 pub(crate) fn has_no_crit_or_zip(header: &Map<String, Value>) -> bool
     ensures { result ≡ has_no_crit_or_zip (members_view header.now.entries) }
 {

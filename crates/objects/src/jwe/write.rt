@@ -28,8 +28,8 @@ impl Jwe {
         self.to_text(alloc, false, detach)
     }
 
-    /// The compact text (RFC 7516 section 7.1), in which the part of a detached ciphertext is empty. Refuses with
-    /// `NotCompact` if the object has several recipients, a header that is not protected, or an `aad`. May fail with `Memory`.
+    /// The compact text (RFC 7516 section 7.1), in which the part of a detached ciphertext is empty. Refuses with `NotCompact` if the
+    /// object has several recipients, a header that is not protected, or an `aad`. May fail with `Memory`.
     pub fn to_compact(&self, alloc: Global, detach: bool) -> Result<String, Refusal>
         ensures exact { AgreesUnlessMemory string_bytes result (jwe_compact_text detach (jwe_view self.now)) }
         ensures spells { IsMade limits (jwe_view self.now)
@@ -47,9 +47,9 @@ impl Jwe {
         Ok(self.written(alloc, false, compact, detach)?.into_text())
     }
 
-    /// The texts before, between and after the base64url texts of a ciphertext and a tag, in compact form if that is asked for,
-    /// and else in JSON form. A detached ciphertext has no place. The object's own ciphertext and tag do not matter. Refuses
-    /// with `NotCompact` as `to_compact` does. May fail with `Memory`.
+    /// The texts before, between and after the base64url texts of a ciphertext and a tag, in compact form if that is asked for, and else in
+    /// JSON form. A detached ciphertext has no place. The object's own ciphertext and tag do not matter. Refuses with `NotCompact` as
+    /// `to_compact` does. May fail with `Memory`.
     pub fn frame(&self, alloc: Global, compact: bool, detach: bool) -> Result<Vec<String>, Refusal>
         ensures exact { AgreesUnlessMemory (λ texts. map string_bytes texts.items) result (jwe_frame compact detach (jwe_view self.now)) }
         ensures texts { IfOk result (λ texts. IsJweFrame compact detach (jwe_view self.now) (map string_bytes texts.items)) }

@@ -18,10 +18,9 @@ use octets::{Refusal, b64_decode, needs};
 use std::alloc::Global;
 
 impl<'t> Jws<'t> {
-    /// The object with these members. Refuses as `Jws::read` refuses its JSON text, in the same order: `Json` if that nests
-    /// deeper than 127; `Number` if a header has a number that is not whole or not of 64 bits, as `-0`; `Form` if there is no
-    /// signature; `Limit` if there are more than `MOST_RECIPIENTS`; `Base64` if the text of a protected header is no base64url
-    /// text; and then for the headers.
+    /// The object with these members. Refuses as `Jws::read` refuses its JSON text, in the same order: `Json` if that nests deeper than
+    /// 127; `Number` if a header has a number that is not whole or not of 64 bits, as `-0`; `Form` if there is no signature; `Limit` if
+    /// there are more than `MOST_RECIPIENTS`; `Base64` if the text of a protected header is no base64url text; and then for the headers.
     pub fn build(alloc: Global, parts: JwsParts) -> Result<Jws<'t>, Refusal>
         ensures exact { AgreesUnlessMemory jws_view result (built limits (jws_parts_view parts)) }
         ensures made { IfOk result (λ jws. AreMembers (jws_parts_view parts) → IsMade limits (jws_view jws)) }

@@ -1,5 +1,5 @@
-//! The members of a signed object as texts, from its compact or its JSON serialization (RFC 7515 section 7), and their decoding.
-//! The protected headers are not read.
+//! The members of a signed object as texts, from its compact or its JSON serialization (RFC 7515 section 7), and their decoding. The
+//! protected headers are not read.
 ghost use Rattle.std.specs.Prelude.{◌≡◌, false, is_none, length, map, option_map, IfOk};
 ghost use Rattle.serde_json.specs.View.{view, items_view};
 ghost use Rattle.serde_json.specs.Written.{has_float, items_have_float};
@@ -35,9 +35,8 @@ pub(crate) struct EncodedSignature<'t> {
     signature: &'t [u8],
 }
 
-/// The members of an object in JSON form (RFC 7515 section 7.2). Refuses with `Form` if one has a wrong type, if `payload` is not
-/// empty although it was handed in, or is absent although it was not, or if the signatures are neither one nor a list of at least
-/// one.
+/// The members of an object in JSON form (RFC 7515 section 7.2). Refuses with `Form` if one has a wrong type, if `payload` is not empty
+/// although it was handed in, or is absent although it was not, or if the signatures are neither one nor a list of at least one.
 #[tactic(auto, unfolding(crate::specs::Jws::encoded_in_json))]
 pub(crate) fn encoded_in_json(
     alloc: Global,
@@ -116,8 +115,8 @@ fn encoded_signature(alloc: Global, value: &Value) -> Result<EncodedSignature<'_
     })
 }
 
-/// The three parts of a compact text (RFC 7515 section 7.1). Refuses with `Form` if there are more or fewer, or if a payload
-/// was handed in and its part is not empty.
+/// The three parts of a compact text (RFC 7515 section 7.1). Refuses with `Form` if there are more or fewer, or if a payload was handed in
+/// and its part is not empty.
 #[tactic(auto, unfolding(crate::specs::Jws::encoded_in_compact))]
 pub(crate) fn encoded_in_compact(
     alloc: Global,

@@ -27,8 +27,8 @@ impl Jws<'_> {
         self.to_text(alloc, false, detach)
     }
 
-    /// The compact text (RFC 7515 section 7.1), in which the part of a detached payload is empty. Refuses with `NotCompact` if
-    /// the object has several signatures, or a header that is not protected. May fail with `Memory`.
+    /// The compact text (RFC 7515 section 7.1), in which the part of a detached payload is empty. Refuses with `NotCompact` if the object
+    /// has several signatures, or a header that is not protected. May fail with `Memory`.
     pub fn to_compact(&self, alloc: Global, detach: bool) -> Result<String, Refusal>
         ensures exact { AgreesUnlessMemory string_bytes result (jws_compact_text detach (jws_view self.now)) }
         ensures spells { IsMade limits (jws_view self.now)
@@ -46,9 +46,9 @@ impl Jws<'_> {
         Ok(self.written(alloc, false, compact, detach)?.into_text())
     }
 
-    /// The texts before, between and after the base64url texts of a payload and of the signatures in order, in compact form if
-    /// that is asked for, and else in JSON form. A detached payload has no place. The object's own payload and signatures do
-    /// not matter. Refuses with `NotCompact` as `to_compact` does. May fail with `Memory`.
+    /// The texts before, between and after the base64url texts of a payload and of the signatures in order, in compact form if that is
+    /// asked for, and else in JSON form. A detached payload has no place. The object's own payload and signatures do not matter. Refuses
+    /// with `NotCompact` as `to_compact` does. May fail with `Memory`.
     pub fn frame(&self, alloc: Global, compact: bool, detach: bool) -> Result<Vec<String>, Refusal>
         ensures exact { AgreesUnlessMemory (λ texts. map string_bytes texts.items) result (jws_frame compact detach (jws_view self.now)) }
         ensures texts { IfOk result (λ texts. IsJwsFrame compact detach (jws_view self.now) (map string_bytes texts.items)) }

@@ -1,5 +1,5 @@
--- The encryption that a template and keys settle: headers that may be written, and a recipient key for each key, in order. The joint
--- header awaits the parameters of each recipient key.
+-- The encryption that a template and keys settle: headers that may be written, and a recipient key for each key, in order. The joint header
+-- awaits the parameters of each recipient key.
 use Rattle.std.proofs.Common.{◌≡◌, ℕ, zero, suc, ◌*◌, ◌≤◌, ◌&&◌, ◌==◌, Bool, true, false, nat_le, List, [], ◌∷◌, length, map, codes, if◌then◌else◌, Option, Some, None, is_some, Result, Ok, Err, refl, sym, ◌∙◌, ap, subst, arith}
 use Rattle.std.proofs.lemmas.Bool.{and_parts, leb-true}
 use Rattle.std.proofs.lemmas.List.{map-id}
@@ -45,9 +45,8 @@ pub record Receives (e : EncryptionPlan) (r : RecipientKey) : Type 0 where
   pub fit : fits r.key (EncryptionWith r.management e.encryption) ≡ true
   pub awaits : AwaitsRecipient e r
 
--- There is at least one recipient key. The recipient keys are those of the keys in order, and a key that is used directly is the only
--- one. The headers may be written and have no name in common. The joint header names the content encryption, and the additional data are
--- octets.
+-- There is at least one recipient key. The recipient keys are those of the keys in order, and a key that is used directly is the only one.
+-- The headers may be written and have no name in common. The joint header names the content encryption, and the additional data are octets.
 pub record Settles (keys : List OctetKey) (e : EncryptionPlan) : Type 0 where
   pub keys_are : map (λ r. r.key) e.recipient_keys ≡ keys
   pub some : 1 ≤ length e.recipient_keys

@@ -1,5 +1,5 @@
--- The heads of the signatures of an object, for which HMACs are made, and the signatures that are compared with them (RFC 7515 section
--- 5.2, step 8).
+-- The heads of the signatures of an object, for which HMACs are made, and the signatures that are compared with them (RFC 7515 section 5.2,
+-- step 8).
 use Rattle.std.specs.Prelude.{ℕ, ◌==◌, ◌&&◌, ◌||◌, Bool, false, not, List, [], length, map, Option, Some, None, unwrap_or}
 use Rattle.std.specs.Borrow.{Bor}
 use Rattle.std.specs.List.{list_any, list_all}
@@ -26,8 +26,8 @@ has_len_by (Some alg) s = length s.signature == signature_len alg
 abbrev pub has_signature_len : Signature → Bool
 has_signature_len s = has_len_by (signature_alg_of s.alg) s
 
--- both have the same algorithm and the same text of the protected header, so a key's HMAC is the same for both (RFC 7515 section 5.2,
--- step 8)
+-- both have the same algorithm and the same text of the protected header, so a key's HMAC is the same for both (RFC 7515 section 5.2, step
+-- 8)
 abbrev pub is_alike : Signature → Signature → Bool
 is_alike h s = bytes_eq h.alg s.alg && bytes_eq h.protected s.protected
 

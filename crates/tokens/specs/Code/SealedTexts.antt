@@ -59,8 +59,8 @@ frame_by limits compact detach e random = built limits (parts_by e random unseal
 
 -- ---- the object
 
--- The sealing of the plan's encryption was started, and the texts are those of its frame. With the ciphertext and the tag of any
--- plaintext they are what is written of its object.
+-- The sealing of the plan's encryption was started, and the texts are those of its frame. With the ciphertext and the tag of any plaintext
+-- they are what is written of its object.
 pub record IsUnsealed {S : Type 0} (is_sealing : S → Sealing → List ℕ → Type 0) (compact detach : Bool) (plan : Result (Plan OutputTexts) Refusal) (sealer : S)
     (texts : List (List ℕ)) : Type 0 where
   pub encryption : EncryptionPlan

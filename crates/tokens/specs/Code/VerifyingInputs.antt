@@ -1,5 +1,5 @@
--- What signing inputs start with, before the payload is read: one for each candidate pair of a key and a signature (RFC 7515
--- section 5.2), by the keys in order, and for each key by the signatures in order.
+-- What signing inputs start with, before the payload is read: one for each candidate pair of a key and a signature (RFC 7515 section 5.2),
+-- by the keys in order, and for each key by the signatures in order.
 use Rattle.std.specs.Prelude.{List, [], ◌∷◌, ◌++◌, Option, Some, None}
 use Rattle.keys.specs.declared.algorithm.SignatureAlg.{SignatureAlg}
 use Rattle.keys.specs.Keys.{OctetKey}

@@ -20,8 +20,8 @@ use objects::{KeyManagement, Recipient};
 use octets::{Refusal, needs};
 
 /// Judges the pairs of a recipient and a key: by the recipients in order, and for each by the keys in order that may decrypt by its
-/// algorithms and fit. Refuses with `Unsupported` if no recipient's algorithms are supported; then with `KeyDoesNotFit` if there is
-/// no pair; and then with `Limit` if a pair, or all of them, need too many iterations.
+/// algorithms and fit. Refuses with `Unsupported` if no recipient's algorithms are supported; then with `KeyDoesNotFit` if there is no
+/// pair; and then with `Limit` if a pair, or all of them, need too many iterations.
 #[tactic(auto, unfolding(crate::specs::Decrypting::pairs_to_try), using(crate::proofs::Tests::views))]
 pub(crate) fn judge_pairs(keys: &[Key], recipients: &[Recipient]) -> Result<(), Refusal>
     requires { length keys.now ≤ limits.keys }

@@ -15,8 +15,8 @@ use keys::Key;
 use objects::{KeyManagement, Recipient};
 use octets::same_octets;
 
-/// The most octets of an encrypted key, and of the initialization vector and the tag of AES-GCM key wrap. Longer ones deliver nothing,
-/// so they are not compared.
+/// The most octets of an encrypted key, and of the initialization vector and the tag of AES-GCM key wrap. Longer ones deliver nothing, so
+/// they are not compared.
 const MOST_ENCRYPTED_KEY: usize = 72;
 
 const MOST_IV: usize = 12;

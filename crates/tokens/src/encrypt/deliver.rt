@@ -56,8 +56,7 @@ fn drawn_for(recipient_key: &RecipientKey<'_>) -> usize
     drawn_by(recipient_key.management)
 }
 
-/// How many octets are drawn for an algorithm: those of a salt input for PBES2, or of an initialization vector for AES-GCM key
-/// wrap.
+/// How many octets are drawn for an algorithm: those of a salt input for PBES2, or of an initialization vector for AES-GCM key wrap.
 fn drawn_by(alg: KeyManagementAlg) -> usize
     ensures count { result ≡ drawn_by alg }
     ensures bound { result ≤ SALT_LEN }

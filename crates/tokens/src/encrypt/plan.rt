@@ -14,16 +14,15 @@ use crate::encrypt::recipient_key::RecipientKey;
 use keys::ContentEncryptionAlg;
 use serde_json::{Map, Value};
 
-/// What the template has of key management, which is then not written for the recipients: the name of the algorithm, and
-/// the iterations.
+/// What the template has of key management, which is then not written for the recipients: the name of the algorithm, and the iterations.
 #[derive(Clone, Copy)]
 pub(crate) struct Given {
     pub(crate) alg: bool,
     pub(crate) p2c: bool,
 }
 
-/// The content encryption; the recipient keys, which fit; the iterations, which are 0 if no key is a password; the headers without
-/// what is written for the recipients; and the additional data. A key that is used directly is the only one.
+/// The content encryption; the recipient keys, which fit; the iterations, which are 0 if no key is a password; the headers without what is
+/// written for the recipients; and the additional data. A key that is used directly is the only one.
 #[derive(Drop)]
 pub(crate) struct EncryptionPlan<'k> {
     pub(crate) encryption: ContentEncryptionAlg,

@@ -1,5 +1,5 @@
-//! What is written of the deliveries of a content encryption key: the header parameters of key management (RFC 7518 section 4),
-//! and the recipients of an object (RFC 7516 section 7.2.1).
+//! What is written of the deliveries of a content encryption key: the header parameters of key management (RFC 7518 section 4), and the
+//! recipients of an object (RFC 7516 section 7.2.1).
 ghost use Rattle.std.specs.Prelude.{◌≡◌, false, map, IfOk, IfErr};
 ghost use Rattle.serde_json.specs.Data.{string, put};
 ghost use Rattle.serde_json.specs.View.{members_view};
@@ -110,8 +110,7 @@ fn with_parameters(
     with_management(alloc, given.p2c, &delivery.management, header)
 }
 
-/// The header with the parameters of key management, except the iterations if the template has them (RFC 7518 sections
-/// 4.7.1 and 4.8.1).
+/// The header with the parameters of key management, except the iterations if the template has them (RFC 7518 sections 4.7.1 and 4.8.1).
 fn with_management(
     alloc: Global,
     given: bool,

@@ -112,8 +112,8 @@ fn recipient_keys_by<'k>(
     Ok(recipient_keys)
 }
 
-/// The key with its algorithm of key management. Refuses with `NoAlgorithm` if nothing says this algorithm, and with `KeyDoesNotFit`
-/// if the key's `alg` is no algorithm of encryption.
+/// The key with its algorithm of key management. Refuses with `NoAlgorithm` if nothing says this algorithm, and with `KeyDoesNotFit` if the
+/// key's `alg` is no algorithm of encryption.
 #[tactic(auto, unfolding(crate::specs::Choosing::recipient_key_by))]
 fn recipient_key_by<'k>(
     asked: Option<KeyManagementAlg>,

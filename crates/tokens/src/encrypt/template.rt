@@ -15,8 +15,8 @@ use octets::{Refusal, b64_decode, needs};
 use serde_json::{Map, Value};
 use std::alloc::Global;
 
-/// The algorithms that a template names, if it does, and the count of iterations, if it has one. A bad count is refused only
-/// for an algorithm that reads it.
+/// The algorithms that a template names, if it does, and the count of iterations, if it has one. A bad count is refused only for an
+/// algorithm that reads it.
 #[derive(Clone, Copy)]
 pub(crate) struct AlgorithmsAsked {
     pub(crate) management: Option<KeyManagementAlg>,
@@ -114,8 +114,7 @@ fn algorithms_asked<'v>(
     })
 }
 
-/// Whether the header has no parameter that is drawn or made for a recipient, whatever the algorithm (RFC 7518 sections 4.7.1
-/// and 4.8.1.1).
+/// Whether the header has no parameter that is drawn or made for a recipient, whatever the algorithm (RFC 7518 sections 4.7.1 and 4.8.1.1).
 fn leaves_parameters(header: Header<'_>) -> bool
     ensures { result ≡ leaves_parameters (header_view header.entry) }
 {

@@ -1,5 +1,5 @@
-//! A payload that is signed as it is read (RFC 7515 section 5.1): each signing input is fed its base64url text, and returns its
-//! signature at the end.
+//! A payload that is signed as it is read (RFC 7515 section 5.1): each signing input is fed its base64url text, and returns its signature
+//! at the end.
 ghost use Rattle.std.specs.Prelude.{List, [], length};
 ghost use Rattle.octets.specs.Base64url.{base64url};
 ghost use Rattle.tokens.specs.Code.SigningInputs.{InputStart, HoldEach, HaveTaken};

@@ -83,8 +83,8 @@ fn signers_by<'k>(
     Ok(signers)
 }
 
-/// The signer of a key and a template. Refuses with `NoAlgorithm` if neither the template nor the key's `alg` or length says
-/// the algorithm, and with `KeyDoesNotFit` if the key's `alg` is no signature algorithm.
+/// The signer of a key and a template. Refuses with `NoAlgorithm` if neither the template nor the key's `alg` or length says the algorithm,
+/// and with `KeyDoesNotFit` if the key's `alg` is no signature algorithm.
 #[tactic(auto, unfolding(crate::specs::Signing::signer_by))]
 fn signer_by<'k>(alloc: Global, template: Template<'_>, key: &'k Key) -> Result<Signer<'k>, Refusal>
     requires { members_have_float (template_view template).protected ≡ false }

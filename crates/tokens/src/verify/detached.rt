@@ -24,14 +24,14 @@ use octets::{Input, Refusal};
 use std::alloc::Global;
 use std::vec::IntoIter;
 
-/// Verifies the object with the keys (RFC 7515 section 5.2). The payload is the content, whatever payload the object was read with.
-/// Some key that may verify by the algorithm of a signature, and fits, must have made this signature. With `all`, each key must have
-/// made one. The content is read once, in pieces of at most `PIECE` octets, and is not held. Each piece is fed to one HMAC for each key
-/// and each algorithm and protected header by which the key may verify a signature of the right length.
+/// Verifies the object with the keys (RFC 7515 section 5.2). The payload is the content, whatever payload the object was read with. Some
+/// key that may verify by the algorithm of a signature, and fits, must have made this signature. With `all`, each key must have made one.
+/// The content is read once, in pieces of at most `PIECE` octets, and is not held. Each piece is fed to one HMAC for each key and each
+/// algorithm and protected header by which the key may verify a signature of the right length.
 ///
-/// Fails with `Memory` before the content is read, or with `Read` if the content fails. After the content was read to its end, refuses,
-/// in this order, with `Unsupported` if no signature's algorithm is supported; `KeyDoesNotFit` if no key may verify by a supported one
-/// and fits; and `NotOpened` if no such pair of a signature and a key verifies, or with `all` none of some key.
+/// Fails with `Memory` before the content is read, or with `Read` if the content fails. After the content was read to its end, refuses, in
+/// this order, with `Unsupported` if no signature's algorithm is supported; `KeyDoesNotFit` if no key may verify by a supported one and
+/// fits; and `NotOpened` if no such pair of a signature and a key verifies, or with `all` none of some key.
 pub fn jws_verify_detached<I: Input>(
     alloc: Global,
     keys: &KeySet,
@@ -114,8 +114,8 @@ fn push_input(inputs: &mut Vec<HmacInput>, key: &Key, head: &Signature) -> Resul
     }
 }
 
-/// Each key made a signature, where that is asked for, or else some key made some. The heads cover the signatures. The inputs are those
-/// of `candidate_inputs`, and have taken the payload.
+/// Each key made a signature, where that is asked for, or else some key made some. The heads cover the signatures. The inputs are those of
+/// `candidate_inputs`, and have taken the payload.
 fn are_signed<S: SigningInput>(
     all: bool,
     keys: &[Key],
