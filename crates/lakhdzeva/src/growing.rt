@@ -1,6 +1,6 @@
 //! An output in memory that grows.
-ghost use Rattle.std.specs.Prelude.{◌≡◌, ◌<◌, ◌≤◌, [], ◌++◌, length, take, false, true, IfOk, IfErr, OnOk, OnErr, Ok, IsTrue};
-ghost use Rattle.octets.specs.Devices.{next_count, IsFinishedOnce};
+ghost use Rattle.std.specs.Prelude.{◌≡◌, [], length, IfOk};
+ghost use Rattle.octets.specs.Devices.{output_members, Writes};
 
 use octets::{Fault, Output};
 use std::alloc::Global;
@@ -48,16 +48,7 @@ impl Output for GrowingOutput {
         ensures whole { IfOk result (λ n. n ≡ length octets.now) }
 
         // What the trait says.
-        ensures octets { IfOk result (λ n. (n ≤ length octets.now)
-            × (self.new.octets.items ≡ self.old.octets.items ++ take n octets.now)) }
-        ensures some { result ≡ Ok 0 → length octets.now ≡ 0 }
-        ensures nothing { length octets.now ≡ 0 → (result ≡ Ok 0) × (self.new ≡ self.old) }
-        ensures unfinished { 0 < length octets.now → self.new.is_finished ≡ false }
-        ensures endings { self.new.endings ≡ self.old.endings }
-        ensures works { OnOk result (self.new.failures ≡ self.old.failures) }
-        ensures fails { IfErr result (λ e. (e ≡ Fault.Writing)
-            × (self.new.octets.items ≡ self.old.octets.items)
-            × (self.new.failures ≡ next_count self.old.failures)) }
+        ensures does { Writes (output_members (λ s. s.octets.items) (λ s. s.is_finished) (λ s. s.endings) (λ s. s.failures)) self.old self.new octets.now result }
     {
         if octets.is_empty() {
             return Ok(0);
@@ -70,14 +61,7 @@ impl Output for GrowingOutput {
         Ok(octets.len())
     }
 
-    fn finish(&mut self) -> Result<(), Fault>
-        ensures same { self.new.octets.items ≡ self.old.octets.items }
-        ensures works { OnOk result (self.new.failures ≡ self.old.failures) }
-        ensures fails { IfErr result (λ e. (e ≡ Fault.Writing)
-            × (self.new.failures ≡ next_count self.old.failures)) }
-        ensures finished { OnOk result (IsFinishedOnce (λ s. s.is_finished) (λ s. s.endings) self.old self.new) }
-        ensures kept { OnErr result ((self.new.is_finished ≡ self.old.is_finished) × (self.new.endings ≡ self.old.endings)) }
-    {
+    fn finish(&mut self) -> Result<(), Fault> {
         self.is_finished = true;
         self.endings = self.endings.saturating_add(1);
         Ok(())

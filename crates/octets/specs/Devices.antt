@@ -1,7 +1,10 @@
 -- What a call does to a device. A device is seen as the octets that passed through it and the count of its failures.
-use Rattle.std.specs.Prelude.{◌≡◌, ℕ, ◌+◌, ◌-◌, ◌≤◌, ◌^◌, min, Bool, List, [], ◌++◌, length, take, drop, IsTrue}
+use Rattle.std.specs.Prelude.{◌≡◌, ℕ, ◌+◌, ◌-◌, ◌<◌, ◌≤◌, ◌^◌, min, Bool, false, List, [], ◌++◌, length, take, drop, Option, Result, Ok, OnOk, OnErr, IfOk, IfErr, IsTrue}
 use Rattle.std.specs.Iterator.{Count, IsFinite, size}
+use Rattle.std.specs.Result.{result_unwrap_or}
 use Rattle.octets.specs.Octets.{IsOctets}
+use Rattle.octets.specs.declared.refusal.Fault.{Fault}
+use Rattle.octets.specs.declared.refusal.Fault.TheVariants.{Reading, Writing}
 
 -- ---- the counts of failures, and of the ends of an output (docs/SPECIFICATION.md "Devices")
 
@@ -70,3 +73,50 @@ input_members consumed is_at_end failures = record { consumed = consumed; is_at_
 
 abbrev pub output_members : {D : Type 0} → (D → List ℕ) → (D → Bool) → (D → ℕ) → (D → ℕ) → OutputMembers D
 output_members written is_finished endings failures = record { written = written; is_finished = is_finished; endings = endings; failures = failures }
+
+-- ---- what a call of a device promises (docs/SPECIFICATION.md "Devices")
+
+-- what a read promises that found `before` in its buffer and left `after` there
+pub record Reads {D : Type 0} (input : InputMembers D) (remaining : D → Count) (source : D → Option (List ℕ)) (old new : D) (before after : List ℕ)
+    (result : Result ℕ Fault) : Type 0 where
+  -- The octets that were read are at the front of the buffer.
+  pub octets : IfOk result (λ n. (n ≤ length before) × (input.consumed new ≡ input.consumed old ++ take n after))
+  -- A read without room does nothing.
+  pub no_room : length before ≡ 0 → (result ≡ Ok 0) × (new ≡ old)
+  -- If there is room, 0 is the end.
+  pub end : result ≡ Ok 0 → 0 < length before → IsTrue (input.is_at_end new)
+  -- Behind the end there is nothing to read.
+  pub stays_at_end : IsTrue (input.is_at_end old) → IsTrue (input.is_at_end new) × (input.consumed new ≡ input.consumed old)
+  -- A bound of the octets before the end falls with each octet.
+  pub nearer : ComesNearer (remaining old) (remaining new) (result_unwrap_or result 0)
+  -- All its octets are known afterwards if they were known before.
+  pub same_source : source new ≡ source old
+  pub works : OnOk result (input.failures new ≡ input.failures old)
+  -- A failure is counted. Then nothing was read, and no end was found.
+  pub fails : IfErr result (λ e. (e ≡ Reading) × (input.consumed new ≡ input.consumed old) × (input.is_at_end new ≡ input.is_at_end old)
+      × (input.failures new ≡ next_count (input.failures old)))
+
+-- what a write of these octets promises
+pub record Writes {D : Type 0} (output : OutputMembers D) (old new : D) (given : List ℕ) (result : Result ℕ Fault) : Type 0 where
+  -- It took octets from the front of those that were given.
+  pub octets : IfOk result (λ n. (n ≤ length given) × (output.written new ≡ output.written old ++ take n given))
+  -- It took at least one, if any were given.
+  pub some : result ≡ Ok 0 → length given ≡ 0
+  -- A write of nothing does nothing.
+  pub nothing : length given ≡ 0 → (result ≡ Ok 0) × (new ≡ old)
+  -- After a write, even one that failed, the output is not finished.
+  pub unfinished : 0 < length given → output.is_finished new ≡ false
+  pub endings : output.endings new ≡ output.endings old
+  pub works : OnOk result (output.failures new ≡ output.failures old)
+  -- A failure is counted. Then nothing was written.
+  pub fails : IfErr result (λ e. (e ≡ Writing) × (output.written new ≡ output.written old) × (output.failures new ≡ next_count (output.failures old)))
+
+-- what the call promises that brings all that was written to where it belongs
+pub record Finishes {D : Type 0} (output : OutputMembers D) (old new : D) (result : Result (Unit {0}) Fault) : Type 0 where
+  -- It writes nothing.
+  pub same : output.written new ≡ output.written old
+  pub works : OnOk result (output.failures new ≡ output.failures old)
+  pub fails : IfErr result (λ e. (e ≡ Writing) × (output.failures new ≡ next_count (output.failures old)))
+  pub finished : OnOk result (IsFinishedOnce output.is_finished output.endings old new)
+  -- A failure changes nothing of what was finished.
+  pub kept : OnErr result ((output.is_finished new ≡ output.is_finished old) × (output.endings new ≡ output.endings old))

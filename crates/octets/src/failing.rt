@@ -1,7 +1,6 @@
 //! Devices over memory that fail, to test what a call leaves behind when one of its devices fails.
-ghost use Rattle.std.specs.Prelude.{◌≡◌, ◌↔◌, ◌+◌, ◌<◌, ◌≤◌, [], ◌++◌, length, take, drop, min, true, false, IfOk, IfErr, IsOk, OnOk, OnErr, Ok, Err, MatchResult, IsTrue};
-ghost use Rattle.std.specs.Result.{result_unwrap_or};
-ghost use Rattle.octets.specs.Devices.{next_count, ComesNearer, IsFinishedOnce};
+ghost use Rattle.std.specs.Prelude.{◌≡◌, ◌↔◌, ◌<◌, [], length, drop, true, false, IfOk, IfErr, IsOk, OnOk, Ok, Err, MatchResult};
+ghost use Rattle.octets.specs.Devices.{next_count, input_members, output_members, Reads, Writes, Finishes};
 ghost use Rattle.octets.specs.Code.Failing.{is_due, room_for, uncalled, fails_next, after_failure, after_result};
 ghost use Rattle.octets.specs.Code.Views.{front_of, moved_by};
 
@@ -107,19 +106,8 @@ impl<'a> Input for FailingInput<'a> {
         ensures course { 0 < length buf.old → input_course self.new ≡ after_result result (input_course self.old) }
 
         // What the trait says.
-        ensures octets { IfOk result (λ n. (n ≤ length buf.old)
-            × (input_consumed self.new ≡ input_consumed self.old ++ take n buf.new)) }
-        ensures no_room { length buf.old ≡ 0 → (result ≡ Ok 0) × (self.new ≡ self.old) }
-        ensures end { result ≡ Ok 0 → 0 < length buf.old → IsTrue (input_is_at_end self.new) }
-        ensures stays_at_end { IsTrue (input_is_at_end self.old)
-            → IsTrue (input_is_at_end self.new) × (input_consumed self.new ≡ input_consumed self.old) }
-        ensures nearer { ComesNearer (input_remaining self.old) (input_remaining self.new) (result_unwrap_or result 0) }
-        ensures same_source { input_source self.new ≡ input_source self.old }
-        ensures works { OnOk result (input_failures self.new ≡ input_failures self.old) }
-        ensures fails { IfErr result (λ e. (e ≡ Fault.Reading)
-            × (input_consumed self.new ≡ input_consumed self.old)
-            × (input_is_at_end self.new ≡ input_is_at_end self.old)
-            × (input_failures self.new ≡ next_count (input_failures self.old))) }
+        ensures does { Reads (input_members input_consumed input_is_at_end input_failures) input_remaining input_source
+            self.old self.new buf.old buf.new result }
     {
         if buf.is_empty() {
             return Ok(0);
@@ -233,16 +221,7 @@ impl Output for FailingOutput {
         ensures same { (output_room self.new ≡ output_room self.old) × (output_step self.new ≡ output_step self.old) }
 
         // What the trait says.
-        ensures octets { IfOk result (λ n. (n ≤ length octets.now)
-            × (output_written self.new ≡ output_written self.old ++ take n octets.now)) }
-        ensures some { result ≡ Ok 0 → length octets.now ≡ 0 }
-        ensures nothing { length octets.now ≡ 0 → (result ≡ Ok 0) × (self.new ≡ self.old) }
-        ensures unfinished { 0 < length octets.now → output_is_finished self.new ≡ false }
-        ensures endings { output_endings self.new ≡ output_endings self.old }
-        ensures works { OnOk result (output_failures self.new ≡ output_failures self.old) }
-        ensures fails { IfErr result (λ e. (e ≡ Fault.Writing)
-            × (output_written self.new ≡ output_written self.old)
-            × (output_failures self.new ≡ next_count (output_failures self.old))) }
+        ensures does { Writes (output_members output_written output_is_finished output_endings output_failures) self.old self.new octets.now result }
     {
         if octets.is_empty() {
             return Ok(0);
@@ -268,12 +247,7 @@ impl Output for FailingOutput {
         ensures same_room { (output_room self.new ≡ output_room self.old) × (output_step self.new ≡ output_step self.old) }
 
         // What the trait says.
-        ensures same { output_written self.new ≡ output_written self.old }
-        ensures works { OnOk result (output_failures self.new ≡ output_failures self.old) }
-        ensures fails { IfErr result (λ e. (e ≡ Fault.Writing)
-            × (output_failures self.new ≡ next_count (output_failures self.old))) }
-        ensures finished { OnOk result (IsFinishedOnce output_is_finished output_endings self.old self.new) }
-        ensures kept { OnErr result ((output_is_finished self.new ≡ output_is_finished self.old) × (output_endings self.new ≡ output_endings self.old)) }
+        ensures does { Finishes (output_members output_written output_is_finished output_endings output_failures) self.old self.new result }
     {
         self.call()?;
         self.output.finish()

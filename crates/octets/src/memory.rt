@@ -1,7 +1,6 @@
 //! Devices over memory.
-ghost use Rattle.std.specs.Prelude.{◌≡◌, ℕ, ◌↔◌, ◌+◌, ◌<◌, ◌≤◌, [], ◌++◌, length, take, drop, IfOk, IfErr, IsOk, IsErr, IsTrue, OnOk, OnErr, Ok, MatchResult, true, false};
-ghost use Rattle.std.specs.Result.{result_unwrap_or};
-ghost use Rattle.octets.specs.Devices.{next_count, ComesNearer, IsFinishedOnce};
+ghost use Rattle.std.specs.Prelude.{◌≡◌, ℕ, ◌↔◌, ◌+◌, ◌<◌, ◌≤◌, [], length, take, drop, IfOk, IfErr, IsOk, IsErr, Ok, true, false};
+ghost use Rattle.octets.specs.Devices.{next_count, input_members, output_members, Reads, Writes, Finishes};
 ghost use Rattle.octets.specs.Octets.{IsOctets};
 ghost use Rattle.octets.specs.Code.Views.{front_of, is_read, rest_of, failures_of, source_of, source_is_given, read_count, write_count};
 
@@ -70,19 +69,7 @@ impl<'a> Input for MemoryInput<'a> {
         ensures rest { IfOk result (λ n. drop n buf.new ≡ drop n buf.old) }
 
         // What the trait says.
-        ensures octets { IfOk result (λ n. (n ≤ length buf.old)
-            × (front_of self.new ≡ front_of self.old ++ take n buf.new)) }
-        ensures no_room { length buf.old ≡ 0 → (result ≡ Ok 0) × (self.new ≡ self.old) }
-        ensures end { result ≡ Ok 0 → 0 < length buf.old → IsTrue (is_read self.new) }
-        ensures stays_at_end { IsTrue (is_read self.old)
-            → IsTrue (is_read self.new) × (front_of self.new ≡ front_of self.old) }
-        ensures nearer { ComesNearer (rest_of self.old) (rest_of self.new) (result_unwrap_or result 0) }
-        ensures same_source { source_of self.new ≡ source_of self.old }
-        ensures works { OnOk result (failures_of self.new ≡ failures_of self.old) }
-        ensures fails { IfErr result (λ e. (e ≡ Fault.Reading)
-            × (front_of self.new ≡ front_of self.old)
-            × (is_read self.new ≡ is_read self.old)
-            × (failures_of self.new ≡ next_count (failures_of self.old))) }
+        ensures does { Reads (input_members front_of is_read failures_of) rest_of source_of self.old self.new buf.old buf.new result }
     {
         let rest = &self.octets[self.position..];
         let n = rest.len().min(buf.len()).min(self.step);
@@ -166,16 +153,7 @@ impl Output for MemoryOutput {
         ensures same_room { self.new.room ≡ self.old.room }
 
         // What the trait says.
-        ensures octets { IfOk result (λ n. (n ≤ length octets.now)
-            × (self.new.octets ≡ self.old.octets ++ take n octets.now)) }
-        ensures some { result ≡ Ok 0 → length octets.now ≡ 0 }
-        ensures nothing { length octets.now ≡ 0 → (result ≡ Ok 0) × (self.new ≡ self.old) }
-        ensures unfinished { 0 < length octets.now → self.new.is_finished ≡ false }
-        ensures endings { self.new.endings ≡ self.old.endings }
-        ensures works { OnOk result (self.new.failures ≡ self.old.failures) }
-        ensures fails { IfErr result (λ e. (e ≡ Fault.Writing)
-            × (self.new.octets ≡ self.old.octets)
-            × (self.new.failures ≡ next_count self.old.failures)) }
+        ensures does { Writes (output_members (λ s. s.octets) (λ s. s.is_finished) (λ s. s.endings) (λ s. s.failures)) self.old self.new octets.now result }
     {
         if octets.is_empty() {
             return Ok(0);
@@ -197,12 +175,7 @@ impl Output for MemoryOutput {
         ensures never_fails { IsOk result }
 
         // What the trait says.
-        ensures same { self.new.octets ≡ self.old.octets }
-        ensures works { OnOk result (self.new.failures ≡ self.old.failures) }
-        ensures fails { IfErr result (λ e. (e ≡ Fault.Writing)
-            × (self.new.failures ≡ next_count self.old.failures)) }
-        ensures finished { OnOk result (IsFinishedOnce (λ s. s.is_finished) (λ s. s.endings) self.old self.new) }
-        ensures kept { OnErr result ((self.new.is_finished ≡ self.old.is_finished) × (self.new.endings ≡ self.old.endings)) }
+        ensures does { Finishes (output_members (λ s. s.octets) (λ s. s.is_finished) (λ s. s.endings) (λ s. s.failures)) self.old self.new result }
     {
         self.unfinished = false;
         count_one(&mut self.endings);

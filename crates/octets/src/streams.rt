@@ -1,11 +1,9 @@
 //! Devices over std's readers and writers. What passed through one is kept for contracts only.
-ghost use Rattle.std.specs.Prelude.{◌≡◌, ◌≢◌, ◌+◌, ◌-◌, ◌^◌, ◌<◌, ◌≤◌, ℕ, List, [], ◌++◌, length, take, true, false, IfOk, IfErr, OnOk, OnErr, Ok, MatchResult, IsTrue};
+ghost use Rattle.std.specs.Prelude.{◌≡◌, ◌≢◌, ◌+◌, ◌-◌, ◌^◌, ◌<◌, ◌≤◌, [], length, take, true, false, IfOk, IfErr, Ok, MatchResult, IsTrue};
 ghost use Rattle.std.specs.Iterator.{at_most};
-ghost use Rattle.std.specs.Io.KnownBytes.{Consumes, Appends, Keeps, IsAtEnd, ReadConsumes, WriteAppends};
-ghost use Rattle.std.specs.Io.{ReadsAtMost, WritesAtMost};
+ghost use Rattle.std.specs.Io.KnownBytes.{Consumes, Keeps, IsAtEnd, ReadConsumes, WriteAppends};
 ghost use Rattle.std.specs.IoError.{error_kind};
-ghost use Rattle.std.specs.Result.{result_unwrap_or};
-ghost use Rattle.octets.specs.Devices.{next_count, ComesNearer, IsFinishedOnce};
+ghost use Rattle.octets.specs.Devices.{input_members, output_members, Reads, Writes, Finishes};
 ghost use Rattle.octets.specs.Code.Streams.{most_octets};
 ghost use Rattle.octets.specs.Octets.{IsOctets};
 
@@ -80,19 +78,7 @@ impl<R: Read> Input for ReaderInput<R> {
         ensures ended { IsTrue (is_at_end_of self.old) → (result ≡ Ok 0) × (self.new ≡ self.old) × (buf.new ≡ buf.old) }
 
         // What the trait says.
-        ensures octets { IfOk result (λ n. (n ≤ length buf.old)
-            × (consumed_of self.new ≡ consumed_of self.old ++ take n buf.new)) }
-        ensures no_room { length buf.old ≡ 0 → (result ≡ Ok 0) × (self.new ≡ self.old) }
-        ensures end { result ≡ Ok 0 → 0 < length buf.old → IsTrue (is_at_end_of self.new) }
-        ensures stays_at_end { IsTrue (is_at_end_of self.old)
-            → IsTrue (is_at_end_of self.new) × (consumed_of self.new ≡ consumed_of self.old) }
-        ensures nearer { ComesNearer (remaining_of self.old) (remaining_of self.new) (result_unwrap_or result 0) }
-        ensures same_source { unknown_source self.new ≡ unknown_source self.old }
-        ensures works { OnOk result (read_failures_of self.new ≡ read_failures_of self.old) }
-        ensures fails { IfErr result (λ e. (e ≡ Fault.Reading)
-            × (consumed_of self.new ≡ consumed_of self.old)
-            × (is_at_end_of self.new ≡ is_at_end_of self.old)
-            × (read_failures_of self.new ≡ next_count (read_failures_of self.old))) }
+        ensures does { Reads (input_members consumed_of is_at_end_of read_failures_of) remaining_of unknown_source self.old self.new buf.old buf.new result }
     {
         if self.is_at_end || buf.is_empty() {
             return Ok(0);
@@ -178,16 +164,7 @@ impl<W: Write> Output for WriterOutput<W> {
         ensures sink { WriteAppends (W.contents (writer_of self.old)) (W.contents (writer_of self.new)) result octets.now }
 
         // What the trait says.
-        ensures octets { IfOk result (λ n. (n ≤ length octets.now)
-            × (written_of self.new ≡ written_of self.old ++ take n octets.now)) }
-        ensures some { result ≡ Ok 0 → length octets.now ≡ 0 }
-        ensures nothing { length octets.now ≡ 0 → (result ≡ Ok 0) × (self.new ≡ self.old) }
-        ensures unfinished { 0 < length octets.now → is_finished_of self.new ≡ false }
-        ensures endings { endings_of self.new ≡ endings_of self.old }
-        ensures works { OnOk result (write_failures_of self.new ≡ write_failures_of self.old) }
-        ensures fails { IfErr result (λ e. (e ≡ Fault.Writing)
-            × (written_of self.new ≡ written_of self.old)
-            × (write_failures_of self.new ≡ next_count (write_failures_of self.old))) }
+        ensures does { Writes (output_members written_of is_finished_of endings_of write_failures_of) self.old self.new octets.now result }
     {
         if octets.is_empty() {
             return Ok(0);
@@ -209,12 +186,7 @@ impl<W: Write> Output for WriterOutput<W> {
         ensures sink { Keeps (W.contents (writer_of self.old)) (W.contents (writer_of self.new)) }
 
         // What the trait says.
-        ensures same { written_of self.new ≡ written_of self.old }
-        ensures works { OnOk result (write_failures_of self.new ≡ write_failures_of self.old) }
-        ensures fails { IfErr result (λ e. (e ≡ Fault.Writing)
-            × (write_failures_of self.new ≡ next_count (write_failures_of self.old))) }
-        ensures finished { OnOk result (IsFinishedOnce is_finished_of endings_of self.old self.new) }
-        ensures kept { OnErr result ((is_finished_of self.new ≡ is_finished_of self.old) × (endings_of self.new ≡ endings_of self.old)) }
+        ensures does { Finishes (output_members written_of is_finished_of endings_of write_failures_of) self.old self.new result }
     {
         if flush_once(&mut self.writer).is_err() {
             count_one(&mut self.failures);

@@ -63,13 +63,13 @@ returns-in_err-finish-clause-streams g c plan f =
     rw is (record {
       answer = λ payload may inside. cc;
       beginning = AppendsPrefixOf-kept _ _;
-      beginning_of_content = AppendsPrefixOf-all _ _ _ (c.finish.ensures.same ∙ stands);
+      beginning_of_content = AppendsPrefixOf-all _ _ _ (c.finish.ensures.does.same ∙ stands);
       finished = tt;
       unfinished = refl;
       keeps_up = λ told some. cc;
       content_last = λ refusal none. cc;
       uncut = (λ spared same. refl, λ others same. absurd (others refl));
-      content_first = inl (refl, c.in_err-finish.ensures.kept.1 ∙ c.pump.ensures.endings);
+      content_first = inl (refl, c.in_err-finish.ensures.does.kept.1 ∙ c.pump.ensures.endings);
       memory_first = λ memory. cc;
       unread = λ nothing. (λ spared. refl, λ others. absurd (others refl));
     })
@@ -93,17 +93,17 @@ returns-clause-streams g c plan f =
     let octets = read g c.args.content.now c.pump.new.content in
     let pumped = c.in_ok-rest.ensures in
     let given = f.left c.in_ok-rest.rest _ (pumped.left f.job f.fed) in
-    let finished = c.in_ok-finish.ensures.finished in
+    let finished = c.in_ok-finish.ensures.does.finished in
     let r = c.write.result in
     let told = c.write.ensures in
     let failed = λ (P Q : Type 0). text_failed P Q g.O.Output.failures c.args.out.now c.args.out.now c.write.new.out r refl told.cause told.faults in
     record {
       answer = λ payload may. agrees_last _ _ r (told.all _ given) told.cause
-          (λ all. beside_answer _ _ plan _ f.framing _ _ _ _ octets pumped.ends (subst (IsWhole [] _ _ _) (sym c.finish.ensures.same) w) payload _ _ may all);
+          (λ all. beside_answer _ _ plan _ f.framing _ _ _ _ octets pumped.ends (subst (IsWhole [] _ _ _) (sym c.finish.ensures.does.same) w) payload _ _ may all);
       beginning = let is = text_is _ _ plan _ f.framing _ _ _ _ octets pumped.ends w in
           on_refusal r (told.beginning _ given) (λ part. subst
           (λ t. AppendsPrefixOf t (g.O.Output.written c.args.out.now) (g.O.Output.written c.write.new.out)) is part);
-      beginning_of_content = at_refusal r (AppendsPrefixOf-all _ _ _ (c.finish.ensures.same ∙ beside_stands _ _ plan _ f.framing _ _ _ _ octets pumped.ends w));
+      beginning_of_content = at_refusal r (AppendsPrefixOf-all _ _ _ (c.finish.ensures.does.same ∙ beside_stands _ _ plan _ f.framing _ _ _ _ octets pumped.ends w));
       finished = on_success r told.finished (λ done. (done, (finished.0, finished.1 ∙ ap next_count c.pump.ensures.endings)));
       unfinished = told.unfinished;
       keeps_up = λ is some. absurd (not_read_last r told.cause is);
@@ -111,7 +111,7 @@ returns-clause-streams g c plan f =
       uncut = failed (g.O.Output.written c.write.new.out ≡ g.O.Output.written c.args.out.now → c.write.new.out ≡ c.args.out.now)
           (g.O.Output.written c.finish.new.self ≡ g.O.Output.written c.args.detached.now → c.finish.new.self ≡ c.args.detached.now);
       content_first = stands_first _ r pumped.ends (finished.0, finished.1 ∙ ap next_count c.pump.ensures.endings)
-          (_, beside_whole _ _ plan _ f.framing _ _ _ _ octets pumped.ends w, c.finish.ensures.same ∙ w.written);
+          (_, beside_whole _ _ plan _ f.framing _ _ _ _ octets pumped.ends w, c.finish.ensures.does.same ∙ w.written);
       memory_first = not_memory_last _ r told.cause;
       unread = if_weaker r _ _ (failed (c.write.new.out ≡ c.args.out.now) (c.finish.new.self ≡ c.args.detached.now)) (λ e none nothing. none);
     }

@@ -37,9 +37,9 @@ returns-in_err-finish-clause-beginning g c =
     (seen_possible consumed g.I.Input.is_at_end c.args.text.now c.pump.new.content) in
     at_refusal _ (whole_stands decoding (consumed c.args.text.now) (consumed c.pump.new.content) (written c.args.out.now) (written c.pump.new.out)
     (written c.finish.new.self) (g.I.Input.is_at_end c.pump.new.content)
-    c.in_ok-pump.ensures.ends whole c.in_ok-pump.ensures.extends c.finish.ensures.same)
+    c.in_ok-pump.ensures.ends whole c.in_ok-pump.ensures.extends c.finish.ensures.does.same)
 
 pub returns-clause-answer : goal.returns-clause-answer
 returns-clause-answer g c whole possible =
     sym (behind_nothing settling whole) ∙ c.in_ok-pump.ensures.answer tt whole (reading_starts _ c.start.ensures) possible
-    ∙ ap (λ l. Ok (appended (g.O.Output.written c.args.out.now) l)) (sym c.finish.ensures.same)
+    ∙ ap (λ l. Ok (appended (g.O.Output.written c.args.out.now) l)) (sym c.finish.ensures.does.same)
