@@ -7,7 +7,7 @@ ghost use Rattle.octets.specs.Outcomes.{AgreesUnlessExternal};
 ghost use Rattle.octets.specs.Code.Results.{IsReadingFailure};
 ghost use Rattle.objects.specs.Texts.{handed_in};
 ghost use Rattle.objects.specs.Code.Views.{held_view};
-ghost use Rattle.jose.specs.Code.Steps.{ReadsInputs, WritesWhole, where_read, object_texts};
+ghost use Rattle.jose.specs.Code.Steps.{ReadsInputs, WritesWhole, wants_keys, wants_content, where_read, object_texts};
 ghost use Rattle.jose.specs.Ports.{AreFinite};
 
 pub(crate) mod b64;
@@ -28,19 +28,53 @@ struct WholeInputs {
     content: Option<Vec<u8>>,
 }
 
-/// Reads the text to its end, then the keys if the command has them, and then the content if it is handed in.
+/// Which inputs a command reads to their end.
+#[derive(Clone, Copy)]
+enum Wanted {
+    /// The text alone.
+    Text,
+    /// The text of a template, and the keys.
+    TemplateAndKeys,
+    /// The text of an object, and its content if it is handed in.
+    Object(bool),
+    /// The text of an object, the keys, and the content of the object if it is handed in.
+    ObjectAndKeys(bool),
+}
+
+impl Wanted {
+    /// Whether the keys are read.
+    fn has_keys(self) -> bool
+        ensures { result ≡ wants_keys self }
+    {
+        match self {
+            Wanted::Text | Wanted::Object(_) => false,
+            Wanted::TemplateAndKeys | Wanted::ObjectAndKeys(_) => true,
+        }
+    }
+
+    /// Whether the content is read.
+    fn has_content(self) -> bool
+        ensures { result ≡ wants_content self }
+    {
+        match self {
+            Wanted::Text | Wanted::TemplateAndKeys => false,
+            Wanted::Object(handed_in) | Wanted::ObjectAndKeys(handed_in) => handed_in,
+        }
+    }
+}
+
+/// Reads the text to its end, then the keys if they are wanted, and then the content if it is wanted.
 fn read_inputs<I: Input>(
     alloc: Global,
-    has_keys: bool,
-    detached_given: bool,
+    wanted: Wanted,
     inputs: &mut Inputs<I>,
 ) -> Result<WholeInputs, Refusal>
     requires { AreFinite I.remaining inputs.old }
-    ensures { ReadsInputs (input_members I.consumed I.is_at_end I.failures) has_keys detached_given inputs.old inputs.new result }
+    ensures { ReadsInputs (input_members I.consumed I.is_at_end I.failures) (wants_keys wanted) (wants_content wanted) inputs.old inputs.new result }
 {
     let text = read_to_end(alloc, &mut inputs.text)?;
-    let keys = read_keys(alloc, has_keys, &mut inputs.keys)?;
-    let content = read_detached(alloc, detached_given, &mut inputs.content)?;
+    let keys = read_keys(alloc, wanted.has_keys(), &mut inputs.keys)?;
+    let content = read_detached(alloc, wanted.has_content(), &mut inputs.content)?;
     Ok(WholeInputs {
         text,
         keys,

@@ -6,6 +6,8 @@ use Rattle.octets.specs.Faults.{TellsFaults}
 use Rattle.octets.specs.Outcomes.{AgreesUnlessExternal, is_external}
 use Rattle.octets.specs.Plan.{OutputTexts, nothing}
 use Rattle.objects.specs.Texts.{handed_in, handed_out}
+use Rattle.jose.specs.declared.commands.Wanted.{Wanted}
+use Rattle.jose.specs.declared.commands.Wanted.TheVariants.{Text, TemplateAndKeys, Object, ObjectAndKeys}
 use Rattle.jose.specs.declared.commands.WholeInputs.{WholeInputs}
 use Rattle.jose.specs.declared.ports.Inputs.{Inputs}
 use Rattle.jose.specs.declared.ports.Outputs.{Outputs}
@@ -23,6 +25,18 @@ abbrev pub object_texts : Bool → List ℕ → List ℕ → OutputTexts
 object_texts detach content text = record { text = text; content = handed_out detach content }
 
 -- ---- reading whole inputs
+
+abbrev pub wants_keys : Wanted → Bool
+wants_keys Text = false
+wants_keys TemplateAndKeys = true
+wants_keys (Object given) = false
+wants_keys (ObjectAndKeys given) = true
+
+abbrev pub wants_content : Wanted → Bool
+wants_content Text = false
+wants_content TemplateAndKeys = false
+wants_content (Object given) = given
+wants_content (ObjectAndKeys given) = given
 
 -- the octets of an input if it is read, and otherwise none
 abbrev pub where_read : Bool → List ℕ → List ℕ

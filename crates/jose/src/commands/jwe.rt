@@ -11,7 +11,7 @@ ghost use Rattle.jose.specs.Invocations.{invocation_view};
 ghost use Rattle.tokens.specs.Jwe.{dec_answer, jwe_fmt_answer};
 ghost use Rattle.jose.specs.Ports.{AreFinite, on_content};
 
-use crate::commands::{WholeInputs, read_inputs, write_object};
+use crate::commands::{Wanted, WholeInputs, read_inputs, write_object};
 use crate::ports::{Inputs, Outputs};
 use crate::words::invocation::Invocation;
 use keys::KeySet;
@@ -33,7 +33,7 @@ pub(crate) fn encrypt<I: Input, O: Output>(
     ensures { Does (input_members I.consumed I.is_at_end I.failures) (output_members O.written O.is_finished O.endings O.failures)
         (invocation_view invocation.now) inputs.old inputs.new outputs.old outputs.new result }
 {
-    let template = read_inputs(alloc, true, false, inputs)?;
+    let template = read_inputs(alloc, Wanted::TemplateAndKeys, inputs)?;
     let set = KeySet::read(alloc, &template.keys, true)?;
     let compact = invocation.has('c');
     if invocation.has('O') {
@@ -73,7 +73,7 @@ pub(crate) fn decrypt<I: Input, O: Output>(
     ensures { Does (input_members I.consumed I.is_at_end I.failures) (output_members O.written O.is_finished O.endings O.failures)
         (invocation_view invocation.now) inputs.old inputs.new outputs.old outputs.new result }
 {
-    let whole = read_inputs(alloc, true, invocation.has('I'), inputs)?;
+    let whole = read_inputs(alloc, Wanted::ObjectAndKeys(invocation.has('I')), inputs)?;
     write_plaintext(alloc, whole, outputs)
 }
 
@@ -109,7 +109,7 @@ pub(crate) fn format<I: Input, O: Output>(
     ensures { Does (input_members I.consumed I.is_at_end I.failures) (output_members O.written O.is_finished O.endings O.failures)
         (invocation_view invocation.now) inputs.old inputs.new outputs.old outputs.new result }
 {
-    let whole = read_inputs(alloc, false, invocation.has('I'), inputs)?;
+    let whole = read_inputs(alloc, Wanted::Object(invocation.has('I')), inputs)?;
     write_formed(
         alloc,
         whole,

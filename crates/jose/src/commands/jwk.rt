@@ -16,7 +16,7 @@ ghost use Rattle.jose.specs.Invocations.{invocation_view};
 ghost use Rattle.jose.specs.Jwk.{making};
 ghost use Rattle.jose.specs.Ports.{AreFinite, on_text};
 
-use crate::commands::read_inputs;
+use crate::commands::{Wanted, read_inputs};
 use crate::ports::{Inputs, Outputs};
 use crate::words::invocation::Invocation;
 use octets::{Input, Output, Refusal, emit};
@@ -35,7 +35,7 @@ pub(crate) fn generate<I: Input, O: Output>(
     ensures { Does (input_members I.consumed I.is_at_end I.failures) (output_members O.written O.is_finished O.endings O.failures)
         (invocation_view invocation.now) inputs.old inputs.new outputs.old outputs.new result }
 {
-    let template = read_inputs(alloc, false, false, inputs)?;
+    let template = read_inputs(alloc, Wanted::Text, inputs)?;
     write_key(alloc, &template.text, &mut inputs.random, &mut outputs.text)
 }
 
@@ -75,7 +75,7 @@ pub(crate) fn thumbprints<I: Input, O: Output>(
         (invocation_view invocation.now) inputs.old inputs.new outputs.old outputs.new result }
 {
     let hash = invocation.hash().ok_or(Refusal::Usage)?;
-    let whole = read_inputs(alloc, false, false, inputs)?;
+    let whole = read_inputs(alloc, Wanted::Text, inputs)?;
     write_thumbprints(alloc, &whole.text, hash, outputs)
 }
 

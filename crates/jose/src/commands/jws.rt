@@ -18,7 +18,7 @@ ghost use Rattle.jose.specs.Invocations.{invocation_view};
 ghost use Rattle.tokens.specs.Jws.{ver_answer, jws_fmt_answer};
 ghost use Rattle.jose.specs.Ports.{AreFinite, on_content};
 
-use crate::commands::{WholeInputs, read_inputs, read_past, write_object};
+use crate::commands::{Wanted, WholeInputs, read_inputs, read_past, write_object};
 use crate::ports::{Inputs, Outputs};
 use crate::words::invocation::Invocation;
 use keys::KeySet;
@@ -41,7 +41,7 @@ pub(crate) fn sign<I: Input, O: Output>(
     ensures { Does (input_members I.consumed I.is_at_end I.failures) (output_members O.written O.is_finished O.endings O.failures)
         (invocation_view invocation.now) inputs.old inputs.new outputs.old outputs.new result }
 {
-    let template = read_inputs(alloc, true, false, inputs)?;
+    let template = read_inputs(alloc, Wanted::TemplateAndKeys, inputs)?;
     let set = KeySet::read(alloc, &template.keys, true)?;
     let compact = invocation.has('c');
     if invocation.has('O') {
@@ -92,7 +92,7 @@ pub(crate) fn verify<I: Input, O: Output>(
             all,
         );
     }
-    let whole = read_inputs(alloc, true, detached_given, inputs)?;
+    let whole = read_inputs(alloc, Wanted::ObjectAndKeys(detached_given), inputs)?;
     write_verified(alloc, whole, all, payload_wanted, outputs)
 }
 
@@ -188,7 +188,7 @@ pub(crate) fn format<I: Input, O: Output>(
     ensures { Does (input_members I.consumed I.is_at_end I.failures) (output_members O.written O.is_finished O.endings O.failures)
         (invocation_view invocation.now) inputs.old inputs.new outputs.old outputs.new result }
 {
-    let whole = read_inputs(alloc, false, invocation.has('I'), inputs)?;
+    let whole = read_inputs(alloc, Wanted::Object(invocation.has('I')), inputs)?;
     write_formed(
         alloc,
         whole,
