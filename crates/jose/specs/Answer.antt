@@ -122,8 +122,8 @@ beginning invocation seen =
     else nothing
 
 -- Text, a fact about the output of the text, holds unless the refusal is Write and this output itself failed. Content, a fact about the
--- output of the content, holds unless the refusal is Write: the content is written before the text, so it may be written when the output
--- of the text fails.
+-- output of the content, holds unless the refusal is Write: the content is written before the text, so it may be written when the output of
+-- the text fails.
 pub record AreSpared {D : Type 0} (failures : D → ℕ) (old new : Outputs D) (refusal : Refusal) (Text Content : Type 0) : Type 0 where
   pub text : DidNotFail refusal (counts failures old.text new.text) → Text
   pub content : refusal ≢ Write → Content

@@ -34,8 +34,8 @@ pub record Does {D E : Type 0} (input : InputMembers D) (output : OutputMembers 
   pub random_first : DrawsFirst invocation (seen_of input old new) old new
   pub memory_first : IfErr result (TakesMemoryFirst invocation old new)
   pub content_last : RefusesFirst invocation (seen_of input old new) old new
-  -- On success everything that was written is where it belongs, and each output was finished once. After a refusal no output was
-  -- finished, except perhaps that of a content that was written before the text.
+  -- On success everything that was written is where it belongs, and each output was finished once. After a refusal no output was finished,
+  -- except perhaps that of a content that was written before the text.
   pub finished : OnOk result (AreFinished output.is_finished output.endings invocation before after)
   pub unfinished : OnErr result (AreUnfinished output.endings invocation before after)
   -- A device that the command has no option for is untouched.

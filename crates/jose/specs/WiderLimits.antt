@@ -1,5 +1,5 @@
--- Under wider limits the answers of `jwe dec`, `jws ver`, `jws fmt`, `jwe fmt` and `jwe enc` that are not Limit stay the same, except that of
--- `jwe enc` if it leaves the number of iterations to the limits.
+-- Under wider limits the answers of `jwe dec`, `jws ver`, `jws fmt`, `jwe fmt` and `jwe enc` that are not Limit stay the same, except that
+-- of `jwe enc` if it leaves the number of iterations to the limits.
 use Rattle.std.specs.Prelude.{◌≡◌, ◌≢◌, ◌||◌, ◌==◌, ℕ, ◌≤◌, Bool, true, List, Option, Result, Ok, Err}
 use Rattle.serde_json.specs.Data.{Data}
 use Rattle.octets.specs.declared.refusal.Refusal.{Refusal}

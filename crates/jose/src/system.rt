@@ -1,6 +1,6 @@
-//! The requests that the program makes of the operating system. No clause of std says how the system answers. So each request has a relation
-//! that its answer meets, and nothing more is known of this relation. A function whose clauses promise an answer in this relation can have
-//! the answer only from the request.
+//! The requests that the program makes of the operating system. No clause of std says how the system answers. So each request has a
+//! relation that its answer meets, and nothing more is known of this relation. A function whose clauses promise an answer in this relation
+//! can have the answer only from the request.
 //!
 //! A function can do only what the traits of its type parameters let it do. Over `ReadFiles` it can open a file to read it. Over
 //! `WriteFiles` it can also open an output that it was given the name of. It can cut the file only after it compared this file with those

@@ -1,9 +1,9 @@
-//! The library for C, and for every language that calls C: thumbprints, making keys, signing, verifying, encrypting, decrypting, and writing
-//! objects in another form. All octets are in memory, no call keeps anything, and calls may run side by side.
+//! The library for C, and for every language that calls C: thumbprints, making keys, signing, verifying, encrypting, decrypting, and
+//! writing objects in another form. All octets are in memory, no call keeps anything, and calls may run side by side.
 //!
 //! A call answers 0 or the number of a refusal (docs/SPECIFICATION.md "Refusals"). Its answer goes to the front of a place, with the length
-//! beside it. If the place is too small, the status is 3 and the length is the one that is needed. After every other refusal the length
-//! is 0. Whatever is refused, the place is left as it was. A caller in C includes lakhdzeva.h, which says what C owes.
+//! beside it. If the place is too small, the status is 3 and the length is the one that is needed. After every other refusal the length is
+//! 0. Whatever is refused, the place is left as it was. A caller in C includes lakhdzeva.h, which says what C owes.
 #![tactic(auto)]
 
 ghost use Rattle.std.specs.Prelude.{true, false, None, Some};
@@ -183,8 +183,8 @@ pub extern "C" fn lakhdzeva_core_decrypt(
     )
 }
 
-/// Writes an encrypted object in compact form or in JSON form. It decrypts nothing. Its ciphertext is handed in if that is `given`. If it is
-/// to be detached, its octets go to their own place, and otherwise this stays as it is.
+/// Writes an encrypted object in compact form or in JSON form. It decrypts nothing. Its ciphertext is handed in if that is `given`. If it
+/// is to be detached, its octets go to their own place, and otherwise this stays as it is.
 #[unsafe(no_mangle)]
 pub extern "C" fn lakhdzeva_core_format_encrypted(
     alloc: Global,

@@ -446,7 +446,8 @@ const ENCRYPTED: &[(&str, &str, Refusal)] = &[
     ("[]", KEY_20, Refusal::Form),
     ("\r[\"ciphertext\"]", KEY_20, Refusal::Form),
     ("\r{\"ciphertext\":1.0}", KEY_20, Refusal::Number),
-    // Each step is done for the whole object before the next one: form, base64url, the protected header, the joint headers, and `crit` and `zip`.
+    // Each step is done for the whole object before the next one: form, base64url, the protected header, the joint headers, and `crit` and
+    // `zip`.
     ("!...", KEY_20, Refusal::Form),
     (
         "{\"ciphertext\":\"!\",\"recipients\":[{},{\"header\":1}]}",

@@ -1,5 +1,5 @@
-//! Every beginning, and every text with one bit changed, of the token of RFC 7515 appendix A.1, of the object of RFC 7516 appendix A.3
-//! and of the inputs of the readers: each is refused.
+//! Every beginning, and every text with one bit changed, of the token of RFC 7515 appendix A.1, of the object of RFC 7516 appendix A.3 and
+//! of the inputs of the readers: each is refused.
 use crate::tests::harness::{Answer, GivenOctets, ROOM, expect_done, outcome_of_octets};
 use crate::tests::hostile::readers::{DECRYPTING, Reader, VERIFYING, readers, shown};
 use crate::tests::samples::ABC_FLATTENED;

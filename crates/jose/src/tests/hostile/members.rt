@@ -1,5 +1,5 @@
-//! Objects of the other kind, added members, and members that come twice, of which the last one counts (RFC 7515 section 4, RFC 7517
-//! section 4).
+//! Objects of the other kind, added members, and members that come twice, of which the last one counts (RFC 7515 section 4,
+//! RFC 7517 section 4).
 use crate::tests::harness::Answer;
 use crate::tests::hostile::readers::{
     DECRYPTING, ENCRYPTING, FORMING_ENCRYPTED, FORMING_SIGNED, MAKING, NAMING, Reader, SIGNING,

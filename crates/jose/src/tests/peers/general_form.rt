@@ -15,8 +15,8 @@ const ENCRYPTED: &[(&str, &[&str])] = &[
         "{\"ciphertext\":\"5EhDFmiDzpZQdVRhkpoYfYmHMX-qtZgeWfMaENIvbgk\",\"iv\":\"e1L8oixUv2YCVkUt8FB3Tg\",\"protected\":\"eyJlbmMiOiJBMTI4Q0JDLUhTMjU2In0\",\"recipients\":[{\"encrypted_key\":\"6ebZSWQIxRx0g6S3atVNWzRJi8SwLW0cbCBfZJIzP8yoQ4XoGgMDkg\",\"header\":{\"alg\":\"A128KW\"}},{\"encrypted_key\":\"9BEIxwgHdmKqhHeiAKUfj7mHZnJzo43rpRmM5fAZTz1bvGEu97ISOA\",\"header\":{\"alg\":\"A256KW\"}}],\"tag\":\"SqkKzAmr6dQ-uV-5Vt3lzg\"}",
         &[KEY_16, KEY_32],
     ),
-    // jose jwe enc -i '{"protected":{"enc":"A256GCM"}}' -r '{"header":{"alg":"A128KW"}}' -k k16
-    // -r '{"header":{"alg":"PBES2-HS256+A128KW","p2c":1000}}' -k k24
+    // jose jwe enc -i '{"protected":{"enc":"A256GCM"}}' -r '{"header":{"alg":"A128KW"}}' -k k16 -r
+    // '{"header":{"alg":"PBES2-HS256+A128KW","p2c":1000}}' -k k24
     (
         "{\"ciphertext\":\"sCp6DXOdqGm1u3X_bjwYIXPgjYoqmQ\",\"iv\":\"gnVGVWknw8aaYK2m\",\"protected\":\"eyJlbmMiOiJBMjU2R0NNIn0\",\"recipients\":[{\"encrypted_key\":\"l83r-n_-GfLecC8Uul4OTGWC4eM1yZyXsl_kAoj9eJTWFJ_CumkQqg\",\"header\":{\"alg\":\"A128KW\"}},{\"encrypted_key\":\"7iJ0vjhJHwC8dRWWTQ0uUGx6bxKUOzkHHs4Pt9XFuJgtqFCtkagsUg\",\"header\":{\"alg\":\"PBES2-HS256+A128KW\",\"p2c\":1000,\"p2s\":\"i8eaAUsWpeYx_qBlF8yH0A\"}}],\"tag\":\"jj3hqCL-mf_Z1QoNpJMhgQ\"}",
         &[KEY_16, KEY_24],
@@ -38,8 +38,8 @@ const ENCRYPTED: &[(&str, &[&str])] = &[
         "{\"protected\":\"eyJlbmMiOiJBMjU2R0NNIn0\",\"recipients\":[{\"header\":{\"alg\":\"A128KW\"},\"encrypted_key\":\"Nz_foOVf91D1Fx_4T8bV43SqRgAklF_NTbcnNY4Xyla7whftiXLQ_g\"},{\"header\":{\"alg\":\"A256KW\"},\"encrypted_key\":\"DFCuYoFlZ1cO3SAKxp43mCjurqWHpolpiEdSpnKjD8VRLOwvhsrYjw\"},{\"header\":{\"alg\":\"PBES2-HS256+A128KW\",\"p2c\":1000,\"p2s\":\"MDEyMzQ1Njc4OWFiY2RlZg\"},\"encrypted_key\":\"2Xlaoojrv2B3U2E1Up9NbBQbwrHWylwmElVxMiIhIrCAKsxHOptTdw\"}],\"aad\":\"YQ\",\"iv\":\"BCItIxP2DNYEYzxi\",\"ciphertext\":\"N54u5N1-kaUBO57imS42gGY-I_FNUQ\",\"tag\":\"XxK8whVz5KsUTWvkyYc6gw\"}",
         &[KEY_16, KEY_32, KEY_24],
     ),
-    // jwcrypto: JWE(.., protected='{"enc":"A128CBC-HS256"}'), add_recipient(KEY_16, '{"alg":"A128KW"}'),
-    // add_recipient(KEY_32, '{"alg":"A256KW"}'), serialize()
+    // jwcrypto: JWE(.., protected='{"enc":"A128CBC-HS256"}'), add_recipient(KEY_16, '{"alg":"A128KW"}'), add_recipient(KEY_32,
+    // '{"alg":"A256KW"}'), serialize()
     (
         "{\"ciphertext\":\"4d2ZB1mkCjiqG3zw-ZjmdcGLDOwaKq8-JrE6toxeHxk\",\"iv\":\"2MMWZF7BELXGTn5jFEbJLQ\",\"protected\":\"eyJlbmMiOiAiQTEyOENCQy1IUzI1NiJ9\",\"recipients\":[{\"encrypted_key\":\"_VUfUyaggUQkbgbRUD2GNCu2FiqBKUp-2b0iSxyTHFxKc2DWIzoIGw\",\"header\":{\"alg\":\"A128KW\"}},{\"encrypted_key\":\"Aiq5ivw9vB59taqSvT3LNulq-xf2XfwcQDps9AlvpTuQ481PlpOXnA\",\"header\":{\"alg\":\"A256KW\"}}],\"tag\":\"RLSWpkNdNDXLpI1Zm6KE_Q\"}",
         &[KEY_16, KEY_32],
@@ -50,14 +50,14 @@ const ENCRYPTED: &[(&str, &[&str])] = &[
         "{\"aad\":\"YQ\",\"ciphertext\":\"ZfZLiAII6eAX8DizjMx8Ikq5A4eJQw\",\"iv\":\"M1f2TMAeuP_QjYIA\",\"protected\":\"eyJlbmMiOiAiQTI1NkdDTSJ9\",\"recipients\":[{\"encrypted_key\":\"moaaNtha-pk7-VGQtGI2C_SHEGJB1yjbjugPGOl8mAi5NMBkd-Nh4g\",\"header\":{\"alg\":\"A192KW\"}},{\"encrypted_key\":\"8ds6HePCGrh21SpVsPT_IPDVi38-9NgboBuyLh5MRZxX57Fa0OT-zQ\",\"header\":{\"alg\":\"A128KW\"}}],\"tag\":\"OCPPvEhLgWRTzQZ6oDwPbw\",\"unprotected\":{\"kid\":\"x\"}}",
         &[KEY_24, KEY_16],
     ),
-    // jose jwe enc -i '{"protected":{"enc":"A128CBC-HS256"},"aad":"YQ"}' -r '{"header":{"alg":"A128GCMKW"}}' -k k16
-    // -r '{"header":{"alg":"PBES2-HS256+A128KW","p2c":1000}}' -k k24 -r '{"header":{"alg":"A256KW"}}' -k k32
+    // jose jwe enc -i '{"protected":{"enc":"A128CBC-HS256"},"aad":"YQ"}' -r '{"header":{"alg":"A128GCMKW"}}' -k k16 -r
+    // '{"header":{"alg":"PBES2-HS256+A128KW","p2c":1000}}' -k k24 -r '{"header":{"alg":"A256KW"}}' -k k32
     (
         "{\"ciphertext\":\"Ihj_fRrkAIbLlLHdyYjgo0EuQ5L7qx1V6CP2O55jYa4\",\"aad\":\"YQ\",\"iv\":\"Xi0yw2AjFPiONBj_koIWLw\",\"protected\":\"eyJlbmMiOiJBMTI4Q0JDLUhTMjU2In0\",\"recipients\":[{\"encrypted_key\":\"zjYNU635Kw953adMZyb2GxpLQ9G2l6ztIKNQyxfRSmc\",\"header\":{\"alg\":\"A128GCMKW\",\"iv\":\"canudJD4Jk5J9dRp\",\"tag\":\"bK2JUqaMePCZsBdhxTHebg\"}},{\"encrypted_key\":\"lcncqAkyJQHzaHDBmUz1ALDe2OW6G7Xw1x2DA3UgHcGWitfr7uAPxg\",\"header\":{\"alg\":\"PBES2-HS256+A128KW\",\"p2c\":1000,\"p2s\":\"6vj2owf-BWaEaAIUax8SPA\"}},{\"encrypted_key\":\"1auJJ7ItcgG77TE6Swk-1odoQ0VLQKMCkArUaVN14VkojVB8QN81gQ\",\"header\":{\"alg\":\"A256KW\"}}],\"tag\":\"VNWST15h-zj1zQgz6IoQAA\"}",
         &[KEY_16, KEY_24, KEY_32],
     ),
-    // jose jwe enc -i '{"protected":{"enc":"A256GCM"}}' -r '{"header":{"alg":"A128KW"}}' -k k16
-    // -r '{"header":{"alg":"A192GCMKW"}}' -k k24 -r '{"header":{"alg":"A256GCMKW"}}' -k k32
+    // jose jwe enc -i '{"protected":{"enc":"A256GCM"}}' -r '{"header":{"alg":"A128KW"}}' -k k16 -r '{"header":{"alg":"A192GCMKW"}}' -k k24
+    // -r '{"header":{"alg":"A256GCMKW"}}' -k k32
     (
         "{\"ciphertext\":\"ZVCHTpHkbPWWj_barfWFPWExRzzGHw\",\"iv\":\"MYc4cJcx74VGL3Ss\",\"protected\":\"eyJlbmMiOiJBMjU2R0NNIn0\",\"recipients\":[{\"encrypted_key\":\"GPIOD7Os_Oov-ZeN4Kcd5PTIumaLN354zqNmV7AN5TIJYWw2FrIqtQ\",\"header\":{\"alg\":\"A128KW\"}},{\"encrypted_key\":\"eSKW2C5RC0d00td1uXivVhzfRcokGUslgIUQdWc5KeQ\",\"header\":{\"alg\":\"A192GCMKW\",\"iv\":\"ge_g4yyC0L3-LS8O\",\"tag\":\"9ShYpk5IHpUIiVJAT3lb3g\"}},{\"encrypted_key\":\"QjiSSmWOpJWJ6gZbhDG0ycvcbal_PluPxeUz6gI2UNo\",\"header\":{\"alg\":\"A256GCMKW\",\"iv\":\"KEk5CWHyuzdXiaEi\",\"tag\":\"pzCOZMLJQwz8wtu9zEDA3w\"}}],\"tag\":\"qrg29DGoTcwDnnlDeAbO-w\"}",
         &[KEY_16, KEY_24, KEY_32],
@@ -92,20 +92,20 @@ const ENCRYPTED: &[(&str, &[&str])] = &[
         "{\"protected\":\"eyJhbGciOiJBMjU2R0NNS1ciLCJlbmMiOiJBMTkyQ0JDLUhTMzg0IiwiaXYiOiJYeFI4bEs4NkpDQnpYYkZTIiwidGFnIjoiSEpERFdReDBjcklfQ3JTTzlHVTd1QSJ9\",\"aad\":\"YQ\",\"encrypted_key\":\"QEkGU6TkckPMhrXgs-fb54ou-EQuRB-CUJQa4jNMtuWFVtRhUHbGvU34iGsWPJ4F\",\"iv\":\"sBp6EydF0sGCgv_1g45wlg\",\"ciphertext\":\"wUqyXw03hhssyudDMh-NP_J62QcPjzCl5_z1bXtewQw\",\"tag\":\"qhBYbRtEGwJa8SeED6nCNx15OayARCwk\"}",
         &[KEY_32],
     ),
-    // go-jose: NewMultiEncrypter(A128CBC-HS256, [A128GCMKW, A192GCMKW, A256KW, PBES2_HS256_A128KW, A256GCMKW])
-    // .EncryptWithAuthData(.., "a").FullSerialize(), without the `encrypted_key` next to the list
+    // go-jose: NewMultiEncrypter(A128CBC-HS256, [A128GCMKW, A192GCMKW, A256KW, PBES2_HS256_A128KW, A256GCMKW]) .EncryptWithAuthData(..,
+    // "a").FullSerialize(), without the `encrypted_key` next to the list
     (
         "{\"protected\":\"eyJlbmMiOiJBMTI4Q0JDLUhTMjU2In0\",\"recipients\":[{\"header\":{\"alg\":\"A128GCMKW\",\"iv\":\"ydydr2XXQFJUl6lE\",\"tag\":\"XBZPXKCF0YEFpBx3NlxNgQ\"},\"encrypted_key\":\"1EmN_51Z1o6kAR3CwefCSkE9u8-dxBy_sGoJAKbLI3o\"},{\"header\":{\"alg\":\"A192GCMKW\",\"iv\":\"xFGriDVMdXL5WpAK\",\"tag\":\"6oG_Oj8fEFX_QkXkPmKvLw\"},\"encrypted_key\":\"jujArHtjYZtNxNVFWt3ljjmjZuP6v_LUYL73D5mely0\"},{\"header\":{\"alg\":\"A256KW\"},\"encrypted_key\":\"YVJEVNuBpc4Yh6czJ_bA1DkBO7fqZrfoxDaM8lJYUH1sBpPq65xDjA\"},{\"header\":{\"alg\":\"PBES2-HS256+A128KW\",\"p2c\":1000,\"p2s\":\"OlZDP2PSVfGsaarf7SSCeA\"},\"encrypted_key\":\"_waO6r5AgOOSbo4hr8yAz_fQAmuy6H2yM5R5J4Y6Kfx2h2NfCxAQeg\"},{\"header\":{\"alg\":\"A256GCMKW\",\"iv\":\"_XSFBMCyOKe3zOjR\",\"tag\":\"t4uR45WE8KZ2N4XYRY3anw\"},\"encrypted_key\":\"CRQv5--yhdXPHYsOASKhZWDxGiZvBo1VaBQl3K8pBFw\"}],\"aad\":\"YQ\",\"iv\":\"bu9Bmzh0VIw8HgSeyLr97Q\",\"ciphertext\":\"uoBO9UxCKjqTllwLJBsqB_O8Q8x6yZflDxx0hvfFnL8\",\"tag\":\"UGuV23gb1JKsb9SBKv2dhA\"}",
         &[KEY_16, KEY_24, KEY_32],
     ),
-    // go-jose: NewMultiEncrypter(A256GCM, [A128GCMKW, A192GCMKW, A256KW, PBES2_HS256_A128KW, A256GCMKW])
-    // .EncryptWithAuthData(.., "a").FullSerialize(), without the `encrypted_key` next to the list
+    // go-jose: NewMultiEncrypter(A256GCM, [A128GCMKW, A192GCMKW, A256KW, PBES2_HS256_A128KW, A256GCMKW]) .EncryptWithAuthData(..,
+    // "a").FullSerialize(), without the `encrypted_key` next to the list
     (
         "{\"protected\":\"eyJlbmMiOiJBMjU2R0NNIn0\",\"recipients\":[{\"header\":{\"alg\":\"A128GCMKW\",\"iv\":\"-WR89e2uKjH4WTkT\",\"tag\":\"gURiVdh7_tg4ZVx_IDvQAg\"},\"encrypted_key\":\"oeqyUWT6rdT0j5Pg0KMvR_i1elmPXksE6vhrO-BEGEs\"},{\"header\":{\"alg\":\"A192GCMKW\",\"iv\":\"gySLgsOA6w8rnQuo\",\"tag\":\"3NlRh3qaV_dI9HAkZGAMBA\"},\"encrypted_key\":\"yMVqa4lbSRKrYBd6jrn6CWsaFEBbj4fAXSzCCiO44n0\"},{\"header\":{\"alg\":\"A256KW\"},\"encrypted_key\":\"aAUbLamvbK1jjKg0fziJygK_eGbIjOdKt6m2ytxeFw0tBpxnusUr7Q\"},{\"header\":{\"alg\":\"PBES2-HS256+A128KW\",\"p2c\":1000,\"p2s\":\"a-KNj0D2gsnXrWtLOC7d6A\"},\"encrypted_key\":\"egDoo8vRttbQ39-lksLBjHlKcJttlQHxGo-qn35YfLGWJHAm9Ygu4w\"},{\"header\":{\"alg\":\"A256GCMKW\",\"iv\":\"o1Dj_q_JirRjsjLS\",\"tag\":\"KG9A_9tuY4GUNjzJOQOTzg\"},\"encrypted_key\":\"5BDjqwBfHPnGwOVHYK-b3-ANrEGC4Wbd97C4cCfuSGU\"}],\"aad\":\"YQ\",\"iv\":\"EPekz0Q513sz5RBr\",\"ciphertext\":\"JQL4wX34XkDkth_8NIQnru9Utgojow\",\"tag\":\"bZWHOW6CWQQUIlVgJdP-Ow\"}",
         &[KEY_16, KEY_24, KEY_32],
     ),
-    // jwcrypto: JWE(.., protected='{"enc":"A128CBC-HS256"}', aad='a'), add_recipient(KEY_16, '{"alg":"A128GCMKW"}'),
-    // add_recipient(KEY_24, '{"alg":"PBES2-HS256+A128KW"}'), add_recipient(KEY_32, '{"alg":"A256GCMKW"}'), serialize()
+    // jwcrypto: JWE(.., protected='{"enc":"A128CBC-HS256"}', aad='a'), add_recipient(KEY_16, '{"alg":"A128GCMKW"}'), add_recipient(KEY_24,
+    // '{"alg":"PBES2-HS256+A128KW"}'), add_recipient(KEY_32, '{"alg":"A256GCMKW"}'), serialize()
     (
         "{\"aad\":\"YQ\",\"ciphertext\":\"vUBBTSz-AgKpZm53W3VijXFI-4VEDxQuxu384WYYs9I\",\"iv\":\"0ffXAQEzvJIF2i8Nl2-qvQ\",\"protected\":\"eyJlbmMiOiAiQTEyOENCQy1IUzI1NiJ9\",\"recipients\":[{\"encrypted_key\":\"0SqG9fbpKKjhIH5iJYIMWwY4cpJSrGXr8ds-KPaG7fM\",\"header\":{\"alg\":\"A128GCMKW\",\"iv\":\"Ti95bWKzVI2OjWjr\",\"tag\":\"zlEmoSk_TgJR0DUlvAacDA\"}},{\"encrypted_key\":\"4h3CrcYYf0bpqHE4f6GvZFeJaOxOf4-0wOsh5nHUBB44wsW0ePsg7A\",\"header\":{\"alg\":\"PBES2-HS256+A128KW\",\"p2c\":8192,\"p2s\":\"YuOH77pjqxiSwJbDEC7NgA\"}},{\"encrypted_key\":\"PCxS5B_4tjPdoXYLfOPkGM4LtMB4Uod_EZiNy2PS1-w\",\"header\":{\"alg\":\"A256GCMKW\",\"iv\":\"J-GF4JqiGOZSOHyF\",\"tag\":\"1DfXXqenMP9CFGv-eUFm3g\"}}],\"tag\":\"otYn_fKVqhspJIwtgZVvFg\"}",
         &[KEY_16, KEY_24, KEY_32],

@@ -1,5 +1,5 @@
-//! RFC 7518, JSON Web Algorithms: the names of the algorithms and the lengths of their keys (sections 3.1, 4.1 and 5.1), row by row
-//! with values written from the standard. Its appendix B is in crate `ciphers`.
+//! RFC 7518, JSON Web Algorithms: the names of the algorithms and the lengths of their keys (sections 3.1, 4.1 and 5.1), row by row with
+//! values written from the standard. Its appendix B is in crate `ciphers`.
 use crate::tests::harness::expect_same;
 use keys::{Algorithm, ContentEncryptionAlg, KeyManagementAlg, KeySet, SignatureAlg};
 use octets::{Refusal, b64_append};
