@@ -4,7 +4,7 @@ PREFIX ?= /usr/local
 # Checks that the program is the one that `make build` made. A trial of installing sets this to `:` and takes any program.
 BUILT = scripts/compare-build
 
-.PHONY: demo test edits tests-try build static static-try calls definitions vectors library bindings ports long faults growth hostile bench pictures pages tour interop latchset dist dist-try install uninstall clean
+.PHONY: demo test edits tests-try build static static-try calls definitions definitions-try vectors library bindings ports long faults growth hostile bench pictures pages tour interop latchset dist dist-try install uninstall clean
 
 # Signs and verifies a document, makes a key, encrypts and decrypts a secret, and shows what happens to changed texts and wrong keys.
 demo:
@@ -49,6 +49,11 @@ calls:
 # the rows from the tests that `make test` built.
 definitions:
 	@scripts/definitions
+
+# Tries `make definitions`: plants mistakes in the definitions, each alone and in a copy, and says which comparison or row finds it. It proves
+# nothing, and also reads the rows from the tests that `make test` built.
+definitions-try:
+	@scripts/definitions-try
 
 # Computes the test vectors of NIST that Debian's python3-cryptography-vectors installs, with the code of the crates, and those of Wycheproof
 # if WYCHEPROOF names their folder. Without them it names what it leaves out.
