@@ -186,6 +186,8 @@ const ENCRYPTING_TEXTS: &[(&str, &str, Refusal)] = &[
     // algorithms.
     ("{\"x\":1.0}", KEY_20, Refusal::Number),
     ("{\"aad\":\"!\",\"x\":{}}", KEY_20, Refusal::Form),
+    ("{\"aad\":\"!\",\"protected\":[]}", KEY_20, Refusal::Form),
+    ("{\"aad\":\"!\",\"unprotected\":[]}", KEY_20, Refusal::Form),
     (
         "{\"aad\":\"!\",\"protected\":{\"alg\":1}}",
         KEY_20,

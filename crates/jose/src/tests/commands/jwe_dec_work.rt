@@ -252,6 +252,13 @@ const WORKS_OF_GCM_KEY_WRAP: &[(&str, u64, Result<(), Refusal>)] = &[
         0,
         Err(Refusal::NotOpened),
     ),
+    // An `iv` of 13 octets, with the encrypted key and the tag that follow if the first block is this `iv` and the number 1, cut to 16
+    // octets. In the rows above they are those of SP 800-38D, which hashes such an `iv` (Python's `cryptography`).
+    (
+        "{\"ciphertext\":\"x_XH8zziydmmXstZ2MFibgI6UZhNgQ\",\"encrypted_key\":\"2DgDu_Og1R_1H3g3JmPhMA\",\"iv\":\"AAECAwQFBgcICQoL\",\"tag\":\"Q-_qQhoOmTQSdSjDppCwQw\",\"unprotected\":{\"alg\":\"A128GCMKW\",\"enc\":\"A128GCM\",\"iv\":\"MjM0NTY3ODk6Ozw9Pg\",\"tag\":\"roQ4MgN3Y2nbQhUU8macUg\"}}",
+        0,
+        Err(Refusal::NotOpened),
+    ),
     // A `tag` of 15 octets, of 17, of 12, of 32, and of none.
     (
         "{\"ciphertext\":\"x_XH8zziydmmXstZ2MFibgI6UZhNgQ\",\"encrypted_key\":\"1VtprdSbKAFFYf9luHZuCw\",\"iv\":\"AAECAwQFBgcICQoL\",\"tag\":\"Q-_qQhoOmTQSdSjDppCwQw\",\"unprotected\":{\"alg\":\"A128GCMKW\",\"enc\":\"A128GCM\",\"iv\":\"MjM0NTY3ODk6Ozw9\",\"tag\":\"dSsS4sJCJrPe2EMjK05E\"}}",

@@ -54,6 +54,12 @@ const SIGNING_KEYS: &[(&str, &str, Answer<'_>)] = &[
         "{\"kty\":\"oct\",\"k\":\"AAECAwQFBgcICQoLDA0ODxAREhMUFRYXGBkaGxwdHh8gISIjJCUmJygpKissLS4vMDEyMzQ1Njc4OTo7PD0-P0A\"}",
         Answer::Text("eyJhbGciOiJIUzI1NiJ9.YWJj.uTfEuQvH481MLgjPJrpBC1vCLhpciEhwl1GsndL-fB0"),
     ),
+    // A key whose `alg` is another than that of the template, which is taken.
+    (
+        TEMPLATE,
+        "{\"kty\":\"oct\",\"k\":\"AyM1SysPpbyDfgZld3umj1qzKObwVMkoqQ-EstJQLr_T-1qS0gZH75aKtMN3Yj0iPS4hcgUuTwjAzZr1Z9CAow\",\"alg\":\"HS512\"}",
+        Answer::Refusal(Refusal::KeyDoesNotFit),
+    ),
     // A key of 31 octets, and one that may only verify.
     (TEMPLATE, KEY_TO_30, Answer::Refusal(Refusal::KeyDoesNotFit)),
     (
