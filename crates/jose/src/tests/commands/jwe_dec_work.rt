@@ -154,6 +154,17 @@ const WORKS_OF_PASSWORDS: &[(&str, &str, Work, Result<(), Refusal>)] = &[
         },
         Err(Refusal::Limit),
     ),
+    // No key fits the recipient whose count is too great, so the count is not judged.
+    (
+        "{\"ciphertext\":\"x_XH8zziydmmXstZ2MFibgI6UZhNgQ\",\"iv\":\"AAECAwQFBgcICQoL\",\"recipients\":[{\"header\":{\"alg\":\"PBES2-HS256+A128KW\",\"p2c\":2000001,\"p2s\":\"AAECAwQFBgc\"}},{\"encrypted_key\":\"EAKEbIqldnGWmjL3NmDrWNn5id1_YoLS\",\"header\":{\"alg\":\"A128KW\"}}],\"tag\":\"Q-_qQhoOmTQSdSjDppCwQw\",\"unprotected\":{\"enc\":\"A128GCM\"}}",
+        "{\"kty\":\"oct\",\"k\":\"AAECAwQFBgcICQoLDA0ODw\",\"alg\":\"A128KW\"}",
+        Work {
+            iterations: 0,
+            unwraps: 1,
+            openings: 1,
+        },
+        Ok(()),
+    ),
 ];
 
 #[test]
