@@ -13,7 +13,7 @@ row fails, and so does a row whose code is not there exactly once.
 - Each comparison for equality in the crates that compare tags and signatures (COMPARING), unless one side is a number or a length. In all
   crates: a function that has two octet parameters and returns a bool, and `same_octets` if it is named without being called.
 - Each answer that is made or inspected in the files that pass on the answers of std's files and streams (PASSING, by the beginnings of
-  their paths), and each use there of a parameter that may be changed (`&mut`), so that only a reader writes into a buffer.
+  their paths).
 No name above may get another name, by `use .. as`, by `type` or by importing the cases of an enum.
 
 What it cannot see:
@@ -23,7 +23,7 @@ What it cannot see:
 - a comparison by order, by a pattern, by arithmetic or by a function of another crate, made in addition to the one by `same_octets`;
 - when the kit returns an AllocError or an io::Error, and whether the reason in a row is true.
 """
-import collections, os, re
+import collections, os
 
 from lib.sources import CRATES, ROOT, block_end, fault, parts, read, text_at, tokens_of
 
@@ -80,11 +80,10 @@ PLACES = [
     ("octets/src/streams.rt", "", "const MOST_OCTETS: u64 = 1 << 62;", "how many octets are read"),
     ("octets/src/streams.rt", "", "Input for ReaderInput", "it passes on what its reader answers"),
     ("octets/src/streams.rt", "ReaderInput::read", "if self.is_at_end || buf.is_empty() { return Ok(0); }", "a read without room, or past the end"),
-    ("octets/src/streams.rt", "ReaderInput::read", "let left = (MOST_OCTETS - self.count) as usize; let room = buf.len().min(left); "
-     "let taken = if room == 0 { None } else { read_once(&mut self.reader, &mut buf[..room]).ok() }; "
+    ("octets/src/streams.rt", "ReaderInput::read", "let left = (MOST_OCTETS - self.count) as usize; let room = buf.len().min(left).min(PIECE); "
+     "let mut piece = [0u8; PIECE]; let taken = if room == 0 { None } else { read_once(&mut self.reader, &mut piece[..room]).ok() }; "
      "let Some(n) = taken else { count_one(&mut self.failures); return Err(Fault::Reading); };", "the reader's error, or that all that may be read was read"),
-    ("octets/src/streams.rt", "ReaderInput::read", "are_octets(&buf[..n]); self.transcript.append(&buf[..n]); self.count += n as u64; "
-     "self.is_at_end = n == 0; Ok(n)", "the reader's answer"),
+    ("octets/src/streams.rt", "ReaderInput::read", "self.is_at_end = n == 0; Ok(n)", "the reader's answer"),
     ("octets/src/streams.rt", "read_once", "'reads: for _ in 0..u64::MAX { match reader.read(buf) { Err(e) if e.kind() == ErrorKind::Interrupted => continue 'reads, "
      "result => return result, } } Err(io::Error::from(ErrorKind::Other))", "an interrupted call is made again, up to 2^64 - 1 times"),
     ("octets/src/streams.rt", "", "Output for WriterOutput", "it passes on what its writer answers"),
@@ -192,7 +191,6 @@ ADVICE = {
     "room": "memory is asked for by what is there to be kept, and not by a number or in a loop without a list; do so, or add a row with what bounds it",
     "equality": "tags and signatures are compared by same_octets alone; use it, or add a row that says what else is compared",
     "answer": "what a file or a stream answers is passed on as it is; do so, or add a row that says what this answers",
-    "lent": "a device only hands on what it is lent; do so, or add a row that says what else it does with it",
 }
 
 
@@ -286,11 +284,6 @@ def words_to(tokens, at, *ends):
     return [it.text for it in tokens[start:at]]
 
 
-def lent_by(signature):
-    """The parameters that the function may change, other than `self`."""
-    return set(re.findall(r"(\w+) : [^,)]*\bmut\b", " ".join(signature)))
-
-
 def is_loop_without_list(tokens, at):
     word = tokens[at].text
     return word in LOOPS or word == "for" and not {"..", "..="}.isdisjoint(words_to(tokens, at, "{"))
@@ -300,7 +293,6 @@ def needing_rows(part):
     """The places of a part of the code that need a row: where, what, and the advice for one that has none."""
     tokens, at = part.tokens, 0
     signature = words_to(tokens, 0, "{", ";") if part.function else []
-    lent = lent_by(signature) if part.path.startswith(PASSING) else ()
     if signature[-2:] == ["->", "bool"] and " ".join(signature).count("[ u8") > 1:
         yield 0, "octets twice", "equality"
     while at < len(tokens):
@@ -311,8 +303,6 @@ def needing_rows(part):
             at = end
         elif advice := advice_at(part, at):
             yield at, tokens[at].text, advice
-        elif tokens[at].text in lent and at >= len(signature) and text_at(tokens, at - 1) != ".":
-            yield at, tokens[at].text, "lent"
         elif "Result" in signature and MEMORY & set(signature) and is_loop_without_list(tokens, at):
             yield at, tokens[at].text, "room"
         at += 1

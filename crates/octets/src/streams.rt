@@ -1,5 +1,5 @@
 //! Devices over std's readers and writers. What passed through one is kept for contracts only.
-ghost use Rattle.std.specs.Prelude.{◌≡◌, ◌≢◌, ◌+◌, ◌-◌, ◌^◌, ◌<◌, ◌≤◌, [], length, take, true, false, IfOk, IfErr, Ok, MatchResult, IsTrue};
+ghost use Rattle.std.specs.Prelude.{◌≡◌, ◌≢◌, ◌+◌, ◌-◌, ◌^◌, ◌<◌, ◌≤◌, [], length, take, drop, true, false, IfOk, IfErr, Ok, MatchResult, IsTrue};
 ghost use Rattle.std.specs.Iterator.{at_most};
 ghost use Rattle.std.specs.Io.KnownBytes.{Consumes, Keeps, IsAtEnd, ReadConsumes, WriteAppends};
 ghost use Rattle.std.specs.IoError.{error_kind};
@@ -9,6 +9,7 @@ ghost use Rattle.octets.specs.Octets.{IsOctets};
 
 use crate::devices::count_one;
 use crate::laws::are_octets;
+use crate::sizes::PIECE;
 use crate::transcript::Transcript;
 use crate::{Fault, Input, Output};
 use std::io;
@@ -17,7 +18,8 @@ use std::io::{ErrorKind, Read, Write};
 /// A read after this many octets fails.
 const MOST_OCTETS: u64 = 1 << 62;
 
-/// An input over a reader. A read that a signal interrupted is made again. A read after 2^62 octets fails.
+/// An input over a reader. One read returns at most [`PIECE`] octets. A read that a signal interrupted is made again. A read after 2^62 octets
+/// fails.
 #[derive(Drop)]
 pub struct ReaderInput<R> {
     reader: R,
@@ -74,6 +76,8 @@ impl<R: Read> Input for ReaderInput<R> {
             (λ _. Keeps (R.remaining (reader_of self.old)) (R.remaining (reader_of self.new))) }
         ensures source_end { is_at_end_of self.old ≡ false → is_at_end_of self.new ≡ true
             → IsAtEnd (R.remaining (reader_of self.new)) }
+        // Behind the octets that were read the buffer is unchanged, and after a failure all of it is.
+        ensures rest { MatchResult result (λ n. drop n buf.new ≡ drop n buf.old) (λ _. buf.new ≡ buf.old) }
         // After its end the reader is not asked again.
         ensures ended { IsTrue (is_at_end_of self.old) → (result ≡ Ok 0) × (self.new ≡ self.old) × (buf.new ≡ buf.old) }
 
@@ -84,17 +88,19 @@ impl<R: Read> Input for ReaderInput<R> {
             return Ok(0);
         }
         let left = (MOST_OCTETS - self.count) as usize;
-        let room = buf.len().min(left);
+        let room = buf.len().min(left).min(PIECE);
+        let mut piece = [0u8; PIECE];
         let taken = if room == 0 {
             None
         } else {
-            read_once(&mut self.reader, &mut buf[..room]).ok()
+            read_once(&mut self.reader, &mut piece[..room]).ok()
         };
         let Some(n) = taken else {
             count_one(&mut self.failures);
             return Err(Fault::Reading);
         };
-        are_octets(&buf[..n]);
+        are_octets(&piece[..n]);
+        buf[..n].copy_from_slice(&piece[..n]);
         self.transcript.append(&buf[..n]);
         self.count += n as u64;
         self.is_at_end = n == 0;

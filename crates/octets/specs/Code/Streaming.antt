@@ -43,7 +43,8 @@ pub record Streams {D E : Type 0} (input : InputMembers D) (output : OutputMembe
       × IfLent content_out (λ was is. KeepsUp (λ front. (fixed_by plan front).content) (read_of input old new) (output.written was) (output.written is))
   -- If there is no plan, the content is not touched.
   pub content_last : (refusal : Refusal) → plan ≡ Err refusal → new ≡ old
-  -- An output to which nothing was written is unchanged, unless it failed.
+  -- An output to which nothing was written is unchanged, unless it failed. If the refusal is Write, `content_first` says what is known of the
+  -- content's output, which may have been finished without an octet.
   pub uncut : IfErr result (λ refusal.
       (DidNotFail refusal (counts output.failures before after) → output.written after ≡ output.written before → after ≡ before)
       × IfLent content_out (λ was is. refusal ≢ Write → output.written is ≡ output.written was → is ≡ was))
@@ -54,7 +55,7 @@ pub record Streams {D E : Type 0} (input : InputMembers D) (output : OutputMembe
       × ((texts : OutputTexts) × (planned plan (read_of input old new) ≡ Ok texts) × (output.written is ≡ output.written was ++ texts.content)))))
   -- All memory is allocated before the content is touched.
   pub memory_first : IfErr result (λ refusal. refusal ≡ Memory → new ≡ old)
-  -- If nothing of the content could be read, an output that did not fail is unchanged.
+  -- If nothing of the content could be read, an output that did not fail is unchanged, with the same exception.
   pub unread : IfErr result (λ refusal. read_of input old new ≡ []
       → (DidNotFail refusal (counts output.failures before after) → after ≡ before) × IfLent content_out (λ was is. refusal ≢ Write → is ≡ was))
 
