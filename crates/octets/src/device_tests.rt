@@ -1,4 +1,5 @@
 //! Devices over readers and writers that fail, are interrupted, or pass long texts.
+use crate::sizes::PIECE;
 use crate::tests::{expect_octets, expect_same, repeated};
 use crate::{Fault, Input, Output, ReaderInput, Refusal, WriterOutput, draw, write_whole};
 use std::alloc::Global;
@@ -293,13 +294,13 @@ fn a_read_and_a_write_of_nothing_do_nothing(rt: HostRuntime) {
     expect_same(&rt, device.calls, 2, "calls");
 }
 
-/// The octets go through a reader and a writer, `room` octets at a time.
+/// The octets go through a reader and a writer, `room` octets at a time, or `PIECE` if that is less.
 fn passes<R: Abort + AllocGlobal>(rt: &R, octets: &[u8], room: usize) -> Result<(), Fail> {
     let mut buf = repeated(rt.alloc(), b"\0", room, b"")?;
     let mut input = ReaderInput::new(octets);
     let mut kept = Vec::new(rt.alloc());
     let mut out = WriterOutput::new(&mut kept);
-    for _ in 0..octets.len() / room.max(1) + 1 {
+    for _ in 0..octets.len() / room.min(PIECE).max(1) + 1 {
         passes_once(rt, &mut input, &mut out, &mut buf);
     }
     expect_same(rt, input.read(&mut buf), Ok(0), "the end");
@@ -312,6 +313,7 @@ fn passes<R: Abort + AllocGlobal>(rt: &R, octets: &[u8], room: usize) -> Result<
 /// One write takes what one read returns.
 fn passes_once<I: Input, O: Output>(rt: &impl Abort, input: &mut I, out: &mut O, buf: &mut [u8]) {
     let n = input.read(buf).unwrap_or(0);
+    assert!(rt; n <= PIECE);
     assert!(rt; n <= buf.len());
     expect_same(rt, out.write(&buf[..n]), Ok(n), n);
 }
