@@ -101,7 +101,10 @@ PLACES = [
     ("jose/src/files.rt", "", "Read for Source", "it passes on what its file or stream answers"),
     ("jose/src/files.rt", "Source::read", "if buf.is_empty() { return Ok(0); } match self { Source::Words(octets) => octets.read(buf), "
      "Source::Standard(stdin) => stdin.read(buf), Source::File { files, path, opened, } => { if opened.is_none() { *opened = Some(files.open(path)?); } "
-     "match opened { Some(file) => file.read(buf), None => unreachable!(), } } }", "what the words, the stream or the file answers; a read without room"),
+     "match opened { Some(file) => file.read(buf), None => unreachable!(), } } "
+     "Source::Device { files, path, opened, } => { if opened.is_none() { *opened = Some(files.open_device(path)?); } "
+     "match opened { Some(Some(file)) => file.read(buf), _ => Ok(0), } } }",
+     "what the words, the stream, the file or the device answers; a read without room, and a file that is no device"),
     ("jose/src/files.rt", "", "Write for Sink", "it passes on what its file or stream answers"),
     ("jose/src/files.rt", "Sink::write", "if octets.is_empty() { return Ok(0); } match self { Sink::Nowhere => Ok(octets.len()), "
      "Sink::Standard(stdout) => stdout.write(octets), Sink::File(output) => { if output.opened.is_none() { output.opened = Some(apart::create(output.files, &output.name)?); } "
@@ -120,6 +123,8 @@ PLACES = [
     ("jose/src/apart.rt", "is_absence", "Place::Named(_) => matches!(kind, ErrorKind::NotFound),", "matched, and not made"),
     ("jose/src/files.rt", "synchronize", "match files.sync(file) { Err(e) if e.kind() == io::ErrorKind::InvalidInput || e.kind() == io::ErrorKind::Unsupported => { Ok(()) } "
      "result => result, }", "what the system answers; that a pipe or a terminal cannot be synchronized is no failure"),
+    ("jose/src/system.rt", "HostRuntime::open_device", "if metadata(self, path)?.file_type().is_char_device() { Ok(Some(File::open(self, path)?)) } "
+     "else { Ok(None) }", "what the system answers; that a file is no character device"),
     ("jose/src/system.rt", "HostRuntime::open_uncut", "{ Ok(UncutFile(output_options(name.mode).open(self, name.path)?)) }", "what the system answers"),
     ("jose/src/system.rt", "HostRuntime::own_status", "{ Ok(status_of(&uncut.0.metadata()?)) }", "what the system answers"),
     ("jose/src/system.rt", "HostRuntime::status", "match place { Place::StandardInput => Ok(status_of(&metadata(self, STANDARD_INPUT)?)), "
@@ -131,7 +136,6 @@ PLACES = [
      "is_empty: found.len() == 0, }; } Status { file: kind.is_block_device().then_some(FileId::Block(found.rdev())), is_empty: false, }",
      "the numbers of a device and of an inode, in all their bits"),
     ("jose/src/files.rt", "inputs", "let text = command.option_at('i').or(command.option_at('s'));", "options of the command"),
-    ("jose/src/files.rt", "inputs", "let random = invocation.value('R').or(Some(SYSTEM_RANDOM));", "options of the command"),
 
     ("lakhdzeva/src/growing.rt", "", "impl Output for GrowingOutput", "it fails if memory is refused, and in no other case"),
     ("lakhdzeva/src/growing.rt", "GrowingOutput::write", "if octets.is_empty() { return Ok(0); } self.is_finished = false; "

@@ -25,16 +25,18 @@ use Rattle.jose.specs.System.{PlaceView, input_stream, output_stream, file_named
 
 -- ---- sources
 
--- octets of the words, standard input, or the file of this name
+-- octets of the words, standard input, the file of this name, or the character device of this name
 pub data Origin : Type 0 where
   words : List ℕ → Origin
   standard_input : Origin
   input_file : Text → Origin
+  input_device : Text → Origin
 
 abbrev pub origin_of : {R F : Type 0} → Source R F → Origin
 origin_of (source.Words octets) = words octets.now
 origin_of (source.Standard stdin) = standard_input
 origin_of (source.File files path opened) = input_file path.now
+origin_of (source.Device files path opened) = input_device path.now
 
 -- the origin after a read of n octets: words lose them, and every other origin stays the same
 abbrev pub after_read : ℕ → Origin → Origin
@@ -46,15 +48,23 @@ abbrev pub source_remaining : {R F : Type 0} → (F → Option (List ℕ)) → S
 source_remaining remaining (source.Words octets) = Some octets.now
 source_remaining remaining (source.Standard stdin) = None
 source_remaining remaining (source.File files path opened) = option_and_then remaining opened
+source_remaining remaining (source.Device files path opened) = option_and_then (option_and_then remaining) opened
 
--- if the source is a file, it is open
+-- if the source is a file or a device, it is open
 abbrev pub IsOpenSource : {R F : Type 0} → Source R F → Type 0
 IsOpenSource (source.File files path opened) = IsSome opened
+IsOpenSource (source.Device files path opened) = IsSome opened
 IsOpenSource other = ⊤
 
--- if the source is a file, it is not open yet
+-- the source is to be a device, and the file of this name is none
+abbrev pub IsNoDevice : {R F : Type 0} → Source R F → Type 0
+IsNoDevice (source.Device files path opened) = opened ≡ Some None
+IsNoDevice other = ⊥
+
+-- if the source is a file or a device, it is not open yet
 abbrev pub IsUnopenedSource : {R F : Type 0} → Source R F → Type 0
 IsUnopenedSource (source.File files path opened) = IsNone opened
+IsUnopenedSource (source.Device files path opened) = IsNone opened
 IsUnopenedSource other = ⊤
 
 -- The origin that an option's value names. No value means no octets, and `-` means standard input. If the option may hold JSON, a text that
@@ -76,10 +86,16 @@ abbrev pub file_of : Origin → Option PlaceView
 file_of (words octets) = None
 file_of standard_input = Some input_stream
 file_of (input_file name) = Some (file_named name)
+file_of (input_device name) = Some (file_named name)
 
--- the file of random octets if `-R` names none
+-- the device of random octets if `-R` names no file
 abbrev pub system_random : Text
 system_random = codes "/dev/urandom"
+
+-- the origin of random octets, by the value of `-R` (docs/SPECIFICATION.md "Commands")
+abbrev pub random_origin : Option Text → Origin
+random_origin None = input_device system_random
+random_origin (Some text) = origin_named false (Some text)
 
 -- ---- sinks
 
@@ -186,12 +202,12 @@ pub record IsNewOutput {R U F : Type 0} (destination : Destination) (device : Wr
   pub failures : write_failures_of device ≡ 0
 
 -- Each input is the one that its option names. The option of the text is `-i`, or `-s` if the command has no `-i`. The random input is that
--- of `-R`, or `/dev/urandom` if `-R` has no value.
+-- of `-R`, or the device `/dev/urandom` if `-R` has no value.
 pub record AreNewInputs {R F : Type 0} (invocation : InvocationView) (inputs : Inputs (ReaderInput (Source R F))) : Type 0 where
   pub text : IsNewInput (origin_at (option_or (option_at "i" invocation.command) (option_at "s" invocation.command)) invocation.options) inputs.text
   pub content : IsNewInput (origin_at (option_at "I" invocation.command) invocation.options) inputs.content
   pub keys : IsNewInput (origin_at (option_at "k" invocation.command) invocation.options) inputs.keys
-  pub random : IsNewInput (origin_named false (option_or (value_at (byte "R") invocation.options) (Some system_random))) inputs.random
+  pub random : IsNewInput (random_origin (value_at (byte "R") invocation.options)) inputs.random
 
 -- Each output is the one that its option names, with its purpose and the files that it must not be.
 pub record AreNewOutputs {R U F : Type 0} (invocation : InvocationView) (outputs : Outputs (WriterOutput (Sink R U F))) : Type 0 where

@@ -8,7 +8,7 @@ ghost use Rattle.std.specs.Io.{ReadsAtMost, WritesAtMost};
 ghost use Rattle.std.specs.Io.KnownBytes.{Keeps, ReadConsumes, WriteAppends};
 ghost use Rattle.jose.specs.Invocations.{invocation_view};
 ghost use Rattle.jose.specs.Code.Rows.{entry_of};
-ghost use Rattle.jose.specs.Files.{words, origin_of, origin_named, origin_at, after_read, source_remaining, IsOpenSource, IsUnopenedSource, file_of, AreNewInputs};
+ghost use Rattle.jose.specs.Files.{words, origin_of, origin_named, origin_at, random_origin, after_read, source_remaining, IsOpenSource, IsNoDevice, IsUnopenedSource, file_of, AreNewInputs};
 ghost use Rattle.jose.specs.System.{MayBeSynchronized, CannotBeSynchronized, place_view, places};
 ghost use Rattle.jose.specs.Files.{nowhere, destination_of, destination_at, sink_contents, IsOpenSink, IsUnopenedSink, IsKept, mode_for, purpose_of, file_written, AreNewOutputs};
 
@@ -21,7 +21,7 @@ use octets::{ReaderInput, WriterOutput};
 use std::io;
 use std::io::{Read, Stdin, Stdout, Write};
 
-/// The file of random octets if `-R` names none.
+/// The device of random octets if `-R` names no file.
 pub(crate) const SYSTEM_RANDOM: &str = "/dev/urandom";
 
 /// The mode of a file that is created: readable and writable by its owner alone, or by everyone as far as the process's mask allows.
@@ -40,6 +40,12 @@ pub(crate) enum Source<'a, R: ReadFiles> {
         path: &'a str,
         opened: Option<R::File>,
     },
+    /// A file that has octets only if it is a character device. Otherwise it is open without a file.
+    Device {
+        files: &'a R,
+        path: &'a str,
+        opened: Option<Option<R::File>>,
+    },
 }
 
 impl<'a, R: ReadFiles> Read for Source<'a, R> {
@@ -53,6 +59,7 @@ impl<'a, R: ReadFiles> Read for Source<'a, R> {
         ensures source { origin_of self.new
             ≡ after_read (result_unwrap_or result 0) (origin_of self.old) }
         ensures opened { 0 < length buf.old → OnOk result (IsOpenSource self.new) }
+        ensures no_device { IsNoDevice self.new → result ≡ Ok 0 }
         ensures no_room { length buf.old ≡ 0 → (result ≡ Ok 0) × (self.new ≡ self.old) }
 
         // What the trait says.
@@ -77,6 +84,19 @@ impl<'a, R: ReadFiles> Read for Source<'a, R> {
                 match opened {
                     Some(file) => file.read(buf),
                     None => unreachable!(),
+                }
+            }
+            Source::Device {
+                files,
+                path,
+                opened,
+            } => {
+                if opened.is_none() {
+                    *opened = Some(files.open_device(path)?);
+                }
+                match opened {
+                    Some(Some(file)) => file.read(buf),
+                    _ => Ok(0),
                 }
             }
         }
@@ -201,12 +221,31 @@ pub(crate) fn inputs<'a, R: ReadFiles>(
     let text = command.option_at('i').or(command.option_at('s'));
     let content = command.option_at('I');
     let keys = command.option_at('k');
-    let random = invocation.value('R').or(Some(SYSTEM_RANDOM));
     Inputs {
         text: ReaderInput::new(input_of(files, standard, text, invocation)),
         content: ReaderInput::new(input_of(files, standard, content, invocation)),
         keys: ReaderInput::new(input_of(files, standard, keys, invocation)),
-        random: ReaderInput::new(source_of(files, standard, random, false)),
+        random: ReaderInput::new(random_source(files, standard, invocation.value('R'))),
+    }
+}
+
+/// The source of random octets: that of `-R`, which may be any file, or the system's device. Where a copied `/dev` has a file of that name,
+/// its octets would be the same in each run, so it has none.
+fn random_source<'a, R: ReadFiles>(
+    files: &'a R,
+    standard: Stdin,
+    value: Option<&'a str>,
+) -> Source<'a, R>
+    ensures named { origin_of result ≡ random_origin (option_map (λ text. text.now) value.entry) }
+    ensures unopened { IsUnopenedSource result }
+{
+    match value {
+        None => Source::Device {
+            files,
+            path: SYSTEM_RANDOM,
+            opened: None,
+        },
+        Some(_) => source_of(files, standard, value, false),
     }
 }
 

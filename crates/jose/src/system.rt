@@ -73,9 +73,15 @@ pub(crate) trait ReadFiles {
 
     ghost open_gives: { Self → Text → Result Self.File Error → Type 0 };
 
+    ghost device_gives: { Self → Text → Result (Option Self.File) Error → Type 0 };
+
     /// Opens the file for reading.
     fn open(&self, path: &str) -> io::Result<Self::File>
         ensures { open_gives self.now path.now result };
+
+    /// Opens the file for reading if it is a character device. Any other file is examined and not opened.
+    fn open_device(&self, path: &str) -> io::Result<Option<Self::File>>
+        ensures { device_gives self.now path.now result };
 }
 
 pub(crate) trait WriteFiles: ReadFiles {
@@ -139,8 +145,18 @@ impl ReadFiles for HostRuntime {
 
     ghost open_gives = { λ _ _ _. ⊤ };
 
+    ghost device_gives = { λ _ _ _. ⊤ };
+
     fn open(&self, path: &str) -> io::Result<File> {
         File::open(self, path)
+    }
+
+    fn open_device(&self, path: &str) -> io::Result<Option<File>> {
+        if metadata(self, path)?.file_type().is_char_device() {
+            Ok(Some(File::open(self, path)?))
+        } else {
+            Ok(None)
+        }
     }
 }
 

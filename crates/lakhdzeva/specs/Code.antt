@@ -1,7 +1,20 @@
 -- Values of the code, as its contracts see them.
+use Rattle.std.specs.Prelude.{ℕ, Bool, List, Option, Result}
+use Rattle.octets.specs.declared.refusal.Refusal.{Refusal}
+use Rattle.octets.specs.Outcomes.{◌>>=◌}
 use Rattle.octets.specs.Plan.{OutputTexts}
+use Rattle.keys.specs.Keys.{OctetKey}
+use Rattle.keys.specs.Limits.{Limits}
+use Rattle.objects.specs.Jws.{jws_of}
+use Rattle.tokens.specs.Verifying.{verifying_by}
 use Rattle.lakhdzeva.specs.declared.answers.Both.{Both}
 
 -- the text and the content
 abbrev pub both : Both → OutputTexts
 both made = record { text = made.text.items; content = made.content.items }
+
+-- what `ver_answer` and `ver_all_answer` give once the keys are read
+abbrev pub verified_by : Limits → Bool → Bool → List OctetKey → Option (List ℕ) → List ℕ → Result (List ℕ) Refusal
+verified_by limits all wanted keys detached text = do
+  jws ← jws_of limits detached text
+  verifying_by all wanted keys jws

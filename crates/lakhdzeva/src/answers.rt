@@ -5,10 +5,10 @@ ghost use Rattle.octets.specs.Outcomes.{GivesUnlessExternal};
 ghost use Rattle.octets.specs.declared.refusal.Refusal.{Refusal};
 ghost use Rattle.keys.specs.Limits.{limits};
 ghost use Rattle.keys.specs.Generating.{gen_answer};
-ghost use Rattle.tokens.specs.Jws.{ver_answer, jws_fmt_answer};
-ghost use Rattle.tokens.specs.Jwe.{dec_answer, jwe_fmt_answer};
+ghost use Rattle.tokens.specs.Jws.{ver_answer, ver_all_answer, jws_fmt_answer};
+ghost use Rattle.tokens.specs.Jwe.{dec_answer_within, jwe_fmt_answer};
 ghost use Rattle.lakhdzeva.specs.Answers.{if_given, hash_of_bits, thumbprints_answer, sign_answer, encrypt_answer};
-ghost use Rattle.lakhdzeva.specs.Code.{both};
+ghost use Rattle.lakhdzeva.specs.Code.{both, verified_by};
 
 use crate::growing::GrowingOutput;
 use keys::{KeySet, generate, text_thumbprints};
@@ -16,7 +16,7 @@ use objects::{Jwe, Jws};
 use octets::{MemoryInput, Refusal};
 use prf::HashAlg;
 use std::alloc::Global;
-use tokens::{jwe_decrypt, jwe_encrypt, jws_sign, jws_verify, jws_verify_detached};
+use tokens::{jwe_decrypt_within, jwe_encrypt, jws_sign, jws_verify, needs_signers};
 
 /// The text of an object, and a content beside it.
 #[derive(Drop)]
@@ -104,6 +104,30 @@ pub(crate) fn signed_text(
     Ok(text.into_octets())
 }
 
+/// The payload of an object that some key of the set signed, or with `all` each key.
+fn payload_by(alloc: Global, set: &KeySet, object: &[u8], all: bool) -> Result<Vec<u8>, Refusal>
+    ensures { GivesUnlessExternal (λ payload. payload.items) result (verified_by limits all true set.now None object.now) }
+{
+    let jws = Jws::read(alloc, object, None)?;
+    let mut payload = GrowingOutput::new(alloc);
+    jws_verify(set, &jws, all, Some(&mut payload))?;
+    Ok(payload.into_octets())
+}
+
+/// Verifies an object whose payload is handed in apart from it.
+fn verify_payload_by(
+    alloc: Global,
+    set: &KeySet,
+    object: &[u8],
+    payload: &[u8],
+    all: bool,
+) -> Result<(), Refusal>
+    ensures { GivesUnlessExternal (λ _. []) result (verified_by limits all false set.now (Some payload.now) object.now) }
+{
+    let jws = Jws::read(alloc, object, Some(Vec::from_slice(alloc, payload)?))?;
+    jws_verify::<GrowingOutput>(set, &jws, all, Option::default())
+}
+
 pub(crate) fn payload_of(
     alloc: Global,
     keys: &[u8],
@@ -113,13 +137,9 @@ pub(crate) fn payload_of(
     ensures { GivesUnlessExternal (λ payload. payload.items) result (ver_answer limits all true keys.now None object.now) }
 {
     let set = KeySet::read(alloc, keys, false)?;
-    let jws = Jws::read(alloc, object, None)?;
-    let mut payload = GrowingOutput::new(alloc);
-    jws_verify(&set, &jws, all, Some(&mut payload))?;
-    Ok(payload.into_octets())
+    payload_by(alloc, &set, object, all)
 }
 
-/// Verifies an object whose payload is handed in apart from it.
 pub(crate) fn verify_with_payload(
     alloc: Global,
     keys: &[u8],
@@ -130,8 +150,36 @@ pub(crate) fn verify_with_payload(
     ensures { GivesUnlessExternal (λ _. []) result (ver_answer limits all false keys.now (Some payload.now) object.now) }
 {
     let set = KeySet::read(alloc, keys, false)?;
-    let jws = Jws::read(alloc, object, Some(Vec::from_slice(alloc, payload)?))?;
-    jws_verify::<GrowingOutput>(&set, &jws, all, Option::default())
+    verify_payload_by(alloc, &set, object, payload, all)
+}
+
+/// The payload of an object that each of so many signers signed.
+pub(crate) fn payload_of_all(
+    alloc: Global,
+    keys: &[u8],
+    signers: usize,
+    object: &[u8],
+) -> Result<Vec<u8>, Refusal>
+    ensures { GivesUnlessExternal (λ payload. payload.items) result (ver_all_answer limits signers true keys.now None object.now) }
+{
+    let set = KeySet::read(alloc, keys, true)?;
+    needs_signers(alloc, &set, signers)?;
+    payload_by(alloc, &set, object, true)
+}
+
+/// Verifies by each of so many signers.
+pub(crate) fn verify_all_with_payload(
+    alloc: Global,
+    keys: &[u8],
+    signers: usize,
+    object: &[u8],
+    payload: &[u8],
+) -> Result<(), Refusal>
+    ensures { GivesUnlessExternal (λ _. []) result (ver_all_answer limits signers false keys.now (Some payload.now) object.now) }
+{
+    let set = KeySet::read(alloc, keys, true)?;
+    needs_signers(alloc, &set, signers)?;
+    verify_payload_by(alloc, &set, object, payload, true)
 }
 
 #[tactic(auto, unfolding(tokens::specs::Jws::jws_fmt_answer))]
@@ -208,14 +256,16 @@ pub(crate) fn plaintext_of(
     object: &[u8],
     given: bool,
     ciphertext: &[u8],
+    most_iterations: u64,
 ) -> Result<Vec<u8>, Refusal>
-    ensures { GivesUnlessExternal (λ plaintext. plaintext.items) result (dec_answer limits keys.now (if_given given ciphertext.now) object.now) }
+    ensures { GivesUnlessExternal (λ plaintext. plaintext.items) result
+        (dec_answer_within most_iterations limits keys.now (if_given given ciphertext.now) object.now) }
 {
     let set = KeySet::read(alloc, keys, false)?;
     let ciphertext = given_content(alloc, given, ciphertext)?;
     let jwe = Jwe::read(alloc, object, ciphertext)?;
     let mut plaintext = GrowingOutput::new(alloc);
-    jwe_decrypt(alloc, &set, jwe, &mut plaintext).1?;
+    jwe_decrypt_within(alloc, &set, jwe, most_iterations, &mut plaintext).1?;
     Ok(plaintext.into_octets())
 }
 

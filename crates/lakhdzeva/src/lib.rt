@@ -9,8 +9,8 @@
 ghost use Rattle.std.specs.Prelude.{true, false, None, Some};
 ghost use Rattle.keys.specs.Limits.{limits};
 ghost use Rattle.keys.specs.Generating.{gen_answer};
-ghost use Rattle.tokens.specs.Jws.{ver_answer, jws_fmt_answer};
-ghost use Rattle.tokens.specs.Jwe.{dec_answer, jwe_fmt_answer};
+ghost use Rattle.tokens.specs.Jws.{ver_answer, ver_all_answer, jws_fmt_answer};
+ghost use Rattle.tokens.specs.Jwe.{dec_answer_within, jwe_fmt_answer};
 ghost use Rattle.lakhdzeva.specs.Answers.{if_given, thumbprints_answer, sign_answer, encrypt_answer};
 ghost use Rattle.lakhdzeva.specs.Calls.{Tells, Delivers, DeliversBoth};
 
@@ -19,8 +19,8 @@ mod growing;
 mod places;
 
 use crate::answers::{
-    encrypted_form, encrypted_texts, key_text, payload_of, plaintext_of, signed_form, signed_text,
-    thumbprint_lines, verify_with_payload,
+    encrypted_form, encrypted_texts, key_text, payload_of, payload_of_all, plaintext_of,
+    signed_form, signed_text, thumbprint_lines, verify_all_with_payload, verify_with_payload,
 };
 use crate::places::{deliver, deliver_both, told};
 use std::alloc::Global;
@@ -105,6 +105,37 @@ pub extern "C" fn lakhdzeva_core_verify_detached(
     told(verify_with_payload(alloc, keys, object, payload, all))
 }
 
+/// Verifies the object by each of so many signers, and gives its payload (RFC 7515). Every key must be good, there must be one for each
+/// signer, and no two may sign alike (`9 Key`).
+#[unsafe(no_mangle)]
+pub extern "C" fn lakhdzeva_core_verify_all(
+    alloc: Global,
+    keys: &[u8],
+    signers: usize,
+    object: &[u8],
+    payload: &mut [u8],
+    count: &mut usize,
+) -> u32
+    ensures { Delivers (ver_all_answer limits signers true keys.now None object.now)
+        (record { old = payload.old; new = payload.new; count = count.new }) result }
+{
+    deliver(payload_of_all(alloc, keys, signers, object), payload, count)
+}
+
+/// The same with the payload that is handed in (RFC 7515 appendix F).
+#[unsafe(no_mangle)]
+pub extern "C" fn lakhdzeva_core_verify_all_detached(
+    alloc: Global,
+    keys: &[u8],
+    signers: usize,
+    object: &[u8],
+    payload: &[u8],
+) -> u32
+    ensures { Tells (ver_all_answer limits signers false keys.now (Some payload.now) object.now) result }
+{
+    told(verify_all_with_payload(alloc, keys, signers, object, payload))
+}
+
 /// Writes a signed object in compact form or in JSON form. It verifies nothing. Its payload is handed in if that is `given`. If it is to be
 /// detached, its octets go to their own place, and otherwise this stays as it is.
 #[unsafe(no_mangle)]
@@ -162,7 +193,8 @@ pub extern "C" fn lakhdzeva_core_encrypt<'x>(
     )
 }
 
-/// Decrypts the object with one of the keys (RFC 7516). Its ciphertext is handed in if that is `given`.
+/// Decrypts the object with one of the keys (RFC 7516). Its ciphertext is handed in if that is `given`. If the passwords would need more
+/// iterations of PBKDF2 in all, it is `15 Limit`, and none is made. With 0, no password is tried.
 #[unsafe(no_mangle)]
 pub extern "C" fn lakhdzeva_core_decrypt(
     alloc: Global,
@@ -170,14 +202,15 @@ pub extern "C" fn lakhdzeva_core_decrypt(
     object: &[u8],
     given: bool,
     ciphertext: &[u8],
+    most_iterations: u64,
     plaintext: &mut [u8],
     count: &mut usize,
 ) -> u32
-    ensures { Delivers (dec_answer limits keys.now (if_given given ciphertext.now) object.now)
+    ensures { Delivers (dec_answer_within most_iterations limits keys.now (if_given given ciphertext.now) object.now)
         (record { old = plaintext.old; new = plaintext.new; count = count.new }) result }
 {
     deliver(
-        plaintext_of(alloc, keys, object, given, ciphertext),
+        plaintext_of(alloc, keys, object, given, ciphertext, most_iterations),
         plaintext,
         count,
     )

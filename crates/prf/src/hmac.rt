@@ -3,10 +3,49 @@ ghost use Rattle.std.specs.Prelude.{◌≡◌, ℕ, ◌≤◌, List, [], ◌++�
 ghost use Rattle.prf.specs.Hmac.{hmac, key_block, xor_each};
 
 use crate::hash::Hash;
+use std::marker::Model;
 
 const INNER_PAD: u8 = 0x36;
 
 const OUTER_PAD: u8 = 0x5c;
+
+/// The block of a key (section 2): the key, or its hash if it is longer than a block, with zero octets up to the length of a block. Keys that
+/// have the same block make the same HMACs. Contracts see its octets.
+#[derive(Drop)]
+pub struct KeyBlock {
+    octets: [u8; 128],
+    len: usize,
+}
+
+impl Model for KeyBlock {
+    ghost use Rattle.std.specs.Prelude.{◌≤◌, List, ℕ, take};
+
+    ghost Value = { List ℕ };
+
+    ghost view = { λ s. take s.len s.octets };
+
+    ghost invariant = { λ s. s.len ≤ 128 };
+}
+
+impl KeyBlock {
+    /// The block of a key of any length, as long as a block of the hash.
+    pub fn new<H: Hash>(key: &[u8]) -> KeyBlock
+        ensures { result ≡ key_block H.function key.now }
+    {
+        let mut octets = [0u8; 128];
+        put_key::<H>(key, &mut octets);
+        KeyBlock {
+            octets,
+            len: H::block_len(),
+        }
+    }
+
+    pub fn octets(&self) -> &[u8]
+        ensures { result.now ≡ self.now }
+    {
+        &self.octets[..self.len]
+    }
+}
 
 /// An HMAC whose text comes in pieces: the inner hash, of the key and the text so far, and the outer hash, of the key.
 #[derive(Drop)]
@@ -22,8 +61,7 @@ impl<H: Hash> Hmac<H> {
     pub fn new(key: &[u8]) -> Hmac<H>
         ensures { HoldsHmac H.function H.holds result key.now [] }
     {
-        let mut block = [0u8; 128];
-        put_key::<H>(key, &mut block);
+        let block = KeyBlock::new::<H>(key);
         Hmac {
             inner: padded_state(&block, INNER_PAD),
             outer: padded_state(&block, OUTER_PAD),
@@ -80,13 +118,13 @@ fn put_key<H: Hash>(key: &[u8], block: &mut [u8; 128])
 }
 
 /// The state that was fed the key's block, each octet xor that of the pad.
-fn padded_state<H: Hash>(block: &[u8; 128], pad: u8) -> H
-    ensures { H.holds result (xor_each pad (take H.function.block_len block.now)) }
+fn padded_state<H: Hash>(block: &KeyBlock, pad: u8) -> H
+    ensures { H.holds result (xor_each pad block.now) }
 {
-    let mut padded = *block;
+    let mut padded = block.octets;
     xor_with(&mut padded, pad);
     let mut state = H::start();
-    state.update(&padded[..H::block_len()]);
+    state.update(&padded[..block.len]);
     state
 }
 

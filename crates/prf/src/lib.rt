@@ -23,7 +23,7 @@ mod sha512;
 
 pub use digests::{HashAlg, digest};
 pub use hash::Hash;
-pub use hmac::Hmac;
+pub use hmac::{Hmac, KeyBlock};
 pub use key_derivation::{first_iterate, pbkdf2, pbkdf2_after};
 pub use sha2::{Sha256, Sha384, Sha512};
 

@@ -7,3 +7,7 @@ pub mod Salted
 pub mod Openings
 -- pairs that are tried one after another
 pub mod Tried
+-- fewer iterations than the limits allow
+pub mod Fewer
+-- the work that is reported
+pub mod Told

@@ -3,3 +3,5 @@
 pub mod Heads
 -- the signing inputs of a payload that is read once
 pub mod Detached
+-- keys that sign alike
+pub mod Signers

@@ -1,5 +1,5 @@
 -- Decrypting (RFC 7516 section 5.2): the pairs of a recipient and a key that are tried, what they open, and the work.
-use Rattle.std.specs.Prelude.{ℕ, ◌+◌, ◌&&◌, Bool, true, false, nat_le, List, [], ◌∷◌, ◌++◌, map, is_some, Option, Some, None, option_and_then, Result, Ok}
+use Rattle.std.specs.Prelude.{◌≡◌, ◌⊎◌, ℕ, ◌+◌, ◌&&◌, Bool, true, false, nat_le, min, List, [], ◌∷◌, ◌++◌, map, is_some, Option, Some, None, option_and_then, Result, Ok, Err}
 use Rattle.std.specs.List.{filter, list_all, list_any}
 use Rattle.std.specs.Option.{ok_or, option_or}
 use Rattle.std.specs.Str.{byte}
@@ -79,6 +79,21 @@ abbrev pub are_within : Limits → List Pair → Bool
 are_within limits pairs =
     list_all (λ pair. nat_le (iterations_of pair) limits.greatest_p2c_read) pairs && nat_le (all_iterations pairs) limits.p2c_sum
 
+-- the limits for a caller who allows so many iterations over all pairs, if these are fewer
+abbrev pub with_iterations : ℕ → Limits → Limits
+with_iterations most limits = record {
+  keys = limits.keys;
+  key_octets = limits.key_octets;
+  depth = limits.depth;
+  recipients = limits.recipients;
+  greatest_p2c_read = limits.greatest_p2c_read;
+  least_p2c = limits.least_p2c;
+  greatest_p2c = limits.greatest_p2c;
+  usual_p2c = limits.usual_p2c;
+  p2c_sum = min most limits.p2c_sum;
+  management = limits.management;
+}
+
 -- the pairs, if some recipient's algorithms are supported, some key is a candidate, and the iterations are within the limits
 unfoldable pub pairs_to_try : Limits → List OctetKey → List Recipient → Result (List Pair) Refusal
 pairs_to_try limits keys recipients = do
@@ -124,3 +139,10 @@ unfoldable pub decrypted : Limits → List OctetKey → EncryptedObject → Resu
 decrypted limits keys o = do
   pairs ← pairs_to_try limits keys o.recipients
   ok_or (first_opened (sealed_content o) pairs) NotOpened
+
+-- ---- fewer iterations (docs/SPECIFICATION.md "Calls for C" 6)
+
+-- A caller who allows fewer iterations gets the same answer, or Limit.
+abbrev pub FewerIterationsRefuse : Type 0
+FewerIterationsRefuse = (most : ℕ) (keys : List OctetKey) (o : EncryptedObject)
+    → (decrypted (with_iterations most limits) keys o ≡ decrypted limits keys o) ⊎ (decrypted (with_iterations most limits) keys o ≡ Err Limit)

@@ -1,6 +1,6 @@
 -- Templates of encrypted objects: the members `protected`, `unprotected` and `aad` of one in JSON form (RFC 7516 section 7.2.1), as objects
 -- and a string.
-use Rattle.std.specs.Prelude.{ℕ, ◌&&◌, Bool, List, [], ◌∷◌, codes, is_none, Option, Some, None, Result, Ok, Err}
+use Rattle.std.specs.Prelude.{ℕ, ◌&&◌, Bool, List, [], ◌∷◌, codes, is_none, Option, Result, Ok}
 use Rattle.serde_json.specs.Data.{Data, Members, no_members}
 use Rattle.serde_json.specs.Find.{get_member}
 use Rattle.octets.specs.declared.refusal.Refusal.{Refusal}

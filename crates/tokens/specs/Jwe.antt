@@ -7,7 +7,7 @@ use Rattle.keys.specs.KeySets.{key_set}
 use Rattle.keys.specs.Limits.{Limits}
 use Rattle.objects.specs.Jwe.{jwe_of}
 use Rattle.tokens.specs.Encrypting.{enc_plan, written_of}
-use Rattle.tokens.specs.Decrypting.{decrypted}
+use Rattle.tokens.specs.Decrypting.{with_iterations, decrypted}
 
 -- the draft by which `jwe enc` encrypts a plaintext to the keys as the template asks, with octets of the random input, and with the
 -- ciphertext inside the text or detached (docs/SPECIFICATION.md "Encrypting")
@@ -22,6 +22,13 @@ dec_answer limits keys detached text = do
   set ← key_set limits keys false
   jwe ← jwe_of limits detached text
   decrypted limits set jwe
+
+-- the same for a caller who allows so many iterations of PBKDF2 in all (docs/SPECIFICATION.md "Calls for C" 6)
+abbrev pub dec_answer_within : ℕ → Limits → List ℕ → Option (List ℕ) → List ℕ → Result (List ℕ) Refusal
+dec_answer_within most limits keys detached text = do
+  set ← key_set limits keys false
+  jwe ← jwe_of limits detached text
+  decrypted (with_iterations most limits) set jwe
 
 -- the text of the object in JSON form or in compact form, with the ciphertext inside it or detached (docs/SPECIFICATION.md "Objects" 5)
 unfoldable pub jwe_fmt_answer : Limits → Bool → Bool → Option (List ℕ) → List ℕ → Result OutputTexts Refusal

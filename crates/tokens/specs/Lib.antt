@@ -7,6 +7,8 @@ pub mod Template
 pub mod Signing
 -- verifying
 pub mod Verifying
+-- keys of which each stands for a signer of its own
+pub mod Signers
 -- the names of the algorithms of ciphers
 pub mod Algorithms
 -- templates of encryption

@@ -1,5 +1,5 @@
 -- Templates of signatures: the members `protected` and `header` of a signature in JSON form (RFC 7515 section 7.2.1), as objects.
-use Rattle.std.specs.Prelude.{ℕ, Bool, true, false, List, [], ◌∷◌, codes, is_some, is_none, nat_le, if◌then◌else◌, Option, Some, None, Result, Ok, Err}
+use Rattle.std.specs.Prelude.{ℕ, Bool, true, false, List, [], ◌∷◌, codes, is_some, is_none, nat_le, if◌then◌else◌, Option, Result, Ok}
 use Rattle.serde_json.specs.Data.{Data, Members, no_members, member, string, object, put, depth}
 use Rattle.serde_json.specs.Find.{get_member}
 use Rattle.serde_json.specs.Written.{compact_text}

@@ -8,7 +8,7 @@ ghost use Rattle.octets.specs.Code.Results.{AgreesUnlessMemory};
 ghost use Rattle.keys.specs.Code.Views.{key_view};
 ghost use Rattle.keys.specs.Limits.{limits};
 ghost use Rattle.objects.specs.Code.Views.{jwe_view, recipient_view};
-ghost use Rattle.tokens.specs.Decrypting.{decrypted, pairs_to_try, pairs_with, iterations_of, first_opened, opened_by, cek_of};
+ghost use Rattle.tokens.specs.Decrypting.{with_iterations, decrypted, pairs_to_try, pairs_with, iterations_of, first_opened, opened_by, cek_of};
 ghost use Rattle.tokens.specs.Code.Trying.{IsSaltFor, with_ciphertext};
 ghost use Rattle.tokens.specs.Code.Work.{no_work, plus, with_pair, work_told, IsBounded};
 ghost use Rattle.tokens.specs.Code.Views.{algorithms_view, pair_view, sealed_with_view, work_view};
@@ -28,7 +28,7 @@ use crate::decrypt::salted::SaltedKeys;
 use crate::decrypt::tried::was_tried;
 use ciphers::laws::{delivers_exactly, opens_exactly};
 use ciphers::{Cek, SaltedKey};
-use keys::{Key, KeySet};
+use keys::{Key, KeySet, MOST_ITERATIONS};
 use objects::Jwe;
 use octets::laws::are_octets;
 use octets::{Output, Refusal, emit};
@@ -102,8 +102,32 @@ pub fn jwe_decrypt<O: Output>(
     ensures work { work_view result.0 ≡ work_told (jwe_view jwe) (pairs_to_try limits keys.now (jwe_view jwe).recipients) result.1 }
     ensures bound { IsBounded (work_view result.0) }
 {
+    jwe_decrypt_within(alloc, keys, jwe, MOST_ITERATIONS, out)
+}
+
+/// `jwe_decrypt` for a caller who cannot wait: it also refuses with `Limit` if all pairs together need more than `most_iterations` of PBKDF2.
+/// With 0, no password is tried. A stranger chooses how many iterations an object asks for, up to `MOST_ITERATIONS` for its few octets.
+pub fn jwe_decrypt_within<O: Output>(
+    alloc: Global,
+    keys: &KeySet,
+    jwe: Jwe,
+    most_iterations: u64,
+    out: &mut O,
+) -> (Work, Result<(), Refusal>)
+    ensures answer { AgreesUnlessExternal (decrypted (with_iterations most_iterations limits) keys.now (jwe_view jwe))
+        (appended (O.written out.old) (O.written out.new)) result.1 }
+    ensures held_back { IfErr result.1 (λ refusal. refusal ≢ Refusal.Write → out.new ≡ out.old) }
+    ensures beginning { OnErr result.1 (AppendsPrefixOf (result_unwrap_or (decrypted (with_iterations most_iterations limits) keys.now (jwe_view jwe)) [])
+        (O.written out.old) (O.written out.new)) }
+    ensures finished { OnOk result.1 (IsFinishedOnce O.is_finished O.endings out.old out.new) }
+    ensures unfinished { OnErr result.1 (O.endings out.new ≡ O.endings out.old) }
+    ensures faults { TellsFaults [] (counts O.failures out.old out.new ∷ []) result.1 }
+    ensures work { work_view result.0
+        ≡ work_told (jwe_view jwe) (pairs_to_try (with_iterations most_iterations limits) keys.now (jwe_view jwe).recipients) result.1 }
+    ensures bound { IsBounded (work_view result.0) }
+{
     let mut work = NO_WORK;
-    let result = decrypt(alloc, keys, jwe, &mut work, out);
+    let result = decrypt(alloc, keys, jwe, most_iterations, &mut work, out);
     (work, result)
 }
 
@@ -111,58 +135,69 @@ fn decrypt<O: Output>(
     alloc: Global,
     keys: &KeySet,
     jwe: Jwe,
+    most_iterations: u64,
     work: &mut Work,
     out: &mut O,
 ) -> Result<(), Refusal>
     requires { work_view work.old ≡ no_work }
-    ensures answer { AgreesUnlessExternal (decrypted limits keys.now (jwe_view jwe)) (appended (O.written out.old) (O.written out.new)) result }
+    ensures answer { AgreesUnlessExternal (decrypted (with_iterations most_iterations limits) keys.now (jwe_view jwe))
+        (appended (O.written out.old) (O.written out.new)) result }
     ensures held_back { IfErr result (λ refusal. refusal ≢ Refusal.Write → out.new ≡ out.old) }
-    ensures beginning { OnErr result (AppendsPrefixOf (result_unwrap_or (decrypted limits keys.now (jwe_view jwe)) [])
+    ensures beginning { OnErr result (AppendsPrefixOf (result_unwrap_or (decrypted (with_iterations most_iterations limits) keys.now (jwe_view jwe)) [])
         (O.written out.old) (O.written out.new)) }
     ensures finished { OnOk result (IsFinishedOnce O.is_finished O.endings out.old out.new) }
     ensures unfinished { OnErr result (O.endings out.new ≡ O.endings out.old) }
     ensures faults { TellsFaults [] (counts O.failures out.old out.new ∷ []) result }
-    ensures work { work_view work.new ≡ work_told (jwe_view jwe) (pairs_to_try limits keys.now (jwe_view jwe).recipients) result }
+    ensures work { work_view work.new
+        ≡ work_told (jwe_view jwe) (pairs_to_try (with_iterations most_iterations limits) keys.now (jwe_view jwe).recipients) result }
     ensures bound { IsBounded (work_view work.new) }
 {
-    let plaintext = open_first(alloc, keys, jwe, work)?;
+    let plaintext = open_first(alloc, keys, jwe, most_iterations, work)?;
     emit(out, &plaintext)
 }
 
 /// The plaintext of the first pair that opens.
 #[tactic(auto, unfolding(crate::specs::Decrypting::decrypted))]
-fn open_first(alloc: Global, keys: &KeySet, jwe: Jwe, work: &mut Work) -> Result<Vec<u8>, Refusal>
+fn open_first(
+    alloc: Global,
+    keys: &KeySet,
+    jwe: Jwe,
+    most_iterations: u64,
+    work: &mut Work,
+) -> Result<Vec<u8>, Refusal>
     requires { work_view work.old ≡ no_work }
-    ensures answer { AgreesUnlessMemory (λ plaintext. plaintext.items) result (decrypted limits keys.now (jwe_view jwe)) }
-    ensures work { work_view work.new ≡ work_told (jwe_view jwe) (pairs_to_try limits keys.now (jwe_view jwe).recipients) result }
+    ensures answer { AgreesUnlessMemory (λ plaintext. plaintext.items) result (decrypted (with_iterations most_iterations limits) keys.now (jwe_view jwe)) }
+    ensures work { work_view work.new
+        ≡ work_told (jwe_view jwe) (pairs_to_try (with_iterations most_iterations limits) keys.now (jwe_view jwe).recipients) result }
     ensures bound { IsBounded (work_view work.new) }
 {
     let mut jwe = jwe;
     let mut octets = jwe.take_ciphertext(alloc);
-    let len = open_in_place(alloc, keys.keys(), &jwe, &mut octets, work)?;
+    let len = open_in_place(alloc, keys.keys(), &jwe, most_iterations, &mut octets, work)?;
     octets.truncate(len);
     Ok(octets)
 }
 
 /// Opens the ciphertext of the object where it stands, by the first pair that opens it, and answers the length of the plaintext. Refuses as
-/// `jwe_decrypt` does.
+/// `jwe_decrypt_within` does.
 #[tactic(auto, unfolding(crate::specs::Decrypting::decrypted))]
 fn open_in_place<'x>(
     alloc: Global,
     keys: &'x [Key],
     jwe: &'x Jwe,
+    most_iterations: u64,
     octets: &mut [u8],
     work: &mut Work,
 ) -> Result<usize, Refusal>
     requires few { length keys.now ≤ limits.keys }
     requires fresh { work_view work.old ≡ no_work }
     ensures answer { AgreesUnlessMemory (λ n. take n octets.new) result
-        (decrypted limits (map key_view keys.entry.now) (with_ciphertext octets.old (jwe_view jwe.entry.now))) }
+        (decrypted (with_iterations most_iterations limits) (map key_view keys.entry.now) (with_ciphertext octets.old (jwe_view jwe.entry.now))) }
     ensures work { work_view work.new ≡ work_told (with_ciphertext octets.old (jwe_view jwe.entry.now))
-        (pairs_to_try limits (map key_view keys.entry.now) (jwe_view jwe.entry.now).recipients) result }
+        (pairs_to_try (with_iterations most_iterations limits) (map key_view keys.entry.now) (jwe_view jwe.entry.now).recipients) result }
     ensures bound { IsBounded (work_view work.new) }
 {
-    judge_pairs(keys, jwe.recipients())?;
+    judge_pairs(keys, jwe.recipients(), most_iterations)?;
     let mut salted = SaltedKeys::new(alloc, keys)?;
     let aad = additional_authenticated_data(alloc, jwe.protected(), jwe.aad())?;
     let sealed = SealedWith {

@@ -6,9 +6,11 @@ ghost use Rattle.keys.specs.Algorithms.{cek_len};
 ghost use Rattle.keys.specs.Limits.{Limits, limits};
 ghost use Rattle.ciphers.specs.Sealing as ciphers;
 ghost use Rattle.tokens.specs.Algorithms.{content_alg};
+ghost use Rattle.tokens.specs.Decrypting.{FewerIterationsRefuse};
 ghost use Rattle.tokens.specs.Encrypting.{AreSound, EncryptedDecrypts, EncryptingGrows, EncryptingMakesTexts};
 ghost use Rattle.tokens.specs.MoreAlgorithms.{earlier_limits, earlier_management_algs, gcm_management_algs, knowing, OpensAlike};
 ghost use Rattle.tokens.specs.Rows.{HasOneRow};
+ghost use Rattle.tokens.specs.Signers.{AlikeKeysSignAlike};
 ghost use Rattle.tokens.specs.Signing.{SigningGrows, SigningMakesTexts};
 ghost use Rattle.tokens.specs.Verifying.{SignedVerifies};
 
@@ -33,6 +35,11 @@ pub fn what_is_signed_verifies()
 {
     jws_texts_spell_objects();
 }
+
+/// Keys of which HMAC makes the same block make the same signatures (RFC 2104 section 2). So they stand for one signer.
+pub fn alike_keys_sign_alike()
+    ensures { AlikeKeysSignAlike }
+{}
 
 /// The text of an encrypted object that a beginning of the plaintext fixes grows as more is read, and is a beginning of the whole text.
 pub fn encrypting_grows()
@@ -63,6 +70,11 @@ pub fn what_is_encrypted_decrypts()
     what_delivers_is_octets();
     jwe_texts_spell_objects();
 }
+
+/// If a caller allows fewer iterations of PBKDF2, the answer is the same, or it is `Limit`.
+pub fn fewer_iterations_only_refuse()
+    ensures { FewerIterationsRefuse }
+{}
 
 /// With further algorithms of key management, objects are read as before, and encrypted ones are decrypted as before, if their names are
 /// those of algorithms that were known before, or of none of the further ones. So it is when the three of AES-GCM key wrap are added to the

@@ -22,7 +22,7 @@ mod sign;
 mod signing_input;
 mod verify;
 
-pub use decrypt::{Work, jwe_decrypt};
+pub use decrypt::{Work, jwe_decrypt, jwe_decrypt_within};
 pub use encrypt::jwe_encrypt;
 pub use sign::jws_sign;
-pub use verify::{jws_verify, jws_verify_detached};
+pub use verify::{jws_verify, jws_verify_detached, needs_signers};

@@ -15,10 +15,12 @@ ghost use Rattle.tokens.specs.Code.Heads.{covers, has_made_alike as made_alike_b
 
 mod detached;
 mod heads;
+mod signers;
 
 use crate::signing_input::signature_of;
 use crate::verify::heads::{heads_of, is_one_of};
 pub use detached::jws_verify_detached;
+pub use signers::needs_signers;
 use keys::{Algorithm, Key, KeySet, Operation, SignatureAlg};
 use objects::{HeldContent, Jws, Signature};
 use octets::{Output, Refusal, needs};

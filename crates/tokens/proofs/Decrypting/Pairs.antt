@@ -1,6 +1,8 @@
 -- The pairs of recipients and keys: how many there are, and their iterations.
-use Rattle.std.proofs.Common.{◌≡◌, ◌+◌, ◌*◌, ◌||◌, Bool, nat_eq, nat_le, nat_lt, List, [], ◌∷◌, ◌++◌, length, map, Option, Some, None}
+use Rattle.std.proofs.Common.{◌≡◌, ℕ, ◌+◌, ◌*◌, ◌≤◌, ◌||◌, min, Bool, true, nat_eq, nat_le, nat_lt, List, [], ◌∷◌, ◌++◌, length, map, Option, Some, None}
 use Rattle.std.proofs.Common.{refl, sym, ap, ◌∙◌, arith}
+use Rattle.std.proofs.Math.Nat.{min-le_right}
+use Rattle.std.proofs.lemmas.Bool.{and_parts, and_from, leb-true, le-leb}
 use Rattle.std.proofs.lemmas.Bool.Decides.{nat_tests}
 use Rattle.std.proofs.lemmas.Grind.{common_steps}
 use Rattle.std.proofs.lemmas.List.{length-map}
@@ -10,7 +12,7 @@ use Rattle.keys.specs.Keys.{OctetKey}
 use Rattle.keys.specs.Limits.{limits}
 use Rattle.objects.specs.Jwe.{Recipient}
 use Rattle.tokens.specs.Algorithms.{Algorithms}
-use Rattle.tokens.specs.Decrypting.{Pair, is_candidate, pairs_with, pairs_by, pairs_of, all_pairs, has_pairs, iterations_by, iterations_of, all_iterations}
+use Rattle.tokens.specs.Decrypting.{Pair, with_iterations, is_candidate, pairs_with, pairs_by, pairs_of, all_pairs, has_pairs, iterations_by, iterations_of, all_iterations, are_within}
 
 -- ---- how many there are
 
@@ -82,3 +84,12 @@ sum-append (x ∷ xs) ys = omega (arith, sum-append xs ys)
 
 -- the iterations of one recipient's pairs and of the others that are left, and tests of them
 pub ruleset added_iterations = (list_all-append, sum-append, nat_tests, common_steps)
+
+-- ---- fewer iterations than the limit
+
+-- What is within fewer iterations is within the limits.
+pub fewer_are_within : (most : ℕ) (pairs : List Pair) → are_within (with_iterations most limits) pairs ≡ true → are_within limits pairs ≡ true
+fewer_are_within most pairs h =
+    let parts = and_parts (each_few pairs) (nat_le (all_iterations pairs) (min most limits.p2c_sum)) h in
+    let sum : all_iterations pairs ≤ min most limits.p2c_sum = leb-true (all_iterations pairs) (min most limits.p2c_sum) parts.1 in
+    and_from _ _ parts.0 (le-leb (all_iterations pairs) limits.p2c_sum (omega (arith, sum, min-le_right most limits.p2c_sum)))

@@ -1,5 +1,5 @@
 -- The content of a template's text: headers that may be written, and the algorithms and the number of iterations that it asks for.
-use Rattle.std.proofs.Common.{◌≡◌, ℕ, ◌&&◌, Bool, true, false, List, [], ◌∷◌, codes, Option, Some, None, is_none, option_map, Result, Ok, Err, refl, sym, ◌∙◌, ap, subst}
+use Rattle.std.proofs.Common.{◌≡◌, ℕ, ◌&&◌, Bool, true, false, List, [], ◌∷◌, codes, Option, Some, None, is_none, option_map, Result, Ok, refl, ◌∙◌, ap, subst}
 use Rattle.std.proofs.lemmas.Bool.{not-true, and_parts}
 use Rattle.std.specs.Option.{ok_or}
 use Rattle.serde_json.specs.Data.{Data, null, boolean, number, string, array, object, Members, no_members}
@@ -10,8 +10,6 @@ use Rattle.octets.specs.Octets.{IsOctets}
 use Rattle.octets.specs.Outcomes.{◌>>=◌, needs, if_there}
 use Rattle.octets.specs.Base64url.{decoded}
 use Rattle.octets.proofs.Lemmas.{IsOctets-nil, octets_of_meaning, steps, passed, same_answer}
-use Rattle.keys.specs.declared.algorithm.ContentEncryptionAlg.{ContentEncryptionAlg}
-use Rattle.keys.specs.declared.algorithm.KeyManagementAlg.{KeyManagementAlg}
 use Rattle.keys.specs.Algorithms.{management_name, encryption_name, management_alg_of, encryption_alg_of, supported}
 use Rattle.keys.specs.Json.{is_object, has_only}
 use Rattle.keys.specs.JsonTexts.{IsJson, AreJsonMembers}

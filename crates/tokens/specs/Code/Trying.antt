@@ -41,10 +41,14 @@ pub record OpenAlike (a b : Recipient) : Type 0 where
 abbrev pub with_ciphertext : List ℕ → EncryptedObject → EncryptedObject
 with_ciphertext ciphertext o = sealed_with o ciphertext o.tag
 
+-- the iterations of each pair are within the limit, and those of all pairs with the earlier ones are at most so many
+abbrev pub within_to : ℕ → ℕ → List Pair → Bool
+within_to most before pairs =
+    list_all (λ pair. nat_le (iterations_of pair) limits.greatest_p2c_read) pairs && nat_le (before + all_iterations pairs) most
+
 -- the iterations of each pair, and those of all pairs with the earlier ones, are within the limits
 abbrev pub within_after : ℕ → List Pair → Bool
-within_after before pairs =
-    list_all (λ pair. nat_le (iterations_of pair) limits.greatest_p2c_read) pairs && nat_le (before + all_iterations pairs) limits.p2c_sum
+within_after = within_to limits.p2c_sum
 
 -- the pairs of a recipient open nothing, by this work
 pub record WasTried (s : SealedContent) (keys : List OctetKey) (work : WorkCounts) (r : Recipient) : Type 0 where

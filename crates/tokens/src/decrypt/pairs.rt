@@ -8,8 +8,8 @@ ghost use Rattle.keys.specs.declared.algorithm.Algorithm.TheVariants.{Encryption
 ghost use Rattle.keys.specs.Keys.{fits};
 ghost use Rattle.keys.specs.Limits.{limits};
 ghost use Rattle.objects.specs.Code.KeyManagementView.{management_view, is_management_of};
-ghost use Rattle.tokens.specs.Decrypting.{pairs_to_try, all_pairs, all_iterations, has_pairs, pairs_of, algorithms_of, is_candidate, are_within, iterations_by};
-ghost use Rattle.tokens.specs.Code.Trying.{within_after};
+ghost use Rattle.tokens.specs.Decrypting.{with_iterations, pairs_to_try, all_pairs, all_iterations, has_pairs, pairs_of, algorithms_of, is_candidate, are_within, iterations_by};
+ghost use Rattle.tokens.specs.Code.Trying.{within_to};
 ghost use Rattle.tokens.specs.Code.Views.{algorithms_view};
 
 use crate::algorithms::Algorithms;
@@ -21,17 +21,21 @@ use octets::{Refusal, needs};
 
 /// Judges the pairs of a recipient and a key: by the recipients in order, and for each by the keys in order that may decrypt by its
 /// algorithms and fit. Refuses with `Unsupported` if no recipient's algorithms are supported; then with `KeyDoesNotFit` if there is no
-/// pair; and then with `Limit` if a pair, or all of them, need too many iterations.
-#[tactic(auto, unfolding(crate::specs::Decrypting::pairs_to_try), using(crate::proofs::Tests::views))]
-pub(crate) fn judge_pairs(keys: &[Key], recipients: &[Recipient]) -> Result<(), Refusal>
+/// pair; and then with `Limit` if a pair needs too many iterations, or all of them need more than `most_iterations` or `MOST_ITERATIONS`.
+#[tactic(auto, unfolding(crate::specs::Decrypting::pairs_to_try), using(crate::proofs::Tests::views, crate::proofs::Decrypting::Pairs::fewer_are_within))]
+pub(crate) fn judge_pairs(
+    keys: &[Key],
+    recipients: &[Recipient],
+    most_iterations: u64,
+) -> Result<(), Refusal>
     requires { length keys.now ≤ limits.keys }
     ensures exact { Agrees (λ done. all_pairs limits.management (map key_view keys.now) (map recipient_view recipients.now)) result
-        (pairs_to_try limits (map key_view keys.now) (map recipient_view recipients.now)) }
+        (pairs_to_try (with_iterations most_iterations limits) (map key_view keys.now) (map recipient_view recipients.now)) }
     ensures within { IfOk result (λ done. are_within limits (all_pairs limits.management (map key_view keys.now) (map recipient_view recipients.now)) ≡ true) }
 {
     needs(has_supported(recipients), Refusal::Unsupported)?;
     needs(has_pairs(keys, recipients), Refusal::KeyDoesNotFit)?;
-    needs(are_within(keys, recipients), Refusal::Limit)
+    needs(are_within(keys, recipients, most_iterations), Refusal::Limit)
 }
 
 /// Whether there is a pair.
@@ -43,15 +47,16 @@ fn has_pairs(keys: &[Key], recipients: &[Recipient]) -> bool
         .any(|recipient| pair_count(keys, recipient) > 0)
 }
 
-/// Whether the iterations of each pair, and of all together, are within the limits.
+/// Whether the iterations of each pair, and of all together, are within the limits, and all together at most `most_iterations`.
 #[tactic(auto, using(crate::proofs::Decrypting::Pairs::added_iterations))]
-fn are_within(keys: &[Key], recipients: &[Recipient]) -> bool
+fn are_within(keys: &[Key], recipients: &[Recipient], most_iterations: u64) -> bool
     requires { length keys.now ≤ limits.keys }
-    ensures { result ≡ are_within limits (all_pairs limits.management (map key_view keys.now) (map recipient_view recipients.now)) }
+    ensures { result ≡ are_within (with_iterations most_iterations limits) (all_pairs limits.management (map key_view keys.now) (map recipient_view recipients.now)) }
 {
+    let most = most_iterations.min(MOST_ITERATIONS);
     let mut sum = 0;
     for recipient in recipients {
-        match sum_with(sum, keys, recipient) {
+        match sum_with(sum, keys, recipient, most) {
             None => return false,
             Some(more) => sum = more,
         }
@@ -59,15 +64,16 @@ fn are_within(keys: &[Key], recipients: &[Recipient]) -> bool
     true
 }
 
-/// The sum with the iterations of a recipient's pairs. `None` if one of them, or the new sum, is above the limits.
+/// The sum with the iterations of a recipient's pairs. `None` if one of them is above its limit, or the new sum above `most`.
 #[tactic(auto, using(crate::proofs::Decrypting::Pairs::same_iterations))]
-fn sum_with(sum: u64, keys: &[Key], recipient: &Recipient) -> Option<u64>
+fn sum_with(sum: u64, keys: &[Key], recipient: &Recipient, most: u64) -> Option<u64>
     requires few { length keys.now ≤ limits.keys }
-    requires so_far { sum ≤ limits.p2c_sum }
-    ensures within { IfSome result (λ more. (within_after sum (pairs_of limits.management (map key_view keys.now) (recipient_view recipient.now)) ≡ true)
+    requires so_far { sum ≤ most }
+    requires bounded { most ≤ limits.p2c_sum }
+    ensures within { IfSome result (λ more. (within_to most sum (pairs_of limits.management (map key_view keys.now) (recipient_view recipient.now)) ≡ true)
         × (more ≡ sum + all_iterations (pairs_of limits.management (map key_view keys.now) (recipient_view recipient.now)))) }
-    ensures above { IfNone result (within_after sum (pairs_of limits.management (map key_view keys.now) (recipient_view recipient.now)) ≡ false) }
-    ensures limit { IfSome result (λ more. more ≤ limits.p2c_sum) }
+    ensures above { IfNone result (within_to most sum (pairs_of limits.management (map key_view keys.now) (recipient_view recipient.now)) ≡ false) }
+    ensures limit { IfSome result (λ more. more ≤ most) }
 {
     let pairs = pair_count(keys, recipient);
     if pairs == 0 {
@@ -78,7 +84,7 @@ fn sum_with(sum: u64, keys: &[Key], recipient: &Recipient) -> Option<u64>
         return None;
     }
     let more = sum + count * pairs as u64;
-    if more > MOST_ITERATIONS {
+    if more > most {
         None
     } else {
         Some(more)
