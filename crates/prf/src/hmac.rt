@@ -9,8 +9,8 @@ const INNER_PAD: u8 = 0x36;
 
 const OUTER_PAD: u8 = 0x5c;
 
-/// The block of a key (section 2): the key, or its hash if it is longer than a block, with zero octets up to the length of a block. Keys that
-/// have the same block make the same HMACs. Contracts see its octets.
+/// The block of a key (section 2): the key, or its hash if it is longer than a block, with zero octets up to the length of a block. Keys
+/// that have the same block make the same HMACs. Contracts see its octets.
 #[derive(Drop)]
 pub struct KeyBlock {
     octets: [u8; 128],

@@ -105,8 +105,8 @@ pub fn jwe_decrypt<O: Output>(
     jwe_decrypt_within(alloc, keys, jwe, MOST_ITERATIONS, out)
 }
 
-/// `jwe_decrypt` for a caller who cannot wait: it also refuses with `Limit` if all pairs together need more than `most_iterations` of PBKDF2.
-/// With 0, no password is tried. A stranger chooses how many iterations an object asks for, up to `MOST_ITERATIONS` for its few octets.
+/// `jwe_decrypt` for a caller who cannot wait: it also refuses with `Limit` if all pairs together need more than `most_iterations` of
+/// PBKDF2. With 0, no password is tried. A stranger's object of few octets may ask for up to `MOST_ITERATIONS`.
 pub fn jwe_decrypt_within<O: Output>(
     alloc: Global,
     keys: &KeySet,

@@ -20,10 +20,10 @@ mod signers;
 use crate::signing_input::signature_of;
 use crate::verify::heads::{heads_of, is_one_of};
 pub use detached::jws_verify_detached;
-pub use signers::needs_signers;
 use keys::{Algorithm, Key, KeySet, Operation, SignatureAlg};
 use objects::{HeldContent, Jws, Signature};
 use octets::{Output, Refusal, needs};
+pub use signers::needs_signers;
 
 /// Verifies the object with the keys (RFC 7515 section 5.2), and writes its payload if there is an output. Some key that may verify by the
 /// algorithm of a signature, and fits, must have made this signature. With `all`, each key must have made one.

@@ -7,7 +7,8 @@ use Rattle.tokens.specs.Decrypting.{Pair}
 use Rattle.tokens.specs.Code.Work.{work_told}
 
 -- The work depends on a refusal alone, whatever the result of the call would have been.
-told_by : (X Y : Type 0) (o : EncryptedObject) (pairs : List Pair) (e : Refusal) → work_told {X = X} o (Ok pairs) (Err e) ≡ work_told {X = Y} o (Ok pairs) (Err e)
+told_by : (X Y : Type 0) (o : EncryptedObject) (pairs : List Pair) (e : Refusal)
+    → work_told {X = X} o (Ok pairs) (Err e) ≡ work_told {X = Y} o (Ok pairs) (Err e)
 told_by X Y o pairs refusal.Usage = refl
 told_by X Y o pairs refusal.Read = refl
 told_by X Y o pairs refusal.Write = refl

@@ -35,7 +35,8 @@ pub(crate) fn judge_pairs(
 {
     needs(has_supported(recipients), Refusal::Unsupported)?;
     needs(has_pairs(keys, recipients), Refusal::KeyDoesNotFit)?;
-    needs(are_within(keys, recipients, most_iterations), Refusal::Limit)
+    let within = are_within(keys, recipients, most_iterations);
+    needs(within, Refusal::Limit)
 }
 
 /// Whether there is a pair.
@@ -84,11 +85,7 @@ fn sum_with(sum: u64, keys: &[Key], recipient: &Recipient, most: u64) -> Option<
         return None;
     }
     let more = sum + count * pairs as u64;
-    if more > most {
-        None
-    } else {
-        Some(more)
-    }
+    if more > most { None } else { Some(more) }
 }
 
 /// The number of the pairs of a recipient.

@@ -12,9 +12,9 @@ use octets::{Refusal, needs, same_octets};
 use prf::{Hash, KeyBlock, Sha256, Sha384, Sha512};
 use std::alloc::Global;
 
-/// Refuses with `Key` unless the set has `count` keys, no two of which sign alike. HMAC fills a short key with zero octets and hashes a long
-/// one (RFC 2104 section 2), so keys that differ may make the same signatures. If `jws_verify` then accepts an object by all of the keys,
-/// so many holders of keys signed it. May fail with `Memory`.
+/// Refuses with `Key` unless the set has `count` keys, no two of which sign alike. HMAC fills a short key with zero octets and hashes a
+/// long one (RFC 2104 section 2), so keys that differ may make the same signatures. If `jws_verify` then accepts an object by all of the
+/// keys, it has a signature of each, and no two of them are one key to HMAC. May fail with `Memory`.
 #[tactic(auto, unfolding(crate::specs::Signers::are_signers))]
 pub fn needs_signers(alloc: Global, keys: &KeySet, count: usize) -> Result<(), Refusal>
     ensures { AgreesUnlessMemory (λ done. tt) result (needs_by (are_signers count keys.now) Refusal.Key) }

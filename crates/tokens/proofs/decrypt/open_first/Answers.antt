@@ -17,7 +17,8 @@ returns-in_err-len-clause-work c =
     let few = with_iterations c.args.most_iterations limits in
     let e = c.in_err-len.field-0.0 in
     c.in_err-len.ensures.work
-    ∙ ap (λ octets. work_told {X = ℕ} (with_ciphertext octets left) (pairs_to_try few keys left.recipients) (Err e)) (c.deref_mut.ensures.value ∙ c.take_ciphertext-octets.ensures.taken)
+    ∙ ap (λ octets. work_told {X = ℕ} (with_ciphertext octets left) (pairs_to_try few keys left.recipients) (Err e))
+    (c.deref_mut.ensures.value ∙ c.take_ciphertext-octets.ensures.taken)
     ∙ ap (λ o. work_told {X = ℕ} (with_ciphertext whole.ciphertext o) (pairs_to_try few keys o.recipients) (Err e)) c.take_ciphertext-octets.ensures.left
     ∙ ap (λ ks. work_told {X = ℕ} whole (pairs_to_try few ks whole.recipients) (Err e)) c.keys.ensures.list
     ∙ same_told ℕ _ whole (pairs_to_try few c.args.keys.now whole.recipients) e c.from_residual.result c.from_residual.ensures.1
