@@ -4,43 +4,63 @@
 set -eu
 umask 077
 # The script overwrites nothing: it ends if one of these exists.
-exists=$(ls -d files backup.jwk parts list failed plain restored 2>/dev/null) || :
-[ -z "$exists" ] || { echo "run this in a new folder, without $exists" >&2; exit 1; }
-# The clear texts are deleted when the script ends, also by a signal.
-trap 'rm -f -r list plain' EXIT
+for name in backup.jwk parts whole; do
+    if [ -e "$name" ] || [ -h "$name" ]; then
+        echo "run this in a new folder, without $name" >&2
+        exit 1
+    fi
+done
+# All clear texts are in a new folder that nobody else can enter. umask is not enough for that: in a folder with a default ACL (acl(5)) it
+# does nothing. The clear texts are deleted when the script ends, also by a signal.
+clear=$(mktemp -d clear.XXXXXX)
+trap 'rm -f -r "$clear" || exit 1' EXIT
 trap 'exit 1' HUP INT TERM
-mkdir files
-head -c 300000 /dev/urandom > files/image
-echo 'correct horse' > files/secret.txt
+mkdir "$clear/files"
+head -c 300000 /dev/urandom > "$clear/files/image"
+echo 'correct horse' > "$clear/files/secret.txt"
 jose jwk gen -i '{"alg":"A256KW","kid":"backup"}' -o backup.jwk
 
 # Make it. Each part is a ciphertext of its own, with its object next to it. Parts have 100,000 octets here; make them as large as the
-# memory of the machine that decrypts them allows. If tar fails, the last part is well-formed and too short, so the status of tar is
-# checked too.
+# memory of the machine that decrypts them allows. If tar fails, the last part is well-formed and too short, and a pipe ends with the status
+# of its last command alone. So tar leaves a mark if it succeeds, and rm fails without the mark.
 mkdir parts
-{ tar -cf - files || touch failed; } |
+{ tar -C "$clear" -cf - files && : > whole; } |
     split -b 100000 --filter='jose jwe enc -c -k backup.jwk -o "parts/$FILE.jwe" -O "parts/$FILE.enc"' - part-
-[ ! -e failed ]
+rm whole
 # Nothing else binds the parts together, so a list of checksums of their objects is encrypted too. Each object has the tag of its part.
-(cd parts && sha256sum part-*.jwe) > list
-jose jwe enc -c -k backup.jwk -I list -o parts/list.jwe
+(cd ./parts && sha256sum part-*.jwe) > "$clear/list"
+jose jwe enc -c -k backup.jwk -I "$clear/list" -o parts/list.jwe
 
-# Restore it. Strangers may have changed the folder parts meanwhile. So the script uses only the names in the decrypted list, compares
-# copies of the objects with it, and keeps the plaintext in a new folder that nobody else can enter. All parts are decrypted before the
-# archive is unpacked. An old backup restores too, if somebody puts it back as a whole.
-mkdir plain restored
-jose jwe dec -i parts/list.jwe -k backup.jwk -O plain/list
-if grep -v '^[0-9a-f]\{64\}  part-[a-z]\{2,\}[.]jwe$' plain/list >&2; then
-    exit 1
-fi
-while read -r _ object; do
-    cp "parts/$object" plain
-done < plain/list
-(cd plain && sha256sum -c list) >/dev/null
-while read -r _ object; do
-    jose jwe dec -i "plain/$object" -I "parts/${object%.jwe}.enc" -k backup.jwk -O plain/part
-    cat plain/part >> plain/tar
-done < plain/list
-tar -xf plain/tar -C restored
-cmp files/image restored/files/image
-cmp files/secret.txt restored/files/secret.txt
+# Restore it. Strangers may have changed the folder parts meanwhile. So the script uses only the names in the decrypted list, and compares
+# copies of the objects with it. All parts are decrypted before the archive is unpacked. An old backup restores too, if somebody puts it
+# back as a whole.
+mkdir "$clear/copies" "$clear/restored"
+# take NAME: copies a file of parts to where nobody else can change it. -R and -P copy a link, a pipe or a device without opening it: a pipe
+# would never end, nor would a link to /dev/zero.
+take() {
+    cp -R -P "parts/$1" "$clear/copies/$1"
+    if [ -h "$clear/copies/$1" ] || [ ! -f "$clear/copies/$1" ]; then
+        echo "parts/$1: it is not a file" >&2
+        exit 1
+    fi
+}
+take list.jwe
+jose jwe dec -i "$clear/copies/list.jwe" -k backup.jwk -O "$clear/list"
+while read -r sum object; do
+    letters=${object#part-}
+    letters=${letters%.jwe}
+    case $letters in
+        '' | *[!a-z]*)
+            echo 'the list has a name that is not one of a part' >&2
+            exit 1
+            ;;
+    esac
+    take "part-$letters.jwe"
+    take "part-$letters.enc"
+    [ "$(sha256sum < "$clear/copies/part-$letters.jwe")" = "$sum  -" ]
+    jose jwe dec -i "$clear/copies/part-$letters.jwe" -I "$clear/copies/part-$letters.enc" -k backup.jwk >> "$clear/tar"
+    rm "$clear/copies/part-$letters.enc"
+done < "$clear/list"
+tar -xf "$clear/tar" -C "$clear/restored"
+cmp "$clear/files/image" "$clear/restored/files/image"
+cmp "$clear/files/secret.txt" "$clear/restored/files/secret.txt"

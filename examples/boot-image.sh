@@ -4,8 +4,12 @@
 set -eu
 umask 077
 # The script overwrites nothing: it ends if one of these exists.
-exists=$(ls -d boot.jwk old.img old.sig new.img new.sig why 2>/dev/null) || :
-[ -z "$exists" ] || { echo "run this in a new folder, without $exists" >&2; exit 1; }
+for name in boot.jwk old.img old.sig new.img new.sig why; do
+    if [ -e "$name" ] || [ -h "$name" ]; then
+        echo "run this in a new folder, without $name" >&2
+        exit 1
+    fi
+done
 
 # Where images are made: a key, which the initramfs gets too. The key can sign as well, so nobody else may read the initramfs.
 jose jwk gen -i '{"alg":"HS256","kid":"boot"}' -o boot.jwk

@@ -4,18 +4,24 @@
 set -eu
 umask 077
 # The script overwrites nothing: it ends if one of these exists.
-exists=$(ls -d disk.key file.jwk disk.jwe 2>/dev/null) || :
-[ -z "$exists" ] || { echo "run this in a new folder, without $exists" >&2; exit 1; }
-# The clear text is deleted when the script ends, also by a signal.
-trap 'rm -f disk.key' EXIT
+for name in file.jwk disk.jwe; do
+    if [ -e "$name" ] || [ -h "$name" ]; then
+        echo "run this in a new folder, without $name" >&2
+        exit 1
+    fi
+done
+# The clear text is in a new folder that nobody else can enter, since umask does nothing in a folder with a default ACL (acl(5)). It is
+# deleted when the script ends, also by a signal.
+clear=$(mktemp -d clear.XXXXXX)
+trap 'rm -f -r "$clear" || exit 1' EXIT
 trap 'exit 1' HUP INT TERM
 
 # Once: the key of the disk is encrypted to both. jose-password asks twice for the password, which is in no file.
-head -c 32 /dev/urandom > disk.key
+head -c 32 /dev/urandom > "$clear/disk.key"
 jose jwk gen -i '{"alg":"A256KW","kid":"key file"}' -o file.jwk
 jose-password -n | jose-set join file.jwk - |
-    jose jwe enc -k - -i '{"protected":{"p2c":600000}}' -I disk.key -o disk.jwe
-# here: cryptsetup luksFormat /dev/sda2 disk.key, and then rm disk.key
+    jose jwe enc -k - -i '{"protected":{"p2c":600000}}' -I "$clear/disk.key" -o disk.jwe
+# here: cryptsetup luksFormat /dev/sda2 "$clear/disk.key"
 
 # At boot: the key goes through a pipe and is in no file. jose writes nothing of it before its tag has been checked.
 boot() {
@@ -23,7 +29,7 @@ boot() {
         jose jwe dec -i disk.jwe -k file.jwk
     else
         jose-password dec -i disk.jwe
-    fi | cmp - disk.key # here: cryptsetup open --key-file=- /dev/sda2 root
+    fi | cmp - "$clear/disk.key" # here: cryptsetup open --key-file=- /dev/sda2 root
 }
 boot
 # The key file is not there, so the script asks for the password.

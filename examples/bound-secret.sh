@@ -5,8 +5,12 @@
 set -eu
 umask 077
 # The script overwrites nothing: it ends if one of these exists.
-exists=$(ls -d hosts.jwk host-7 host-8 2>/dev/null) || :
-[ -z "$exists" ] || { echo "run this in a new folder, without $exists" >&2; exit 1; }
+for name in hosts.jwk host-7 host-8; do
+    if [ -e "$name" ] || [ -h "$name" ]; then
+        echo "run this in a new folder, without $name" >&2
+        exit 1
+    fi
+done
 jose jwk gen -i '{"alg":"A256KW","kid":"hosts"}' -o hosts.jwk
 
 # named NAME: the name as base64url text. An empty name is refused, because an empty `aad` binds nothing.

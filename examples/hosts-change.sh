@@ -5,10 +5,14 @@
 set -eu
 umask 077
 # The script overwrites nothing: it ends if one of these exists.
-exists=$(ls -d keys keys.new secrets secret.plain 2>/dev/null) || :
-[ -z "$exists" ] || { echo "run this in a new folder, without $exists" >&2; exit 1; }
-# The clear text is deleted when the script ends, also by a signal.
-trap 'rm -f secret.plain' EXIT
+for name in keys keys.new secrets secret.plain; do
+    if [ -e "$name" ] || [ -h "$name" ]; then
+        echo "run this in a new folder, without $name" >&2
+        exit 1
+    fi
+done
+# The clear text is in a file that jose makes for its owner alone. It is deleted when the script ends, also by a signal.
+trap 'rm -f secret.plain || exit 1' EXIT
 trap 'exit 1' HUP INT TERM
 
 # new_keys FOLDER NAME..: a new folder with a new key for each name, and with a set of all of them for whoever encrypts. A set has at most

@@ -4,8 +4,12 @@
 set -eu
 umask 077
 # The script overwrites nothing: it ends if one of these exists.
-exists=$(ls -d ring report report.jws verified 2>/dev/null) || :
-[ -z "$exists" ] || { echo "run this in a new folder, without $exists" >&2; exit 1; }
+for name in ring report report.jws verified; do
+    if [ -e "$name" ] || [ -h "$name" ]; then
+        echo "run this in a new folder, without $name" >&2
+        exit 1
+    fi
+done
 mkdir ring
 for name in host-7 host-8; do
     jose jwk gen -i "{\"alg\":\"HS256\",\"kid\":\"$name\"}" -o "ring/$name.jwk"

@@ -4,8 +4,12 @@
 set -eu
 umask 077
 # The script overwrites nothing: it ends if one of these exists.
-exists=$(ls -d manifests deploy.jwk report.txt counts 2>/dev/null) || :
-[ -z "$exists" ] || { echo "run this in a new folder, without $exists" >&2; exit 1; }
+for name in manifests deploy.jwk report.txt counts; do
+    if [ -e "$name" ] || [ -h "$name" ]; then
+        echo "run this in a new folder, without $name" >&2
+        exit 1
+    fi
+done
 mkdir manifests
 jose jwk gen -i '{"alg":"HS256","kid":"deploy"}' -o deploy.jwk
 for name in shop mail 'two words' db web log; do
@@ -37,6 +41,10 @@ report() {
 }
 report > report.txt
 
-# How many there are of each cause.
-cut -f 1 report.txt | sort -n | uniq -c | sed 's/^ *//' > counts
+# counts: how many there are of each cause. It fails if awk or sort does.
+counts() {
+    counted=$(awk -F '\t' '{ count[$1]++ } END { for (cause in count) print count[cause], cause }' report.txt)
+    printf '%s\n' "$counted" | sort -k 2n
+}
+counts > counts
 [ "$(cat counts)" = '6 0' ]

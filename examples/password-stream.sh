@@ -1,46 +1,71 @@
 #!/bin/sh
 # A folder is encrypted to a password as tar writes it, and unpacked as it is decrypted. The content goes through standard input, so the
-# password comes from the terminal or from a file. backup.sh shows how a script notices that tar failed.
+# password comes from the terminal or from a file.
 set -eu
 umask 077
 # The script overwrites nothing: it ends if one of these exists.
-exists=$(ls -d files typed.jwe typed.enc restored word file.jwe file.enc sh.jwe sh.enc bash.jwe bash.enc 2>/dev/null) || :
-[ -z "$exists" ] || { echo "run this in a new folder, without $exists" >&2; exit 1; }
-mkdir files restored
-echo 'correct horse' > files/secret.txt
+for name in whole typed.jwe typed.enc file.jwe file.enc sh.jwe sh.enc bash.jwe bash.enc; do
+    if [ -e "$name" ] || [ -h "$name" ]; then
+        echo "run this in a new folder, without $name" >&2
+        exit 1
+    fi
+done
+# The clear texts are in a new folder that nobody else can enter, since umask does nothing in a folder with a default ACL (acl(5)). They are
+# deleted when the script ends, also by a signal.
+clear=$(mktemp -d clear.XXXXXX)
+trap 'rm -f -r "$clear" || exit 1' EXIT
+trap 'exit 1' HUP INT TERM
+mkdir "$clear/files" "$clear/typed" "$clear/file" "$clear/sh" "$clear/bash"
+echo 'correct horse' > "$clear/files/secret.txt"
+
+# A pipe ends with the status of its last command alone. So the first command leaves a mark if it succeeds, and rm fails without the mark.
+# pack: writes the folder as an archive. unpack NAME: unpacks it.
+pack() {
+    tar -C "$clear" -cf - files && : > whole
+}
+unpack() {
+    tar -xf - -C "$clear/$1"
+    cmp "$clear/files/secret.txt" "$clear/$1/files/secret.txt"
+}
 
 # At a terminal: jose-password asks for the new password twice there, and later once.
-tar -cf - files | jose-password enc -o typed.jwe -O typed.enc
-jose-password dec -i typed.jwe -I typed.enc | tar -xf - -C restored
-cmp files/secret.txt restored/files/secret.txt
+pack | jose-password enc -o typed.jwe -O typed.enc
+rm whole
+{ jose-password dec -i typed.jwe -I typed.enc && : > whole; } | unpack typed
+rm whole
 
 # Without a terminal: the password is the first line of a file.
-echo 'four words drawn at random' > word
-tar -cf - files | jose-password -f word enc -o file.jwe -O file.enc
-jose-password -f word dec -i file.jwe -I file.enc | tar -tf - | grep secret.txt >/dev/null
+echo 'four words drawn at random' > "$clear/word"
+pack | jose-password -f "$clear/word" enc -o file.jwe -O file.enc
+rm whole
+{ jose-password -f "$clear/word" dec -i file.jwe -I file.enc && : > whole; } | unpack file
+rm whole
 
 # The same without the tool. The key goes through a pipe that jose opens as /dev/fd/3, while descriptor 4 keeps standard input. `printf` is
-# a command of the shell itself, so no list of processes has the password.
-IFS= read -r password < word
+# a command of the shell itself, so no list of processes has the password. A key that is not whole is no JSON, and jose refuses it.
+IFS= read -r password < "$clear/word"
 key() {
-    printf '{"kty":"oct","alg":"PBES2-HS256+A128KW","k":"'
-    printf '%s' "$password" | jose b64 enc
-    printf '"}'
+    k=$(printf '%s' "$password" | jose b64 enc) || exit
+    printf '{"kty":"oct","alg":"PBES2-HS256+A128KW","k":"%s"}' "$k"
 }
-tar -cf - files | {
+pack | {
     key | jose jwe enc -k /dev/fd/3 -i '{"protected":{"p2c":600000}}' -o sh.jwe -O sh.enc 3<&0 <&4
 } 4<&0
-key | jose jwe dec -k - -i sh.jwe -I sh.enc | tar -tf - | grep secret.txt >/dev/null
+rm whole
+{ key | jose jwe dec -k - -i sh.jwe -I sh.enc && : > whole; } | unpack sh
+rm whole
 
-# The same in bash, which has names for pipes.
+# The same in bash, which has names for pipes, and an option for the status of each command.
 if command -v bash >/dev/null; then
-    bash -c '
+    clear=$clear bash -c '
         set -e -o pipefail
-        IFS= read -r password < word
+        IFS= read -r password < "$clear/word"
         key() {
-            printf "{\"kty\":\"oct\",\"alg\":\"PBES2-HS256+A128KW\",\"k\":\"%s\"}" "$(printf %s "$password" | jose b64 enc)"
+            k=$(printf "%s" "$password" | jose b64 enc) || exit
+            printf "{\"kty\":\"oct\",\"alg\":\"PBES2-HS256+A128KW\",\"k\":\"%s\"}" "$k"
         }
-        tar -cf - files | jose jwe enc -k <(key) -i "{\"protected\":{\"p2c\":600000}}" -o bash.jwe -O bash.enc
-        jose jwe dec -k <(key) -i bash.jwe -I bash.enc | tar -tf - | grep secret.txt >/dev/null
+        tar -C "$clear" -cf - files | jose jwe enc -k <(key) -i "{\"protected\":{\"p2c\":600000}}" -o bash.jwe -O bash.enc
+        jose jwe dec -k <(key) -i bash.jwe -I bash.enc | tar -xf - -C "$clear/bash"
+        cmp "$clear/files/secret.txt" "$clear/bash/files/secret.txt"
     '
 fi

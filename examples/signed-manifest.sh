@@ -3,8 +3,12 @@
 set -eu
 umask 077
 # The script overwrites nothing: it ends if one of these exists.
-exists=$(ls -d 2026.jwk 2027.jwk trusted.jwks manifest.yaml manifest.sig installed.yaml installed.yaml.new 2>/dev/null) || :
-[ -z "$exists" ] || { echo "run this in a new folder, without $exists" >&2; exit 1; }
+for name in 2026.jwk 2027.jwk trusted.jwks manifest.yaml manifest.sig installed.yaml installed.yaml.new; do
+    if [ -e "$name" ] || [ -h "$name" ]; then
+        echo "run this in a new folder, without $name" >&2
+        exit 1
+    fi
+done
 
 # Once: make a key for the builder, and a set of trusted keys for the hosts.
 jose jwk gen -i '{"alg":"HS256","kid":"2026"}' -o 2026.jwk

@@ -4,12 +4,18 @@
 set -eu
 umask 077
 # The script overwrites nothing: it ends if one of these exists.
-exists=$(ls -d secret inner ann.jwk bob.jwk cay.jwk ann-bob.jwe ann-cay.jwe bob-cay.jwe 2>/dev/null) || :
-[ -z "$exists" ] || { echo "run this in a new folder, without $exists" >&2; exit 1; }
-# The clear text is deleted when the script ends, also by a signal.
-trap 'rm -f secret inner' EXIT
+for name in ann.jwk bob.jwk cay.jwk ann-bob.jwe ann-cay.jwe bob-cay.jwe; do
+    if [ -e "$name" ] || [ -h "$name" ]; then
+        echo "run this in a new folder, without $name" >&2
+        exit 1
+    fi
+done
+# The clear text is in a new folder that nobody else can enter, since umask does nothing in a folder with a default ACL (acl(5)). It is
+# deleted when the script ends, also by a signal.
+clear=$(mktemp -d clear.XXXXXX)
+trap 'rm -f -r "$clear" || exit 1' EXIT
 trap 'exit 1' HUP INT TERM
-head -c 32 /dev/urandom > secret
+head -c 32 /dev/urandom > "$clear/secret"
 for name in ann bob cay; do
     jose jwk gen -i "{\"alg\":\"A256KW\",\"kid\":\"$name\"}" -o "$name.jwk"
 done
@@ -17,12 +23,12 @@ done
 # Once, where all keys are: three objects, each of which is encrypted twice.
 for pair in 'ann bob' 'ann cay' 'bob cay'; do
     first=${pair% *} second=${pair#* }
-    jose jwe enc -c -k "$first.jwk" -I secret -o inner
-    jose jwe enc -c -k "$second.jwk" -I inner -o "$first-$second.jwe"
+    jose jwe enc -c -k "$first.jwk" -I "$clear/secret" -o "$clear/inner"
+    jose jwe enc -c -k "$second.jwk" -I "$clear/inner" -o "$first-$second.jwe"
 done
 
 # Bob and Cay open it: Cay first, who hands an object to Bob that only he can read. If the first command refuses, the second one reads
 # an empty object and refuses as well, so its status is enough.
-jose jwe dec -i bob-cay.jwe -k cay.jwk | jose jwe dec -k bob.jwk | cmp - secret
-jose jwe dec -i ann-bob.jwe -k bob.jwk | jose jwe dec -k ann.jwk | cmp - secret
-jose jwe dec -i ann-cay.jwe -k cay.jwk | jose jwe dec -k ann.jwk | cmp - secret
+jose jwe dec -i bob-cay.jwe -k cay.jwk | jose jwe dec -k bob.jwk | cmp - "$clear/secret"
+jose jwe dec -i ann-bob.jwe -k bob.jwk | jose jwe dec -k ann.jwk | cmp - "$clear/secret"
+jose jwe dec -i ann-cay.jwe -k cay.jwk | jose jwe dec -k ann.jwk | cmp - "$clear/secret"

@@ -4,8 +4,12 @@
 set -eu
 umask 077
 # The script overwrites nothing: it ends if one of these exists.
-exists=$(ls -d ann.jwk bob.jwk eve.jwk people.jwks release release.ann release.bob release.eve release.jws 2>/dev/null) || :
-[ -z "$exists" ] || { echo "run this in a new folder, without $exists" >&2; exit 1; }
+for name in ann.jwk bob.jwk eve.jwk people.jwks release release.ann release.bob release.eve release.jws; do
+    if [ -e "$name" ] || [ -h "$name" ]; then
+        echo "run this in a new folder, without $name" >&2
+        exit 1
+    fi
+done
 for name in ann bob; do
     jose jwk gen -i "{\"alg\":\"HS256\",\"kid\":\"$name\"}" -o "$name.jwk"
 done
@@ -21,7 +25,9 @@ join() {
     comma=
     printf '{"signatures":['
     for file; do
-        printf '%s{"protected":"%s","signature":"%s"}' "$comma" "$(cut -d . -f 1 "$file")" "$(cut -d . -f 3 "$file")"
+        # The file has no line feed at its end, so read does not succeed.
+        IFS=. read -r protected _ signature < "$file" || [ -n "$signature" ]
+        printf '%s{"protected":"%s","signature":"%s"}' "$comma" "$protected" "$signature"
         comma=,
     done
     printf ']}'

@@ -4,11 +4,15 @@
 set -eu
 umask 077
 # The script overwrites nothing: it ends if one of these exists.
-exists=$(ls -d etc run credentials shop-secret.service shop.service 2>/dev/null) || :
-[ -z "$exists" ] || { echo "run this in a new folder, without $exists" >&2; exit 1; }
+for name in etc run credentials shop-secret.service shop.service; do
+    if [ -e "$name" ] || [ -h "$name" ]; then
+        echo "run this in a new folder, without $name" >&2
+        exit 1
+    fi
+done
 etc=$PWD/etc run=$PWD/run # in a real unit: /etc/shop and /run/shop-secret
 # The clear texts are deleted when the script ends, also by a signal.
-trap 'rm -f -r "$run" credentials' EXIT
+trap 'rm -f -r "$run" credentials || exit 1' EXIT
 trap 'exit 1' HUP INT TERM
 mkdir "$etc"
 

@@ -4,8 +4,12 @@
 set -eu
 umask 077
 # The script overwrites nothing: it ends if one of these exists.
-exists=$(ls -d service.jwk claims.json 2>/dev/null) || :
-[ -z "$exists" ] || { echo "run this in a new folder, without $exists" >&2; exit 1; }
+for name in service.jwk claims.json; do
+    if [ -e "$name" ] || [ -h "$name" ]; then
+        echo "run this in a new folder, without $name" >&2
+        exit 1
+    fi
+done
 jose jwk gen -i '{"alg":"HS256"}' -o service.jwk
 
 # The login service issues the token. It is one line of text, and anyone who has it can read the claims.
@@ -13,10 +17,17 @@ now=$(date +%s)
 printf '{"iss":"login","sub":"ann","exp":%d}' $((now + 600)) > claims.json
 token=$(jose jws sig -c -s '{"protected":{"typ":"JWT"}}' -k service.jwk -I claims.json)
 
-# The service. The token comes on standard input: -i "$token" would be the name of a file. Claims are read by a parser of JSON, and a token
-# whose claims have no exp is not accepted.
+# accepts TOKEN: the service. It prints for whom the token is, and refuses a token without exp or sub. A token is in compact form alone (RFC
+# 7519 section 3): the JSON form can have 256 signatures, each of which costs work. The token comes on standard input: -i "$token" would be
+# the name of a file. A parser of JSON reads the claims.
 accepts() {
+    case $1 in
+        *[!A-Za-z0-9_.-]*) return 1 ;;
+    esac
     claims=$(printf '%s' "$1" | jose jws ver -k service.jwk -O - 2>/dev/null) || return
-    python3 -c 'import json, sys, time; exit(not json.loads(sys.argv[1])["exp"] > time.time())' "$claims" 2>/dev/null
+    python3 -c 'import json, sys, time
+claims = json.loads(sys.argv[1])
+good = claims["exp"] > time.time() and isinstance(claims["sub"], str)
+print(claims["sub"]) if good else sys.exit(1)' "$claims" 2>/dev/null
 }
-accepts "$token"
+[ "$(accepts "$token")" = ann ]

@@ -4,8 +4,12 @@
 set -eu
 umask 077
 # The script overwrites nothing: it ends if one of these exists.
-exists=$(ls -d hook.jwk body service.py service.bash 2>/dev/null) || :
-[ -z "$exists" ] || { echo "run this in a new folder, without $exists" >&2; exit 1; }
+for name in hook.jwk body service.py service.bash; do
+    if [ -e "$name" ] || [ -h "$name" ]; then
+        echo "run this in a new folder, without $name" >&2
+        exit 1
+    fi
+done
 jose jwk gen -i '{"alg":"HS256","kid":"hook"}' -o hook.jwk
 
 # The sender: a compact object without its payload, for a header such as `X-Signature: eyJ..`. A request that is sent again verifies
@@ -14,12 +18,12 @@ printf '{"number":41,"event":"paid"}' > body
 signature=$(jose jws sig -c -k hook.jwk -I body -O /dev/null)
 
 # A service in Python. The body is standard input. The signature is a pipe, which jose opens as /dev/fd/N; it has to fit into the pipe,
-# so its length is limited.
+# so its length is limited. It must be in compact form, since the JSON form can have several signatures, each of which costs work.
 cat > service.py <<'END'
-import os, subprocess, sys
+import os, re, subprocess, sys
 
 def verified(signature, body):
-    if len(signature) > 1000:
+    if not re.fullmatch(rb"[A-Za-z0-9_.-]{1,1000}", signature):
         return False
     reader, writer = os.pipe()
     os.write(writer, signature)
@@ -34,6 +38,7 @@ END
 
 # A service in bash. The body is standard input, and the signature is a pipe.
 cat > service.bash <<'END'
+[[ ${#1} -le 1000 && $1 != *[!A-Za-z0-9_.-]* ]] || exit
 jose jws ver -i <(printf %s "$1") -I - -k hook.jwk 2>/dev/null
 END
 
