@@ -36,6 +36,16 @@ def escapes(count):
     return b'"%s"' % (b"\\u0041" * count)
 
 
+def backslashes(count):
+    """A string of backslashes, two octets each, and a letter."""
+    return b'"%sA"' % (b"\\\\" * count)
+
+
+def quotes(count):
+    """A string of quotes, two octets each."""
+    return b'"%s"' % (b'\\"' * count)
+
+
 def accents(count):
     """A string of characters of two octets each."""
     return '"{}"'.format("é" * count).encode()
@@ -124,8 +134,8 @@ def json(text):
 
 
 SHAPES = {
-    "letters": letters, "escapes": escapes, "accents": accents, "numbers": numbers, "large_numbers": large_numbers, "strings": strings,
-    "long_strings": long_strings, "operations": operations, "empty_objects": empty_objects, "small_objects": small_objects, "spaces": spaces,
+    "letters": letters, "escapes": escapes, "backslashes": backslashes, "quotes": quotes, "accents": accents, "numbers": numbers,
+    "large_numbers": large_numbers, "strings": strings, "long_strings": long_strings, "operations": operations, "empty_objects": empty_objects, "small_objects": small_objects, "spaces": spaces,
     "nested_lists": nested_lists, "nested_objects": nested_objects, "nested_both": nested_both, "comb_of_lists": comb_of_lists,
     "comb_of_objects": comb_of_objects, "is": literal, "number": number, "json": json,
 }
@@ -170,9 +180,19 @@ def long_name(count):
     return b'"%s":0' % (b"A" * count)
 
 
+def escaped_name(count):
+    """A member whose name has so many letters, which are written as escapes."""
+    return b'"%s":0' % (b"\\u0041" * count)
+
+
+def escaped_names(count):
+    """Members with different names, each with an escape."""
+    return b",".join(b'"\\u006e%06d":0' % at for at in range(count))
+
+
 MEMBERS = {
     "names": names, "other_names": other_names, "falling_names": falling_names, "mixed_names": mixed_names, "alike_names": alike_names,
-    "repeated_names": repeated_names, "long_name": long_name,
+    "repeated_names": repeated_names, "long_name": long_name, "escaped_name": escaped_name, "escaped_names": escaped_names,
 }
 
 
@@ -223,13 +243,38 @@ def keys_with(right, count, key, other_key=""):
     return texts[0] if count == 1 else object_text("", keys=list_text(texts))
 
 
-def keys(count=1, length=64, key="", beside="", k="k", bad=0, others=0):
+def blanks(length):
+    """So many octets of white space."""
+    return (b" \t\r\n" * (length // 4 + 1))[:length]
+
+
+def keys(count=1, length=64, key="", beside="", k="k", bad=0, others=0, blank=0):
     """The file `keys`: a key, or a set of several, each with the listed members. The set has `beside` next to its list, and so many other
-    values in its list. The first `bad` keys have padding. `k` is the name of the member with the secret."""
+    values in its list. The first `bad` keys have padding. `k` is the name of the member with the secret. `blank` is the length of the white
+    space before the text."""
     texts = [key_text(one, key, k) for one in different("keys", count, length)]
     texts[:bad] = [object_text(key, kty=b'"oct"', k=json_string(b64(bytes(length)) + b"=")) for _ in range(bad)]
     texts += [b"0"] * others
-    return {"keys": texts[0] if len(texts) == 1 and not beside else object_text(beside, keys=list_text(texts))}
+    return {"keys": blanks(blank) + (texts[0] if len(texts) == 1 and not beside else object_text(beside, keys=list_text(texts)))}
+
+
+def sets(count=2, key="", blank=0):
+    """The files `set`, a set of keys with the listed members; `more`, another such key; and `gone`, the thumbprint of the first key. White
+    space of a length is before both texts."""
+    octets = different("keys", count + 1, 64)
+    texts = [key_text(one, key) for one in octets]
+    gone = hashlib.sha256(b'{"k":"%s","kty":"oct"}' % b64(octets[0])).digest()
+    return {"set": blanks(blank) + object_text("", keys=list_text(texts[:-1])), "more": blanks(blank) + texts[-1], "gone": b64(gone)}
+
+
+def agreed(count=2, key="", payload=64, blank=0):
+    """The files `keys`, a set of keys with the listed members, behind white space of a length; and `object`, which each of them signed."""
+    octets = different("keys", count, 64)
+    head, body = b64(object_text("", alg=literal("HS256"))), b64(octets_for(payload))
+    codes = [hmac.digest(one, head + b"." + body, "sha256") for one in octets]
+    items = [object_text("", protected=json_string(head), signature=json_string(b64(code))) for code in codes]
+    made = object_text("", payload=json_string(body), signatures=list_text(items))
+    return {"keys": blanks(blank) + object_text("", keys=list_text(key_text(one, key) for one in octets)), "object": made}
 
 
 # ---- contents and texts
@@ -252,6 +297,16 @@ def text(length, bad=0):
 def repeated(name, before, body, count, behind):
     """A file of this name: a text, another text again and again, and a third."""
     return {name: before.encode() + body.encode() * count + behind.encode()}
+
+
+def json_text(members="", blank=0):
+    """The file `text`: an object with the listed members, behind white space of a length."""
+    return {"text": blanks(blank) + object_text(members)}
+
+
+def deep(depth):
+    """The file `text`: objects in objects, so many deep."""
+    return {"text": b'{"a":' * depth + b"0" + b"}" * depth}
 
 
 # ---- templates
@@ -408,4 +463,4 @@ def encrypted(form="compact", ciphertext=64, protected="", unprotected="", heade
     return {"object": made, "keys": keys_with(right_key, count, key, other_key), **({"content": octets} if detached else {})}
 
 
-GENERATORS = {one.__name__: one for one in (keys, content, text, repeated, generating, signing, encrypting, signed, encrypted)}
+GENERATORS = {one.__name__: one for one in (keys, sets, agreed, content, text, repeated, json_text, deep, generating, signing, encrypting, signed, encrypted)}
