@@ -24,7 +24,7 @@ edits:
 tests-try:
 	@scripts/tests-try $(CRATES)
 
-# Proves the program and the library for C and builds them: crates/jose/out/jose, and liblakhdzeva.a and liblakhdzeva.so.2 in
+# Proves the program and the library for C and builds them: crates/jose/out/jose, and liblakhdzeva.a and liblakhdzeva.so.3 in
 # crates/lakhdzeva/out/built.
 build:
 	@scripts/build

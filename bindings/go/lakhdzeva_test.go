@@ -139,6 +139,87 @@ func TestRefusals(t *testing.T) {
 	refuse(t, got, err, Usage)
 }
 
+// A form that is none of the two is no flag of the header: 2 would leave the payload out of the object.
+func TestOtherForms(t *testing.T) {
+	for _, form := range []Form{2, 3, 4, 1 << 31} {
+		got, err := Sign([]byte(rfc7515Key), nil, form, []byte("hello"))
+		refuse(t, got, err, Usage)
+		got, err = Encrypt([]byte(rfc7516Key), nil, form, []byte("hello"))
+		refuse(t, got, err, Usage)
+	}
+}
+
+// The payload hello with two signatures by HS256, and each alone. The second key has the octets from 0 to 31. Python's hmac computed them.
+const (
+	otherKey      = `{"kty":"oct","k":"AAECAwQFBgcICQoLDA0ODxAREhMUFRYXGBkaGxwdHh8"}`
+	signedByBoth  = `{"payload":"aGVsbG8","signatures":[{"protected":"eyJhbGciOiJIUzI1NiJ9","signature":"pur8xtpo-CYwFPNiDHtqt37DXGhHwv8IXKkOQymMa-Y"},{"protected":"eyJhbGciOiJIUzI1NiJ9","signature":"0gXhFJy9tQ17YbeQRi9CaFNoGQWTk66Alugo1jcHzKo"}]}`
+	signedByOne   = "eyJhbGciOiJIUzI1NiJ9.aGVsbG8.pur8xtpo-CYwFPNiDHtqt37DXGhHwv8IXKkOQymMa-Y"
+	signedByOther = "eyJhbGciOiJIUzI1NiJ9.aGVsbG8.0gXhFJy9tQ17YbeQRi9CaFNoGQWTk66Alugo1jcHzKo"
+)
+
+func setOf(keys ...string) []byte {
+	return []byte(`{"keys":[` + strings.Join(keys, ",") + `]}`)
+}
+
+func TestVerifyAll(t *testing.T) {
+	both := setOf(rfc7515Key, otherKey)
+	got, err := VerifyAll(both, 2, []byte(signedByBoth))
+	expect(t, got, err, "hello")
+	got, err = VerifyAll([]byte(otherKey), 1, []byte(signedByBoth))
+	expect(t, got, err, "hello")
+	for _, object := range []string{signedByOne, signedByOther} {
+		got, err = VerifyAll(both, 2, []byte(object))
+		refuse(t, got, err, NotOpened)
+	}
+	for _, signers := range []int{-1 << 63, -1, 0, 1, 3, 64, 65, 1<<63 - 1} {
+		got, err = VerifyAll(both, signers, []byte(signedByBoth))
+		refuse(t, got, err, Key)
+	}
+	// A key of another type, a damaged one, the same one again, and the same octets with one of zero after them.
+	others := []string{`{"kty":"RSA","n":"AA","e":"AQAB"}`, `{"kty":"oct","k":"AAEC!"}`, otherKey,
+		`{"kty":"oct","k":"AAECAwQFBgcICQoLDA0ODxAREhMUFRYXGBkaGxwdHh8A"}`}
+	for _, other := range others {
+		set := setOf(otherKey, other)
+		got, err = Verify(set, []byte(signedByOther), All)
+		expect(t, got, err, "hello")
+		got, err = VerifyAll(set, 2, []byte(signedByOther))
+		refuse(t, got, err, Key)
+	}
+	got, err = VerifyAll(nil, 0, []byte(signedByOther))
+	refuse(t, got, err, JSON)
+}
+
+// No password is tried unless the caller names a number of iterations. The object asks for 2,000,000:
+// {"alg":"PBES2-HS256+A128KW","p2s":"AAAAAAAAAAA","p2c":2000000,"enc":"A128GCM"}.
+func TestIterations(t *testing.T) {
+	costly := []byte("eyJhbGciOiJQQkVTMi1IUzI1NitBMTI4S1ciLCJwMnMiOiJBQUFBQUFBQUFBQSIsInAyYyI6MjAwMDAwMCwiZW5jIjoiQTEyOEdDTSJ9" +
+		".AAAAAAAAAAAAAAAAAAAAAAAAAAAAAAAA.AAAAAAAAAAAAAAAA..AAAAAAAAAAAAAAAAAAAAAA")
+	many := make([]string, 64)
+	for at := range many {
+		many[at] = string(key(22))
+	}
+	for _, keys := range [][]byte{key(22), setOf(many...)} {
+		got, err := Decrypt(keys, costly, nil)
+		refuse(t, got, err, Limit)
+		for _, iterations := range []uint64{0, 1, 600000, 1999999} {
+			got, err = DecryptWithIterations(keys, costly, nil, iterations)
+			refuse(t, got, err, Limit)
+		}
+	}
+	got, err := DecryptWithIterations(setOf(many...), costly, nil, 1<<64-1)
+	refuse(t, got, err, Limit)
+	object, err := Encrypt(setOf(string(key(2)), string(key(3))), []byte(`{"protected":{"alg":"PBES2-HS256+A128KW","p2c":1000}}`), Object, []byte("secret"))
+	if err != nil {
+		t.Fatal(err)
+	}
+	got, err = DecryptWithIterations(key(2), object, nil, 2000)
+	expect(t, got, err, "secret")
+	got, err = DecryptWithIterations(key(2), object, nil, 1999)
+	refuse(t, got, err, Limit)
+	got, err = Decrypt(key(2), object, nil)
+	refuse(t, got, err, Limit)
+}
+
 func TestErrors(t *testing.T) {
 	names := []string{"Ok", "Usage", "Read", "Write", "Memory", "Random", "Base64", "Json", "Number", "Key", "Form", "Header", "Unsupported",
 		"NoAlgorithm", "KeyDoesNotFit", "Limit", "NotCompact", "NotOpened", "Unknown"}

@@ -16,7 +16,7 @@ from pathlib import Path
 from typing import Any, Dict, Optional
 
 _HERE = Path(__file__).resolve().parent
-_LIBRARY = "liblakhdzeva.so.2"
+_LIBRARY = "liblakhdzeva.so.3"
 
 
 def _file(name: str) -> Path:

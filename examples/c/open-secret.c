@@ -27,7 +27,9 @@ int main(int count, char **words) {
     if (count != 3) return fprintf(stderr, "usage: open-secret KEYFILE OBJECT\n"), 2;
     read_text(words[1], &keys);
     read_text(words[2], &object);
-    uint32_t status = lakhdzeva_decrypt(keys.octets, keys.length, object.octets, object.length, NULL, 0, secret.octets, sizeof secret.octets, &secret.length);
+    /* The secret is encrypted to a key, so no password is tried. An object that asks for one is 15 Limit. */
+    uint32_t status = lakhdzeva_decrypt(keys.octets, keys.length, object.octets, object.length, NULL, 0, 0, secret.octets, sizeof secret.octets,
+        &secret.length);
     if (status) return fprintf(stderr, "open-secret: %u %s\n", status, lakhdzeva_name(status)), 1;
     return fwrite(secret.octets, 1, secret.length, stdout) != secret.length || fflush(stdout) != 0;
 }

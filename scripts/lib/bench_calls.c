@@ -30,7 +30,7 @@ static uint32_t encrypt(void) {
 }
 
 static uint32_t decrypt(void) {
-    return lakhdzeva_decrypt(TEXT(WRAP), sealed, sealed_length, NULL, 0, place, ROOM, &length);
+    return lakhdzeva_decrypt(TEXT(WRAP), sealed, sealed_length, NULL, 0, 0, place, ROOM, &length);
 }
 
 static uint32_t encrypt_directly(void) {
@@ -38,7 +38,7 @@ static uint32_t encrypt_directly(void) {
 }
 
 static uint32_t decrypt_directly(void) {
-    return lakhdzeva_decrypt(TEXT(DIRECT), direct, direct_length, NULL, 0, place, ROOM, &length);
+    return lakhdzeva_decrypt(TEXT(DIRECT), direct, direct_length, NULL, 0, 0, place, ROOM, &length);
 }
 
 static uint32_t format(void) {

@@ -10,6 +10,9 @@
 #include <stdio.h>
 #include <stdlib.h>
 #include <string.h>
+#include <sys/mman.h>
+#include <time.h>
+#include <unistd.h>
 
 static int passed, failed;
 
@@ -35,6 +38,8 @@ static const char LINE[] = "Live long and prosper.";
 static const unsigned char RANDOM[] = {
     0x04, 0xd3, 0x1f, 0xc5, 0x54, 0x9d, 0xfc, 0xfe, 0x0b, 0x64, 0x9d, 0xfa, 0x3f, 0xaa, 0x6a, 0xce, 0x6b, 0x7c, 0xd4, 0x2d, 0x6f, 0x6b, 0x09, 0xdb,
     0xc8, 0xb1, 0x00, 0xf0, 0x8f, 0x9c, 0x2c, 0xcf, 0x03, 0x16, 0x3c, 0x0c, 0x2b, 0x43, 0x68, 0x69, 0x6c, 0x6c, 0x69, 0x63, 0x6f, 0x74, 0x68, 0x65};
+/* Any text is a password for an object that is encrypted to one. */
+static const char PASSWORD[] = "{\"k\":\"AA\",\"kty\":\"oct\"}";
 static const char HEADER[] = "{\"protected\":{\"alg\":\"A128KW\",\"enc\":\"A128CBC-HS256\"}}";
 
 #define TEXT(text) (text), sizeof(text) - 1
@@ -71,7 +76,7 @@ static void try_standards(void) {
     fresh();
     gives("and with each of the keys", lakhdzeva_verify(TEXT(SIGNING), TEXT(SIGNED), LAKHDZEVA_ALL, place, ROOM, &length), TEXT(CLAIMS));
     fresh();
-    gives("RFC 7516 A.3 decrypts", lakhdzeva_decrypt(TEXT(WRAPPING), TEXT(ENCRYPTED), NULL, 0, place, ROOM, &length), TEXT(LINE));
+    gives("RFC 7516 A.3 decrypts", lakhdzeva_decrypt(TEXT(WRAPPING), TEXT(ENCRYPTED), NULL, 0, 0, place, ROOM, &length), TEXT(LINE));
     fresh();
     gives("and its random octets give the same object", lakhdzeva_encrypt_with_random(TEXT(WRAPPING), TEXT(HEADER), LAKHDZEVA_COMPACT, RANDOM,
         sizeof RANDOM, TEXT(LINE), place, ROOM, &length, NULL, 0, NULL), TEXT(ENCRYPTED));
@@ -153,6 +158,117 @@ static void try_arguments(void) {
     check("places that touch", lakhdzeva_verify(TEXT(SIGNING), place, sizeof SIGNED - 1, 0, place + sizeof SIGNED - 1, 70, &length) == 0 && length == 70);
 }
 
+/* ---- each argument of each function */
+
+/* What a call gets: its places, which come first, and its texts. */
+struct lent {
+    char *start;
+    size_t length;
+};
+
+/* Where the length of each place goes, and the flags of the call. */
+static size_t counts[2];
+static size_t *to_count[2];
+static unsigned asked;
+
+#define LENT(at) lent[at].start, lent[at].length
+
+static uint32_t generate(const struct lent *lent) { return lakhdzeva_generate(LENT(1), LENT(0), to_count[0]); }
+static uint32_t generate_with_random(const struct lent *lent) { return lakhdzeva_generate_with_random(LENT(1), LENT(2), LENT(0), to_count[0]); }
+static uint32_t thumbprints(const struct lent *lent) { return lakhdzeva_thumbprints(LENT(1), 256, LENT(0), to_count[0]); }
+static uint32_t sign(const struct lent *lent) { return lakhdzeva_sign(LENT(1), LENT(2), asked, LENT(3), LENT(0), to_count[0]); }
+static uint32_t verify(const struct lent *lent) { return lakhdzeva_verify(LENT(1), LENT(2), asked, LENT(0), to_count[0]); }
+static uint32_t verify_detached(const struct lent *lent) { return lakhdzeva_verify_detached(LENT(0), LENT(1), asked, LENT(2)); }
+static uint32_t verify_all(const struct lent *lent) { return lakhdzeva_verify_all(LENT(1), 1, LENT(2), LENT(0), to_count[0]); }
+static uint32_t verify_all_detached(const struct lent *lent) { return lakhdzeva_verify_all_detached(LENT(0), 1, LENT(1), LENT(2)); }
+static uint32_t decrypt(const struct lent *lent) { return lakhdzeva_decrypt(LENT(1), LENT(2), LENT(3), UINT64_MAX, LENT(0), to_count[0]); }
+static uint32_t encrypt(const struct lent *lent) {
+    return lakhdzeva_encrypt(LENT(2), LENT(3), asked, LENT(4), LENT(0), to_count[0], LENT(1), to_count[1]);
+}
+static uint32_t encrypt_with_random(const struct lent *lent) {
+    return lakhdzeva_encrypt_with_random(LENT(2), LENT(3), asked, LENT(4), LENT(5), LENT(0), to_count[0], LENT(1), to_count[1]);
+}
+static uint32_t format_signed(const struct lent *lent) {
+    return lakhdzeva_format_signed(LENT(2), LENT(3), asked, LENT(0), to_count[0], LENT(1), to_count[1]);
+}
+static uint32_t format_encrypted(const struct lent *lent) {
+    return lakhdzeva_format_encrypted(LENT(2), LENT(3), asked, LENT(0), to_count[0], LENT(1), to_count[1]);
+}
+
+enum { FORMS = LAKHDZEVA_COMPACT | LAKHDZEVA_DETACH, NO_FLAGS = -1 };
+static const struct {
+    const char *name;
+    uint32_t (*call)(const struct lent *lent);
+    size_t places, all;
+    int flags; /* the flags that it takes */
+} CALLS[] = {
+    {"generate", generate, 1, 2, NO_FLAGS}, {"generate_with_random", generate_with_random, 1, 3, NO_FLAGS},
+    {"thumbprints", thumbprints, 1, 2, NO_FLAGS}, {"sign", sign, 1, 4, FORMS}, {"verify", verify, 1, 3, LAKHDZEVA_ALL},
+    {"verify_detached", verify_detached, 0, 3, LAKHDZEVA_ALL}, {"verify_all", verify_all, 1, 3, NO_FLAGS},
+    {"verify_all_detached", verify_all_detached, 0, 3, NO_FLAGS}, {"decrypt", decrypt, 1, 4, NO_FLAGS}, {"encrypt", encrypt, 2, 5, FORMS},
+    {"encrypt_with_random", encrypt_with_random, 2, 6, FORMS}, {"format_signed", format_signed, 2, 4, FORMS},
+    {"format_encrypted", format_encrypted, 2, 4, FORMS},
+};
+enum { EACH = 16, APART = 64, MOST_LENT = 6 };
+static char area[(MOST_LENT + 1) * APART];
+
+/* Makes the call with parts of their own, except that one part is as given. */
+static void lie(size_t at, const char *what, size_t part, const void *start, size_t part_length, bool is_refused) {
+    struct lent lent[MOST_LENT];
+    for (size_t own = 0; own < MOST_LENT; own++) lent[own].start = area + (own + 1) * APART, lent[own].length = EACH;
+    if (part < MOST_LENT) lent[part].start = (char *)(uintptr_t)start, lent[part].length = part_length;
+    memset(area, 'x', sizeof area);
+    counts[0] = counts[1] = UNSET;
+    uint32_t status = CALLS[at].call(lent);
+    bool same = true;
+    for (size_t octet = 0; octet < sizeof area; octet++) same = same && area[octet] == 'x';
+    if (is_refused ? status != LAKHDZEVA_USAGE || counts[0] != UNSET || counts[1] != UNSET : status == LAKHDZEVA_USAGE || !status)
+        printf("%s, %s, part %d: %u %s\n", CALLS[at].name, what, (int)part, status, lakhdzeva_name(status)), same = false;
+    check(what, same);
+}
+
+static void try_each_argument(void) {
+    for (size_t at = 0; at < sizeof CALLS / sizeof *CALLS; at++) {
+        size_t places = CALLS[at].places, all = CALLS[at].all;
+        to_count[0] = &counts[0], to_count[1] = &counts[1];
+        asked = places == 2 ? LAKHDZEVA_DETACH : 0;
+        lie(at, "parts that are sound", MOST_LENT, NULL, 0, false);
+        for (size_t part = 0; part < all; part++) {
+            static const size_t lengths[] = {SIZE_MAX / 2 + 1, SIZE_MAX - 1, SIZE_MAX};
+            lie(at, "no pointer and one octet", part, NULL, 1, true);
+            for (size_t one = 0; one < sizeof lengths / sizeof *lengths; one++) {
+                lie(at, "no pointer and a long length", part, NULL, lengths[one], true);
+                lie(at, "a length of 2^63 or more", part, area + (part + 1) * APART, lengths[one], true);
+            }
+            for (size_t place_at = 0; place_at < places; place_at++) {
+                lie(at, "a part on a length", part, (char *)&counts[place_at] + sizeof *counts - 1, EACH, true);
+                if (part == place_at) continue;
+                char *start = area + (place_at + 1) * APART;
+                lie(at, "a part that begins in a place", part, start + EACH - 1, EACH, true);
+                lie(at, "a part that ends in a place", part, start - EACH + 1, EACH, true);
+                lie(at, "a part in a place", part, start + 1, EACH - 2, true);
+                lie(at, "a part around a place", part, start - 1, EACH + 2, true);
+                lie(at, "a part behind a place", part, start + EACH, EACH, false);
+                lie(at, "a part before a place", part, start - EACH, EACH, false);
+            }
+        }
+        for (size_t place_at = 0; place_at < places; place_at++) {
+            to_count[place_at] = NULL;
+            lie(at, "a place without a length", MOST_LENT, NULL, 0, true);
+            to_count[place_at] = &counts[place_at];
+        }
+        if (places == 2) {
+            to_count[1] = &counts[0];
+            lie(at, "both lengths are one", MOST_LENT, NULL, 0, true);
+            to_count[1] = &counts[1];
+        }
+        for (unsigned bit = 0; bit < 32 && CALLS[at].flags != NO_FLAGS; bit++) {
+            asked = 1U << bit;
+            lie(at, "a flag", MOST_LENT, NULL, 0, !(asked & (unsigned)CALLS[at].flags));
+        }
+    }
+}
+
 static void try_places(void) {
     char edge[70];
     memset(edge, 'x', sizeof edge);
@@ -171,6 +287,138 @@ static void try_places(void) {
     size_t signed_length = length;
     length = UNSET;
     check("and verified without a place", lakhdzeva_verify(TEXT(SIGNING), place, signed_length, 0, NULL, 0, &length) == 0 && length == 0);
+}
+
+/* Texts and places at the end of their memory: an octet behind them ends the run. */
+static char *at_the_end(const char *octets, size_t count) {
+    size_t page = (size_t)sysconf(_SC_PAGESIZE), size = (count + page - 1) / page * page;
+    char *memory = (char *)mmap(NULL, size + page, PROT_READ | PROT_WRITE, MAP_PRIVATE | MAP_ANONYMOUS, -1, 0);
+    if (memory == MAP_FAILED || mprotect(memory + size, page, PROT_NONE)) abort();
+    return (char *)memcpy(memory + size - count, octets, count);
+}
+
+#define SET_OF(keys) "{\"keys\":[" keys "]}"
+#define SIGNING_K "AyM1SysPpbyDfgZld3umj1qzKObwVMkoqQ-EstJQLr_T-1qS0gZH75aKtMN3Yj0iPS4hcgUuTwjAzZr1Z9CAow"
+#define KEY_OF(k) "{\"kty\":\"oct\",\"k\":\"" k "\"}"
+
+static void try_signers(void) {
+    const char *keys = at_the_end(TEXT(SIGNING)), *object = at_the_end(TEXT(SIGNED));
+    char *payload = at_the_end(CLAIMS, sizeof CLAIMS - 1);
+    memset(payload, 'x', sizeof CLAIMS - 1);
+    length = UNSET;
+    check("one signer made RFC 7515 A.1", lakhdzeva_verify_all(keys, sizeof SIGNING - 1, 1, object, sizeof SIGNED - 1, payload, sizeof CLAIMS - 1,
+        &length) == 0 && length == sizeof CLAIMS - 1 && !memcmp(payload, CLAIMS, length));
+    memset(payload, 'x', sizeof CLAIMS - 1);
+    check("a place that is too small by one octet", lakhdzeva_verify_all(keys, sizeof SIGNING - 1, 1, object, sizeof SIGNED - 1, payload + 1,
+        sizeof CLAIMS - 2, &length) == LAKHDZEVA_WRITE && length == sizeof CLAIMS - 1 && payload[1] == 'x');
+    static const size_t others[] = {0, 2, 64, 65, SIZE_MAX / 2, SIZE_MAX / 2 + 1, SIZE_MAX};
+    for (size_t at = 0; at < sizeof others / sizeof *others; at++) {
+        fresh();
+        refuses("9: another number of signers", lakhdzeva_verify_all(TEXT(SIGNING), others[at], TEXT(SIGNED), 0, 0, &length), LAKHDZEVA_KEY);
+        check("9: and with a detached payload", lakhdzeva_verify_all_detached(TEXT(SIGNING), others[at], TEXT(SIGNED), TEXT(CLAIMS)) == LAKHDZEVA_KEY);
+    }
+    static const struct {
+        const char *what, *keys;
+        uint32_t all, signers, wanted;
+    } rows[] = {
+        /* What LAKHDZEVA_ALL answers to the set, how many signers are named, and what lakhdzeva_verify_all answers. */
+        {"a key of another type", SET_OF(KEY_OF(SIGNING_K) ",{\"kty\":\"RSA\",\"n\":\"AQAB\",\"e\":\"AQAB\"}"), 0, 2, LAKHDZEVA_KEY},
+        {"a key of another type, and one signer", SET_OF(KEY_OF(SIGNING_K) ",{\"kty\":\"RSA\",\"n\":\"AQAB\",\"e\":\"AQAB\"}"), 0, 1, LAKHDZEVA_KEY},
+        {"a damaged key", SET_OF(KEY_OF(SIGNING_K) "," KEY_OF("AyM1Sys!")), 0, 2, LAKHDZEVA_KEY},
+        {"the same key twice", SET_OF(KEY_OF(SIGNING_K) "," KEY_OF(SIGNING_K)), 0, 2, LAKHDZEVA_KEY},
+        /* The key has 64 octets. With one of zero after them HMAC with SHA-384 and with SHA-512 has the same block, and with SHA-256 it has not. */
+        {"the key and a zero octet", SET_OF(KEY_OF(SIGNING_K) "," KEY_OF(SIGNING_K "A")), LAKHDZEVA_NOT_OPENED, 2, LAKHDZEVA_KEY},
+        {"a key that made no signature", SET_OF(KEY_OF(SIGNING_K) "," KEY_OF("GawgguFyGrWKav7AX4VKUg")), LAKHDZEVA_NOT_OPENED, 2, LAKHDZEVA_NOT_OPENED},
+    };
+    for (size_t at = 0; at < sizeof rows / sizeof *rows; at++) {
+        size_t count = strlen(rows[at].keys);
+        fresh();
+        uint32_t all = lakhdzeva_verify(rows[at].keys, count, TEXT(SIGNED), LAKHDZEVA_ALL, place, ROOM, &length);
+        if (all != rows[at].all) printf("%s: LAKHDZEVA_ALL %u %s\n", rows[at].what, all, lakhdzeva_name(all));
+        check("LAKHDZEVA_ALL is as it was", all == rows[at].all);
+        fresh();
+        refuses(rows[at].what, lakhdzeva_verify_all(rows[at].keys, count, rows[at].signers, TEXT(SIGNED), place, ROOM, &length), rows[at].wanted);
+    }
+    fresh();
+    refuses("7: keys that are no JSON, before the object", lakhdzeva_verify_all(TEXT("{"), 1, TEXT("a.b"), place, ROOM, &length), LAKHDZEVA_JSON);
+    fresh();
+    refuses("9: the number, before the object", lakhdzeva_verify_all(TEXT(SIGNING), 2, TEXT("a.b"), place, ROOM, &length), LAKHDZEVA_KEY);
+    fresh();
+    refuses("10: and then the object", lakhdzeva_verify_all(TEXT(SIGNING), 1, TEXT("a.b"), place, ROOM, &length), LAKHDZEVA_FORM);
+
+    fresh();
+    is_usage("signers without a length", lakhdzeva_verify_all(TEXT(SIGNING), 1, TEXT(SIGNED), place, ROOM, NULL));
+    is_usage("signers' keys without a pointer", lakhdzeva_verify_all(NULL, 7, 1, TEXT(SIGNED), place, ROOM, &length));
+    is_usage("signers' object without a pointer", lakhdzeva_verify_all(TEXT(SIGNING), 1, NULL, 7, place, ROOM, &length));
+    is_usage("signers' place without a pointer", lakhdzeva_verify_all(TEXT(SIGNING), 1, TEXT(SIGNED), NULL, 7, &length));
+    is_usage("signers' keys of 2^63", lakhdzeva_verify_all(SIGNING, SIZE_MAX / 2 + 1, 1, TEXT(SIGNED), place, ROOM, &length));
+    is_usage("signers' object of the most octets", lakhdzeva_verify_all(TEXT(SIGNING), 1, SIGNED, SIZE_MAX, place, ROOM, &length));
+    is_usage("signers' place of the most octets", lakhdzeva_verify_all(TEXT(SIGNING), 1, TEXT(SIGNED), place, SIZE_MAX, &length));
+    is_usage("signers' keys in the place", lakhdzeva_verify_all(place + 1, 5, 1, TEXT(SIGNED), place, 2, &length));
+    is_usage("signers' object in the place", lakhdzeva_verify_all(TEXT(SIGNING), 1, place + 1, 5, place, 2, &length));
+    is_usage("signers' length in the place", lakhdzeva_verify_all(TEXT(SIGNING), 1, TEXT(SIGNED), &length, sizeof length, &length));
+    is_usage("signers' length in the keys", lakhdzeva_verify_all(&length, sizeof length, 1, TEXT(SIGNED), place, ROOM, &length));
+    is_usage("signers' keys without a pointer, detached", lakhdzeva_verify_all_detached(NULL, 7, 1, TEXT(SIGNED), TEXT(CLAIMS)));
+    is_usage("signers' object without a pointer, detached", lakhdzeva_verify_all_detached(TEXT(SIGNING), 1, NULL, 7, TEXT(CLAIMS)));
+    is_usage("signers' payload without a pointer", lakhdzeva_verify_all_detached(TEXT(SIGNING), 1, TEXT(SIGNED), NULL, 1));
+    is_usage("signers' payload of the most octets", lakhdzeva_verify_all_detached(TEXT(SIGNING), 1, TEXT(SIGNED), CLAIMS, SIZE_MAX));
+    is_usage("signers' keys of 2^63, detached", lakhdzeva_verify_all_detached(SIGNING, SIZE_MAX / 2 + 1, 1, TEXT(SIGNED), TEXT(CLAIMS)));
+
+    check("no keys at all", lakhdzeva_verify_all(NULL, 0, 0, TEXT(SIGNED), place, ROOM, &length) == LAKHDZEVA_JSON && length == 0);
+    size_t apart_length;
+    check("the payload of A.1 is detached", lakhdzeva_format_signed(TEXT(SIGNED), NULL, 0, LAKHDZEVA_COMPACT | LAKHDZEVA_DETACH, beside, ROOM, &apart_length,
+        place, ROOM, &other) == 0);
+    const char *apart = at_the_end(beside, apart_length), *claims = at_the_end(TEXT(CLAIMS));
+    check("one signer with the payload", lakhdzeva_verify_all_detached(keys, sizeof SIGNING - 1, 1, apart, apart_length, claims, sizeof CLAIMS - 1) == 0);
+    check("and not with another", lakhdzeva_verify_all_detached(keys, sizeof SIGNING - 1, 1, apart, apart_length, claims, 5) == LAKHDZEVA_NOT_OPENED);
+    check("nor with one in the object", lakhdzeva_verify_all_detached(keys, sizeof SIGNING - 1, 1, object, sizeof SIGNED - 1, claims, 5) == LAKHDZEVA_FORM);
+}
+
+/* The header of a recipient that asks for the most iterations: {"alg":"PBES2-HS256+A128KW","p2s":"AAAAAAAAAAA","p2c":2000000,"enc":"A128GCM"}. */
+#define COSTLY "eyJhbGciOiJQQkVTMi1IUzI1NitBMTI4S1ciLCJwMnMiOiJBQUFBQUFBQUFBQSIsInAyYyI6MjAwMDAwMCwiZW5jIjoiQTEyOEdDTSJ9"
+
+static void try_iterations(void) {
+    static char many[8192];
+    size_t many_length = (size_t)sprintf(many, "{\"iv\":\"AAAAAAAAAAAAAAAA\",\"tag\":\"AAAAAAAAAAAAAAAAAAAAAA\",\"ciphertext\":\"\","
+        "\"protected\":\"eyJlbmMiOiJBMTI4R0NNIn0\",\"recipients\":[");
+    for (int recipient = 0; recipient < 9; recipient++)
+        many_length += (size_t)sprintf(many + many_length,
+            "%s{\"encrypted_key\":\"%032d\",\"header\":{\"alg\":\"PBES2-HS256+A128KW\",\"p2s\":\"AAAAAAAAA%dA\",\"p2c\":2000000}}", recipient ? "," : "",
+            recipient, recipient);
+    many_length += (size_t)sprintf(many + many_length, "]}");
+    static const char one[] = COSTLY ".AAAAAAAAAAAAAAAAAAAAAAAAAAAAAAAA.AAAAAAAAAAAAAAAA..AAAAAAAAAAAAAAAAAAAAAA";
+    clock_t before = clock();
+    static const uint64_t too_few[] = {0, 1, 600000, 1999999};
+    for (size_t at = 0; at < sizeof too_few / sizeof *too_few; at++) {
+        fresh();
+        refuses("15: a stranger's object", lakhdzeva_decrypt(TEXT(PASSWORD), TEXT(one), NULL, 0, too_few[at], place, ROOM, &length), LAKHDZEVA_LIMIT);
+    }
+    /* 18,000,000 iterations are more than a call ever makes. */
+    static const uint64_t most[] = {0, 16000000, 18000000, UINT64_MAX / 2 + 1, UINT64_MAX};
+    for (size_t at = 0; at < sizeof most / sizeof *most; at++) {
+        fresh();
+        refuses("15: nine recipients", lakhdzeva_decrypt(TEXT(PASSWORD), many, many_length, NULL, 0, most[at], place, ROOM, &length), LAKHDZEVA_LIMIT);
+    }
+    double seconds = (double)(clock() - before) / CLOCKS_PER_SEC;
+    if (seconds >= 0.5) printf("%.1f s of the processor\n", seconds);
+    /* Each of the nine would take a second or more. */
+    check("before any derivation", seconds < 0.5);
+    fresh();
+    refuses("14: a key of another algorithm costs nothing", lakhdzeva_decrypt(TEXT("{\"k\":\"AAAAAAAAAAAAAAAAAAAAAA\",\"kty\":\"oct\",\"alg\":\"A128KW\"}"),
+        many, many_length, NULL, 0, 0, place, ROOM, &length), LAKHDZEVA_KEY_DOES_NOT_FIT);
+    fresh();
+    is_usage("iterations without a length", lakhdzeva_decrypt(TEXT(PASSWORD), TEXT(one), NULL, 0, UINT64_MAX, place, ROOM, NULL));
+    is_usage("iterations, and the object in the place", lakhdzeva_decrypt(TEXT(PASSWORD), place + 1, 5, NULL, 0, UINT64_MAX, place, 2, &length));
+}
+
+/* Rooms for a template of a million octets: a signature repeats it, and a recipient does not. A key that signs takes 63 octets or more. */
+static void try_rooms(void) {
+    const size_t template_length = 1000000;
+    check("the room of one signature", lakhdzeva_sign_room(62, template_length, 0) < 2 * template_length);
+    check("the room of ten signatures", lakhdzeva_sign_room(9 * 64 + 63, template_length, 0) < 20 * template_length);
+    check("the room of the most signatures", lakhdzeva_sign_room(SIZE_MAX / 2, template_length, 0) < 100 * template_length);
+    check("the room of the most recipients", lakhdzeva_encrypt_room(SIZE_MAX / 2, template_length, 0) < 2 * template_length);
+    check("rooms that no memory has", lakhdzeva_sign_room(SIZE_MAX / 2, SIZE_MAX / 2, 0) == SIZE_MAX && lakhdzeva_encrypt_room(1, SIZE_MAX, 1) == SIZE_MAX);
 }
 
 static void try_contents(void) {
@@ -195,15 +443,15 @@ static void try_contents(void) {
 
     check("a ciphertext is detached", lakhdzeva_encrypt(TEXT(WRAPPING), NULL, 0, LAKHDZEVA_DETACH, TEXT(LINE), object, ROOM, &object_length, beside, ROOM,
         &beside_length) == 0 && beside_length == 32);
-    check("it decrypts with the ciphertext", lakhdzeva_decrypt(TEXT(WRAPPING), object, object_length, beside, beside_length, place, ROOM, &length) == 0
+    check("it decrypts with the ciphertext", lakhdzeva_decrypt(TEXT(WRAPPING), object, object_length, beside, beside_length, 0, place, ROOM, &length) == 0
         && length == sizeof LINE - 1 && !memcmp(place, LINE, length));
-    check("and not without", lakhdzeva_decrypt(TEXT(WRAPPING), object, object_length, NULL, 0, place, ROOM, &length) != 0 && length == 0);
+    check("and not without", lakhdzeva_decrypt(TEXT(WRAPPING), object, object_length, NULL, 0, 0, place, ROOM, &length) != 0 && length == 0);
     beside[3] ^= 1;
-    check("or with another one", lakhdzeva_decrypt(TEXT(WRAPPING), object, object_length, beside, beside_length, place, ROOM, &length) == LAKHDZEVA_NOT_OPENED);
+    check("or with another one", lakhdzeva_decrypt(TEXT(WRAPPING), object, object_length, beside, beside_length, 0, place, ROOM, &length) == LAKHDZEVA_NOT_OPENED);
     beside[3] ^= 1;
     check("it goes to compact form", lakhdzeva_format_encrypted(object, object_length, beside, beside_length, LAKHDZEVA_COMPACT, text, ROOM, &text_length,
         NULL, 0, NULL) == 0);
-    check("which decrypts", lakhdzeva_decrypt(TEXT(WRAPPING), text, text_length, NULL, 0, place, ROOM, &length) == 0 && length == sizeof LINE - 1);
+    check("which decrypts", lakhdzeva_decrypt(TEXT(WRAPPING), text, text_length, NULL, 0, 0, place, ROOM, &length) == 0 && length == sizeof LINE - 1);
 }
 
 static void try_random(void) {
@@ -225,7 +473,7 @@ static void try_random(void) {
     at += (size_t)sprintf(set + at, "]}");
     check("64 keys with a vector each", lakhdzeva_encrypt(set, at, TEXT("{\"protected\":{\"alg\":\"A128GCMKW\",\"enc\":\"A256CBC-HS512\"}}"), 0, TEXT(LINE), object,
         lakhdzeva_encrypt_room(at, 60, sizeof LINE - 1), &object_length, NULL, 0, NULL) == 0);
-    check("each decrypts", lakhdzeva_decrypt(set, at, object, object_length, NULL, 0, plaintext, sizeof plaintext, &plaintext_length) == 0
+    check("each decrypts", lakhdzeva_decrypt(set, at, object, object_length, NULL, 0, 0, plaintext, sizeof plaintext, &plaintext_length) == 0
         && plaintext_length == sizeof LINE - 1);
     /* Passwords may be short: each draws a salt of 16 octets. */
     at = (size_t)sprintf(set, "{\"keys\":[");
@@ -233,8 +481,10 @@ static void try_random(void) {
     at += (size_t)sprintf(set + at, "]}");
     check("64 passwords with a salt each", lakhdzeva_encrypt(set, at, TEXT("{\"protected\":{\"alg\":\"PBES2-HS512+A256KW\",\"enc\":\"A256CBC-HS512\",\"p2c\":1000}}"), 0,
         TEXT(LINE), object, lakhdzeva_encrypt_room(at, 80, sizeof LINE - 1), &object_length, NULL, 0, NULL) == 0);
-    check("the first decrypts", lakhdzeva_decrypt(TEXT("{\"k\":\"AA\",\"kty\":\"oct\"}"), object, object_length, NULL, 0, plaintext, sizeof plaintext, &plaintext_length) == 0
-        && plaintext_length == sizeof LINE - 1);
+    check("the first decrypts, if each of the recipients may cost its iterations", lakhdzeva_decrypt(TEXT(PASSWORD), object, object_length, NULL, 0, 64000,
+        plaintext, sizeof plaintext, &plaintext_length) == 0 && plaintext_length == sizeof LINE - 1);
+    check("and not with one iteration less", lakhdzeva_decrypt(TEXT(PASSWORD), object, object_length, NULL, 0, 63999, plaintext, sizeof plaintext,
+        &plaintext_length) == LAKHDZEVA_LIMIT && plaintext_length == 0);
 }
 
 /* Keys with a member that nests 120 levels deep: the most stack that reading takes. */
@@ -248,7 +498,7 @@ static void *work(void *wrong) {
         bool right = lakhdzeva_verify(deep, deep_length, TEXT(SIGNED), 0, payload, sizeof payload, &payload_length) == 0 && payload_length == 70
             && !memcmp(payload, CLAIMS, 70)
             && lakhdzeva_encrypt(TEXT(WRAPPING), NULL, 0, 0, payload, payload_length, object, sizeof object, &object_length, NULL, 0, NULL) == 0
-            && lakhdzeva_decrypt(TEXT(WRAPPING), object, object_length, NULL, 0, plaintext, sizeof plaintext, &plaintext_length) == 0
+            && lakhdzeva_decrypt(TEXT(WRAPPING), object, object_length, NULL, 0, 0, plaintext, sizeof plaintext, &plaintext_length) == 0
             && plaintext_length == 70 && !memcmp(plaintext, CLAIMS, 70)
             && lakhdzeva_verify(TEXT(WRAPPING), TEXT(SIGNED), 0, payload, sizeof payload, &payload_length) == LAKHDZEVA_KEY_DOES_NOT_FIT;
         if (!right) *(bool *)wrong = true;
@@ -283,7 +533,11 @@ int main(void) {
     try_standards();
     try_refusals();
     try_arguments();
+    try_each_argument();
     try_places();
+    try_signers();
+    try_iterations();
+    try_rooms();
     try_contents();
     try_random();
     try_threads();

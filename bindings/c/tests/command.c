@@ -193,7 +193,8 @@ static uint32_t encrypt(struct place *one, struct place *other) {
 
 static uint32_t decrypt(struct place *one, struct place *other) {
     (void)other;
-    return lakhdzeva_decrypt(keys.start, keys.length, text.start, text.length, has_content ? content.start : NULL, content.length, one->start,
+    /* The program makes as many iterations as a call may make at most. */
+    return lakhdzeva_decrypt(keys.start, keys.length, text.start, text.length, has_content ? content.start : NULL, content.length, UINT64_MAX, one->start,
         one->room, &one->length);
 }
 
@@ -313,7 +314,7 @@ int main(int count, char **given) {
         text = input('i', "{}");
         keys = input('k', NULL);
         /* As the header does, it draws as many octets as can be needed. */
-        random_octets = drawn(80 + 16 * lakhdzeva_most_keys_(keys.length));
+        random_octets = drawn(80 + 16 * lakhdzeva_most_keys_(keys.length, LAKHDZEVA_LEAST_KEY_));
         content = input('I', "-");
         flags |= values['O'] ? LAKHDZEVA_DETACH : 0U;
         make(encrypt, &one, &other, lakhdzeva_encrypt_room(keys.length, text.length, content.length), values['O'] ? lakhdzeva_ciphertext_room(content.length) : 0);

@@ -1,10 +1,13 @@
 """Tests of the package. Expected values come from the standards and from Python's hashlib and hmac.
 
+The tests of the class Lies also run under valgrind (scripts/bindings), which sees what the library reads outside of a value.
+
 Run it with the name of the shared library in LAKHDZEVA_LIBRARY:
 
     PYTHONPATH=bindings/python/src python3 -m unittest discover -s bindings/python/tests
 """
 
+import array
 import base64
 import copy
 import ctypes
@@ -17,6 +20,7 @@ import pickle
 import subprocess
 import sys
 import threading
+import time
 import unittest
 from concurrent.futures import ThreadPoolExecutor
 from pathlib import Path
@@ -113,6 +117,17 @@ def token_of(key, header, payload):
     """A token with HS256, by Python's hmac."""
     text = b64(header.encode()) + "." + b64(payload)
     return text + "." + b64(hmac.new(key, text.encode(), "sha256").digest())
+
+
+def signed_by(payload, *keys):
+    """A token in JSON form with a signature of each key, by Python's hmac. A key is its octets, or its octets and the bits of the hash."""
+    signatures = []
+    for key in keys:
+        octets, bits = key if isinstance(key, tuple) else (key, 256)
+        protected = b64(b'{"alg":"HS%d"}' % bits)
+        made = hmac.new(octets, f"{protected}.{b64(payload)}".encode(), f"sha{bits}").digest()
+        signatures.append({"protected": protected, "signature": b64(made)})
+    return {"payload": b64(payload), "signatures": signatures}
 
 
 FIRST = bytes(range(32))
@@ -427,13 +442,415 @@ class Sets(Case):
         token = lakhdzeva.encrypt(keys, b"text", {"protected": {"p2c": 1000}}, compact=False)
         self.assertEqual(len(json.loads(token)["recipients"]), 3)
         for key in keys:
-            self.assertEqual(lakhdzeva.decrypt(key, token), b"text")
+            # The first key has no `alg`, so it is tried as a password too.
+            self.assertEqual(lakhdzeva.decrypt(key, token, iterations=1000), b"text")
         self.refused(14, "KeyDoesNotFit", lakhdzeva.decrypt, key_of(bytes(17), alg="HS256"), token)
 
     def test_a_text_of_json_that_is_not_ascii(self):
         token = lakhdzeva.sign(key_of(FIRST), b"", {"header": {"kid": "\u00e9\U0001f600"}}, compact=False)
         self.assertEqual(json.loads(token)["header"], {"kid": "\u00e9\U0001f600"})
         self.assertIn("\u00e9\U0001f600", token)
+
+
+class Signers(Case):
+    """verify_all: each of so many keys signed. The signatures are made by Python's hmac."""
+
+    TEXT = b"text"
+
+    def opens(self, keys, signers, token):
+        self.assertEqual(lakhdzeva.verify_all(keys, signers, token), self.TEXT)
+        apart = {name: value for name, value in token.items() if name != "payload"}
+        self.assertEqual(lakhdzeva.verify_all(keys, signers, apart, payload=self.TEXT), self.TEXT)
+
+    def refuses(self, number, name, keys, signers, token):
+        self.refused(number, name, lakhdzeva.verify_all, keys, signers, token)
+        apart = {name: value for name, value in token.items() if name != "payload"}
+        self.refused(number, name, lakhdzeva.verify_all, keys, signers, apart, payload=self.TEXT)
+
+    def test_each_key_made_a_signature(self):
+        all_three = [FIRST, SECOND, THIRD]
+        for count in (1, 2, 3):
+            for octets in itertools.permutations(all_three, count):
+                keys = [key_of(it) for it in octets]
+                # The signatures of strangers do not matter, nor does the order.
+                self.opens(keys, count, signed_by(self.TEXT, *all_three))
+                self.opens({"keys": keys}, count, signed_by(self.TEXT, *octets))
+                for missing in octets:
+                    others = [it for it in (*octets, bytes(40)) if it != missing]
+                    self.refuses(17, "NotOpened", keys, count, signed_by(self.TEXT, *others))
+
+    def test_another_payload(self):
+        token = signed_by(self.TEXT, FIRST, SECOND)
+        token.pop("payload")
+        self.refused(17, "NotOpened", lakhdzeva.verify_all, [key_of(FIRST), key_of(SECOND)], 2, token, payload=b"other")
+
+    def test_another_number_of_keys(self):
+        token = signed_by(self.TEXT, FIRST, SECOND)
+        keys = [key_of(FIRST), key_of(SECOND)]
+        for signers in (0, 1, 3, 64, 65, 2**32 + 2, 2**63, 2**64 - 1, 2**64 + 2, 10**100):
+            self.refuses(9, "Key", keys, signers, token)
+        self.refuses(9, "Key", keys[0], 2, token)
+        self.opens(keys, 2, token)
+
+    def test_a_bad_key_in_the_set(self):
+        token = signed_by(self.TEXT, FIRST)
+        damaged = key_of(SECOND)
+        damaged["k"] += "="
+        for bad in ({"kty": "RSA", "n": "AQAB", "e": "AQAB"}, damaged, {"kty": "oct"}, key_of(SECOND, kid=7), {"keys": [key_of(SECOND)]}):
+            # By itself `all` passes over it.
+            self.assertEqual(lakhdzeva.verify([key_of(FIRST), bad], token, all=True), self.TEXT)
+            for signers in (1, 2):
+                self.refuses(9, "Key", [key_of(FIRST), bad], signers, token)
+                self.refuses(9, "Key", [bad, key_of(FIRST)], signers, token)
+        self.refuses(15, "Limit", [key_of(FIRST)] * 65, 65, token)
+
+    def test_keys_that_sign_alike(self):
+        long, longer = bytes(range(100)), bytes(range(200))
+        rows = [
+            (FIRST, FIRST),
+            (FIRST, FIRST + b"\0"),
+            (FIRST, FIRST + bytes(96)),
+            (bytes(1), bytes(2)),
+            # 64 octets are a whole block of SHA-256, and half a block of the others.
+            (bytes(range(64)), bytes(range(64)) + b"\0"),
+            (bytes(range(127)), bytes(range(127)) + b"\0"),
+            # A key that is longer than the block is hashed: above 64 octets for SHA-256, and above 128 for the others.
+            (long, hashlib.sha256(long).digest()),
+            (long, hashlib.sha256(long).digest() + b"\0"),
+            (longer, hashlib.sha256(longer).digest()),
+            (longer, hashlib.sha384(longer).digest()),
+            (longer, hashlib.sha512(longer).digest()),
+            (longer, hashlib.sha512(longer).digest() + bytes(5)),
+        ]
+        for one, other in rows:
+            self.assertTrue(any(hmac.digest(one, self.TEXT, it) == hmac.digest(other, self.TEXT, it) for it in ("sha256", "sha384", "sha512")))
+            token = signed_by(self.TEXT, *((octets, bits) for octets in (one, other, SECOND) for bits in (256, 384, 512)))
+            for first, second in ((one, other), (other, one)):
+                self.refuses(9, "Key", [key_of(first), key_of(second)], 2, token)
+                self.refuses(9, "Key", [key_of(first, alg="HS256"), key_of(second, alg="HS512", kid="b")], 2, token)
+                self.refuses(9, "Key", [key_of(first), key_of(SECOND), key_of(second)], 3, token)
+
+    def test_keys_that_nearly_sign_alike(self):
+        block, long = bytes(range(1, 65)), bytes(range(100))
+        wide = bytes(range(1, 129))
+        rows = [
+            (FIRST, b"\0" + FIRST),
+            (FIRST, FIRST + b"\1"),
+            # A key of one block is not hashed.
+            (block, hashlib.sha256(block).digest()),
+            (wide, hashlib.sha384(wide).digest()),
+            (wide, hashlib.sha512(wide).digest()),
+            (long, hashlib.sha384(long).digest()),
+            (long, hashlib.sha512(long).digest()),
+            # Behind the block a zero octet counts.
+            (wide, wide + b"\0"),
+            (bytes(range(129)), bytes(range(129)) + b"\0"),
+        ]
+        for one, other in rows:
+            self.assertFalse(any(hmac.digest(one, self.TEXT, it) == hmac.digest(other, self.TEXT, it) for it in ("sha256", "sha384", "sha512")))
+            for keys in ([key_of(one), key_of(other)], [key_of(other), key_of(one)]):
+                self.opens(keys, 2, signed_by(self.TEXT, one, other))
+                self.refuses(17, "NotOpened", keys, 2, signed_by(self.TEXT, one))
+                self.refuses(17, "NotOpened", keys, 2, signed_by(self.TEXT, other))
+
+    def test_64_signers(self):
+        octets = [hashlib.sha256(b"%d" % number).digest() for number in range(64)]
+        keys = [key_of(it) for it in octets]
+        self.opens(keys, 64, signed_by(self.TEXT, *octets))
+        self.refuses(17, "NotOpened", keys, 64, signed_by(self.TEXT, *octets[:-1]))
+        self.refuses(9, "Key", keys[:-1] + keys[:1], 64, signed_by(self.TEXT, *octets))
+
+    def test_the_order_of_the_refusals(self):
+        self.refused(7, "Json", lakhdzeva.verify_all, "{", 5, "a.b")
+        self.refused(8, "Number", lakhdzeva.verify_all, key_of(FIRST, n=1.5), 5, "a.b")
+        self.refused(9, "Key", lakhdzeva.verify_all, key_of(FIRST), 2, "a.b")
+        self.refused(9, "Key", lakhdzeva.verify_all, [key_of(FIRST)] * 2, 2, "a.b")
+        self.refused(10, "Form", lakhdzeva.verify_all, key_of(FIRST), 1, "a.b")
+        self.refused(10, "Form", lakhdzeva.verify_all, key_of(FIRST), 1, RFC7515_A1, payload=b"")
+        self.refused(12, "Unsupported", lakhdzeva.verify_all, key_of(FIRST), 1, token_of(FIRST, '{"alg":"none"}', b""))
+
+    def test_signers_are_a_number(self):
+        for other in (None, "2", 2.0, True, False, [2], b"2"):
+            with self.assertRaisesRegex(TypeError, "signers must be an int"):
+                lakhdzeva.verify_all(key_of(FIRST), other, RFC7515_A1)
+        for other in (-1, -(2**64)):
+            with self.assertRaisesRegex(ValueError, "signers must not be negative"):
+                lakhdzeva.verify_all(key_of(FIRST), other, RFC7515_A1)
+
+
+class Passwords(Case):
+    """The iterations that a call may make."""
+
+    WORD = key_of(b"word")
+
+    def token(self, keys, iterations):
+        wanted = {"protected": {"alg": "PBES2-HS256+A128KW", "enc": "A128GCM", "p2c": iterations}}
+        return lakhdzeva.encrypt(keys, b"text", wanted, compact=False)
+
+    def check(self, keys, token, needed):
+        """The call makes so many iterations in all, and is refused if it may make one less."""
+        self.assertEqual(lakhdzeva.decrypt(keys, token, iterations=needed), b"text")
+        self.assertEqual(lakhdzeva.decrypt(keys, token, iterations=2**64 + needed), b"text")
+        for fewer in {0, 1, needed - 1}:
+            self.refused(15, "Limit", lakhdzeva.decrypt, keys, token, iterations=fewer)
+        self.refused(15, "Limit", lakhdzeva.decrypt, keys, token)
+
+    def test_no_password_is_tried_unless_a_number_says_so(self):
+        self.check(self.WORD, self.token(self.WORD, 1000), 1000)
+        self.check(key_of(b"word", alg="PBES2-HS256+A128KW"), self.token(self.WORD, 1234), 1234)
+
+    def test_each_recipient_counts_with_each_key_that_fits(self):
+        two = [self.WORD, key_of(b"other")]
+        self.check(self.WORD, self.token(two, 1000), 2000)
+        self.check(two, self.token(self.WORD, 1000), 2000)
+        self.check(two, self.token(two, 1500), 6000)
+        # Every key without `alg` is a password, and one with another `alg` costs nothing.
+        self.check([A128, self.WORD], self.token(self.WORD, 1000), 2000)
+        self.check([key_of(bytes(16), alg="A128KW"), key_of(FIRST, alg="HS256"), self.WORD], self.token(self.WORD, 1000), 1000)
+
+    def test_a_key_without_password_needs_no_number(self):
+        self.assertEqual(lakhdzeva.decrypt(RFC7516_KEY, RFC7516_A3, iterations=0), LINE)
+
+    def test_a_stranger_asks_for_the_most(self):
+        header = {"alg": "PBES2-HS256+A128KW", "p2s": b64(bytes(8)), "p2c": 2000000, "enc": "A128GCM"}
+        parts = [json.dumps(header, separators=(",", ":")).encode(), bytes(24), bytes(12), b"", bytes(16)]
+        token = ".".join(b64(it) for it in parts)
+        before = time.process_time()
+        for iterations in ({}, {"iterations": 0}, {"iterations": 600000}, {"iterations": 1999999}):
+            self.refused(15, "Limit", lakhdzeva.decrypt, A128, token, **iterations)
+            self.refused(15, "Limit", lakhdzeva.decrypt, [A128] * 64, token, **iterations)
+        # A pair of one recipient and one of the 64 keys would take a second or more.
+        self.assertLess(time.process_time() - before, 0.5)
+        self.refused(15, "Limit", lakhdzeva.decrypt, [A128] * 64, token, iterations=2**64 - 1)
+
+    def test_iterations_are_a_number(self):
+        for other in (None, "0", 0.0, True, False, [0], b"0"):
+            with self.assertRaisesRegex(TypeError, "iterations must be an int"):
+                lakhdzeva.decrypt(RFC7516_KEY, RFC7516_A3, iterations=other)
+        for other in (-1, -(2**64) + 5):
+            with self.assertRaisesRegex(ValueError, "iterations must not be negative"):
+                lakhdzeva.decrypt(RFC7516_KEY, RFC7516_A3, iterations=other)
+
+
+class Lied(Exception):
+    """A method of a lying value was called."""
+
+
+def lies(kind, answers):
+    """A class derived from this one. Each of its methods raises Lied, or gives the wrong answer that `answers` has for its name."""
+
+    def method(name):
+        def raising(*_, **__):
+            raise Lied(name)
+
+        return answers.get(name, raising)
+
+    # Without these no value can be made, and Python itself needs the last two.
+    kept = {"__new__", "__init__", "__class__", "__init_subclass__", "__subclasshook__", "__doc__", "__dict__", "__del__"}
+    names = (set(dir(kind)) | {"__bytes__", "__buffer__", "__bool__", "__index__", "__int__", "__float__", "__iter__", "__len__"}) - kept
+    members = {name: method(name) for name in names}
+    members["__class__"] = property(lambda self: float)
+    return type(f"Lying{kind.__name__}", (kind,), members)
+
+
+WRONG = {
+    "__len__": lambda self: 4000,
+    "__bool__": lambda self: not self.__dict__.setdefault("asked", []).append(1) and len(self.__dict__["asked"]) % 2 == 1,
+    "__index__": lambda self: 2**40,
+    "__int__": lambda self: 2**40,
+    "__float__": lambda self: 0.5,
+    "__bytes__": lambda self: b"lie" * 1000,
+    "__str__": lambda self: "lie",
+    "__repr__": lambda self: "lie",
+    "__iter__": lambda self: iter(["lie"] * 1000),
+    "__getitem__": lambda self, _: b"lie" * 1000,
+    "__contains__": lambda self, _: True,
+    "__eq__": lambda self, _: True,
+    "__hash__": lambda self: 7,
+    "__buffer__": lambda self, _: memoryview(b"lie" * 1000),
+    "encode": lambda self, *_: b"lie" * 1000,
+    "items": lambda self: [("kty", "oct"), ("k", "AA")],
+    "keys": lambda self: ["kty", "k"],
+    "values": lambda self: ["oct", "AA"],
+    "copy": lambda self: {},
+    "__getattribute__": lambda self, name: object.__getattribute__(self, name),
+    "__setattr__": lambda self, name, value: object.__setattr__(self, name, value),
+}
+# One class of each kind whose methods all raise, and one whose methods answer wrongly.
+LYING = {kind: [lies(kind, {"__hash__": kind.__hash__} if kind.__hash__ else {}), lies(kind, WRONG)] for kind in (bytes, bytearray, str, dict, list, tuple, int, float)}
+
+
+def lying(value, way):
+    """The same value in lying classes, with all that is in it."""
+    kind = type(value)
+    if kind not in LYING:
+        return value
+    made = LYING[kind][way]
+    if kind is dict:
+        copied = made()
+        for name, member in value.items():
+            # The class's own __setitem__ lies, and with equal hashes all names would be one.
+            dict.__setitem__(copied, name, lying(member, way))
+        return copied
+    if kind in (list, tuple):
+        return made([lying(member, way) for member in value])
+    return made(value)
+
+
+class Lies(Case):
+    """Values of classes of their own, each of whose methods raises or answers wrongly: the answer is that of the honest value."""
+
+    KEY = {"kty": "oct", "k": b64(FIRST), "list": [1, -2, {"a": "\u00e9"}], "yes": True, "no": False, "none": None}
+    PAYLOAD = b"a payload of some octets"
+
+    def rows(self):
+        """For each function its arguments, with the values that are honest: all that it takes."""
+        key, payload = self.KEY, self.PAYLOAD
+        signed = json.loads(json.dumps(signed_by(payload, FIRST)))
+        apart = {name: value for name, value in signed.items() if name != "payload"}
+        compact = token_of(FIRST, '{"alg":"HS256"}', payload)
+        a5 = json.loads(RFC7516_A5)
+        a5_apart = {name: value for name, value in a5.items() if name != "ciphertext"}
+        ciphertext = unb64(a5["ciphertext"])
+        keys = [key, json.dumps(key), json.dumps(key).encode(), [key], {"keys": [key]}]
+        wrap = json.loads(RFC7516_KEY)
+        wraps = [wrap, RFC7516_KEY, RFC7516_KEY.encode(), [wrap], {"keys": [wrap]}]
+        template = {"protected": {"kid": "7", "n": [2**63, {"x": "y"}]}}
+        templates = [template, json.dumps(template), json.dumps(template).encode(), None]
+        contents = [payload, bytearray(payload), memoryview(payload)]
+        ciphertexts = [ciphertext, bytearray(ciphertext), memoryview(ciphertext)]
+        flags = [True, False]
+        size = {"bytes": 20, "kid": "7"}
+        return [
+            (lakhdzeva.generate, {"wanted": [size, json.dumps(size), json.dumps(size).encode()]}),
+            (lakhdzeva.thumbprints, {"keys": keys, "hash": ["S256", "S512"]}),
+            (lakhdzeva.thumbprint, {"key": keys[:3], "hash": ["S256", "S512"]}),
+            (lakhdzeva.sign, {"keys": keys, "payload": contents, "wanted": templates, "compact": flags, "detach": flags}),
+            (lakhdzeva.verify, {"keys": keys, "token": [signed, compact, compact.encode()], "all": flags}),
+            (lakhdzeva.verify, {"keys": keys, "token": [apart], "all": flags, "payload": contents}),
+            (lakhdzeva.verify_all, {"keys": keys, "signers": [1, 2], "token": [signed, compact, compact.encode()]}),
+            (lakhdzeva.verify_all, {"keys": keys, "signers": [1, 2], "token": [apart], "payload": contents}),
+            (lakhdzeva.encrypt, {"keys": wraps, "plaintext": contents, "wanted": templates, "compact": flags, "detach": flags}),
+            (lakhdzeva.decrypt, {"keys": wraps, "token": [a5, RFC7516_A3, RFC7516_A3.encode()], "iterations": [0, 5, 2**70]}),
+            (lakhdzeva.decrypt, {"keys": wraps, "token": [a5_apart], "ciphertext": ciphertexts, "iterations": [0]}),
+            (lakhdzeva.format_signed, {"token": [signed, compact, compact.encode()], "compact": flags, "detach": flags}),
+            (lakhdzeva.format_signed, {"token": [apart], "compact": flags, "detach": flags, "payload": contents}),
+            (lakhdzeva.format_encrypted, {"token": [a5, RFC7516_A3, RFC7516_A3.encode()], "compact": flags, "detach": flags}),
+            (lakhdzeva.format_encrypted, {"token": [a5_apart], "compact": flags, "detach": flags, "ciphertext": ciphertexts}),
+        ]
+
+    def answer(self, function, arguments):
+        """What the function gives, or its refusal, with random octets that are always the same."""
+        with mock.patch("os.urandom", lambda length: bytes(range(256)) * 20):
+            try:
+                return function(**arguments)
+            except Refused as refused:
+                return str(refused)
+
+    def test_each_argument_of_each_function(self):
+        tried = 0
+        for function, arguments in self.rows():
+            first = {name: values[0] for name, values in arguments.items()}
+            for name, values in arguments.items():
+                for value, way in itertools.product(values, (0, 1)):
+                    if type(value) in LYING:
+                        honest = self.answer(function, {**first, name: value})
+                        self.assertEqual(self.answer(function, {**first, name: lying(value, way)}), honest, (function.__name__, name, way))
+                        tried += 1
+        self.assertGreater(tried, 150)
+
+    def test_all_arguments_at_once(self):
+        for function, arguments in self.rows():
+            for values in itertools.islice(itertools.product(*arguments.values()), 0, None, 7):
+                honest = dict(zip(arguments, values))
+                for way in (0, 1):
+                    made = {name: lying(value, way) for name, value in honest.items()}
+                    self.assertEqual(self.answer(function, made), self.answer(function, honest), (function.__name__, way))
+
+    def test_what_is_no_flag(self):
+        class Answering:
+            def __bool__(self):
+                raise Lied
+
+            __index__ = __len__ = __int__ = __bool__
+
+        token, a3 = RFC7515_A1, RFC7516_A3
+        for other in (0, 1, None, "yes", [], Answering(), *(lying(1, way) for way in (0, 1))):
+            for call in (
+                lambda: lakhdzeva.sign(A128, b"", compact=other),
+                lambda: lakhdzeva.sign(A128, b"", detach=other),
+                lambda: lakhdzeva.verify(RFC7515_KEY, token, all=other),
+                lambda: lakhdzeva.encrypt(A128, b"", compact=other),
+                lambda: lakhdzeva.encrypt(A128, b"", detach=other),
+                lambda: lakhdzeva.format_signed(token, compact=other),
+                lambda: lakhdzeva.format_signed(token, detach=other),
+                lambda: lakhdzeva.format_encrypted(a3, compact=other),
+                lambda: lakhdzeva.format_encrypted(a3, detach=other),
+            ):
+                with self.assertRaisesRegex(TypeError, "must be True or False"):
+                    call()
+            if type(other) is Answering:
+                with self.assertRaisesRegex(TypeError, "signers must be an int"):
+                    lakhdzeva.verify_all(RFC7515_KEY, other, token)
+                with self.assertRaisesRegex(TypeError, "iterations must be an int"):
+                    lakhdzeva.decrypt(A128, a3, iterations=other)
+
+    def test_what_only_says_that_it_is_of_a_class(self):
+        for kind in (bytes, bytearray, str, dict, list):
+
+            class Other:
+                __class__ = kind
+
+            for call in (
+                lambda: lakhdzeva.thumbprints(Other()),
+                lambda: lakhdzeva.generate(Other()),
+                lambda: lakhdzeva.verify(RFC7515_KEY, Other()),
+                lambda: lakhdzeva.sign(RFC7515_KEY, Other()),
+                lambda: lakhdzeva.thumbprints(RFC7515_KEY, Other()),
+            ):
+                with self.assertRaises(TypeError):
+                    call()
+
+    def test_a_memoryview_of_another_shape(self):
+        octets = bytes(range(240))
+        views = [
+            memoryview(octets)[::-1],
+            memoryview(bytearray(octets))[5:200:3],
+            memoryview(array.array("I", range(60))),
+            memoryview(array.array("d", [0.5, 1.5]))[::-1],
+            memoryview(octets).cast("B", (4, 60)),
+            memoryview(octets).cast("H"),
+            memoryview((ctypes.c_uint16 * 7)(*range(7))),
+            memoryview(b""),
+        ]
+        for view in views:
+            expected = token_of(FIRST, '{"alg":"HS256"}', view.tobytes())
+            self.assertEqual(lakhdzeva.sign(key_of(FIRST), view), expected)
+            detached = lakhdzeva.sign(key_of(FIRST), view, detach=True)
+            self.assertEqual(lakhdzeva.verify(key_of(FIRST), detached, payload=view), view.tobytes())
+        released = memoryview(octets)
+        released.release()
+        with self.assertRaises(ValueError):
+            lakhdzeva.sign(key_of(FIRST), released)
+
+    def test_a_bytearray_that_changes_during_the_call(self):
+        for kind in (bytearray, *LYING[bytearray]):
+            octets = kind(self.PAYLOAD)
+            called = lakhdzeva._sign
+
+            def sign(*arguments):
+                bytearray.clear(octets)
+                return called(*arguments)
+
+            with mock.patch.object(lakhdzeva, "_sign", sign):
+                self.assertEqual(lakhdzeva.sign(key_of(FIRST), octets), token_of(FIRST, '{"alg":"HS256"}', self.PAYLOAD))
+            self.assertEqual(bytearray.__len__(octets), 0)
+
+    def test_a_dict_that_holds_itself(self):
+        key = key_of(FIRST)
+        key["self"] = key
+        with self.assertRaises(RecursionError):
+            lakhdzeva.sign(key, b"")
 
 
 class Types(Case):
@@ -444,11 +861,13 @@ class Types(Case):
             for call in (
                 lambda: lakhdzeva.sign(other, b""),
                 lambda: lakhdzeva.verify(other, token),
+                lambda: lakhdzeva.verify_all(other, 1, token),
                 lambda: lakhdzeva.encrypt(other, b""),
                 lambda: lakhdzeva.decrypt(other, token),
                 lambda: lakhdzeva.thumbprint(other),
                 lambda: lakhdzeva.thumbprints(other),
                 lambda: lakhdzeva.verify(key, other),
+                lambda: lakhdzeva.verify_all(key, 1, other),
                 lambda: lakhdzeva.decrypt(key, other),
                 lambda: lakhdzeva.format_signed(other),
                 lambda: lakhdzeva.format_encrypted(other),
@@ -479,6 +898,7 @@ class Types(Case):
             if other is not None:
                 calls += [
                     lambda: lakhdzeva.verify(key, RFC7515_A1, payload=other),
+                    lambda: lakhdzeva.verify_all(key, 1, RFC7515_A1, payload=other),
                     lambda: lakhdzeva.decrypt(key, RFC7516_A3, ciphertext=other),
                     lambda: lakhdzeva.format_signed(RFC7515_A1, payload=other),
                     lambda: lakhdzeva.format_encrypted(RFC7516_A3, ciphertext=other),
@@ -492,6 +912,7 @@ class Types(Case):
             lambda: lakhdzeva.sign(A128, b"", {}, True),
             lambda: lakhdzeva.verify(A128, RFC7515_A1, True),
             lambda: lakhdzeva.encrypt(A128, b"", {}, True),
+            lambda: lakhdzeva.verify_all(A128, 1, RFC7515_A1, b""),
             lambda: lakhdzeva.decrypt(A128, RFC7516_A3, b""),
             lambda: lakhdzeva.format_signed(RFC7515_A1, True),
             lambda: lakhdzeva.format_encrypted(RFC7516_A3, True),
@@ -516,7 +937,7 @@ class Types(Case):
     def test_all_names_are_public(self):
         for name in lakhdzeva.__all__:
             self.assertTrue(getattr(lakhdzeva, name).__doc__)
-        public = "Refused decrypt encrypt format_encrypted format_signed generate sign thumbprint thumbprints verify"
+        public = "Refused decrypt encrypt format_encrypted format_signed generate sign thumbprint thumbprints verify verify_all"
         self.assertEqual(sorted(lakhdzeva.__all__), public.split())
 
 
@@ -535,9 +956,10 @@ class Core(Case):
             "thumbprints": ((text, len(text), 256), 1),
             "sign": ((text, len(text), wanted, 2, True, False, octets, 10), 1),
             "verify": ((rfc7515, len(rfc7515), signed, len(signed), False), 1),
+            "verify_all": ((rfc7515, len(rfc7515), 1, signed, len(signed)), 1),
             "format_signed": ((signed, len(signed), False, b"", 0, False, True), 2),
             "encrypt": ((wrap, len(wrap), wanted, 2, True, True, random, 1104, octets, 10), 2),
-            "decrypt": ((rfc7516, len(rfc7516), a3, len(a3), False, b"", 0), 1),
+            "decrypt": ((rfc7516, len(rfc7516), a3, len(a3), False, b"", 0, 0), 1),
             "format_encrypted": ((a3, len(a3), False, b"", 0, False, True), 2),
         }
 
@@ -624,7 +1046,7 @@ class Core(Case):
             self.assertEqual(len(places), count, (function.__name__, arguments, options))
             return answer
 
-        long = {"a" * 40: "\u00e9" * 50, "\x01\x1f\n": ["\x7f", -(2**63), 2**64 - 1, None, {"\u2028": '\\"/'}]}
+        long = {"a" * 40: "\u00e9" * 50, "\x01\x1f\n\b\f\t\r": ["\x7f", -(2**63), 2**64 - 1, None, {"\u2028": '\\"/'}]}
         with patch:
             for size in (1, 2, 3, 63, 64, 65, 4094, 4095, 4096):
                 for more in ({}, long):
@@ -652,7 +1074,9 @@ class Core(Case):
                         answer = check(2, lakhdzeva.encrypt, text, bytes(plaintext), wanted, compact=False, detach=detach)
                     check(2, lakhdzeva.format_encrypted, answer[0], ciphertext=answer[1])
                     check(2, lakhdzeva.format_encrypted, answer[0], ciphertext=answer[1], detach=True)
-                self.assertEqual(check(1, lakhdzeva.decrypt, text, answer[0], ciphertext=answer[1]), bytes(300))
+                # Each of the keys is a password for each of the recipients.
+                opened = check(1, lakhdzeva.decrypt, text, answer[0], ciphertext=answer[1], iterations=1000 * count**2)
+                self.assertEqual(opened, bytes(300))
             for token in (RFC7515_A1, RFC7515_A1 + "\n"):
                 check(2, lakhdzeva.format_signed, token)
             for length, header in ((100000, {}), (0, {"a": "b" * 50000}), (100001, {"a": "b" * 100001})):
@@ -669,6 +1093,20 @@ class Core(Case):
                 self.assertEqual(check(1, lakhdzeva.decrypt, A128, detached, ciphertext=ciphertext), content)
             for length in range(70):
                 check(1, lakhdzeva.verify, key_of(FIRST), token_of(FIRST, '{"alg":"HS256"}', bytes(length)))
+                check(1, lakhdzeva.verify_all, key_of(FIRST), 1, token_of(FIRST, '{"alg":"HS256"}', bytes(length)))
+
+    def test_rooms_of_a_long_template(self):
+        """A room is not many times the length of the answer: a signature repeats the template, and a recipient does not."""
+        patch, places = self.never_small()
+        wanted = {"protected": {"a": "b" * 100000}}
+        for count in (1, 20, 64):
+            keys = [key_of(FIRST, alg="HS256")] * count
+            wraps = [key_of(FIRST, alg="A256KW")] * count
+            for make in (lambda: lakhdzeva.sign(keys, b"", wanted, compact=False), lambda: lakhdzeva.encrypt(wraps, b"", wanted, compact=False)):
+                with patch:
+                    places.clear()
+                    token = make()
+                    self.assertLess(places[0], 3 * len(token), count)
 
 
 class Threads(Case):
@@ -699,21 +1137,32 @@ class Threads(Case):
 
 
 class Loading(Case):
-    def run_with(self, library):
+    def run_with(self, library, *options, **variables):
         """Imports the package in another process, with the name of a library."""
-        environment = {**os.environ, "LAKHDZEVA_LIBRARY": library, "PYTHONPATH": str(Path(lakhdzeva.__file__).parent.parent)}
-        program = "try:\n import lakhdzeva\nexcept ImportError as error:\n print('refused:', error)\nelse:\n print('imported')"
-        return subprocess.run([sys.executable, "-c", program], env=environment, capture_output=True, text=True, check=True).stdout
+        environment = {**os.environ, "LAKHDZEVA_LIBRARY": library, **variables}
+        program = (
+            "import sys\nsys.path.insert(0, sys.argv[1])\ntry:\n import lakhdzeva\nexcept ImportError as error:\n print('refused:', error)\n"
+            "else:\n print('imported')"
+        )
+        words = [sys.executable, *options, "-c", program, str(Path(lakhdzeva.__file__).parent.parent)]
+        return subprocess.run(words, env=environment, capture_output=True, text=True, check=True).stdout
 
     def test_the_variable_names_the_library(self):
         self.assertEqual(self.run_with(lakhdzeva._LIBRARY._name), "imported\n")
 
     def test_a_library_that_is_not_there(self):
-        answer = self.run_with("/nowhere/liblakhdzeva.so.2")
-        self.assertRegex(answer, "^refused: the shared library of lakhdzeva cannot be loaded: /nowhere/liblakhdzeva.so.2: .*LAKHDZEVA_LIBRARY")
+        answer = self.run_with("/nowhere/liblakhdzeva.so.3")
+        self.assertRegex(answer, "^refused: the shared library of lakhdzeva cannot be loaded: /nowhere/liblakhdzeva.so.3: .*LAKHDZEVA_LIBRARY")
+
+    def test_an_isolated_python_does_not_read_the_variable(self):
+        # The system finds the library by its name.
+        folder = {"LD_LIBRARY_PATH": str(Path(lakhdzeva._LIBRARY._name).resolve().parent)}
+        self.assertRegex(self.run_with("/nowhere/liblakhdzeva.so.3", **folder), "^refused: ")
+        for option in ("-I", "-E"):
+            self.assertEqual(self.run_with("/nowhere/liblakhdzeva.so.3", option, **folder), "imported\n")
 
     def test_another_library(self):
-        self.assertRegex(self.run_with("libc.so.6"), "^refused: libc.so.6 is not version 2 of the shared library of lakhdzeva: ")
+        self.assertRegex(self.run_with("libc.so.6"), "^refused: libc.so.6 is not version 3 of the shared library of lakhdzeva: ")
 
     def test_the_version_is_that_of_the_repository(self):
         sources = Path(__file__).resolve().parent.parent

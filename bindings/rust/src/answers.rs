@@ -148,8 +148,11 @@ mod tests {
     }
 
     #[test]
-    #[should_panic(expected = "status 18")]
-    fn an_unknown_status_is_a_fault() {
-        let _ = answer(0, |_| 18);
+    fn an_unknown_status_is_a_refusal_with_its_number() {
+        for status in [18, 19, 255, 256, 1 << 31, u32::MAX] {
+            let refusal = answer(0, |_| status).unwrap_err();
+            assert_eq!(refusal, Refusal::Unknown(status));
+            assert_eq!(refusal.to_string(), format!("{status} Unknown"));
+        }
     }
 }

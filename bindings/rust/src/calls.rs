@@ -9,7 +9,7 @@
 //! - A slice has fewer than 2^63 octets.
 //! - The declarations are those of lakhdzeva.h. The test `declarations` compares them.
 //!
-//! The duties of stack, signal handlers and forks are those of the program. The first page of the crate states them.
+//! The duties of stack, signal handlers, forks and jumps are those of the program. The first page of the crate states them.
 
 unsafe extern "C" {
     fn lakhdzeva_core_generate(
@@ -61,6 +61,25 @@ unsafe extern "C" {
         payload: *const u8,
         payload_length: usize,
     ) -> u32;
+    fn lakhdzeva_core_verify_all(
+        keys: *const u8,
+        keys_length: usize,
+        signers: usize,
+        object: *const u8,
+        object_length: usize,
+        payload: *mut u8,
+        room: usize,
+        length: *mut usize,
+    ) -> u32;
+    fn lakhdzeva_core_verify_all_detached(
+        keys: *const u8,
+        keys_length: usize,
+        signers: usize,
+        object: *const u8,
+        object_length: usize,
+        payload: *const u8,
+        payload_length: usize,
+    ) -> u32;
     fn lakhdzeva_core_format_signed(
         object: *const u8,
         object_length: usize,
@@ -102,6 +121,7 @@ unsafe extern "C" {
         given: bool,
         ciphertext: *const u8,
         ciphertext_length: usize,
+        most_iterations: u64,
         plaintext: *mut u8,
         room: usize,
         length: *mut usize,
@@ -215,6 +235,42 @@ pub(crate) fn verify_detached(keys: &[u8], object: &[u8], all: bool, payload: &[
     }
 }
 
+pub(crate) fn verify_all(keys: &[u8], signers: usize, object: &[u8], payload: Place<'_>) -> u32 {
+    // SAFETY: as in `sign`. Each number of signers is allowed.
+    unsafe {
+        lakhdzeva_core_verify_all(
+            keys.as_ptr(),
+            keys.len(),
+            signers,
+            object.as_ptr(),
+            object.len(),
+            payload.octets.as_mut_ptr(),
+            payload.octets.len(),
+            payload.length,
+        )
+    }
+}
+
+pub(crate) fn verify_all_detached(
+    keys: &[u8],
+    signers: usize,
+    object: &[u8],
+    payload: &[u8],
+) -> u32 {
+    // SAFETY: as in `verify_all`. The function writes nothing.
+    unsafe {
+        lakhdzeva_core_verify_all_detached(
+            keys.as_ptr(),
+            keys.len(),
+            signers,
+            object.as_ptr(),
+            object.len(),
+            payload.as_ptr(),
+            payload.len(),
+        )
+    }
+}
+
 /// The payload is `None` if it is in the object.
 pub(crate) fn format_signed(
     object: &[u8],
@@ -285,11 +341,12 @@ pub(crate) fn decrypt(
     keys: &[u8],
     object: &[u8],
     ciphertext: Option<&[u8]>,
+    most_iterations: u64,
     plaintext: Place<'_>,
 ) -> u32 {
     let given = ciphertext.is_some();
     let ciphertext = ciphertext.unwrap_or_default();
-    // SAFETY: as in `sign`.
+    // SAFETY: as in `sign`. Each number of iterations is allowed.
     unsafe {
         lakhdzeva_core_decrypt(
             keys.as_ptr(),
@@ -299,6 +356,7 @@ pub(crate) fn decrypt(
             given,
             ciphertext.as_ptr(),
             ciphertext.len(),
+            most_iterations,
             plaintext.octets.as_mut_ptr(),
             plaintext.octets.len(),
             plaintext.length,

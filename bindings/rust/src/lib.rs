@@ -22,14 +22,24 @@
 //! - `wanted` is a JSON template: the headers of a token, or the members of a key. With `b"{}"` the keys decide.
 //! - `form` is the serialization of an object that is written (RFC 7515 and RFC 7516, section 7). Objects that are read may have any form.
 //!
-//! # What a caller must mind
+//! # What to mind with every function
 //!
 //! - The keys say whom you trust. Never take them from the object.
-//! - `kid` is ignored: every key that you pass is tried. `exp` and other claims of a JWT are not checked.
-//! - A call needs 256 KiB of stack.
+//! - All keys are shared secrets: whoever can verify can also sign, and whoever can decrypt can also encrypt.
+//! - A key without `alg` is used for each algorithm that takes its length. So write `alg` and `key_ops` into each key.
+//! - The member `kid` never selects a key: each key that you pass is tried.
+//! - If a name is repeated in a JSON object, the last one counts.
+//! - An object takes at most 8 times its length in memory, and JSON of many small objects 270 times. So limit the length of a stranger's
+//!   text.
+//! - Memory that held keys and plaintext is not wiped, and the timing of AES, which uses tables, depends on the key.
+//!
+//! # What the caller owes
+//!
+//! - A call needs 256 KiB of stack. Any number of threads may call at once.
 //! - Do not call from a signal handler. After a fork of a process with threads, do not call in the child.
-//! - Memory that held keys or plaintext is not wiped.
-//! - Any number of threads may call at once.
+//! - Nothing may jump out of a call (`siglongjmp` or `longjmp` in a signal handler), and no thread may be cancelled in one
+//!   (`PTHREAD_CANCEL_ASYNCHRONOUS`): the heap would be broken. To bound the time of a call, limit the lengths and the iterations that you
+//!   pass, or call in a process of its own.
 #![deny(missing_docs, unsafe_code, unsafe_op_in_unsafe_fn)]
 
 mod answers;
@@ -58,7 +68,7 @@ pub enum Form {
 pub enum Signers {
     /// At least one of the keys.
     One,
-    /// Each of the valid keys.
+    /// Each of the valid keys. It does not count signers: [`verify_all`] does.
     All,
 }
 
@@ -120,7 +130,7 @@ pub fn generate(wanted: &[u8]) -> Result<Vec<u8>, Refusal> {
 
 /// The thumbprints of the valid keys of a text, in their order, with a line feed between each two (RFC 7638).
 ///
-/// Do not publish the thumbprint of a password: it lets anyone test guesses.
+/// The thumbprint of a password is not safe to publish: it lets anyone test guesses.
 ///
 /// Refusals: [`Json`](Refusal::Json), [`Number`](Refusal::Number), [`Key`](Refusal::Key), [`Limit`](Refusal::Limit),
 /// [`Memory`](Refusal::Memory).
@@ -141,7 +151,8 @@ pub fn thumbprints(keys: &[u8], hash: Hash) -> Result<String, Refusal> {
 
 /// Signs the payload with each of the keys, and returns the object (RFC 7515 section 5.1).
 ///
-/// The template may have the members `protected` and `header`. Each is an object with members of the header.
+/// The template may have the members `protected` and `header`. Each is an object with members of the header. `header` is a header that is
+/// not signed. The payload is in the object as it is, and not secret.
 ///
 /// Refusals: [`Json`](Refusal::Json), [`Number`](Refusal::Number), [`Key`](Refusal::Key), [`Form`](Refusal::Form),
 /// [`Header`](Refusal::Header), [`Unsupported`](Refusal::Unsupported), [`NoAlgorithm`](Refusal::NoAlgorithm),
@@ -165,7 +176,7 @@ pub fn sign(keys: &[u8], wanted: &[u8], form: Form, payload: &[u8]) -> Result<Ve
 
 /// Signs the payload with each of the keys, and returns the object without the payload (RFC 7515 appendix F).
 ///
-/// The refusals are those of [`sign`].
+/// The rest is as for [`sign`].
 ///
 /// ```
 /// use lakhdzeva::{generate, sign_detached, verify_detached, Form, Refusal, Signers};
@@ -188,6 +199,16 @@ pub fn sign_detached(
 }
 
 /// Verifies the object, and returns its payload (RFC 7515 section 5.2).
+///
+/// - With [`Signers::All`] each good key must have made a signature. It passes over bad keys, and takes one signature for two keys that
+///   sign alike. So for a rule such as "Ann and Bob must both sign" call [`verify_all`].
+/// - It judges no claims, such as `exp` of a JWT.
+/// - An old object verifies too, so put a number or a date into what you sign.
+/// - One token has many texts: to revoke it, list an id in its payload, and not its text.
+/// - In JSON form a header can be unsigned, or belong to a signature that none of your keys made: if a header matters, accept only compact
+///   form.
+/// - It computes an HMAC of the payload for each key, algorithm and protected header, at most 256 times 64: limit the length of what
+///   strangers send.
 ///
 /// Refusals: [`Json`](Refusal::Json), [`Number`](Refusal::Number), [`Key`](Refusal::Key), [`Limit`](Refusal::Limit),
 /// [`Form`](Refusal::Form), [`Base64`](Refusal::Base64), [`Header`](Refusal::Header), [`Unsupported`](Refusal::Unsupported),
@@ -213,7 +234,7 @@ pub fn verify(keys: &[u8], object: &[u8], signers: Signers) -> Result<Vec<u8>, R
 
 /// Verifies the object with this payload, which is not in the object (RFC 7515 appendix F).
 ///
-/// An object that has its own payload is refused with [`Form`](Refusal::Form). The other refusals are those of [`verify`].
+/// An object that has its own payload is refused with [`Form`](Refusal::Form). The rest is as for [`verify`].
 ///
 /// ```
 /// use lakhdzeva::{generate, sign_detached, verify_detached, Form, Refusal, Signers};
@@ -237,10 +258,68 @@ pub fn verify_detached(
     ))
 }
 
+/// Verifies that each key of the set signed the object, and returns its payload. The text has exactly so many keys as there are `signers`.
+///
+/// It is for rules about people, such as "Ann and Bob must both sign". A bad key is refused as by [`sign`]. Another number of keys is
+/// [`Key`](Refusal::Key), and so are two keys that sign alike: HMAC fills a short key with zeros and hashes a long one (RFC 2104), so keys
+/// that differ can make the same signatures. It is [`NotOpened`](Refusal::NotOpened) unless each key made a signature.
+///
+/// - Use one call for one rule: two calls with two sets both succeed by one signature, if its key is in both sets.
+/// - It counts keys, not people: whoever has two keys signs for two. So let each person compare the thumbprint of his key.
+/// - The host that verifies has all keys, so it could sign as well.
+///
+/// The rest is as for [`verify`].
+///
+/// ```
+/// use lakhdzeva::{generate, sign, verify_all, Form, Refusal};
+///
+/// let (ann, bob) = (generate(br#"{"alg":"HS256"}"#)?, generate(br#"{"alg":"HS256"}"#)?);
+/// let people = [br#"{"keys":["#, &ann[..], b",", &bob, b"]}"].concat();
+/// let object = sign(&people, b"{}", Form::Json, b"release 7")?;
+/// assert_eq!(verify_all(&people, 2, &object)?, b"release 7");
+/// let object = sign(&ann, b"{}", Form::Json, b"release 7")?;
+/// assert_eq!(verify_all(&people, 2, &object), Err(Refusal::NotOpened));
+/// # Ok::<(), Refusal>(())
+/// ```
+pub fn verify_all(keys: &[u8], signers: usize, object: &[u8]) -> Result<Vec<u8>, Refusal> {
+    answer(rooms::verify(object.len()), |place| {
+        calls::verify_all(keys, signers, object, place)
+    })
+}
+
+/// Verifies that each key of the set signed the object with this payload, which is not in the object (RFC 7515 appendix F).
+///
+/// The rest is as for [`verify_all`].
+///
+/// ```
+/// use lakhdzeva::{generate, sign_detached, verify_all_detached, Form, Refusal};
+///
+/// let key = generate(br#"{"alg":"HS256"}"#)?;
+/// let object = sign_detached(&key, b"{}", Form::Compact, b"one")?;
+/// verify_all_detached(&key, 1, &object, b"one")?;
+/// assert_eq!(verify_all_detached(&key, 2, &object, b"one"), Err(Refusal::Key));
+/// # Ok::<(), Refusal>(())
+/// ```
+pub fn verify_all_detached(
+    keys: &[u8],
+    signers: usize,
+    object: &[u8],
+    payload: &[u8],
+) -> Result<(), Refusal> {
+    Refusal::of_status(calls::verify_all_detached(keys, signers, object, payload))
+}
+
 /// Encrypts the plaintext to each of the keys, and returns the object (RFC 7516 section 5.1).
 ///
 /// The template may have the members `protected` and `unprotected`, which are objects with members of the header, and `aad`, which is a
 /// base64url text.
+///
+/// - The recipients share its random key, so each of them can put another plaintext into the object.
+/// - When a host leaves, make a new key for each recipient that stays.
+/// - Without an `alg`, a password of 16, 24 or 32 octets is used as a key itself, without iterations.
+/// - A password takes 100,000 iterations, or `p2c` of the template: name 600,000 there for one password.
+/// - Use a key for at most 2^32 objects with AES-GCM key wrap, or with `dir` and a GCM.
+/// - In the template `unprotected` is a header that is not authenticated, and `aad` is a text that everyone can read.
 ///
 /// Refusals: [`Json`](Refusal::Json), [`Number`](Refusal::Number), [`Key`](Refusal::Key), [`Form`](Refusal::Form),
 /// [`Base64`](Refusal::Base64), [`Header`](Refusal::Header), [`Unsupported`](Refusal::Unsupported),
@@ -271,7 +350,7 @@ pub fn encrypt(
 /// RFC 7516 section 7.2.1 requires the ciphertext in the object. This library allows to keep it apart, as RFC 7515 appendix F has it for a
 /// payload.
 ///
-/// The refusals are those of [`encrypt`].
+/// The rest is as for [`encrypt`].
 ///
 /// ```
 /// use lakhdzeva::{decrypt, encrypt_detached, generate, Form, Refusal};
@@ -293,9 +372,18 @@ pub fn encrypt_detached(
     encrypt_with(keys, wanted, form, true, plaintext, room, content_room)
 }
 
-/// Decrypts the object with one of the keys, and returns the plaintext (RFC 7516 section 5.2).
+/// Decrypts the object with one of the keys, and returns the plaintext (RFC 7516 section 5.2). It tries no password:
+/// [`decrypt_with_iterations`] does.
 ///
 /// The ciphertext is `None` if it is in the object. An empty ciphertext that is kept apart is `Some(&[])`.
+///
+/// - A password may have any length, so every key without `alg` fits, and an object for a password is refused with
+///   [`Limit`](Refusal::Limit).
+/// - The recipients share its random key, so each of them can put another plaintext into the object.
+/// - A malicious writer can make an object that opens to two plaintexts for two recipients.
+/// - It notices a changed `aad`, but does not judge its text.
+/// - Each pair of a recipient and a key that fits can cost a pass over the ciphertext, at most 256 times 64. An attacker without a key can
+///   cause many of them: limit the length of strangers' objects.
 ///
 /// Refusals: [`Json`](Refusal::Json), [`Number`](Refusal::Number), [`Key`](Refusal::Key), [`Limit`](Refusal::Limit),
 /// [`Form`](Refusal::Form), [`Base64`](Refusal::Base64), [`Header`](Refusal::Header), [`Unsupported`](Refusal::Unsupported),
@@ -313,13 +401,44 @@ pub fn encrypt_detached(
 /// # Ok::<(), Refusal>(())
 /// ```
 pub fn decrypt(keys: &[u8], object: &[u8], ciphertext: Option<&[u8]>) -> Result<Vec<u8>, Refusal> {
+    decrypt_with_iterations(keys, object, ciphertext, 0)
+}
+
+/// Decrypts the object with one of the keys, of which some may be passwords. The call makes at most so many iterations of PBKDF2 in all.
+///
+/// - An object names its iterations itself, so a stranger's costs seconds: 2,000,000 for each recipient, and 16,000,000 in all. A greater
+///   number means 16,000,000.
+/// - The sum counts each recipient with each key that fits. If it is above the number, the call is [`Limit`](Refusal::Limit), before any
+///   derivation.
+/// - A password may have any length, so every key without `alg` fits. Give each key an `alg`: then one that is no password costs no
+///   iteration.
+/// - Name 600,000 for one password of today's recommendation.
+///
+/// The rest is as for [`decrypt`].
+///
+/// ```
+/// use lakhdzeva::{decrypt, decrypt_with_iterations, encrypt, Form, Refusal};
+///
+/// let password = br#"{"kty":"oct","k":"Y29ycmVjdCBob3JzZQ","alg":"PBES2-HS256+A128KW"}"#;
+/// let object = encrypt(password, br#"{"protected":{"p2c":1000}}"#, Form::Compact, b"secret")?;
+/// assert_eq!(decrypt_with_iterations(password, &object, None, 1000)?, b"secret");
+/// assert_eq!(decrypt_with_iterations(password, &object, None, 999), Err(Refusal::Limit));
+/// assert_eq!(decrypt(password, &object, None), Err(Refusal::Limit));
+/// # Ok::<(), Refusal>(())
+/// ```
+pub fn decrypt_with_iterations(
+    keys: &[u8],
+    object: &[u8],
+    ciphertext: Option<&[u8]>,
+    iterations: u64,
+) -> Result<Vec<u8>, Refusal> {
     let room = rooms::decrypt(object.len(), length_of(ciphertext));
     answer(room, |place| {
-        calls::decrypt(keys, object, ciphertext, place)
+        calls::decrypt(keys, object, ciphertext, iterations, place)
     })
 }
 
-/// Writes a signed object in this form (RFC 7515 section 7). It sees no key and verifies nothing.
+/// Writes a signed object in this form (RFC 7515 section 7). It sees no key and verifies nothing. Unknown members are left out.
 ///
 /// The payload is `None` if it is in the object. A payload that is kept apart is handed in, and becomes part of the object.
 ///
@@ -348,7 +467,7 @@ pub fn format_signed(
 
 /// Writes a signed object in this form without its payload, and returns it and the payload (RFC 7515 appendix F). It verifies nothing.
 ///
-/// The arguments and the refusals are those of [`format_signed`].
+/// The rest is as for [`format_signed`].
 ///
 /// ```
 /// use lakhdzeva::{format_signed_detached, Form, Refusal};
@@ -371,7 +490,7 @@ pub fn format_signed_detached(
     })
 }
 
-/// Writes an encrypted object in this form (RFC 7516 section 7). It sees no key and decrypts nothing.
+/// Writes an encrypted object in this form (RFC 7516 section 7). It sees no key and decrypts nothing. Unknown members are left out.
 ///
 /// The ciphertext is `None` if it is in the object. A ciphertext that is kept apart is handed in, and becomes part of the object.
 ///
@@ -401,7 +520,7 @@ pub fn format_encrypted(
 
 /// Writes an encrypted object in this form without its ciphertext, and returns it and the ciphertext. It decrypts nothing.
 ///
-/// The arguments and the refusals are those of [`format_encrypted`].
+/// The rest is as for [`format_encrypted`].
 ///
 /// ```
 /// use lakhdzeva::{decrypt, encrypt, format_encrypted_detached, generate, Form, Refusal};

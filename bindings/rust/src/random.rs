@@ -7,7 +7,8 @@ unsafe extern "C" {
     fn getrandom(place: *mut c_void, length: usize, flags: c_uint) -> isize;
 }
 
-/// Fills the place with random octets, and returns whether the system gave them.
+/// Fills the place with random octets, and returns whether the system gave them. A draw that was interrupted is made again, and one that
+/// gives nothing has failed.
 pub(crate) fn draw(place: &mut [u8]) -> bool {
     let mut drawn = 0;
     while drawn < place.len() {
@@ -16,6 +17,7 @@ pub(crate) fn draw(place: &mut [u8]) -> bool {
         // borrowed for the call. The function writes at most so many octets there, and keeps no pointer.
         let got = unsafe { getrandom(rest.as_mut_ptr().cast(), rest.len(), 0) };
         match usize::try_from(got) {
+            Ok(0) => return false,
             Ok(count) => drawn += count,
             Err(_) if Error::last_os_error().kind() == ErrorKind::Interrupted => {}
             Err(_) => return false,

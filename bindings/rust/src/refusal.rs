@@ -5,46 +5,48 @@ use std::fmt;
 ///
 /// If several causes apply, the first in the order of the library's specification is reported.
 #[derive(Clone, Copy, Debug, PartialEq, Eq, Hash)]
-#[repr(u32)]
 pub enum Refusal {
     /// The arguments are not allowed. No function of this crate returns it.
-    Usage = 1,
+    Usage,
     /// An input failed. No function of this crate returns it.
-    Read = 2,
+    Read,
     /// A place is too small. No function of this crate returns it.
-    Write = 3,
+    Write,
     /// An allocation failed.
-    Memory = 4,
+    Memory,
     /// The system gave no random octets.
-    Random = 5,
+    Random,
     /// A text that must be base64url is not.
-    Base64 = 6,
+    Base64,
     /// A text that must be JSON is not.
-    Json = 7,
+    Json,
     /// A JSON number has a fraction, an exponent or more than 64 bits, or is `-0`.
-    Number = 8,
-    /// The text is not a valid octet key, the set has no such key, or the template for a key is invalid.
-    Key = 9,
+    Number,
+    /// The text is not a valid octet key, the set has no such key, or the template for a key is invalid. For
+    /// [`verify_all`](crate::verify_all) it is also another number of keys, and two keys that sign alike.
+    Key,
     /// Members are missing, have the wrong type or are not allowed together, or the number of parts is wrong.
-    Form = 10,
+    Form,
     /// A header member is missing or wrong.
-    Header = 11,
+    Header,
     /// An algorithm, `crit` or `zip` is not supported.
-    Unsupported = 12,
+    Unsupported,
     /// Nothing names or implies the algorithm or the size.
-    NoAlgorithm = 13,
+    NoAlgorithm,
     /// The length, `alg`, `use` or `key_ops` of the key does not fit.
-    KeyDoesNotFit = 14,
+    KeyDoesNotFit,
     /// A limit is exceeded: keys, recipients, iterations or nesting.
-    Limit = 15,
+    Limit,
     /// Compact form cannot hold the object.
-    NotCompact = 16,
+    NotCompact,
     /// No key verifies the object, or no key decrypts it.
-    NotOpened = 17,
+    NotOpened,
+    /// A number that this crate does not know. Only another version of the library gives it.
+    Unknown(u32),
 }
 
 impl Refusal {
-    /// All refusals, in the order of their numbers.
+    /// All refusals that this crate knows, in the order of their numbers, which begin at 1.
     const ALL: [Refusal; 17] = [
         Refusal::Usage,
         Refusal::Read,
@@ -68,7 +70,26 @@ impl Refusal {
     /// The number of the refusal, from 1 to 17.
     #[must_use]
     pub const fn number(self) -> u32 {
-        self as u32
+        match self {
+            Refusal::Usage => 1,
+            Refusal::Read => 2,
+            Refusal::Write => 3,
+            Refusal::Memory => 4,
+            Refusal::Random => 5,
+            Refusal::Base64 => 6,
+            Refusal::Json => 7,
+            Refusal::Number => 8,
+            Refusal::Key => 9,
+            Refusal::Form => 10,
+            Refusal::Header => 11,
+            Refusal::Unsupported => 12,
+            Refusal::NoAlgorithm => 13,
+            Refusal::KeyDoesNotFit => 14,
+            Refusal::Limit => 15,
+            Refusal::NotCompact => 16,
+            Refusal::NotOpened => 17,
+            Refusal::Unknown(number) => number,
+        }
     }
 
     /// The name of the refusal, such as `NotOpened`.
@@ -92,6 +113,7 @@ impl Refusal {
             Refusal::Limit => "Limit",
             Refusal::NotCompact => "NotCompact",
             Refusal::NotOpened => "NotOpened",
+            Refusal::Unknown(_) => "Unknown",
         }
     }
 
@@ -100,7 +122,7 @@ impl Refusal {
         match status {
             0 => Ok(()),
             1..=17 => Err(Refusal::ALL[status as usize - 1]),
-            other => panic!("liblakhdzeva returned status {other}, which this crate does not know"),
+            other => Err(Refusal::Unknown(other)),
         }
     }
 }

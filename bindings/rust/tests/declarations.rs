@@ -49,6 +49,7 @@ fn in_c(text: &str) -> (String, String) {
         "size_t *" => "*mut usize",
         "size_t" => "usize",
         "uint32_t" => "u32",
+        "uint64_t" => "u64",
         "bool" => "bool",
         other => panic!("{other}"),
     };
@@ -69,7 +70,7 @@ fn the_functions_are_those_of_the_header() {
     let calls = fs::read_to_string(near("src/calls.rs")).unwrap();
     let header = functions(&header, "\nuint32_t lakhdzeva_core_", ");", in_c);
     let calls = functions(&calls, "    fn lakhdzeva_core_", ") -> u32;", in_rust);
-    assert_eq!(calls.len(), 9);
+    assert_eq!(calls.len(), 11);
     assert_eq!(calls, header);
 }
 

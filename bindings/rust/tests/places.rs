@@ -136,8 +136,12 @@ fn answers_of_one_place_keep_to_it() {
         calls::verify(RFC7515_KEY, RFC7515_A1, false, payload)
     });
     assert_eq!(payload, RFC7515_PAYLOAD);
+    let payload = check_one("verify_all", &|payload| {
+        calls::verify_all(RFC7515_KEY, 1, RFC7515_A1, payload)
+    });
+    assert_eq!(payload, RFC7515_PAYLOAD);
     let plaintext = check_one("decrypt", &|plaintext| {
-        calls::decrypt(RFC7516_KEY, RFC7516_A3, None, plaintext)
+        calls::decrypt(RFC7516_KEY, RFC7516_A3, None, 0, plaintext)
     });
     assert_eq!(plaintext, RFC7516_PLAINTEXT);
 }
@@ -198,9 +202,17 @@ fn a_refused_call_leaves_its_places() {
     refuses_one("verify", 17, &|payload| {
         calls::verify(other.as_bytes(), RFC7515_A1, false, payload)
     });
+    refuses_one("verify_all", 17, &|payload| {
+        calls::verify_all(other.as_bytes(), 1, RFC7515_A1, payload)
+    });
+    for signers in [0, 2, usize::MAX] {
+        refuses_one("verify_all", 9, &|payload| {
+            calls::verify_all(RFC7515_KEY, signers, RFC7515_A1, payload)
+        });
+    }
     let other = key_of('A', 22);
     refuses_one("decrypt", 17, &|plaintext| {
-        calls::decrypt(other.as_bytes(), RFC7516_A3, None, plaintext)
+        calls::decrypt(other.as_bytes(), RFC7516_A3, None, 0, plaintext)
     });
     refuses("format_signed", 10, &|text, content| {
         calls::format_signed(b"a.b", None, true, true, text, content)
@@ -281,7 +293,7 @@ fn an_absent_content_is_not_an_empty_one() {
     let (object, ciphertext) = encrypt_detached(key, b"{}", Form::Json, b"").unwrap();
     assert_eq!(ciphertext, b"");
     refuses_one("decrypt", 10, &|plaintext| {
-        calls::decrypt(key, &object, None, plaintext)
+        calls::decrypt(key, &object, None, 0, plaintext)
     });
     assert_eq!(lakhdzeva::decrypt(key, &object, Some(b"")).unwrap(), b"");
 }

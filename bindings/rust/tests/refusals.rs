@@ -199,6 +199,7 @@ fn a_refusal_is_written_as_its_number_and_name() {
         assert_eq!(refusal.to_string(), text);
         assert_eq!(format!("{} {}", refusal.number(), refusal.name()), text);
     }
+    assert_eq!(Refusal::Unknown(18).to_string(), "18 Unknown");
     let fault: Box<dyn std::error::Error> = Box::new(Refusal::NotOpened);
     assert_eq!(fault.to_string(), "17 NotOpened");
 }

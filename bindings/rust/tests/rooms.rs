@@ -161,7 +161,7 @@ fn encrypted_in_its_rooms(keys: &str, template: &str, count: usize) {
             )
             .unwrap();
             assert!(object.len() <= room, "{template} {content}");
-            let opened = decrypt(keys.as_bytes(), &object, None).unwrap();
+            let opened = decrypt_with_iterations(keys.as_bytes(), &object, None, 1000).unwrap();
             assert!(opened.len() <= rooms::decrypt(object.len(), 0));
         }
         let room = rooms::encrypt(keys.len(), template.len(), 0);
@@ -207,4 +207,19 @@ fn objects_in_other_forms() {
     let text = format_encrypted(encrypted, None, Form::Json).unwrap();
     assert!(text.len() > encrypted.len());
     assert!(text.len() <= rooms::format(encrypted.len(), 0));
+}
+
+#[test]
+fn a_room_is_not_many_times_the_length_of_the_answer() {
+    // A signature repeats the template, and a recipient does not.
+    let template = format!(r#"{{"protected":{{"b":1{}}}}}"#, long_member(100_000));
+    let (signing, wrapping) = (key_of('A', 86), key_of('A', 43));
+    for count in [1, 20, 64] {
+        let keys = copies(&signing, count);
+        let object = sign(keys.as_bytes(), template.as_bytes(), Form::Json, b"").unwrap();
+        assert!(rooms::sign(keys.len(), template.len(), 0) < 3 * object.len());
+        let keys = copies(&wrapping, count);
+        let object = encrypt(keys.as_bytes(), template.as_bytes(), Form::Json, b"").unwrap();
+        assert!(rooms::encrypt(keys.len(), template.len(), 0) < 3 * object.len());
+    }
 }

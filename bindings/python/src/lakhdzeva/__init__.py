@@ -6,19 +6,32 @@
     token = lakhdzeva.sign(key, b"replicas: 3")
     assert lakhdzeva.verify(key, token) == b"replicas: 3"
 
-The shared library ``liblakhdzeva.so.2`` does the work. This module passes octets to it and decides nothing.
+The shared library ``liblakhdzeva.so.3`` does the work. This module passes octets to it and decides nothing.
 
 - ``keys`` is one key, or a set of keys. A key is a dict. A set is a list of keys, or a dict with ``keys``. Keys can also be a JSON text
   (``str`` or ``bytes``), which is passed as it is.
 - ``wanted`` is the template that says what is wanted: a dict or a JSON text. ``None`` means ``{}``, which lets the keys decide.
 - A token is a ``str``, ``bytes``, or the dict of its JSON form. A function that makes a token returns a ``str``.
 - A payload, a plaintext and a ciphertext are octets: ``bytes``, ``bytearray`` or ``memoryview``.
+- A flag is ``True`` or ``False``, and nothing else that is true or false. A number is an ``int``.
 
-A refusal of the library is an exception, ``Refused``. An argument of another type is a ``TypeError``. A dict that ``json.dumps`` cannot
-write, such as one with a NaN, raises the exception of ``json.dumps``.
+A value of a class that is derived from one of these types counts as its built-in content: its own methods are not called.
+
+A refusal of the library is an exception, ``Refused``. An argument of another type is a ``TypeError``. A dict that cannot be written as JSON
+raises a ``TypeError``, a ``ValueError`` (such as one with a NaN) or a ``RecursionError`` (such as one that holds itself).
+
+What to mind with every function:
+
+- All keys are shared secrets: whoever can verify can also sign, and whoever can decrypt can also encrypt.
+- A key without ``alg`` is used for each algorithm that takes its length. So write ``alg`` and ``key_ops`` into each key.
+- The member ``kid`` never selects a key: each key that you pass is tried.
+- If a name is repeated in a JSON object, the last one counts.
+- An object takes at most 8 times its length in memory, and JSON of many small objects 270 times. So limit the length of a stranger's text.
+- Memory that held keys and plaintext is not wiped, and the timing of AES, which uses tables, depends on the key.
 
 The module has no state. Any number of threads may call its functions, and they run at the same time. A thread needs 256 KiB of stack,
-which ``threading.stack_size`` can set too low. ``kid`` selects no key, and ``exp`` and other claims of a token are not checked.
+which ``threading.stack_size`` can set too low. Nothing ends a call before it returns: an exception of a signal handler, such as
+``KeyboardInterrupt``, comes after the call. C code of yours must not jump out of a call (``siglongjmp``), or cancel its thread.
 """
 
 from __future__ import annotations
@@ -26,7 +39,8 @@ from __future__ import annotations
 import ctypes
 import json
 import os
-from ctypes import byref, c_bool, c_char, c_char_p, c_size_t, c_uint32, c_void_p
+import sys
+from ctypes import byref, c_bool, c_char, c_char_p, c_size_t, c_uint32, c_uint64, c_void_p
 from pathlib import Path
 from typing import Any, Dict, List, Literal, Optional, Tuple, Union, overload
 
@@ -41,6 +55,7 @@ __all__ = [
     "thumbprint",
     "thumbprints",
     "verify",
+    "verify_all",
 ]
 
 Json = Union[Dict[str, Any], str, bytes]
@@ -107,12 +122,14 @@ class Refused(Exception):
 
 # ---- The shared library
 
-_SONAME = "liblakhdzeva.so.2"
+_SONAME = "liblakhdzeva.so.3"
 
 
 def _load() -> ctypes.CDLL:
     beside = _HERE / _SONAME
-    name = os.environ.get("LAKHDZEVA_LIBRARY") or (str(beside) if beside.is_file() else _SONAME)
+    # As with Python's own variables, `python3 -E` and `python3 -I` do not read it.
+    named = None if sys.flags.ignore_environment else os.environ.get("LAKHDZEVA_LIBRARY")
+    name = named or (str(beside) if beside.is_file() else _SONAME)
     try:
         return ctypes.CDLL(name)
     except OSError as error:
@@ -129,7 +146,7 @@ def _function(name: str, *arguments: Any) -> Any:
     try:
         function = getattr(_LIBRARY, "lakhdzeva_core_" + name)
     except AttributeError as error:
-        raise ImportError(f"{_LIBRARY._name} is not version 2 of the shared library of lakhdzeva: {error}") from error
+        raise ImportError(f"{_LIBRARY._name} is not version 3 of the shared library of lakhdzeva: {error}") from error
     function.argtypes = arguments
     function.restype = c_uint32
     return function
@@ -144,9 +161,11 @@ _thumbprints = _function("thumbprints", *_TEXT, c_uint32, *_PLACE)
 _sign = _function("sign", *_TEXT, *_TEXT, c_bool, c_bool, *_TEXT, *_PLACE)
 _verify = _function("verify", *_TEXT, *_TEXT, c_bool, *_PLACE)
 _verify_detached = _function("verify_detached", *_TEXT, *_TEXT, c_bool, *_TEXT)
+_verify_all = _function("verify_all", *_TEXT, c_size_t, *_TEXT, *_PLACE)
+_verify_all_detached = _function("verify_all_detached", *_TEXT, c_size_t, *_TEXT, *_TEXT)
 _format_signed = _function("format_signed", *_TEXT, c_bool, *_TEXT, c_bool, c_bool, *_PLACE, *_PLACE)
 _encrypt = _function("encrypt", *_TEXT, *_TEXT, c_bool, c_bool, *_TEXT, *_TEXT, *_PLACE, *_PLACE)
-_decrypt = _function("decrypt", *_TEXT, *_TEXT, c_bool, *_TEXT, *_PLACE)
+_decrypt = _function("decrypt", *_TEXT, *_TEXT, c_bool, *_TEXT, c_uint64, *_PLACE)
 _format_encrypted = _function("format_encrypted", *_TEXT, c_bool, *_TEXT, c_bool, c_bool, *_PLACE, *_PLACE)
 
 # An array of no octets leads to the first octet of any place. One type for all lengths saves the time to make a type for each length.
@@ -199,9 +218,14 @@ def _both_written(function: Any, arguments: Tuple[Any, ...], room: int, content_
 # ---- Rooms, and random octets, as in lakhdzeva.h
 
 
-def _most_keys(keys: int) -> int:
-    """The most keys that a text of this length can have."""
-    return min(keys // 20 + 1, 64)
+# The least octets of the text of a key: {"k":"AA","kty":"oct"}. One that signs has 32 octets or more, which are 43 characters.
+_LEAST_KEY = 22
+_LEAST_SIGNING_KEY = 63
+
+
+def _most_keys(keys: int, each: int = _LEAST_KEY) -> int:
+    """The most keys that a text of this length can have, if each takes at least so many octets."""
+    return min(keys // each + 1, 64)
 
 
 def _base64(octets: int) -> int:
@@ -218,11 +242,11 @@ def _thumbprints_room(keys: int) -> int:
 
 
 def _sign_room(keys: int, wanted: int, payload: int) -> int:
-    return _base64(payload) + _most_keys(keys) * (wanted + _base64(wanted + 32) + 192)
+    return _base64(payload) + _most_keys(keys, _LEAST_SIGNING_KEY) * (_base64(wanted + 32) + 192)
 
 
 def _encrypt_room(keys: int, wanted: int, plaintext: int) -> int:
-    return _base64(plaintext + 16) + (_most_keys(keys) + 2) * (wanted + _base64(wanted + 192) + 256)
+    return _base64(plaintext + 16) + _base64(wanted + 192) + (_most_keys(keys) + 2) * 256
 
 
 def _ciphertext_room(plaintext: int) -> int:
@@ -243,45 +267,91 @@ def _draw(length: int) -> bytes:
 
 # ---- Arguments
 
+# A class that is derived from a built-in one can have a `__len__`, an `encode` or an `items` of its own, which need not fit what it holds.
+# So a value of such a class is copied by the methods of the built-in class, which see what it holds. `type` and `issubclass` ask no
+# `__class__`.
+
 # Floats are written, and the library refuses them.
 _dump = json.JSONEncoder(ensure_ascii=False, allow_nan=False, separators=(",", ":")).encode
+_WHOLE = slice(None)
+# The greatest number that the library takes. A greater one means the same.
+_MOST = 2**64 - 1
 
 
 def _encoded(text: str) -> bytes:
     # A lone surrogate becomes octets that are not UTF-8, which the library refuses.
-    return text.encode("utf-8", "surrogatepass")
+    return str.encode(text, "utf-8", "surrogatepass")
 
 
-def _json(name: str, value: Json) -> bytes:
-    if isinstance(value, dict):
-        return _encoded(_dump(value))
-    if isinstance(value, str):
+def _plain(value: Any) -> Any:
+    """The value of JSON, made of built-in classes alone."""
+    kind = type(value)
+    if issubclass(kind, str):
+        return str.__str__(value)
+    if issubclass(kind, dict):
+        return {_plain(name): _plain(member) for name, member in dict.items(value)}
+    if issubclass(kind, list):
+        return [_plain(member) for member in list.__iter__(value)]
+    if issubclass(kind, tuple):
+        return [_plain(member) for member in tuple.__iter__(value)]
+    if issubclass(kind, int) and kind is not bool:
+        return int.__index__(value)
+    if issubclass(kind, float):
+        return float.__float__(value)
+    return value
+
+
+def _json(name: str, value: Any) -> bytes:
+    kind = type(value)
+    if issubclass(kind, dict):
+        return _encoded(_dump(_plain(value)))
+    if issubclass(kind, str):
         return _encoded(value)
-    if isinstance(value, bytes):
-        return value
-    raise TypeError(f"{name} must be a dict, str or bytes, not {type(value).__name__}")
+    if issubclass(kind, bytes):
+        return bytes.__getitem__(value, _WHOLE)
+    raise TypeError(f"{name} must be a dict, str or bytes, not {kind.__name__}")
 
 
-def _keys(value: Keys) -> bytes:
-    if isinstance(value, list):
-        return _encoded(_dump({"keys": value}))
-    if isinstance(value, (dict, str, bytes)):
+def _keys(value: Any) -> bytes:
+    kind = type(value)
+    if issubclass(kind, list):
+        return _encoded(_dump({"keys": _plain(value)}))
+    if issubclass(kind, (dict, str, bytes)):
         return _json("keys", value)
-    raise TypeError(f"keys must be a dict, a list of dicts, str or bytes, not {type(value).__name__}")
+    raise TypeError(f"keys must be a dict, a list of dicts, str or bytes, not {kind.__name__}")
 
 
 def _wanted(value: Optional[Json]) -> bytes:
     return b"{}" if value is None else _json("wanted", value)
 
 
-def _octets(name: str, value: Octets) -> bytes:
-    if isinstance(value, bytes):
-        return value
-    if isinstance(value, (bytearray, memoryview)):
+def _octets(name: str, value: Any) -> bytes:
+    kind = type(value)
+    if issubclass(kind, bytes):
+        return bytes.__getitem__(value, _WHOLE)
+    if kind is bytearray or kind is memoryview:
         return bytes(value)  # A copy, because another thread can change the value during the call.
-    if isinstance(value, str):
+    if issubclass(kind, bytearray):
+        return bytes(bytearray.__getitem__(value, _WHOLE))
+    if issubclass(kind, str):
         raise TypeError(f"{name} must be octets, not str: encode it, for example with {name}.encode()")
-    raise TypeError(f"{name} must be bytes, bytearray or memoryview, not {type(value).__name__}")
+    raise TypeError(f"{name} must be bytes, bytearray or memoryview, not {kind.__name__}")
+
+
+def _flag(name: str, value: Any) -> bool:
+    if value is True or value is False:
+        return value
+    raise TypeError(f"{name} must be True or False, not of type {type(value).__name__}")
+
+
+def _number(name: str, value: Any) -> int:
+    kind = type(value)
+    if not issubclass(kind, int) or kind is bool:
+        raise TypeError(f"{name} must be an int, not {kind.__name__}")
+    number = int.__index__(value)
+    if number < 0:
+        raise ValueError(f"{name} must not be negative")
+    return min(number, _MOST)
 
 
 # ---- Keys
@@ -312,21 +382,21 @@ def generate(wanted: Optional[Json] = None) -> Dict[str, Any]:
 def thumbprints(keys: Keys, hash: Hash = "S256") -> List[str]:
     """Returns the thumbprints (RFC 7638) of the good keys of a set, in order. ``hash`` is ``S224``, ``S256``, ``S384`` or ``S512``.
 
+    The thumbprint of a password is not safe to publish: it lets anyone test guesses.
+
     Refusals: Usage for another hash, Json, Number, Key, Limit, Memory.
     """
-    if not isinstance(hash, str):
+    if not issubclass(type(hash), str):
         raise TypeError(f"hash must be a str, not {type(hash).__name__}")
     text = _keys(keys)
-    bits = {"S224": 224, "S256": 256, "S384": 384, "S512": 512}.get(hash, 0)
+    bits = {"S224": 224, "S256": 256, "S384": 384, "S512": 512}.get(str.__str__(hash), 0)
     return _written(_thumbprints, (text, len(text), bits), _thumbprints_room(len(text))).text().split("\n")
 
 
 def thumbprint(key: Json, hash: Hash = "S256") -> str:
     """Returns the thumbprint (RFC 7638) of one key. A set with more than one good key is a ValueError.
 
-    The thumbprint of a password is not safe to publish: it lets anyone test guesses.
-
-    Refusals: those of ``thumbprints``.
+    The rest is as for ``thumbprints``.
     """
     lines = thumbprints(_json("key", key), hash)
     if len(lines) > 1:
@@ -337,6 +407,17 @@ def thumbprint(key: Json, hash: Hash = "S256") -> str:
 # ---- Signed tokens
 
 
+def _verified(function: Any, detached: Any, arguments: Tuple[Any, ...], room: int, payload: Optional[Octets]) -> bytes:
+    """Calls the function, or with a payload that is handed in the one for it, and returns the payload that was verified."""
+    if payload is None:
+        return _written(function, arguments, room).content()
+    octets = _octets("payload", payload)
+    status = detached(*arguments, octets, len(octets))
+    if status:
+        raise Refused(status)
+    return octets
+
+
 def sign(keys: Keys, payload: Octets, wanted: Optional[Json] = None, *, compact: bool = True, detach: bool = False) -> str:
     """Signs the payload with each of the keys (RFC 7515, section 5.1) and returns the token.
 
@@ -344,32 +425,58 @@ def sign(keys: Keys, payload: Octets, wanted: Optional[Json] = None, *, compact:
     length decides. Compact form holds one signature. JSON form (``compact=False``) holds one for each key. With ``detach`` the token
     does not contain the payload (appendix F).
 
+    The payload is in the token as it is, and not secret. ``header`` in the template is a header that is not signed.
+
     Refusals: Json, Number, Key and Limit for bad keys; Json, Number, Form, Header and Unsupported for a bad template; NoAlgorithm,
     KeyDoesNotFit, Limit, NotCompact, Memory.
     """
     text, template, octets = _keys(keys), _wanted(wanted), _octets("payload", payload)
-    arguments = (text, len(text), template, len(template), compact, detach, octets, len(octets))
+    arguments = (text, len(text), template, len(template), _flag("compact", compact), _flag("detach", detach), octets, len(octets))
     return _written(_sign, arguments, _sign_room(len(text), len(template), len(octets))).text()
 
 
 def verify(keys: Keys, token: Json, *, all: bool = False, payload: Optional[Octets] = None) -> bytes:
     """Verifies a signed token (RFC 7515, section 5.2) and returns its payload.
 
-    One of the keys must have made one of the signatures. With ``all`` each good key must have made one. ``payload`` is the payload if the
-    token does not contain it (appendix F), and is then returned. The keys say whom you trust: never take them from the token.
+    One of the keys must have made one of the signatures. ``payload`` is the payload if the token does not contain it (appendix F), and is
+    then returned. The keys say whom you trust: never take them from the token.
+
+    - With ``all`` each good key must have made a signature. It passes over bad keys, and takes one signature for two keys that sign alike.
+      So for a rule such as "Ann and Bob must both sign" call ``verify_all``.
+    - It judges no claims, such as ``exp`` of a JWT.
+    - An old token verifies too, so put a number or a date into what you sign.
+    - One token has many texts: to revoke it, list an id in its payload, and not its text.
+    - In JSON form a header can be unsigned, or belong to a signature that none of your keys made: if a header matters, accept only compact
+      form.
+    - It computes an HMAC of the payload for each key, algorithm and protected header, at most 256 times 64: limit the length of what
+      strangers send.
 
     Refusals: Json, Number, Key and Limit for bad keys; Json, Number, Form, Limit, Base64, Header and Unsupported for a bad token;
     KeyDoesNotFit if no key may verify a signature; NotOpened if no signature is right; Memory.
     """
     text, object_ = _keys(keys), _json("token", token)
-    arguments = (text, len(text), object_, len(object_), all)
-    if payload is None:
-        return _written(_verify, arguments, len(object_)).content()
-    octets = _octets("payload", payload)
-    status = _verify_detached(*arguments, octets, len(octets))
-    if status:
-        raise Refused(status)
-    return octets
+    arguments = (text, len(text), object_, len(object_), _flag("all", all))
+    return _verified(_verify, _verify_detached, arguments, len(object_), payload)
+
+
+def verify_all(keys: Keys, signers: int, token: Json, *, payload: Optional[Octets] = None) -> bytes:
+    """Verifies that each key of the set signed the token, and returns its payload. The set has exactly ``signers`` keys.
+
+    It is for rules about people, such as "Ann and Bob must both sign". A bad key is refused as by ``sign``. Two keys that sign alike are
+    refused too: HMAC fills a short key with zeros and hashes a long one (RFC 2104), so keys that differ can make the same signatures.
+
+    - Use one call for one rule: two calls with two sets both succeed by one signature, if its key is in both sets.
+    - It counts keys, not people: whoever has two keys signs for two. So let each person compare the thumbprint of his key.
+    - The host that verifies has all keys, so it could sign as well.
+
+    The rest is as for ``verify``.
+
+    Refusals: Json, Number, Key and Limit for bad keys; Key for another number of keys, and for two that sign alike; Json, Number, Form,
+    Limit, Base64, Header and Unsupported for a bad token; NotOpened unless each key made a signature; Memory.
+    """
+    text, number, object_ = _keys(keys), _number("signers", signers), _json("token", token)
+    arguments = (text, len(text), number, object_, len(object_))
+    return _verified(_verify_all, _verify_all_detached, arguments, len(object_), payload)
 
 
 # ---- Encrypted tokens
@@ -402,10 +509,18 @@ def encrypt(
     or its length decides. Compact form holds one recipient. JSON form (``compact=False``) holds one for each key. With ``detach`` the
     token does not contain the ciphertext, and the answer is the token and the ciphertext.
 
+    - The recipients share its random key, so each of them can put another plaintext into the token.
+    - When a host leaves, make a new key for each recipient that stays.
+    - Without an ``alg``, a password of 16, 24 or 32 octets is used as a key itself, without iterations.
+    - A password takes 100,000 iterations, or ``p2c`` of the template: name 600,000 there for one password.
+    - Use a key for at most 2^32 tokens with AES-GCM key wrap, or with ``dir`` and a GCM.
+    - In the template ``unprotected`` is a header that is not authenticated, and ``aad`` is a text that everyone can read.
+
     Refusals: Json, Number, Key and Limit for bad keys; Json, Number, Form, Base64, Header and Unsupported for a bad template;
     NoAlgorithm, KeyDoesNotFit, Limit, NotCompact, Random, Memory.
     """
     text, template, octets = _keys(keys), _wanted(wanted), _octets("plaintext", plaintext)
+    compact, detach = _flag("compact", compact), _flag("detach", detach)
     # A content encryption key has at most 64 octets, an initialization vector 16, and a recipient draws at most 16.
     random = _draw(80 + 16 * _most_keys(len(text)))
     token, ciphertext = _both_written(
@@ -417,17 +532,30 @@ def encrypt(
     return (token.text(), ciphertext.content()) if detach else token.text()
 
 
-def decrypt(keys: Keys, token: Json, *, ciphertext: Optional[Octets] = None) -> bytes:
+def decrypt(keys: Keys, token: Json, *, ciphertext: Optional[Octets] = None, iterations: int = 0) -> bytes:
     """Decrypts an encrypted token with one of the keys (RFC 7516, section 5.2) and returns the plaintext.
 
-    ``ciphertext`` is the ciphertext if the token does not contain it. A password costs ``p2c`` iterations for each recipient that it fits.
+    ``ciphertext`` is the ciphertext if the token does not contain it. ``iterations`` is the most iterations of PBKDF2 that the call may make
+    in all. With 0 no password is tried.
+
+    - A token names its iterations itself, so a stranger's costs seconds: 2,000,000 for each recipient, and 16,000,000 in all. A greater
+      number means 16,000,000.
+    - The sum counts each recipient with each key that fits. If it is above the number, the call is ``15 Limit``, before any derivation.
+    - A password may have any length, so every key without ``alg`` fits. Give each key an ``alg``: then one that is no password costs no
+      iteration.
+    - Name 600,000 for one password of today's recommendation.
+    - The recipients share its random key, so each of them can put another plaintext into the token.
+    - A malicious writer can make a token that opens to two plaintexts for two recipients.
+    - It notices a changed ``aad``, but does not judge its text.
+    - Each pair of a recipient and a key that fits can cost a pass over the ciphertext, at most 256 times 64. An attacker without a key can
+      cause many of them: limit the length of strangers' objects.
 
     Refusals: Json, Number, Key and Limit for bad keys; Json, Number, Form, Limit, Base64, Header and Unsupported for a bad token;
     KeyDoesNotFit if no key may decrypt; Limit for too many iterations; NotOpened if no key decrypts; Memory.
     """
-    text, object_ = _keys(keys), _json("token", token)
+    text, object_, most = _keys(keys), _json("token", token), _number("iterations", iterations)
     octets = b"" if ciphertext is None else _octets("ciphertext", ciphertext)
-    arguments = (text, len(text), object_, len(object_), ciphertext is not None, octets, len(octets))
+    arguments = (text, len(text), object_, len(object_), ciphertext is not None, octets, len(octets), most)
     return _written(_decrypt, arguments, max(len(object_), len(octets))).content()
 
 
@@ -438,6 +566,7 @@ def _formatted(
     function: Any, name: str, token: Json, compact: bool, detach: bool, content: Optional[Octets]
 ) -> Union[str, Tuple[str, bytes]]:
     object_ = _json("token", token)
+    compact, detach = _flag("compact", compact), _flag("detach", detach)
     octets = b"" if content is None else _octets(name, content)
     text, detached = _both_written(
         function,
@@ -465,7 +594,8 @@ def format_signed(
 def format_signed(
     token: Json, *, compact: bool = False, detach: bool = False, payload: Optional[Octets] = None
 ) -> Union[str, Tuple[str, bytes]]:
-    """Writes a signed token in JSON form, or in compact form (RFC 7515, section 7). It sees no key and verifies nothing.
+    """Writes a signed token in JSON form, or in compact form (RFC 7515, section 7). It sees no key and verifies nothing. Unknown members are
+    left out.
 
     ``payload`` is the payload if the token does not contain it. With ``detach`` the answer is the token without its payload, and the payload.
 
@@ -495,7 +625,8 @@ def format_encrypted(
 def format_encrypted(
     token: Json, *, compact: bool = False, detach: bool = False, ciphertext: Optional[Octets] = None
 ) -> Union[str, Tuple[str, bytes]]:
-    """Writes an encrypted token in JSON form, or in compact form (RFC 7516, section 7). It sees no key and decrypts nothing.
+    """Writes an encrypted token in JSON form, or in compact form (RFC 7516, section 7). It sees no key and decrypts nothing. Unknown members
+    are left out.
 
     ``ciphertext`` is the ciphertext if the token does not contain it. With ``detach`` the answer is the token without its ciphertext, and
     the ciphertext.

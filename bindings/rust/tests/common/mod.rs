@@ -35,3 +35,15 @@ pub fn set_of(keys: &[String]) -> String {
 pub fn copies(key: &str, count: usize) -> String {
     set_of(&vec![key.to_string(); count])
 }
+
+/// The payload `hello` with two signatures by HS256, of RFC7515_KEY and of OTHER_KEY, and each of the signatures alone. They were computed by
+/// Python's hmac.
+pub const OTHER_KEY: &str = r#"{"kty":"oct","k":"AAECAwQFBgcICQoLDA0ODxAREhMUFRYXGBkaGxwdHh8"}"#;
+pub const SIGNED_BY_BOTH: &[u8] = br#"{"payload":"aGVsbG8","signatures":[{"protected":"eyJhbGciOiJIUzI1NiJ9","signature":"pur8xtpo-CYwFPNiDHtqt37DXGhHwv8IXKkOQymMa-Y"},{"protected":"eyJhbGciOiJIUzI1NiJ9","signature":"0gXhFJy9tQ17YbeQRi9CaFNoGQWTk66Alugo1jcHzKo"}]}"#;
+pub const SIGNED_BY_ONE: &[u8] =
+    b"eyJhbGciOiJIUzI1NiJ9.aGVsbG8.pur8xtpo-CYwFPNiDHtqt37DXGhHwv8IXKkOQymMa-Y";
+pub const SIGNED_BY_OTHER: &[u8] =
+    b"eyJhbGciOiJIUzI1NiJ9.aGVsbG8.0gXhFJy9tQ17YbeQRi9CaFNoGQWTk66Alugo1jcHzKo";
+
+/// A stranger's object, which asks for 2,000,000 iterations: {"alg":"PBES2-HS256+A128KW","p2s":"AAAAAAAAAAA","p2c":2000000,"enc":"A128GCM"}.
+pub const COSTLY: &[u8] = b"eyJhbGciOiJQQkVTMi1IUzI1NitBMTI4S1ciLCJwMnMiOiJBQUFBQUFBQUFBQSIsInAyYyI6MjAwMDAwMCwiZW5jIjoiQTEyOEdDTSJ9.AAAAAAAAAAAAAAAAAAAAAAAAAAAAAAAA.AAAAAAAAAAAAAAAA..AAAAAAAAAAAAAAAAAAAAAA";
