@@ -4,13 +4,13 @@ PREFIX ?= /usr/local
 # Checks that the program is the one that `make build` made. A trial of installing sets this to `:` and takes any program.
 BUILT = scripts/compare-build
 
-.PHONY: demo test edits tests-try build static static-try calls definitions definitions-try vectors library bindings ports long faults growth hostile bench pictures pages tour interop latchset dist dist-try install uninstall clean
+.PHONY: demo test edits rows rows-try build static static-try calls definitions definitions-try vectors library bindings ports long faults growth hostile bench pictures pages tour interop latchset dist dist-try install uninstall clean
 
 # Signs and verifies a document, makes a key, encrypts and decrypts a secret, and shows what happens to changed texts and wrong keys.
 demo:
 	@scripts/demo
 
-# Proves every crate from nothing, tries the must-fail edits, and runs the tests and the program. The gate (.ci/run) begins with it. Up to
+# Proves every crate from nothing, tries the must-fail edits, and runs the tests, the rows and the program. The gate (.ci/run) begins with it. Up to
 # three checks run side by side, one per processor.
 test:
 	RT_JOBS=$$(nproc | awk '{ print ($$1 < 3) ? $$1 : 3 }') rt ci
@@ -19,12 +19,16 @@ test:
 edits:
 	@scripts/edits $(CRATES)
 
-# Tries the tests: changes each kind of value that they expect, and compares the tests that then fail with those that must. CRATES names the
-# crates, else all. It proves nothing.
-tests-try:
-	@scripts/tests-try $(CRATES)
+# Tries the rows in crates/rows/data with the program of crate `rows`, which it proves and builds if a source changed. The gate tries them too.
+rows:
+	cd crates/rows && rt run -- $$(cat args)
 
-# Proves the program and the library for C and builds them: crates/jose/out/jose, and liblakhdzeva.a and liblakhdzeva.so.3 in
+# Tries the rows: changes each kind of value that they expect, and compares the rows that then fail with those that must. FILES names files of
+# rows, else all.
+rows-try:
+	@scripts/rows-try $(FILES)
+
+# Proves the program and the library for C and builds them: crates/command/out/command, and liblakhdzeva.a and liblakhdzeva.so.3 in
 # crates/lakhdzeva/out/built.
 build:
 	@scripts/build
@@ -45,13 +49,12 @@ calls:
 	@scripts/calls
 
 # Computes the definitions in specs/ and compares them with values of the standards, of Python and, if it is installed, of its cryptography.
-# Then it computes from them the answers that the tests of crate jose state. It finds a mistake that a definition and the code share. It reads
-# the rows from the tests that `make test` built.
+# Then it computes from them the answers that the rows in crates/rows/data state. It finds a mistake that a definition and the code share.
 definitions:
 	@scripts/definitions
 
 # Tries `make definitions`: plants mistakes in the definitions, each alone and in a copy, and says which comparison or row finds it. It proves
-# nothing, and also reads the rows from the tests that `make test` built.
+# nothing.
 definitions-try:
 	@scripts/definitions-try
 
@@ -99,7 +102,7 @@ pictures:
 
 # Compares the pages and the completions with the program's table of commands and its limits, and the pictures with their figures. It
 # refuses long sentences in the pages for users. It tries the refusals that the pages list, the completions, install and uninstall, and runs
-# shellcheck on the scripts that are installed. A test prints the table: the gate's, or a new unproved one if sources changed.
+# shellcheck on the scripts that are installed.
 pages:
 	@scripts/pages
 	@scripts/pictures --check

@@ -5,7 +5,7 @@ usage: scripts/reached.py           compares and counts; scripts/calls does the 
        scripts/reached.py --list    prints the reached definitions by page, and marks those that cite nothing
        scripts/reached.py --kit     prints the pages of the kit that they use, all the way down, with their lines
 
-The promises are the contract of `run` (crates/jose/src/run.rt), with the traits of its devices, those of the functions for C
+The promises are the contract of `run` (crates/jose/src/entry.rt), with the traits of its devices, those of the functions for C
 (crates/lakhdzeva/src/lib.rt), and the laws of each crate (src/laws.rt). A definition reaches what its type and its equations name, by the `use` lines of its page: other definitions, with records and data, and the
 types of the code, which reach the types of their fields and what their invariants name. The views that contracts have of values of the code
 (`ghost view`) are not followed, and neither are proofs.
@@ -27,7 +27,7 @@ import collections, glob, os, re, shutil, sys
 sys.dont_write_bytecode = True
 from lib.sources import CRATES, ROOT, block_end, fault, faults, read, text_at, tokens_of
 
-RUN = "jose/src/run.rt"
+RUN = "jose/src/entry.rt"
 CALLS_FOR_C = "lakhdzeva/src/lib.rt"
 # The part of a page's name that marks pages about values and calls of the code.
 CODE = "/Code."

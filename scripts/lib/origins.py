@@ -58,7 +58,7 @@ PLACES = [
     ("keys/src/set.rt", "read_keys", "match read_key(alloc, value) { Ok(key) => keys.push(key)?, Err(Refusal::Memory) => return Err(Refusal::Memory),", "passed on"),
     ("jose/src/words/options.rt", "refusal_for", "fn refusal_for(error: &Error) -> Refusal { if error.kind() == ErrorKind::OutOfMemory { Refusal::Memory }",
      "clap's error for memory"),
-    ("jose/src/main.rt", "placeholder", "match system.open(folder) { Ok(folder) => return Ok(if_standard(folder)), "
+    ("jose/src/lib.rt", "placeholder", "match system.open(folder) { Ok(folder) => return Ok(if_standard(folder)), "
      "Err(e) if e.kind() == io::ErrorKind::OutOfMemory => return Err(Refusal::Memory),", "std's error for memory"),
     ("jose/src/system.rt", "HostRuntime::args", "match std::env::args(self) { Ok(args) => Ok(args.collect(self.alloc())?), "
      "Err(e) if e.kind() == io::ErrorKind::OutOfMemory => Err(Refusal::Memory), Err(_) => Err(Refusal::Usage),",

@@ -6,7 +6,8 @@ import collections, os, re
 from lib.trial import TOP
 
 ROOT = str(TOP)
-CRATES = re.findall(r"^([a-z]+)(?: staticlib)?:", (TOP / "crates.txt").read_text(), re.M)
+# The crates that are libraries. The others have a `main` and promise nothing.
+CRATES = [it for it in re.findall(r"^([a-z]+)(?: staticlib)?:", (TOP / "crates.txt").read_text(), re.M) if (TOP / "crates" / it / "src/lib.rt").exists()]
 Token = collections.namedtuple("Token", "text line at")
 # A function with its signature, or everything in a file outside of functions. In the second case `function` is "".
 Part = collections.namedtuple("Part", "path function tokens")

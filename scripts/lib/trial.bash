@@ -1,7 +1,7 @@
 # Shared by the shell scripts that try the program: its path, or that of another build in JOSE_PROGRAM, a new folder $work, which is removed
 # when the script ends, and the counts of what passed and failed. A script sources this before it changes its folder.
 top=$(cd "$(dirname "${BASH_SOURCE[0]}")/../.." && pwd)
-jose=${JOSE_PROGRAM:-$top/crates/jose/out/jose}
+jose=${JOSE_PROGRAM:-$top/crates/command/out/command}
 work=$(mktemp -d)
 trap 'rm -rf "$work"' EXIT
 passed=0
