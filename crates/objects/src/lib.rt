@@ -39,3 +39,6 @@ pub use jws::parts::{JwsParts, SignatureParts};
 pub use jws::signature::Signature;
 pub use key_management::KeyManagement;
 pub use shared::SharedOctets;
+
+#[cfg(test)]
+mod tests;
