@@ -25,7 +25,7 @@ It reads words and not meanings, so it may mistake the name of a variable for a 
 import collections, glob, os, re, shutil, sys
 
 sys.dont_write_bytecode = True
-from lib.sources import CRATES, ROOT, block_end, fault, faults, read, text_at, tokens_of
+from lib.sources import CRATES, ROOT, block_end, exported, fault, faults, functions, imports, page_of, parts_of_definition, read, text_at, tokens_of
 
 RUN = "jose/src/entry.rt"
 CALLS_FOR_C = "lakhdzeva/src/lib.rt"
@@ -33,70 +33,12 @@ CALLS_FOR_C = "lakhdzeva/src/lib.rt"
 CODE = "/Code."
 ORDER, OTHERS = "The pages in reading order", "What need not be read"
 
-Definition = collections.namedtuple("Definition", "lines comment group cases")
-# A page: the names that it imports, the aliases of modules, and its definitions.
-Page = collections.namedtuple("Page", "path names aliases definitions")
-
 WORD = re.compile(r'"(?:\\.|[^"\\])*"|[(){}\[\];,λ∷.]|[^\s(){}\[\];,λ∷."]+')
 DECLARED_BY = ("struct", "enum", "trait", "type")
 KEYWORDS = {"abbrev", "opaque", "unfoldable", "pub", "record", "data", "where", "mutual", "let", "in", "unfolding"}
 
 
-# ---- pages of definitions
-
-
-def imports(text, line):
-    """The names that `use` lines import, each with its module and its name there, and the aliases of modules."""
-    names, aliases = {}, {}
-    for module, items in re.findall(line + r" Rattle\.([^\s{}]+)\.\{([^}]*)\}", text):
-        for item in filter(None, (it.strip() for it in items.split(","))):
-            name, _, other = item.partition(" as ")
-            for part in filter(None, (other or name).split("◌")):
-                names[part] = module, name
-    for module, alias in re.findall(line + r" Rattle\.([^\s{}]+) as (\w+)", text):
-        aliases[alias] = module
-    return names, aliases
-
-
-def without_blocks(text):
-    """The lines of a text. Definitions in an indented block, such as mutual ones, lose their indentation."""
-    lines, inside = [], False
-    for line in text.split("\n"):
-        if re.match(r"(abbrev |pub )*mutual$|module _ .* where$", line):
-            inside = True
-            continue
-        inside = inside and (not line.strip() or line.startswith("  "))
-        lines.append(line[2:] if inside else line)
-    return lines
-
-
-def page_of(path):
-    text = read(path)
-    definitions, comment, group, current, is_group = {}, [], "", None, False
-    for line in without_blocks(text):
-        if line.startswith("-- ----"):
-            group, comment, is_group = line, [], True
-        elif line.startswith("--"):
-            group, comment = (group + line, []) if is_group else (group, comment + [line])
-        elif not line.strip():
-            comment, is_group = [], False
-        elif line.startswith((" ", "use ", "pub use ", "infix")):
-            comment, is_group = comment if line.startswith("infix") else [], False
-            if current and line.startswith(" ") and re.sub(r"--.*", "", line).strip():
-                current.lines.append(re.sub(r"--.*", "", line))
-        else:
-            is_group = False
-            head = re.match(r"((?:abbrev |opaque |unfoldable |pub )*)((?:record |data )?)(◌?[^\s(){}:]*◌?)(?: \{ℓ\})?\s*(.?)", line)
-            if head.group(2) or head.group(4) == ":":
-                current = Definition([], " ".join(comment), group, [])
-                definitions[head.group(3)] = current
-                comment = []
-            if current:
-                current.lines.append(line)
-    for definition in definitions.values():
-        if re.match(r"(pub )?data ", definition.lines[0]):
-            definition.cases.extend(it for line in definition.lines[1:] for it in re.findall(r"^\s+([^\s:]+) :", line))
-    return Page(path, *imports(text, r"(?m:^)(?:unfoldable )?(?:pub )?use"), definitions)
+# ---- names
 
 
 def bracket_names(words, at):
@@ -202,13 +144,7 @@ class Library:
         def resolve(word, field=None):
             return self.resolve(page.names, page.aliases, module, word, field)
 
-        parts, lines = [], page.definitions[name].lines
-        for line in lines:
-            if parts and line.startswith(" "):
-                parts[-1] += "\n" + line
-            else:
-                parts.append(line)
-        for number, part in enumerate(parts):
+        for number, part in enumerate(parts_of_definition(page.definitions[name])):
             pattern = []
             if number:
                 # This is an equation. Each name on its left side is a case, or is bound there.
@@ -233,11 +169,8 @@ class Library:
         """The module of each name that a crate exports."""
         key = "exported", crate
         if key not in self.items:
-            found = {}
-            for root in filter(None, (self.find(f"{crate}/src/{it}") for it in ("lib.rt", "main.rt"))):
-                for module, many, one in re.findall(r"^pub use ((?:\w+::)+)(?:\{([^}]*)\}|(\w+));", read(root), re.M):
-                    found.update({it.strip(): module[:-2].replace("::", "/") for it in (many or one).split(",")})
-            self.items[key] = found
+            roots = filter(None, (self.find(f"{crate}/src/{it}") for it in ("lib.rt", "main.rt")))
+            self.items[key] = {name: module for root in roots for name, module in exported(read(root)).items()}
         return self.items[key]
 
     def file(self, path):
@@ -290,17 +223,8 @@ class Library:
 
     def contracts(self, path):
         """The definitions and types that the signatures and the clauses of a file's public functions name."""
-        tokens, found, at = self.file(path)[0], set(), 0
-        while at < len(tokens):
-            if tokens[at].text == "fn" and text_at(tokens, at - 1) in ("pub", '"C"'):
-                start = at
-                while text_at(tokens, at) not in ("{", ""):
-                    # The block of a clause does not belong to the body of the function.
-                    is_clause = text_at(tokens, at) in ("requires", "ensures")
-                    at = block_end(tokens, at + 1 + (text_at(tokens, at + 1) != "{")) if is_clause else at + 1
-                found.update(self.named_in_code(path, tokens[start:at]))
-            at += 1
-        return set(filter(None, found))
+        public = (it for it in functions(read(self.find(path))) if it.before in ("pub", '"C"'))
+        return set().union(*(filter(None, self.named_in_code(path, it.tokens)) for it in public))
 
 
 def reach(library, roots):

@@ -15,10 +15,6 @@ OTHERS = []
 # ---- changes of octets
 
 
-def cut(rng, text):
-    return text[:rng.randrange(len(text))] if text else None
-
-
 def bits_changed(rng, text):
     changed = bytearray(text)
     for _ in range(rng.choice([1, 1, 1, 2, 8]) if text else 0):
@@ -52,44 +48,24 @@ def put_in(rng, text, more):
     return text[:place] + more + text[place:]
 
 
-def octet_put_in(rng, text):
-    return put_in(rng, text, rng.randbytes(rng.choice([1, 1, 3])))
-
-
-def bad_utf8_put_in(rng, text):
-    return put_in(rng, text, rng.choice([b"\xff", b"\x80", b"\xc0\xaf", b"\xed\xa0\x80", b"\xf4\x90\x80\x80", b"\xe2\x82"]))
-
-
-def nul_put_in(rng, text):
-    return put_in(rng, text, b"\0")
-
-
-def byte_order_mark(rng, text):
-    return b"\xef\xbb\xbf" + text
-
-
-def emptied(rng, text):
-    return b""
-
-
-def twice(rng, text):
-    return text + rng.choice([b"", b"\n", b",", b" "]) + text
-
-
-def line_ends(rng, text):
-    return text + rng.choice([b"\n", b"\r\n", b"\r", b"\n\n", b"\r\n\r\n", b" \n"])
-
-
-def white_space_before(rng, text):
-    return rng.choice([b" ", b"\t", b"\r\n", b"\n \n", b"\x0b", b"\xc2\xa0"]) + text
-
-
-def noise(rng, text):
-    return rng.randbytes(rng.choice([1, 10, 1000, 100_000]))
-
-
-def another(rng, text):
-    return rng.choice(OTHERS)
+BAD_UTF8 = [b"\xff", b"\x80", b"\xc0\xaf", b"\xed\xa0\x80", b"\xf4\x90\x80\x80", b"\xe2\x82"]
+OF_OCTETS = {
+    "cut": lambda rng, text: text[:rng.randrange(len(text))] if text else None,
+    "bits_changed": bits_changed,
+    "octets_deleted": octets_deleted,
+    "octets_doubled": octets_doubled,
+    "octets_exchanged": octets_exchanged,
+    "octet_put_in": lambda rng, text: put_in(rng, text, rng.randbytes(rng.choice([1, 1, 3]))),
+    "bad_utf8_put_in": lambda rng, text: put_in(rng, text, rng.choice(BAD_UTF8)),
+    "nul_put_in": lambda rng, text: put_in(rng, text, b"\0"),
+    "byte_order_mark": lambda rng, text: b"\xef\xbb\xbf" + text,
+    "emptied": lambda rng, text: b"",
+    "twice": lambda rng, text: text + rng.choice([b"", b"\n", b",", b" "]) + text,
+    "line_ends": lambda rng, text: text + rng.choice([b"\n", b"\r\n", b"\r", b"\n\n", b"\r\n\r\n", b" \n"]),
+    "white_space_before": lambda rng, text: rng.choice([b" ", b"\t", b"\r\n", b"\n \n", b"\x0b", b"\xc2\xa0"]) + text,
+    "noise": lambda rng, text: rng.randbytes(rng.choice([1, 10, 1000, 100_000])),
+    "another": lambda rng, text: rng.choice(OTHERS),
+}
 
 
 # ---- changes of compact texts
@@ -97,8 +73,6 @@ def another(rng, text):
 
 def of_parts(change):
     """Makes a change of texts from a change of the parts of a compact text."""
-
-    @functools.wraps(change)
     def changed(rng, text):
         parts = text.split(b".")
         if len(parts) not in (3, 5) or text.startswith(b"{"):
@@ -108,32 +82,24 @@ def of_parts(change):
     return changed
 
 
-@of_parts
-def part_dropped(rng, parts, place):
-    return parts[:place] + parts[place + 1:]
-
-
-@of_parts
-def part_doubled(rng, parts, place):
-    return parts[:place] + parts[place:place + 1] + parts[place:]
-
-
-@of_parts
 def parts_exchanged(rng, parts, place):
     other = rng.randrange(len(parts))
     parts[place], parts[other] = parts[other], parts[place]
     return parts
 
 
-@of_parts
-def part_emptied(rng, parts, place):
-    return parts[:place] + [b""] + parts[place + 1:]
-
-
-@of_parts
 def part_of_another(rng, parts, place):
     other = rng.choice([one for one in OTHERS if one.count(b".") == len(parts) - 1 and not one.startswith(b"{")])
     return parts[:place] + [other.split(b".")[place]] + parts[place + 1:]
+
+
+OF_PARTS = {
+    "part_dropped": of_parts(lambda rng, parts, place: parts[:place] + parts[place + 1:]),
+    "part_doubled": of_parts(lambda rng, parts, place: parts[:place] + parts[place:place + 1] + parts[place:]),
+    "parts_exchanged": of_parts(parts_exchanged),
+    "part_emptied": of_parts(lambda rng, parts, place: parts[:place] + [b""] + parts[place + 1:]),
+    "part_of_another": of_parts(part_of_another),
+}
 
 
 # ---- changes of base64url texts anywhere
@@ -141,8 +107,6 @@ def part_of_another(rng, parts, place):
 
 def of_base64(change):
     """Makes a change of texts from a change of a run of base64url characters."""
-
-    @functools.wraps(change)
     def changed(rng, text):
         runs = list(re.finditer(rb"[A-Za-z0-9_-]{4,}", text))
         if not runs:
@@ -153,23 +117,11 @@ def of_base64(change):
     return changed
 
 
-@of_base64
-def padded(rng, run):
-    return run + b"=" * rng.choice([1, 2, -len(run) % 4])
-
-
-@of_base64
 def other_alphabet(rng, run):
     place = rng.randrange(len(run))
     return run[:place] + rng.choice([b"+", b"/"]) + run[place + 1:]
 
 
-@of_base64
-def line_end_within(rng, run):
-    return put_in(rng, run, rng.choice([b"\n", b"\r\n", b" "]))
-
-
-@of_base64
 def trailing_bits(rng, run):
     characters = b"ABCDEFGHIJKLMNOPQRSTUVWXYZabcdefghijklmnopqrstuvwxyz0123456789-_"
     return run[:-1] + bytes([characters[characters.index(run[-1]) ^ 1]])
@@ -177,31 +129,26 @@ def trailing_bits(rng, run):
 
 def of_coded(change):
     """Makes a change of texts from a change of the octets that a base64url text encodes. The changed octets are encoded again."""
-
-    @of_base64
-    @functools.wraps(change)
     def changed(rng, run):
         try:
             return b64(change(rng, answers.octets_of(run)))
         except Refused:
             return run
 
-    return changed
+    return of_base64(changed)
 
 
-@of_coded
-def coded_bits_changed(rng, octets):
-    return bits_changed(rng, octets)
-
-
-@of_coded
-def coded_octets_cut(rng, octets):
-    return octets[:-rng.choice([1, 1, 2, 8])]
-
-
-@of_coded
-def coded_octets_added(rng, octets):
-    return octets + rng.choice([b"\0", rng.randbytes(1), rng.randbytes(8), octets])
+OF_BASE64 = {
+    "padded": of_base64(lambda rng, run: run + b"=" * rng.choice([1, 2, -len(run) % 4])),
+    "other_alphabet": of_base64(other_alphabet),
+    "line_end_within": of_base64(lambda rng, run: put_in(rng, run, rng.choice([b"\n", b"\r\n", b" "]))),
+    "trailing_bits": of_base64(trailing_bits),
+}
+OF_CODED = {
+    "coded_bits_changed": of_coded(bits_changed),
+    "coded_octets_cut": of_coded(lambda rng, octets: octets[:-rng.choice([1, 1, 2, 8])]),
+    "coded_octets_added": of_coded(lambda rng, octets: octets + rng.choice([b"\0", rng.randbytes(1), rng.randbytes(8), octets])),
+}
 
 
 # ---- changes of JSON texts
@@ -295,7 +242,6 @@ def one_of(rng, found):
 def of_tree(change):
     """Makes a change of texts from a change of the tree of a JSON text. That function changes the tree and returns True, or returns the new
     text, or None."""
-
     @functools.wraps(change)
     def changed(rng, text):
         tree = tree_of(text)
@@ -550,29 +496,35 @@ def repeated_before(rng, tree):
     return True
 
 
-KEEPING = [spaced, in_another_order, escaped, repeated_before]
-OF_OCTETS = [
-    cut, bits_changed, octets_deleted, octets_doubled, octets_exchanged, octet_put_in, bad_utf8_put_in, nul_put_in, byte_order_mark, emptied, twice, line_ends,
-    white_space_before, noise, another,
-]
-OF_PARTS = [part_dropped, part_doubled, parts_exchanged, part_emptied, part_of_another]
-OF_BASE64 = [padded, other_alphabet, line_end_within, trailing_bits]
-OF_CODED = [coded_bits_changed, coded_octets_cut, coded_octets_added]
-OF_JSON = [
-    member_doubled, member_dropped, members_exchanged, member_renamed, member_added, type_changed, nested, number_put, *[iterations_put] * 3, long_name, long_string,
-    many_values, half_of_a_surrogate_pair, word_changed, *[moved] * 2, many,
-]
-HEADER_CHANGES = [one for one in OF_JSON if one is not many_values] + KEEPING + [cut, bits_changed, bad_utf8_put_in, twice, emptied]
+def named(*functions):
+    return {one.__name__: one for one in functions}
+
+
+KEEPING = named(spaced, in_another_order, escaped, repeated_before)
+OF_JSON = named(
+    member_doubled, member_dropped, members_exchanged, member_renamed, member_added, type_changed, nested, number_put, iterations_put, long_name, long_string,
+    many_values, half_of_a_surrogate_pair, word_changed, moved, many)
+# How often a change comes, if it comes more often than others.
+OFTEN = {"iterations_put": 3, "moved": 2}
+
+
+def several(changes):
+    """The names and the functions of the changes, each as often as it comes."""
+    return [it for it in changes.items() for _ in range(OFTEN.get(it[0], 1))]
+
+
+HEADER_CHANGES = [one for name, one in several(OF_JSON) if name != "many_values"] + [*KEEPING.values()] + [
+    OF_OCTETS[name] for name in ("cut", "bits_changed", "bad_utf8_put_in", "twice", "emptied")]
 # Kinds of changes, each with its weight among the others.
-KINDS = [(OF_OCTETS, 2), (OF_PARTS, 6), (OF_BASE64, 1), (OF_CODED, 2), (OF_JSON, 6), ([header_changed], 2), (KEEPING, 2)]
-SPOILING = list(dict.fromkeys([*OF_OCTETS, *OF_PARTS, *OF_BASE64, *OF_CODED, *OF_JSON, header_changed]))
+KINDS = [(OF_OCTETS, 2), (OF_PARTS, 6), (OF_BASE64, 1), (OF_CODED, 2), (OF_JSON, 6), (named(header_changed), 2), (KEEPING, 2)]
+SPOILING = [name for kind, _ in KINDS if kind is not KEEPING for name in kind]
 
 
 def change(rng, text):
     """The text after a random change that applies to it, and the name of the change."""
-    kinds, weights = zip(*KINDS)
+    kinds, weights = zip(*((several(kind), weight) for kind, weight in KINDS))
     while True:
-        one = rng.choice(rng.choices(kinds, weights)[0])
+        name, one = rng.choice(rng.choices(kinds, weights)[0])
         changed = one(rng, text)
         if changed is not None and changed != text and len(changed) < MOST:
-            return changed, one.__name__
+            return changed, name

@@ -6,16 +6,11 @@
    PIECE is the most octets that a read or a write moves. Before each call that BEFORE names, for example `open o`, the command of a shell
    in DO is run, as if another process came in between. A statx of the file LIKE finds the device and the inode number of the file OTHER, to
    which MINOR and INODE are added. */
-#define _GNU_SOURCE
+#include "preload.h"
 #include <dlfcn.h>
-#include <errno.h>
 #include <fcntl.h>
 #include <stdarg.h>
-#include <stdio.h>
-#include <stdlib.h>
-#include <string.h>
 #include <sys/stat.h>
-#include <unistd.h>
 
 /* The function in place of the C library's, and the C library's. */
 #ifdef LINKED
@@ -44,11 +39,6 @@ static const struct {
 enum { FILES = 64, LONGEST = 100 };
 static char names[FILES][LONGEST];
 static long counted;
-
-static long number(const char *name, long otherwise) {
-    const char *word = getenv(name);
-    return word ? atol(word) : otherwise;
-}
 
 /* Whether this call fails. If it does, `errno` is set. */
 static int fails(const char *call, const char *name) {

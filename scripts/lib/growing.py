@@ -26,173 +26,69 @@ WIDE, TEETH = 50_000, 1_500
 
 # ---- values
 
-def letters(count):
-    """A string of letters. It is a base64url text too, unless its length is one more than a multiple of four."""
-    return b'"%s"' % (b"A" * count)
+def string(piece):
+    """Strings of this piece, so many times."""
+    return lambda count: b'"%s"' % (piece * count)
 
 
-def escapes(count):
-    """A string of letters that are written as escapes, six octets each."""
-    return b'"%s"' % (b"\\u0041" * count)
+def list_of(piece):
+    """Lists of this value, so many times."""
+    return lambda count: b"[%s]" % b",".join([piece] * count)
 
 
-def backslashes(count):
-    """A string of backslashes, two octets each, and a letter."""
-    return b'"%sA"' % (b"\\\\" * count)
+def members_of(names):
+    """Members with these names, and with 0 as their values."""
+    return b",".join(b'"%s":0' % name for name in names)
 
 
-def quotes(count):
-    """A string of quotes, two octets each."""
-    return b'"%s"' % (b'\\"' * count)
-
-
-def accents(count):
-    """A string of characters of two octets each."""
-    return '"{}"'.format("é" * count).encode()
-
-
-def numbers(count):
-    """A list of numbers of one digit."""
-    return b"[%s]" % b",".join([b"0"] * count)
-
-
-def large_numbers(count):
-    """A list of the greatest numbers, of 20 digits."""
-    return b"[%s]" % b",".join([b"18446744073709551615"] * count)
-
-
-def strings(count):
-    """A list of strings of two letters."""
-    return b"[%s]" % b",".join([b'"AA"'] * count)
-
-
-def long_strings(count):
-    """A list of strings of a thousand letters."""
-    return b"[%s]" % b",".join([letters(1000)] * count)
-
-
-def operations(count):
-    """A list of operations for `key_ops`. The last six allow everything."""
-    return b'[%s"sign","verify","wrapKey","unwrapKey","encrypt","decrypt"]' % (b'"other",' * (count - 6))
-
-
-def empty_objects(count):
-    """A list of objects without members."""
-    return b"[%s]" % b",".join([b"{}"] * count)
-
-
-def small_objects(count):
-    """A list of objects with one member each."""
-    return b"[%s]" % b",".join([b'{"a":0}'] * count)
-
-
-def spaces(count):
-    """A list of one number behind so much white space."""
-    return b"[%s0]" % (b" \n" * (count // 2))
-
-
-def nested_lists(depth):
-    """Lists in lists, so many deep. The innermost is wide."""
-    return b"[" * (depth - 1) + numbers(WIDE) + b"]" * (depth - 1)
-
-
-def nested_objects(depth):
-    """Objects in objects, so many deep. The innermost is wide."""
-    return b'{"a":' * (depth - 1) + b"{%s}" % names(WIDE // 4) + b"}" * (depth - 1)
-
-
-def nested_both(depth):
-    """Lists and objects in turn, so many deep, which is an even number. The innermost is a wide list."""
-    return b'{"a":[' * (depth // 2 - 1) + b'{"a":%s}' % numbers(WIDE) + b"]}" * (depth // 2 - 1)
-
-
-def comb_of_lists(depth):
-    """Lists in lists, so many deep, each with many numbers before and behind the next list."""
-    half = b",".join([b"0"] * (TEETH // 2))
-    return (b"[%s," % half) * (depth - 1) + b"[%s]" % half + (b",%s]" % half) * (depth - 1)
-
-
-def comb_of_objects(depth):
-    """Objects in objects, so many deep, each with many members before and behind the next object."""
-    before, behind = names(TEETH // 8, "b"), names(TEETH // 8, "z")
-    return (b'{%s,"m":' % before) * (depth - 1) + b"{%s}" % before + (b",%s}" % behind) * (depth - 1)
-
-
-def literal(word):
-    """This string."""
-    return b'"%s"' % word.encode()
-
-
-def number(value):
-    """This number."""
-    return b"%d" % value
-
-
-def json(text):
-    """This JSON text."""
-    return text.encode()
-
-
-SHAPES = {
-    "letters": letters, "escapes": escapes, "backslashes": backslashes, "quotes": quotes, "accents": accents, "numbers": numbers,
-    "large_numbers": large_numbers, "strings": strings, "long_strings": long_strings, "operations": operations, "empty_objects": empty_objects, "small_objects": small_objects, "spaces": spaces,
-    "nested_lists": nested_lists, "nested_objects": nested_objects, "nested_both": nested_both, "comb_of_lists": comb_of_lists,
-    "comb_of_objects": comb_of_objects, "is": literal, "number": number, "json": json,
-}
-
-
-# ---- many members
-
-def names(count, letter="n"):
-    """Members with different names, in the order of their names."""
-    return b",".join(b'"%s%06d":0' % (letter.encode(), at) for at in range(count))
-
-
-def other_names(count):
-    """The same number of members with other names."""
-    return names(count, "o")
-
-
-def falling_names(count):
-    """Members whose names fall."""
-    return b",".join(b'"n%06d":0' % at for at in reversed(range(count)))
+def names_from(start):
+    """So many members with different names, in the order of their names."""
+    return lambda count: members_of(b"%s%06d" % (start, at) for at in range(count))
 
 
 def mixed_names(count):
-    """Members whose names are in no order."""
     order = list(range(count))
     random.Random(count).shuffle(order)
-    return b",".join(b'"n%06d":0' % at for at in order)
+    return members_of(b"n%06d" % at for at in order)
 
 
-def alike_names(count):
-    """Members whose names differ only behind 200 letters."""
-    return b",".join(b'"%s%06d":0' % (b"A" * 200, at) for at in range(count))
+letters, numbers, names = string(b"A"), list_of(b"0"), names_from(b"n")
 
 
-def repeated_names(count):
-    """Members that all have one name."""
-    return b",".join([b'"same":0'] * count)
+def comb(opening, before, behind, brackets, depth):
+    """Values in values, so many deep, each with these texts before and behind the next one."""
+    return (opening % before) * (depth - 1) + brackets % before + (b",%s%s" % (behind, brackets[-1:])) * (depth - 1)
 
 
-def long_name(count):
-    """A member whose name has so many letters."""
-    return b'"%s":0' % (b"A" * count)
-
-
-def escaped_name(count):
-    """A member whose name has so many letters, which are written as escapes."""
-    return b'"%s":0' % (b"\\u0041" * count)
-
-
-def escaped_names(count):
-    """Members with different names, each with an escape."""
-    return b",".join(b'"\\u006e%06d":0' % at for at in range(count))
-
-
+# How the text of a value is made from a number: how many or how long, or how deep if the innermost of nested values is wide.
+SHAPES = {
+    # A string of letters is a base64url text too, unless its length is one more than a multiple of four.
+    "letters": letters, "escapes": string(b"\\u0041"), "quotes": string(b'\\"'), "accents": string("é".encode()),
+    "backslashes": lambda count: b'"%sA"' % (b"\\\\" * count),
+    "numbers": numbers, "large_numbers": list_of(b"18446744073709551615"), "strings": list_of(b'"AA"'), "long_strings": list_of(letters(1000)),
+    "empty_objects": list_of(b"{}"), "small_objects": list_of(b'{"a":0}'),
+    # A list of operations for `key_ops`. The last six allow everything.
+    "operations": lambda count: b'[%s"sign","verify","wrapKey","unwrapKey","encrypt","decrypt"]' % (b'"other",' * (count - 6)),
+    # A list of one number behind so much white space.
+    "spaces": lambda count: b"[%s0]" % (b" \n" * (count // 2)),
+    "nested_lists": lambda depth: b"[" * (depth - 1) + numbers(WIDE) + b"]" * (depth - 1),
+    "nested_objects": lambda depth: b'{"a":' * (depth - 1) + b"{%s}" % names(WIDE // 4) + b"}" * (depth - 1),
+    # Lists and objects in turn. The depth is an even number.
+    "nested_both": lambda depth: b'{"a":[' * (depth // 2 - 1) + b'{"a":%s}' % numbers(WIDE) + b"]}" * (depth // 2 - 1),
+    "comb_of_lists": lambda depth: comb(b"[%s,", *[b",".join([b"0"] * (TEETH // 2))] * 2, b"[%s]", depth),
+    "comb_of_objects": lambda depth: comb(b'{%s,"m":', names_from(b"b")(TEETH // 8), names_from(b"z")(TEETH // 8), b"{%s}", depth),
+    # A string, a number and a JSON text as they are.
+    "is": lambda word: b'"%s"' % word.encode(), "number": lambda value: b"%d" % value, "json": lambda text: text.encode(),
+}
+literal, number = SHAPES["is"], SHAPES["number"]
+# How so many members of an object are made, or one member with so long a name.
 MEMBERS = {
-    "names": names, "other_names": other_names, "falling_names": falling_names, "mixed_names": mixed_names, "alike_names": alike_names,
-    "repeated_names": repeated_names, "long_name": long_name, "escaped_name": escaped_name, "escaped_names": escaped_names,
+    "names": names, "other_names": names_from(b"o"), "mixed_names": mixed_names,
+    "falling_names": lambda count: members_of(b"n%06d" % at for at in reversed(range(count))),
+    # Names that differ only behind 200 letters, and names with an escape each.
+    "alike_names": names_from(b"A" * 200), "escaped_names": names_from(b"\\u006e"),
+    "repeated_names": lambda count: members_of([b"same"] * count),
+    "long_name": lambda count: members_of([b"A" * count]), "escaped_name": lambda count: members_of([b"\\u0041" * count]),
 }
 
 

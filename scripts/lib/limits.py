@@ -1,8 +1,11 @@
-"""Compares the limits that the pages, the documents and the recipes state with the code's.
+"""Compares the limits that the pages, the documents, the recipes and the bindings state with the code's.
 
 A limit is found by the words around it, which are those of `STATED`. It is a failure if a number of three digits or more is equal to a
 limit and is in other words. Then add these words to `STATED`, or to `OTHERS` if the number is no limit. docs/PERFORMANCE.md,
 docs/DECISIONS.md and CHANGELOG.md are not compared, since they say what was measured, chosen and changed.
+
+The bindings repeat limits in their code, in rooms and draws of random octets. Each place of `CODE` must be there, with the number that it has
+now. They also have the numbers and the names of the refusals.
 """
 import re
 
@@ -10,6 +13,8 @@ from lib.manual import plain
 from lib.trial import TOP, check
 
 TEXTS = ["README.md", "SECURITY.md", "docs/SPECIFICATION.md", "docs/LIBRARY.md", "docs/FROM-LATCHSET.md", "docs/ARCHITECTURE.md", "docs/PROOFS.md"]
+HEADER, PYTHON, GO = "bindings/c/lakhdzeva.h", "bindings/python/src/lakhdzeva/__init__.py", "bindings/go/lakhdzeva.go"
+FILES = ["man/*.1", *TEXTS, "examples/*.sh", HEADER, PYTHON, "bindings/rust/src/*.rs", GO, "bindings/*/README.md"]
 NUMBER = r"\d+(?:,\d{3})*"
 # A number must not be part of a word, a name, a power or a longer number. These patterns exclude that before and behind it.
 BEFORE, BEHIND = r"(?<![\w^,.-])", r"(?![\w,.]*\d)"
@@ -51,12 +56,40 @@ STATED = [
     "reader takes up to {PIECE}",
     "at most its last {MOST_BEHIND} octets",
     "at most {MOST_BEHIND} octets are missing",
+    "{GREATEST_P2C_READ} for each recipient, and {MOST_ITERATIONS} in all",
+    "greater number means {MOST_ITERATIONS}",
+    "password takes {USUAL_P2C} iterations",
+    "a template for at most {MOST_KEY_OCTETS}",
 ]
 # Statements in which the same number is no limit.
 OTHERS = [
     "[Tt]heirs writes 1,000",
     "(token of|Parts have) 100,000 octets",
+    "256 KiB of stack",
+    "of 224, 256, 384",
+    '("S256":|Sha256 =>|Hash =|255,) 256',
+    "template once, and 256 octets or less for a recipient",
+    "[+] 2[)] [*] 256",
 ]
+# The places of limits in the code of the bindings. A first draw of 64 octets suffices for each algorithm.
+CODE = {
+    HEADER: [
+        "return keys < {MOST_KEYS} ? keys : {MOST_KEYS};", "if (each > SIZE_MAX / {MOST_KEYS})", "return lakhdzeva_sum_(wanted_length, {KEY_ROOM});",
+        "uint8_t random[{MOST_KEY_OCTETS}];", "drawn = 64; drawn <= sizeof random && status == LAKHDZEVA_RANDOM; drawn *= {DRAWS})",
+        "uint8_t random[80 + 16 * {MOST_KEYS}];",
+    ],
+    PYTHON: [
+        "return min(keys // each + 1, {MOST_KEYS})", "return wanted + {KEY_ROOM}", "for drawn in (64, {MOST_KEY_OCTETS}):",
+        "if refused.number != _RANDOM or drawn == {MOST_KEY_OCTETS}:",
+    ],
+    "bindings/rust/src/rooms.rs": ["const MOST_KEYS: usize = {MOST_KEYS};", "wanted.saturating_add({KEY_ROOM})"],
+    "bindings/rust/src/lib.rs": ["let mut random = [0; {MOST_KEY_OCTETS}];", "for most in [64, random.len()]"],
+}
+# How the bindings have a refusal: its number N, its name, and its name with underscores. In Go two names are other ones.
+REFUSALS = {
+    HEADER: ["LAKHDZEVA_{UPPER} = {N}"], PYTHON: ["- {N} ``{NAME}``: "], GO: [" Refusal = C.LAKHDZEVA_{UPPER}\n"],
+    "bindings/rust/src/refusal.rs": ["Refusal::{NAME} => {N},", 'Refusal::{NAME} => "{NAME}",'],
+}
 
 
 def number_in(path, line):
@@ -76,13 +109,32 @@ def limits():
 def words_of(path):
     """The text in one line, without fonts, backticks and the marks of comments."""
     text = path.read_text()
-    return re.sub(r"\s+(# )?", " ", plain(text) if path.suffix == ".1" else text.replace("`", ""))
+    return re.sub(r"(?:\s+(?:(?:#|//[/!]?)(?=\s))?)+", " ", plain(text) if path.suffix == ".1" else text.replace("`", ""))
+
+
+def compare_code(wanted):
+    """Compares the limits and the refusals in the code of the bindings. A key that is made has the base64url text of its octets, and 170
+    octets of other members that its template did not name."""
+    octets = wanted["MOST_KEY_OCTETS"]
+    wanted = wanted | {"KEY_ROOM": (4 * octets + 2) // 3 + 170, "DRAWS": octets // 64}
+    for file, places in CODE.items():
+        text = (TOP / file).read_text()
+        check(f"{file}: its code has each limit", [f"no `{it}`" for it in (place.format(**wanted) for place in places) if it not in text])
+    refusals = re.findall(r'Refusal::(\w+) => "(\d+) \1"', (TOP / "crates/octets/src/refusal.rt").read_text())
+    for file, places in REFUSALS.items():
+        text = (TOP / file).read_text()
+        each = [place.format(N=number, NAME=name, UPPER=re.sub(r"(?<!^)(?=[A-Z])", "_", name).upper()) for name, number in refusals for place in places]
+        if file in (HEADER, PYTHON):
+            each.append(" ".join(["Ok", *(name for name, _ in refusals)]))
+            text += re.sub(r'[\s",]+', " ", text)
+        check(f"{file}: it has each of {len(refusals)} refusals", [f"no `{it.strip()}`" for it in each if it not in text] or ["they cannot be read"] * (not refusals))
 
 
 def compare():
     wanted = {name: f"{value:,}" for name, value in limits().items()}
     stated = {name: [] for name in wanted}
-    for path in [*sorted((TOP / "man").glob("*.1")), *(TOP / name for name in TEXTS), *sorted((TOP / "examples").glob("*.sh"))]:
+    compare_code(limits())
+    for path in (path for files in FILES for path in sorted(TOP.glob(files))):
         file, text = path.relative_to(TOP), words_of(path)
         left = text
         for words in STATED + OTHERS:

@@ -3,19 +3,9 @@
    size that was asked for. At the end it writes seven numbers to the descriptor COUNT: the most octets that were held at once, the calls
    that asked for memory, the octets that these asked for in sum, the reads, the octets that were read, the writes, and the octets that were
    written. A call that makes a block larger or smaller counts with the whole new size, since it may copy the block. */
-#define _GNU_SOURCE
-#include <link.h>
-#include <stdint.h>
-#include <stdio.h>
-#include <stdlib.h>
-#include <string.h>
+#include "preload.h"
 #include <sys/syscall.h>
 #include <sys/uio.h>
-#include <unistd.h>
-
-void *__libc_malloc(size_t size);
-void *__libc_realloc(void *place, size_t size);
-void __libc_free(void *place);
 
 /* The head keeps blocks aligned to 16 octets. `mark` is made from the block's address, so that no other block has it by accident. */
 struct head {
@@ -24,34 +14,11 @@ struct head {
 };
 static const uintptr_t MARK = 0x6a6f7365206d656d;
 
-static uintptr_t program_begin, program_end;
 static size_t held, most, asks, asked, reads, octets_read, writes, octets_written;
 
-/* Notes the addresses of the first object, which is the program. */
-static int see(struct dl_phdr_info *info, size_t size, void *data) {
-    (void)size, (void)data;
-    program_begin = UINTPTR_MAX;
-    for (int at = 0; at < info->dlpi_phnum; at++) {
-        const ElfW(Phdr) *part = &info->dlpi_phdr[at];
-        if (part->p_type != PT_LOAD) continue;
-        uintptr_t begin = info->dlpi_addr + part->p_vaddr, end = begin + part->p_memsz;
-        if (begin < program_begin) program_begin = begin;
-        if (end > program_end) program_end = end;
-    }
-    return 1;
-}
-
-__attribute__((constructor)) static void begin(void) {
-    dl_iterate_phdr(see, 0);
-}
-
 __attribute__((destructor)) static void end(void) {
-    const char *count = getenv("COUNT");
-    if (count) dprintf(atoi(count), "%zu %zu %zu %zu %zu %zu %zu", most, asks, asked, reads, octets_read, writes, octets_written);
-}
-
-static int is_own(void *caller) {
-    return (uintptr_t)caller >= program_begin && (uintptr_t)caller < program_end;
+    if (getenv("COUNT"))
+        dprintf(number("COUNT", 0), "%zu %zu %zu %zu %zu %zu %zu", most, asks, asked, reads, octets_read, writes, octets_written);
 }
 
 /* The head of a block of the program, or none for a block of the C library. */

@@ -1,5 +1,7 @@
-"""Reads the code of the crates as tokens, by file and function. It leaves out comments, clauses, code that serves clauses alone, and tests.
-Tests are the modules under `#[cfg(test)]`.
+"""Reads the sources of the crates: the code as tokens, by file and function, and the pages of definitions.
+
+`parts` leaves out comments, clauses, code that serves clauses alone, and tests, which are the modules under `#[cfg(test)]`. `functions` has
+the functions of a file with their contracts. `page_of` has the definitions of a page, and `imports` what the names of a file mean.
 """
 import collections, os, re
 
@@ -11,6 +13,13 @@ CRATES = [it for it in re.findall(r"^([a-z]+)(?: staticlib)?:", (TOP / "crates.t
 Token = collections.namedtuple("Token", "text line at")
 # A function with its signature, or everything in a file outside of functions. In the second case `function` is "".
 Part = collections.namedtuple("Part", "path function tokens")
+# A function: the name of its type or public trait, or "", as in an `impl` of a trait; whether that is a public trait; the word before `fn`; its
+# name; the tokens of its signature with the clauses; its text from the beginning of the line to its body, with a body `{}`; and where its body
+# begins and ends.
+Function = collections.namedtuple("Function", "owner is_of_trait before name tokens head body end")
+Definition = collections.namedtuple("Definition", "lines comment group cases")
+# A page: the names that it imports, the aliases of modules, and its definitions.
+Page = collections.namedtuple("Page", "path names aliases definitions")
 
 TOKEN = re.compile(r"""
     (?P<gap>\s+|//[^\n]*|/\*.*?\*/)
@@ -37,6 +46,13 @@ def fault(what):
 def read(path):
     with open(path, encoding="utf-8") as file:
         return file.read()
+
+
+def files(crate, folder, end):
+    """The paths below a folder of a crate that have this end. Files of tests alone are left out."""
+    top = os.path.join(ROOT, "crates", crate, folder)
+    for at, _, names in sorted(os.walk(top)):
+        yield from (os.path.relpath(os.path.join(at, it), top) for it in sorted(names) if it.endswith(end) and not it.endswith("tests.rt"))
 
 
 def tokens_of(text):
@@ -145,3 +161,115 @@ def parts(crate):
         room = path[:-len(".rt")] if not path.endswith(("/lib.rt", "/main.rt", "/mod.rt")) else os.path.dirname(path)
         tests += [os.path.join(room, it) for it in of_tests]
         yield from parts_of(os.path.relpath(path, ROOT), code)
+
+
+# ---- functions and their contracts
+
+
+def head_end(tokens, at):
+    """The place of the body of the function that begins here, or of its `;`. The blocks of clauses are not the body."""
+    while text_at(tokens, at) not in ("{", ";", ""):
+        is_clause = text_at(tokens, at) in ("requires", "ensures")
+        at = block_end(tokens, at + 1 + (text_at(tokens, at + 1) != "{") if is_clause else at)
+    return at
+
+
+def functions(text):
+    """The functions of a file, in their order. Those inside of others are not among them."""
+    tokens, owners, at = tokens_of(text), [], 0
+    while at < len(tokens):
+        word, start = tokens[at].text, at
+        if word == "fn" and re.match(r"\w", text_at(tokens, at + 1)):
+            body = head_end(tokens, at)
+            at = block_end(tokens, body)
+            head = text[text.rfind("\n", 0, tokens[start].at) + 1:tokens[body].at + 1 + text.startswith("{}", tokens[body].at)]
+            owner = next(filter(None, reversed(owners)), ("", False))
+            yield Function(*owner, text_at(tokens, start - 1), tokens[start + 1].text, tokens[start:body], head, tokens[body].at, tokens[at - 1].at)
+            continue
+        if word in ("impl", "trait"):
+            while tokens[at].text != "{":
+                at += 1
+            header, is_public = " ".join(it.text for it in tokens[start:at]), text_at(tokens, start - 1) == "pub"
+            is_named = is_public if word == "trait" else " for " not in header
+            owners.append((owner_of(header) if is_named else "", word == "trait" and is_public))
+        elif word == "{":
+            owners.append(None)
+        elif word == "}" and owners:
+            owners.pop()
+        at += 1
+
+
+# ---- pages of definitions
+
+
+def imports(text, line):
+    """The names that `use` lines import, each with its module and its name there, and the aliases of modules."""
+    names, aliases = {}, {}
+    for module, items in re.findall(line + r" Rattle\.([^\s{}]+)\.\{([^}]*)\}", text):
+        for item in filter(None, (it.strip() for it in items.split(","))):
+            name, _, other = item.partition(" as ")
+            for part in filter(None, (other or name).split("◌")):
+                names[part] = module, name
+    for module, alias in re.findall(line + r" Rattle\.([^\s{}]+) as (\w+)", text):
+        aliases[alias] = module
+    return names, aliases
+
+
+def without_blocks(text):
+    """The lines of a text. Definitions in an indented block, such as mutual ones, lose their indentation."""
+    lines, inside = [], False
+    for line in text.split("\n"):
+        if re.match(r"(abbrev |pub )*mutual$|module _ .* where$", line):
+            inside = True
+            continue
+        inside = inside and (not line.strip() or line.startswith("  "))
+        lines.append(line[2:] if inside else line)
+    return lines
+
+
+def page_of(path):
+    text = read(path)
+    definitions, comment, group, current, is_group = {}, [], "", None, False
+    for line in without_blocks(text):
+        if line.startswith("-- ----"):
+            group, comment, is_group = line, [], True
+        elif line.startswith("--"):
+            group, comment = (group + line, []) if is_group else (group, comment + [line])
+        elif not line.strip():
+            comment, is_group = [], False
+        elif line.startswith((" ", "use ", "pub use ", "infix")):
+            comment, is_group = comment if line.startswith("infix") else [], False
+            if current and line.startswith(" ") and re.sub(r"--.*", "", line).strip():
+                current.lines.append(re.sub(r"--.*", "", line))
+        else:
+            is_group = False
+            head = re.match(r"((?:abbrev |opaque |unfoldable |pub )*)((?:record |data )?)(◌?[^\s(){}:]*◌?)(?: \{ℓ\})?\s*(.?)", line)
+            if head.group(2) or head.group(4) == ":":
+                current = Definition([], " ".join(comment), group, [])
+                definitions[head.group(3)] = current
+                comment = []
+            if current:
+                current.lines.append(line)
+    for definition in definitions.values():
+        if re.match(r"(pub )?data ", definition.lines[0]):
+            definition.cases.extend(it for line in definition.lines[1:] for it in re.findall(r"^\s+([^\s:]+) :", line))
+    return Page(path, *imports(text, r"(?m:^)(?:unfoldable )?(?:pub )?use"), definitions)
+
+
+def parts_of_definition(definition):
+    """The type of a definition, and then its equations. A record and a data type have none."""
+    found = []
+    for line in definition.lines:
+        if found and line.startswith(" "):
+            found[-1] += "\n" + line
+        else:
+            found.append(line)
+    return found
+
+
+def exported(text):
+    """The module of each name that the root of a crate exports."""
+    found = {}
+    for module, many, one in re.findall(r"^pub use ((?:\w+::)+)(?:\{([^}]*)\}|(\w+));", text, re.M):
+        found.update({it.strip(): module[:-2].replace("::", "/") for it in (many or one).split(",")})
+    return found

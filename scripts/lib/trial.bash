@@ -1,7 +1,9 @@
 # Shared by the shell scripts that try the program: its path, or that of another build in JOSE_PROGRAM, a new folder $work, which is removed
 # when the script ends, and the counts of what passed and failed. A script sources this before it changes its folder.
 top=$(cd "$(dirname "${BASH_SOURCE[0]}")/../.." && pwd)
-jose=${JOSE_PROGRAM:-$top/crates/command/out/command}
+# shellcheck source=scripts/lib/built.bash
+source "$top/scripts/lib/built.bash"
+jose=${JOSE_PROGRAM:-$top/$built_program}
 work=$(mktemp -d)
 trap 'rm -rf "$work"' EXIT
 passed=0
@@ -58,6 +60,17 @@ round_trip() {
     shows '  and reads it' 0 "$@" b64 dec -i "$at/text" -O "$at/octets"
     shows '  to the same octets' 0 cmp "$folder/octets" "$folder/secret"
     (cd "$folder" && rm -f secret sign.jwk signed verified wrap.jwk encrypted decrypted other text octets)
+}
+
+# space_at_start PROGRAM: prints the KiB of address space that the program takes at its start, while a command waits for a pipe.
+space_at_start() {
+    mkfifo "$work/idle"
+    "$1" b64 enc -I "$work/idle" -o /dev/null &
+    exec 3>"$work/idle"
+    sed -n 's/^VmPeak:[^0-9]*\([0-9]*\) kB/\1/p' "/proc/$!/status"
+    exec 3>&-
+    wait $!
+    rm "$work/idle"
 }
 
 # random_in ROOT: makes a source of random octets in ROOT, and prints its path as the programs there see it.

@@ -4,6 +4,8 @@ import os, pathlib, re, subprocess, sys, time
 TOP = pathlib.Path(__file__).resolve().parents[2]
 # The program that `make build` made, or another build in its place.
 PROGRAM = pathlib.Path(os.environ.get("JOSE_PROGRAM") or TOP / "crates/command/out/command")
+# The folder of the library for C that it made.
+LIBRARY = TOP / "crates/lakhdzeva/out/built"
 # The stream to which the lines are written.
 out = sys.stdout
 passed = failed = omitted = 0
