@@ -26,3 +26,6 @@ pub use decrypt::{Work, jwe_decrypt, jwe_decrypt_within};
 pub use encrypt::jwe_encrypt;
 pub use sign::jws_sign;
 pub use verify::{jws_verify, jws_verify_detached, needs_signers};
+
+#[cfg(test)]
+mod tests;
