@@ -143,6 +143,8 @@ class Reader:
             row = {**self.source, **{it: value for it, value in self.group.items() if not (has_answer and it in ANSWERS)}, **fields}
             if not {"test", "run"} <= set(row) or not ANSWERS & set(row):
                 raise BadRow("a row has a test, a run and an answer")
+            if row.get("writes", b"nothing") != b"nothing":
+                raise BadRow("`writes` has another value than `nothing`")
             self.rows.append(Row(self.file, at, row))
 
 

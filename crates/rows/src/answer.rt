@@ -110,6 +110,9 @@ impl<'a> Answer<'a> {
         if !row.own.has_answer() && !row.group.has_answer() {
             return Err(Bad::Text("a row has no answer"));
         }
+        if !matches!(row.first(Name::Writes), None | Some(b"nothing")) {
+            return Err(Bad::Text("`writes` has another value than `nothing`"));
+        }
         Ok(Answer {
             cause,
             text,

@@ -32,7 +32,10 @@ fn try_files(rt: &HostRuntime) -> Result<Tally, Bad> {
     let mut values = Values::new(rt.alloc());
     let names: Vec<String> = std::env::args(rt)?.skip(1).collect(rt.alloc())?;
     for name in &names {
-        file::try_file(rt, name.as_str(), &mut values, &mut tally)?;
+        if let Err(bad) = file::try_file(rt, name.as_str(), &mut values, &mut tally) {
+            print!(rt; "{name}: ")?;
+            return Err(bad);
+        }
     }
     Ok(tally)
 }
