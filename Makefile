@@ -100,9 +100,9 @@ bench:
 pictures:
 	@scripts/pictures
 
-# Compares the pages and the completions with the program's table of commands and its limits, and the pictures with their figures. It
-# refuses long sentences in the pages for users. It tries the refusals that the pages list, the completions, install and uninstall, and runs
-# shellcheck on the scripts that are installed.
+# Compares the pages and the completions with the program's table of commands and its limits, the limits and refusals of the bindings with
+# the code, and the pictures with their figures. It refuses long sentences in the pages for users. It tries the refusals that the pages
+# list, the completions, install and uninstall, and runs shellcheck on the scripts that are installed.
 pages:
 	@scripts/pages
 	@scripts/pictures --check
