@@ -2,7 +2,7 @@
 -- facts about each algorithm
 pub mod AlgorithmCases
 -- tests of the elements of a list, seen by a view
-pub mod Tests
+pub mod Elements
 -- lists whose elements are read from another list, or made of it
 pub mod Each
 -- lists that are beginnings of others

@@ -68,7 +68,7 @@ fn verified(keys: &KeySet, jws: &Jws<'_>, all: bool) -> Result<(), Refusal>
 }
 
 /// The result of verifying, by whether the signatures are right. Refuses as `jws_verify` does.
-#[tactic(auto, unfolding(crate::specs::Verifying::verified_payload), using(crate::proofs::Tests::views))]
+#[tactic(auto, unfolding(crate::specs::Verifying::verified_payload), using(crate::proofs::Elements::views))]
 fn verdict(keys: &[Key], signatures: &[Signature], are_right: bool) -> Result<(), Refusal>
     ensures { (all : Bool) (payload : List ℕ) → are_right
         ≡ are_verified_by all (map key_view keys.now) (record { payload = payload; signatures = map signature_view signatures.now })

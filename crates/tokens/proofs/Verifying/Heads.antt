@@ -21,7 +21,7 @@ use Rattle.tokens.specs.Signatures.{signature_of}
 use Rattle.tokens.specs.Verifying.{candidate_by, candidate_alg, is_candidate, verifies_by, verifies}
 use Rattle.tokens.specs.Code.Heads.{signature_len, has_len_by, has_signature_len, is_alike, is_covered, covers, made_by, has_made_alike, pointed_views}
 use Rattle.tokens.proofs.AlgorithmCases.{signature_hash_law}
-use Rattle.tokens.proofs.Tests.{list_any-map}
+use Rattle.tokens.proofs.Elements.{list_any-map}
 
 -- ---- signatures that are alike
 

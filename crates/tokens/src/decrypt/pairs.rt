@@ -22,7 +22,7 @@ use octets::{Refusal, needs};
 /// Judges the pairs of a recipient and a key: by the recipients in order, and for each by the keys in order that may decrypt by its
 /// algorithms and fit. Refuses with `Unsupported` if no recipient's algorithms are supported; then with `KeyDoesNotFit` if there is no
 /// pair; and then with `Limit` if a pair needs too many iterations, or all of them need more than `most_iterations` or `MOST_ITERATIONS`.
-#[tactic(auto, unfolding(crate::specs::Decrypting::pairs_to_try), using(crate::proofs::Tests::views, crate::proofs::Decrypting::Pairs::fewer_are_within))]
+#[tactic(auto, unfolding(crate::specs::Decrypting::pairs_to_try), using(crate::proofs::Elements::views, crate::proofs::Decrypting::Pairs::fewer_are_within))]
 pub(crate) fn judge_pairs(
     keys: &[Key],
     recipients: &[Recipient],

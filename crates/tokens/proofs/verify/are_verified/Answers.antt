@@ -6,7 +6,7 @@ use Rattle.keys.specs.Code.Views.{key_view}
 use Rattle.objects.specs.Code.Views.{jws_view, signature_view}
 use Rattle.tokens.specs.Verifying.{verifies}
 use Rattle.tokens.specs.Code.Heads.{covers}
-use Rattle.tokens.proofs.Tests.{views}
+use Rattle.tokens.proofs.Elements.{views}
 use Rattle.tokens.proofs.Verifying.Detached.{are_verified_by_keys}
 use Rattle.tokens.proofs.verify.are_verified.Goals as goal
 

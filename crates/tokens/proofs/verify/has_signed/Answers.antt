@@ -6,7 +6,7 @@ use Rattle.objects.specs.Code.Views.{held_view, signature_view}
 use Rattle.tokens.specs.Verifying.{verifies}
 use Rattle.tokens.specs.Code.Heads.{has_made_alike}
 use Rattle.tokens.proofs.Verifying.Heads.{pointed_decide}
-use Rattle.tokens.proofs.Tests.{list_any-map}
+use Rattle.tokens.proofs.Elements.{list_any-map}
 use Rattle.tokens.proofs.verify.has_signed.Goals as goal
 
 pub returns : goal.returns

@@ -4,7 +4,7 @@ use Rattle.std.proofs.lemmas.Iterator.Search.{any_from_yields_List}
 use Rattle.std.specs.Str.{bytes_eq}
 use Rattle.objects.specs.Code.Views.{signature_view}
 use Rattle.tokens.specs.Code.Heads.{is_alike}
-use Rattle.tokens.proofs.Tests.{list_any-map}
+use Rattle.tokens.proofs.Elements.{list_any-map}
 use Rattle.tokens.proofs.verify.heads.is_one_of.Goals as goal
 
 pub returns : goal.returns
